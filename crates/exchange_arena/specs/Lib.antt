@@ -1,0 +1,4 @@
+pub mod Piece
+pub mod Block
+pub mod Ownership
+pub mod Run
