@@ -1,0 +1,10 @@
+pub mod Tokens
+pub mod Grammar
+pub mod Blocks
+pub mod Program
+pub mod Faults
+pub mod Symbols
+pub mod Machine
+pub mod Follows
+pub mod Layout
+pub mod LayoutFields
