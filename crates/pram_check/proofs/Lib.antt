@@ -1,0 +1,11 @@
+pub mod Judging
+pub mod Uses
+pub mod Names
+pub mod Expressions
+pub mod StmtBreaches
+pub mod Parts
+pub mod Steps
+pub mod Locals
+pub mod PardoParts
+pub mod Statements
+pub mod DeclarationSteps

@@ -1,0 +1,24 @@
+use Rattle.std.proofs.Common.{refl}
+use Rattle.pram_check.specs.Breaches.{inside_of}
+use Rattle.pram_check.specs.Resolved as says
+use Rattle.pram_check.proofs.Judging.{exit}
+use Rattle.pram_check.proofs.Parts.{to_front, to_back, none_in, assign_parts}
+use Rattle.pram_check.proofs.step.assign.Goals as goal
+
+pub returns-in_err-cell : goal.returns-in_err-cell
+returns-in_err-cell c =
+    exit _ _ _ c.from_residual.result _ c.from_residual.ensures.1 c.in_err-cell.ensures
+    (to_front _ _ _ (assign_parts (inside_of c.args.scope.now) _ c.args.target.now c.args.e.now refl))
+
+pub returns-in_err-value : goal.returns-in_err-value
+returns-in_err-value c =
+    exit _ _ _ c.from_residual-in_err-value.result _ c.from_residual-in_err-value.ensures.1 c.in_err-value.ensures
+    (to_back _ _ _ (assign_parts (inside_of c.args.scope.now) _ c.args.target.now c.args.e.now refl) c.in_ok-cell.ensures.0)
+
+pub returns : goal.returns
+returns c =
+    let one = c.in_ok-cell.ensures in
+    let two = c.in_ok-value.ensures in (
+      none_in _ _ _ (assign_parts (inside_of c.args.scope.now) _ c.args.target.now c.args.e.now refl) one.0 two.0,
+      says.assign c.args.target.now c.args.e.now _ _ one.1 two.1,
+    )

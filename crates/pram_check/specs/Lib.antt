@@ -1,0 +1,7 @@
+pub mod Scope
+pub mod ScopeFields
+pub mod Breaches
+pub mod Resolved
+pub mod Checked
+pub mod Walk
+pub mod Program

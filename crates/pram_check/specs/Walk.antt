@@ -1,0 +1,26 @@
+-- What the parts of the checker promise: the first thing that is wrong, or what the part says.
+use Rattle.std.specs.Prelude.{◌≡◌, ℕ, ◌+◌, List, [], ◌∷◌, Option, Some, None, Result, Ok, Err}
+use Rattle.pram_check.specs.declared.fault.Breach.{Breach}
+use Rattle.pram_check.specs.declared.fault.CheckFault.{CheckFault}
+use Rattle.pram_check.specs.declared.fault.CheckFault.TheVariants.{Refused, OutOfMemory}
+use Rattle.pram_check.specs.Scope.{Scope}
+use Rattle.pram_check.specs.Breaches.{Use, use_breaches, read_count}
+
+-- the first of some breaches
+abbrev pub first : List Breach → Option Breach
+first [] = None
+first (b ∷ bs) = Some b
+
+-- a fault is the first breach, or want of memory
+abbrev pub Tells : List Breach → CheckFault → Type 0
+Tells bs (Refused b) = first bs ≡ Some b
+Tells bs OutOfMemory = Unit {0}
+
+-- nothing is wrong and the answer is as it must be, or the answer is the first thing that is wrong
+abbrev pub Judges : {A : Type 0} → (A → Type 0) → List Breach → Result A CheckFault → Type 0
+Judges Is bs (Ok a) = (first bs ≡ None) × Is a
+Judges Is bs (Err x) = Tells bs x
+
+-- the same of names in an expression, which end with m shared reads
+abbrev pub JudgesUses : {A : Type 0} → (A → Type 0) → Scope → ℕ → List Use → Result A CheckFault → ℕ → Type 0
+JudgesUses Is scope n us result m = Judges (λ a. Is a × (m ≡ n + read_count scope us)) (use_breaches scope n us) result

@@ -1,0 +1,12 @@
+//! Accepted programs: names, kinds and limits.
+#![tactic(auto)]
+
+pub mod body;
+mod declarations;
+mod expression;
+pub mod fault;
+pub mod program;
+mod resolve;
+pub mod scope;
+mod statement;
+mod step;

@@ -1,0 +1,103 @@
+//! Checked programs.
+
+ghost use Rattle.std.specs.Prelude.{◌≡◌, IfOk, IfErr};
+ghost use Rattle.pram_check.specs.Breaches.{breaches, IsAccepted};
+ghost use Rattle.pram_check.specs.Checked.{IsResolved};
+ghost use Rattle.pram_check.specs.Walk.{Tells};
+
+use crate::body::Statement;
+use crate::fault::CheckFault;
+use crate::resolve::{Parts, resolve};
+use pram_syntax::layout::Layout;
+use pram_syntax::rule::Rule;
+use pram_syntax::tree::Tree;
+use std::alloc::Global;
+use std::marker::Model;
+
+/// An accepted program. It is made by [`check`] alone.
+#[derive(Drop)]
+pub struct Program {
+    tree: Tree,
+    parts: Parts,
+}
+
+impl Model for Program {
+    ghost use Rattle.std.specs.Coded.{codes};
+    ghost use Rattle.pram_check.specs.Breaches.{IsAccepted};
+    ghost use Rattle.pram_check.specs.Checked.{Checked, IsResolved, checked};
+    ghost use Rattle.pram_check.specs.contracts.body.Statement as statement;
+    ghost use Rattle.pram_syntax.specs.contracts.tree.Stmt as stmt;
+
+    ghost Value = { Checked };
+
+    ghost coded = { Prim.hlevel (codes, statement.the_row.coded, stmt.the_row.coded) };
+
+    ghost view = { λ p. checked p.tree p.parts.procs p.parts.layout p.parts.uniforms p.parts.body.items };
+
+    ghost invariant = { λ p.
+        IsAccepted p.tree × IsResolved (checked p.tree p.parts.procs p.parts.layout p.parts.uniforms p.parts.body.items) };
+}
+
+/// The program of a tree, with its names resolved.
+///
+/// The tree is given back, unchanged, beside the first thing that is wrong with it (E6 to E10), or
+/// where memory was refused (E16).
+pub fn check(alloc: Global, tree: Tree) -> Result<Program, (CheckFault, Tree)>
+    ensures tree { IfOk result (λ p. p.tree ≡ tree) }
+    ensures accepted { IfOk result (λ p. IsAccepted tree) }
+    ensures says { IfOk result IsResolved }
+    ensures refused { IfErr result (λ e. Tells (breaches tree) e.0) }
+    ensures kept { IfErr result (λ e. e.1 ≡ tree) }
+{
+    match resolve(alloc, &tree) {
+        Ok(parts) => Ok(Program { tree, parts }),
+        Err(fault) => Err((fault, tree)),
+    }
+}
+
+impl Program {
+    /// The tree that was checked.
+    pub fn tree(&self) -> &Tree
+        ensures tree { result.now ≡ self.now.tree }
+        // Every program is accepted, and says what its tree says.
+        ensures accepted { IsAccepted self.now.tree }
+        ensures says { IsResolved self.now }
+    {
+        &self.tree
+    }
+
+    /// The rule of concurrent access.
+    pub fn rule(&self) -> Rule
+        ensures { result ≡ self.now.rule }
+    {
+        self.tree.rule()
+    }
+
+    /// The most processors that a pardo may have.
+    pub fn procs(&self) -> u32
+        ensures { result ≡ self.now.procs }
+    {
+        self.parts.procs
+    }
+
+    /// The shared declarations.
+    pub fn layout(&self) -> &Layout
+        ensures { result.now ≡ self.now.layout }
+    {
+        &self.parts.layout
+    }
+
+    /// How many uniform variables there are.
+    pub fn uniforms(&self) -> usize
+        ensures { result ≡ self.now.uniforms }
+    {
+        self.parts.uniforms
+    }
+
+    /// The body, whose names are resolved.
+    pub fn body(&self) -> &[Statement]
+        ensures { result.now ≡ self.now.body }
+    {
+        self.parts.body.as_slice()
+    }
+}
