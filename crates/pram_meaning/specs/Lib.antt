@@ -1,0 +1,11 @@
+pub mod Operation
+pub mod Store
+pub mod Attempt
+pub mod Conflict
+pub mod Together
+pub mod Meaning
+pub mod Outcome
+pub mod Bounded
+pub mod Runs
+pub mod Judging
+pub mod Sets

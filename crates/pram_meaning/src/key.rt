@@ -1,0 +1,12 @@
+//! Faults of a statement on their way.
+
+use pram_values::kind::Kind;
+use pram_values::place::Place;
+
+/// A fault of a statement: its position, counted from 1, its place and its kind.
+#[derive(Clone, Copy)]
+pub struct Key {
+    pub at: usize,
+    pub place: Place,
+    pub kind: Kind,
+}

@@ -1,0 +1,73 @@
+//! The reference interpreter.
+
+ghost use Rattle.std.specs.Prelude.{◌≡◌, ◌++◌, ◌↔◌, ◌<◌, ◌-◌, ◌≤◌, [], IfOk, length, replicate, pos};
+ghost use Rattle.pram_syntax.specs.Layout.{total_size};
+ghost use Rattle.write_rules.specs.Verdict.{verdict_of};
+ghost use Rattle.pram_meaning.specs.Outcome.{IsOutcome};
+
+use crate::outside::run_body;
+use crate::run::{Halt, Run, add_zeros, zeros};
+use pram_check::program::Program;
+use std::alloc::{AllocError, Global};
+use write_rules::outcome::Outcome;
+
+/// Why a run is refused.
+#[derive(Clone, Copy, Debug, PartialEq, Eq)]
+pub enum RunRefusal {
+    /// E11: the input has more values than the program has cells.
+    InputTooLong,
+    /// E16: memory was refused.
+    OutOfMemory,
+}
+
+// The store before the first statement.
+fn open(alloc: Global, program: &Program, input: &[i64]) -> Result<Run, AllocError>
+    requires { length input.now ≤ total_size program.now.layout }
+    ensures count { IfOk result (λ run. run.count ≡ 0) }
+    ensures output { IfOk result (λ run. run.output.items ≡ []) }
+    ensures uniforms { IfOk result (λ run. run.uniforms.items ≡ replicate program.now.uniforms (pos 0)) }
+    ensures cells { IfOk result (λ run. run.cells.items ≡ input.now ++ replicate (total_size program.now.layout - length input.now) (pos 0)) }
+{
+    let uniforms = zeros(alloc, program.uniforms())?;
+    let mut cells = Vec::from_slice(alloc, input)?;
+    add_zeros(&mut cells, program.layout().cells() - input.len() as u32)?;
+    Ok(Run {
+        count: 0,
+        output: Vec::new(alloc),
+        uniforms,
+        cells,
+    })
+}
+
+/// Runs a program on an input, for at most `bound` statements. The first cells get the values of
+/// the input. E11 where there are more values than cells; E16 only where memory was refused.
+#[tactic(auto, using(crate::proofs::References::ended, crate::proofs::References::stopped, crate::proofs::References::reached))]
+pub fn reference_run(
+    alloc: Global,
+    program: &Program,
+    input: &[i64],
+    bound: u32,
+) -> Result<Outcome, RunRefusal>
+    ensures outcome { IfOk result (λ o. IsOutcome program.now input.now bound (verdict_of o)) }
+    ensures too_long { (result ≡ Err RunRefusal.InputTooLong) ↔ (total_size program.now.layout < length input.now) }
+{
+    if input.len() > program.layout().cells() as usize {
+        return Err(RunRefusal::InputTooLong);
+    }
+    let mut run = match open(alloc, program, input) {
+        Ok(run) => run,
+        Err(_) => return Err(RunRefusal::OutOfMemory),
+    };
+    match run_body(alloc, program, bound, &mut run) {
+        Ok(()) => Ok(Outcome::Ended {
+            output: run.output,
+            memory: run.cells,
+        }),
+        Err(Halt::Fault(fault)) => Ok(Outcome::Faulted {
+            fault,
+            output: run.output,
+        }),
+        Err(Halt::Bound) => Ok(Outcome::GoesOn { output: run.output }),
+        Err(Halt::NoMemory) => Err(RunRefusal::OutOfMemory),
+    }
+}

@@ -1,0 +1,235 @@
+//! A statement on a set of processors.
+
+ghost use Rattle.std.specs.Prelude.{◌≡◌, IfSome, IfOk, OnOk, ◌++◌, map, ◌<◌, ◌≤◌, ◌+◌};
+ghost use Rattle.pram_meaning.specs.Attempt.{attempt_step};
+ghost use Rattle.pram_meaning.specs.Together.{part_of, parts, overwritten, those, those_of};
+ghost use Rattle.pram_meaning.specs.Bounded.{counted, attempted_on, tested_on};
+ghost use Rattle.pram_meaning.specs.Bounded as spec;
+ghost use Rattle.pram_meaning.specs.Runs.{IsBehaviour};
+ghost use Rattle.pram_meaning.specs.Judging.{part_is, with_write_of};
+ghost use Rattle.pram_meaning.specs.Sets.{state_in, IsParts};
+
+use crate::attempt::{Failure, step_assignment};
+use crate::conflict::{collect_writes, index_of, least_key};
+use crate::part::Part;
+use crate::rule::value_after;
+use crate::run::{Halt, Run, set_number};
+use crate::team::{Member, set_locals, value_in};
+use crate::view::View;
+use pram_check::body::{Expression, StepTarget};
+use pram_check::program::Program;
+use pram_syntax::rule::Rule;
+use pram_values::truth::is_true;
+use std::alloc::{AllocError, Global};
+use write_rules::fault::Fault;
+
+// One processor's attempt at an assignment.
+fn part_in(
+    alloc: Global,
+    program: &Program,
+    run: &Run,
+    team: &Vec<Member>,
+    v: u32,
+    target: &StepTarget,
+    e: &Expression,
+) -> Option<Part>
+    ensures { IfSome result (λ x. part_is x ≡ part_of program.now (state_in run.now team.now.items) (λ s. attempt_step s target.now e.now) v) }
+{
+    let no_locals: Vec<i64> = Vec::new(alloc);
+    let (index, locals) = match team.get(v as usize) {
+        Some(member) => (member.index, &member.locals),
+        None => (0, &no_locals),
+    };
+    let view = View {
+        layout: program.layout(),
+        uniforms: &run.uniforms,
+        cells: &run.cells,
+        index,
+        locals,
+    };
+    let mut trail = Vec::new(alloc);
+    let outcome = match step_assignment(&view, target, e, &mut trail) {
+        Ok(effect) => Ok(effect),
+        Err(Failure::Fault(kind)) => Err(kind),
+        Err(Failure::NoMemory) => return None,
+    };
+    Some(Part {
+        member: v,
+        processor: index,
+        trail,
+        outcome,
+    })
+}
+
+// The attempts of all processors of a set.
+#[tactic(auto, using(crate::proofs::Sets::parts_start, crate::proofs::Sets::parts_go, crate::proofs::Sets::parts_end))]
+fn parts_in(
+    alloc: Global,
+    program: &Program,
+    run: &Run,
+    team: &Vec<Member>,
+    active: &Vec<u32>,
+    target: &StepTarget,
+    e: &Expression,
+) -> Option<Vec<Part>>
+    ensures { IfSome result (λ xs. map part_is xs.items ≡ parts program.now (state_in run.now team.now.items) (λ s. attempt_step s target.now e.now) active.now.items) }
+{
+    let mut all = Vec::new(alloc);
+    for v in active {
+        let x = part_in(alloc, program, run, team, *v, target, e)?;
+        if all.push(x).is_err() {
+            return None;
+        }
+    }
+    Some(all)
+}
+
+// One statement more, inside pardo.
+fn begin_on(bound: u32, run: &mut Run, team: &Vec<Member>) -> Result<(), Halt>
+    ensures counts { IsBehaviour result (state_in run.new team.now.items) (counted bound (state_in run.old team.now.items)) }
+    ensures more { OnOk result (run.new.count ≡ run.old.count + 1) }
+    ensures below { OnOk result (run.old.count < bound) }
+{
+    if bound <= run.count {
+        return Err(Halt::Bound);
+    }
+    run.count += 1;
+    Ok(())
+}
+
+// A statement of a set: its least fault, or the parts.
+#[tactic(auto, using(crate::proofs::Sets::set_halts, crate::proofs::Sets::set_faults, crate::proofs::Sets::set_goes))]
+fn attempt_on(
+    alloc: Global,
+    program: &Program,
+    bound: u32,
+    run: &mut Run,
+    team: &Vec<Member>,
+    active: &Vec<u32>,
+    line: u32,
+    target: &StepTarget,
+    e: &Expression,
+) -> Result<Vec<Part>, Halt>
+    ensures value { IsParts result (state_in run.new team.now.items) (attempted_on program.now bound line (λ s. attempt_step s target.now e.now) active.now.items (state_in run.old team.now.items)) }
+    ensures more { OnOk result (run.new.count ≡ run.old.count + 1) }
+    ensures below { OnOk result (run.old.count < bound) }
+{
+    begin_on(bound, run, team)?;
+    let Some(all) = parts_in(alloc, program, run, team, active, target, e) else {
+        return Err(Halt::NoMemory);
+    };
+    match least_key(alloc, program.rule(), &all) {
+        Err(_) => Err(Halt::NoMemory),
+        Ok(Some(key)) => Err(Halt::Fault(Fault {
+            kind: key.kind,
+            line,
+            place: key.place,
+        })),
+        Ok(None) => Ok(all),
+    }
+}
+
+fn add_those(chosen: &mut Vec<u32>, wanted: bool, x: &Part) -> Result<(), AllocError>
+    ensures { OnOk result (chosen.new.items ≡ chosen.old.items ++ those_of wanted (part_is x.now)) }
+{
+    if is_true(value_in(x)) == wanted {
+        chosen.push(x.member)?;
+    }
+    Ok(())
+}
+
+/// The members whose test comes out as wanted.
+#[tactic(auto, using(crate::proofs::Folds::build_starts, crate::proofs::Folds::build_goes, crate::proofs::Folds::build_ends))]
+pub fn select(alloc: Global, wanted: bool, parts: &Vec<Part>) -> Result<Vec<u32>, AllocError>
+    ensures { IfOk result (λ chosen. chosen.items ≡ those wanted (map part_is parts.now.items)) }
+{
+    let mut chosen = Vec::new(alloc);
+    for x in parts {
+        add_those(&mut chosen, wanted, x)?;
+    }
+    Ok(chosen)
+}
+
+// The cell that a part writes gets what all its writers leave.
+fn write_back(
+    alloc: Global,
+    rule: Rule,
+    cells: &mut Vec<i64>,
+    parts: &Vec<Part>,
+    x: &Part,
+) -> Result<(), AllocError>
+    ensures { OnOk result (cells.new.items ≡ with_write_of rule (map part_is parts.now.items) (part_is x.now).attempt cells.old.items) }
+{
+    if let Ok(effect) = x.outcome {
+        if let Some(cell) = effect.cell {
+            let writes = collect_writes(alloc, parts, index_of(cell))?;
+            if let Ok(value) = value_after(rule, 0, &writes) {
+                set_number(cells, cell as usize, value);
+            }
+        }
+    }
+    Ok(())
+}
+
+// The cells get what their writers leave.
+#[tactic(auto, using(crate::proofs::Overwrites::over_starts, crate::proofs::Overwrites::over_goes, crate::proofs::Overwrites::over_ends))]
+fn overwrite(
+    alloc: Global,
+    rule: Rule,
+    cells: &mut Vec<i64>,
+    parts: &Vec<Part>,
+) -> Result<(), AllocError>
+    ensures { OnOk result (cells.new.items ≡ overwritten rule (map part_is parts.now.items) 0 cells.old.items) }
+{
+    for x in parts {
+        write_back(alloc, rule, cells, parts, x)?;
+    }
+    Ok(())
+}
+
+/// An assignment of a set.
+#[tactic(auto, using(crate::proofs::SetBlocks::assign_halts, crate::proofs::SetBlocks::assign_goes))]
+pub fn assign_on(
+    alloc: Global,
+    program: &Program,
+    bound: u32,
+    run: &mut Run,
+    team: &mut Vec<Member>,
+    active: &Vec<u32>,
+    line: u32,
+    target: &StepTarget,
+    e: &Expression,
+) -> Result<(), Halt>
+    ensures value { IsBehaviour result (state_in run.new team.new.items) (spec.assign_on program.now bound line target.now e.now active.now.items (state_in run.old team.old.items)) }
+    ensures grows { OnOk result (run.old.count ≤ run.new.count) }
+{
+    let all = attempt_on(alloc, program, bound, run, team, active, line, target, e)?;
+    match target {
+        StepTarget::Local(x) => set_locals(team, *x, &all),
+        StepTarget::Cell(_) | StepTarget::Element(_, _) => {
+            if overwrite(alloc, program.rule(), &mut run.cells, &all).is_err() {
+                return Err(Halt::NoMemory);
+            }
+        }
+    }
+    Ok(())
+}
+
+/// A test of a set. It is evaluated as what a local gets, and nothing gets it.
+pub fn test_on(
+    alloc: Global,
+    program: &Program,
+    bound: u32,
+    run: &mut Run,
+    team: &Vec<Member>,
+    active: &Vec<u32>,
+    line: u32,
+    test: &Expression,
+) -> Result<Vec<Part>, Halt>
+    ensures value { IsParts result (state_in run.new team.now.items) (tested_on program.now bound line test.now active.now.items (state_in run.old team.now.items)) }
+    ensures more { OnOk result (run.new.count ≡ run.old.count + 1) }
+    ensures below { OnOk result (run.old.count < bound) }
+{
+    let none = StepTarget::Local(0);
+    attempt_on(alloc, program, bound, run, team, active, line, &none, test)
+}

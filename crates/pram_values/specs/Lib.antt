@@ -1,0 +1,4 @@
+pub mod Value
+pub mod Truth
+pub mod Division
+pub mod Place

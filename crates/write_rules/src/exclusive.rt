@@ -1,0 +1,41 @@
+//! Exclusive writes.
+
+ghost use Rattle.std.specs.Prelude.{◌≡◌};
+
+use crate::entry::Entry;
+use crate::write_rule::WriteRule;
+use pram_values::kind::Kind;
+
+/// Exclusive writes, with shared reads (CREW) or without (EREW).
+#[derive(Clone, Copy, Debug, PartialEq, Eq)]
+pub struct Exclusive {
+    pub shared_reads: bool,
+}
+
+impl WriteRule for Exclusive {
+    ghost use Rattle.write_rules.specs.Combining.{exclusive};
+    ghost use Rattle.write_rules.specs.ExclusiveLaws.{exclusive_carries};
+    ghost use Rattle.write_rules.specs.Combining.{exclusive_rule};
+
+    ghost rule = { λ r. exclusive_rule r.shared_reads };
+
+    ghost combining = { λ r. exclusive };
+
+    fn single(&self, processor: i64, value: i64) -> Entry {
+        Entry::of(processor, value)
+    }
+
+    fn join(&self, a: Entry, b: Entry) -> Entry {
+        a.first_of(b, true)
+    }
+
+    fn verdict(&self, entry: Entry) -> Result<i64, Kind> {
+        entry.unless_clash()
+    }
+
+    fn reads_shared(&self) -> bool {
+        self.shared_reads
+    }
+
+    ghost lawful = { λ r. exclusive_carries r.shared_reads };
+}

@@ -1,0 +1,12 @@
+//! The write rules of a PRAM, and how a run comes out.
+#![tactic(auto)]
+
+pub mod common;
+pub mod entry;
+pub mod exclusive;
+pub mod fault;
+pub mod outcome;
+pub mod priority;
+pub mod summed;
+pub mod write;
+pub mod write_rule;

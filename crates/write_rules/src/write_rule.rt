@@ -1,0 +1,37 @@
+//! Write rules as ways to combine entries.
+
+ghost use Rattle.std.specs.Prelude.{◌≡◌};
+ghost use Rattle.write_rules.specs.Rule.{shares_reads};
+
+use crate::entry::Entry;
+use pram_values::kind::Kind;
+
+/// How the writers of one cell are combined. Joining goes in any order.
+pub trait WriteRule {
+    ghost use Rattle.write_rules.specs.Combining.{Combining, Carries};
+    ghost use Rattle.pram_syntax.specs.declared.rule.Rule.{Rule as RuleName};
+
+    /// The rule that it carries.
+    ghost rule: { Self → RuleName };
+
+    ghost combining: { Self → Combining };
+
+    /// The entry of one writer.
+    fn single(&self, processor: i64, value: i64) -> Entry
+        ensures { result ≡ (combining self.now).single processor value };
+
+    /// The entry of the writers of two entries.
+    fn join(&self, a: Entry, b: Entry) -> Entry
+        ensures { result ≡ (combining self.now).join a b };
+
+    /// The value that an entry's writers leave, or the kind of their fault: WriteConflict, or
+    /// Overflow of a sum.
+    fn verdict(&self, entry: Entry) -> Result<i64, Kind>
+        ensures { result ≡ (combining self.now).verdict entry };
+
+    /// Whether processors may read one cell at the same time.
+    fn reads_shared(&self) -> bool
+        ensures { result ≡ shares_reads (rule self.now) };
+
+    ghost lawful: { (r : Self) → Carries (rule r) (combining r) };
+}
