@@ -1,9 +1,9 @@
 -- A layout's fields, and the cells of its declarations.
-use Rattle.std.proofs.Common.{◌≡◌, ◌+◌, ◌<◌, ◌≤◌, ◌^◌, ◌++◌, ◌-ℤ◌, nat_abs, ℕ, zero, suc, List, [], ◌∷◌, Option, Some, None, ℤ, pos, true, false, refl, sym, ap, ◌∙◌, subst, arith}
+use Rattle.std.proofs.Common.{◌≡◌, ◌+◌, ◌<◌, ◌≤◌, ◌^◌, ◌++◌, ◌-ℤ◌, nat_abs, ℕ, zero, suc, List, [], ◌∷◌, Some, None, ℤ, pos, true, false, refl, sym, ap, ◌∙◌, subst, arith}
 use Rattle.std.specs.Prelude.{slice_get, int_le, ◌≤ℤ◌}
 use Rattle.std.proofs.lemmas.Int.{ints}
 use Rattle.pram_syntax.specs.declared.layout.Entry as field
-use Rattle.pram_syntax.specs.Layout.{size, width, total_size, cell_at, cell_in, cell_from, cell_of, bounds_of, IsSingle}
+use Rattle.pram_syntax.specs.Layout.{size, width, total_size, cell_at, cell_in, cell_from, bounds_of, IsSingle}
 use Rattle.pram_syntax.specs.LayoutFields.{shown, declared, IsNumbered}
 
 -- the cells of all declarations end where the last one's end
@@ -22,7 +22,7 @@ found_cell at [] cells i z e h is = absurd (cc is)
 found_cell at (x ∷ es) cells zero z e h is =
     let q : x ≡ e = cc is in
     let r : cell_in at (shown x).bounds z ≡ cell_at x.range.first x.range.low x.range.high z =
-        in_bounds x.is_array at x.range.low x.range.high z h.1 ∙ ap (λ f. cell_at f x.range.low x.range.high z) (sym h.0) in
+    in_bounds x.is_array at x.range.low x.range.high z h.1 ∙ ap (λ f. cell_at f x.range.low x.range.high z) (sym h.0) in
     r ∙ ap (λ y. cell_at y.range.first y.range.low y.range.high z) q
 found_cell at (x ∷ es) cells (suc i) z e h is = found_cell (at + size (shown x).bounds) es cells i z e h.2 is
 
@@ -58,7 +58,7 @@ pub numbered_push : (es : List field.Entry) (cells more : ℕ) (e : field.Entry)
     low ≤ℤ high → IsSingle e.is_array low high → more ≡ cells + width low high → IsNumbered 0 (es ++ e ∷ []) more
 numbered_push es cells more e low high h first l k ordered single is =
     let sized : size (shown e).bounds ≡ width low high =
-        ap (λ z. size (bounds_of e.is_array z e.range.high)) l ∙ ap (λ z. size (bounds_of e.is_array low z)) k ∙ size_width e.is_array low high ordered single in
+    ap (λ z. size (bounds_of e.is_array z e.range.high)) l ∙ ap (λ z. size (bounds_of e.is_array low z)) k ∙ size_width e.is_array low high ordered single in
     let alone : IsSingle e.is_array e.range.low e.range.high =
-        subst (λ z. IsSingle e.is_array z e.range.high) (sym l) (subst (λ z. IsSingle e.is_array low z) (sym k) single) in
+    subst (λ z. IsSingle e.is_array z e.range.high) (sym l) (subst (λ z. IsSingle e.is_array low z) (sym k) single) in
     numbered_more 0 es cells more e h first alone (is ∙ ap (λ n. cells + n) (sym sized))

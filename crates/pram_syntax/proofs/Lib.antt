@@ -20,3 +20,6 @@ pub mod ExprParts
 pub mod StmtParts
 pub mod DeclParts
 pub mod Layouts
+pub mod Values
+pub mod Lexing
+pub mod Scans

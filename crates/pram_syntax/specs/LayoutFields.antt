@@ -1,5 +1,5 @@
 -- How a layout's fields show its declarations.
-use Rattle.std.specs.Prelude.{◌≡◌, ℕ, ◌+◌, ◌≤◌, List, [], ◌∷◌, map, Bool, true, false, Option, Some, None, ℤ, pos}
+use Rattle.std.specs.Prelude.{◌≡◌, ℕ, ◌+◌, List, [], ◌∷◌, map}
 use Rattle.pram_syntax.specs.declared.layout.Entry as field
 use Rattle.pram_syntax.specs.Layout.{SharedEntry, size, bounds_of, IsSingle}
 

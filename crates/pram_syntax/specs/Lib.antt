@@ -8,3 +8,6 @@ pub mod Machine
 pub mod Follows
 pub mod Layout
 pub mod LayoutFields
+pub mod Lexemes
+pub mod Scanning
+pub mod Text

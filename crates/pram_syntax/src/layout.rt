@@ -83,7 +83,13 @@ impl Layout {
 
     /// Takes an array in, behind the other declarations, with the bounds `low` and `high` of its
     /// subscripts.
-    pub fn push_array(&mut self, alloc: Global, name: &[u8], low: i64, high: i64) -> Result<(), AllocError>
+    pub fn push_array(
+        &mut self,
+        alloc: Global,
+        name: &[u8],
+        low: i64,
+        high: i64,
+    ) -> Result<(), AllocError>
         requires ordered { low ≤ℤ high }
         requires room { spec.total_size self.old + spec.width low high ≤ spec.most_cells }
         ensures ok { OnOk result (self.new ≡ self.old ++ record { name = name.now; bounds = Some (low, high) } ∷ []) }
@@ -93,7 +99,14 @@ impl Layout {
     }
 
     // A declaration that is an array, or a single cell with the subscript 0.
-    fn push(&mut self, alloc: Global, name: &[u8], is_array: bool, low: i64, high: i64) -> Result<(), AllocError>
+    fn push(
+        &mut self,
+        alloc: Global,
+        name: &[u8],
+        is_array: bool,
+        low: i64,
+        high: i64,
+    ) -> Result<(), AllocError>
         requires ordered { low ≤ℤ high }
         requires single { IsSingle is_array low high }
         requires room { spec.total_size self.old + spec.width low high ≤ spec.most_cells }

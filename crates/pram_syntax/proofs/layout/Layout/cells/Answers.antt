@@ -1,4 +1,4 @@
-use Rattle.std.proofs.Common.{◌≡◌, ◌+◌, ap, ◌∙◌, zero-add}
+use Rattle.std.proofs.Common.{ap, ◌∙◌, zero-add}
 use Rattle.pram_syntax.specs.Layout.{total_size}
 use Rattle.pram_syntax.proofs.Layouts.{numbered_total}
 use Rattle.pram_syntax.proofs.layout.Layout.cells.Goals as goal

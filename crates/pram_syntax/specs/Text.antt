@@ -1,0 +1,81 @@
+-- Which text is that of a tree, and what is wrong with a text that is that of none.
+use Rattle.std.specs.Prelude.{◌≡◌, ℕ, ◌-◌, ◌≤◌, ◌<◌, List, length, slice_index, slice_index_or, Result, Ok, Err}
+use Rattle.pram_syntax.specs.declared.error.LexError.{LexError}
+use Rattle.pram_syntax.specs.declared.error.LexError.TheVariants as lex
+use Rattle.pram_syntax.specs.declared.error.ParseError.{ParseError}
+use Rattle.pram_syntax.specs.declared.error.ParseError.TheVariants as parse
+use Rattle.pram_syntax.specs.declared.error.TextFault.{TextFault}
+use Rattle.pram_syntax.specs.declared.error.TextFault.TheVariants.{NotAscii, TextTooLong, BadToken, Syntax, TooDeep, OutOfMemory}
+use Rattle.pram_syntax.specs.declared.token.Token.{Token}
+use Rattle.pram_syntax.specs.Faults.{IsDepthFault, IsSyntaxFault}
+use Rattle.pram_syntax.specs.Program.{ProgramTree, IsTree, limit, program_tokens}
+use Rattle.pram_syntax.specs.Scanning.{cut, cut_of, longest}
+
+-- the first so many bytes are below 128
+abbrev pub IsAsciiTo : List ℕ → ℕ → Type 0
+IsAsciiTo text count = (k : ℕ) → k < count → slice_index text k < 128
+
+-- A text that may be cut into tokens: at most 1,048,576 bytes, all of them below 128.
+pub record IsPlain (text : List ℕ) : Type 0 where
+  pub fits : length text ≤ longest
+  pub ascii : IsAsciiTo text (length text)
+
+-- A text of a tree: one that is cut into the tree's tokens. The tree stands in the grammar, with blocks and expressions nested at most 64 deep.
+pub record IsTextOf (text : List ℕ) (tree : ProgramTree) : Type 0 where
+  pub plain : IsPlain text
+  pub offsets : List ℕ
+  pub tokens : cut_of text ≡ Ok (cut (program_tokens tree) offsets)
+  pub stands : IsTree limit limit tree
+
+-- the answer is that tree, unless memory was refused
+abbrev pub IsAnswer : ProgramTree → Result ProgramTree TextFault → Type 0
+IsAnswer p (Ok q) = q ≡ p
+IsAnswer p (Err OutOfMemory) = Unit {0}
+IsAnswer p (Err _) = ⊥
+
+-- The first byte of 128 or more stands at that offset, in a text that is not too long.
+pub record IsFirstOther (text : List ℕ) (at : ℕ) : Type 0 where
+  pub fits : length text ≤ longest
+  pub inside : at < length text
+  pub other : 128 ≤ slice_index text at
+  pub before : IsAsciiTo text at
+
+-- the first thing that is no token stands at that offset
+pub record IsFirstBad (text : List ℕ) (at : ℕ) : Type 0 where
+  pub plain : IsPlain text
+  pub bad : cut_of text ≡ Err at
+
+-- the offset of the token that has `left` tokens from it on, and at 0 that of the text's end
+abbrev pub offset_of : (offsets : List ℕ) (left end : ℕ) → ℕ
+offset_of offsets left end = slice_index_or offsets (length offsets - left) end
+
+-- Such a fault of the text's tokens stands at that offset. `IsFault ts left` says that it stands at the token that has `left` tokens from it on.
+pub record IsFaultAt (IsFault : List Token → ℕ → Type 0) (text : List ℕ) (at : ℕ) : Type 0 where
+  pub plain : IsPlain text
+  pub tokens : List Token
+  pub offsets : List ℕ
+  pub cuts : cut_of text ≡ Ok (cut tokens offsets)
+  pub left : ℕ
+  pub fault : IsFault tokens left
+  pub place : at ≡ offset_of offsets left (length text)
+
+-- Each refusal says what is wrong with the text, in this order: its length, its bytes, its tokens, its syntax or nesting. Of a refusal of memory it says nothing.
+abbrev pub IsFaultOf : {X : Type 0} → List ℕ → Result X TextFault → Type 0
+IsFaultOf text (Ok x) = Unit {0}
+IsFaultOf text (Err TextTooLong) = longest < length text
+IsFaultOf text (Err (NotAscii at)) = IsFirstOther text at
+IsFaultOf text (Err (BadToken at)) = IsFirstBad text at
+IsFaultOf text (Err (Syntax at)) = IsFaultAt IsSyntaxFault text at
+IsFaultOf text (Err (TooDeep at)) = IsFaultAt IsDepthFault text at
+IsFaultOf text (Err OutOfMemory) = Unit {0}
+
+-- a refusal of the tokenizer, as one of the text
+abbrev pub lex_fault : LexError → TextFault
+lex_fault lex.Memory = OutOfMemory
+lex_fault (lex.BadToken at) = BadToken at
+
+-- a refusal of the tokens, as one of the text, by the tokens' offsets and the text's length
+abbrev pub parse_fault : (offsets : List ℕ) (end : ℕ) → ParseError → TextFault
+parse_fault offsets end parse.Memory = OutOfMemory
+parse_fault offsets end (parse.Syntax left) = Syntax (offset_of offsets left end)
+parse_fault offsets end (parse.TooDeep left) = TooDeep (offset_of offsets left end)

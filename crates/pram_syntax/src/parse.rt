@@ -1,0 +1,94 @@
+//! From the bytes of a text to its tree.
+
+ghost use Rattle.std.specs.Prelude.{◌≡◌, ◌≤◌, ◌<◌, ◌↔◌, Err, length, IfOk, MatchOption};
+ghost use Rattle.pram_syntax.specs.declared.error.TextFault.TheVariants.{TextTooLong};
+ghost use Rattle.pram_syntax.specs.Program.{ProgramTree};
+ghost use Rattle.pram_syntax.specs.Scanning.{longest};
+ghost use Rattle.pram_syntax.specs.Text as spec;
+
+use crate::error::{LexError, ParseError, TextFault};
+use crate::lexer::tokenize;
+use crate::parser::parse_tokens;
+use crate::tree::Tree;
+use std::alloc::Global;
+
+/// The greatest length of a text, in bytes.
+const LONGEST: usize = 1_048_576;
+
+/// The offset of the first byte of 128 or more.
+fn first_other(text: &[u8]) -> Option<usize>
+    requires fits { length text.now ≤ longest }
+    ensures first { MatchOption result (spec.IsAsciiTo text.now (length text.now)) (λ at. spec.IsFirstOther text.now at) }
+{
+    for at in 0..text.len() {
+        if text[at] >= 128 {
+            return Some(at);
+        }
+    }
+    None
+}
+
+/// The offset of the token that has so many tokens from it on, and at 0 the end.
+fn offset_of(offsets: &[u32], left: usize, end: u32) -> u32
+    ensures value { result ≡ spec.offset_of offsets.now left end }
+{
+    let at = offsets.len().saturating_sub(left);
+    if at < offsets.len() { offsets[at] } else { end }
+}
+
+/// What a refusal of the tokens says of the text that they were cut from.
+fn parse_fault(offsets: &[u32], end: u32, fault: ParseError) -> TextFault
+    ensures value { result ≡ spec.parse_fault offsets.now end fault }
+{
+    match fault {
+        ParseError::Memory => TextFault::OutOfMemory,
+        ParseError::Syntax(left) => TextFault::Syntax(offset_of(offsets, left, end)),
+        ParseError::TooDeep(left) => TextFault::TooDeep(offset_of(offsets, left, end)),
+    }
+}
+
+/// What a refusal of the tokenizer says of the text.
+fn lex_fault(fault: LexError) -> TextFault
+    ensures value { result ≡ spec.lex_fault fault }
+{
+    match fault {
+        LexError::Memory => TextFault::OutOfMemory,
+        LexError::BadToken(at) => TextFault::BadToken(at),
+    }
+}
+
+/// The tree of a program's text.
+///
+/// A text of more than 1,048,576 bytes is `TextFault::TextTooLong` (E2), whatever it says. Then
+/// the first byte of 128 or more is `TextFault::NotAscii` (E1), then the first thing that is no
+/// token `TextFault::BadToken` (E3), wherever the grammar is broken. Of the tokens, the first one
+/// with which no program begins, or the end of the text where they run out, is
+/// `TextFault::Syntax` (E4), and the one that opens the 65th block or the 65th level of an
+/// expression `TextFault::TooDeep` (E5), if no syntax fault stands before it or at it.
+/// `TextFault::OutOfMemory` (E16) says that memory was refused.
+pub fn parse(alloc: Global, text: &[u8]) -> Result<Tree, TextFault>
+    // The tree is that of the text.
+    ensures found { IfOk result (λ tree. spec.IsTextOf text.now tree) }
+    // Whatever tree the text is that of, that tree is the answer, unless memory was refused: no
+    // text has two trees, and no text of a tree is refused.
+    ensures only { (tree : ProgramTree) → spec.IsTextOf text.now tree → spec.IsAnswer tree result }
+    // A text that is too long is told so, memory or not, and no other is.
+    ensures too_long { (result ≡ Err TextTooLong) ↔ (longest < length text.now) }
+    // A refusal is right, and stands where it should.
+    ensures refused { spec.IsFaultOf text.now result }
+{
+    if text.len() > LONGEST {
+        return Err(TextFault::TextTooLong);
+    }
+    if let Some(at) = first_other(text) {
+        return Err(TextFault::NotAscii(at as u32));
+    }
+    let (tokens, offsets) = match tokenize(alloc, text) {
+        Ok(found) => found,
+        Err(fault) => return Err(lex_fault(fault)),
+    };
+    match parse_tokens(alloc, &tokens) {
+        Ok(tree) => Ok(tree),
+        Err(fault) => Err(parse_fault(&offsets, text.len() as u32, fault)),
+    }
+}
