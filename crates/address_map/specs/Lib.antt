@@ -1,0 +1,6 @@
+pub mod Permutation
+pub mod Lawful
+pub mod Outcome
+pub mod SpreadLaws
+pub mod AffineLaws
+pub mod ShiftLaws

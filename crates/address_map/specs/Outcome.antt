@@ -1,0 +1,21 @@
+-- When a map can be made, and which fault comes otherwise.
+use Rattle.std.specs.Prelude.{◌≡◌, ℕ, ◌^◌, ◌≤◌, ◌%◌}
+use Rattle.address_map.specs.declared.fault.MapFault.{MapFault}
+use Rattle.address_map.specs.declared.fault.MapFault.TheVariants.{BadWorkers, BadMap}
+
+-- 1 to 32 modules
+abbrev pub IsWorkers : ℕ → Type 0
+IsWorkers p = (1 ≤ p) × (p ≤ 32)
+
+-- a power of two up to 2 ^ 20
+abbrev pub IsCells : ℕ → Type 0
+IsCells k = (e : ℕ) × (e ≤ 20) × (k ≡ 2 ^ e)
+
+-- an odd number
+abbrev pub IsOdd : ℕ → Type 0
+IsOdd a = a % 2 ≡ 1
+
+-- the workers are judged first, and then whether the rest is good
+unfoldable pub IsFault : Type 0 → ℕ → MapFault → Type 0
+IsFault good p BadWorkers = ¬ (IsWorkers p)
+IsFault good p BadMap = IsWorkers p × ¬ good

@@ -1,0 +1,21 @@
+-- Permutations of the numbers below k.
+use Rattle.std.specs.Prelude.{◌≡◌, ℕ, ◌<◌, ◌+◌, ◌-◌, ◌*◌, ◌%◌}
+
+-- f and g take numbers below k to numbers below k, and each undoes the other
+pub record IsInverse (k : ℕ) (f g : ℕ → ℕ) : Type 0 where
+  pub below : (x : ℕ) → x < k → f x < k
+  pub back_below : (x : ℕ) → x < k → g x < k
+  pub back : (x : ℕ) → x < k → g (f x) ≡ x
+  pub forth : (x : ℕ) → x < k → f (g x) ≡ x
+
+-- each number stays where it is
+abbrev pub same : ℕ → ℕ
+same x = x
+
+-- times a, plus b, below k
+abbrev pub affine : ℕ → ℕ → ℕ → ℕ → ℕ
+affine k a b x = (a * x + b) % k
+
+-- what undoes it, where u is the inverse of a below k
+abbrev pub affine_back : ℕ → ℕ → ℕ → ℕ → ℕ
+affine_back k u b y = (u * (y + (k - b % k))) % k

@@ -1,0 +1,15 @@
+//! Maps of cells onto the offsets of modules, each of them one to one.
+#![tactic(auto)]
+
+mod affine;
+mod fault;
+mod identity;
+mod map;
+mod spread;
+#[cfg(test)]
+mod tests;
+
+pub use affine::Affine;
+pub use fault::MapFault;
+pub use identity::Identity;
+pub use map::AddressMap;

@@ -1,0 +1,35 @@
+//! Worked rows of each map.
+use crate::{AddressMap, Affine, Identity, MapFault};
+
+#[test]
+fn faults_come_in_order(rt: HostRuntime) {
+    assert_eq!(rt; Identity::new(7, 0).err(), Some(MapFault::BadWorkers));
+    assert_eq!(rt; Identity::new(7, 3).err(), Some(MapFault::BadMap));
+}
+
+#[test]
+fn affine_rows_are_placed_and_found(rt: HostRuntime) {
+    let map = Affine::new(8, 3, 5, 3).expect(&rt, "an odd multiplier");
+    let modules = [0, 0, 2, 2, 1, 1, 1, 0];
+    let offsets = [1, 0, 1, 0, 2, 1, 0, 2];
+    for cell in 0..8u32 {
+        let (module, offset) = map.place(cell);
+        assert_eq!(rt; module, modules[cell as usize]);
+        assert_eq!(rt; offset, offsets[cell as usize]);
+        assert_eq!(rt; map.cell(module, offset), Some(cell));
+    }
+    assert_eq!(rt; Affine::new(8, 3, 4, 3).err(), Some(MapFault::BadMap));
+}
+
+#[test]
+fn identity_deals_cells_in_turn(rt: HostRuntime) {
+    let map = Identity::new(8, 3).expect(&rt, "eight cells");
+    assert_eq!(rt; map.cells(), 8);
+    assert_eq!(rt; map.modules(), 3);
+    for (module, size) in [(0, 3), (1, 3), (2, 2)] {
+        assert_eq!(rt; map.size(module), size);
+        assert_eq!(rt; map.cell(module, size), None);
+    }
+    assert_eq!(rt; map.place(5), (2, 1));
+    assert_eq!(rt; map.cell(2, 1), Some(5));
+}

@@ -1,0 +1,6 @@
+//! Runs a PRAM program from its text.
+#![tactic(auto)]
+
+pub mod run_text;
+#[cfg(test)]
+mod tests;
