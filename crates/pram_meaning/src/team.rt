@@ -8,7 +8,7 @@ ghost use Rattle.pram_meaning.specs.Judging.{part_is};
 ghost use Rattle.pram_meaning.specs.Sets.{member_is};
 
 use crate::part::Part;
-use crate::run::{zeros, set_number};
+use crate::run::{set_number, zeros};
 use std::alloc::{AllocError, Global};
 
 /// A processor of a pardo: its index and its locals.
