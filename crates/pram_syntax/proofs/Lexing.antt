@@ -20,7 +20,7 @@ IsRealLexeme (lexeme.Blank n) = Unit {0}
 IsRealLexeme (lexeme.Token t n) = IsReal t
 IsRealLexeme lexeme.Bad = Unit {0}
 
-abbrev spellings : List (List ℕ × Fixed) → List (List ℕ)
+abbrev pub spellings : List (List ℕ × Fixed) → List (List ℕ)
 spellings [] = []
 spellings (entry ∷ rest) = entry.0 ∷ spellings rest
 

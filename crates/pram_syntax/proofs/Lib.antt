@@ -23,3 +23,11 @@ pub mod Layouts
 pub mod Values
 pub mod Lexing
 pub mod Scans
+pub mod Writing
+pub mod Progress
+pub mod Inputs
+pub mod Printed
+pub mod Moving
+pub mod StmtMoving
+pub mod RoundTrip
+pub mod Offsets

@@ -11,3 +11,9 @@ pub mod LayoutFields
 pub mod Lexemes
 pub mod Scanning
 pub mod Text
+pub mod Out
+pub mod Input
+pub mod Spelling
+pub mod Printing
+pub mod Places
+pub mod InOrder

@@ -8,7 +8,7 @@ use std::alloc::{AllocError, AllocFailed};
 
 /// Why a list of tokens has no tree.
 #[derive(Debug, Drop)]
-pub enum ParseError {
+pub(crate) enum ParseError {
     /// Memory was refused. Nothing is said of the tokens.
     Memory,
     /// With the number of tokens from the first one on with which no program begins, or 0 where

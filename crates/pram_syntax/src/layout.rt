@@ -1,6 +1,6 @@
 //! Shared declarations and their cells.
 
-ghost use Rattle.std.specs.Prelude.{◌≡◌, ◌+◌, ◌≤◌, ◌<◌, ◌++◌, ◌∷◌, [], ◌-ℤ◌, ◌≤ℤ◌, ◌^◌, length, map, slice_get, nat_abs, Some, None, Option, OnOk, OnErr, MatchOption};
+ghost use Rattle.std.specs.Prelude.{◌≡◌, ◌+◌, ◌≤◌, ◌<◌, ◌++◌, ◌∷◌, [], ◌+ℤ◌, ◌-ℤ◌, ◌≤ℤ◌, pos, ◌^◌, length, map, slice_get, nat_abs, Some, None, Option, IfSome, OnOk, OnErr, MatchOption};
 ghost use Rattle.pram_syntax.specs.Layout as spec;
 ghost use Rattle.pram_syntax.specs.Layout.{cell_at, bounds_of, IsSingle};
 
@@ -70,6 +70,55 @@ impl Layout {
         ensures most { result ≤ spec.most_cells }
     {
         self.cells
+    }
+
+    /// The name of a declaration.
+    pub fn name(&self, i: usize) -> &[u8]
+        requires { i < length self.now }
+        ensures { IfSome (slice_get self.now i) (λ e. result.now ≡ e.name) }
+    {
+        self.entries[i].name.as_slice()
+    }
+
+    /// The bounds of an array's subscripts, and `None` for a single cell.
+    pub fn bounds(&self, i: usize) -> Option<(i64, i64)>
+        requires { i < length self.now }
+        ensures { IfSome (slice_get self.now i) (λ e. result ≡ e.bounds) }
+    {
+        let entry = &self.entries[i];
+        if entry.is_array {
+            Some((entry.range.low, entry.range.high))
+        } else {
+            None
+        }
+    }
+
+    /// How many cells a declaration has.
+    pub fn size(&self, i: usize) -> u32
+        requires { i < length self.now }
+        ensures { IfSome (slice_get self.now i) (λ e. result ≡ spec.size e.bounds) }
+    {
+        let entry = &self.entries[i];
+        if entry.is_array {
+            cell_count(entry.range.low, entry.range.high)
+        } else {
+            1
+        }
+    }
+
+    /// The subscript of an array's cell by the cell's number among those of the array, and 0 for a
+    /// single cell.
+    pub fn subscript(&self, i: usize, number: u32) -> i64
+        requires entry { i < length self.now }
+        requires inside { IfSome (slice_get self.now i) (λ e. number < spec.size e.bounds) }
+        ensures { IfSome (slice_get self.now i) (λ e. IfSome e.bounds (λ b. result ≡ b.0 +ℤ pos number)) }
+    {
+        let entry = &self.entries[i];
+        if entry.is_array {
+            subscript_at(entry.range.low, entry.range.high, number)
+        } else {
+            0
+        }
     }
 
     /// Takes a single cell in, behind the other declarations.
@@ -144,6 +193,15 @@ fn cell_count(low: i64, high: i64) -> u32
     ensures { result ≡ spec.width low high }
 {
     (high - low) as u32 + 1
+}
+
+// The subscript of a cell among those from `low` to `high`.
+fn subscript_at(low: i64, high: i64, number: u32) -> i64
+    requires ordered { low ≤ℤ high }
+    requires inside { number ≤ nat_abs (high -ℤ low) }
+    ensures { result ≡ low +ℤ pos number }
+{
+    low + number as i64
 }
 
 impl Range {

@@ -28,9 +28,11 @@ enum Lexeme {
     Bad,
 }
 
-const LARGEST: u64 = 9_223_372_036_854_775_807;
+/// The greatest number of a text.
+pub(crate) const LARGEST: u64 = 9_223_372_036_854_775_807;
 
-fn is_blank(b: u8) -> bool
+/// White space: space, tab, LF, CR.
+pub(crate) fn is_blank(b: u8) -> bool
     ensures value { result ≡ lexemes.is_blank b }
 {
     matches!(b, b' ' | b'\t' | b'\n' | b'\r')
@@ -66,21 +68,22 @@ fn span(class: Class, text: &[u8]) -> usize
     end
 }
 
-/// The value of digits, if it is at most the largest `i64`.
-fn value(digits: &[u8]) -> Option<i64>
-    ensures value { MatchOption result (lexemes.largest < lexemes.value_after 0 digits.now)
-        (λ n. (n ≡ pos (lexemes.value_after 0 digits.now)) × (lexemes.value_after 0 digits.now ≤ lexemes.largest)) }
+/// The value of digits, if it is at most that.
+pub(crate) fn value(digits: &[u8], most: u64) -> Option<u64>
+    requires wide { 255 ≤ most }
+    ensures value { MatchOption result (most < lexemes.value_after 0 digits.now)
+        (λ n. (n ≡ lexemes.value_after 0 digits.now) × (n ≤ most)) }
 {
     let mut n: u64 = 0;
     for b in digits {
         let digit = u64::from(b.saturating_sub(b'0'));
         // Without this test a long run of digits would wrap.
-        if n > (LARGEST - digit) / 10 {
+        if n > (most - digit) / 10 {
             return None;
         }
         n = n * 10 + digit;
     }
-    Some(n as i64)
+    Some(n)
 }
 
 /// The number at the front.
@@ -94,8 +97,11 @@ fn number(location: Location, text: &[u8]) -> Lexeme
     if is_in(Class::Word, byte_at(rest, 0)) {
         return Lexeme::Bad;
     }
-    match value(digits) {
-        Some(value) => Lexeme::Token(Token::Number(Numeral { value, location }), digits.len()),
+    match value(digits, LARGEST) {
+        Some(value) => {
+            let value = value as i64;
+            Lexeme::Token(Token::Number(Numeral { value, location }), digits.len())
+        }
         None => Lexeme::Bad,
     }
 }

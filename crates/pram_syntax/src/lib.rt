@@ -1,20 +1,27 @@
 //! The concrete syntax of PRAM programs.
 #![tactic(auto)]
 
+pub mod buffer;
 pub mod error;
 mod front;
+pub mod input;
 pub mod layout;
-pub mod level;
+mod level;
 mod lexer;
 pub mod parse;
 mod parse_decl;
 mod parse_expr;
 mod parse_for;
 mod parse_stmt;
-pub mod parser;
+mod parser;
+pub mod places;
+pub mod print;
+mod printer;
 pub mod rule;
+mod spell;
 #[cfg(test)]
 mod tests;
 pub mod token;
 pub mod tree;
 mod words;
+pub mod writer;

@@ -13,10 +13,10 @@ use crate::tree::Tree;
 use std::alloc::Global;
 
 /// The greatest length of a text, in bytes.
-const LONGEST: usize = 1_048_576;
+pub const LONGEST: usize = 1_048_576;
 
 /// The offset of the first byte of 128 or more.
-fn first_other(text: &[u8]) -> Option<usize>
+pub(crate) fn first_other(text: &[u8]) -> Option<usize>
     requires fits { length text.now ≤ longest }
     ensures first { MatchOption result (spec.IsAsciiTo text.now (length text.now)) (λ at. spec.IsFirstOther text.now at) }
 {

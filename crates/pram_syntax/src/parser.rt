@@ -57,7 +57,7 @@ fn program(alloc: Global, tokens: &[Token]) -> Result<(Parts, &[Token]), ParseEr
 /// nesting, or at the end of the tokens where they run out. `ParseError::TooDeep` (E5) stands at
 /// the token that opens the 65th block or the 65th level of an expression, if no syntax fault
 /// stands before it or at it. `ParseError::Memory` says that memory was refused.
-pub fn parse_tokens(alloc: Global, tokens: &[Token]) -> Result<Tree, ParseError>
+pub(crate) fn parse_tokens(alloc: Global, tokens: &[Token]) -> Result<Tree, ParseError>
     requires real { AreReal tokens.now }
     // The tree stands in the grammar, within the limits of nesting.
     ensures stands { IfOk result (λ tree. IsTree limit limit tree) }

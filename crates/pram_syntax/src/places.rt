@@ -1,0 +1,12 @@
+//! Where the tokens of a text stand.
+
+ghost use Rattle.std.specs.Prelude.{ℕ, List, length};
+ghost use Rattle.pram_syntax.specs.InOrder.{StandInOrder};
+ghost use Rattle.pram_syntax.specs.Program.{ProgramTree, program_tokens};
+ghost use Rattle.pram_syntax.specs.Text.{IsTextOf};
+
+/// The tokens of a text stand within it, each behind the one before it.
+pub fn tokens_stand_in_order()
+    ensures { (text : List ℕ) (tree : ProgramTree) → IsTextOf text tree →
+        StandInOrder (length text) (program_tokens tree) }
+{}
