@@ -6,8 +6,7 @@ use Rattle.pram_syntax.specs.declared.tree.Declaration.TheVariants as declare
 use Rattle.pram_syntax.specs.Layout.{SharedEntry, size, total_size}
 use Rattle.pram_check.specs.declared.scope.Meaning.TheVariants.{Uniform, Cell, Array}
 use Rattle.pram_check.specs.Scope.{Scope, declared_from, shared_entries, uniform_count}
-use Rattle.pram_check.specs.Breaches.{at, shared_cause, new_cause, declaration_breaches}
-use Rattle.pram_check.specs.Walk.{first}
+use Rattle.pram_check.specs.Breaches.{at, shared_cause, new_cause, declaration_breaches, first}
 use Rattle.pram_check.proofs.Judging.{Leads, first_front, first_behind}
 
 pub total_append : (xs ys : List SharedEntry) → total_size (xs ++ ys) ≡ total_size xs + total_size ys

@@ -15,10 +15,9 @@ use Rattle.pram_check.specs.declared.body.Expression as value
 use Rattle.pram_check.specs.declared.body.Link.{Link}
 use Rattle.pram_check.specs.declared.scope.Meaning.TheVariants as meaning
 use Rattle.pram_check.specs.Scope.{Scope, meaning_of}
-use Rattle.pram_check.specs.Breaches.{Use, plain, subscripted, uses, step_uses, use_breaches, read_count}
+use Rattle.pram_check.specs.Breaches.{Use, plain, subscripted, uses, step_uses, use_breaches, read_count, first}
 use Rattle.pram_check.specs.Resolved.{Says, SayLinks}
 use Rattle.pram_check.specs.Resolved as says
-use Rattle.pram_check.specs.Walk.{first}
 use Rattle.pram_check.proofs.Judging.{fine_none, fine_append, fine_as}
 use Rattle.pram_check.proofs.Uses.{uses-Number, uses-Name, uses-Element, uses-Paren, uses-Prefix, uses-Chain}
 

@@ -9,8 +9,8 @@ use Rattle.pram_check.specs.declared.fault.Spot.TheVariants.{Offset}
 use Rattle.pram_check.specs.declared.fault.CheckFault.{CheckFault}
 use Rattle.pram_check.specs.declared.fault.CheckFault.TheVariants.{Refused, OutOfMemory}
 use Rattle.pram_check.specs.Scope.{Scope, meaning_of}
-use Rattle.pram_check.specs.Breaches.{Use, use_breaches, use_cause, ninth, is_read, or_else, at, read_count}
-use Rattle.pram_check.specs.Walk.{first, Tells, Judges}
+use Rattle.pram_check.specs.Breaches.{Use, use_breaches, use_cause, ninth, is_read, or_else, at, read_count, first, Tells}
+use Rattle.pram_check.specs.Walk.{Judges}
 
 -- ---- lists of breaches
 

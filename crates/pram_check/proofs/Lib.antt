@@ -9,3 +9,11 @@ pub mod Locals
 pub mod PardoParts
 pub mod Statements
 pub mod DeclarationSteps
+pub mod Sublists
+pub mod Places
+pub mod Least
+pub mod Lowest
+pub mod UseFaults
+pub mod StatementFaults
+pub mod ProgramFaults
+pub mod Chains

@@ -4,8 +4,7 @@ use Rattle.std.proofs.lemmas.List.{append-nil, take-append-drop, take_more, leng
 use Rattle.pram_syntax.specs.declared.token.Name.{Name}
 use Rattle.pram_check.specs.declared.scope.Meaning.TheVariants.{Local}
 use Rattle.pram_check.specs.Scope.{Scope, locals_from}
-use Rattle.pram_check.specs.Breaches.{at, new_cause, local_breaches}
-use Rattle.pram_check.specs.Walk.{first}
+use Rattle.pram_check.specs.Breaches.{at, new_cause, local_breaches, first}
 use Rattle.pram_check.proofs.Judging.{Leads, first_front, first_behind}
 
 locals_append : (k : ℕ) (xs ys : List Name) → locals_from k (xs ++ ys) ≡ locals_from k xs ++ locals_from (k + length xs) ys

@@ -8,10 +8,9 @@ use Rattle.pram_check.specs.declared.body.Expression as value
 use Rattle.pram_check.specs.declared.scope.Meaning.{Meaning}
 use Rattle.pram_check.specs.declared.scope.Meaning.TheVariants as meaning
 use Rattle.pram_check.specs.Scope.{Scope, meaning_of}
-use Rattle.pram_check.specs.Breaches.{plain, at, use_breaches, use_cause, is_read, ninth, read_count}
+use Rattle.pram_check.specs.Breaches.{plain, at, use_breaches, use_cause, is_read, ninth, read_count, first}
 use Rattle.pram_check.specs.Resolved.{Says}
 use Rattle.pram_check.specs.Resolved as says
-use Rattle.pram_check.specs.Walk.{first}
 
 -- what a name's answer has to be
 abbrev pub SaysName : Scope → ℕ → Name → Expression → ℕ → Type 0

@@ -13,10 +13,9 @@ use Rattle.pram_check.specs.declared.body.Statement as statement
 use Rattle.pram_check.specs.declared.fault.Breach.{Breach}
 use Rattle.pram_check.specs.declared.scope.Meaning.TheVariants.{Index}
 use Rattle.pram_check.specs.Scope.{Scope, inner_scope, locals_from}
-use Rattle.pram_check.specs.Breaches.{at, uses, use_breaches, read_count, new_cause, local_breaches, statement_breaches, block_breaches, outside_of, inside_of}
+use Rattle.pram_check.specs.Breaches.{at, uses, use_breaches, read_count, new_cause, local_breaches, statement_breaches, block_breaches, outside_of, inside_of, first}
 use Rattle.pram_check.specs.Resolved.{Says, SaySteps, SaysStatement}
 use Rattle.pram_check.specs.Resolved as says
-use Rattle.pram_check.specs.Walk.{first}
 use Rattle.pram_check.proofs.Judging.{Leads, first_front, first_behind}
 use Rattle.pram_check.proofs.StmtBreaches.{breaches-Pardo}
 

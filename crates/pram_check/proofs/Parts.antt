@@ -8,8 +8,7 @@ use Rattle.pram_syntax.specs.declared.tree.Stmt.{Stmt}
 use Rattle.pram_syntax.specs.declared.tree.Stmt.TheVariants as s
 use Rattle.pram_check.specs.declared.fault.Breach.{Breach}
 use Rattle.pram_check.specs.Scope.{meaning_of, inner_scope}
-use Rattle.pram_check.specs.Breaches.{Context, at, uses, use_breaches, read_count, target_cause, element_cause, variable_cause, new_cause, local_breaches, outside_only, for_context, pardo_context, statement_breaches, block_breaches, else_breaches}
-use Rattle.pram_check.specs.Walk.{first}
+use Rattle.pram_check.specs.Breaches.{Context, at, uses, use_breaches, read_count, target_cause, element_cause, variable_cause, new_cause, local_breaches, outside_only, for_context, pardo_context, statement_breaches, block_breaches, else_breaches, first}
 use Rattle.pram_check.proofs.Judging.{Leads, first_front, first_behind}
 use Rattle.pram_check.proofs.StmtBreaches.{breaches-Assign, breaches-AssignElement, breaches-Print, breaches-While, breaches-If, breaches-For, breaches-Pardo}
 

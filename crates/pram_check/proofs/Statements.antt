@@ -13,10 +13,9 @@ use Rattle.pram_check.specs.declared.body.Statement.{Statement}
 use Rattle.pram_check.specs.declared.body.Statement as statement
 use Rattle.pram_check.specs.declared.scope.Meaning.TheVariants as meaning
 use Rattle.pram_check.specs.Scope.{Scope, meaning_of}
-use Rattle.pram_check.specs.Breaches.{at, uses, use_breaches, variable_cause, with_loop, for_context, outside_of, statement_breaches, block_breaches}
+use Rattle.pram_check.specs.Breaches.{at, uses, use_breaches, variable_cause, with_loop, for_context, outside_of, statement_breaches, block_breaches, first}
 use Rattle.pram_check.specs.Resolved.{Says, SaysStatement, SayStatements, SayOther}
 use Rattle.pram_check.specs.Resolved as says
-use Rattle.pram_check.specs.Walk.{first}
 use Rattle.pram_check.proofs.Judging.{Leads, first_front, first_behind}
 use Rattle.pram_check.proofs.Parts.{for_parts}
 

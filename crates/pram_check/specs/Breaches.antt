@@ -1,5 +1,7 @@
--- Everything that is wrong with a tree, in the order of the text. An accepted program is a tree with nothing wrong.
-use Rattle.std.specs.Prelude.{◌≡◌, ℕ, ◌+◌, Bool, true, false, ◌&&◌, ◌||◌, if◌then◌else◌, nat_eq, nat_le, nat_lt, int_lt, List, [], ◌∷◌, ◌++◌, Option, Some, None, ℤ, pos, length}
+-- What is wrong with a tree, in the order of the text, one thing at a place. An accepted program is a tree with
+-- nothing wrong.
+use Rattle.std.specs.Prelude.{◌≡◌, ℕ, ◌+◌, Bool, true, false, ◌&&◌, ◌||◌, if◌then◌else◌, nat_eq, nat_le, nat_lt, int_lt}
+use Rattle.std.specs.Prelude.{List, [], ◌∷◌, ◌++◌, Option, Some, None, ℤ, pos, length}
 use Rattle.std.specs.List.{list_any}
 use Rattle.pram_syntax.specs.declared.token.Location.{Location}
 use Rattle.pram_syntax.specs.declared.token.Name.{Name}
@@ -22,9 +24,12 @@ use Rattle.pram_check.specs.declared.fault.Cause.TheVariants as cause
 use Rattle.pram_check.specs.declared.fault.Limit.TheVariants as limit
 use Rattle.pram_check.specs.declared.fault.Spot.TheVariants.{Offset, TextEnd}
 use Rattle.pram_check.specs.declared.fault.Breach.{Breach}
+use Rattle.pram_check.specs.declared.fault.CheckFault.{CheckFault}
+use Rattle.pram_check.specs.declared.fault.CheckFault.TheVariants.{Refused, OutOfMemory}
 use Rattle.pram_check.specs.Scope.{Scope, meaning_of, inner_scope, locals_from, globals}
 
--- where an expression or a statement stands: the names in scope, the uniform variables of the `for` loops around it, and whether it is inside pardo
+-- where an expression or a statement stands: the names in scope, the uniform variables of the `for` loops around it,
+-- and whether it is inside pardo
 pub record Context : Type 0 where
   pub scope : Scope
   pub loops : List ℕ
@@ -83,7 +88,8 @@ use_cause (Some m) false = None
 
 abbrev pub read_count : Scope → List Use → ℕ
 read_count scope [] = 0
-read_count scope (u ∷ us) = (if is_read (meaning_of scope u.name.text) u.subscripted then 1 else 0) + read_count scope us
+read_count scope (u ∷ us) =
+    (if is_read (meaning_of scope u.name.text) u.subscripted then 1 else 0) + read_count scope us
 
 abbrev pub most_reads : ℕ
 most_reads = 8
@@ -116,7 +122,8 @@ target_cause inside loops (Some Index) = Some cause.AssignedLoopVariable
 target_cause true loops (Some (Local k)) = None
 target_cause false loops (Some (Local k)) = Some cause.WrongKind
 target_cause true loops (Some (Uniform k)) = Some cause.WrongKind
-target_cause false loops (Some (Uniform k)) = if list_any (nat_eq k) loops then Some cause.AssignedLoopVariable else None
+target_cause false loops (Some (Uniform k)) =
+    if list_any (nat_eq k) loops then Some cause.AssignedLoopVariable else None
 
 -- a name that is assigned at a subscript
 abbrev pub element_cause : Option Meaning → Option Cause
@@ -141,7 +148,8 @@ new_cause scope text = elim (meaning_of scope text) [ None ↦ None | Some m ↦
 
 abbrev pub local_breaches : Scope → ℕ → List Name → List Breach
 local_breaches scope k [] = []
-local_breaches scope k (x ∷ xs) = at x.location (new_cause scope x.text) ++ local_breaches (scope ++ locals_from k (x ∷ [])) (k + 1) xs
+local_breaches scope k (x ∷ xs) =
+    at x.location (new_cause scope x.text) ++ local_breaches (scope ++ locals_from k (x ∷ [])) (k + 1) xs
 
 -- print, `for` and pardo have no place inside pardo, whatever they contain
 abbrev pub outside_only : Bool → Location → List Breach → List Breach
@@ -175,15 +183,21 @@ abbrev pub pardo_context : Context → Name → List Name → Context
 pardo_context c index locals = inside_of (inner_scope c.scope index locals)
 
 abbrev pub node_breaches : Stmt-F Judged → Judged
-node_breaches (Stmt-F.Assign x v) c = at x.location (target_cause c.inside c.loops (meaning_of c.scope x.text)) ++ use_breaches c.scope 0 (uses v)
-node_breaches (Stmt-F.AssignElement x i v) c = at x.location (element_cause (meaning_of c.scope x.text)) ++ use_breaches c.scope 0 (uses i ++ uses v)
+node_breaches (Stmt-F.Assign x v) c =
+    at x.location (target_cause c.inside c.loops (meaning_of c.scope x.text)) ++ use_breaches c.scope 0 (uses v)
+node_breaches (Stmt-F.AssignElement x i v) c =
+    at x.location (element_cause (meaning_of c.scope x.text)) ++ use_breaches c.scope 0 (uses i ++ uses v)
 node_breaches (Stmt-F.Print l v) c = outside_only c.inside l (use_breaches c.scope 0 (uses v))
 node_breaches (Stmt-F.While l e body) c = use_breaches c.scope 0 (uses e) ++ judged_all body c
-node_breaches (Stmt-F.If l e body other) c = use_breaches c.scope 0 (uses e) ++ (judged_all body c ++ judged_else other c)
+node_breaches (Stmt-F.If l e body other) c =
+    use_breaches c.scope 0 (uses e) ++ (judged_all body c ++ judged_else other c)
 node_breaches (Stmt-F.For l x low high body) c = outside_only c.inside l
-    (at x.location (variable_cause c.loops (meaning_of c.scope x.text)) ++ (use_breaches c.scope 0 (uses low ++ uses high) ++ judged_all body (for_context c x)))
+    (at x.location (variable_cause c.loops (meaning_of c.scope x.text))
+    ++ (use_breaches c.scope 0 (uses low ++ uses high) ++ judged_all body (for_context c x)))
 node_breaches (Stmt-F.Pardo l low x high locals body) c = outside_only c.inside l
-    (use_breaches c.scope 0 (uses low) ++ (at x.location (new_cause c.scope x.text) ++ (use_breaches c.scope (read_count c.scope (uses low)) (uses high)
+    (use_breaches c.scope 0 (uses low)
+    ++ (at x.location (new_cause c.scope x.text)
+    ++ (use_breaches c.scope (read_count c.scope (uses low)) (uses high)
     ++ (local_breaches (inner_scope c.scope x []) 0 locals ++ judged_all body (pardo_context c x locals)))))
 
 -- what is wrong with a statement
@@ -206,12 +220,15 @@ bounds_cause None = None
 bounds_cause (Some (low, high)) = if int_lt high low then Some (cause.Limit limit.Bounds) else None
 
 abbrev pub cells_cause : (before now : ℕ) → Option Cause
-cells_cause before now = if nat_le before most_cells && nat_lt most_cells (before + now) then Some (cause.Limit limit.Cells) else None
+cells_cause before now =
+    if nat_le before most_cells && nat_lt most_cells (before + now) then Some (cause.Limit limit.Cells) else None
 
 abbrev pub shared_cause : Scope → ℕ → List ℕ → Option (ℤ × ℤ) → Option Cause
-shared_cause scope cells text bounds = or_else (new_cause scope text) (or_else (bounds_cause bounds) (cells_cause cells (size bounds)))
+shared_cause scope cells text bounds =
+    or_else (new_cause scope text) (or_else (bounds_cause bounds) (cells_cause cells (size bounds)))
 
--- what is wrong with declarations, by the names, the shared declarations, the uniform variables and the cells before them
+-- what is wrong with declarations, by the names, the shared declarations, the uniform variables and the cells before
+-- them
 abbrev pub declaration_breaches : Scope → (entries uniforms cells : ℕ) → List Declaration → List Breach
 declaration_breaches scope entries uniforms cells [] = []
 declaration_breaches scope entries uniforms cells (declare.Cell x ∷ ds) =
@@ -219,7 +236,8 @@ declaration_breaches scope entries uniforms cells (declare.Cell x ∷ ds) =
     ++ declaration_breaches (scope ++ (x.text, Cell entries) ∷ []) (entries + 1) uniforms (cells + 1) ds
 declaration_breaches scope entries uniforms cells (declare.Array x low high ∷ ds) =
     at x.location (shared_cause scope cells x.text (Some (low.value, high.value)))
-    ++ declaration_breaches (scope ++ (x.text, Array entries) ∷ []) (entries + 1) uniforms (cells + size (Some (low.value, high.value))) ds
+    ++ declaration_breaches (scope ++ (x.text, Array entries) ∷ []) (entries + 1) uniforms
+    (cells + size (Some (low.value, high.value))) ds
 declaration_breaches scope entries uniforms cells (declare.Uniform x ∷ ds) =
     at x.location (new_cause scope x.text)
     ++ declaration_breaches (scope ++ (x.text, Uniform uniforms) ∷ []) entries (uniforms + 1) cells ds
@@ -235,21 +253,33 @@ most_tokens = 16384
 
 -- too many tokens: told at the end
 abbrev pub token_breaches : ℕ → List Breach
-token_breaches count = if nat_lt most_tokens count then record { spot = TextEnd; cause = cause.Limit limit.Tokens } ∷ [] else []
+token_breaches count =
+    if nat_lt most_tokens count then record { spot = TextEnd; cause = cause.Limit limit.Tokens } ∷ [] else []
 
 -- where the body stands
 abbrev pub body_context : List Declaration → Context
 body_context ds = outside_of (globals ds) []
 
--- everything that is wrong with a program of that many tokens
+-- what is wrong with a program of that many tokens
 abbrev pub breaches_of : Numeral → List Declaration → List Stmt → ℕ → List Breach
 breaches_of procs ds body count =
-    at procs.location (procs_cause procs.value) ++ (declaration_breaches [] 0 0 0 ds ++ (block_breaches body (body_context ds) ++ token_breaches count))
+    at procs.location (procs_cause procs.value)
+    ++ (declaration_breaches [] 0 0 0 ds ++ (block_breaches body (body_context ds) ++ token_breaches count))
 
--- everything that is wrong with a tree
+-- what is wrong with a tree
 abbrev pub breaches : ProgramTree → List Breach
 breaches t = breaches_of t.procs t.declarations t.body (length (program_tokens t))
 
 -- a tree in which no place is wrong
 abbrev pub IsAccepted : ProgramTree → Type 0
 IsAccepted t = breaches t ≡ []
+
+-- the first of some breaches
+abbrev pub first : List Breach → Option Breach
+first [] = None
+first (b ∷ bs) = Some b
+
+-- a refusal is the first breach, or memory was refused
+abbrev pub Tells : List Breach → CheckFault → Type 0
+Tells bs (Refused b) = first bs ≡ Some b
+Tells bs OutOfMemory = Unit {0}

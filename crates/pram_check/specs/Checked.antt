@@ -7,7 +7,8 @@ use Rattle.pram_check.specs.declared.body.Statement.{Statement}
 use Rattle.pram_check.specs.Scope.{globals, shared_entries, uniform_count}
 use Rattle.pram_check.specs.Resolved.{SayStatements}
 
--- a program whose names are resolved: its tree, its rule, its most processors, its shared declarations, the number of its uniform variables, and its body
+-- a program whose names are resolved: its tree, its rule, its most processors, its shared declarations, the number of
+-- its uniform variables, and its body
 pub record Checked : Type 0 where
   pub tree : ProgramTree
   pub rule : Rule
@@ -26,4 +27,5 @@ pub record IsResolved (p : Checked) : Type 0 where
 
 -- the program of these parts, under the rule of its tree
 abbrev pub checked : ProgramTree → ℕ → List SharedEntry → ℕ → List Statement → Checked
-checked t procs layout uniforms body = record { tree = t; rule = t.rule; procs = procs; layout = layout; uniforms = uniforms; body = body }
+checked t procs layout uniforms body =
+    record { tree = t; rule = t.rule; procs = procs; layout = layout; uniforms = uniforms; body = body }

@@ -5,3 +5,4 @@ pub mod Resolved
 pub mod Checked
 pub mod Walk
 pub mod Program
+pub mod Faults

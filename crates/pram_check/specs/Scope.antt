@@ -1,20 +1,16 @@
 -- What the names of a program stand for, and where they do.
-use Rattle.std.specs.Prelude.{ℕ, ◌+◌, Bool, true, false, ◌&&◌, ◌==◌, if◌then◌else◌, List, [], ◌∷◌, ◌++◌, Option, Some, None}
+use Rattle.std.specs.Prelude.{ℕ, ◌+◌, if◌then◌else◌, List, [], ◌∷◌, ◌++◌, Option, Some, None}
 use Rattle.pram_syntax.specs.declared.token.Name.{Name}
 use Rattle.pram_syntax.specs.declared.tree.Declaration.{Declaration}
 use Rattle.pram_syntax.specs.declared.tree.Declaration.TheVariants as declare
 use Rattle.pram_syntax.specs.Layout.{SharedEntry}
+use Rattle.pram_syntax.specs.Tokens.{same_text}
 use Rattle.pram_check.specs.declared.scope.Meaning.{Meaning}
 use Rattle.pram_check.specs.declared.scope.Meaning.TheVariants.{Uniform, Cell, Array, Index, Local}
 
 -- names with what they stand for, in the order in which they were declared
 abbrev pub Scope : Type 0
 Scope = List (List ℕ × Meaning)
-
-abbrev pub same_text : List ℕ → List ℕ → Bool
-same_text [] [] = true
-same_text (a ∷ x) (b ∷ y) = (a == b) && same_text x y
-same_text _ _ = false
 
 -- what a name stands for in a scope, None for a name that is not in it
 abbrev pub meaning_of : Scope → List ℕ → Option Meaning
@@ -25,8 +21,10 @@ meaning_of (b ∷ scope) text = if same_text b.0 text then Some b.1 else meaning
 abbrev pub declared_from : (entries uniforms : ℕ) → List Declaration → Scope
 declared_from entries uniforms [] = []
 declared_from entries uniforms (declare.Cell x ∷ ds) = (x.text, Cell entries) ∷ declared_from (entries + 1) uniforms ds
-declared_from entries uniforms (declare.Array x low high ∷ ds) = (x.text, Array entries) ∷ declared_from (entries + 1) uniforms ds
-declared_from entries uniforms (declare.Uniform x ∷ ds) = (x.text, Uniform uniforms) ∷ declared_from entries (uniforms + 1) ds
+declared_from entries uniforms (declare.Array x low high ∷ ds) =
+    (x.text, Array entries) ∷ declared_from (entries + 1) uniforms ds
+declared_from entries uniforms (declare.Uniform x ∷ ds) =
+    (x.text, Uniform uniforms) ∷ declared_from entries (uniforms + 1) ds
 
 -- the names that hold everywhere
 abbrev pub globals : List Declaration → Scope
@@ -45,7 +43,8 @@ inner_scope scope index locals = scope ++ (index.text, Index) ∷ locals_from 0 
 abbrev pub shared_entries : List Declaration → List SharedEntry
 shared_entries [] = []
 shared_entries (declare.Cell x ∷ ds) = record { name = x.text; bounds = None } ∷ shared_entries ds
-shared_entries (declare.Array x low high ∷ ds) = record { name = x.text; bounds = Some (low.value, high.value) } ∷ shared_entries ds
+shared_entries (declare.Array x low high ∷ ds) =
+    record { name = x.text; bounds = Some (low.value, high.value) } ∷ shared_entries ds
 shared_entries (declare.Uniform x ∷ ds) = shared_entries ds
 
 abbrev pub uniform_count : List Declaration → ℕ

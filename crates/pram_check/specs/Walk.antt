@@ -1,20 +1,9 @@
 -- What the parts of the checker promise: the first thing that is wrong, or what the part says.
-use Rattle.std.specs.Prelude.{◌≡◌, ℕ, ◌+◌, List, [], ◌∷◌, Option, Some, None, Result, Ok, Err}
+use Rattle.std.specs.Prelude.{◌≡◌, ℕ, ◌+◌, List, None, Result, Ok, Err}
 use Rattle.pram_check.specs.declared.fault.Breach.{Breach}
 use Rattle.pram_check.specs.declared.fault.CheckFault.{CheckFault}
-use Rattle.pram_check.specs.declared.fault.CheckFault.TheVariants.{Refused, OutOfMemory}
 use Rattle.pram_check.specs.Scope.{Scope}
-use Rattle.pram_check.specs.Breaches.{Use, use_breaches, read_count}
-
--- the first of some breaches
-abbrev pub first : List Breach → Option Breach
-first [] = None
-first (b ∷ bs) = Some b
-
--- a fault is the first breach, or want of memory
-abbrev pub Tells : List Breach → CheckFault → Type 0
-Tells bs (Refused b) = first bs ≡ Some b
-Tells bs OutOfMemory = Unit {0}
+use Rattle.pram_check.specs.Breaches.{Use, Tells, first, use_breaches, read_count}
 
 -- nothing is wrong and the answer is as it must be, or the answer is the first thing that is wrong
 abbrev pub Judges : {A : Type 0} → (A → Type 0) → List Breach → Result A CheckFault → Type 0

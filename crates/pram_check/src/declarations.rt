@@ -1,9 +1,11 @@
 //! Declarations: their names, bounds and cells.
 
-ghost use Rattle.std.specs.Prelude.{◌≡◌, ◌+◌, ◌≤◌, ◌<◌, ◌++◌, [], ◌∷◌, ◌≤ℤ◌, ◌^◌, ◌↔◌, IsTrue, length, Some, None, MatchOption};
+ghost use Rattle.std.specs.Prelude.{◌≡◌, ◌+◌, ◌≤◌, ◌<◌, ◌++◌, [], ◌∷◌, ◌≤ℤ◌, ◌^◌, ◌↔◌, IsTrue, length, Some, None};
+ghost use Rattle.std.specs.Prelude.{MatchOption};
 ghost use Rattle.pram_syntax.specs.Layout.{size, width, total_size, most_cells};
 ghost use Rattle.pram_check.specs.Scope as names;
-ghost use Rattle.pram_check.specs.Breaches.{at, new_cause, bounds_cause, cells_cause, shared_cause, declaration_breaches};
+ghost use Rattle.pram_check.specs.Breaches.{at, new_cause, bounds_cause, cells_cause, shared_cause};
+ghost use Rattle.pram_check.specs.Breaches.{declaration_breaches};
 ghost use Rattle.pram_check.specs.Walk.{Judges};
 
 use crate::expression::breach;
@@ -37,7 +39,8 @@ fn declare_cell<'a>(
     entry: usize,
     x: &'a Name,
 ) -> Result<(), CheckFault>
-    ensures { Judges (λ _. (scope.new ≡ scope.old ++ (x.now.text, Meaning.Cell entry) ∷ []) × (layout.new ≡ layout.old ++ record { name = x.now.text; bounds = None } ∷ []))
+    ensures { Judges (λ _. (scope.new ≡ scope.old ++ (x.now.text, Meaning.Cell entry) ∷ [])
+        × (layout.new ≡ layout.old ++ record { name = x.now.text; bounds = None } ∷ []))
         (at x.now.location (shared_cause scope.old (total_size layout.old) x.now.text None)) result }
 {
     new_name(scope, x)?;
@@ -59,8 +62,10 @@ fn declare_array<'a>(
     low: Numeral,
     high: Numeral,
 ) -> Result<(), CheckFault>
-    ensures { Judges (λ _. (scope.new ≡ scope.old ++ (x.now.text, Meaning.Array entry) ∷ []) × (layout.new ≡ layout.old ++ record { name = x.now.text; bounds = Some (low.value, high.value) } ∷ []))
-        (at x.now.location (shared_cause scope.old (total_size layout.old) x.now.text (Some (low.value, high.value)))) result }
+    ensures { Judges (λ _. (scope.new ≡ scope.old ++ (x.now.text, Meaning.Array entry) ∷ [])
+        × (layout.new ≡ layout.old ++ record { name = x.now.text; bounds = Some (low.value, high.value) } ∷ []))
+        (at x.now.location (shared_cause scope.old (total_size layout.old) x.now.text
+        (Some (low.value, high.value)))) result }
 {
     new_name(scope, x)?;
     if high.value < low.value {
@@ -83,7 +88,9 @@ fn declare<'a>(
     d: &'a Declaration,
 ) -> Result<usize, CheckFault>
     requires { uniforms + 1 < 2 ^ 64 }
-    ensures { Judges (λ n. (scope.new ≡ scope.old ++ names.declared_from (length layout.old) uniforms (d.now ∷ [])) × (layout.new ≡ layout.old ++ names.shared_entries (d.now ∷ [])) × (n ≡ uniforms + names.uniform_count (d.now ∷ [])))
+    ensures { Judges (λ n. (scope.new ≡ scope.old ++ names.declared_from (length layout.old) uniforms (d.now ∷ []))
+        × (layout.new ≡ layout.old ++ names.shared_entries (d.now ∷ []))
+        × (n ≡ uniforms + names.uniform_count (d.now ∷ [])))
         (declaration_breaches scope.old (length layout.old) uniforms (total_size layout.old) (d.now ∷ [])) result }
 {
     let entry = layout.len();
@@ -113,7 +120,9 @@ pub fn declare_all<'a>(
 ) -> Result<usize, CheckFault>
     requires scope { scope.old ≡ [] }
     requires layout { layout.old ≡ [] }
-    ensures { Judges (λ n. (scope.new ≡ names.globals declarations.now) × (layout.new ≡ names.shared_entries declarations.now) × (n ≡ names.uniform_count declarations.now)) (declaration_breaches [] 0 0 0 declarations.now) result }
+    ensures { Judges (λ n. (scope.new ≡ names.globals declarations.now)
+        × (layout.new ≡ names.shared_entries declarations.now) × (n ≡ names.uniform_count declarations.now))
+        (declaration_breaches [] 0 0 0 declarations.now) result }
 {
     let mut uniforms = 0;
     for d in declarations {

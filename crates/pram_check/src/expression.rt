@@ -2,7 +2,8 @@
 
 ghost use Rattle.std.specs.Prelude.{◌≡◌, ◌+◌, ◌≤◌, ◌∷◌, ◌++◌, [], true, Some, None};
 ghost use Rattle.pram_check.specs.Scope as names;
-ghost use Rattle.pram_check.specs.Breaches.{uses, step_uses, use_breaches, use_cause, is_read, ninth, or_else, plain, subscripted, at, most_reads};
+ghost use Rattle.pram_check.specs.Breaches.{uses, step_uses, use_breaches, use_cause, is_read, ninth, or_else, plain};
+ghost use Rattle.pram_check.specs.Breaches.{subscripted, at, most_reads};
 ghost use Rattle.pram_check.specs.Resolved.{Says, SayLinks};
 ghost use Rattle.pram_check.specs.Walk.{Judges, JudgesUses};
 
@@ -67,7 +68,8 @@ fn name(scope: &Scope, reads: &mut u32, x: &Name) -> Result<Expression, CheckFau
 fn array(scope: &Scope, reads: &mut u32, x: &Name) -> Result<usize, CheckFault>
     requires { reads.old ≤ most_reads }
     ensures most { reads.new ≤ most_reads }
-    ensures is { JudgesUses (λ k. names.meaning_of scope.now x.now.text ≡ Some (Meaning.Array k)) scope.now reads.old (subscripted x.now ∷ []) result reads.new }
+    ensures is { JudgesUses (λ k. names.meaning_of scope.now x.now.text ≡ Some (Meaning.Array k)) scope.now reads.old
+        (subscripted x.now ∷ []) result reads.new }
 {
     match scope.meaning_of(x.text.as_slice()) {
         None => Err(breach(x.location, Cause::UnknownName)),
@@ -126,7 +128,8 @@ fn links(
 ) -> Result<Vec<Link>, CheckFault>
     requires { reads.old ≤ most_reads }
     ensures most { reads.new ≤ most_reads }
-    ensures is { JudgesUses (λ v. SayLinks scope.now rest.now v.items) scope.now reads.old (step_uses rest.now) result reads.new }
+    ensures is { JudgesUses (λ v. SayLinks scope.now rest.now v.items) scope.now reads.old
+        (step_uses rest.now) result reads.new }
 {
     let mut links = Vec::new(alloc);
     for (operator, operand) in rest {

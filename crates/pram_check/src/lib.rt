@@ -5,6 +5,7 @@ pub mod body;
 mod declarations;
 mod expression;
 pub mod fault;
+pub mod order;
 pub mod program;
 mod resolve;
 pub mod scope;

@@ -1,9 +1,8 @@
 //! Checked programs.
 
 ghost use Rattle.std.specs.Prelude.{◌≡◌, IfOk, IfErr};
-ghost use Rattle.pram_check.specs.Breaches.{breaches, IsAccepted};
+ghost use Rattle.pram_check.specs.Breaches.{breaches, IsAccepted, Tells};
 ghost use Rattle.pram_check.specs.Checked.{IsResolved};
-ghost use Rattle.pram_check.specs.Walk.{Tells};
 
 use crate::body::Statement;
 use crate::fault::CheckFault;
@@ -35,7 +34,8 @@ impl Model for Program {
     ghost view = { λ p. checked p.tree p.parts.procs p.parts.layout p.parts.uniforms p.parts.body.items };
 
     ghost invariant = { λ p.
-        IsAccepted p.tree × IsResolved (checked p.tree p.parts.procs p.parts.layout p.parts.uniforms p.parts.body.items) };
+        IsAccepted p.tree × IsResolved
+        (checked p.tree p.parts.procs p.parts.layout p.parts.uniforms p.parts.body.items) };
 }
 
 /// The program of a tree, with its names resolved.
@@ -85,6 +85,15 @@ impl Program {
         ensures { result.now ≡ self.now.layout }
     {
         &self.parts.layout
+    }
+
+    /// The shared declarations alone. The rest of the program is let go.
+    pub fn into_layout(self) -> Layout
+        ensures { result ≡ self.layout }
+    {
+        let Program { tree: _, parts } = self;
+        let Parts { layout, .. } = parts;
+        layout
     }
 
     /// How many uniform variables there are.

@@ -1,10 +1,15 @@
 //! What names stand for.
 
-ghost use Rattle.std.specs.Prelude.{◌≡◌, ◌≤◌, [], ◌∷◌, ◌++◌, length, take, OnOk, OnErr};
-ghost use Rattle.pram_check.specs.Scope.{same_text, meaning_of};
+ghost use Rattle.std.specs.Prelude.{◌≡◌, ◌-◌, ◌<◌, ◌≤◌, [], ◌∷◌, ◌++◌, length, take, IfOk, OnOk, OnErr};
+ghost use Rattle.std.specs.List.{All};
+ghost use Rattle.pram_check.specs.Scope.{meaning_of};
+ghost use Rattle.pram_check.specs.ScopeFields as spec;
+ghost use Rattle.pram_syntax.specs.Tokens.{same_text};
 
 use std::alloc::{AllocError, Global};
 use std::marker::Model;
+
+const CHAIN_COUNT: usize = 4096;
 
 /// What a name in scope stands for. A uniform variable, a shared declaration or a local goes by its
 /// number, counted from 0 in the order of declaration.
@@ -23,19 +28,24 @@ struct Binding<'a> {
     meaning: Meaning,
 }
 
-/// Names with what they stand for, in the order in which they were declared.
+/// Names with what they stand for, in the order in which they were declared. A name is looked up in
+/// the chain of its hash.
 #[derive(Drop)]
 pub struct Scope<'a> {
+    alloc: Global,
     bindings: Vec<Binding<'a>>,
+    chains: Vec<Vec<Binding<'a>>>,
 }
 
 impl<'a> Model for Scope<'a> {
     ghost use Rattle.pram_check.specs.Scope as names;
-    ghost use Rattle.pram_check.specs.ScopeFields.{bound};
+    ghost use Rattle.pram_check.specs.ScopeFields.{bound, AreChained};
 
     ghost Value = { names.Scope };
 
     ghost view = { λ s. bound s.bindings.items };
+
+    ghost invariant = { λ s. AreChained s.bindings.items s.chains.items };
 }
 
 fn is_same(a: &[u8], b: &[u8]) -> bool
@@ -44,12 +54,50 @@ fn is_same(a: &[u8], b: &[u8]) -> bool
     a == b
 }
 
+// The chain of a name.
+fn chain_of(name: &[u8]) -> usize
+    ensures value { result ≡ spec.chain_of name.now }
+    ensures inside { result < spec.chain_count }
+{
+    let mut hash = 0;
+    for byte in name {
+        hash = (hash * 31 + usize::from(*byte)) % CHAIN_COUNT;
+    }
+    hash
+}
+
+// What a name stands for in a chain.
+fn find(chain: &[Binding], name: &[u8]) -> Option<Meaning>
+    ensures { result ≡ meaning_of (spec.bound chain.now) name.now }
+{
+    for binding in chain {
+        if is_same(binding.name, name) {
+            return Some(binding.meaning);
+        }
+    }
+    None
+}
+
+// Chains without bindings.
+fn empty_chains<'a>(alloc: Global) -> Result<Vec<Vec<Binding<'a>>>, AllocError>
+    ensures count { IfOk result (λ chains. length chains.items ≡ spec.chain_count) }
+    ensures empty { IfOk result (λ chains. All (λ chain. chain.items ≡ []) chains.items) }
+{
+    let mut chains = Vec::new(alloc);
+    for _ in 0..CHAIN_COUNT {
+        chains.push(Vec::new(alloc))?;
+    }
+    Ok(chains)
+}
+
 impl<'a> Scope<'a> {
     pub fn new(alloc: Global) -> Scope<'a>
         ensures { result ≡ [] }
     {
         Scope {
+            alloc,
             bindings: Vec::new(alloc),
+            chains: Vec::new(alloc),
         }
     }
 
@@ -63,12 +111,10 @@ impl<'a> Scope<'a> {
     pub fn meaning_of(&self, name: &[u8]) -> Option<Meaning>
         ensures { result ≡ meaning_of self.now name.now }
     {
-        for binding in &self.bindings {
-            if is_same(binding.name, name) {
-                return Some(binding.meaning);
-            }
+        if self.chains.is_empty() {
+            return None;
         }
-        None
+        find(self.chains[chain_of(name)].as_slice(), name)
     }
 
     /// Takes a name in.
@@ -76,8 +122,27 @@ impl<'a> Scope<'a> {
         ensures ok { OnOk result (self.new ≡ self.old ++ (name.now, meaning) ∷ []) }
         ensures err { OnErr result (self.new ≡ self.old) }
     {
-        self.bindings.push(Binding { name, meaning })?;
-        Ok(())
+        if self.chains.is_empty() {
+            self.chains = empty_chains(self.alloc)?;
+        }
+        let binding = Binding { name, meaning };
+        self.bindings.push(binding)?;
+        match self.chains[chain_of(name)].push(binding) {
+            Ok(()) => Ok(()),
+            Err(refused) => {
+                self.bindings.pop();
+                Err(AllocError::from(refused))
+            }
+        }
+    }
+
+    // Takes the last name out.
+    fn pop(&mut self)
+        ensures { self.new ≡ take (length self.old - 1) self.old }
+    {
+        if let Some(binding) = self.bindings.pop() {
+            self.chains[chain_of(binding.name)].pop();
+        }
     }
 
     /// Leaves the first names alone in scope.
@@ -85,6 +150,8 @@ impl<'a> Scope<'a> {
         requires { len ≤ length self.old }
         ensures { self.new ≡ take len self.old }
     {
-        self.bindings.truncate(len);
+        for _ in len..self.bindings.len() {
+            self.pop();
+        }
     }
 }

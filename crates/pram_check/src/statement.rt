@@ -3,7 +3,8 @@
 ghost use Rattle.std.specs.Prelude.{◌≡◌, ◌++◌, [], ◌∷◌, false, nat_eq, length, OnOk};
 ghost use Rattle.std.specs.List.{list_any};
 ghost use Rattle.pram_check.specs.Scope as names;
-ghost use Rattle.pram_check.specs.Breaches.{uses, use_breaches, at, read_count, target_cause, variable_cause, new_cause, local_breaches, statement_breaches, block_breaches, outside_of};
+ghost use Rattle.pram_check.specs.Breaches.{uses, use_breaches, at, read_count, target_cause, variable_cause};
+ghost use Rattle.pram_check.specs.Breaches.{new_cause, local_breaches, statement_breaches, block_breaches, outside_of};
 ghost use Rattle.pram_check.specs.Resolved.{Says, SaysTarget, SaysStatement, SayStatements};
 ghost use Rattle.pram_check.specs.Walk.{Judges};
 
@@ -30,7 +31,8 @@ fn is_loop(loops: &[usize], k: usize) -> bool
 
 // What is assigned without subscript.
 fn target(scope: &Scope, loops: &[usize], x: &Name) -> Result<Target, CheckFault>
-    ensures { Judges (SaysTarget scope.now x.now) (at x.now.location (target_cause false loops.now (names.meaning_of scope.now x.now.text))) result }
+    ensures { Judges (SaysTarget scope.now x.now)
+        (at x.now.location (target_cause false loops.now (names.meaning_of scope.now x.now.text))) result }
 {
     match scope.meaning_of(x.text.as_slice()) {
         None => Err(breach(x.location, Cause::UnknownName)),
@@ -49,7 +51,8 @@ fn target(scope: &Scope, loops: &[usize], x: &Name) -> Result<Target, CheckFault
 
 // The variable of a `for`.
 fn variable(scope: &Scope, loops: &[usize], x: &Name) -> Result<usize, CheckFault>
-    ensures { Judges (λ k. names.meaning_of scope.now x.now.text ≡ Some (Meaning.Uniform k)) (at x.now.location (variable_cause loops.now (names.meaning_of scope.now x.now.text))) result }
+    ensures { Judges (λ k. names.meaning_of scope.now x.now.text ≡ Some (Meaning.Uniform k))
+        (at x.now.location (variable_cause loops.now (names.meaning_of scope.now x.now.text))) result }
 {
     match scope.meaning_of(x.text.as_slice()) {
         None => Err(breach(x.location, Cause::UnknownName)),
@@ -78,7 +81,8 @@ pub fn new_name(scope: &Scope, x: &Name) -> Result<(), CheckFault>
 
 // Takes the locals of a pardo in.
 fn declare_locals<'a>(scope: &mut Scope<'a>, locals: &'a [Name]) -> Result<(), CheckFault>
-    ensures { Judges (λ _. scope.new ≡ scope.old ++ names.locals_from 0 locals.now) (local_breaches scope.old 0 locals.now) result }
+    ensures { Judges (λ _. scope.new ≡ scope.old ++ names.locals_from 0 locals.now)
+        (local_breaches scope.old 0 locals.now) result }
 {
     let mut count = 0;
     for x in locals {
@@ -97,7 +101,8 @@ fn assign(
     x: &Name,
     e: &Expr,
 ) -> Result<Statement, CheckFault>
-    ensures { Judges (SaysStatement scope.now (Stmt.Assign x.now e.now)) (statement_breaches (Stmt.Assign x.now e.now) (outside_of scope.now loops.now)) result }
+    ensures { Judges (SaysStatement scope.now (Stmt.Assign x.now e.now))
+        (statement_breaches (Stmt.Assign x.now e.now) (outside_of scope.now loops.now)) result }
 {
     let cell = target(scope, loops, x)?;
     let value = value(alloc, scope, e)?;
@@ -117,9 +122,9 @@ fn assign_element(
     subscript: &Expr,
     e: &Expr,
 ) -> Result<Statement, CheckFault>
-    ensures { Judges (SaysStatement scope.now (Stmt.AssignElement x.now subscript.now e.now)) (statement_breaches (Stmt.AssignElement x.now subscript.now e.now) (outside_of scope.now loops.now)) result }
+    ensures { Judges (SaysStatement scope.now (Stmt.AssignElement x.now subscript.now e.now))
+        (statement_breaches (Stmt.AssignElement x.now subscript.now e.now) (outside_of scope.now loops.now)) result }
 {
-    let _around = loops;
     let array = element_target(scope, x)?;
     let (subscript, value) = values(alloc, scope, subscript, e)?;
     Ok(Statement::Assign {
@@ -138,7 +143,9 @@ fn pardo_range<'a>(
     high: &Expr,
 ) -> Result<(Expression, Expression), CheckFault>
     ensures is { Judges (λ p. Says scope.old low.now p.0 × Says scope.old high.now p.1)
-        (use_breaches scope.old 0 (uses low.now) ++ (at index.now.location (new_cause scope.old index.now.text) ++ use_breaches scope.old (read_count scope.old (uses low.now)) (uses high.now))) result }
+        (use_breaches scope.old 0 (uses low.now)
+        ++ (at index.now.location (new_cause scope.old index.now.text)
+        ++ use_breaches scope.old (read_count scope.old (uses low.now)) (uses high.now))) result }
     ensures scope { OnOk result (scope.new ≡ names.inner_scope scope.old index.now []) }
 {
     let mut reads = 0;
@@ -162,10 +169,10 @@ fn pardo<'a>(
     body: &[Stmt],
 ) -> Result<Statement, CheckFault>
     ensures is { let statement = Stmt.Pardo location low.now index.now high.now locals.now body.now in
-        Judges (SaysStatement scope.old statement) (statement_breaches statement (outside_of scope.old loops.now)) result }
+        Judges (SaysStatement scope.old statement)
+        (statement_breaches statement (outside_of scope.old loops.now)) result }
     ensures scope { OnOk result (scope.new ≡ scope.old) }
 {
-    let _around = loops;
     let names = scope.len();
     let (first, last) = pardo_range(alloc, scope, low, index, high)?;
     declare_locals(scope, locals)?;
@@ -188,7 +195,8 @@ fn statement<'a>(
     loops: &[usize],
     statement: &'a Stmt,
 ) -> Result<Statement, CheckFault>
-    ensures is { Judges (SaysStatement scope.old statement.now) (statement_breaches statement.now (outside_of scope.old loops.now)) result }
+    ensures is { Judges (SaysStatement scope.old statement.now)
+        (statement_breaches statement.now (outside_of scope.old loops.now)) result }
     ensures scope { OnOk result (scope.new ≡ scope.old) }
 {
     match statement {
@@ -295,7 +303,8 @@ pub fn statements<'a>(
     loops: &[usize],
     body: &'a [Stmt],
 ) -> Result<Vec<Statement>, CheckFault>
-    ensures is { Judges (λ v. SayStatements scope.old body.now v.items) (block_breaches body.now (outside_of scope.old loops.now)) result }
+    ensures is { Judges (λ v. SayStatements scope.old body.now v.items)
+        (block_breaches body.now (outside_of scope.old loops.now)) result }
     ensures scope { OnOk result (scope.new ≡ scope.old) }
 {
     let mut found = Vec::new(alloc);

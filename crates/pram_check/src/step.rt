@@ -2,7 +2,8 @@
 
 ghost use Rattle.std.specs.Prelude.{◌≡◌, ◌++◌, [], ◌∷◌, true};
 ghost use Rattle.pram_check.specs.Scope as names;
-ghost use Rattle.pram_check.specs.Breaches.{uses, use_breaches, at, target_cause, element_cause, statement_breaches, block_breaches, else_breaches, inside_of};
+ghost use Rattle.pram_check.specs.Breaches.{uses, use_breaches, at, target_cause, element_cause, statement_breaches};
+ghost use Rattle.pram_check.specs.Breaches.{block_breaches, else_breaches, inside_of};
 ghost use Rattle.pram_check.specs.Resolved.{Says, SaysInner, SaysStep, SaySteps, SayElse};
 ghost use Rattle.pram_check.specs.Walk.{Judges};
 
@@ -29,7 +30,8 @@ pub fn values(
     e: &Expr,
     f: &Expr,
 ) -> Result<(Expression, Expression), CheckFault>
-    ensures { Judges (λ p. Says scope.now e.now p.0 × Says scope.now f.now p.1) (use_breaches scope.now 0 (uses e.now ++ uses f.now)) result }
+    ensures { Judges (λ p. Says scope.now e.now p.0 × Says scope.now f.now p.1)
+        (use_breaches scope.now 0 (uses e.now ++ uses f.now)) result }
 {
     let mut reads = 0;
     let first = expression(alloc, scope, &mut reads, e)?;
@@ -39,7 +41,8 @@ pub fn values(
 
 /// The array that is assigned at a subscript.
 pub fn element_target(scope: &Scope, x: &Name) -> Result<usize, CheckFault>
-    ensures { Judges (λ k. names.meaning_of scope.now x.now.text ≡ Some (Meaning.Array k)) (at x.now.location (element_cause (names.meaning_of scope.now x.now.text))) result }
+    ensures { Judges (λ k. names.meaning_of scope.now x.now.text ≡ Some (Meaning.Array k))
+        (at x.now.location (element_cause (names.meaning_of scope.now x.now.text))) result }
 {
     match scope.meaning_of(x.text.as_slice()) {
         None => Err(breach(x.location, Cause::UnknownName)),
@@ -53,7 +56,8 @@ pub fn element_target(scope: &Scope, x: &Name) -> Result<usize, CheckFault>
 
 // What is assigned without subscript.
 fn inner_target(scope: &Scope, x: &Name) -> Result<StepTarget, CheckFault>
-    ensures { Judges (SaysInner scope.now x.now) (at x.now.location (target_cause true [] (names.meaning_of scope.now x.now.text))) result }
+    ensures { Judges (SaysInner scope.now x.now)
+        (at x.now.location (target_cause true [] (names.meaning_of scope.now x.now.text))) result }
 {
     match scope.meaning_of(x.text.as_slice()) {
         None => Err(breach(x.location, Cause::UnknownName)),
@@ -67,7 +71,8 @@ fn inner_target(scope: &Scope, x: &Name) -> Result<StepTarget, CheckFault>
 
 // An assignment without subscript.
 fn assign(alloc: Global, scope: &Scope, target: &Name, e: &Expr) -> Result<Step, CheckFault>
-    ensures { Judges (SaysStep scope.now (Stmt.Assign target.now e.now)) (statement_breaches (Stmt.Assign target.now e.now) (inside_of scope.now)) result }
+    ensures { Judges (SaysStep scope.now (Stmt.Assign target.now e.now))
+        (statement_breaches (Stmt.Assign target.now e.now) (inside_of scope.now)) result }
 {
     let cell = inner_target(scope, target)?;
     let value = value(alloc, scope, e)?;
@@ -86,7 +91,8 @@ fn assign_element(
     subscript: &Expr,
     e: &Expr,
 ) -> Result<Step, CheckFault>
-    ensures { Judges (SaysStep scope.now (Stmt.AssignElement target.now subscript.now e.now)) (statement_breaches (Stmt.AssignElement target.now subscript.now e.now) (inside_of scope.now)) result }
+    ensures { Judges (SaysStep scope.now (Stmt.AssignElement target.now subscript.now e.now))
+        (statement_breaches (Stmt.AssignElement target.now subscript.now e.now) (inside_of scope.now)) result }
 {
     let array = element_target(scope, target)?;
     let (subscript, value) = values(alloc, scope, subscript, e)?;
@@ -100,7 +106,8 @@ fn assign_element(
 /// What a statement inside pardo says, if all in it may stand where it does.
 #[cycle(step)]
 fn step(alloc: Global, scope: &Scope, statement: &Stmt) -> Result<Step, CheckFault>
-    ensures { Judges (SaysStep scope.now statement.now) (statement_breaches statement.now (inside_of scope.now)) result }
+    ensures { Judges (SaysStep scope.now statement.now)
+        (statement_breaches statement.now (inside_of scope.now)) result }
 {
     match statement {
         Stmt::Assign { target, value } => assign(alloc, scope, target, value),

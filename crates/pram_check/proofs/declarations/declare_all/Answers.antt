@@ -1,8 +1,7 @@
 use Rattle.std.proofs.Common.{◌+◌, ◌++◌, ap, ◌∙◌, arith, length, drop}
 use Rattle.pram_syntax.specs.Layout.{total_size}
 use Rattle.pram_check.specs.Scope.{declared_from, shared_entries, uniform_count}
-use Rattle.pram_check.specs.Breaches.{declaration_breaches}
-use Rattle.pram_check.specs.Walk.{first}
+use Rattle.pram_check.specs.Breaches.{declaration_breaches, first}
 use Rattle.pram_check.proofs.Judging.{exit}
 use Rattle.pram_check.proofs.DeclarationSteps.{step_scope, step_entries, step_uniforms, step_first, leads_declaration, rest_is, few_uniforms}
 use Rattle.pram_check.proofs.declarations.declare_all.Goals as goal

@@ -1,8 +1,7 @@
 use Rattle.std.proofs.Common.{◌+◌, arith, ◌++◌, ◌∷◌, [], refl, sym, ap, ◌∙◌, subst, drop, take}
 use Rattle.std.proofs.lemmas.List.{take_more}
-use Rattle.pram_check.specs.Breaches.{uses, step_uses, subscripted, use_breaches, read_count}
+use Rattle.pram_check.specs.Breaches.{uses, step_uses, subscripted, use_breaches, read_count, first}
 use Rattle.pram_check.specs.Resolved.{Says, SayLinks, none}
-use Rattle.pram_check.specs.Walk.{first}
 use Rattle.pram_check.proofs.Judging.{exit, along, fine_as, leads_front, leads_behind, leads_as, fine_append}
 use Rattle.pram_check.proofs.Expressions.{Good, good_number, names_name, names_element, names_paren, names_prefix, names_chain, good_element, said_paren, good_prefix, good_chain, links_more, step_uses_more, step_uses_at}
 use Rattle.pram_check.proofs.expression.+expression.Goals as goal

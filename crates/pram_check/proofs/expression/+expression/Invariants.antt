@@ -1,7 +1,6 @@
 use Rattle.std.proofs.Common.{◌≡◌, ◌+◌, ◌≤◌, None, take}
-use Rattle.pram_check.specs.Breaches.{step_uses, use_breaches, read_count, most_reads}
+use Rattle.pram_check.specs.Breaches.{step_uses, use_breaches, read_count, most_reads, first}
 use Rattle.pram_check.specs.Resolved.{SayLinks}
-use Rattle.pram_check.specs.Walk.{first}
 use Rattle.pram_check.proofs.expression.+expression.Given as goal
 
 -- the links so far say the operands so far, in which nothing is wrong

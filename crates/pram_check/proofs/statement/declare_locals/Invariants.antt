@@ -1,7 +1,6 @@
 use Rattle.std.proofs.Common.{◌≡◌, ◌++◌, None, take}
 use Rattle.pram_check.specs.Scope as names
-use Rattle.pram_check.specs.Breaches.{local_breaches}
-use Rattle.pram_check.specs.Walk.{first}
+use Rattle.pram_check.specs.Breaches.{local_breaches, first}
 use Rattle.pram_check.proofs.statement.declare_locals.Given as goal
 
 -- the locals so far are in scope, and nothing is wrong with them
