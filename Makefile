@@ -1,9 +1,24 @@
 # The crates are proved, built and tested by the toolchain's command `rt`.
 
-.PHONY: all check test bench refusals clean
+.PHONY: all check test examples bench refusals clean
+
+sources := $(shell find crates -name out -prune -o \( -name '*.rt' -o -name '*.antt' \) -print) crates.txt
+
+# Proves the crates of the program and builds it.
+all: bin/pramc
+
+# `rt run` is the toolchain's way to link a program. A failed proof fails it.
+bin/pramc: $(sources)
+	cd crates/pramc_cli && rt run -- check ../../examples/sum.pram >/dev/null
+	mkdir -p bin
+	cp crates/pramc_cli/out/pramc_cli bin/pramc
+
+# Runs every example and compares what it prints.
+examples: bin/pramc
+	bash examples/check.sh
 
 # Proves every crate over what earlier runs kept.
-all check:
+check:
 	rt all check
 
 # The merge gate: every proof from nothing, every must-fail edit, every test and program.

@@ -1,1 +1,5 @@
 pub mod Report
+pub mod Shown
+pub mod Status
+pub mod Stopped
+pub mod StoppedFields

@@ -1,6 +1,10 @@
 //! Runs a PRAM program from its text.
 #![tactic(auto)]
 
+pub mod console;
 pub mod run_text;
-#[cfg(test)]
-mod tests;
+pub mod show;
+mod show_parts;
+pub mod sources;
+pub mod status;
+pub mod stop;

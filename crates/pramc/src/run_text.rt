@@ -2,12 +2,13 @@
 
 ghost use Rattle.std.specs.Prelude.{◌≡◌, IfOk};
 ghost use Rattle.write_rules.specs.Verdict.{verdict_of};
-ghost use Rattle.pramc.specs.Report.{IsRefusedRightly, IsRunOf};
+ghost use Rattle.pramc.specs.Report.{IsNoProgram, IsProgramOf, IsRefusedRightly, IsRunOf};
 
 use pram_check::fault::{Breach, CheckFault};
-use pram_check::program::check;
+use pram_check::program::{Program, check};
 use pram_meaning::reference::{RunRefusal, reference_run};
 use pram_syntax::error::TextFault;
+use pram_syntax::layout::Layout;
 use pram_syntax::parse::parse;
 use std::alloc::Global;
 use write_rules::outcome::Outcome;
@@ -25,23 +26,46 @@ pub enum Refusal {
     OutOfMemory,
 }
 
-/// Runs the program of a text on an input, for at most `bound` statements.
-pub fn run_text(alloc: Global, text: &[u8], input: &[i64], bound: u32) -> Result<Outcome, Refusal>
-    ensures outcome { IfOk result (λ o. IsRunOf text.now input.now bound (verdict_of o)) }
-    ensures refused { IsRefusedRightly text.now input.now result }
+/// How a run came out, and the shared declarations by which its cells are named.
+#[derive(Drop)]
+pub struct Report {
+    pub layout: Layout,
+    pub outcome: Outcome,
+}
+
+/// The program of a text, with its names resolved. It is refused for E1 to E10, and for E16 where
+/// memory was refused.
+pub fn compile(alloc: Global, text: &[u8]) -> Result<Program, Refusal>
+    ensures program { IfOk result (IsProgramOf text.now) }
+    ensures refused { IsNoProgram text.now result }
 {
     let tree = match parse(alloc, text) {
         Ok(tree) => tree,
         Err(TextFault::OutOfMemory) => return Err(Refusal::OutOfMemory),
         Err(fault) => return Err(Refusal::Text(fault)),
     };
-    let program = match check(alloc, tree) {
+    match check(alloc, tree) {
+        Ok(program) => Ok(program),
+        Err((CheckFault::Refused(breach), _tree)) => Err(Refusal::Program(breach)),
+        Err((CheckFault::OutOfMemory, _tree)) => Err(Refusal::OutOfMemory),
+    }
+}
+
+/// Runs the program of a text on an input, for at most `bound` statements. The first cells get the
+/// values of the input. It is refused for E1 to E11, and for E16 where memory was refused.
+pub fn run_text(alloc: Global, text: &[u8], input: &[i64], bound: u32) -> Result<Report, Refusal>
+    ensures outcome { IfOk result (λ r. IsRunOf text.now input.now bound r.layout (verdict_of r.outcome)) }
+    ensures refused { IsRefusedRightly text.now input.now result }
+{
+    let program = match compile(alloc, text) {
         Ok(program) => program,
-        Err((CheckFault::Refused(breach), _tree)) => return Err(Refusal::Program(breach)),
-        Err((CheckFault::OutOfMemory, _tree)) => return Err(Refusal::OutOfMemory),
+        Err(refusal) => return Err(refusal),
     };
     match reference_run(alloc, &program, input, bound) {
-        Ok(outcome) => Ok(outcome),
+        Ok(outcome) => {
+            let layout = program.into_layout();
+            Ok(Report { layout, outcome })
+        }
         Err(RunRefusal::InputTooLong) => Err(Refusal::InputTooLong),
         Err(RunRefusal::OutOfMemory) => Err(Refusal::OutOfMemory),
     }

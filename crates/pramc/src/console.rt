@@ -1,0 +1,98 @@
+//! The system's files and streams.
+
+ghost use Rattle.std.specs.Prelude.{◌≡◌, ◌+◌, ◌<◌, ◌≤◌, ◌^◌, None, OnOk, OnErr};
+ghost use Rattle.pram_syntax.specs.Out.{OutState, with_failure};
+
+use crate::sources::{SourceFault, Sources};
+use pram_syntax::writer::{Out, OutFailed};
+use std::alloc::Global;
+use std::fs::{File, Files};
+use std::io::{ErrorKind, Print, Read};
+
+/// A stream of the system, to which bytes go by up to 4,096 at a time. What it took is with the
+/// system after a flush; what the system did with it isn't known.
+#[derive(Drop)]
+pub struct Stream<P: Print> {
+    stream: P,
+    held: [u8; 4096],
+    len: usize,
+    failures: u64,
+    ghost inside: { len ≤ 4096 },
+}
+
+impl<P: Print> Stream<P> {
+    /// Nothing is held, and nothing has failed.
+    pub fn new(stream: P) -> Stream<P>
+        ensures { (⟦<Stream<P> as Out>⟧.state result).failures ≡ 0 }
+    {
+        Stream {
+            stream,
+            held: [0; 4096],
+            len: 0,
+            failures: 0,
+        }
+    }
+
+    // Hands the held bytes to the system.
+    fn pass(&mut self) -> Result<(), OutFailed>
+        requires counted { self.old.failures < 2 ^ 63 }
+        ensures ok { OnOk result ((self.new.failures ≡ self.old.failures) × (self.new.len ≡ 0)) }
+        ensures failed { OnErr result (self.new.failures ≡ self.old.failures + 1) }
+    {
+        match self.stream.write_all(&self.held[..self.len]) {
+            Ok(()) => {
+                self.len = 0;
+                Ok(())
+            }
+            Err(_) => {
+                self.failures += 1;
+                Err(OutFailed)
+            }
+        }
+    }
+}
+
+impl<P: Print> Out for Stream<P> {
+    ghost state = { λ s. record { taken = None; failures = s.failures } };
+
+    fn write(&mut self, bytes: &[u8]) -> Result<usize, OutFailed> {
+        if self.len == 4096 {
+            self.pass()?;
+        }
+        let count = bytes.len().min(4096 - self.len);
+        self.held[self.len..self.len + count].copy_from_slice(&bytes[..count]);
+        self.len += count;
+        Ok(count)
+    }
+
+    fn flush(&mut self) -> Result<(), OutFailed> {
+        self.pass()
+    }
+}
+
+/// The files of the system.
+#[derive(Drop)]
+pub struct SystemFiles<'a, R: Files> {
+    pub system: &'a R,
+}
+
+impl<'a, R: Files> Sources for SystemFiles<'a, R> {
+    fn read(&mut self, alloc: Global, name: &str, most: u32) -> Result<Vec<u8>, SourceFault> {
+        let file = match File::open(self.system, name) {
+            Ok(file) => file,
+            Err(fault) => return Err(why(fault.kind())),
+        };
+        let mut bytes = Vec::new(alloc);
+        match file.take(u64::from(most) + 1).read_to_end(&mut bytes) {
+            Ok(_) => Ok(bytes),
+            Err(fault) => Err(why(fault.kind())),
+        }
+    }
+}
+
+fn why(kind: ErrorKind) -> SourceFault {
+    match kind {
+        ErrorKind::OutOfMemory => SourceFault::OutOfMemory,
+        _ => SourceFault::Unreadable,
+    }
+}

@@ -1,0 +1,132 @@
+//! Why the program stops without an outcome, and how it says so.
+
+ghost use Rattle.std.specs.Prelude.{◌≡◌, ◌<◌, ◌^◌};
+ghost use Rattle.pram_syntax.specs.Out.{Writes};
+ghost use Rattle.pramc.specs.Stopped as stopped;
+ghost use Rattle.pramc.specs.StoppedFields.{stop_text};
+
+use crate::run_text::Refusal;
+use itoa::Buffer;
+use pram_check::fault::{Breach, Cause, Limit, Spot};
+use pram_syntax::error::TextFault;
+use pram_syntax::writer::{Out, WriteFault};
+use std::alloc::AllocError;
+
+/// Why a call of the program comes to no end of its own.
+#[derive(Drop)]
+pub enum Stop<'a> {
+    /// P1, in the words of the parser of command lines.
+    Words(String),
+    /// P1: a number of an option that isn't one.
+    Number(&'a str),
+    /// P2: a file that can't be read.
+    Unreadable(&'a str),
+    /// E1 to E11 and E16.
+    Refused(Refusal),
+    /// E17: standard output failed.
+    WriteFailed,
+}
+
+impl<'a> From<AllocError> for Stop<'a> {
+    fn from(_e: AllocError) -> Stop<'a> {
+        Stop::Refused(Refusal::OutOfMemory)
+    }
+}
+
+impl<'a> From<WriteFault> for Stop<'a> {
+    fn from(_e: WriteFault) -> Stop<'a> {
+        Stop::WriteFailed
+    }
+}
+
+/// Writes the line that says why, or the text of the parser of command lines.
+pub fn write_stop<W: Out>(out: &mut W, stop: &Stop<'_>) -> Result<(), WriteFault>
+    requires counted { (W.Out.state out.old).failures < 2 ^ 63 }
+    ensures written { Writes (W.Out.state out.old) (W.Out.state out.new) (stop_text stop.now) result }
+{
+    match stop {
+        Stop::Words(text) => out.write_all(text.as_bytes()),
+        Stop::Number(word) => out.write_parts(&[b"refused P1 ", word.as_bytes(), b"\n"]),
+        Stop::Unreadable(name) => out.write_parts(&[b"refused P2 ", name.as_bytes(), b"\n"]),
+        Stop::Refused(refusal) => write_refusal(out, *refusal),
+        Stop::WriteFailed => out.write_all(b"refused E17 WriteFailed\n"),
+    }
+}
+
+// `refused E6 UnknownName at 57`, or the same without a place.
+fn write_refusal<W: Out>(out: &mut W, refusal: Refusal) -> Result<(), WriteFault>
+    requires counted { (W.Out.state out.old).failures < 2 ^ 63 }
+    ensures written { Writes (W.Out.state out.old) (W.Out.state out.new)
+        (stopped.refused_line (stopped.refusal_words refusal) (stopped.refusal_place refusal)) result }
+{
+    let (words, place) = words_of(refusal);
+    match place {
+        None => out.write_parts(&[b"refused ", words, b"\n"]),
+        Some(at) => {
+            let mut digits = Buffer::new();
+            out.write_parts(&[
+                b"refused ",
+                words,
+                b" at ",
+                digits.format(at).as_bytes(),
+                b"\n",
+            ])
+        }
+    }
+}
+
+// A refusal's number and name, and the offset where it has one.
+fn words_of(refusal: Refusal) -> (&'static [u8], Option<u32>)
+    ensures words { result.0.now ≡ stopped.refusal_words refusal }
+    ensures place { result.1 ≡ stopped.refusal_place refusal }
+{
+    match refusal {
+        Refusal::Text(fault) => text_words(fault),
+        Refusal::Program(breach) => breach_words(breach),
+        Refusal::InputTooLong => (b"E11 InputTooLong", None),
+        Refusal::OutOfMemory => (b"E16 OutOfMemory", None),
+    }
+}
+
+fn text_words(fault: TextFault) -> (&'static [u8], Option<u32>)
+    ensures words { result.0.now ≡ stopped.text_words fault }
+    ensures place { result.1 ≡ stopped.text_place fault }
+{
+    match fault {
+        TextFault::NotAscii(at) => (b"E1 NotAscii", Some(at)),
+        TextFault::TextTooLong => (b"E2 TextTooLong", None),
+        TextFault::BadToken(at) => (b"E3 BadToken", Some(at)),
+        TextFault::Syntax(at) => (b"E4 Syntax", Some(at)),
+        TextFault::TooDeep(at) => (b"E5 TooDeep", Some(at)),
+        TextFault::OutOfMemory => (b"E16 OutOfMemory", None),
+    }
+}
+
+fn breach_words(breach: Breach) -> (&'static [u8], Option<u32>)
+    ensures words { result.0.now ≡ stopped.cause_words breach.cause }
+    ensures place { result.1 ≡ stopped.cause_place breach.spot breach.cause }
+{
+    let place = match breach.spot {
+        Spot::Offset(at) => Some(at),
+        Spot::TextEnd => None,
+    };
+    match breach.cause {
+        Cause::UnknownName => (b"E6 UnknownName", place),
+        Cause::DoubleName => (b"E7 DoubleName", place),
+        Cause::WrongKind => (b"E8 WrongKind", place),
+        Cause::AssignedLoopVariable => (b"E9 AssignedLoopVariable", place),
+        Cause::Limit(limit) => (limit_words(limit), None),
+    }
+}
+
+fn limit_words(limit: Limit) -> &'static [u8]
+    ensures { result.now ≡ stopped.limit_words limit }
+{
+    match limit {
+        Limit::Cells => b"E10 Limit cells",
+        Limit::Procs => b"E10 Limit procs",
+        Limit::Bounds => b"E10 Limit bounds",
+        Limit::Reads => b"E10 Limit reads",
+        Limit::Tokens => b"E10 Limit tokens",
+    }
+}

@@ -1,0 +1,107 @@
+// How a row of the tests is tried: what the program prints for it, and its exit status.
+
+use crate::command::command;
+use pram_syntax::buffer::Buffer;
+use pramc::sources::{SourceFault, Sources};
+use pramc::status::Status;
+use std::alloc::{AllocError, Global};
+
+// A program with its input and bound, and what is written to standard output and standard error.
+#[derive(Drop)]
+pub(crate) struct Row {
+    pub(crate) text: &'static str,
+    pub(crate) input: &'static str,
+    pub(crate) bound: &'static str,
+    pub(crate) out: &'static str,
+    pub(crate) err: &'static str,
+    pub(crate) code: u8,
+}
+
+// Files in memory.
+#[derive(Drop)]
+pub(crate) struct Shelf<'a> {
+    pub(crate) program: &'a [u8],
+    pub(crate) input: &'a [u8],
+}
+
+impl<'a> Sources for Shelf<'a> {
+    fn read(&mut self, alloc: Global, name: &str, _most: u32) -> Result<Vec<u8>, SourceFault> {
+        let bytes = match name {
+            "program" => self.program,
+            "input" => self.input,
+            _ => return Err(SourceFault::Unreadable),
+        };
+        match Vec::from_slice(alloc, bytes) {
+            Ok(copy) => Ok(copy),
+            Err(_) => Err(SourceFault::OutOfMemory),
+        }
+    }
+}
+
+// What a call of the program printed.
+#[derive(Drop)]
+pub(crate) struct Said {
+    pub(crate) status: Status,
+    pub(crate) out: Buffer,
+    pub(crate) err: Buffer,
+}
+
+// Calls the program with these words over these files.
+pub(crate) fn call(
+    alloc: Global,
+    words: &[&str],
+    program: &[u8],
+    input: &[u8],
+) -> Result<Said, AllocError> {
+    let mut owned = Vec::new(alloc);
+    for word in words {
+        owned.push(String::from_str(alloc, word)?)?;
+    }
+    let mut shelf = Shelf { program, input };
+    let mut out = Buffer::new(alloc);
+    let mut err = Buffer::new(alloc);
+    let status = command(alloc, owned.as_slice(), &mut shelf, &mut out, &mut err);
+    Ok(Said { status, out, err })
+}
+
+// Whether a call of the program prints just that.
+pub(crate) fn prints(
+    alloc: Global,
+    words: &[&str],
+    program: &[u8],
+    input: &[u8],
+    expected: (&[u8], &[u8], u8),
+) -> bool {
+    match call(alloc, words, program, input) {
+        Ok(said) => {
+            said.out.bytes() == expected.0
+                && said.err.bytes() == expected.1
+                && said.status.code() == expected.2
+        }
+        Err(_) => false,
+    }
+}
+
+// Whether both `meaning` and `run` print what the row says.
+pub(crate) fn holds(alloc: Global, row: &Row) -> bool {
+    let expected = (row.out.as_bytes(), row.err.as_bytes(), row.code);
+    let program = row.text.as_bytes();
+    let input = row.input.as_bytes();
+    for verb in ["meaning", "run"] {
+        let words = [verb, "program", "--bound", row.bound, "--input", "input"];
+        if !prints(alloc, &words, program, input, expected) {
+            return false;
+        }
+    }
+    true
+}
+
+// Whether `check` prints that line for a text, where an accepted text's goes to standard output.
+pub(crate) fn checked(alloc: Global, text: &[u8], line: &str) -> bool {
+    let expected: (&[u8], &[u8], u8) = if line.as_bytes().starts_with(b"accepted") {
+        (line.as_bytes(), b"", 0)
+    } else {
+        (b"", line.as_bytes(), 2)
+    };
+    prints(alloc, &["check", "program"], text, b"", expected)
+}

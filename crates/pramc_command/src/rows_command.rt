@@ -1,0 +1,173 @@
+// What the program prints for its command line, its files and its writers.
+
+use crate::command::command;
+use crate::rows::{Shelf, call, prints};
+use pram_syntax::buffer::Buffer;
+use pram_syntax::writer::{Out, OutFailed};
+use pramc::status::Status;
+use std::test::Fail;
+
+const SUM: &[u8] =
+    b"rule crew; procs 1;\nvar i; var t;\nbegin\nfor i := 1 to 10 do\nt := t + i;\nend\nprint t;\nend\n";
+
+#[test]
+fn a_text_is_checked(rt: HostRuntime) -> Result<(), Fail> {
+    let text =
+        b"rule erew; procs 8;\nshared a[1..8]; shared b[1..8]; var m;\nbegin\nfor 1 <= i <= 8 pardo b[i] := a[i]; end\nend\n";
+    let accepted: &[u8] = b"accepted cells 16 procs 8 rule erew\n";
+    assert!(&rt;
+        prints(
+            rt.alloc(),
+            &["check", "program"],
+            text,
+            b"",
+            (accepted, b"", 0)
+        )
+    );
+    assert!(&rt;
+        prints(
+            rt.alloc(),
+            &["check", "program"],
+            SUM,
+            b"",
+            (b"accepted cells 0 procs 1 rule crew\n", b"", 0)
+        )
+    );
+    Ok(())
+}
+
+#[test]
+fn the_words_are_judged_before_the_files(rt: HostRuntime) -> Result<(), Fail> {
+    let rows: [(&[&str], &[u8]); 6] = [
+        (&["run", "program", "--bound", "1x"], b"refused P1 1x\n"),
+        (
+            &["run", "nowhere", "--bound", "4294967296"],
+            b"refused P1 4294967296\n",
+        ),
+        (&["run", "program", "--bound", "+1"], b"refused P1 +1\n"),
+        (&["run", "nowhere"], b"refused P2 nowhere\n"),
+        (
+            &["run", "program", "--input", "no input"],
+            b"refused P2 no input\n",
+        ),
+        (&["check", "no program"], b"refused P2 no program\n"),
+    ];
+    for (words, line) in rows {
+        assert!(&rt; prints(rt.alloc(), words, SUM, b"", (b"", line, 2)));
+    }
+    Ok(())
+}
+
+#[test]
+fn the_program_is_judged_before_the_input(rt: HostRuntime) -> Result<(), Fail> {
+    let words = ["run", "program", "--input", "input"];
+    let no_input = ["run", "program", "--input", "nowhere"];
+    assert!(&rt;
+        prints(
+            rt.alloc(),
+            &words,
+            b"@",
+            b"x",
+            (b"", b"refused E3 BadToken at 0\n", 2)
+        )
+    );
+    assert!(&rt;
+        prints(
+            rt.alloc(),
+            &no_input,
+            b"",
+            b"",
+            (b"", b"refused E4 Syntax at 0\n", 2)
+        )
+    );
+    assert!(&rt;
+        prints(
+            rt.alloc(),
+            &words,
+            SUM,
+            b"1 x",
+            (b"", b"refused E3 BadToken at 2\n", 2)
+        )
+    );
+    assert!(&rt;
+        prints(
+            rt.alloc(),
+            &words,
+            SUM,
+            b"1",
+            (b"", b"refused E11 InputTooLong\n", 2)
+        )
+    );
+    Ok(())
+}
+
+// The words of the command line's parser are not fixed, but that they are there is.
+#[test]
+fn a_wrong_command_line_is_explained(rt: HostRuntime) -> Result<(), Fail> {
+    let rows: [&[&str]; 6] = [
+        &[],
+        &["run"],
+        &["walk", "program"],
+        &["check", "program", "--bound", "3"],
+        &["run", "program", "more"],
+        &["--help"],
+    ];
+    for words in rows {
+        let said = call(rt.alloc(), words, SUM, b"")?;
+        assert!(&rt; said.status == Status::Refused);
+        assert!(&rt; said.out.bytes().is_empty());
+        assert!(&rt; !said.err.bytes().is_empty());
+    }
+    Ok(())
+}
+
+// Takes some bytes, and then fails.
+#[derive(Drop)]
+struct Full {
+    room: usize,
+    failures: u64,
+}
+
+impl Out for Full {
+    ghost use Rattle.std.specs.Prelude.{None};
+
+    ghost state = { λ f. record { taken = None; failures = f.failures } };
+
+    fn write(&mut self, bytes: &[u8]) -> Result<usize, OutFailed> {
+        if self.room == 0 && !bytes.is_empty() {
+            self.failures += 1;
+            return Err(OutFailed);
+        }
+        let count = bytes.len().min(self.room);
+        self.room -= count;
+        Ok(count)
+    }
+}
+
+#[test]
+fn a_full_output_is_told(rt: HostRuntime) -> Result<(), Fail> {
+    let words = [
+        String::from_str(rt.alloc(), "run")?,
+        String::from_str(rt.alloc(), "program")?,
+    ];
+    for (room, status) in [
+        (0, Status::Refused),
+        (8, Status::Refused),
+        (9, Status::Done),
+    ] {
+        let mut shelf = Shelf {
+            program: SUM,
+            input: b"",
+        };
+        let mut out = Full { room, failures: 0 };
+        let mut err = Buffer::new(rt.alloc());
+        assert!(&rt; command(rt.alloc(), &words, &mut shelf, &mut out, &mut err) == status);
+        let line: &[u8] = if status == Status::Done {
+            b""
+        } else {
+            b"refused E17 WriteFailed\n"
+        };
+        assert!(&rt; err.bytes() == line);
+    }
+    Ok(())
+}

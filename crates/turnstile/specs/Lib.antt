@@ -1,0 +1,12 @@
+pub mod Blocks
+pub mod Shelves
+pub mod Turns
+pub mod Loads
+pub mod Seats
+pub mod Works
+pub mod Interleavings
+pub mod Benches
+pub mod Closings
+pub mod Tested
+pub mod Lines
+pub mod Runners

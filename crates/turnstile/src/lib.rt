@@ -1,0 +1,27 @@
+//! A barrier with total exchange: at each crossing every worker hands every worker one message.
+#![tactic(auto)]
+
+mod barrier;
+mod blocks;
+mod closing;
+mod law;
+mod letter;
+mod opening;
+mod plays;
+mod seats;
+mod shelf;
+mod start;
+mod steps;
+mod views;
+mod work;
+
+pub use barrier::Turnstile;
+pub use exchange_arena::{Header, MAX_ROOM, MAX_SIDE};
+pub use law::interleaving_law;
+pub use seats::{ColumnSeat, RowSeat};
+pub use start::line::StartLine;
+pub use start::runners::Runner;
+pub use start::starter::Starter;
+
+#[cfg(test)]
+mod tests;
