@@ -4,6 +4,8 @@ ghost use Rattle.std.specs.Prelude.{◌≡◌, ◌<◌, ◌^◌};
 ghost use Rattle.pram_syntax.specs.Out.{Writes};
 ghost use Rattle.pramc.specs.Stopped as stopped;
 ghost use Rattle.pramc.specs.StoppedFields.{stop_text};
+ghost use Rattle.pramc.specs.declared.stop.Stop.TheVariants.{Refused, WriteFailed};
+ghost use Rattle.pramc.specs.declared.run_text.Refusal.TheVariants.{OutOfMemory};
 
 use crate::run_text::Refusal;
 use itoa::Buffer;
@@ -28,12 +30,16 @@ pub enum Stop<'a> {
 }
 
 impl<'a> From<AllocError> for Stop<'a> {
+    ghost from_gives = { λ _ e. e ≡ Refused OutOfMemory };
+
     fn from(_e: AllocError) -> Stop<'a> {
         Stop::Refused(Refusal::OutOfMemory)
     }
 }
 
 impl<'a> From<WriteFault> for Stop<'a> {
+    ghost from_gives = { λ _ e. e ≡ WriteFailed };
+
     fn from(_e: WriteFault) -> Stop<'a> {
         Stop::WriteFailed
     }
