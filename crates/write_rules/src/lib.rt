@@ -5,6 +5,7 @@ pub mod common;
 pub mod entry;
 pub mod exclusive;
 pub mod fault;
+pub mod order;
 pub mod outcome;
 pub mod priority;
 pub mod summed;
