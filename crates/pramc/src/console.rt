@@ -65,7 +65,11 @@ impl<P: Print> Out for Stream<P> {
         Ok(count)
     }
 
-    fn flush(&mut self) -> Result<(), OutFailed> {
+    fn flush(&mut self) -> Result<(), OutFailed>
+        requires counted { self.old.failures < 2 ^ 63 }
+        ensures ok { OnOk result ((self.new.failures ≡ self.old.failures) × (self.new.len ≡ 0)) }
+        ensures failed { OnErr result (self.new.failures ≡ self.old.failures + 1) }
+    {
         self.pass()
     }
 }
