@@ -1,6 +1,14 @@
 //! The program `pramc`, but for the real files and streams.
 
-ghost use Rattle.std.specs.Prelude.{◌<◌, ◌^◌};
+ghost use Rattle.std.specs.Prelude.{◌≡◌, ◌<◌, ◌^◌, ℕ, ℤ, List, IfOk, IfErr};
+ghost use Rattle.pram_syntax.specs.Out.{Writes, with_failure};
+ghost use Rattle.pram_syntax.specs.Program.{rule_word as spec_rule_word};
+ghost use Rattle.write_rules.specs.Verdict.{verdict_of};
+ghost use Rattle.pramc.specs.Report.{IsProgramOf, IsRunOf};
+ghost use Rattle.pram_meaning.specs.Outcome.{IsOutcome};
+ghost use Rattle.pramc.specs.StoppedFields.{stop_text};
+ghost use Rattle.pramc.specs.declared.stop.Stop.TheVariants.{WriteFailed};
+ghost use Rattle.pramc_command.specs.Answered.{Answers, accepted_line, IsNoFailure, IsReported, Leaves};
 
 use crate::request::{Request, Verb, read_words};
 use itoa::Buffer;
@@ -8,9 +16,9 @@ use pram_check::program::Program;
 use pram_meaning::reference::{RunRefusal, reference_run};
 use pram_syntax::input::read_input;
 use pram_syntax::layout::Layout;
-use pram_syntax::writer::{Out, OutFailed};
 use pram_syntax::parse::LONGEST;
 use pram_syntax::rule::Rule;
+use pram_syntax::writer::{Out, OutFailed, WriteFault};
 use pramc::run_text::{Refusal, Report, compile, run_text};
 use pramc::show::show;
 use pramc::sources::{SourceFault, Sources};
@@ -34,16 +42,24 @@ pub fn command<S: Sources, O: Out, E: Out>(
 ) -> Status
     requires out { (O.Out.state out.old).failures < 2 ^ 62 }
     requires err { (E.Out.state err.old).failures < 2 ^ 62 }
+    ensures leaves { Leaves (O.Out.state out.old) (O.Out.state out.new) (E.Out.state err.old) (E.Out.state err.new) result }
 {
     match perform(alloc, words, sources, out) {
         Ok(status) => status,
         Err(stop) => {
-            // A failure of standard error changes no status.
-            if write_stop(err, &stop).is_ok() {
-                let _ = err.flush();
-            }
+            report(err, &stop);
             Status::Refused
         }
+    }
+}
+
+// Writes the line of a refusal. That standard error fails changes no status.
+fn report<E: Out>(err: &mut E, stop: &Stop<'_>)
+    requires err { (E.Out.state err.old).failures < 2 ^ 62 }
+    ensures written { IsReported (E.Out.state err.old) (E.Out.state err.new) (stop_text stop.now) }
+{
+    if write_stop(err, stop).is_ok() {
+        let _ = err.flush();
     }
 }
 
@@ -54,6 +70,7 @@ fn perform<'a, S: Sources, O: Out>(
     out: &mut O,
 ) -> Result<Status, Stop<'a>>
     requires out { (O.Out.state out.old).failures < 2 ^ 62 }
+    ensures answers { Answers (O.Out.state out.old) (O.Out.state out.new) result }
 {
     let request = read_words(alloc, words)?;
     let text = load(alloc, sources, request.file)?;
@@ -79,11 +96,9 @@ fn perform<'a, S: Sources, O: Out>(
 }
 
 // The bytes of a file.
-fn load<'a, S: Sources>(
-    alloc: Global,
-    sources: &mut S,
-    name: &'a str,
-) -> Result<Vec<u8>, Stop<'a>> {
+fn load<'a, S: Sources>(alloc: Global, sources: &mut S, name: &'a str) -> Result<Vec<u8>, Stop<'a>>
+    ensures { IfErr result IsNoFailure }
+{
     match sources.read(alloc, name, LONGEST as u32) {
         Ok(bytes) => Ok(bytes),
         Err(SourceFault::Unreadable) => Err(Stop::Unreadable(name)),
@@ -96,7 +111,9 @@ fn load_input<'a, S: Sources>(
     alloc: Global,
     sources: &mut S,
     name: Option<&'a str>,
-) -> Result<Vec<i64>, Stop<'a>> {
+) -> Result<Vec<i64>, Stop<'a>>
+    ensures { IfErr result IsNoFailure }
+{
     let name = match name {
         None => return Ok(Vec::new(alloc)),
         Some(name) => name,
@@ -113,7 +130,10 @@ fn mean<'a>(
     program: &Program,
     input: &[i64],
     bound: u32,
-) -> Result<Outcome, Stop<'a>> {
+) -> Result<Outcome, Stop<'a>>
+    ensures outcome { IfOk result (λ o. IsOutcome program.now input.now bound (verdict_of o)) }
+    ensures refused { IfErr result IsNoFailure }
+{
     match reference_run(alloc, program, input, bound) {
         Ok(outcome) => Ok(outcome),
         Err(RunRefusal::InputTooLong) => Err(Stop::Refused(Refusal::InputTooLong)),
@@ -121,20 +141,36 @@ fn mean<'a>(
     }
 }
 
+// Writes an outcome.
+#[tactic(auto, using(crate::proofs::Answering::told, crate::proofs::Answering::cut_off))]
 fn write_outcome<'a, O: Out>(
     out: &mut O,
     layout: &Layout,
     outcome: &Outcome,
 ) -> Result<Status, Stop<'a>>
     requires out { (O.Out.state out.old).failures < 2 ^ 62 }
+    ensures answers { (text : List ℕ) (input : List ℤ) (n : ℕ) → IsRunOf text input n layout.now (verdict_of outcome.now) → Answers (O.Out.state out.old) (O.Out.state out.new) result }
 {
-    show(layout, outcome, out)?;
-    pass_on(out)?;
-    Ok(Status::of(outcome))
+    match show(layout, outcome, out) {
+        Ok(()) => finish(out, Status::of(outcome)),
+        Err(WriteFault) => Err(Stop::WriteFailed),
+    }
 }
 
+// Writes that a program is accepted.
 fn write_accepted<'a, O: Out>(out: &mut O, program: &Program) -> Result<Status, Stop<'a>>
     requires out { (O.Out.state out.old).failures < 2 ^ 62 }
+    ensures answers { (text : List ℕ) → IsProgramOf text program.now → Answers (O.Out.state out.old) (O.Out.state out.new) result }
+{
+    match write_accepted_line(out, program) {
+        Ok(()) => finish(out, Status::Done),
+        Err(WriteFault) => Err(Stop::WriteFailed),
+    }
+}
+
+fn write_accepted_line<O: Out>(out: &mut O, program: &Program) -> Result<(), WriteFault>
+    requires out { (O.Out.state out.old).failures < 2 ^ 62 }
+    ensures written { Writes (O.Out.state out.old) (O.Out.state out.new) (accepted_line program.now) result }
 {
     let mut cells = Buffer::new();
     let mut procs = Buffer::new();
@@ -146,12 +182,12 @@ fn write_accepted<'a, O: Out>(out: &mut O, program: &Program) -> Result<Status, 
         b" rule ",
         rule_word(program.rule()),
         b"\n",
-    ])?;
-    pass_on(out)?;
-    Ok(Status::Done)
+    ])
 }
 
-fn rule_word(rule: Rule) -> &'static [u8] {
+fn rule_word(rule: Rule) -> &'static [u8]
+    ensures { result.now ≡ spec_rule_word rule }
+{
     match rule {
         Rule::Erew => b"erew",
         Rule::Crew => b"crew",
@@ -162,11 +198,13 @@ fn rule_word(rule: Rule) -> &'static [u8] {
 }
 
 // What the writer still holds is written, or the writer failed.
-fn pass_on<'a, O: Out>(out: &mut O) -> Result<(), Stop<'a>>
+fn finish<'a, O: Out>(out: &mut O, status: Status) -> Result<Status, Stop<'a>>
     requires out { (O.Out.state out.old).failures < 2 ^ 63 }
+    ensures ok { IfOk result (λ s. (s ≡ status) × (O.Out.state out.new ≡ O.Out.state out.old)) }
+    ensures failed { IfErr result (λ stop. (stop ≡ WriteFailed) × (O.Out.state out.new ≡ with_failure (O.Out.state out.old))) }
 {
     match out.flush() {
-        Ok(()) => Ok(()),
+        Ok(()) => Ok(status),
         Err(OutFailed) => Err(Stop::WriteFailed),
     }
 }

@@ -1,5 +1,8 @@
 //! What a command line asks for.
 
+ghost use Rattle.std.specs.Prelude.{IfErr};
+ghost use Rattle.pramc_command.specs.Answered.{IsNoFailure};
+
 use clap::error::ErrorKind;
 use clap::{Arg, ArgMatches, Command};
 use pramc::run_text::Refusal;
@@ -84,7 +87,9 @@ fn number(word: &str) -> Option<u32> {
     }
 }
 
-fn asked<'a>(verb: Verb, words: &ArgMatches<'a>) -> Result<Request<'a>, Stop<'a>> {
+fn asked<'a>(verb: Verb, words: &ArgMatches<'a>) -> Result<Request<'a>, Stop<'a>>
+    ensures { IfErr result IsNoFailure }
+{
     let bound = match words.get_str(BOUND) {
         None => 0,
         Some(word) => match number(word) {
@@ -101,7 +106,9 @@ fn asked<'a>(verb: Verb, words: &ArgMatches<'a>) -> Result<Request<'a>, Stop<'a>
 }
 
 // The words of the parser, where it refused the command line.
-fn refused<'a>(alloc: Global, error: clap::Error) -> Stop<'a> {
+fn refused<'a>(alloc: Global, error: clap::Error) -> Stop<'a>
+    ensures { IsNoFailure result }
+{
     if error.kind() == ErrorKind::OutOfMemory {
         return Stop::Refused(Refusal::OutOfMemory);
     }
@@ -112,7 +119,9 @@ fn refused<'a>(alloc: Global, error: clap::Error) -> Stop<'a> {
 }
 
 /// Reads the words behind the program's name.
-pub(crate) fn read_words<'a>(alloc: Global, words: &'a [String]) -> Result<Request<'a>, Stop<'a>> {
+pub(crate) fn read_words<'a>(alloc: Global, words: &'a [String]) -> Result<Request<'a>, Stop<'a>>
+    ensures { IfErr result IsNoFailure }
+{
     let matches = match grammar(alloc)?.try_get_matches_from(words) {
         Ok(matches) => matches,
         Err(error) => return Err(refused(alloc, error)),
