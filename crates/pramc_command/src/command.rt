@@ -142,7 +142,6 @@ fn mean<'a>(
 }
 
 // Writes an outcome.
-#[tactic(auto, using(crate::proofs::Answering::told, crate::proofs::Answering::cut_off))]
 fn write_outcome<'a, O: Out>(
     out: &mut O,
     layout: &Layout,
@@ -152,7 +151,10 @@ fn write_outcome<'a, O: Out>(
     ensures answers { (text : List ℕ) (input : List ℤ) (n : ℕ) → IsRunOf text input n layout.now (verdict_of outcome.now) → Answers (O.Out.state out.old) (O.Out.state out.new) result }
 {
     match show(layout, outcome, out) {
-        Ok(()) => finish(out, Status::of(outcome)),
+        Ok(()) => {
+            let status = Status::of(outcome);
+            finish(out, status)
+        }
         Err(WriteFault) => Err(Stop::WriteFailed),
     }
 }
