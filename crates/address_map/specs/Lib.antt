@@ -4,3 +4,4 @@ pub mod Outcome
 pub mod SpreadLaws
 pub mod AffineLaws
 pub mod ShiftLaws
+pub mod RoundLaws

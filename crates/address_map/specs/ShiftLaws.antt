@@ -3,14 +3,10 @@ use Rattle.std.proofs.Common.{◌≡◌, ℕ, ◌+◌, ◌*◌, ◌/◌, ◌^◌
 use Rattle.std.specs.Int.Bits.{bit_xor, xor_assoc, xor_self, xor_zero_l, xor_zero_r}
 use Rattle.std.proofs.lemmas.Nat.{xor_comm, xor_shr, xor_lt, shr-shr, shr_le, mod_below, mul-mod_second, mul-mod_first}
 use Rattle.std.proofs.Math.Nat.{div-eq_of_lt, pow-le-pow_right, mul_assoc, one-mul, mod-eq_of_lt, mul_comm}
-use Rattle.address_map.specs.Permutation.{IsInverse}
-
--- y xor (y shifted right by s)
-abbrev pub shifted : ℕ → ℕ → ℕ
-shifted s y = bit_xor y (y / 2 ^ s)
+use Rattle.address_map.specs.Permutation.{IsInverse, round, shifted}
 
 -- by s, and before that by 2 s, and before that by 4 s, n times
-pub unshifted : ℕ → ℕ → ℕ → ℕ
+abbrev pub unshifted : ℕ → ℕ → ℕ → ℕ
 unshifted zero s y = y
 unshifted (suc n) s y = shifted s (unshifted n (s + s) y)
 
@@ -41,12 +37,11 @@ doubled_shift s y = twice_shifted s s y ∙ xor_gone (y / 2 ^ s) y (y / 2 ^ (s +
 
 -- shifted by s and unshifted is shifted by top n s
 shifted_unshifted : (n s y : ℕ) → shifted s (unshifted n s y) ≡ shifted (top n s) y
-unfolding unshifted top
+unfolding top
 shifted_unshifted zero s y = refl
 shifted_unshifted (suc n) s y = doubled_shift s (unshifted n (s + s) y) ∙ shifted_unshifted n (s + s) y
 
 unshifted_turned : (n s t y : ℕ) → unshifted n t (shifted s y) ≡ shifted s (unshifted n t y)
-unfolding unshifted
 unshifted_turned zero s t y = refl
 unshifted_turned (suc n) s t y = ap (shifted t) (unshifted_turned n s (t + t) y) ∙ turned t s (unshifted n (t + t) y)
 
@@ -55,7 +50,7 @@ unfolding top
 top_5 s = omega arith
 
 -- nothing is left of a number below 2 ^ 32 after 32 places
-shifted_far : (e t y : ℕ) → y < 2 ^ e → e ≤ t → shifted t y ≡ y
+pub shifted_far : (e t y : ℕ) → y < 2 ^ e → e ≤ t → shifted t y ≡ y
 shifted_far e t y h far =
     let p = pow-le-pow_right {n = 2} (omega arith) far in
     ap (bit_xor y) (div-eq_of_lt (omega arith)) ∙ xor_zero_r y
@@ -64,7 +59,6 @@ shifted_below : (e s y : ℕ) → y < 2 ^ e → shifted s y < 2 ^ e
 shifted_below e s y h = xor_lt e y (y / 2 ^ s) h (let l = shr_le y s in omega arith)
 
 unshifted_below : (e n s y : ℕ) → y < 2 ^ e → unshifted n s y < 2 ^ e
-unfolding unshifted
 unshifted_below e zero s y h = h
 unshifted_below e (suc n) s y h = shifted_below e s (unshifted n (s + s) y) (unshifted_below e n (s + s) y h)
 
@@ -87,10 +81,7 @@ inverse_after k f g v w p q = record {
   forth = λ y h. ap v (p.forth (w y) (q.back_below y h)) ∙ q.forth y h;
 }
 
--- a multiplication by an odd number below k, then a fold; u is the inverse of a
-abbrev pub round : ℕ → ℕ → ℕ → ℕ → ℕ
-round k a s x = shifted s ((a * x) % k)
-
+-- what undoes a round, where u is the inverse of a below k
 abbrev pub round_back : ℕ → ℕ → ℕ → ℕ → ℕ
 round_back k u s y = (u * unshifted 5 s y) % k
 

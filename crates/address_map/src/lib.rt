@@ -5,6 +5,8 @@ mod affine;
 mod fault;
 mod identity;
 mod map;
+mod round;
+mod rounds;
 mod spread;
 #[cfg(test)]
 mod tests;
@@ -13,3 +15,4 @@ pub use affine::Affine;
 pub use fault::MapFault;
 pub use identity::Identity;
 pub use map::AddressMap;
+pub use rounds::Rounds;

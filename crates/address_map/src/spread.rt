@@ -12,6 +12,7 @@ pub(crate) struct Spread {
     pub(crate) bits: u32,
     pub(crate) modules: u32,
     ghost power: { cells ≡ 2 ^ bits },
+    ghost small: { bits ≤ 20 },
     ghost fits: { cells ≤ 2 ^ 20 },
     ghost one: { 1 ≤ modules },
     ghost few: { modules ≤ 32 },

@@ -1,5 +1,5 @@
 //! Worked rows of each map.
-use crate::{AddressMap, Affine, Identity, MapFault};
+use crate::{AddressMap, Affine, Identity, MapFault, Rounds};
 
 #[test]
 fn faults_come_in_order(rt: HostRuntime) {
@@ -32,4 +32,37 @@ fn identity_deals_cells_in_turn(rt: HostRuntime) {
     }
     assert_eq!(rt; map.place(5), (2, 1));
     assert_eq!(rt; map.cell(2, 1), Some(5));
+}
+
+#[test]
+fn rows_of_a_round_are_placed_and_found(rt: HostRuntime) {
+    let map = Rounds::new(8, 3, &[(5, 1)]).expect(&rt, "one round");
+    let modules = [0, 1, 0, 1, 0, 1, 2, 2];
+    let offsets = [0, 2, 1, 1, 2, 0, 1, 0];
+    for cell in 0..8u32 {
+        let (module, offset) = map.place(cell);
+        assert_eq!(rt; module, modules[cell as usize]);
+        assert_eq!(rt; offset, offsets[cell as usize]);
+        assert_eq!(rt; map.cell(module, offset), Some(cell));
+    }
+    for (module, size) in [(0, 3), (1, 3), (2, 2)] {
+        assert_eq!(rt; map.size(module), size);
+    }
+}
+
+#[test]
+fn bad_rounds_are_refused(rt: HostRuntime) {
+    assert_eq!(rt; Rounds::new(8, 3, &[(5, 0)]).err(), Some(MapFault::BadMap));
+    assert_eq!(rt; Rounds::new(8, 3, &[(5, 32)]).err(), Some(MapFault::BadMap));
+    assert_eq!(rt; Rounds::new(8, 3, &[(4, 1)]).err(), Some(MapFault::BadMap));
+    assert_eq!(rt;
+        Rounds::new(8, 3, &[(5, 1); 9]).err(),
+        Some(MapFault::BadMap)
+    );
+    assert_eq!(rt;
+        Rounds::new(7, 0, &[(4, 0)]).err(),
+        Some(MapFault::BadWorkers)
+    );
+    assert_eq!(rt; Rounds::new(7, 3, &[(5, 1)]).err(), Some(MapFault::BadMap));
+    assert_eq!(rt; Rounds::new(8, 3, &[(5, 31); 8]).err(), None);
 }
