@@ -9,11 +9,11 @@ ghost use Rattle.pram_syntax.specs.Printing.{Prints, printing};
 ghost use Rattle.pram_syntax.specs.Program.{declaration_tokens, declarations_tokens, header_tokens, program_tokens};
 ghost use Rattle.pram_syntax.specs.Spelling.{spelled, spelling};
 
-use crate::writer::{Out, WriteFault};
 use crate::printer::Printer;
 use crate::spell::rule_text;
 use crate::token::{Binary, Mark, Name, Opening, Token};
 use crate::tree::{Declaration, Expr, Stmt, Tree};
+use crate::writer::{Out, WriteFault};
 
 impl<'a, W: Out> Printer<'a, W> {
     #[cycle(expr)]

@@ -5,10 +5,10 @@ ghost use Rattle.pram_syntax.specs.Grammar.{prefix_token};
 ghost use Rattle.pram_syntax.specs.Printing.{MayFail, Prints, printing};
 ghost use Rattle.pram_syntax.specs.Spelling.{opening_text, spelled};
 
-use crate::writer::Out;
 use crate::spell::{binary_text, mark_end, mark_text, opening_text};
 use crate::token::{Binary, Mark, Name, Numeral, Opening, Token};
 use crate::tree::Prefix;
+use crate::writer::Out;
 use itoa::Buffer;
 
 /// Prints until its writer fails, and then nothing more.

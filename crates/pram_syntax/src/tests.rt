@@ -5,11 +5,11 @@ ghost use Rattle.std.specs.Prelude.{◌<◌, Some};
 use crate::buffer::Buffer;
 use crate::error::TextFault;
 use crate::input::read_input;
-use crate::writer::{Out, OutFailed, WriteFault};
 use crate::parse::parse;
 use crate::print::print_tree;
 use crate::rule::Rule;
 use crate::token::Location;
+use crate::writer::{Out, OutFailed, WriteFault};
 use std::alloc::Global;
 use std::test::Fail;
 

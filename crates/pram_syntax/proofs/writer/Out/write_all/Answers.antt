@@ -1,4 +1,4 @@
-use Rattle.pram_syntax.proofs.Progress.{ends, fails, starts, takes}
+use Rattle.pram_syntax.proofs.Progress.{fails, starts, takes}
 use Rattle.pram_syntax.proofs.writer.Out.write_all.Goals as goal
 
 pub loop-rest-init : goal.loop-rest-init
