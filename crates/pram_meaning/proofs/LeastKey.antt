@@ -7,7 +7,7 @@ use Rattle.pram_meaning.specs.declared.key.Key.{Key}
 use Rattle.pram_values.specs.Place.{is_place_before}
 use Rattle.pram_values.specs.declared.place.Place.{Place}
 
-both_ways : (b : Bool) → (b ≡ true) ⊎ (b ≡ false)
+pub both_ways : (b : Bool) → (b ≡ true) ⊎ (b ≡ false)
 both_ways true = inl refl
 both_ways false = inr refl
 
@@ -19,7 +19,7 @@ place_not_by p q r a b (inl h) (inr k) = let e : p ≡ q = one_is_before p q a k
 place_not : (p q r : Place) → is_place_before p q ≡ false → is_place_before q r ≡ false → is_place_before p r ≡ false
 place_not p q r a b = place_not_by p q r a b (both_ways (is_place_before p r)) (both_ways (is_place_before q p))
 
-key_irreflexive : (k : Key) → is_key_before k k ≡ false
+pub key_irreflexive : (k : Key) → is_key_before k k ≡ false
 key_irreflexive k = let a = never_before_itself k.place in grind (arith, a)
 
 passed : (a b c : ℕ) (p q r : Bool) → (p ≡ true → q ≡ true → r ≡ true) → (nat_lt a b || (nat_eq a b && p)) ≡ true → (nat_lt b c || (nat_eq b c && q)) ≡ true → (nat_lt a c || (nat_eq a c && r)) ≡ true
@@ -42,7 +42,7 @@ not_passed a b c false true false i x y = grind arith
 not_passed a b c false false true i x y = absurd (cc (i refl refl))
 not_passed a b c false false false i x y = grind arith
 
-key_passed_on : (j k m : Key) → is_key_before j k ≡ true → is_key_before k m ≡ true → is_key_before j m ≡ true
+pub key_passed_on : (j k m : Key) → is_key_before j k ≡ true → is_key_before k m ≡ true → is_key_before j m ≡ true
 key_passed_on j k m a b =
     passed j.at k.at m.at (is_place_before j.place k.place) (is_place_before k.place m.place) (is_place_before j.place m.place) (before_is_passed_on j.place k.place m.place) a b
 

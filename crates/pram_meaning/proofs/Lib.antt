@@ -15,4 +15,10 @@ pub mod Loops
 pub mod ForLoops
 pub mod References
 pub mod LeastKey
+pub mod Marks
+pub mod Groups
+pub mod Gathers
+pub mod Written
 pub mod Overwrites
+pub mod Swaps
+pub mod Columns

@@ -1,41 +1,16 @@
 -- The reads along a trail, and the least of all keys.
-use Rattle.std.proofs.Common.{◌≡◌, ℕ, ℤ, ◌+◌, ◌<◌, ◌≤◌, List, [], ◌∷◌, ◌++◌, drop, length, get_or, append_assoc, append-nil, refl, ap, sym, ◌∙◌, Option, Some, None, true, false, Result, Ok, Err, if◌then◌else◌}
-use Rattle.std.proofs.lemmas.List.{drop_more, drop_all}
+use Rattle.std.proofs.Common.{◌≡◌, List, [], ◌++◌, refl, ap, sym, ◌∙◌, Option, None, true, false, Result, Ok, Err, if◌then◌else◌}
 use Rattle.std.proofs.lemmas.List.Sums.{fold-append}
 use Rattle.std.specs.List.{fold, flat_map}
 use Rattle.pram_meaning.specs.declared.part as part
 use Rattle.pram_meaning.specs.declared.attempt as rust
 use Rattle.pram_meaning.specs.Attempt.{Trail}
-use Rattle.pram_meaning.specs.Conflict.{Part, conflict_of, fault_of, keys, least, lesser, read_conflicts, reads_of, reads_on, trail_of, write_conflict}
+use Rattle.pram_meaning.specs.Conflict.{Part, conflict_of, fault_of, keys, least, lesser, read_conflicts, reads_of, trail_of, write_conflict}
 use Rattle.write_rules.specs.Rule.{shares_reads}
 use Rattle.pram_meaning.specs.Judging.{attempt_is, part_is}
 use Rattle.pram_meaning.specs.declared.key.Key.{Key}
-use Rattle.pram_meaning.specs.declared.read.Read.{Read}
 use Rattle.pram_syntax.specs.declared.rule.Rule.{Rule}
 use Rattle.pram_values.specs.declared.kind.Kind.{Kind}
-
-pub record InTrail (i : ℤ) (trail : Trail) (at : ℕ) (start now : List Read) : Type 0 where
-  pub same : start ++ reads_on i 0 trail ≡ now ++ reads_on i at (drop at trail)
-
-pub reads_start : (i : ℤ) (trail : Trail) (start : List Read) → InTrail i trail 0 start start
-reads_start i trail start = record { same = refl }
-
-pub reads_go : (i : ℤ) (trail : Trail) (at : ℕ) (x : Option ℕ) (c : ℕ) (start now new : List Read) → InTrail i trail at start now → at < length trail → x ≡ get_or trail at x → x ≡ Some c → new ≡ now ++ record { processor = i; at = at + 1; cell = c } ∷ [] → InTrail i trail (at + 1) start new
-reads_go i trail at x c start now new b h is some e = record {
-  same = b.same
-      ∙ ap (λ t. now ++ reads_on i at t) (drop_more trail at x h ∙ ap (λ y. y ∷ drop (at + 1) trail) (sym is ∙ some))
-      ∙ sym (append_assoc now (record { processor = i; at = at + 1; cell = c } ∷ []) (reads_on i (at + 1) (drop (at + 1) trail)))
-      ∙ ap (λ k. k ++ reads_on i (at + 1) (drop (at + 1) trail)) (sym e);
-}
-
-pub reads_skip : (i : ℤ) (trail : Trail) (at : ℕ) (x : Option ℕ) (start now : List Read) → InTrail i trail at start now → at < length trail → x ≡ get_or trail at x → x ≡ None → InTrail i trail (at + 1) start now
-reads_skip i trail at x start now b h is none = record {
-  same = b.same
-      ∙ ap (λ t. now ++ reads_on i at t) (drop_more trail at x h ∙ ap (λ y. y ∷ drop (at + 1) trail) (sym is ∙ none));
-}
-
-pub reads_end : (i : ℤ) (trail : Trail) (at : ℕ) (start now : List Read) → InTrail i trail at start now → length trail ≤ at → now ≡ start ++ reads_on i 0 trail
-reads_end i trail at start now b h = sym (b.same ∙ ap (λ t. now ++ reads_on i at t) (drop_all at trail h) ∙ append-nil now)
 
 trail_at : (t : Trail) (r : Result rust.Effect.Effect Kind) → trail_of (attempt_is t r) ≡ t
 trail_at t (Ok g) = refl

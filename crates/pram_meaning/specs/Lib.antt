@@ -8,4 +8,6 @@ pub mod Outcome
 pub mod Bounded
 pub mod Runs
 pub mod Judging
+pub mod Accesses
+pub mod Slates
 pub mod Sets

@@ -2,19 +2,19 @@
 
 ghost use Rattle.std.specs.Prelude.{◌≡◌, ◌++◌, map, IfOk, OnOk};
 ghost use Rattle.std.specs.List.{fold, flat_map, list_any};
-ghost use Rattle.pram_meaning.specs.Conflict.{lesser, is_key_before, fault_of, least, writes_by, writes_to, reads_on, reads_of, is_conflict, conflict_of, write_conflict, keys};
+ghost use Rattle.pram_meaning.specs.Conflict.{lesser, is_key_before, fault_of, least, reads_of, conflict_of, write_conflict, keys};
 ghost use Rattle.write_rules.specs.Rule.{shares_reads};
+ghost use Rattle.pram_meaning.specs.Accesses.{is_only_reader, judged, key_of, reads_at, shared_key};
 ghost use Rattle.pram_meaning.specs.Judging.{part_is};
 
+use crate::access::{Judged, collect_reads, last_position};
 use crate::key::Key;
 use crate::part::Part;
-use crate::read::Read;
-use crate::rule::value_after;
+use crate::slate::Slate;
 use pram_syntax::rule::Rule;
 use pram_values::kind::Kind;
 use pram_values::place::Place;
 use std::alloc::{AllocError, Global};
-use write_rules::write::Write;
 
 fn is_before(a: Key, b: Key) -> bool
     ensures { result ≡ is_key_before a b }
@@ -66,165 +66,105 @@ fn add_faults(best: Option<Key>, parts: &Vec<Part>) -> Option<Key>
     best
 }
 
-/// A cell as a place in memory.
-pub fn index_of(cell: u32) -> usize
-    ensures { result ≡ cell }
+// Whether no other processor reads the cell of a read.
+fn is_alone(said: &Judged) -> bool
+    ensures { result ≡ is_only_reader said.now.access.write.processor said.now.verdict }
 {
-    cell as usize
-}
-
-// The writes of one attempt to a cell, put behind the others.
-fn add_writes_by(writes: &mut Vec<Write>, cell: usize, x: &Part) -> Result<(), AllocError>
-    ensures { OnOk result (writes.new.items ≡ writes.old.items ++ writes_by cell (part_is x.now).processor (part_is x.now).attempt) }
-{
-    if let Ok(effect) = x.outcome {
-        if let Some(c) = effect.cell {
-            if cell == index_of(c) {
-                writes.push(Write {
-                    processor: x.processor,
-                    value: effect.value,
-                })?;
-            }
-        }
+    match said.verdict {
+        Ok(reader) => reader == said.access.write.processor,
+        Err(_) => false,
     }
-    Ok(())
 }
 
-/// The writes to a cell.
-#[tactic(auto, using(crate::proofs::Folds::build_starts, crate::proofs::Folds::build_goes, crate::proofs::Folds::build_ends))]
-pub fn collect_writes(
+// What is said against a read.
+fn add_conflict(best: Option<Key>, said: &Judged) -> Option<Key>
+    ensures { result ≡ fold lesser best (shared_key said.now) }
+{
+    if is_alone(said) {
+        return best;
+    }
+    lesser_of(
+        best,
+        Key {
+            at: said.access.at,
+            place: Place::Cell(said.access.cell),
+            kind: Kind::ReadConflict,
+        },
+    )
+}
+
+// The least key of the read conflicts at the position after `at`. A cell's readers have their
+// index in common just where there is one of them.
+#[tactic(auto, using(crate::proofs::Folds::each_goes, crate::proofs::Folds::each_starts, crate::proofs::Folds::each_ends))]
+fn add_conflicts_at(
     alloc: Global,
-    parts: &Vec<Part>,
-    cell: usize,
-) -> Result<Vec<Write>, AllocError>
-    ensures { IfOk result (λ writes. writes.items ≡ writes_to cell (map part_is parts.now.items)) }
-{
-    let mut writes = Vec::new(alloc);
-    for x in parts {
-        add_writes_by(&mut writes, cell, x)?;
-    }
-    Ok(writes)
-}
-
-fn conflicts(r: &Read, q: &Read) -> bool
-    ensures { result ≡ is_conflict r.now q.now }
-{
-    r.processor != q.processor && r.at == q.at && r.cell == q.cell
-}
-
-#[tactic(auto, using(crate::proofs::Folds::any_starts, crate::proofs::Folds::any_found, crate::proofs::Folds::any_goes, crate::proofs::Folds::any_ends))]
-fn has_conflict(r: &Read, reads: &Vec<Read>) -> bool
-    ensures { result ≡ list_any (is_conflict r.now) reads.now.items }
-{
-    for q in reads {
-        if conflicts(r, q) {
-            return true;
-        }
-    }
-    false
-}
-
-fn add_conflict(best: Option<Key>, r: &Read, reads: &Vec<Read>) -> Option<Key>
-    ensures { result ≡ fold lesser best (conflict_of reads.now.items r.now) }
-{
-    if has_conflict(r, reads) {
-        lesser_of(
-            best,
-            Key {
-                at: r.at,
-                place: Place::Cell(r.cell),
-                kind: Kind::ReadConflict,
-            },
-        )
-    } else {
-        best
-    }
-}
-
-#[tactic(auto, using(crate::proofs::Folds::each_goes, crate::proofs::Folds::each_ends, crate::proofs::Folds::each_starts))]
-fn add_conflicts(best: Option<Key>, reads: &Vec<Read>) -> Option<Key>
-    ensures { result ≡ fold lesser best (flat_map (conflict_of reads.now.items) reads.now.items) }
-{
-    let mut best = best;
-    for r in reads {
-        best = add_conflict(best, r, reads);
-    }
-    best
-}
-
-fn add_write(
-    alloc: Global,
-    rule: Rule,
+    slate: &mut Slate,
     best: Option<Key>,
     parts: &Vec<Part>,
-    x: &Part,
+    at: usize,
 ) -> Result<Option<Key>, AllocError>
-    ensures { IfOk result (λ b. b ≡ fold lesser best (write_conflict rule (map part_is parts.now.items) (part_is x.now).attempt)) }
+    ensures { IfOk result (λ b. b ≡ fold lesser best (flat_map shared_key (judged Rule.Common (reads_at at (map part_is parts.now.items))))) }
 {
-    match x.outcome {
-        Err(_) => Ok(best),
-        Ok(effect) => match effect.cell {
-            None => Ok(best),
-            Some(cell) => {
-                let writes = collect_writes(alloc, parts, index_of(cell))?;
-                match value_after(rule, 0, &writes) {
-                    Ok(_) => Ok(best),
-                    Err(kind) => Ok(lesser_of(
-                        best,
-                        Key {
-                            at: x.trail.len(),
-                            place: Place::Cell(cell),
-                            kind,
-                        },
-                    )),
-                }
-            }
-        },
+    let reads = collect_reads(alloc, parts, at)?;
+    let said = slate.judge(alloc, Rule::Common, &reads)?;
+    let mut best = best;
+    for one in &said {
+        best = add_conflict(best, one);
+    }
+    Ok(best)
+}
+
+// The least key of the read conflicts, position by position.
+#[tactic(auto, using(crate::proofs::Columns::columns_start, crate::proofs::Columns::columns_go, crate::proofs::Columns::columns_end))]
+fn add_conflicts(
+    alloc: Global,
+    slate: &mut Slate,
+    best: Option<Key>,
+    parts: &Vec<Part>,
+) -> Result<Option<Key>, AllocError>
+    ensures { IfOk result (λ b. b ≡ fold lesser best (flat_map (conflict_of (reads_of (map part_is parts.now.items))) (reads_of (map part_is parts.now.items)))) }
+{
+    let mut best = best;
+    for at in 0..last_position(parts) {
+        best = add_conflicts_at(alloc, slate, best, parts, at)?;
+    }
+    Ok(best)
+}
+
+// What the rule says against a write.
+fn add_verdict(best: Option<Key>, said: &Judged) -> Option<Key>
+    ensures { result ≡ fold lesser best (key_of said.now) }
+{
+    match said.verdict {
+        Ok(_) => best,
+        Err(kind) => lesser_of(
+            best,
+            Key {
+                at: said.access.at,
+                place: Place::Cell(said.access.cell),
+                kind,
+            },
+        ),
     }
 }
 
-#[tactic(auto, using(crate::proofs::Folds::fold_goes, crate::proofs::Folds::fold_ends, crate::proofs::Folds::fold_starts))]
+// The least key of what the rule says against the writes.
+#[tactic(auto, using(crate::proofs::Folds::each_goes, crate::proofs::Folds::each_starts, crate::proofs::Written::verdicts_end))]
 fn add_writes(
     alloc: Global,
+    slate: &mut Slate,
     rule: Rule,
     best: Option<Key>,
     parts: &Vec<Part>,
 ) -> Result<Option<Key>, AllocError>
     ensures { IfOk result (λ b. b ≡ fold lesser best (flat_map (λ x. write_conflict rule (map part_is parts.now.items) x.attempt) (map part_is parts.now.items))) }
 {
+    let said = slate.judge_writes(alloc, rule, parts)?;
     let mut best = best;
-    for x in parts {
-        best = add_write(alloc, rule, best, parts, x)?;
+    for one in &said {
+        best = add_verdict(best, one);
     }
     Ok(best)
-}
-
-// The reads of one attempt, put behind the others.
-#[tactic(auto, using(crate::proofs::Trails::reads_start, crate::proofs::Trails::reads_go, crate::proofs::Trails::reads_skip, crate::proofs::Trails::reads_end))]
-fn add_reads(reads: &mut Vec<Read>, x: &Part) -> Result<(), AllocError>
-    ensures { OnOk result (reads.new.items ≡ reads.old.items ++ reads_on x.now.processor 0 x.now.trail.items) }
-{
-    for at in 0..x.trail.len() {
-        if let Some(cell) = x.trail[at] {
-            reads.push(Read {
-                processor: x.processor,
-                at: at + 1,
-                cell,
-            })?;
-        }
-    }
-    Ok(())
-}
-
-#[tactic(auto, using(crate::proofs::Folds::build_starts, crate::proofs::Folds::build_goes, crate::proofs::Folds::build_ends, crate::proofs::Trails::trail_is))]
-fn collect_reads(alloc: Global, parts: &Vec<Part>) -> Result<Vec<Read>, AllocError>
-    ensures { IfOk result (λ reads. reads.items ≡ reads_of (map part_is parts.now.items)) }
-{
-    let mut reads = Vec::new(alloc);
-    for x in parts {
-        add_reads(&mut reads, x)?;
-    }
-    Ok(reads)
 }
 
 fn shares(rule: Rule) -> bool
@@ -235,13 +175,17 @@ fn shares(rule: Rule) -> bool
 
 /// The least fault of a statement, if it has one.
 #[tactic(auto, using(crate::proofs::Trails::keys_are, crate::proofs::Trails::keys_are_shared))]
-pub fn least_key(alloc: Global, rule: Rule, parts: &Vec<Part>) -> Result<Option<Key>, AllocError>
+pub fn least_key(
+    alloc: Global,
+    slate: &mut Slate,
+    rule: Rule,
+    parts: &Vec<Part>,
+) -> Result<Option<Key>, AllocError>
     ensures { IfOk result (λ b. b ≡ least (keys rule (map part_is parts.now.items))) }
 {
     let mut best = add_faults(None, parts);
     if !shares(rule) {
-        let reads = collect_reads(alloc, parts)?;
-        best = add_conflicts(best, &reads);
+        best = add_conflicts(alloc, slate, best, parts)?;
     }
-    add_writes(alloc, rule, best, parts)
+    add_writes(alloc, slate, rule, best, parts)
 }

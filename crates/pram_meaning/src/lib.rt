@@ -1,6 +1,7 @@
 //! The meaning of a checked program, and its reference interpreter.
 #![tactic(auto)]
 
+pub mod access;
 pub mod alone;
 pub mod attempt;
 pub mod conflict;
@@ -14,6 +15,7 @@ pub mod read;
 pub mod reference;
 pub mod rule;
 pub mod run;
+pub mod slate;
 pub mod team;
 pub mod together;
 pub mod view;

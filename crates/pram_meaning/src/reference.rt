@@ -7,6 +7,7 @@ ghost use Rattle.pram_meaning.specs.Outcome.{IsOutcome};
 
 use crate::outside::run_body;
 use crate::run::{Halt, Run, add_zeros, zeros};
+use crate::slate::Slate;
 use pram_check::program::Program;
 use std::alloc::{AllocError, Global};
 use write_rules::outcome::Outcome;
@@ -31,11 +32,13 @@ fn open(alloc: Global, program: &Program, input: &[i64]) -> Result<Run, AllocErr
     let uniforms = zeros(alloc, program.uniforms())?;
     let mut cells = Vec::from_slice(alloc, input)?;
     add_zeros(&mut cells, program.layout().cells() - input.len() as u32)?;
+    let slate = Slate::new(alloc, program.layout().cells())?;
     Ok(Run {
         count: 0,
         output: Vec::new(alloc),
         uniforms,
         cells,
+        slate,
     })
 }
 

@@ -2,16 +2,19 @@
 
 ghost use Rattle.std.specs.Prelude.{◌≡◌, ◌++◌, IfOk, OnOk, pos, slice_set, replicate};
 
+use crate::slate::Slate;
 use std::alloc::{AllocError, Global};
 use write_rules::fault::Fault;
 
-/// A run between two statements: how many have run, the output, the uniform variables and the cells.
+/// A run between two statements: how many have run, the output, the uniform variables and the cells;
+/// and the slate of its statements.
 #[derive(Drop)]
 pub struct Run {
     pub count: u32,
     pub output: Vec<i64>,
     pub uniforms: Vec<i64>,
     pub cells: Vec<i64>,
+    pub slate: Slate,
 }
 
 /// Why a run goes no further.

@@ -6,14 +6,15 @@ ghost use Rattle.pram_meaning.specs.Together.{part_of, parts, overwritten, those
 ghost use Rattle.pram_meaning.specs.Bounded.{counted, attempted_on, tested_on};
 ghost use Rattle.pram_meaning.specs.Bounded as spec;
 ghost use Rattle.pram_meaning.specs.Runs.{IsBehaviour};
-ghost use Rattle.pram_meaning.specs.Judging.{part_is, with_write_of};
+ghost use Rattle.pram_meaning.specs.Judging.{part_is, with_value};
 ghost use Rattle.pram_meaning.specs.Sets.{state_in, IsParts};
 
+use crate::access::Judged;
 use crate::attempt::{Failure, step_assignment};
-use crate::conflict::{collect_writes, index_of, least_key};
+use crate::conflict::least_key;
 use crate::part::Part;
-use crate::rule::value_after;
 use crate::run::{Halt, Run, set_number};
+use crate::slate::Slate;
 use crate::team::{Member, set_locals, value_in};
 use crate::view::View;
 use pram_check::body::{Expression, StepTarget};
@@ -118,7 +119,7 @@ fn attempt_on(
     let Some(all) = parts_in(alloc, program, run, team, active, target, e) else {
         return Err(Halt::NoMemory);
     };
-    match least_key(alloc, program.rule(), &all) {
+    match least_key(alloc, &mut run.slate, program.rule(), &all) {
         Err(_) => Err(Halt::NoMemory),
         Ok(Some(key)) => Err(Halt::Fault(Fault {
             kind: key.kind,
@@ -150,39 +151,29 @@ pub fn select(alloc: Global, wanted: bool, parts: &Vec<Part>) -> Result<Vec<u32>
     Ok(chosen)
 }
 
-// The cell that a part writes gets what all its writers leave.
-fn write_back(
-    alloc: Global,
-    rule: Rule,
-    cells: &mut Vec<i64>,
-    parts: &Vec<Part>,
-    x: &Part,
-) -> Result<(), AllocError>
-    ensures { OnOk result (cells.new.items ≡ with_write_of rule (map part_is parts.now.items) (part_is x.now).attempt cells.old.items) }
+// A cell gets what its writers leave.
+fn write_back(cells: &mut Vec<i64>, said: &Judged)
+    ensures { cells.new.items ≡ with_value said.now.access.cell said.now.verdict cells.old.items }
 {
-    if let Ok(effect) = x.outcome {
-        if let Some(cell) = effect.cell {
-            let writes = collect_writes(alloc, parts, index_of(cell))?;
-            if let Ok(value) = value_after(rule, 0, &writes) {
-                set_number(cells, cell as usize, value);
-            }
-        }
+    if let Ok(value) = said.verdict {
+        set_number(cells, said.access.cell as usize, value);
     }
-    Ok(())
 }
 
 // The cells get what their writers leave.
 #[tactic(auto, using(crate::proofs::Overwrites::over_starts, crate::proofs::Overwrites::over_goes, crate::proofs::Overwrites::over_ends))]
 fn overwrite(
     alloc: Global,
+    slate: &mut Slate,
     rule: Rule,
     cells: &mut Vec<i64>,
     parts: &Vec<Part>,
 ) -> Result<(), AllocError>
     ensures { OnOk result (cells.new.items ≡ overwritten rule (map part_is parts.now.items) 0 cells.old.items) }
 {
-    for x in parts {
-        write_back(alloc, rule, cells, parts, x)?;
+    let said = slate.judge_writes(alloc, rule, parts)?;
+    for one in &said {
+        write_back(cells, one);
     }
     Ok(())
 }
@@ -207,7 +198,7 @@ pub fn assign_on(
     match target {
         StepTarget::Local(x) => set_locals(team, *x, &all),
         StepTarget::Cell(_) | StepTarget::Element(_, _) => {
-            if overwrite(alloc, program.rule(), &mut run.cells, &all).is_err() {
+            if overwrite(alloc, &mut run.slate, program.rule(), &mut run.cells, &all).is_err() {
                 return Err(Halt::NoMemory);
             }
         }

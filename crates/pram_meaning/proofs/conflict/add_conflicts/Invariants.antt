@@ -1,6 +1,7 @@
-use Rattle.pram_meaning.specs.Conflict.{conflict_of}
-use Rattle.pram_meaning.proofs.Folds.{InEach}
+use Rattle.std.proofs.Common.{map}
+use Rattle.pram_meaning.specs.Judging.{part_is}
+use Rattle.pram_meaning.proofs.Columns.{InColumns}
 use Rattle.pram_meaning.proofs.conflict.add_conflicts.Given as goal
 
-abbrev pub invariant-loop-r : goal.invariant-loop-r
-invariant-loop-r l = InEach (conflict_of l.reads.items) l.reads.items l.r-index l.fn.best l.best
+abbrev pub invariant-loop-at : goal.invariant-loop-at
+invariant-loop-at l = InColumns (map part_is l.parts.items) l.at-end l.at l.fn.best l.best
