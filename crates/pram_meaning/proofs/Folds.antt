@@ -1,8 +1,8 @@
 -- A fold of the least key over a list, on its way.
-use Rattle.std.proofs.Common.{◌≡◌, ℕ, ◌+◌, ◌<◌, ◌≤◌, List, [], ◌∷◌, ◌++◌, map, drop, length, get_or, append_assoc, append-nil, Bool, true, false, ◌||◌, refl, ap, sym, ◌∙◌, Option}
+use Rattle.std.proofs.Common.{◌≡◌, ℕ, ◌+◌, ◌<◌, ◌≤◌, List, [], ◌∷◌, ◌++◌, map, drop, length, get_or, append_assoc, append-nil, refl, ap, sym, ◌∙◌, Option}
 use Rattle.std.proofs.lemmas.List.{drop_more, drop_all}
 use Rattle.std.proofs.lemmas.List.Sums.{fold-append}
-use Rattle.std.specs.List.{fold, flat_map, list_any}
+use Rattle.std.specs.List.{fold, flat_map}
 use Rattle.pram_meaning.specs.Conflict.{lesser}
 use Rattle.pram_meaning.specs.declared.key.Key.{Key}
 
@@ -60,23 +60,3 @@ each_goes F items i x start now new b h is e = record {
 
 pub each_ends : {X : Type 0} (F : X → List Key) (items : List X) (i : ℕ) (start now : Option Key) → InEach F items i start now → length items ≤ i → now ≡ fold lesser start (flat_map F items)
 each_ends F items i start now b h = sym (b.same ∙ ap (λ xs. fold lesser now (flat_map F xs)) (drop_all i items h))
-
--- ---- a search for one item
-
-pub record InAny {X : Type 0} (p : X → Bool) (items : List X) (i : ℕ) : Type 0 where
-  pub same : list_any p items ≡ list_any p (drop i items)
-
-pub any_starts : {X : Type 0} (p : X → Bool) (items : List X) → InAny p items 0
-any_starts p items = record { same = refl }
-
-next_any : {X : Type 0} (p : X → Bool) (items : List X) (i : ℕ) (x : X) → InAny p items i → i < length items → x ≡ get_or items i x → list_any p items ≡ (p x || list_any p (drop (i + 1) items))
-next_any p items i x b h is = b.same ∙ ap (list_any p) (drop_more items i x h ∙ ap (λ y. y ∷ drop (i + 1) items) (sym is))
-
-pub any_found : {X : Type 0} (p : X → Bool) (items : List X) (i : ℕ) (x : X) → InAny p items i → i < length items → x ≡ get_or items i x → p x ≡ true → true ≡ list_any p items
-any_found p items i x b h is e = sym (next_any p items i x b h is ∙ ap (λ c. c || list_any p (drop (i + 1) items)) e)
-
-pub any_goes : {X : Type 0} (p : X → Bool) (items : List X) (i : ℕ) (x : X) → InAny p items i → i < length items → x ≡ get_or items i x → p x ≡ false → InAny p items (i + 1)
-any_goes p items i x b h is e = record { same = next_any p items i x b h is ∙ ap (λ c. c || list_any p (drop (i + 1) items)) e }
-
-pub any_ends : {X : Type 0} (p : X → Bool) (items : List X) (i : ℕ) → InAny p items i → length items ≤ i → false ≡ list_any p items
-any_ends p items i b h = sym (b.same ∙ ap (list_any p) (drop_all i items h))

@@ -1,0 +1,29 @@
+# What the benches share. Each builds its main.txt as a program over copies of the crates in a temporary folder, so that the
+# gate need not. The copies take along what earlier checks kept; where there is nothing of theirs, the crates are proved first.
+top=$(cd "$(dirname "${BASH_SOURCE[0]}")/.." && pwd)
+work=$(mktemp -d)
+trap 'rm -rf "$work"' EXIT
+
+# prepare FOLDER CRATE..: lays out the program of that bench, which stands on these crates.
+prepare() {
+    here=$top/bench/$1
+    program=$work/crates/bench_$1
+    mkdir -p "$program/src"
+    cp "$top/HANDLES" "$work/"
+    cp "$here/main.txt" "$program/src/main.rt"
+    for crate in "${@:2}"; do
+        cp -r "$top/crates/$crate" "$work/crates/"
+        grep "^$crate[: ]" "$top/crates.txt"
+    done > "$work/crates.txt"
+    echo "bench_$1: ${*:2} anyhow" >> "$work/crates.txt"
+}
+
+# figures: proves and runs the program, and prints its figures, or why there are none.
+figures() {
+    cd "$program"
+    if ! rt run --jobs 1 > "$work/figures" 2> "$work/log"; then
+        tail -n 40 "$work/figures" "$work/log"
+        exit 1
+    fi
+    cat "$work/figures"
+}
