@@ -1,3 +1,4 @@
 pub mod Checked
 pub mod PlaceOrder
 pub mod Divisions
+pub mod Totals

@@ -5,4 +5,5 @@ pub mod arithmetic;
 pub mod division;
 pub mod kind;
 pub mod place;
+pub mod total;
 pub mod truth;

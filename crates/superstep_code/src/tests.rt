@@ -1,0 +1,206 @@
+//! Listings, each with its code or the offset of its first wrong line, as worked out by hand.
+
+use crate::error::ListingFault;
+use crate::instr::{Instr, Side};
+use crate::listing_read::read_listing;
+use crate::listing_write::write_listing;
+use pram_syntax::buffer::Buffer;
+use pram_syntax::rule::Rule;
+use std::alloc::Global;
+
+const WORKED: &[u8] =
+    b"bsp 1\nrule crew\nprocs 4\narray a 1 2\narray b 1 4\nuniform 2\nprivate 2\ncode 13\n0 mark 7\n1 uset 0 1\n2 uset 1 4\n3 enter 0 1 1\n4 mark 8\n5 pset 0 1\n6 pask 1 0 0 1\n7 send\n8 reply\n9 pindex 0\n10 pput 1 0 1 2\n11 leave\n12 halt\n";
+
+// One instruction of each word.
+const WORDS: &[u8] =
+    b"bsp 1\nrule sum\nprocs 16384\ncell s\nuniform 65536\nprivate 65536\ncode 46\n0 mark 4294967295\n1 uset 65535 -9223372036854775808\n2 pset 0 9223372036854775807\n3 ucopy 1 2\n4 pcopy 3 4\n5 uneg 1 2 3\n6 pneg 4 5 6\n7 uadd 1 2 3 4\n8 usub 1 2 3 4\n9 umul 1 2 3 4\n10 udiv 1 2 3 4\n11 umod 1 2 3 4\n12 padd 1 2 3 4\n13 psub 1 2 3 4\n14 pmul 1 2 3 4\n15 pdiv 1 2 3 4\n16 pmod 1 2 3 4\n17 ueq 1 2 3\n18 ult 1 2 3\n19 uand 1 2 3\n20 uor 1 2 3\n21 peq 1 2 3\n22 plt 1 2 3\n23 pand 1 2 3\n24 por 1 2 3\n25 unot 1 2\n26 pnot 1 2\n27 pfrom 1 2\n28 pindex 1\n29 enter 1 2 3\n30 leave\n31 mask 1\n32 flip\n33 unmask\n34 uask 1 2 3 4\n35 pask 1 2 3 4\n36 uput 1 2 3 4\n37 pput 1 2 3 4\n38 send\n39 reply\n40 vote 1\n41 print 1\n42 jump 65535\n43 jzero 1 2\n44 uset 0 0\n45 halt\n";
+
+fn fault(alloc: Global, text: &[u8]) -> Option<ListingFault> {
+    match read_listing(alloc, text) {
+        Ok(_) => None,
+        Err(fault) => Some(fault),
+    }
+}
+
+#[test]
+fn the_worked_listing_is_read(rt: HostRuntime) {
+    let alloc = rt.alloc();
+    let code = read_listing(alloc, WORKED).ok().expect(&rt, "a listing");
+    assert_eq!(rt; code.rule(), Rule::Crew);
+    assert_eq!(rt; code.procs(), 4);
+    assert_eq!(rt; code.layout().cells(), 6);
+    assert_eq!(rt; code.uniform_registers(), 2);
+    assert_eq!(rt; code.private_registers(), 2);
+    let instrs = code.instructions();
+    assert_eq!(rt; instrs.len(), 13);
+    let ask = Instr::Ask {
+        side: Side::Private,
+        destination: 1,
+        entry: 0,
+        subscript: 0,
+        position: 1,
+    };
+    let put = Instr::Put {
+        side: Side::Private,
+        entry: 1,
+        subscript: 0,
+        value: 1,
+        position: 2,
+    };
+    for (place, instr) in [
+        (0, Instr::Mark { line: 7 }),
+        (6, ask),
+        (10, put),
+        (12, Instr::Halt),
+    ] {
+        assert_eq!(rt; instrs.get(place).copied(), Some(instr));
+    }
+}
+
+#[test]
+fn listings_are_written_back(rt: HostRuntime) {
+    let alloc = rt.alloc();
+    for text in [WORKED, WORDS] {
+        let code = read_listing(alloc, text).ok().expect(&rt, "a listing");
+        let mut out = Buffer::new(alloc);
+        assert!(rt; write_listing(&code, &mut out).is_ok());
+        assert_eq!(rt; out.bytes(), text);
+    }
+}
+
+#[test]
+fn each_front_of_a_listing_is_refused(rt: HostRuntime) {
+    let alloc = rt.alloc();
+    let mut line = 0;
+    for (end, byte) in WORKED.iter().enumerate() {
+        let front = &WORKED[..end];
+        assert_eq!(rt; fault(alloc, front), Some(ListingFault::BadListing(line)));
+        if *byte == b'\n' {
+            line = end as u32 + 1;
+        }
+    }
+    assert_eq!(rt; line, 215);
+    assert_eq!(rt;
+        fault(alloc, &WORKED[..24]),
+        Some(ListingFault::BadListing(24))
+    );
+    // Without its last LF.
+    assert_eq!(rt;
+        fault(alloc, &WORKED[..214]),
+        Some(ListingFault::BadListing(207))
+    );
+    assert_eq!(rt; &WORKED[207..214], b"12 halt".as_slice());
+}
+
+#[test]
+fn changes_of_one_byte_are_counted(rt: HostRuntime) {
+    let alloc = rt.alloc();
+    let mut changed = Vec::from_slice(alloc, WORKED).ok().expect(&rt, "memory");
+    let mut read: u32 = 0;
+    let mut refused: u32 = 0;
+    for (i, old) in WORKED.iter().enumerate() {
+        for byte in 0..=255u8 {
+            if byte != *old {
+                changed[i] = byte;
+                match fault(alloc, &changed) {
+                    None => read = read.saturating_add(1),
+                    Some(ListingFault::BadListing(_)) => refused = refused.saturating_add(1),
+                    Some(_) => {}
+                }
+            }
+        }
+        changed[i] = *old;
+    }
+    assert_eq!(rt; (refused, read), (54_489, 336));
+}
+
+#[test]
+fn wrong_lines_are_told_with_their_offset(rt: HostRuntime) {
+    let alloc = rt.alloc();
+    let rows: [(&[u8], u32); 34] = [
+        (b"", 0),
+        (b"bsp 1", 0),
+        (b"bsp 01\n", 0),
+        (b"bsp 1 \n", 0),
+        (b"bsp 1\n", 6),
+        (b"bsp 1\nrule Sum\n", 6),
+        (b"bsp 1\nrule sum\nprocs 0\n", 15),
+        (b"bsp 1\nrule sum\nprocs 16385\n", 15),
+        (b"bsp 1\nrule sum\nprocs +1\n", 15),
+        (b"bsp 1\nrule sum\nprocs 01\n", 15),
+        (b"bsp 1\nrule sum\nprocs 1\ncell s\ncell s\n", 30),
+        (b"bsp 1\nrule sum\nprocs 1\ncell s\narray s 0 0\n", 30),
+        (b"bsp 1\nrule sum\nprocs 1\ncell end\n", 23),
+        (b"bsp 1\nrule sum\nprocs 1\ncell rule\n", 23),
+        (b"bsp 1\nrule sum\nprocs 1\ncell 1s\n", 23),
+        (b"bsp 1\nrule sum\nprocs 1\ncell _s\n", 23),
+        (b"bsp 1\nrule sum\nprocs 1\ncell s 1\n", 23),
+        (b"bsp 1\nrule sum\nprocs 1\narray a 2 1\n", 23),
+        (b"bsp 1\nrule sum\nprocs 1\narray a -1 2\n", 23),
+        (b"bsp 1\nrule sum\nprocs 1\narray a -0 2\n", 23),
+        (b"bsp 1\nrule sum\nprocs 1\narray a 0 1048576\n", 23),
+        (b"bsp 1\nrule sum\nprocs 1\narray a 1 1048576\ncell s\n", 41),
+        (
+            b"bsp 1\nrule sum\nprocs 1\narray a 0 9223372036854775808\n",
+            23,
+        ),
+        (b"bsp 1\nrule sum\nprocs 1\nuniform 65537\n", 23),
+        (b"bsp 1\nrule sum\nprocs 1\nuniform 0\ncell s\n", 33),
+        (
+            b"bsp 1\nrule sum\nprocs 1\nuniform 0\nprivate 0\ncode 65537\n",
+            43,
+        ),
+        (
+            b"bsp 1\nrule sum\nprocs 1\nuniform 0\nprivate 0\ncode 0\n\n",
+            50,
+        ),
+        (
+            b"bsp 1\nrule sum\nprocs 1\nuniform 0\nprivate 0\ncode 1\n1 halt\n",
+            50,
+        ),
+        (
+            b"bsp 1\nrule sum\nprocs 1\nuniform 0\nprivate 0\ncode 1\n0 halt 1\n",
+            50,
+        ),
+        (
+            b"bsp 1\nrule sum\nprocs 1\nuniform 0\nprivate 0\ncode 1\n0 uset 0 -0\n",
+            50,
+        ),
+        (
+            b"bsp 1\nrule sum\nprocs 1\nuniform 0\nprivate 0\ncode 1\n0 uset 65536 0\n",
+            50,
+        ),
+        (
+            b"bsp 1\nrule sum\nprocs 1\nuniform 0\nprivate 0\ncode 1\n0 mark 4294967296\n",
+            50,
+        ),
+        (
+            b"bsp 1\nrule sum\nprocs 1\nuniform 0\nprivate 0\ncode 1\n0 uset 0 9223372036854775808\n",
+            50,
+        ),
+        (
+            b"bsp 1\nrule sum\nprocs 1\nuniform 0\nprivate 0\ncode 1\n0 halt\r\n",
+            50,
+        ),
+    ];
+    for (text, at) in rows {
+        assert_eq!(rt; fault(alloc, text), Some(ListingFault::BadListing(at)));
+    }
+    let rows: [&[u8]; 3] = [
+        b"bsp 1\nrule sum\nprocs 1\nuniform 0\nprivate 0\ncode 0\n",
+        b"bsp 1\nrule priority\nprocs 1\narray a 1 1048576\nuniform 0\nprivate 0\ncode 0\n",
+        b"bsp 1\nrule erew\nprocs 1\narray a 9223372036854775807 9223372036854775807\ncell sum\nuniform 0\nprivate 0\ncode 0\n",
+    ];
+    for text in rows {
+        assert_eq!(rt; fault(alloc, text), None);
+    }
+}
+
+#[test]
+fn long_texts_are_refused(rt: HostRuntime) {
+    let alloc = rt.alloc();
+    let text = vec![in alloc; b' '; 8_388_609].ok().expect(&rt, "memory");
+    assert_eq!(rt; fault(alloc, &text), Some(ListingFault::TextTooLong));
+    let text = vec![in alloc; b' '; 8_388_608].ok().expect(&rt, "memory");
+    assert_eq!(rt; fault(alloc, &text), Some(ListingFault::BadListing(0)));
+}
