@@ -5,7 +5,7 @@ ghost use Rattle.pram_syntax.specs.declared.rule.Rule.TheVariants.{Erew};
 ghost use Rattle.pram_values.specs.declared.kind.Kind.TheVariants.{DivideByZero, OutOfRange, TooWide, ReadConflict, WriteConflict};
 ghost use Rattle.pram_values.specs.declared.place.Place.TheVariants.{All, Processor, Cell};
 ghost use Rattle.write_rules.specs.Verdict.{Ended, Faulted, GoesOn};
-ghost use Rattle.superstep_code.specs.Run.{IsBspOutcome, Sends, Replies, Votes, Closes};
+ghost use Rattle.superstep_code.specs.Run.{IsBspOutcome, Sends, Replies, Closes};
 ghost use Rattle.superstep_code.specs.Trace.{AreBspExchanges};
 ghost use Rattle.superstep_code.specs.Examples.{broadcast, too_wide, refused_run, in_turn};
 ghost use Rattle.superstep_code.specs.FaultExamples.{late_conflict, two_levels, zero_at_once, out_of_range, late_output};
