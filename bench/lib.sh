@@ -4,7 +4,7 @@ top=$(cd "$(dirname "${BASH_SOURCE[0]}")/.." && pwd)
 work=$(mktemp -d)
 trap 'rm -rf "$work"' EXIT
 
-# prepare FOLDER CRATE..: lays out the program of that bench, which stands on these crates.
+# prepare FOLDER CRATE..: lays out the program of that bench, which stands on these crates, and on `libraries` if that is set.
 prepare() {
     here=$top/bench/$1
     program=$work/crates/bench_$1
@@ -15,7 +15,7 @@ prepare() {
         cp -r "$top/crates/$crate" "$work/crates/"
         grep "^$crate[: ]" "$top/crates.txt"
     done > "$work/crates.txt"
-    echo "bench_$1: ${*:2} anyhow" >> "$work/crates.txt"
+    echo "bench_$1: ${*:2} ${libraries:-} anyhow" >> "$work/crates.txt"
 }
 
 # figures: proves and runs the program, and prints its figures, or why there are none.
