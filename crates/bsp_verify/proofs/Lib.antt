@@ -1,0 +1,5 @@
+pub mod Pass
+pub mod Ways
+pub mod PathLemmas
+pub mod RunLemmas
+pub mod ArrivalLemmas

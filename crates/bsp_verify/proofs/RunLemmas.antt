@@ -1,0 +1,278 @@
+-- A run goes along a path of control, and the state that the path gives describes what its workers hold and await.
+use Rattle.std.proofs.Common.{◌≡◌, ℕ, zero, suc, ◌+◌, List, [], ◌∷◌, length, Bool, true, false, not, eqb, Option, Some, None, ℤ, refl, sym, ap, ◌∙◌, subst, arith, ⊎_elim, ◌⊎◌, inl, inr}
+use Rattle.std.specs.Prelude.{if◌then◌else◌, ◌&&◌, nat_lt, slice_get}
+use Rattle.std.specs.List.{list_any}
+use Rattle.std.proofs.lemmas.Bool.Decides.{nat_tests}
+use Rattle.std.proofs.lemmas.List.{length-append}
+use Rattle.superstep_code.specs.declared.instr.Side.TheVariants.{Uniform, Private}
+use Rattle.superstep_code.specs.declared.instr.Instr.{Instr}
+use Rattle.superstep_code.specs.declared.instr.Instr.TheVariants.{Mark, Ask, Put, Send, Reply, Vote, Jump, JumpIfZero, Halt}
+use Rattle.superstep_code.specs.declared.key.Key.{Key}
+use Rattle.superstep_code.specs.Setting.{Setting, workers}
+use Rattle.superstep_code.specs.Parts.{UniformPart, Moment}
+use Rattle.superstep_code.specs.Steps.{on_uniform}
+use Rattle.superstep_code.specs.Words.{Message}
+use Rattle.superstep_code.specs.Worker.{Worker, after_instr}
+use Rattle.superstep_code.specs.Sending.{uniform_sent}
+use Rattle.superstep_code.specs.Stretch.{Stop, ToSend, ToReply, ToVote, ToClose, Arrival, Nowhere, At, advance, until}
+use Rattle.superstep_code.specs.Machine.{phases, phase, column}
+use Rattle.superstep_code.specs.Run as machine
+use Rattle.bsp_verify.specs.declared.state.State.{State}
+use Rattle.bsp_verify.specs.States.{opening, after}
+use Rattle.bsp_verify.specs.Control.{Leads}
+use Rattle.bsp_verify.specs.Judging.{fits_exchange}
+use Rattle.bsp_verify.specs.WellFormed.{IsWellFormed}
+use Rattle.bsp_verify.specs.Paths.{Point, Comes}
+use Rattle.bsp_verify.specs.Runs.{IsOnPath, MayExchange, RunsAreSound}
+use Rattle.bsp_verify.proofs.PathLemmas.{paths_sound}
+
+-- the state says what is held and awaited; answers are awaited alone
+pub record Describes (s : State) (u : UniformPart) : Type 0 where
+  pub asks : length u.asks ≡ s.asks
+  pub put : machine.is_held u.put ≡ s.put
+  pub awaited : nat_lt 0 (length u.awaited) ≡ s.awaits
+  pub alone : s.awaits ≡ true → (s.asks ≡ 0) × (s.put ≡ false)
+
+not_both : {A : Type 0} (b : Bool) → b ≡ false → b ≡ true → A
+not_both b f h = cc
+
+-- ---- instructions
+
+-- it makes no exchange and doesn't jump
+abbrev Acts : Instr → Type 0
+Acts Send = ⊥
+Acts Reply = ⊥
+Acts _ = Unit {0}
+
+acts : (t : Setting) (i : Instr) (s : State) (u : UniformPart) → Acts i → s.awaits ≡ false → Describes s u → Describes (after i s) (on_uniform t i u)
+acts t Send s u a f d = absurd a
+acts t Reply s u a f d = absurd a
+acts t (Ask Uniform x c r q) s u a f d = record { asks = length-append u.asks _ ∙ ap (λ n. n + 1) d.asks; put = d.put; awaited = d.awaited; alone = λ h. not_both s.awaits f h }
+acts t (Ask Private x c r q) s u a f d = record { asks = length-append u.asks _ ∙ ap (λ n. n + 1) d.asks; put = d.put; awaited = d.awaited; alone = λ h. not_both s.awaits f h }
+acts t (Put side c r v q) s u a f d = record { asks = d.asks; put = refl; awaited = d.awaited; alone = λ h. not_both s.awaits f h }
+acts t i s u a f d = record { asks = d.asks; put = d.put; awaited = d.awaited; alone = d.alone }
+
+none_awaited : (a b : Bool) → (not a && b) ≡ true → a ≡ false
+none_awaited false b h = refl
+none_awaited true b h = cc
+
+not_awaited : (a : Bool) → not a ≡ true → a ≡ false
+not_awaited false h = refl
+not_awaited true h = cc
+
+-- with answers awaited there is nothing but a reply
+no_answers : (i : Instr) (s : State) → (i ≡ Reply → ⊥) → fits_exchange i s ≡ true → s.awaits ≡ false
+no_answers Reply s n h = absurd (n refl)
+no_answers Send s n h = not_awaited s.awaits h
+no_answers i s n h = none_awaited s.awaits _ h
+
+-- ---- exchanges
+
+sent : (s : State) (u : UniformPart) → Describes s u → Describes (after Send s) (uniform_sent u)
+sent s u d = record { asks = refl; put = refl; awaited = ap (nat_lt 0) d.asks; alone = λ h. (refl, refl) }
+
+no_asks : {A : Type 0} (xs : List A) → length xs ≡ 0 → xs ≡ []
+no_asks [] h = refl
+no_asks (x ∷ xs) h = absurd (omega (arith, h))
+
+no_put : (o : Option Moment) → machine.is_held o ≡ false → o ≡ None
+no_put None h = refl
+no_put (Some m) h = cc
+
+none_came : {A : Type 0} (xs : List A) → nat_lt 0 (length xs) ≡ false → xs ≡ []
+none_came [] h = refl
+none_came (x ∷ xs) h = absurd (grind (arith, nat_tests))
+
+some_came : {A : Type 0} (xs : List A) → nat_lt 0 (length xs) ≡ true → xs ≡ [] → ⊥
+some_came [] h e = cc
+some_came (x ∷ xs) h e = cc
+
+two : (a b : Bool) → (a && b) ≡ true → (a ≡ true) × (b ≡ true)
+two true b h = (refl, h)
+two false b h = cc
+
+is_zero : (n : ℕ) → eqb n 0 ≡ true → n ≡ 0
+is_zero n h = grind (arith, nat_tests)
+
+no_write : (b : Bool) → not b ≡ true → b ≡ false
+no_write false h = refl
+no_write true h = cc
+
+-- a verdict either is told, or leaves a run as it was
+pub unless_same : (z : machine.Way) → ((key : Option Key) (ended : Bool) → machine.Past key ended ≡ z → ⊥) → (way : machine.Way) (key : Option Key) → machine.unless key way ≡ z → way ≡ z
+unless_same z past way None e = e
+unless_same z past way (Some key) e = absurd (past (Some key) false e)
+
+pub decided_same : (z : machine.Way) → ((key : Option Key) (ended : Bool) → machine.Past key ended ≡ z → ⊥) → (p : machine.Purpose) (u : UniformPart) (key : Option Key) (way : machine.Way) → machine.decided p u key way ≡ z → way ≡ z
+decided_same z past machine.Sends u key way h = go (machine.is_held u.put) h
+  where
+    go : (b : Bool) → (if b then way else machine.unless (machine.due key u.count) way) ≡ z → way ≡ z
+    go true e = e
+    go false e = unless_same z past way (machine.due key u.count) e
+decided_same z past machine.Replies u key way h = unless_same z past way (machine.due key u.count) h
+decided_same z past (machine.Votes v) u key way h = unless_same z past way (machine.due key u.count) h
+decided_same z past machine.Closes u key (machine.Ending e) h = absurd (past key e h)
+decided_same z past machine.Closes u key way h = h
+
+-- where a stretch stops by an instruction
+abbrev StopsBy : Stop → Instr → Type 0
+StopsBy ToSend i = i ≡ Send
+StopsBy ToReply i = i ≡ Reply
+StopsBy (ToVote d) i = i ≡ Vote d
+StopsBy (ToClose ended) i = (i ≡ Halt) ⊎ ((line : ℕ) × (i ≡ Mark line))
+
+-- what an instruction that may stand there finds
+module _ (s : State) (u : UniformPart) (d : Describes s u) where
+  nothing_awaited : s.awaits ≡ false → u.awaited ≡ []
+  nothing_awaited h = none_came u.awaited (d.awaited ∙ h)
+
+  no_reads : (i : Instr) → fits_exchange i s ≡ (not s.awaits && eqb s.asks 0) → fits_exchange i s ≡ true → (u.awaited ≡ []) × (u.asks ≡ [])
+  no_reads i e h = let b = two (not s.awaits) (eqb s.asks 0) (sym e ∙ h) in (nothing_awaited (not_awaited s.awaits b.0), no_asks u.asks (d.asks ∙ is_zero s.asks b.1))
+
+  may : (stop : Stop) (i : Instr) → StopsBy stop i → fits_exchange i s ≡ true → MayExchange stop u
+  may ToSend i e h = nothing_awaited (not_awaited s.awaits (subst (λ (j : Instr). fits_exchange j s ≡ true) e h))
+  may ToReply i e h =
+      let a = subst (λ (j : Instr). fits_exchange j s ≡ true) e h in
+      let b = d.alone a in
+      (some_came u.awaited (d.awaited ∙ a), no_asks u.asks (d.asks ∙ b.0), no_put u.put (d.put ∙ b.1))
+  may (ToVote x) i e h =
+      let a = two (not s.awaits) (eqb s.asks 0 && not s.put) (subst (λ (j : Instr). fits_exchange j s ≡ true) e h) in
+      let b = two (eqb s.asks 0) (not s.put) a.1 in
+      (nothing_awaited (not_awaited s.awaits a.0), no_asks u.asks (d.asks ∙ is_zero s.asks b.0), no_put u.put (d.put ∙ no_write s.put b.1))
+  may (ToClose ended) i e h =
+      ⊎_elim (λ x. no_reads Halt refl (subst (λ (j : Instr). fits_exchange j s ≡ true) x h))
+      (λ x. no_reads (Mark x.0) refl (subst (λ (j : Instr). fits_exchange j s ≡ true) x.1 h)) e
+
+-- ---- stretches
+
+module _ (t : Setting) (formed : IsWellFormed t.code) where
+  -- there is a path there, with a state that describes it
+  pub record IsThere (place : ℕ) (u : UniformPart) : Type 0 where
+    pub steps : ℕ
+    pub point : Point
+    pub comes : Comes t.code steps point
+    pub here : point.place ≡ place
+    pub describes : Describes point.state u
+
+  -- one more step
+  onward : (n : ℕ) (q : Point) (c : Comes t.code n q) (i : Instr) (is : slice_get t.code.instructions q.place ≡ Some i) (place : ℕ) (u : UniformPart) → Leads i q.place place → Describes (after i q.state) u → IsThere place u
+  onward n q c i is place u l d = record { steps = suc n; point = record { place = place; state = after i q.state }; comes = (q, c, (i, is, l, refl)); here = refl; describes = d }
+
+  pub record Stops (stop : Stop) (place : ℕ) (u : UniformPart) : Type 0 where
+    pub there : IsThere place u
+    pub instr : Instr
+    pub is : slice_get t.code.instructions place ≡ Some instr
+    pub by : StopsBy stop instr
+    pub fits : fits_exchange instr there.point.state ≡ true
+
+  abbrev Arrives : Arrival Worker → Type 0
+  Arrives Nowhere = Unit {0}
+  Arrives (At stop place x) = Stops stop place x.uniform
+
+  module _ (w : ℕ) where
+    abbrev from : ℕ → ℕ → Worker → Arrival Worker
+    from n place x = until t.bound (λ (y : Worker). y.uniform) (after_instr t w) t.code.instructions n place x
+
+    module _ (n : ℕ) (next : (place : ℕ) (x : Worker) → IsThere place x.uniform → Arrives (from n place x)) (m : ℕ) (q : Point) (c : Comes t.code m q) (x : Worker) (d : Describes q.state x.uniform) where
+      abbrev at : Instr → Arrival Worker
+      at i = advance t.bound (λ (y : Worker). y.uniform) (after_instr t w) (from n) (Some i) q.place x
+
+      module _ (i : Instr) (is : slice_get t.code.instructions q.place ≡ Some i) (fits : fits_exchange i q.state ≡ true) where
+        stops : (stop : Stop) → StopsBy stop i → Stops stop q.place x.uniform
+        stops stop by = record { there = record { steps = m; point = q; comes = c; here = refl; describes = d }; instr = i; is = is; by = by; fits = fits }
+
+        goes : (place : ℕ) (y : Worker) → Leads i q.place place → Describes (after i q.state) y.uniform → Arrives (from n place y)
+        goes place y l e = next place y (onward m q c i is place y.uniform l e)
+
+      step : (i : Instr) → slice_get t.code.instructions q.place ≡ Some i → fits_exchange i q.state ≡ true → Arrives (at i)
+      step Send is f = stops Send is f ToSend refl
+      step Reply is f = stops Reply is f ToReply refl
+      step (Vote v) is f = stops (Vote v) is f (ToVote v) refl
+      step Halt is f = stops Halt is f (ToClose true) (inl refl)
+      step (Mark line) is f = marked (eqb x.uniform.count t.bound)
+        where
+          marked : (b : Bool) → Arrives (if b then At (ToClose false) q.place x else from n (q.place + 1) (after_instr t w (Mark line) x))
+          marked true = stops (Mark line) is f (ToClose false) (inr (line, refl))
+          marked false = goes (Mark line) is f (q.place + 1) (after_instr t w (Mark line) x) refl (acts t (Mark line) q.state x.uniform tt (no_answers (Mark line) q.state (λ h. cc) f) d)
+      step (Jump target) is f = goes (Jump target) is f target x refl (record { asks = d.asks; put = d.put; awaited = d.awaited; alone = d.alone })
+      step (JumpIfZero r target) is f = forked _
+        where
+          same : Describes (after (JumpIfZero r target) q.state) x.uniform
+          same = record { asks = d.asks; put = d.put; awaited = d.awaited; alone = d.alone }
+
+          forked : (b : Bool) → Arrives (if b then from n (q.place + 1) x else from n target x)
+          forked true = goes (JumpIfZero r target) is f (q.place + 1) x (inr refl) same
+          forked false = goes (JumpIfZero r target) is f target x (inl refl) same
+      step i is f = goes i is f (q.place + 1) (after_instr t w i x) refl (acts t i q.state x.uniform tt (no_answers i q.state (λ h. cc) f) d)
+
+    follow : (n : ℕ) (place : ℕ) (x : Worker) → IsThere place x.uniform → Arrives (from n place x)
+    follow zero place x h = tt
+    follow (suc n) place x h =
+        let q = h.point in
+        let s = paths_sound t.code formed h.steps q h.comes in
+        subst (λ k. Arrives (from (suc n) k x)) h.here
+        (subst (λ (o : Option Instr). Arrives (advance t.bound (λ (y : Worker). y.uniform) (after_instr t w) (from n) o q.place x)) (sym s.is)
+        (step n (follow n) h.steps q h.comes x h.describes s.instr s.is s.allowed.exchange))
+
+  -- ---- exchanges of a run
+
+  -- as long as the run goes on, its place is on a path
+  abbrev Agrees : machine.State → Type 0
+  Agrees s = s.way ≡ machine.On → IsThere s.place s.worker.uniform
+
+  module _ (w : ℕ) (messages : List Message) where
+    -- after an exchange it is there, if it was on its way
+    exchanged : (r : machine.Ready) → (r.state.way ≡ machine.On → IsThere r.state.place (machine.after_exchange t w r.purpose r.state.worker messages).uniform) → Agrees (machine.after t w r messages)
+    exchanged r next = go (list_any (λ (m : Message). m.refused) messages)
+      where
+        go : (b : Bool) → Agrees (if b then record r.state { way = machine.Refused } else record {
+          worker = machine.after_exchange t w r.purpose r.state.worker messages;
+          place = r.state.place;
+          way = machine.decided r.purpose r.state.worker.uniform (machine.key_of messages) r.state.way;
+          refusals = machine.refused_later r.state.refusals;
+        })
+        go true = λ h. cc
+        go false = λ h. next (decided_same machine.On (λ key ended e. cc) r.purpose r.state.worker.uniform (machine.key_of messages) r.state.way h)
+
+    -- the place behind an exchange
+    behind : (stop : Stop) (place : ℕ) (x : UniformPart) (i : Instr) (u : UniformPart) (h : Stops stop place x) → h.instr ≡ i → ((k : ℕ) → Leads i k (k + 1)) → (Describes h.there.point.state x → Describes (after i h.there.point.state) u) → IsThere (place + 1) u
+    behind stop place x i u h same leads described =
+        let q = h.there.point in
+        subst (λ k. IsThere (k + 1) u) h.there.here
+        (onward h.there.steps q h.there.comes i (ap (slice_get t.code.instructions) h.there.here ∙ h.is ∙ ap (λ j. Some j) same) (q.place + 1) u (leads q.place) (described h.there.describes))
+
+    arrived : (s : machine.State) (a : Arrival Worker) → Arrives a → Agrees (machine.after t w (machine.ready_at s a) messages)
+    arrived s Nowhere h = exchanged (machine.ready_at s Nowhere) (λ e. cc)
+    arrived s (At ToSend place x) h = exchanged (machine.ready_at s (At ToSend place x)) (λ e. behind ToSend place x.uniform Send _ h h.by (λ k. refl) (λ d. sent h.there.point.state x.uniform d))
+    arrived s (At ToReply place x) h = exchanged (machine.ready_at s (At ToReply place x)) (λ e. behind ToReply place x.uniform Reply _ h h.by (λ k. refl) (λ d. record { asks = d.asks; put = d.put; awaited = refl; alone = λ f. cc }))
+    arrived s (At (ToVote v) place x) h = exchanged (machine.ready_at s (At (ToVote v) place x)) (λ e. behind (ToVote v) place x.uniform (Vote v) _ h h.by (λ k. refl) (λ d. record { asks = d.asks; put = d.put; awaited = d.awaited; alone = d.alone }))
+    arrived s (At (ToClose ended) place x) h = exchanged (machine.ready_at s (At (ToClose ended) place x)) (λ e. cc)
+
+    next_agrees : (s : machine.State) → Agrees s → Agrees (machine.after t w (machine.ready t w s) messages)
+    next_agrees s a = go s.way refl
+      where
+        stays : (way : machine.Way) → s.way ≡ way → (way ≡ machine.On → ⊥) → Agrees (machine.after t w (record { purpose = machine.Closes; state = s }) messages)
+        stays way e no_way = exchanged (record { purpose = machine.Closes; state = s }) (λ h. absurd (no_way (sym e ∙ h)))
+
+        go : (way : machine.Way) → s.way ≡ way → Agrees (machine.after t w (machine.ready_by t w s way) messages)
+        go machine.On e = arrived s (machine.stretch t w s) (follow w t.enough s.place s.worker (a e))
+        go (machine.Ending f) e = stays (machine.Ending f) e (λ h. cc)
+        go (machine.Past k f) e = stays (machine.Past k f) e (λ h. cc)
+        go machine.Refused e = stays machine.Refused e (λ h. cc)
+        go machine.Lost e = stays machine.Lost e (λ h. cc)
+
+  phases_agree : (p n : ℕ) (ws : ℕ → machine.State) → ((w : ℕ) → Agrees (ws w)) → (w : ℕ) → Agrees (phases (machine.bsp t) p n ws w)
+  phases_agree p zero ws a w = a w
+  phases_agree p (suc n) ws a w = phases_agree p n (phase (machine.bsp t) p ws) (λ v. next_agrees v (column (machine.bsp t) p ws v) (ws v) (a v)) w
+
+  begins : (input : List ℤ) (w : ℕ) → Agrees (machine.opening t input w)
+  begins input w h = record { steps = 0; point = record { place = 0; state = opening }; comes = (refl, refl); here = refl; describes = record { asks = refl; put = refl; awaited = refl; alone = λ f. cc } }
+
+  may_make : (w : ℕ) (s : machine.State) → Agrees s → s.way ≡ machine.On → (stop : Stop) (place : ℕ) (x : Worker) → machine.stretch t w s ≡ At stop place x → IsOnPath t.code place × MayExchange stop x.uniform
+  may_make w s a h stop place x e =
+      let z = subst Arrives e (follow w t.enough s.place s.worker (a h)) in
+      ((z.there.steps, z.there.point, z.there.comes, z.there.here), may z.there.point.state x.uniform z.there.describes stop z.instr z.by z.fits)
+
+pub runs_sound : RunsAreSound
+runs_sound t formed input n w h stop place x e =
+    may_make t formed w (phases (machine.bsp t) (workers t) n (machine.opening t input) w) (phases_agree t formed (workers t) n (machine.opening t input) (begins t formed input) w) h stop place x e

@@ -1,0 +1,15 @@
+//! What runs of verified code can rely on, by the machine's definition.
+
+ghost use Rattle.bsp_verify.specs.Runs.{RunsArrive, RunsAreSound};
+
+/// Each exchange that a worker comes to is on a path of control, and is one that it may make: a reply comes where answers are
+/// awaited and nothing is held, and where answers are awaited nothing else comes; no vote and no
+/// close comes while reads are held, and no vote while a write is.
+pub fn runs_are_sound()
+    ensures { RunsAreSound }
+{}
+
+/// No worker is led to a place without an instruction, or on and on without an exchange.
+pub fn runs_arrive()
+    ensures { RunsArrive }
+{}
