@@ -6,6 +6,7 @@ use Rattle.std.proofs.lemmas.Bool.Decides.{nat_tests}
 use Rattle.superstep_code.specs.declared.instr.Side.TheVariants.{Uniform, Private}
 use Rattle.superstep_code.specs.declared.instr.Instr.{Instr}
 use Rattle.superstep_code.specs.declared.instr.Instr.TheVariants.{Mark, Ask, Send, Reply, Vote, Jump, JumpIfZero, Halt}
+use Rattle.superstep_code.specs.Code.{SuperstepCode}
 use Rattle.superstep_code.specs.Setting.{Setting, workers}
 use Rattle.superstep_code.specs.Parts.{UniformPart}
 use Rattle.superstep_code.specs.Steps.{on_uniform}
@@ -27,11 +28,11 @@ Counts (Mark line) = ⊥
 Counts _ = Unit {0}
 
 -- no instruction but a mark counts
-same_count : (t : Setting) (i : Instr) (u : UniformPart) → Counts i → (on_uniform t i u).count ≡ u.count
-same_count t (Mark line) u h = absurd h
-same_count t (Ask Uniform d c s q) u h = refl
-same_count t (Ask Private d c s q) u h = refl
-same_count t i u h = refl
+same_count : (code : SuperstepCode) (i : Instr) (u : UniformPart) → Counts i → (on_uniform code i u).count ≡ u.count
+same_count code (Mark line) u h = absurd h
+same_count code (Ask Uniform d c s q) u h = refl
+same_count code (Ask Private d c s q) u h = refl
+same_count code i u h = refl
 
 -- so many instructions for so many statements
 abbrev laps : ℕ → ℕ → ℕ
@@ -120,7 +121,7 @@ module _ (t : Setting) (formed : IsWellFormed t.code) where
 
     module _ (n : ℕ) (next : (place : ℕ) (x : Worker) → IsFuel place x.uniform.count n → IsStopped (from n place x)) (place : ℕ) (x : Worker) (fuel : IsFuel place x.uniform.count (suc n)) where
       abbrev at : Instr → Arrival Worker
-      at i = advance t.bound (λ (y : Worker). y.uniform) (after_instr t w) (from n) (Some i) place x
+      at i = advance t.bound (λ (y : Worker). y.uniform) (after_instr t w) Nowhere (λ stop k z. At stop k z) (from n) (Some i) place x
 
       step : (i : Instr) → slice_get t.code.instructions place ≡ Some i → has_target t.code place i ≡ true → stays_within t.code place i ≡ true → IsStopped (at i)
       step Send is a b = (leads_within t.code place Send a b (place + 1) refl, not_past n place x.uniform.count fuel Send is a b)
@@ -138,13 +139,13 @@ module _ (t : Setting) (formed : IsWellFormed t.code) where
           go : (c : Bool) → IsStopped (if c then from n (place + 1) x else from n target x)
           go true = next (place + 1) x (left_over n place x.uniform.count fuel (JumpIfZero r target) is a b refl (place + 1) (inr refl))
           go false = next target x (left_over n place x.uniform.count fuel (JumpIfZero r target) is a b refl target (inl refl))
-      step i is a b = next (place + 1) (after_instr t w i x) (subst (λ c. IsFuel (place + 1) c n) (sym (same_count t i x.uniform tt)) (left_over n place x.uniform.count fuel i is a b refl (place + 1) refl))
+      step i is a b = next (place + 1) (after_instr t w i x) (subst (λ c. IsFuel (place + 1) c n) (sym (same_count t.code i x.uniform tt)) (left_over n place x.uniform.count fuel i is a b refl (place + 1) refl))
 
     stops : (n place : ℕ) (x : Worker) → IsFuel place x.uniform.count n → IsStopped (from n place x)
     stops zero place x fuel = ⊎_elim (λ m. let l = m.1 in absurd (omega (arith, l))) (λ l. absurd (omega (arith, l))) fuel.enough
     stops (suc n) place x fuel =
         let m = formed.1.1.each place fuel.inside in
-        subst (λ (o : Option Instr). IsStopped (advance t.bound (λ (y : Worker). y.uniform) (after_instr t w) (from n) o place x)) (sym m.is)
+        subst (λ (o : Option Instr). IsStopped (advance t.bound (λ (y : Worker). y.uniform) (after_instr t w) Nowhere (λ stop k z. At stop k z) (from n) o place x)) (sym m.is)
         (step n (stops n) place x fuel m.instr m.is m.allowed.target m.allowed.within)
 
   -- ---- a run

@@ -8,6 +8,7 @@ use Rattle.superstep_code.specs.declared.instr.Side.TheVariants.{Uniform, Privat
 use Rattle.superstep_code.specs.declared.instr.Instr.{Instr}
 use Rattle.superstep_code.specs.declared.instr.Instr.TheVariants.{Mark, Ask, Put, Send, Reply, Vote, Jump, JumpIfZero, Halt}
 use Rattle.superstep_code.specs.declared.key.Key.{Key}
+use Rattle.superstep_code.specs.Code.{SuperstepCode}
 use Rattle.superstep_code.specs.Setting.{Setting, workers}
 use Rattle.superstep_code.specs.Parts.{UniformPart, Moment}
 use Rattle.superstep_code.specs.Steps.{on_uniform}
@@ -33,24 +34,24 @@ pub record Describes (s : State) (u : UniformPart) : Type 0 where
   pub awaited : nat_lt 0 (length u.awaited) ≡ s.awaits
   pub alone : s.awaits ≡ true → (s.asks ≡ 0) × (s.put ≡ false)
 
-not_both : {A : Type 0} (b : Bool) → b ≡ false → b ≡ true → A
+pub not_both : {A : Type 0} (b : Bool) → b ≡ false → b ≡ true → A
 not_both b f h = cc
 
 -- ---- instructions
 
 -- it makes no exchange and doesn't jump
-abbrev Acts : Instr → Type 0
+abbrev pub Acts : Instr → Type 0
 Acts Send = ⊥
 Acts Reply = ⊥
 Acts _ = Unit {0}
 
-acts : (t : Setting) (i : Instr) (s : State) (u : UniformPart) → Acts i → s.awaits ≡ false → Describes s u → Describes (after i s) (on_uniform t i u)
-acts t Send s u a f d = absurd a
-acts t Reply s u a f d = absurd a
-acts t (Ask Uniform x c r q) s u a f d = record { asks = length-append u.asks _ ∙ ap (λ n. n + 1) d.asks; put = d.put; awaited = d.awaited; alone = λ h. not_both s.awaits f h }
-acts t (Ask Private x c r q) s u a f d = record { asks = length-append u.asks _ ∙ ap (λ n. n + 1) d.asks; put = d.put; awaited = d.awaited; alone = λ h. not_both s.awaits f h }
-acts t (Put side c r v q) s u a f d = record { asks = d.asks; put = refl; awaited = d.awaited; alone = λ h. not_both s.awaits f h }
-acts t i s u a f d = record { asks = d.asks; put = d.put; awaited = d.awaited; alone = d.alone }
+pub acts : (code : SuperstepCode) (i : Instr) (s : State) (u : UniformPart) → Acts i → s.awaits ≡ false → Describes s u → Describes (after i s) (on_uniform code i u)
+acts code Send s u a f d = absurd a
+acts code Reply s u a f d = absurd a
+acts code (Ask Uniform x c r q) s u a f d = record { asks = length-append u.asks _ ∙ ap (λ n. n + 1) d.asks; put = d.put; awaited = d.awaited; alone = λ h. not_both s.awaits f h }
+acts code (Ask Private x c r q) s u a f d = record { asks = length-append u.asks _ ∙ ap (λ n. n + 1) d.asks; put = d.put; awaited = d.awaited; alone = λ h. not_both s.awaits f h }
+acts code (Put side c r v q) s u a f d = record { asks = d.asks; put = refl; awaited = d.awaited; alone = λ h. not_both s.awaits f h }
+acts code i s u a f d = record { asks = d.asks; put = d.put; awaited = d.awaited; alone = d.alone }
 
 none_awaited : (a b : Bool) → (not a && b) ≡ true → a ≡ false
 none_awaited false b h = refl
@@ -61,14 +62,14 @@ not_awaited false h = refl
 not_awaited true h = cc
 
 -- with answers awaited there is nothing but a reply
-no_answers : (i : Instr) (s : State) → (i ≡ Reply → ⊥) → fits_exchange i s ≡ true → s.awaits ≡ false
+pub no_answers : (i : Instr) (s : State) → (i ≡ Reply → ⊥) → fits_exchange i s ≡ true → s.awaits ≡ false
 no_answers Reply s n h = absurd (n refl)
 no_answers Send s n h = not_awaited s.awaits h
 no_answers i s n h = none_awaited s.awaits _ h
 
 -- ---- exchanges
 
-sent : (s : State) (u : UniformPart) → Describes s u → Describes (after Send s) (uniform_sent u)
+pub sent : (s : State) (u : UniformPart) → Describes s u → Describes (after Send s) (uniform_sent u)
 sent s u d = record { asks = refl; put = refl; awaited = ap (nat_lt 0) d.asks; alone = λ h. (refl, refl) }
 
 no_asks : {A : Type 0} (xs : List A) → length xs ≡ 0 → xs ≡ []
@@ -175,7 +176,7 @@ module _ (t : Setting) (formed : IsWellFormed t.code) where
 
     module _ (n : ℕ) (next : (place : ℕ) (x : Worker) → IsThere place x.uniform → Arrives (from n place x)) (m : ℕ) (q : Point) (c : Comes t.code m q) (x : Worker) (d : Describes q.state x.uniform) where
       abbrev at : Instr → Arrival Worker
-      at i = advance t.bound (λ (y : Worker). y.uniform) (after_instr t w) (from n) (Some i) q.place x
+      at i = advance t.bound (λ (y : Worker). y.uniform) (after_instr t w) Nowhere (λ stop k z. At stop k z) (from n) (Some i) q.place x
 
       module _ (i : Instr) (is : slice_get t.code.instructions q.place ≡ Some i) (fits : fits_exchange i q.state ≡ true) where
         stops : (stop : Stop) → StopsBy stop i → Stops stop q.place x.uniform
@@ -193,7 +194,7 @@ module _ (t : Setting) (formed : IsWellFormed t.code) where
         where
           marked : (b : Bool) → Arrives (if b then At (ToClose false) q.place x else from n (q.place + 1) (after_instr t w (Mark line) x))
           marked true = stops (Mark line) is f (ToClose false) (inr (line, refl))
-          marked false = goes (Mark line) is f (q.place + 1) (after_instr t w (Mark line) x) refl (acts t (Mark line) q.state x.uniform tt (no_answers (Mark line) q.state (λ h. cc) f) d)
+          marked false = goes (Mark line) is f (q.place + 1) (after_instr t w (Mark line) x) refl (acts t.code (Mark line) q.state x.uniform tt (no_answers (Mark line) q.state (λ h. cc) f) d)
       step (Jump target) is f = goes (Jump target) is f target x refl (record { asks = d.asks; put = d.put; awaited = d.awaited; alone = d.alone })
       step (JumpIfZero r target) is f = forked _
         where
@@ -203,7 +204,7 @@ module _ (t : Setting) (formed : IsWellFormed t.code) where
           forked : (b : Bool) → Arrives (if b then from n (q.place + 1) x else from n target x)
           forked true = goes (JumpIfZero r target) is f (q.place + 1) x (inr refl) same
           forked false = goes (JumpIfZero r target) is f target x (inl refl) same
-      step i is f = goes i is f (q.place + 1) (after_instr t w i x) refl (acts t i q.state x.uniform tt (no_answers i q.state (λ h. cc) f) d)
+      step i is f = goes i is f (q.place + 1) (after_instr t w i x) refl (acts t.code i q.state x.uniform tt (no_answers i q.state (λ h. cc) f) d)
 
     follow : (n : ℕ) (place : ℕ) (x : Worker) → IsThere place x.uniform → Arrives (from n place x)
     follow zero place x h = tt
@@ -211,7 +212,7 @@ module _ (t : Setting) (formed : IsWellFormed t.code) where
         let q = h.point in
         let s = paths_sound t.code formed h.steps q h.comes in
         subst (λ k. Arrives (from (suc n) k x)) h.here
-        (subst (λ (o : Option Instr). Arrives (advance t.bound (λ (y : Worker). y.uniform) (after_instr t w) (from n) o q.place x)) (sym s.is)
+        (subst (λ (o : Option Instr). Arrives (advance t.bound (λ (y : Worker). y.uniform) (after_instr t w) Nowhere (λ stop k z. At stop k z) (from n) o q.place x)) (sym s.is)
         (step n (follow n) h.steps q h.comes x h.describes s.instr s.is s.allowed.exchange))
 
   -- ---- exchanges of a run

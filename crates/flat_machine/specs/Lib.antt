@@ -1,0 +1,6 @@
+pub mod Flat
+pub mod ByExchanges
+pub mod ByInstructions
+pub mod Flatness
+pub mod OneControl
+pub mod Verdicts

@@ -1,0 +1,14 @@
+//! Workers with any lawful map are one flat machine.
+
+ghost use Rattle.flat_machine.specs.Flatness.{OutcomesAreSame, PurposesAreSame, WorkersAreFlat};
+
+/// The run of p workers with any lawful map is that of the flat machine, which has one memory, no
+/// workers and no messages: for every code, well formed or not, every input and every bound. So
+/// neither the outcome nor the kinds of the exchanges depend on the number of workers or on the map.
+pub fn workers_are_flat()
+    // Exchange by exchange.
+    ensures outcomes { OutcomesAreSame }
+    ensures purposes { PurposesAreSame }
+    // Instruction by instruction.
+    ensures flat { WorkersAreFlat }
+{}

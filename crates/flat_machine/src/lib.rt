@@ -1,0 +1,6 @@
+//! Superstep code on one memory: the flat machine, and that the workers of every map are it.
+#![tactic(auto)]
+
+pub mod control_law;
+pub mod flatness_law;
+pub mod verdict_law;
