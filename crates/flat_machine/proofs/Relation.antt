@@ -13,13 +13,14 @@ use Rattle.superstep_code.specs.Worker.{Worker}
 use Rattle.superstep_code.specs.Sending.{join, cell_at, entry_held}
 use Rattle.flat_machine.specs.Flat.{Flat}
 
--- what is asked for is a cell, and nothing is held but for cells
+-- what is asked for is a cell, nothing is held but for cells, and all processors are under as many masks
 pub record IsRanged (code : SuperstepCode) (f : Flat) : Type 0 where
   pub own : (v k c : ℕ) → cell_at k (f.own v).asks ≡ Some c → c < total_size code.layout
   pub own_awaited : (v k c : ℕ) → cell_at k (f.own v).awaited ≡ Some c → c < total_size code.layout
   pub uniform : (k c : ℕ) → cell_at k (map (λ (r : Read). r.cell) f.uniform.asks) ≡ Some c → c < total_size code.layout
   pub uniform_awaited : (k c : ℕ) → cell_at k (map (λ (r : Read). r.cell) f.uniform.awaited) ≡ Some c → c < total_size code.layout
   pub held : (c : ℕ) → total_size code.layout ≤ c → f.held c ≡ None
+  pub level : (u v : ℕ) → length (f.own u).masks ≡ length (f.own v).masks
 
 -- cell c is among what was asked for by read k
 abbrev pub wants : ℕ → ℕ → List CellAsk → Bool

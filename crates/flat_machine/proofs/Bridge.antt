@@ -1,0 +1,243 @@
+-- The flat machine's run exchange by exchange and its run instruction by instruction have the same outcomes.
+use Rattle.std.proofs.Common.{◌≡◌, ℕ, zero, suc, ◌+◌, ◌<◌, ◌≤◌, List, map, Bool, true, false, eqb, Option, Some, None, ℤ, refl, sym, ap, ◌∙◌, subst, arith}
+use Rattle.std.specs.Prelude.{if◌then◌else◌, slice_get}
+use Rattle.pram_values.specs.Truth.{is_nonzero}
+use Rattle.write_rules.specs.Verdict.{Verdict}
+use Rattle.superstep_code.specs.declared.instr.Instr.{Instr}
+use Rattle.superstep_code.specs.declared.instr.Instr.TheVariants.{Mark, Send, Reply, Vote, Jump, JumpIfZero, Halt}
+use Rattle.superstep_code.specs.Code.{SuperstepCode}
+use Rattle.superstep_code.specs.Parts.{UniformPart}
+use Rattle.superstep_code.specs.Stretch.{Stop, ToSend, ToReply, ToVote, ToClose, Arrival, Nowhere, At, advance, until}
+use Rattle.superstep_code.specs.declared.key.Key.{Key}
+use Rattle.superstep_code.specs.Run.{Purpose, Sends, Replies, Votes, Closes, Way, On, Ending, Past, Refused, Lost, is_held, is_over, verdict_by, decided, due, unless}
+use Rattle.bsp_verify.proofs.RunLemmas.{decided_same}
+use Rattle.flat_machine.specs.Flat.{Flat, cells, after_instr, after_send}
+use Rattle.flat_machine.specs.ByExchanges.{Plan, State, stretch, ready_at, ready_by, after, after_exchange, next, run, outcome_of, outcome_by, opening}
+use Rattle.flat_machine.specs.ByInstructions.{stopped, exchanged, closed, going, instructed, step_by, step, steps, everywhere, outcome_within}
+
+abbrev uniform : Flat → UniformPart
+uniform f = f.uniform
+
+-- Whatever two readings of one run answer where it is nowhere, at a stop, or goes on: if the answers stand in a relation there, they do
+-- after an instruction.
+module _ (code : SuperstepCode) (bound : ℕ) {R Q : Type 0} (Rel : R → Q → Type 0) (place : ℕ) (f : Flat)
+  (nowhere : R) (nowheres : Q) (lost : Rel nowhere nowheres)
+  (stops : Stop → ℕ → Flat → R) (stopping : Stop → ℕ → Flat → Q) (stops_same : (stop : Stop) → Rel (stops stop place f) (stopping stop place f))
+  (on : ℕ → Flat → R) (going_on : ℕ → Flat → Q) (goes : (k : ℕ) (g : Flat) → Rel (on k g) (going_on k g)) where
+  marked : (line : ℕ) (b : Bool) →
+      Rel (if b then stops (ToClose false) place f else on (place + 1) (after_instr code (Mark line) f)) (if b then stopping (ToClose false) place f else going_on (place + 1) (after_instr code (Mark line) f))
+  marked line true = stops_same (ToClose false)
+  marked line false = goes (place + 1) (after_instr code (Mark line) f)
+
+  forked : (target : ℕ) (b : Bool) → Rel (if b then on (place + 1) f else on target f) (if b then going_on (place + 1) f else going_on target f)
+  forked target true = goes (place + 1) f
+  forked target false = goes target f
+
+  pub advances : (o : Option Instr) → Rel (advance bound uniform (after_instr code) nowhere stops on o place f) (advance bound uniform (after_instr code) nowheres stopping going_on o place f)
+  advances None = lost
+  advances (Some (Mark line)) = marked line (eqb f.uniform.count bound)
+  advances (Some Send) = stops_same ToSend
+  advances (Some Reply) = stops_same ToReply
+  advances (Some (Vote d)) = stops_same (ToVote d)
+  advances (Some (Jump target)) = goes target f
+  advances (Some (JumpIfZero r target)) = forked target (is_nonzero (f.uniform.registers r))
+  advances (Some Halt) = stops_same (ToClose true)
+  advances (Some i) = goes (place + 1) (after_instr code i f)
+
+module _ (t : Plan) where
+  abbrev many : ℕ → State → State
+  many = steps t.code t.bound everywhere
+
+  abbrev lost_at : ℕ → Flat → State
+  lost_at place f = record { flat = f; place = place; way = Lost }
+
+  -- a run that is over stays so
+  stays : (n : ℕ) (s : State) (way : Way) → s.way ≡ way → (way ≡ On → ⊥) → many n s ≡ s
+  stays zero s way e h = refl
+  stays (suc n) s On e h = absurd (h refl)
+  stays (suc n) s (Ending ended) e h = ap (λ w. many n (step_by t.code t.bound everywhere s w)) e ∙ stays n s (Ending ended) e h
+  stays (suc n) s (Past key ended) e h = ap (λ w. many n (step_by t.code t.bound everywhere s w)) e ∙ stays n s (Past key ended) e h
+  stays (suc n) s Refused e h = ap (λ w. many n (step_by t.code t.bound everywhere s w)) e ∙ stays n s Refused e h
+  stays (suc n) s Lost e h = ap (λ w. many n (step_by t.code t.bound everywhere s w)) e ∙ stays n s Lost e h
+
+  more : (m n : ℕ) (s : State) → many (m + n) s ≡ many n (many m s)
+  more zero n s = ap (λ k. many k s) (let e : 0 + n ≡ n = omega arith in e)
+  more (suc m) n s = ap (λ k. many k s) (let e : suc m + n ≡ suc (m + n) = omega arith in e) ∙ more m n (step t.code t.bound everywhere s)
+
+  -- only what is past has an outcome
+  no_outcome : {A : Type 0} (s : State) (way : Way) → s.way ≡ way → ((key : Option Key) (ended : Bool) → way ≡ Past key ended → ⊥) → (v : Verdict) → outcome_of t.code s ≡ Some v → A
+  no_outcome s On e h v o = let z : None ≡ Some v = sym (ap (λ w. verdict_by w s.flat.uniform.output (map s.flat.memory (cells t.code))) e) ∙ o in cc
+  no_outcome s (Ending ended) e h v o = let z : None ≡ Some v = sym (ap (λ w. verdict_by w s.flat.uniform.output (map s.flat.memory (cells t.code))) e) ∙ o in cc
+  no_outcome s (Past key ended) e h v o = absurd (h key ended refl)
+  no_outcome s Refused e h v o = let z : None ≡ Some v = sym (ap (λ w. verdict_by w s.flat.uniform.output (map s.flat.memory (cells t.code))) e) ∙ o in cc
+  no_outcome s Lost e h v o = let z : None ≡ Some v = sym (ap (λ w. verdict_by w s.flat.uniform.output (map s.flat.memory (cells t.code))) e) ∙ o in cc
+
+  on_is : (s : State) → s.way ≡ On → s ≡ going s.place s.flat
+  on_is s e = λ i. record { flat = s.flat; place = s.place; way = e i }
+
+  run_on : (x : ℕ) (s : State) → s.way ≡ On → run t (suc x) s ≡ run t x (after t.code (ready_at s (stretch t s)))
+  run_on x s e = ap (λ w. if is_over w then Some (outcome_of t.code s) else run t x (after t.code (ready_by t s w))) e
+
+  run_past : (x : ℕ) (s : State) (key : Option Key) (ended : Bool) → s.way ≡ Past key ended → run t (suc x) s ≡ Some (outcome_of t.code s)
+  run_past x s key ended e = ap (λ w. if is_over w then Some (outcome_of t.code s) else run t x (after t.code (ready_by t s w))) e
+
+  -- a close takes one exchange, or two
+  module _ (s : State) (ended : Bool) (place : ℕ) (f : Flat) where
+    abbrev closing : Bool → State
+    closing b = after t.code (record { purpose = if b then Sends else Closes; state = record s { flat = f; place = place; way = Ending ended } })
+
+    closes : (x : ℕ) (b : Bool) → is_held f.uniform.put ≡ b → run t (suc (suc x)) (closing b) ≡ Some (outcome_of t.code (closed t.code ended place f))
+    closes x true e =
+        run_ended (ap (λ c. if c then Ending ended else unless (due f.key f.uniform.count) (Ending ended)) e)
+        ∙ ap (λ c. Some (outcome_of t.code (let last = if c then after_send t.code f else f in record { flat = last; place = place; way = Past last.key ended }))) (sym e)
+      where
+        run_ended : (closing true).way ≡ Ending ended → run t (suc (suc x)) (closing true) ≡ Some (outcome_of t.code (record { flat = after_send t.code f; place = place; way = Past (after_send t.code f).key ended }))
+        run_ended h =
+            ap (λ w. if is_over w then Some (outcome_of t.code (closing true)) else run t (suc x) (after t.code (ready_by t (record (closing true) { way = w }) w))) h
+    closes x false e =
+        ap (λ c. Some (outcome_of t.code (let last = if c then after_send t.code f else f in record { flat = last; place = place; way = Past last.key ended }))) (sym e)
+
+  -- ---- from instructions to exchanges
+
+  -- the run goes on at an arrival
+  abbrev onward : ℕ → State → Arrival Flat → Option (Option Verdict)
+  onward x s a = run t (suc x) (after t.code (ready_at s a))
+
+  abbrev Comes : ℕ → Verdict → Type 0
+  Comes k v = k ≤ t.enough → (place : ℕ) (f : Flat) → outcome_of t.code (many k (going place f)) ≡ Some v →
+      (a x : ℕ) → k ≤ a → k ≤ x → (s : State) → s.way ≡ On → onward x s (until t.bound uniform (after_instr t.code) t.code.instructions a place f) ≡ Some (Some v)
+
+  module _ (v : Verdict) where
+    settles : (k : ℕ) → Comes k v → k ≤ t.enough → (s : State) → outcome_of t.code (many k s) ≡ Some v → (x : ℕ) → k ≤ x → run t (suc (suc x)) s ≡ Some (Some v)
+    settles k comes enough s o x l = go s.way refl
+      where
+        over : (way : Way) → s.way ≡ way → (way ≡ On → ⊥) → outcome_of t.code s ≡ Some v
+        over way e h = ap (outcome_of t.code) (sym (stays k s way e h)) ∙ o
+
+        go : (way : Way) → s.way ≡ way → run t (suc (suc x)) s ≡ Some (Some v)
+        go On e = run_on (suc x) s e ∙ comes enough s.place s.flat (ap (λ z. outcome_of t.code (many k z)) (sym (on_is s e)) ∙ o) t.enough x enough l s e
+        go (Past key ended) e = run_past (suc x) s key ended e ∙ ap (λ z. Some z) (over (Past key ended) e (λ h. cc))
+        go (Ending ended) e = no_outcome s (Ending ended) e (λ key b h. cc) v (over (Ending ended) e (λ h. cc))
+        go Refused e = no_outcome s Refused e (λ key b h. cc) v (over Refused e (λ h. cc))
+        go Lost e = no_outcome s Lost e (λ key b h. cc) v (over Lost e (λ h. cc))
+
+    module _ (k : ℕ) (comes : Comes k v) (enough : k ≤ t.enough) (x : ℕ) (l : k ≤ x) (s : State) (on : s.way ≡ On) where
+      abbrev Same : State → Arrival Flat → Type 0
+      Same z a = outcome_of t.code (many k z) ≡ Some v → onward (suc x) s a ≡ Some (Some v)
+
+      -- an exchange that may decide
+      exchanges : (p : Purpose) (place : ℕ) (f : Flat) →
+          outcome_of t.code (many k (exchanged t.code everywhere p place f)) ≡ Some v → run t (suc (suc x)) (after t.code (record { purpose = p; state = record s { flat = f; place = place + 1 } })) ≡ Some (Some v)
+      exchanges p place f o =
+          ap (λ w. run t (suc (suc x)) (record { flat = after_exchange t.code p f; place = place + 1; way = decided p f.uniform f.key w })) on
+          ∙ settles k comes enough (exchanged t.code everywhere p place f) o x l
+
+      stops : (place : ℕ) (f : Flat) (stop : Stop) → Same (stopped t.code everywhere stop place f) (At stop place f)
+      stops place f ToSend o = exchanges Sends place f o
+      stops place f ToReply o = exchanges Replies place f o
+      stops place f (ToVote d) o = exchanges (Votes d) place f o
+      stops place f (ToClose ended) o =
+          closes s ended place f x (is_held f.uniform.put) refl
+          ∙ ap (λ z. Some z) (ap (outcome_of t.code) (sym (stays k (closed t.code ended place f) (closed t.code ended place f).way refl (λ h. cc))) ∙ o)
+
+      lost : (place : ℕ) (f : Flat) → Same (lost_at place f) Nowhere
+      lost place f o = no_outcome (lost_at place f) Lost refl (λ key b h. cc) v (ap (outcome_of t.code) (sym (stays k (lost_at place f) Lost refl (λ h. cc))) ∙ o)
+
+    comes_on : (k : ℕ) → Comes k v
+    comes_on zero enough place f o a x la lx s on = no_outcome (going place f) On refl (λ key b h. cc) v o
+    comes_on (suc k) enough place f o zero x la lx s on = absurd (omega (arith, la))
+    comes_on (suc k) enough place f o (suc a) zero la lx s on = absurd (omega (arith, lx))
+    comes_on (suc k) enough place f o (suc a) (suc x) la lx s on =
+        let e : k ≤ t.enough = omega (arith, enough) in
+        let ka : k ≤ a = omega (arith, la) in
+        let kx : k ≤ x = omega (arith, lx) in
+        let kx2 : k ≤ suc x = omega (arith, lx) in
+        advances t.code t.bound (Same k (comes_on k) e x kx s on) place f (lost_at place f) Nowhere (lost k (comes_on k) e x kx s on place f)
+        (stopped t.code everywhere) (λ stop n g. At stop n g) (stops k (comes_on k) e x kx s on place f)
+        going (until t.bound uniform (after_instr t.code) t.code.instructions a) (λ n g h. comes_on k e n g h a (suc x) ka kx2 s on)
+        (slice_get t.code.instructions place) o
+
+  -- ---- from exchanges to instructions
+
+  -- what a stretch arrives at is so many instructions on
+  abbrev Reached : State → Arrival Flat → Type 0
+  Reached z Nowhere = Unit {0}
+  Reached z (At stop place f) = (n : ℕ) × (many n z ≡ stopped t.code everywhere stop place f)
+
+  earlier : (place : ℕ) (f : Flat) (a : Arrival Flat) → Reached (instructed t.code t.bound everywhere place f) a → Reached (going place f) a
+  earlier place f Nowhere h = tt
+  earlier place f (At stop k g) h = (suc h.0, h.1)
+
+  reaches : (a place : ℕ) (f : Flat) → Reached (going place f) (until t.bound uniform (after_instr t.code) t.code.instructions a place f)
+  reaches zero place f = tt
+  reaches (suc a) place f =
+      earlier place f (until t.bound uniform (after_instr t.code) t.code.instructions (suc a) place f)
+      (advances t.code t.bound Reached place f (lost_at place f) Nowhere tt (stopped t.code everywhere) (λ stop n g. At stop n g) (λ stop. reaches_stop stop)
+        going (until t.bound uniform (after_instr t.code) t.code.instructions a) (reaches a) (slice_get t.code.instructions place))
+    where
+      reaches_stop : (stop : Stop) → Reached (stopped t.code everywhere stop place f) (At stop place f)
+      reaches_stop stop = (0, refl)
+
+  module _ (v : Verdict) where
+    abbrev Returns : State → Type 0
+    Returns s = (n : ℕ) × (outcome_of t.code (many n s) ≡ Some v)
+
+    -- behind some instructions
+    later : (n : ℕ) (s z : State) → many n s ≡ z → Returns z → Returns s
+    later n s z e r = (n + r.0, ap (outcome_of t.code) (more n r.0 s ∙ ap (many r.0) e) ∙ r.1)
+
+    unsome : (o : Option Verdict) → Some o ≡ Some (Some v) → o ≡ Some v
+    unsome o h = cc
+
+    closes_back : (s : State) (ended : Bool) (place : ℕ) (f : Flat) (x : ℕ) (b : Bool) → is_held f.uniform.put ≡ b → run t x (closing s ended place f b) ≡ Some (Some v) → outcome_of t.code (closed t.code ended place f) ≡ Some v
+    closes_back s ended place f zero b e h = cc
+    closes_back s ended place f (suc zero) true e h =
+        let w : (closing s ended place f true).way ≡ Ending ended = ap (λ c. if c then Ending ended else unless (due f.key f.uniform.count) (Ending ended)) e in
+        let z : None ≡ Some (Some v) = sym (ap (λ y. if is_over y then Some (outcome_of t.code (closing s ended place f true)) else None) w) ∙ h in
+        cc
+    closes_back s ended place f (suc zero) false e h =
+        ap (λ c. outcome_of t.code (let last = if c then after_send t.code f else f in record { flat = last; place = place; way = Past last.key ended })) e ∙ unsome _ h
+    closes_back s ended place f (suc (suc x)) b e h = unsome _ (sym (closes s ended place f x b e) ∙ h)
+
+    not_ending : (p : Purpose) (f : Flat) (ended : Bool) → decided p f.uniform f.key On ≡ Ending ended → ⊥
+    not_ending p f ended h = let z : On ≡ Ending ended = decided_same (Ending ended) (λ key b e. cc) p f.uniform f.key On h in cc
+
+    lost_ends : {A : Type 0} (x : ℕ) (s : State) → s.way ≡ Lost → run t x s ≡ Some (Some v) → A
+    lost_ends zero s e h = cc
+    lost_ends (suc x) s e h = no_outcome s Lost e (λ key b k. cc) v (unsome _ (sym (ap (λ w. if is_over w then Some (outcome_of t.code s) else run t x (after t.code (ready_by t s w))) e) ∙ h))
+
+    module _ (x : ℕ) (rest : (s : State) → ((ended : Bool) → s.way ≡ Ending ended → ⊥) → run t x s ≡ Some (Some v) → Returns s) (s : State) (on : s.way ≡ On) where
+      exchange_returns : (p : Purpose) (place : ℕ) (f : Flat) (n : ℕ) → many n (going s.place s.flat) ≡ exchanged t.code everywhere p place f →
+          run t x (after t.code (record { purpose = p; state = record s { flat = f; place = place + 1 } })) ≡ Some (Some v) → Returns s
+      exchange_returns p place f n e h =
+          later n s (exchanged t.code everywhere p place f) (ap (many n) (on_is s on) ∙ e)
+          (rest (exchanged t.code everywhere p place f) (not_ending p f)
+            (ap (λ w. run t x (record { flat = after_exchange t.code p f; place = place + 1; way = decided p f.uniform f.key w })) (sym on) ∙ h))
+
+      arrival_returns : (a : Arrival Flat) → Reached (going s.place s.flat) a → run t x (after t.code (ready_at s a)) ≡ Some (Some v) → Returns s
+      arrival_returns Nowhere r h = lost_ends x (after t.code (ready_at s Nowhere)) refl h
+      arrival_returns (At ToSend place f) r h = exchange_returns Sends place f r.0 r.1 h
+      arrival_returns (At ToReply place f) r h = exchange_returns Replies place f r.0 r.1 h
+      arrival_returns (At (ToVote d) place f) r h = exchange_returns (Votes d) place f r.0 r.1 h
+      arrival_returns (At (ToClose ended) place f) r h =
+          later r.0 s (closed t.code ended place f) (ap (many r.0) (on_is s on) ∙ r.1) (0, closes_back s ended place f x (is_held f.uniform.put) refl h)
+
+    returns : (x : ℕ) (s : State) → ((ended : Bool) → s.way ≡ Ending ended → ⊥) → run t x s ≡ Some (Some v) → Returns s
+    returns zero s unended h = cc
+    returns (suc x) s unended h = go (returns x) s.way refl
+      where
+        go : ((z : State) → ((ended : Bool) → z.way ≡ Ending ended → ⊥) → run t x z ≡ Some (Some v) → Returns z) → (way : Way) → s.way ≡ way → Returns s
+        go rest On e = arrival_returns x rest s e (stretch t s) (reaches t.enough s.place s.flat) (sym (run_on x s e) ∙ h)
+        go rest (Ending ended) e = absurd (unended ended e)
+        go rest (Past key ended) e = (0, unsome _ (sym (run_past x s key ended e) ∙ h))
+        go rest Refused e = no_outcome s Refused e (λ key b k. cc) v (unsome _ (sym (ap (λ w. if is_over w then Some (outcome_of t.code s) else run t x (after t.code (ready_by t s w))) e) ∙ h))
+        go rest Lost e = lost_ends (suc x) s e h
+
+-- ---- both ways
+
+pub to_exchanges : (code : SuperstepCode) (bound n : ℕ) (input : List ℤ) (v : Verdict) → outcome_within code bound everywhere n input ≡ Some v →
+    outcome_by (record { code = code; bound = bound; enough = n }) (suc (suc n)) input ≡ Some (Some v)
+to_exchanges code bound n input v o = let t : Plan = record { code = code; bound = bound; enough = n } in settles t v n (comes_on t v n) (omega arith) (opening input) o n (omega arith)
+
+pub to_instructions : (t : Plan) (x : ℕ) (input : List ℤ) (v : Verdict) → outcome_by t x input ≡ Some (Some v) → (n : ℕ) × (outcome_within t.code t.bound everywhere n input ≡ Some v)
+to_instructions t x input v h = returns t v x (opening input) (λ ended e. cc) h
