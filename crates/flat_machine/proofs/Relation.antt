@@ -1,7 +1,7 @@
 -- The workers' states together are one flat state.
 use Rattle.std.proofs.Common.{◌≡◌, ℕ, ◌<◌, ◌≤◌, ◌%◌, List, [], map, length, Bool, true, Option, Some, None, eqb, ◌&&◌}
 use Rattle.std.specs.Prelude.{slice_index_or}
-use Rattle.std.specs.List.{filter, list_any, range_with_len}
+use Rattle.std.specs.List.{AllByRecursion, filter, list_any, range_with_len}
 use Rattle.pram_syntax.specs.Layout.{total_size}
 use Rattle.pram_values.specs.Total.{total}
 use Rattle.superstep_code.specs.Code.{SuperstepCode}
@@ -10,15 +10,24 @@ use Rattle.superstep_code.specs.Setting.{Setting, workers, processors, module_ce
 use Rattle.superstep_code.specs.Parts.{Read}
 use Rattle.superstep_code.specs.Words.{CellAsk}
 use Rattle.superstep_code.specs.Worker.{Worker}
-use Rattle.superstep_code.specs.Sending.{join, cell_at, entry_held}
+use Rattle.superstep_code.specs.Sending.{join, cell_at, is_private, entry_held}
 use Rattle.flat_machine.specs.Flat.{Flat}
 
--- what is asked for is a cell, nothing is held but for cells, and all processors are under as many masks
+-- a private read has no cell of its own: each processor has one
+abbrev pub IsBySide : Read → Type 0
+IsBySide read = is_private read.side ≡ true → read.cell ≡ None
+
+abbrev pub AreBySide : List Read → Type 0
+AreBySide = AllByRecursion IsBySide
+
+-- What is asked for is a cell, and a private read has none but those of its processors; nothing is held but for cells; and all processors
+-- are under as many masks.
 pub record IsRanged (code : SuperstepCode) (f : Flat) : Type 0 where
   pub own : (v k c : ℕ) → cell_at k (f.own v).asks ≡ Some c → c < total_size code.layout
   pub own_awaited : (v k c : ℕ) → cell_at k (f.own v).awaited ≡ Some c → c < total_size code.layout
   pub uniform : (k c : ℕ) → cell_at k (map (λ (r : Read). r.cell) f.uniform.asks) ≡ Some c → c < total_size code.layout
   pub uniform_awaited : (k c : ℕ) → cell_at k (map (λ (r : Read). r.cell) f.uniform.awaited) ≡ Some c → c < total_size code.layout
+  pub sides : AreBySide f.uniform.asks
   pub held : (c : ℕ) → total_size code.layout ≤ c → f.held c ≡ None
   pub level : (u v : ℕ) → length (f.own u).masks ≡ length (f.own v).masks
 

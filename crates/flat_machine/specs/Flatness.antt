@@ -1,5 +1,5 @@
 -- Workers that exchange messages are one flat machine.
-use Rattle.std.specs.Prelude.{◌≡◌, ℕ, ◌≤◌, map, ℤ, List}
+use Rattle.std.specs.Prelude.{◌≡◌, ℕ, ◌≤◌, map, ℤ, List, Some}
 use Rattle.pram_syntax.specs.Layout.{total_size}
 use Rattle.write_rules.specs.Verdict.{Verdict}
 use Rattle.address_map.specs.Lawful.{Shape, IsLawful}
@@ -34,3 +34,14 @@ PurposesAreSame = (t : Setting) → IsMapFor t.code t.map → (n : ℕ) (input :
 abbrev pub WorkersAreFlat : Type 0
 WorkersAreFlat = (code : SuperstepCode) (map : Shape) → IsMapFor code map → (input : List ℤ) (bound : ℕ) (verdict : Verdict) →
     (IsBspOutcome code map input bound verdict → IsFlatOutcome code input bound verdict) × (IsFlatOutcome code input bound verdict → IsBspOutcome code map input bound verdict)
+
+-- the outcome of the flat machine's run exchange by exchange, with enough exchanges and enough instructions between them
+pub record IsOutcomeByExchanges (code : SuperstepCode) (input : List ℤ) (bound : ℕ) (verdict : Verdict) : Type 0 where
+  pub enough : ℕ
+  pub exchanges : ℕ
+  pub ends : flat.outcome_by (record { code = code; bound = bound; enough = enough }) exchanges input ≡ Some (Some verdict)
+
+-- It is that of the run instruction by instruction, for every code.
+abbrev pub RunsAgree : Type 0
+RunsAgree = (code : SuperstepCode) (input : List ℤ) (bound : ℕ) (verdict : Verdict) →
+    (IsOutcomeByExchanges code input bound verdict → IsFlatOutcome code input bound verdict) × (IsFlatOutcome code input bound verdict → IsOutcomeByExchanges code input bound verdict)

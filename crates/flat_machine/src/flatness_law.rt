@@ -1,6 +1,6 @@
 //! Workers with any lawful map are one flat machine.
 
-ghost use Rattle.flat_machine.specs.Flatness.{OutcomesAreSame, PurposesAreSame, WorkersAreFlat};
+ghost use Rattle.flat_machine.specs.Flatness.{OutcomesAreSame, PurposesAreSame, RunsAgree, WorkersAreFlat};
 
 /// The run of p workers with any lawful map is that of the flat machine, which has one memory, no
 /// workers and no messages: for every code, well formed or not, every input and every bound. So
@@ -11,4 +11,10 @@ pub fn workers_are_flat()
     ensures purposes { PurposesAreSame }
     // Instruction by instruction.
     ensures flat { WorkersAreFlat }
+{}
+
+/// The flat machine's run has the same outcomes exchange by exchange and instruction by instruction, for
+/// every code.
+pub fn runs_agree()
+    ensures { RunsAgree }
 {}

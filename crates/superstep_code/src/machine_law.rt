@@ -6,7 +6,7 @@ ghost use Rattle.pram_values.specs.declared.kind.Kind.TheVariants.{DivideByZero,
 ghost use Rattle.pram_values.specs.declared.place.Place.TheVariants.{All, Processor, Cell};
 ghost use Rattle.write_rules.specs.Verdict.{Ended, Faulted, GoesOn};
 ghost use Rattle.superstep_code.specs.Run.{IsBspOutcome, Sends, Replies, Closes};
-ghost use Rattle.superstep_code.specs.Trace.{AreBspExchanges};
+ghost use Rattle.superstep_code.specs.Trace.{AreBspExchanges, relation_of};
 ghost use Rattle.superstep_code.specs.Examples.{broadcast, too_wide, refused_run, in_turn};
 ghost use Rattle.superstep_code.specs.FaultExamples.{late_conflict, two_levels, zero_at_once, out_of_range, late_output};
 ghost use Rattle.superstep_code.specs.WorkedExamples.{three_turns, crossed_reads, added_up, counting_down, uniform_puts, three_parts};
@@ -24,6 +24,9 @@ pub fn broadcast_on_two_workers()
         ∷ record { purpose = Sends; sent = 6 ∷ 6 ∷ []; received = 6 ∷ 6 ∷ [] }
         ∷ record { purpose = Closes; sent = 0 ∷ 0 ∷ []; received = 0 ∷ 0 ∷ [] }
         ∷ []) }
+    // The most words that a worker sends or receives in an exchange.
+    ensures most_received { relation_of (record { purpose = Sends; sent = 1 ∷ 1 ∷ []; received = 2 ∷ 0 ∷ [] }) ≡ 2 }
+    ensures most_sent { relation_of (record { purpose = Replies; sent = 2 ∷ 5 ∷ 0 ∷ []; received = 3 ∷ 3 ∷ 1 ∷ [] }) ≡ 5 }
     ensures exclusive_alone { IsBspOutcome (record broadcast { rule = Erew }) (in_turn 8 1) (pos 9 ∷ pos 8 ∷ []) 2
         (Faulted (record { kind = ReadConflict; line = 8; place = Cell 0 }) []) }
     // A worker that is refused memory ends the run of all, without an outcome.

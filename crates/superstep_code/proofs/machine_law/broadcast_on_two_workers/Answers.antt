@@ -6,6 +6,8 @@ returns c = record {
   ended = record { enough = 20; exchanges = 9; ends = refl };
   bounded = record { enough = 20; exchanges = 9; ends = refl };
   exchanges = record { enough = 20; most = 9; ends = refl; told = refl };
+  most_received = refl;
+  most_sent = refl;
   exclusive_alone = record { enough = 20; exchanges = 9; ends = refl };
   refused = refl;
   exclusive = record { enough = 20; exchanges = 9; ends = refl };
