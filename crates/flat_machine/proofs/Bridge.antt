@@ -1,5 +1,5 @@
 -- The flat machine's run exchange by exchange and its run instruction by instruction have the same outcomes.
-use Rattle.std.proofs.Common.{◌≡◌, ℕ, zero, suc, ◌+◌, ◌<◌, ◌≤◌, List, map, Bool, true, false, eqb, Option, Some, None, ℤ, refl, sym, ap, ◌∙◌, subst, arith}
+use Rattle.std.proofs.Common.{◌≡◌, ℕ, zero, suc, ◌+◌, ◌≤◌, List, Bool, true, false, eqb, Option, Some, None, ℤ, refl, sym, ap, ◌∙◌, subst, arith}
 use Rattle.std.specs.Prelude.{if◌then◌else◌, slice_get}
 use Rattle.pram_values.specs.Truth.{is_nonzero}
 use Rattle.write_rules.specs.Verdict.{Verdict}
@@ -9,11 +9,12 @@ use Rattle.superstep_code.specs.Code.{SuperstepCode}
 use Rattle.superstep_code.specs.Parts.{UniformPart}
 use Rattle.superstep_code.specs.Stretch.{Stop, ToSend, ToReply, ToVote, ToClose, Arrival, Nowhere, At, advance, until}
 use Rattle.superstep_code.specs.declared.key.Key.{Key}
-use Rattle.superstep_code.specs.Run.{Purpose, Sends, Replies, Votes, Closes, Way, On, Ending, Past, Refused, Lost, is_held, is_over, verdict_by, decided, due, unless}
+use Rattle.superstep_code.specs.Run.{Purpose, Sends, Replies, Votes, Closes, Way, On, Ending, Past, Refused, Lost, is_held, is_over, decided, due, unless}
 use Rattle.bsp_verify.proofs.RunLemmas.{decided_same}
-use Rattle.flat_machine.specs.Flat.{Flat, cells, after_instr, after_send}
-use Rattle.flat_machine.specs.ByExchanges.{Plan, State, stretch, ready_at, ready_by, after, after_exchange, next, run, outcome_of, outcome_by, opening}
-use Rattle.flat_machine.specs.ByInstructions.{stopped, exchanged, closed, going, instructed, step_by, step, steps, everywhere, outcome_within}
+use Rattle.flat_machine.specs.Flat.{Flat, after_instr, after_send}
+use Rattle.flat_machine.specs.ByExchanges.{Plan, State, stretch, ready_at, ready_by, after, after_exchange, run, outcome_of, outcome_by, opening}
+use Rattle.flat_machine.proofs.Stepping.{IsPast, outcome_is_past, unsome, over_stays, steps_more}
+use Rattle.flat_machine.specs.ByInstructions.{stopped, exchanged, closed, going, instructed, steps, everywhere, outcome_within}
 
 abbrev uniform : Flat → UniformPart
 uniform f = f.uniform
@@ -21,9 +22,9 @@ uniform f = f.uniform
 -- Whatever two readings of one run answer where it is nowhere, at a stop, or goes on: if the answers stand in a relation there, they do
 -- after an instruction.
 module _ (code : SuperstepCode) (bound : ℕ) {R Q : Type 0} (Rel : R → Q → Type 0) (place : ℕ) (f : Flat)
-  (nowhere : R) (nowheres : Q) (lost : Rel nowhere nowheres)
-  (stops : Stop → ℕ → Flat → R) (stopping : Stop → ℕ → Flat → Q) (stops_same : (stop : Stop) → Rel (stops stop place f) (stopping stop place f))
-  (on : ℕ → Flat → R) (going_on : ℕ → Flat → Q) (goes : (k : ℕ) (g : Flat) → Rel (on k g) (going_on k g)) where
+    (nowhere : R) (nowheres : Q) (lost : Rel nowhere nowheres)
+    (stops : Stop → ℕ → Flat → R) (stopping : Stop → ℕ → Flat → Q) (stops_same : (stop : Stop) → Rel (stops stop place f) (stopping stop place f))
+    (on : ℕ → Flat → R) (going_on : ℕ → Flat → Q) (goes : (k : ℕ) (g : Flat) → Rel (on k g) (going_on k g)) where
   marked : (line : ℕ) (b : Bool) →
       Rel (if b then stops (ToClose false) place f else on (place + 1) (after_instr code (Mark line) f)) (if b then stopping (ToClose false) place f else going_on (place + 1) (after_instr code (Mark line) f))
   marked line true = stops_same (ToClose false)
@@ -52,50 +53,47 @@ module _ (t : Plan) where
   lost_at place f = record { flat = f; place = place; way = Lost }
 
   -- a run that is over stays so
-  stays : (n : ℕ) (s : State) (way : Way) → s.way ≡ way → (way ≡ On → ⊥) → many n s ≡ s
-  stays zero s way e h = refl
-  stays (suc n) s On e h = absurd (h refl)
-  stays (suc n) s (Ending ended) e h = ap (λ w. many n (step_by t.code t.bound everywhere s w)) e ∙ stays n s (Ending ended) e h
-  stays (suc n) s (Past key ended) e h = ap (λ w. many n (step_by t.code t.bound everywhere s w)) e ∙ stays n s (Past key ended) e h
-  stays (suc n) s Refused e h = ap (λ w. many n (step_by t.code t.bound everywhere s w)) e ∙ stays n s Refused e h
-  stays (suc n) s Lost e h = ap (λ w. many n (step_by t.code t.bound everywhere s w)) e ∙ stays n s Lost e h
-
-  more : (m n : ℕ) (s : State) → many (m + n) s ≡ many n (many m s)
-  more zero n s = ap (λ k. many k s) (let e : 0 + n ≡ n = omega arith in e)
-  more (suc m) n s = ap (λ k. many k s) (let e : suc m + n ≡ suc (m + n) = omega arith in e) ∙ more m n (step t.code t.bound everywhere s)
+  stays : (n : ℕ) (s : State) → (s.way ≡ On → ⊥) → many n s ≡ s
+  stays = over_stays t.code t.bound everywhere
 
   -- only what is past has an outcome
-  no_outcome : {A : Type 0} (s : State) (way : Way) → s.way ≡ way → ((key : Option Key) (ended : Bool) → way ≡ Past key ended → ⊥) → (v : Verdict) → outcome_of t.code s ≡ Some v → A
-  no_outcome s On e h v o = let z : None ≡ Some v = sym (ap (λ w. verdict_by w s.flat.uniform.output (map s.flat.memory (cells t.code))) e) ∙ o in cc
-  no_outcome s (Ending ended) e h v o = let z : None ≡ Some v = sym (ap (λ w. verdict_by w s.flat.uniform.output (map s.flat.memory (cells t.code))) e) ∙ o in cc
-  no_outcome s (Past key ended) e h v o = absurd (h key ended refl)
-  no_outcome s Refused e h v o = let z : None ≡ Some v = sym (ap (λ w. verdict_by w s.flat.uniform.output (map s.flat.memory (cells t.code))) e) ∙ o in cc
-  no_outcome s Lost e h v o = let z : None ≡ Some v = sym (ap (λ w. verdict_by w s.flat.uniform.output (map s.flat.memory (cells t.code))) e) ∙ o in cc
+  no_outcome : {A : Type 0} (s : State) (way : Way) → s.way ≡ way → (IsPast way → ⊥) → (v : Verdict) → outcome_of t.code s ≡ Some v → A
+  no_outcome s way e h v o = absurd (h (subst IsPast e (outcome_is_past t.code s v o)))
 
   on_is : (s : State) → s.way ≡ On → s ≡ going s.place s.flat
   on_is s e = λ i. record { flat = s.flat; place = s.place; way = e i }
 
+  -- a run of one exchange more, by its way
+  abbrev went : ℕ → State → Way → Option (Option Verdict)
+  went x s way = if is_over way then Some (outcome_of t.code s) else run t x (after t.code (ready_by t s way))
+
   run_on : (x : ℕ) (s : State) → s.way ≡ On → run t (suc x) s ≡ run t x (after t.code (ready_at s (stretch t s)))
-  run_on x s e = ap (λ w. if is_over w then Some (outcome_of t.code s) else run t x (after t.code (ready_by t s w))) e
+  run_on x s e = ap (went x s) e
 
   run_past : (x : ℕ) (s : State) (key : Option Key) (ended : Bool) → s.way ≡ Past key ended → run t (suc x) s ≡ Some (outcome_of t.code s)
-  run_past x s key ended e = ap (λ w. if is_over w then Some (outcome_of t.code s) else run t x (after t.code (ready_by t s w))) e
+  run_past x s key ended e = ap (went x s) e
 
   -- a close takes one exchange, or two
   module _ (s : State) (ended : Bool) (place : ℕ) (f : Flat) where
     abbrev closing : Bool → State
     closing b = after t.code (record { purpose = if b then Sends else Closes; state = record s { flat = f; place = place; way = Ending ended } })
 
+    abbrev closed_if : Bool → State
+    closed_if b = let last = if b then after_send t.code f else f in record { flat = last; place = place; way = Past last.key ended }
+
+    abbrev unended : Bool → Way
+    unended b = if b then Ending ended else unless (due f.key f.uniform.count) (Ending ended)
+
     closes : (x : ℕ) (b : Bool) → is_held f.uniform.put ≡ b → run t (suc (suc x)) (closing b) ≡ Some (outcome_of t.code (closed t.code ended place f))
     closes x true e =
-        run_ended (ap (λ c. if c then Ending ended else unless (due f.key f.uniform.count) (Ending ended)) e)
-        ∙ ap (λ c. Some (outcome_of t.code (let last = if c then after_send t.code f else f in record { flat = last; place = place; way = Past last.key ended }))) (sym e)
+        run_ended (ap unended e)
+        ∙ ap (λ c. Some (outcome_of t.code (closed_if c))) (sym e)
       where
         run_ended : (closing true).way ≡ Ending ended → run t (suc (suc x)) (closing true) ≡ Some (outcome_of t.code (record { flat = after_send t.code f; place = place; way = Past (after_send t.code f).key ended }))
         run_ended h =
             ap (λ w. if is_over w then Some (outcome_of t.code (closing true)) else run t (suc x) (after t.code (ready_by t (record (closing true) { way = w }) w))) h
     closes x false e =
-        ap (λ c. Some (outcome_of t.code (let last = if c then after_send t.code f else f in record { flat = last; place = place; way = Past last.key ended }))) (sym e)
+        ap (λ c. Some (outcome_of t.code (closed_if c))) (sym e)
 
   -- ---- from instructions to exchanges
 
@@ -112,14 +110,14 @@ module _ (t : Plan) where
     settles k comes enough s o x l = go s.way refl
       where
         over : (way : Way) → s.way ≡ way → (way ≡ On → ⊥) → outcome_of t.code s ≡ Some v
-        over way e h = ap (outcome_of t.code) (sym (stays k s way e h)) ∙ o
+        over way e h = ap (outcome_of t.code) (sym (stays k s (λ on. h (sym e ∙ on)))) ∙ o
 
         go : (way : Way) → s.way ≡ way → run t (suc (suc x)) s ≡ Some (Some v)
         go On e = run_on (suc x) s e ∙ comes enough s.place s.flat (ap (λ z. outcome_of t.code (many k z)) (sym (on_is s e)) ∙ o) t.enough x enough l s e
         go (Past key ended) e = run_past (suc x) s key ended e ∙ ap (λ z. Some z) (over (Past key ended) e (λ h. cc))
-        go (Ending ended) e = no_outcome s (Ending ended) e (λ key b h. cc) v (over (Ending ended) e (λ h. cc))
-        go Refused e = no_outcome s Refused e (λ key b h. cc) v (over Refused e (λ h. cc))
-        go Lost e = no_outcome s Lost e (λ key b h. cc) v (over Lost e (λ h. cc))
+        go (Ending ended) e = no_outcome s (Ending ended) e (λ h. h) v (over (Ending ended) e (λ h. cc))
+        go Refused e = no_outcome s Refused e (λ h. h) v (over Refused e (λ h. cc))
+        go Lost e = no_outcome s Lost e (λ h. h) v (over Lost e (λ h. cc))
 
     module _ (k : ℕ) (comes : Comes k v) (enough : k ≤ t.enough) (x : ℕ) (l : k ≤ x) (s : State) (on : s.way ≡ On) where
       abbrev Same : State → Arrival Flat → Type 0
@@ -138,13 +136,13 @@ module _ (t : Plan) where
       stops place f (ToVote d) o = exchanges (Votes d) place f o
       stops place f (ToClose ended) o =
           closes s ended place f x (is_held f.uniform.put) refl
-          ∙ ap (λ z. Some z) (ap (outcome_of t.code) (sym (stays k (closed t.code ended place f) (closed t.code ended place f).way refl (λ h. cc))) ∙ o)
+          ∙ ap (λ z. Some z) (ap (outcome_of t.code) (sym (stays k (closed t.code ended place f) (λ on. cc))) ∙ o)
 
       lost : (place : ℕ) (f : Flat) → Same (lost_at place f) Nowhere
-      lost place f o = no_outcome (lost_at place f) Lost refl (λ key b h. cc) v (ap (outcome_of t.code) (sym (stays k (lost_at place f) Lost refl (λ h. cc))) ∙ o)
+      lost place f o = no_outcome (lost_at place f) Lost refl (λ h. h) v (ap (outcome_of t.code) (sym (stays k (lost_at place f) (λ on. cc))) ∙ o)
 
     comes_on : (k : ℕ) → Comes k v
-    comes_on zero enough place f o a x la lx s on = no_outcome (going place f) On refl (λ key b h. cc) v o
+    comes_on zero enough place f o a x la lx s on = no_outcome (going place f) On refl (λ h. h) v o
     comes_on (suc k) enough place f o zero x la lx s on = absurd (omega (arith, la))
     comes_on (suc k) enough place f o (suc a) zero la lx s on = absurd (omega (arith, lx))
     comes_on (suc k) enough place f o (suc a) (suc x) la lx s on =
@@ -173,7 +171,7 @@ module _ (t : Plan) where
   reaches (suc a) place f =
       earlier place f (until t.bound uniform (after_instr t.code) t.code.instructions (suc a) place f)
       (advances t.code t.bound Reached place f (lost_at place f) Nowhere tt (stopped t.code everywhere) (λ stop n g. At stop n g) (λ stop. reaches_stop stop)
-        going (until t.bound uniform (after_instr t.code) t.code.instructions a) (reaches a) (slice_get t.code.instructions place))
+      going (until t.bound uniform (after_instr t.code) t.code.instructions a) (reaches a) (slice_get t.code.instructions place))
     where
       reaches_stop : (stop : Stop) → Reached (stopped t.code everywhere stop place f) (At stop place f)
       reaches_stop stop = (0, refl)
@@ -184,27 +182,24 @@ module _ (t : Plan) where
 
     -- behind some instructions
     later : (n : ℕ) (s z : State) → many n s ≡ z → Returns z → Returns s
-    later n s z e r = (n + r.0, ap (outcome_of t.code) (more n r.0 s ∙ ap (many r.0) e) ∙ r.1)
-
-    unsome : (o : Option Verdict) → Some o ≡ Some (Some v) → o ≡ Some v
-    unsome o h = cc
+    later n s z e r = (n + r.0, ap (outcome_of t.code) (steps_more t.code t.bound everywhere n r.0 s ∙ ap (many r.0) e) ∙ r.1)
 
     closes_back : (s : State) (ended : Bool) (place : ℕ) (f : Flat) (x : ℕ) (b : Bool) → is_held f.uniform.put ≡ b → run t x (closing s ended place f b) ≡ Some (Some v) → outcome_of t.code (closed t.code ended place f) ≡ Some v
     closes_back s ended place f zero b e h = cc
     closes_back s ended place f (suc zero) true e h =
-        let w : (closing s ended place f true).way ≡ Ending ended = ap (λ c. if c then Ending ended else unless (due f.key f.uniform.count) (Ending ended)) e in
+        let w : (closing s ended place f true).way ≡ Ending ended = ap (unended s ended place f) e in
         let z : None ≡ Some (Some v) = sym (ap (λ y. if is_over y then Some (outcome_of t.code (closing s ended place f true)) else None) w) ∙ h in
         cc
     closes_back s ended place f (suc zero) false e h =
-        ap (λ c. outcome_of t.code (let last = if c then after_send t.code f else f in record { flat = last; place = place; way = Past last.key ended })) e ∙ unsome _ h
-    closes_back s ended place f (suc (suc x)) b e h = unsome _ (sym (closes s ended place f x b e) ∙ h)
+        ap (λ c. outcome_of t.code (closed_if s ended place f c)) e ∙ unsome _ (Some v) h
+    closes_back s ended place f (suc (suc x)) b e h = unsome _ (Some v) (sym (closes s ended place f x b e) ∙ h)
 
     not_ending : (p : Purpose) (f : Flat) (ended : Bool) → decided p f.uniform f.key On ≡ Ending ended → ⊥
     not_ending p f ended h = let z : On ≡ Ending ended = decided_same (Ending ended) (λ key b e. cc) p f.uniform f.key On h in cc
 
     lost_ends : {A : Type 0} (x : ℕ) (s : State) → s.way ≡ Lost → run t x s ≡ Some (Some v) → A
     lost_ends zero s e h = cc
-    lost_ends (suc x) s e h = no_outcome s Lost e (λ key b k. cc) v (unsome _ (sym (ap (λ w. if is_over w then Some (outcome_of t.code s) else run t x (after t.code (ready_by t s w))) e) ∙ h))
+    lost_ends (suc x) s e h = no_outcome s Lost e (λ h. h) v (unsome _ (Some v) (sym (ap (went x s) e) ∙ h))
 
     module _ (x : ℕ) (rest : (s : State) → ((ended : Bool) → s.way ≡ Ending ended → ⊥) → run t x s ≡ Some (Some v) → Returns s) (s : State) (on : s.way ≡ On) where
       exchange_returns : (p : Purpose) (place : ℕ) (f : Flat) (n : ℕ) → many n (going s.place s.flat) ≡ exchanged t.code everywhere p place f →
@@ -212,7 +207,7 @@ module _ (t : Plan) where
       exchange_returns p place f n e h =
           later n s (exchanged t.code everywhere p place f) (ap (many n) (on_is s on) ∙ e)
           (rest (exchanged t.code everywhere p place f) (not_ending p f)
-            (ap (λ w. run t x (record { flat = after_exchange t.code p f; place = place + 1; way = decided p f.uniform f.key w })) (sym on) ∙ h))
+          (ap (λ w. run t x (record { flat = after_exchange t.code p f; place = place + 1; way = decided p f.uniform f.key w })) (sym on) ∙ h))
 
       arrival_returns : (a : Arrival Flat) → Reached (going s.place s.flat) a → run t x (after t.code (ready_at s a)) ≡ Some (Some v) → Returns s
       arrival_returns Nowhere r h = lost_ends x (after t.code (ready_at s Nowhere)) refl h
@@ -229,8 +224,8 @@ module _ (t : Plan) where
         go : ((z : State) → ((ended : Bool) → z.way ≡ Ending ended → ⊥) → run t x z ≡ Some (Some v) → Returns z) → (way : Way) → s.way ≡ way → Returns s
         go rest On e = arrival_returns x rest s e (stretch t s) (reaches t.enough s.place s.flat) (sym (run_on x s e) ∙ h)
         go rest (Ending ended) e = absurd (unended ended e)
-        go rest (Past key ended) e = (0, unsome _ (sym (run_past x s key ended e) ∙ h))
-        go rest Refused e = no_outcome s Refused e (λ key b k. cc) v (unsome _ (sym (ap (λ w. if is_over w then Some (outcome_of t.code s) else run t x (after t.code (ready_by t s w))) e) ∙ h))
+        go rest (Past key ended) e = (0, unsome _ (Some v) (sym (run_past x s key ended e) ∙ h))
+        go rest Refused e = no_outcome s Refused e (λ h. h) v (unsome _ (Some v) (sym (ap (went x s) e) ∙ h))
         go rest Lost e = lost_ends (suc x) s e h
 
 -- ---- both ways

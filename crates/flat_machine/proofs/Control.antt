@@ -28,12 +28,12 @@ module _ (t : Setting) where
   -- Whatever two runs answer where they are nowhere, at a stop, or go on: if the answers stand in a relation there, they do after an
   -- instruction. The relation looks at the workers that there are.
   module _ (instr : InstructionsSplit) {R Q : Type 0} (Rel : R → (ℕ → Q) → Type 0)
-    (same : (a : R) (each other : ℕ → Q) → ((w : ℕ) → w < workers t → each w ≡ other w) → Rel a each → Rel a other)
-    (nowhere : R) (nowheres : Q) (lost : Rel nowhere (λ w. nowheres))
-    (stops : Stop → ℕ → Flat → R) (stopping : Stop → ℕ → Worker → Q)
-    (stopped : (stop : Stop) (place : ℕ) (f : Flat) (ws : ℕ → Worker) → Splits t f ws → Rel (stops stop place f) (λ w. stopping stop place (ws w)))
-    (next : ℕ → Flat → R) (nexts : ℕ → ℕ → Worker → Q)
-    (goes : (place : ℕ) (f : Flat) (ws : ℕ → Worker) → Splits t f ws → Rel (next place f) (λ w. nexts w place (ws w))) where
+      (same : (a : R) (each other : ℕ → Q) → ((w : ℕ) → w < workers t → each w ≡ other w) → Rel a each → Rel a other)
+      (nowhere : R) (nowheres : Q) (lost : Rel nowhere (λ w. nowheres))
+      (stops : Stop → ℕ → Flat → R) (stopping : Stop → ℕ → Worker → Q)
+      (stopped : (stop : Stop) (place : ℕ) (f : Flat) (ws : ℕ → Worker) → Splits t f ws → Rel (stops stop place f) (λ w. stopping stop place (ws w)))
+      (next : ℕ → Flat → R) (nexts : ℕ → ℕ → Worker → Q)
+      (goes : (place : ℕ) (f : Flat) (ws : ℕ → Worker) → Splits t f ws → Rel (next place f) (λ w. nexts w place (ws w))) where
     module _ (place : ℕ) (f : Flat) (ws : ℕ → Worker) (s : Splits t f ws) where
       acts : (i : Instr) → Rel (next (place + 1) (flat.after_instr t.code i f)) (λ w. nexts w (place + 1) (worker.after_instr t w i (ws w)))
       acts i = goes (place + 1) (flat.after_instr t.code i f) (λ w. worker.after_instr t w i (ws w)) (instr i f ws s)

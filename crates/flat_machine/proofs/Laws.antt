@@ -1,38 +1,18 @@
 -- Workers with any lawful map are the flat machine.
-use Rattle.std.proofs.Common.{◌≡◌, ℕ, suc, ◌<◌, List, Some, ℤ, refl, sym, ap, ◌∙◌}
-use Rattle.write_rules.specs.Verdict.{Verdict}
-use Rattle.address_map.specs.Lawful.{Shape}
-use Rattle.superstep_code.specs.Code.{SuperstepCode}
-use Rattle.superstep_code.specs.Setting.{Setting}
-use Rattle.superstep_code.specs.Run.{IsBspOutcome, opening, setting}
+use Rattle.std.proofs.Common.{suc, sym, ◌∙◌}
+use Rattle.superstep_code.specs.Run.{opening, setting}
 use Rattle.flat_machine.specs.ByExchanges as flat
-use Rattle.flat_machine.specs.ByInstructions.{IsFlatOutcome}
-use Rattle.flat_machine.specs.Flatness.{IsMapFor, plan, OutcomesAreSame, PurposesAreSame, IsOutcomeByExchanges, RunsAgree, WorkersAreFlat}
+use Rattle.flat_machine.specs.Flatness.{OutcomesAreSame, PurposesAreSame, RunsAgree, WorkersAreFlat}
 use Rattle.flat_machine.specs.OneControl.{OneControlBetween, OneExchange, OneControlAfter}
-use Rattle.flat_machine.proofs.Opening.{splits_same, splits_opening}
-use Rattle.flat_machine.proofs.Instructions.{splits_instr}
-use Rattle.flat_machine.proofs.Replies.{splits_vote, splits_reply}
-use Rattle.flat_machine.proofs.SendSplits.{splits_send}
-use Rattle.flat_machine.proofs.Lockstep.{Keeps}
 use Rattle.flat_machine.proofs.Runs.{run_same, purposes_same, opening_agrees}
 use Rattle.flat_machine.proofs.Bridge.{to_exchanges, to_instructions}
 use Rattle.flat_machine.proofs.Together as together
 
-keeps : (t : Setting) → IsMapFor t.code t.map → Keeps t
-keeps t room = record {
-  same = splits_same t room;
-  begins = splits_opening t room;
-  instr = splits_instr t room;
-  send = splits_send t room;
-  reply = splits_reply t room;
-  vote = splits_vote t room;
-}
-
 pub outcomes_are_same : OutcomesAreSame
-outcomes_are_same t room n input = run_same t room (keeps t room) n (flat.opening input) (opening t input) (opening_agrees t room (keeps t room) input)
+outcomes_are_same t room n input = run_same t room n (flat.opening input) (opening t input) (opening_agrees t room input)
 
 pub purposes_are_same : PurposesAreSame
-purposes_are_same t room n input = purposes_same t room (keeps t room) n (flat.opening input) (opening t input) (opening_agrees t room (keeps t room) input)
+purposes_are_same t room n input = purposes_same t room n (flat.opening input) (opening t input) (opening_agrees t room input)
 
 pub runs_agree : RunsAgree
 runs_agree code input bound verdict = (
@@ -47,10 +27,10 @@ workers_are_flat code map room input bound verdict = (
 )
 
 pub one_control_between : OneControlBetween
-one_control_between t room input n m w v lw lv = together.between t room (keeps t room) w v lw lv input n m
+one_control_between t room input n m w v lw lv = together.between t room w v lw lv input n m
 
 pub one_exchange : OneExchange
-one_exchange t room input n w v lw lv = together.exchange t room (keeps t room) w v lw lv input n
+one_exchange t room input n w v lw lv = together.exchange t room w v lw lv input n
 
 pub one_control_after : OneControlAfter
-one_control_after t room input n w v lw lv = together.after t room (keeps t room) w v lw lv input n
+one_control_after t room input n w v lw lv = together.after t room w v lw lv input n

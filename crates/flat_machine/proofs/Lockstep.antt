@@ -1,45 +1,24 @@
 -- The run of the workers goes exchange by exchange with that of the flat machine.
-use Rattle.std.proofs.Common.{◌≡◌, ℕ, zero, suc, ◌+◌, ◌<◌, ◌≤◌, List, [], ◌∷◌, map, length, get_or, Bool, true, false, ◌||◌, eqb, Option, Some, None, ℤ, pos, refl, sym, ap, ◌∙◌, arith}
-use Rattle.std.specs.Prelude.{if◌then◌else◌, slice_get, slice_index_or}
+use Rattle.std.proofs.Common.{◌≡◌, ℕ, zero, suc, ◌+◌, ◌<◌, List, [], ◌∷◌, map, false, ◌||◌, refl, sym, ap, ◌∙◌, arith}
+use Rattle.std.specs.Prelude.{if◌then◌else◌}
 use Rattle.std.specs.List.{list_any, range_with_len}
-use Rattle.std.proofs.lemmas.List.FromFn.{get_or-map-range_with_len}
-use Rattle.pram_syntax.specs.Layout.{total_size}
-use Rattle.pram_values.specs.Total.{total}
-use Rattle.pram_values.proofs.Totals.{total_map}
-use Rattle.write_rules.specs.Verdict.{Verdict}
-use Rattle.superstep_code.specs.declared.key.Key.{Key}
-use Rattle.superstep_code.specs.Keys.{least}
-use Rattle.superstep_code.specs.Setting.{Setting, workers, module_cells, all_cells}
+use Rattle.superstep_code.specs.Setting.{Setting, workers}
 use Rattle.superstep_code.specs.Parts.{UniformPart}
 use Rattle.superstep_code.specs.Words.{Message}
 use Rattle.superstep_code.specs.Worker.{Worker}
-use Rattle.superstep_code.specs.Sending.{sent}
-use Rattle.superstep_code.specs.Sending as sending
-use Rattle.superstep_code.specs.Answering.{replied, voted, closing}
-use Rattle.superstep_code.specs.Answering as answering
 use Rattle.superstep_code.specs.Stretch.{ToSend, ToReply, ToVote, ToClose, Arrival, Nowhere, At}
-use Rattle.superstep_code.specs.Machine.{phase, column, run}
 use Rattle.superstep_code.specs.Run.{Purpose, Sends, Replies, Votes, Closes, Way, On, Ending, Past, Refused, Lost, Ready, ready, ready_at, ready_by, is_held, message_for, message_of, key_of, decided, after_exchange, after, is_over, verdict_by, state_of, cell_in, no_state, outcome_of, bsp, opening, opening_worker}
 use Rattle.superstep_code.specs.Run as workers_run
-use Rattle.superstep_code.specs.Trace.{Exchange, exchange_of, exchanges_from}
 use Rattle.flat_machine.specs.Flat.{Flat}
-use Rattle.flat_machine.specs.Flat as flat
 use Rattle.flat_machine.specs.ByExchanges as flat_run
 use Rattle.flat_machine.specs.Flatness.{IsMapFor, plan}
 use Rattle.flat_machine.proofs.Relation.{Splits}
-use Rattle.flat_machine.proofs.Control.{InstructionsSplit, ArrivedAs, until_splits}
+use Rattle.flat_machine.proofs.Opening.{splits_same}
+use Rattle.flat_machine.proofs.Instructions.{splits_instr}
+use Rattle.flat_machine.proofs.Control.{ArrivedAs, until_splits}
 
 abbrev pub numbers : Setting → List ℕ
 numbers t = range_with_len 0 (workers t)
-
--- what keeps the workers one flat state
-pub record Keeps (t : Setting) : Type 0 where
-  pub same : (f : Flat) (ws vs : ℕ → Worker) → ((w : ℕ) → w < workers t → ws w ≡ vs w) → Splits t f ws → Splits t f vs
-  pub begins : (input : List ℤ) → Splits t (flat.opening input) (opening_worker t input)
-  pub instr : InstructionsSplit t
-  pub send : (f : Flat) (ws : ℕ → Worker) → Splits t f ws → Splits t (flat.after_send t.code f) (λ w. sending.after_send t w (ws w) (map (λ i. sent t (ws i) w) (numbers t)))
-  pub reply : (f : Flat) (ws : ℕ → Worker) → Splits t f ws → Splits t (flat.after_reply f) (λ w. answering.after_reply t (ws w) (map (λ i. replied t (ws i) w) (numbers t)))
-  pub vote : (d : ℕ) (f : Flat) (ws : ℕ → Worker) → Splits t f ws → Splits t (flat.after_vote d f) (λ w. answering.after_vote d (ws w) (map (λ i. voted (ws i)) (numbers t)))
 
 pub map_within : {A : Type 0} (f g : ℕ → A) (n k : ℕ) → ((o : ℕ) → o < k + n → f o ≡ g o) → map f (range_with_len k n) ≡ map g (range_with_len k n)
 map_within f g zero k h = refl
@@ -70,7 +49,7 @@ pub none_refused : (f : ℕ → Message) → ((i : ℕ) → (f i).refused ≡ fa
 none_refused f h [] = refl
 none_refused f h (x ∷ xs) = ap (λ b. b || list_any (λ (m : Message). m.refused) (map f xs)) (h x) ∙ none_refused f h xs
 
-module _ (t : Setting) (room : IsMapFor t.code t.map) (keeps : Keeps t) where
+module _ (t : Setting) (room : IsMapFor t.code t.map) where
   -- all workers stand where the flat machine does
   pub record Agree (s : flat_run.State) (ws : ℕ → workers_run.State) : Type 0 where
     pub splits : Splits t s.flat (λ w. (ws w).worker)
@@ -86,11 +65,11 @@ module _ (t : Setting) (room : IsMapFor t.code t.map) (keeps : Keeps t) where
   -- ---- up to the exchange
 
   module _ (s : flat_run.State) (ws : ℕ → workers_run.State) (a : Agree s ws) where
-    arrives : (b : Arrival Flat) (each : ℕ → Arrival Worker) → ArrivedAs t keeps.instr b each → ReadyAs (flat_run.ready_at s b) (λ w. ready_at (ws w) (each w))
+    arrives : (b : Arrival Flat) (each : ℕ → Arrival Worker) → ArrivedAs t (splits_instr t room) b each → ReadyAs (flat_run.ready_at s b) (λ w. ready_at (ws w) (each w))
     arrives Nowhere each h = record {
       purpose = λ w l. ap (λ (x : Arrival Worker). (ready_at (ws w) x).purpose) (h w l);
       states = record {
-        splits = keeps.same s.flat (λ w. (ws w).worker) _ (λ w l. ap (λ (x : Arrival Worker). (ready_at (ws w) x).state.worker) (sym (h w l))) a.splits;
+        splits = splits_same t room s.flat (λ w. (ws w).worker) _ (λ w l. ap (λ (x : Arrival Worker). (ready_at (ws w) x).state.worker) (sym (h w l))) a.splits;
         place = λ w l. ap (λ (x : Arrival Worker). (ready_at (ws w) x).state.place) (h w l) ∙ a.place w l;
         way = λ w l. ap (λ (x : Arrival Worker). (ready_at (ws w) x).state.way) (h w l);
         unrefused = λ w l. ap (λ (x : Arrival Worker). (ready_at (ws w) x).state.refusals) (h w l) ∙ a.unrefused w l;
@@ -99,7 +78,7 @@ module _ (t : Setting) (room : IsMapFor t.code t.map) (keeps : Keeps t) where
     arrives (At ToSend place f) each h = record {
       purpose = λ w l. ap (λ (x : Arrival Worker). (ready_at (ws w) x).purpose) (h.1 w l);
       states = record {
-        splits = keeps.same f h.0 _ (λ w l. ap (λ (x : Arrival Worker). (ready_at (ws w) x).state.worker) (sym (h.1 w l))) h.2;
+        splits = splits_same t room f h.0 _ (λ w l. ap (λ (x : Arrival Worker). (ready_at (ws w) x).state.worker) (sym (h.1 w l))) h.2;
         place = λ w l. ap (λ (x : Arrival Worker). (ready_at (ws w) x).state.place) (h.1 w l);
         way = λ w l. ap (λ (x : Arrival Worker). (ready_at (ws w) x).state.way) (h.1 w l) ∙ a.way w l;
         unrefused = λ w l. ap (λ (x : Arrival Worker). (ready_at (ws w) x).state.refusals) (h.1 w l) ∙ a.unrefused w l;
@@ -108,7 +87,7 @@ module _ (t : Setting) (room : IsMapFor t.code t.map) (keeps : Keeps t) where
     arrives (At ToReply place f) each h = record {
       purpose = λ w l. ap (λ (x : Arrival Worker). (ready_at (ws w) x).purpose) (h.1 w l);
       states = record {
-        splits = keeps.same f h.0 _ (λ w l. ap (λ (x : Arrival Worker). (ready_at (ws w) x).state.worker) (sym (h.1 w l))) h.2;
+        splits = splits_same t room f h.0 _ (λ w l. ap (λ (x : Arrival Worker). (ready_at (ws w) x).state.worker) (sym (h.1 w l))) h.2;
         place = λ w l. ap (λ (x : Arrival Worker). (ready_at (ws w) x).state.place) (h.1 w l);
         way = λ w l. ap (λ (x : Arrival Worker). (ready_at (ws w) x).state.way) (h.1 w l) ∙ a.way w l;
         unrefused = λ w l. ap (λ (x : Arrival Worker). (ready_at (ws w) x).state.refusals) (h.1 w l) ∙ a.unrefused w l;
@@ -117,7 +96,7 @@ module _ (t : Setting) (room : IsMapFor t.code t.map) (keeps : Keeps t) where
     arrives (At (ToVote d) place f) each h = record {
       purpose = λ w l. ap (λ (x : Arrival Worker). (ready_at (ws w) x).purpose) (h.1 w l);
       states = record {
-        splits = keeps.same f h.0 _ (λ w l. ap (λ (x : Arrival Worker). (ready_at (ws w) x).state.worker) (sym (h.1 w l))) h.2;
+        splits = splits_same t room f h.0 _ (λ w l. ap (λ (x : Arrival Worker). (ready_at (ws w) x).state.worker) (sym (h.1 w l))) h.2;
         place = λ w l. ap (λ (x : Arrival Worker). (ready_at (ws w) x).state.place) (h.1 w l);
         way = λ w l. ap (λ (x : Arrival Worker). (ready_at (ws w) x).state.way) (h.1 w l) ∙ a.way w l;
         unrefused = λ w l. ap (λ (x : Arrival Worker). (ready_at (ws w) x).state.refusals) (h.1 w l) ∙ a.unrefused w l;
@@ -126,7 +105,7 @@ module _ (t : Setting) (room : IsMapFor t.code t.map) (keeps : Keeps t) where
     arrives (At (ToClose ended) place f) each h = record {
       purpose = λ w l. ap (λ (x : Arrival Worker). (ready_at (ws w) x).purpose) (h.1 w l) ∙ ap (λ (u : UniformPart). if is_held u.put then Sends else Closes) (h.2.uniform w l);
       states = record {
-        splits = keeps.same f h.0 _ (λ w l. ap (λ (x : Arrival Worker). (ready_at (ws w) x).state.worker) (sym (h.1 w l))) h.2;
+        splits = splits_same t room f h.0 _ (λ w l. ap (λ (x : Arrival Worker). (ready_at (ws w) x).state.worker) (sym (h.1 w l))) h.2;
         place = λ w l. ap (λ (x : Arrival Worker). (ready_at (ws w) x).state.place) (h.1 w l);
         way = λ w l. ap (λ (x : Arrival Worker). (ready_at (ws w) x).state.way) (h.1 w l);
         unrefused = λ w l. ap (λ (x : Arrival Worker). (ready_at (ws w) x).state.refusals) (h.1 w l) ∙ a.unrefused w l;
@@ -137,7 +116,7 @@ module _ (t : Setting) (room : IsMapFor t.code t.map) (keeps : Keeps t) where
     ready_same r rs qs e h = record {
       purpose = λ w l. ap (λ (x : Ready). x.purpose) (sym (e w l)) ∙ h.purpose w l;
       states = record {
-        splits = keeps.same r.state.flat (λ w. (rs w).state.worker) (λ w. (qs w).state.worker) (λ w l. ap (λ (x : Ready). x.state.worker) (e w l)) h.states.splits;
+        splits = splits_same t room r.state.flat (λ w. (rs w).state.worker) (λ w. (qs w).state.worker) (λ w l. ap (λ (x : Ready). x.state.worker) (e w l)) h.states.splits;
         place = λ w l. ap (λ (x : Ready). x.state.place) (sym (e w l)) ∙ h.states.place w l;
         way = λ w l. ap (λ (x : Ready). x.state.way) (sym (e w l)) ∙ h.states.way w l;
         unrefused = λ w l. ap (λ (x : Ready). x.state.refusals) (sym (e w l)) ∙ h.states.unrefused w l;
@@ -153,7 +132,7 @@ module _ (t : Setting) (room : IsMapFor t.code t.map) (keeps : Keeps t) where
         ready_same _ (λ w. ready_at (ws w) (workers_run.stretch t w (record (ws w) { place = s.place }))) _
         (λ w l. ap (λ k. ready_at (ws w) (workers_run.stretch t w (record (ws w) { place = k }))) (sym (a.place w l)))
         (arrives (flat_run.stretch (plan t) s) (λ w. workers_run.stretch t w (record (ws w) { place = s.place }))
-          (until_splits t keeps.instr t.code.instructions t.enough s.place s.flat (λ w. (ws w).worker) a.splits))
+        (until_splits t (splits_instr t room) t.code.instructions t.enough s.place s.flat (λ w. (ws w).worker) a.splits))
 
     pub readies : ReadyAs (flat_run.ready (plan t) s) (λ w. ready t w (ws w))
     readies = ready_same _ (λ w. ready_by t w (ws w) s.way) _ (λ w l. ap (ready_by t w (ws w)) (sym (a.way w l))) (go s.way)

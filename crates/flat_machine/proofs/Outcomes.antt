@@ -1,5 +1,5 @@
 -- Verified code has exactly one outcome.
-use Rattle.std.proofs.Common.{ℕ, ◌+◌, ◌*◌, length}
+use Rattle.std.proofs.Common.{◌+◌, ◌*◌, length}
 use Rattle.flat_machine.specs.ByInstructions.{everywhere}
 use Rattle.flat_machine.specs.Verdicts.{OneOutcome}
 use Rattle.flat_machine.proofs.Stepping.{one_end}

@@ -1,36 +1,34 @@
 -- The runs of the workers and of the flat machine have the same exchanges and the same outcome.
-use Rattle.std.proofs.Common.{◌≡◌, ℕ, zero, suc, ◌+◌, ◌<◌, ◌≤◌, List, [], ◌∷◌, map, length, get_or, Bool, true, false, Option, Some, None, ℤ, pos, refl, sym, ap, ◌∙◌, arith}
+use Rattle.std.proofs.Common.{◌≡◌, ℕ, zero, suc, ◌<◌, List, [], ◌∷◌, map, Bool, true, false, Some, None, ℤ, pos, refl, sym, ap, ◌∙◌, arith}
 use Rattle.std.specs.Prelude.{if◌then◌else◌, slice_index_or}
-use Rattle.std.specs.List.{list_any, range_with_len}
+use Rattle.std.specs.List.{range_with_len}
 use Rattle.std.proofs.lemmas.List.FromFn.{get_or-map-range_with_len}
 use Rattle.pram_syntax.specs.Layout.{total_size}
-use Rattle.pram_values.specs.Total.{total}
 use Rattle.pram_values.proofs.Totals.{total_map, total_same}
-use Rattle.write_rules.specs.Verdict.{Verdict}
-use Rattle.superstep_code.specs.declared.key.Key.{Key}
 use Rattle.superstep_code.specs.Keys.{least}
-use Rattle.superstep_code.specs.Setting.{Setting, workers, module_cells, all_cells}
+use Rattle.superstep_code.specs.Setting.{Setting, workers, all_cells}
 use Rattle.superstep_code.specs.Parts.{UniformPart}
 use Rattle.superstep_code.specs.Words.{Message}
-use Rattle.superstep_code.specs.Worker.{Worker}
 use Rattle.superstep_code.specs.Machine.{phase, phases, column, run}
 use Rattle.superstep_code.specs.Run.{Purpose, Sends, Replies, Votes, Closes, Way, Refused, State, Ready, ready, message_for, message_of, key_of, decided, refused_now, refused_later, after_exchange, after, is_over, verdict_by, state_of, cell_in, no_state, outcome_of, bsp, opening}
 use Rattle.superstep_code.specs.Trace.{Exchange, exchange_of, exchanges_from}
-use Rattle.flat_machine.specs.Flat.{Flat}
-use Rattle.flat_machine.specs.Flat as flat
 use Rattle.flat_machine.specs.ByExchanges as flat_run
-use Rattle.flat_machine.specs.Flatness.{IsMapFor, plan, OutcomesAreSame, PurposesAreSame}
+use Rattle.flat_machine.specs.Flatness.{IsMapFor, plan}
 use Rattle.flat_machine.proofs.Relation.{Splits}
-use Rattle.flat_machine.proofs.Lockstep.{numbers, Keeps, map_within, not_refused, own_key, unmarked, none_refused, Agree, ReadyAs, readies}
+use Rattle.flat_machine.proofs.Lists.{map_twice}
+use Rattle.flat_machine.proofs.Opening.{splits_same, splits_opening}
+use Rattle.flat_machine.proofs.Replies.{splits_vote, splits_reply}
+use Rattle.flat_machine.proofs.SendSplits.{splits_send}
+use Rattle.flat_machine.proofs.Lockstep.{numbers, map_within, not_refused, own_key, unmarked, none_refused, Agree, ReadyAs, readies}
 
-module _ (t : Setting) (room : IsMapFor t.code t.map) (keeps : Keeps t) where
+module _ (t : Setting) (room : IsMapFor t.code t.map) where
   -- there is a worker
   first : 0 < workers t
   first = let h = room.lawful.one in omega (arith, h)
 
   -- ---- an exchange
 
-  module _ (r : flat_run.Ready) (rs : ℕ → Ready) (h : ReadyAs t room keeps r rs) where
+  module _ (r : flat_run.Ready) (rs : ℕ → Ready) (h : ReadyAs t room r rs) where
     abbrev column_to : ℕ → List Message
     column_to w = map (λ i. message_for t r.purpose (rs i).state.worker w) (numbers t)
 
@@ -70,25 +68,25 @@ module _ (t : Setting) (room : IsMapFor t.code t.map) (keeps : Keeps t) where
         }
 
     exchange_splits : (p : Purpose) → Splits t (flat_run.after_exchange t.code p r.state.flat) (λ w. after_exchange t w p (rs w).state.worker (map (λ i. message_for t p (rs i).state.worker w) (numbers t)))
-    exchange_splits Sends = keeps.send r.state.flat (λ w. (rs w).state.worker) h.states.splits
-    exchange_splits Replies = keeps.reply r.state.flat (λ w. (rs w).state.worker) h.states.splits
-    exchange_splits (Votes d) = keeps.vote d r.state.flat (λ w. (rs w).state.worker) h.states.splits
+    exchange_splits Sends = splits_send t room r.state.flat (λ w. (rs w).state.worker) h.states.splits
+    exchange_splits Replies = splits_reply t room r.state.flat (λ w. (rs w).state.worker) h.states.splits
+    exchange_splits (Votes d) = splits_vote t room d r.state.flat (λ w. (rs w).state.worker) h.states.splits
     exchange_splits Closes = h.states.splits
 
-    exchanged : Agree t room keeps (flat_run.after t.code r) came_to
+    exchanged : Agree t room (flat_run.after t.code r) came_to
     exchanged = record { splits = exchange_splits r.purpose; place = λ w l. refl; way = λ w l. refl; unrefused = λ w l. refl }
 
-  agree_same : (s : flat_run.State) (ws vs : ℕ → State) → ((w : ℕ) → w < workers t → ws w ≡ vs w) → Agree t room keeps s ws → Agree t room keeps s vs
+  agree_same : (s : flat_run.State) (ws vs : ℕ → State) → ((w : ℕ) → w < workers t → ws w ≡ vs w) → Agree t room s ws → Agree t room s vs
   agree_same s ws vs e a = record {
-    splits = keeps.same s.flat (λ w. (ws w).worker) (λ w. (vs w).worker) (λ w l. ap (λ (x : State). x.worker) (e w l)) a.splits;
+    splits = splits_same t room s.flat (λ w. (ws w).worker) (λ w. (vs w).worker) (λ w l. ap (λ (x : State). x.worker) (e w l)) a.splits;
     place = λ w l. ap (λ (x : State). x.place) (sym (e w l)) ∙ a.place w l;
     way = λ w l. ap (λ (x : State). x.way) (sym (e w l)) ∙ a.way w l;
     unrefused = λ w l. ap (λ (x : State). x.refusals) (sym (e w l)) ∙ a.unrefused w l;
   }
 
-  module _ (s : flat_run.State) (ws : ℕ → State) (a : Agree t room keeps s ws) where
-    abbrev at : ReadyAs t room keeps (flat_run.ready (plan t) s) (λ w. ready t w (ws w))
-    at = readies t room keeps s ws a
+  module _ (s : flat_run.State) (ws : ℕ → State) (a : Agree t room s ws) where
+    abbrev at : ReadyAs t room (flat_run.ready (plan t) s) (λ w. ready t w (ws w))
+    at = readies t room s ws a
 
     -- the messages are those of one kind of exchange
     message_is : (i w : ℕ) → i < workers t → message_of t i (ws i) w ≡ message_for t (flat_run.ready (plan t) s).purpose (ready t i (ws i)).state.worker w
@@ -102,7 +100,7 @@ module _ (t : Setting) (room : IsMapFor t.code t.map) (keeps : Keeps t) where
         map_within (λ i. message_of t i (ws i) w) (λ i. message_for t (flat_run.ready (plan t) s).purpose (ready t i (ws i)).state.worker w) (workers t) 0
         (λ i l. message_is i w (let k : i < workers t = omega (arith, l) in k))
 
-    pub phase_agrees : Agree t room keeps (flat_run.next (plan t) s) (phase (bsp t) (workers t) ws)
+    pub phase_agrees : Agree t room (flat_run.next (plan t) s) (phase (bsp t) (workers t) ws)
     phase_agrees =
         agree_same (flat_run.next (plan t) s) (came_to (flat_run.ready (plan t) s) (λ w. ready t w (ws w)) at) (phase (bsp t) (workers t) ws)
         (λ w l. sym (ap (after t w (ready t w (ws w))) (column_is w) ∙ after_is (flat_run.ready (plan t) s) (λ v. ready t v (ws v)) at w l))
@@ -120,13 +118,9 @@ module _ (t : Setting) (room : IsMapFor t.code t.map) (keeps : Keeps t) where
         let below = room.lawful.part_below c k in
         ap (λ (x : State). slice_index_or x.worker.cells (t.map.offset c) (pos 0)) (state_is j below)
         ∙ ap (λ (xs : List ℤ). slice_index_or xs (t.map.offset c) (pos 0)) (a.splits.cells j below)
-        ∙ ap (λ (xs : List ℤ). slice_index_or xs (t.map.offset c) (pos 0)) (map_map s.flat.memory (t.map.cell j) (range_with_len 0 (t.map.width j)))
+        ∙ ap (λ (xs : List ℤ). slice_index_or xs (t.map.offset c) (pos 0)) (map_twice s.flat.memory (t.map.cell j) (range_with_len 0 (t.map.width j)))
         ∙ get_or-map-range_with_len (λ o. s.flat.memory (t.map.cell j o)) 0 (t.map.width j) (t.map.offset c) (t.map.offset c) (pos 0) (room.lawful.offset_below c k) (omega arith)
         ∙ ap s.flat.memory (room.lawful.back c k)
-      where
-        map_map : {A B C : Type 0} (f : B → C) (g : A → B) (xs : List A) → map f (map g xs) ≡ map (λ x. f (g x)) xs
-        map_map f g [] = refl
-        map_map f g (x ∷ xs) = ap (λ ys. f (g x) ∷ ys) (map_map f g xs)
 
     pub outcome_is : outcome_of t (map ws (numbers t)) ≡ flat_run.outcome_of t.code s
     outcome_is =
@@ -137,14 +131,14 @@ module _ (t : Setting) (room : IsMapFor t.code t.map) (keeps : Keeps t) where
 
   -- ---- whole runs
 
-  pub run_same : (n : ℕ) (s : flat_run.State) (ws : ℕ → State) → Agree t room keeps s ws → run (bsp t) (workers t) n ws ≡ flat_run.run (plan t) n s
+  pub run_same : (n : ℕ) (s : flat_run.State) (ws : ℕ → State) → Agree t room s ws → run (bsp t) (workers t) n ws ≡ flat_run.run (plan t) n s
   run_same zero s ws a = refl
   run_same (suc n) s ws a =
       ap (λ (way : Way). if is_over way then Some (outcome_of t (map ws (numbers t))) else run (bsp t) (workers t) n (phase (bsp t) (workers t) ws)) (a.way 0 first)
       ∙ ap (λ o. if is_over s.way then Some o else run (bsp t) (workers t) n (phase (bsp t) (workers t) ws)) (outcome_is s ws a)
       ∙ ap (λ o. if is_over s.way then Some (flat_run.outcome_of t.code s) else o) (run_same n (flat_run.next (plan t) s) (phase (bsp t) (workers t) ws) (phase_agrees s ws a))
 
-  pub purposes_same : (n : ℕ) (s : flat_run.State) (ws : ℕ → State) → Agree t room keeps s ws → map (λ (e : Exchange). e.purpose) (exchanges_from t n ws) ≡ flat_run.purposes_from (plan t) n s
+  pub purposes_same : (n : ℕ) (s : flat_run.State) (ws : ℕ → State) → Agree t room s ws → map (λ (e : Exchange). e.purpose) (exchanges_from t n ws) ≡ flat_run.purposes_from (plan t) n s
   purposes_same zero s ws a = refl
   purposes_same (suc n) s ws a =
       ap (λ (way : Way). map (λ (e : Exchange). e.purpose) (if is_over way then [] else exchange_of t ws ∷ exchanges_from t n (phase (bsp t) (workers t) ws))) (a.way 0 first)
@@ -155,9 +149,9 @@ module _ (t : Setting) (room : IsMapFor t.code t.map) (keeps : Keeps t) where
       go true rest = refl
       go false rest = (λ i. ((at s ws a).purpose 0 first i) ∷ rest i)
 
-  pub phases_agree : (n : ℕ) (s : flat_run.State) (ws : ℕ → State) → Agree t room keeps s ws → (x : flat_run.State) × Agree t room keeps x (phases (bsp t) (workers t) n ws)
+  pub phases_agree : (n : ℕ) (s : flat_run.State) (ws : ℕ → State) → Agree t room s ws → (x : flat_run.State) × Agree t room x (phases (bsp t) (workers t) n ws)
   phases_agree zero s ws a = (s, a)
   phases_agree (suc n) s ws a = phases_agree n (flat_run.next (plan t) s) (phase (bsp t) (workers t) ws) (phase_agrees s ws a)
 
-  pub opening_agrees : (input : List ℤ) → Agree t room keeps (flat_run.opening input) (opening t input)
-  opening_agrees input = record { splits = keeps.begins input; place = λ w l. refl; way = λ w l. refl; unrefused = λ w l. refl }
+  pub opening_agrees : (input : List ℤ) → Agree t room (flat_run.opening input) (opening t input)
+  opening_agrees input = record { splits = splits_opening t room input; place = λ w l. refl; way = λ w l. refl; unrefused = λ w l. refl }

@@ -1,18 +1,13 @@
 -- A send of the workers is that of the flat machine.
-use Rattle.std.proofs.Common.{◌≡◌, ℕ, zero, suc, ◌+◌, List, [], ◌∷◌, ◌++◌, map, Bool, true, false, Some, None, refl, ap, ◌∙◌, subst, arith}
+use Rattle.std.proofs.Common.{◌≡◌, ℕ, zero, suc, ◌+◌, List, [], ◌∷◌, map, Bool, true, false, Some, None, refl, ap, ◌∙◌, subst, arith}
 use Rattle.std.specs.Prelude.{if◌then◌else◌, ◌&&◌, slice_get, slice_index_or}
-use Rattle.std.specs.List.{AllByRecursion, range_with_len}
+use Rattle.std.specs.List.{range_with_len}
 use Rattle.pram_values.specs.Total.{total}
 use Rattle.pram_values.proofs.Totals.{total_within, total_none, total_both}
 use Rattle.write_rules.specs.Rule.{shares_reads}
-use Rattle.superstep_code.specs.declared.instr.Side.TheVariants.{Uniform, Private}
-use Rattle.superstep_code.specs.declared.instr.Instr.{Instr}
-use Rattle.superstep_code.specs.declared.instr.Instr.TheVariants.{Ask}
-use Rattle.superstep_code.specs.Code.{SuperstepCode}
 use Rattle.superstep_code.specs.Keys.{least}
 use Rattle.superstep_code.specs.Setting.{Setting, workers, processors, module_cells}
 use Rattle.superstep_code.specs.Parts.{Read, UniformPart}
-use Rattle.superstep_code.specs.Steps.{on_uniform}
 use Rattle.superstep_code.specs.Words.{CellAsk, Message}
 use Rattle.superstep_code.specs.Worker.{Worker}
 use Rattle.superstep_code.specs.Sending.{join, is_several, sent, entry_came, verdict_on, put_conflict, askers_came, is_private, read_conflicts, conflicts, uniform_sent, own_sent}

@@ -4,8 +4,7 @@ use Rattle.std.specs.Prelude.{slice_get}
 use Rattle.superstep_code.specs.Setting.{Setting, workers, processors}
 use Rattle.superstep_code.specs.Parts.{PrivatePart}
 use Rattle.superstep_code.specs.Worker.{Worker, after_instr}
-use Rattle.superstep_code.specs.Machine.{phases}
-use Rattle.superstep_code.specs.Run.{State, ready, bsp, opening}
+use Rattle.superstep_code.specs.Run.{State, ready, opening}
 use Rattle.flat_machine.specs.Flat.{Flat}
 use Rattle.flat_machine.specs.Flat as flat
 use Rattle.flat_machine.specs.ByExchanges as flat_run
@@ -14,7 +13,8 @@ use Rattle.flat_machine.specs.OneControl.{walked, AreAlike, AreTogether, AreAtOn
 use Rattle.flat_machine.specs.OneControl as control
 use Rattle.flat_machine.proofs.Relation.{Splits}
 use Rattle.flat_machine.proofs.Control.{flat_uniform, worker_uniform, WalkedAs, walked_splits}
-use Rattle.flat_machine.proofs.Lockstep.{Keeps, Agree, ReadyAs, readies}
+use Rattle.flat_machine.proofs.Instructions.{splits_instr}
+use Rattle.flat_machine.proofs.Lockstep.{Agree, readies}
 use Rattle.flat_machine.proofs.Runs.{phases_agree, opening_agrees}
 
 -- an item of a list that was made by a function
@@ -23,7 +23,7 @@ made_by f [] i a h = cc
 made_by f (v ∷ vs) zero a h = (v, cc)
 made_by f (v ∷ vs) (suc i) a h = made_by f vs i a h
 
-module _ (t : Setting) (room : IsMapFor t.code t.map) (keeps : Keeps t) where
+module _ (t : Setting) (room : IsMapFor t.code t.map) where
   module _ (f : Flat) (xs : ℕ → Worker) (s : Splits t f xs) (w v : ℕ) (lw : w < workers t) (lv : v < workers t) where
     own_of : (w : ℕ) → w < workers t → (i : ℕ) (a : PrivatePart) → slice_get (xs w).own i ≡ Some a → (k : ℕ) × (f.own k ≡ a)
     own_of w l i a h = made_by f.own (processors t w f.uniform.width) i a (ap (λ (ys : List PrivatePart). slice_get ys i) (sym (s.own w l)) ∙ h)
@@ -38,13 +38,13 @@ module _ (t : Setting) (room : IsMapFor t.code t.map) (keeps : Keeps t) where
     }
 
   module _ (w v : ℕ) (lw : w < workers t) (lv : v < workers t) where
-    together : (a : Option (ℕ × Flat)) (each : ℕ → Option (ℕ × Worker)) → WalkedAs t keeps.instr a each → AreTogether (each w) (each v)
+    together : (a : Option (ℕ × Flat)) (each : ℕ → Option (ℕ × Worker)) → WalkedAs t (splits_instr t room) a each → AreTogether (each w) (each v)
     together None each h = subst (λ (o : Option (ℕ × Worker)). AreTogether o (each v)) (sym (h w lw)) (subst (λ (o : Option (ℕ × Worker)). AreTogether None o) (sym (h v lv)) tt)
     together (Some (place, f)) each h =
         subst (λ (o : Option (ℕ × Worker)). AreTogether o (each v)) (sym (h.1 w lw))
         (subst (λ (o : Option (ℕ × Worker)). AreTogether (Some (place, h.0 w)) o) (sym (h.1 v lv)) (refl, alike f h.0 h.2 w v lw lv))
 
-    at_one : (s : flat_run.State) (ws : ℕ → State) → Agree t room keeps s ws → AreAtOne (ws w) (ws v)
+    at_one : (s : flat_run.State) (ws : ℕ → State) → Agree t room s ws → AreAtOne (ws w) (ws v)
     at_one s ws a = record {
       place = a.place w lw ∙ sym (a.place v lv);
       way = a.way w lw ∙ sym (a.way v lv);
@@ -55,8 +55,8 @@ module _ (t : Setting) (room : IsMapFor t.code t.map) (keeps : Keeps t) where
       abbrev states : ℕ → State
       states = control.after t input n
 
-      abbrev agreed : (x : flat_run.State) × Agree t room keeps x states
-      agreed = phases_agree t room keeps n (flat_run.opening input) (opening t input) (opening_agrees t room keeps input)
+      abbrev agreed : (x : flat_run.State) × Agree t room x states
+      agreed = phases_agree t room n (flat_run.opening input) (opening t input) (opening_agrees t room input)
 
       pub between : (m : ℕ) → AreTogether (moment t input n m w) (moment t input n m v)
       between m =
@@ -66,11 +66,11 @@ module _ (t : Setting) (room : IsMapFor t.code t.map) (keeps : Keeps t) where
           subst (λ place. AreTogether (walk w place) (moment t input n m v)) (sym (a.place w lw))
           (subst (λ place. AreTogether (walk w s.place) (walk v place)) (sym (a.place v lv))
           (together (walked t.bound (flat_uniform t) (flat.after_instr t.code) t.code.instructions m s.place s.flat) (λ k. walk k s.place)
-            (walked_splits t keeps.instr t.code.instructions m s.place s.flat (λ k. (states k).worker) a.splits)))
+          (walked_splits t (splits_instr t room) t.code.instructions m s.place s.flat (λ k. (states k).worker) a.splits)))
 
       pub exchange : ((ready t w (states w)).purpose ≡ (ready t v (states v)).purpose) × AreAtOne (ready t w (states w)).state (ready t v (states v)).state
       exchange =
-          let r = readies t room keeps agreed.0 states agreed.1 in
+          let r = readies t room agreed.0 states agreed.1 in
           (r.purpose w lw ∙ sym (r.purpose v lv), at_one (flat_run.ready (plan t) agreed.0).state (λ k. (ready t k (states k)).state) r.states)
 
       pub after : AreAtOne (states w) (states v)

@@ -3,7 +3,7 @@ use Rattle.std.specs.Prelude.{ℕ, zero, suc, ◌+◌, List, [], ◌∷◌, map,
 use Rattle.write_rules.specs.Verdict.{Verdict}
 use Rattle.superstep_code.specs.Code.{SuperstepCode}
 use Rattle.superstep_code.specs.Stretch.{ToSend, ToReply, ToVote, ToClose, Arrival, Nowhere, At, until}
-use Rattle.superstep_code.specs.Run.{Purpose, Sends, Replies, Votes, Closes, Way, On, Ending, Past, Refused, Lost, is_held, decided, is_over, verdict_by}
+use Rattle.superstep_code.specs.Run.{Purpose, Sends, Replies, Votes, Closes, Way, On, Ending, Lost, is_held, decided, is_over, verdict_by}
 use Rattle.flat_machine.specs.Flat.{Flat, cells, after_instr, after_send, after_reply, after_vote}
 use Rattle.flat_machine.specs.Flat as flat
 

@@ -6,7 +6,7 @@ use Rattle.superstep_code.specs.Parts.{UniformPart, PrivatePart}
 use Rattle.superstep_code.specs.Worker.{Worker, after_instr}
 use Rattle.superstep_code.specs.Stretch.{advance}
 use Rattle.superstep_code.specs.Machine.{phases}
-use Rattle.superstep_code.specs.Run.{State, Ready, bsp, opening, ready}
+use Rattle.superstep_code.specs.Run.{State, bsp, opening, ready}
 use Rattle.flat_machine.specs.Flatness.{IsMapFor}
 
 -- the place and the state after n instructions of a stretch, if it has so many
