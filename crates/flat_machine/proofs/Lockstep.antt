@@ -6,7 +6,7 @@ use Rattle.superstep_code.specs.Setting.{Setting, workers}
 use Rattle.superstep_code.specs.Parts.{UniformPart}
 use Rattle.superstep_code.specs.Words.{Message}
 use Rattle.superstep_code.specs.Worker.{Worker}
-use Rattle.superstep_code.specs.Stretch.{ToSend, ToReply, ToVote, ToClose, Arrival, Nowhere, At}
+use Rattle.superstep_code.specs.Stretch.{Stop, ToSend, ToReply, ToVote, ToClose, Arrival, Nowhere, At}
 use Rattle.superstep_code.specs.Run.{Purpose, Sends, Replies, Votes, Closes, Way, On, Ending, Past, Refused, Lost, Ready, ready, ready_at, ready_by, is_held, message_for, message_of, key_of, decided, after_exchange, after, is_over, verdict_by, state_of, cell_in, no_state, outcome_of, bsp, opening, opening_worker}
 use Rattle.superstep_code.specs.Run as workers_run
 use Rattle.flat_machine.specs.Flat.{Flat}
@@ -65,53 +65,6 @@ module _ (t : Setting) (room : IsMapFor t.code t.map) where
   -- ---- up to the exchange
 
   module _ (s : flat_run.State) (ws : ℕ → workers_run.State) (a : Agree s ws) where
-    arrives : (b : Arrival Flat) (each : ℕ → Arrival Worker) → ArrivedAs t (splits_instr t room) b each → ReadyAs (flat_run.ready_at s b) (λ w. ready_at (ws w) (each w))
-    arrives Nowhere each h = record {
-      purpose = λ w l. ap (λ (x : Arrival Worker). (ready_at (ws w) x).purpose) (h w l);
-      states = record {
-        splits = splits_same t room s.flat (λ w. (ws w).worker) _ (λ w l. ap (λ (x : Arrival Worker). (ready_at (ws w) x).state.worker) (sym (h w l))) a.splits;
-        place = λ w l. ap (λ (x : Arrival Worker). (ready_at (ws w) x).state.place) (h w l) ∙ a.place w l;
-        way = λ w l. ap (λ (x : Arrival Worker). (ready_at (ws w) x).state.way) (h w l);
-        unrefused = λ w l. ap (λ (x : Arrival Worker). (ready_at (ws w) x).state.refusals) (h w l) ∙ a.unrefused w l;
-      };
-    }
-    arrives (At ToSend place f) each h = record {
-      purpose = λ w l. ap (λ (x : Arrival Worker). (ready_at (ws w) x).purpose) (h.1 w l);
-      states = record {
-        splits = splits_same t room f h.0 _ (λ w l. ap (λ (x : Arrival Worker). (ready_at (ws w) x).state.worker) (sym (h.1 w l))) h.2;
-        place = λ w l. ap (λ (x : Arrival Worker). (ready_at (ws w) x).state.place) (h.1 w l);
-        way = λ w l. ap (λ (x : Arrival Worker). (ready_at (ws w) x).state.way) (h.1 w l) ∙ a.way w l;
-        unrefused = λ w l. ap (λ (x : Arrival Worker). (ready_at (ws w) x).state.refusals) (h.1 w l) ∙ a.unrefused w l;
-      };
-    }
-    arrives (At ToReply place f) each h = record {
-      purpose = λ w l. ap (λ (x : Arrival Worker). (ready_at (ws w) x).purpose) (h.1 w l);
-      states = record {
-        splits = splits_same t room f h.0 _ (λ w l. ap (λ (x : Arrival Worker). (ready_at (ws w) x).state.worker) (sym (h.1 w l))) h.2;
-        place = λ w l. ap (λ (x : Arrival Worker). (ready_at (ws w) x).state.place) (h.1 w l);
-        way = λ w l. ap (λ (x : Arrival Worker). (ready_at (ws w) x).state.way) (h.1 w l) ∙ a.way w l;
-        unrefused = λ w l. ap (λ (x : Arrival Worker). (ready_at (ws w) x).state.refusals) (h.1 w l) ∙ a.unrefused w l;
-      };
-    }
-    arrives (At (ToVote d) place f) each h = record {
-      purpose = λ w l. ap (λ (x : Arrival Worker). (ready_at (ws w) x).purpose) (h.1 w l);
-      states = record {
-        splits = splits_same t room f h.0 _ (λ w l. ap (λ (x : Arrival Worker). (ready_at (ws w) x).state.worker) (sym (h.1 w l))) h.2;
-        place = λ w l. ap (λ (x : Arrival Worker). (ready_at (ws w) x).state.place) (h.1 w l);
-        way = λ w l. ap (λ (x : Arrival Worker). (ready_at (ws w) x).state.way) (h.1 w l) ∙ a.way w l;
-        unrefused = λ w l. ap (λ (x : Arrival Worker). (ready_at (ws w) x).state.refusals) (h.1 w l) ∙ a.unrefused w l;
-      };
-    }
-    arrives (At (ToClose ended) place f) each h = record {
-      purpose = λ w l. ap (λ (x : Arrival Worker). (ready_at (ws w) x).purpose) (h.1 w l) ∙ ap (λ (u : UniformPart). if is_held u.put then Sends else Closes) (h.2.uniform w l);
-      states = record {
-        splits = splits_same t room f h.0 _ (λ w l. ap (λ (x : Arrival Worker). (ready_at (ws w) x).state.worker) (sym (h.1 w l))) h.2;
-        place = λ w l. ap (λ (x : Arrival Worker). (ready_at (ws w) x).state.place) (h.1 w l);
-        way = λ w l. ap (λ (x : Arrival Worker). (ready_at (ws w) x).state.way) (h.1 w l);
-        unrefused = λ w l. ap (λ (x : Arrival Worker). (ready_at (ws w) x).state.refusals) (h.1 w l) ∙ a.unrefused w l;
-      };
-    }
-
     ready_same : (r : flat_run.Ready) (rs qs : ℕ → Ready) → ((w : ℕ) → w < workers t → rs w ≡ qs w) → ReadyAs r rs → ReadyAs r qs
     ready_same r rs qs e h = record {
       purpose = λ w l. ap (λ (x : Ready). x.purpose) (sym (e w l)) ∙ h.purpose w l;
@@ -122,6 +75,23 @@ module _ (t : Setting) (room : IsMapFor t.code t.map) where
         unrefused = λ w l. ap (λ (x : Ready). x.state.refusals) (sym (e w l)) ∙ h.states.unrefused w l;
       };
     }
+
+    -- all stop in the same way
+    stops : (stop : Stop) (place : ℕ) (f : Flat) (xs : ℕ → Worker) → Splits t f xs → ReadyAs (flat_run.ready_at s (At stop place f)) (λ w. ready_at (ws w) (At stop place (xs w)))
+    stops ToSend place f xs x = record { purpose = λ w l. refl; states = record { splits = x; place = λ w l. refl; way = a.way; unrefused = a.unrefused } }
+    stops ToReply place f xs x = record { purpose = λ w l. refl; states = record { splits = x; place = λ w l. refl; way = a.way; unrefused = a.unrefused } }
+    stops (ToVote d) place f xs x = record { purpose = λ w l. refl; states = record { splits = x; place = λ w l. refl; way = a.way; unrefused = a.unrefused } }
+    stops (ToClose ended) place f xs x = record {
+      purpose = λ w l. ap (λ (u : UniformPart). if is_held u.put then Sends else Closes) (x.uniform w l);
+      states = record { splits = x; place = λ w l. refl; way = λ w l. refl; unrefused = a.unrefused };
+    }
+
+    arrives : (b : Arrival Flat) (each : ℕ → Arrival Worker) → ArrivedAs t (splits_instr t room) b each → ReadyAs (flat_run.ready_at s b) (λ w. ready_at (ws w) (each w))
+    arrives Nowhere each h =
+        ready_same _ (λ w. ready_at (ws w) Nowhere) _ (λ w l. ap (ready_at (ws w)) (sym (h w l)))
+        (record { purpose = λ w l. refl; states = record { splits = a.splits; place = a.place; way = λ w l. refl; unrefused = a.unrefused } })
+    arrives (At stop place f) each h =
+        ready_same _ (λ w. ready_at (ws w) (At stop place (h.0 w))) _ (λ w l. ap (ready_at (ws w)) (sym (h.1 w l))) (stops stop place f h.0 h.2)
 
     -- workers that are not on their way close
     closes : ReadyAs (record { purpose = Closes; state = s }) (λ w. record { purpose = Closes; state = ws w })
