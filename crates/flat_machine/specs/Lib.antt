@@ -4,3 +4,5 @@ pub mod ByInstructions
 pub mod Flatness
 pub mod OneControl
 pub mod Verdicts
+pub mod Views
+pub mod RunViews

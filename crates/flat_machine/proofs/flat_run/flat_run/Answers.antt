@@ -1,0 +1,26 @@
+use Rattle.std.proofs.Common.{◌≡◌, ◌+◌, ◌*◌, ◌∙◌, length, Option, Result, Ok, Err, IfOk}
+use Rattle.write_rules.specs.declared.outcome.Outcome.{Outcome}
+use Rattle.flat_machine.specs.ByExchanges.{outcome_of}
+use Rattle.flat_machine.specs.ByInstructions.{outcome_within, everywhere}
+use Rattle.flat_machine.specs.RunViews.{state_of, verdict_in}
+use Rattle.flat_machine.proofs.AlikeLemmas.{outcome_comes}
+use Rattle.flat_machine.proofs.flat_run.flat_run.Goals as goal
+
+weaker : {T E : Type 0} (r : Result T E) (P Q : T → Type 0) → ((x : T) → P x → Q x) → IfOk r P → IfOk r Q
+weaker (Ok x) P Q f h = f x h
+weaker (Err e) P Q f h = h
+
+pub returns : goal.returns
+returns c =
+    let code = c.args.code.now in
+    let bound = c.args.bound in
+    let most = (bound + 1) * length code.instructions in
+    let first = state_of c.in_ok-run.run' in
+    let last = state_of c.advance.new.run in
+    record {
+      found = weaker c.outcome.result
+          (λ (o : Option Outcome). verdict_in o ≡ outcome_of code last)
+          (λ (o : Option Outcome). verdict_in o ≡ outcome_within code bound everywhere most c.args.input.now)
+          (λ o h. h ∙ outcome_comes code bound c.enough.result most c.args.input.now first last c.enough.ensures c.in_ok-run.ensures.state c.in_ok-advance.ensures.state)
+          c.outcome.ensures;
+    }

@@ -1,0 +1,12 @@
+use Rattle.std.proofs.Common.{None}
+use Rattle.superstep_code.specs.Keys.{least}
+use Rattle.superstep_code.specs.Steps.{own_key}
+use Rattle.flat_machine.specs.Views.{uniform_of, own_of}
+use Rattle.flat_machine.proofs.SumLemmas.{IsSumFrom}
+use Rattle.flat_machine.proofs.instruct.own_keys.Given as goal
+
+abbrev pub invariant-processors : goal.invariant-processors
+invariant-processors l = IsSumFrom None least (λ v. own_key l.code l.instr (uniform_of l.u) v (own_of l.processors.items v)) l.u.width l.v l.noted
+
+abbrev pub decreases-processors : goal.decreases-processors
+decreases-processors l = l.v

@@ -1,0 +1,20 @@
+//! Reads that are held.
+
+use superstep_code::instr::Side;
+
+/// When something is done: in which statement, by its count and its line, and at which position.
+#[derive(Clone, Copy, Debug, PartialEq, Eq)]
+pub struct Moment {
+    pub count: u32,
+    pub line: u32,
+    pub position: u32,
+}
+
+/// A read: the side and the number of its register, its moment, and the cell of a uniform read.
+#[derive(Clone, Copy, Debug, PartialEq, Eq)]
+pub struct Read {
+    pub side: Side,
+    pub destination: u16,
+    pub moment: Moment,
+    pub cell: Option<u32>,
+}

@@ -1,0 +1,22 @@
+//! The uniform part, of which there is one copy.
+
+ghost use Rattle.std.specs.Prelude.{◌≤ℤ◌, ◌+ℤ◌, ◌^◌, pos};
+
+use crate::read::{Moment, Read};
+
+/// The uniform part. The range of processors begins at the index `low`; `asks` are the reads that
+/// are held, and `awaited` those that were sent and have no answer yet; `put` is the moment of the
+/// put that is held; an item of the output has the count at which it was printed.
+#[derive(Drop)]
+pub struct UniformState {
+    pub count: u32,
+    pub line: u32,
+    pub registers: Vec<i64>,
+    pub low: i64,
+    pub width: u32,
+    pub asks: Vec<Read>,
+    pub awaited: Vec<Read>,
+    pub put: Option<Moment>,
+    pub output: Vec<(u32, i64)>,
+    ghost fits: { (low +ℤ pos width) ≤ℤ pos (2 ^ 63) },
+}
