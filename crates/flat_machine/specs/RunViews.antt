@@ -30,7 +30,7 @@ pub record IsRun (code : SuperstepCode) (bound : ℕ) (r : Run) : Type 0 where
   pub place : r.place < 2 ^ 16 + 1
 
 -- Two states don't differ but in processors outside the range.
-pub record AreAlike (s t : State) : Type 0 where
+pub record AreSameStates (s t : State) : Type 0 where
   pub flat : AreSame s.flat t.flat
   pub place : s.place ≡ t.place
   pub way : s.way ≡ t.way

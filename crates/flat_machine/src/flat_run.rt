@@ -1,11 +1,13 @@
 //! A run of superstep code on one memory, as a plain program beside its definition.
 
-ghost use Rattle.std.specs.Prelude.{◌≡◌, ◌+◌, ◌*◌, ◌≤◌, IfOk, OnOk, length};
+ghost use Rattle.std.specs.Prelude.{◌≡◌, ◌+◌, ◌*◌, ◌≤◌, Some, IfOk, OnOk, length};
+ghost use Rattle.bsp_verify.specs.WellFormed.{IsWellFormed};
+ghost use Rattle.write_rules.specs.Verdict.{Verdict};
 ghost use Rattle.superstep_code.specs.Limits.{most_instructions};
 ghost use Rattle.flat_machine.specs.ByExchanges.{opening};
-ghost use Rattle.flat_machine.specs.ByInstructions.{outcome_within, everywhere, steps};
+ghost use Rattle.flat_machine.specs.ByInstructions.{outcome_within, everywhere, steps, IsFlatOutcome};
 ghost use Rattle.flat_machine.specs.Views.{registers_of};
-ghost use Rattle.flat_machine.specs.RunViews.{state_of, is_going, verdict_in, IsRun, AreAlike};
+ghost use Rattle.flat_machine.specs.RunViews.{state_of, is_going, verdict_in, IsRun, AreSameStates};
 
 use crate::instruct::none_held;
 use crate::machine::Machine;
@@ -31,7 +33,7 @@ fn open_memory(alloc: Global, cells: u32, input: &[i64]) -> Result<Vec<i64>, All
 // The run before the first instruction.
 fn open(alloc: Global, code: &Code, bound: u32, input: &[i64]) -> Result<Run, AllocError>
     ensures run { IfOk result (λ run. IsRun code.now bound run) }
-    ensures state { IfOk result (λ run. AreAlike (state_of run) (opening input.now)) }
+    ensures state { IfOk result (λ run. AreSameStates (state_of run) (opening input.now)) }
 {
     let cells = code.layout().cells();
     let memory = open_memory(alloc, cells, input)?;
@@ -66,7 +68,7 @@ fn advance(
 ) -> Result<(), AllocError>
     requires { IsRun code.now bound run.old }
     ensures run { OnOk result (IsRun code.now bound run.new) }
-    ensures state { OnOk result (AreAlike (state_of run.new) (steps code.now bound everywhere most (state_of run.old))) }
+    ensures state { OnOk result (AreSameStates (state_of run.new) (steps code.now bound everywhere most (state_of run.old))) }
 {
     let mut left = most;
     'instructions: while left > 0 && is_on(run) {
@@ -100,6 +102,8 @@ pub fn flat_run(
     input: &[i64],
     bound: u32,
 ) -> Result<Option<Outcome>, AllocError>
+    // Of well-formed code that is its outcome, and there is one.
+    ensures well_formed { IfOk result (λ found. IsWellFormed code.now → (v : Verdict) × (verdict_in found ≡ Some v) × IsFlatOutcome code.now input.now bound v) }
     ensures found { IfOk result (λ found. verdict_in found ≡ outcome_within code.now bound everywhere ((bound + 1) * length code.now.instructions) input.now) }
 {
     let mut run = open(alloc, code, bound, input)?;

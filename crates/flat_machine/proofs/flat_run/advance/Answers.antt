@@ -1,7 +1,7 @@
 use Rattle.std.proofs.Common.{◌-◌, ◌∙◌, sym, subst, arith}
 use Rattle.flat_machine.specs.ByExchanges.{State}
 use Rattle.flat_machine.specs.ByInstructions.{steps, everywhere}
-use Rattle.flat_machine.specs.RunViews.{state_of, AreAlike}
+use Rattle.flat_machine.specs.RunViews.{state_of, AreSameStates}
 use Rattle.flat_machine.proofs.AlikeLemmas.{alike_on, one_step, steps_over, going_is_on}
 use Rattle.flat_machine.proofs.flat_run.advance.Goals as goal
 
@@ -26,6 +26,6 @@ returns-else-is_on-clause-state c =
     let code = c.args.code.now in
     let bound = c.args.bound in
     let old = state_of c.instructions.run in
-    subst (λ (s : State). AreAlike s (steps code bound everywhere c.args.most (state_of c.args.run.now)))
+    subst (λ (s : State). AreSameStates s (steps code bound everywhere c.args.most (state_of c.args.run.now)))
     (steps_over code bound c.instructions.left old (sym c.is_on.ensures ∙ c.if-is_on.false))
     c.instructions.invariant.1

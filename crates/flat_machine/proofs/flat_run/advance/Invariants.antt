@@ -1,11 +1,11 @@
 use Rattle.flat_machine.specs.ByInstructions.{steps, everywhere}
-use Rattle.flat_machine.specs.RunViews.{state_of, IsRun, AreAlike}
+use Rattle.flat_machine.specs.RunViews.{state_of, IsRun, AreSameStates}
 use Rattle.flat_machine.proofs.flat_run.advance.Given as goal
 
 abbrev pub invariant-instructions : goal.invariant-instructions
 invariant-instructions l =
     IsRun l.code l.bound l.run
-    × AreAlike (steps l.code l.bound everywhere l.left (state_of l.run)) (steps l.code l.bound everywhere l.most (state_of l.fn.run))
+    × AreSameStates (steps l.code l.bound everywhere l.left (state_of l.run)) (steps l.code l.bound everywhere l.most (state_of l.fn.run))
 
 abbrev pub decreases-instructions : goal.decreases-instructions
 decreases-instructions l = l.left
