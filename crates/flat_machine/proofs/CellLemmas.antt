@@ -1,11 +1,11 @@
 -- The cells that a send settles, and the answers of a reply.
-use Rattle.std.proofs.Common.{◌≡◌, ℕ, zero, suc, ◌+◌, ◌<◌, ◌≤◌, List, [], ◌∷◌, length, map, drop, Option, Some, None, ℤ, pos, refl, sym, ap, ◌∙◌, arith, ⊎_elim, ◌⊎◌, inl, inr, eqb, cond, slice_index_or, slice_set}
+use Rattle.std.proofs.Common.{◌≡◌, ℕ, zero, suc, ◌+◌, ◌<◌, ◌≤◌, List, [], ◌∷◌, length, map, drop, Option, None, ℤ, refl, sym, ap, ◌∙◌, arith, ⊎_elim, cond, slice_index_or, slice_set}
 use Rattle.std.proofs.lemmas.Bool.Decides.{eqb_tells}
 use Rattle.std.proofs.lemmas.List.{length-set}
 use Rattle.std.specs.List.{zip}
 use Rattle.pram_syntax.specs.declared.rule.Rule.{Rule}
 use Rattle.write_rules.specs.declared.entry.Entry.{Entry}
-use Rattle.superstep_code.specs.Parts.{Registers, Read, set_register}
+use Rattle.superstep_code.specs.Parts.{Registers, Read}
 use Rattle.superstep_code.specs.Sending.{verdict_on, settled}
 use Rattle.superstep_code.specs.Answering.{answer, answers, destinations}
 use Rattle.flat_machine.specs.declared.read.Read.{Read as HeldRead}

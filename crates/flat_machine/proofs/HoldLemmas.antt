@@ -1,6 +1,6 @@
 -- Nothing is written past the cells of the layout.
-use Rattle.std.proofs.Common.{◌≡◌, ℕ, zero, suc, ◌+◌, ◌<◌, ◌≤◌, List, [], ◌∷◌, Bool, true, false, ◌&&◌, cond, eqb, Option, Some, None, ℤ, pos, ◌-ℤ◌, nat_abs, refl, sym, ap, ◌∙◌, arith}
-use Rattle.std.specs.Prelude.{int_le, ◌≤ℤ◌}
+use Rattle.std.proofs.Common.{◌≡◌, ℕ, zero, suc, ◌+◌, ◌<◌, ◌≤◌, List, [], ◌∷◌, Bool, true, false, ◌&&◌, cond, Option, Some, None, ℤ, pos, ◌-ℤ◌, nat_abs, refl, ap, ◌∙◌, arith}
+use Rattle.std.specs.Prelude.{int_le}
 use Rattle.std.specs.List.{range_with_len}
 use Rattle.std.proofs.lemmas.Bool.{ne_eqb}
 use Rattle.std.proofs.lemmas.Int.{ints}

@@ -1,6 +1,5 @@
 -- The parts of the processors in their list, and the cells in theirs.
-use Rattle.std.proofs.Common.{◌≡◌, ℕ, zero, suc, ◌<◌, ◌≤◌, List, [], ◌∷◌, length, Option, Some, None, refl, sym, ap, ◌∙◌, arith, slice_index_or, slice_set, ◌+◌, ◌++◌, ⊎_elim, ◌⊎◌, inl, inr, eqb}
-use Rattle.std.proofs.lemmas.Bool.Decides.{eqb_tells}
+use Rattle.std.proofs.Common.{◌≡◌, ℕ, zero, suc, ◌<◌, ◌≤◌, List, [], ◌∷◌, length, Option, None, refl, sym, ap, ◌∙◌, arith, slice_index_or, slice_set, ◌+◌, ◌++◌, ⊎_elim}
 use Rattle.std.proofs.lemmas.List.{length-set}
 use Rattle.superstep_code.specs.Parts.{PrivatePart, fresh}
 use Rattle.superstep_code.specs.Sending.{cell_at}

@@ -1,6 +1,6 @@
 -- Flat states that don't differ within the range don't differ after an instruction or an exchange.
-use Rattle.std.proofs.Common.{◌≡◌, ℕ, zero, suc, ◌+◌, ◌<◌, ◌≤◌, List, [], ◌∷◌, Bool, true, false, ◌&&◌, ◌||◌, cond, Option, Some, None, ℤ, pos, refl, sym, ap, subst, ◌∙◌, arith}
-use Rattle.std.specs.List.{list_any, range_with_len}
+use Rattle.std.proofs.Common.{◌≡◌, ℕ, ◌+◌, ◌<◌, List, [], ◌∷◌, Bool, true, false, ◌&&◌, ◌||◌, cond, Option, Some, None, ℤ, pos, refl, sym, ap, subst, ◌∙◌, arith}
+use Rattle.std.specs.List.{range_with_len}
 use Rattle.pram_values.specs.declared.kind.Kind.TheVariants.{ReadConflict}
 use Rattle.pram_values.specs.Total.{total}
 use Rattle.pram_values.specs.Truth.{truth}
@@ -10,7 +10,6 @@ use Rattle.write_rules.specs.Rule.{shares_reads}
 use Rattle.superstep_code.specs.declared.instr.Side.TheVariants.{Uniform, Private}
 use Rattle.superstep_code.specs.declared.instr.Instr.{Instr}
 use Rattle.superstep_code.specs.declared.instr.Instr.TheVariants.{Enter, Leave, Ask, Put}
-use Rattle.superstep_code.specs.declared.key.Key.{Key}
 use Rattle.superstep_code.specs.Code.{SuperstepCode}
 use Rattle.superstep_code.specs.Keys.{least}
 use Rattle.superstep_code.specs.Parts.{Read, UniformPart, PrivatePart, set_register, fresh}

@@ -22,7 +22,7 @@ returns c =
     let first = state_of c.in_ok-run.run' in
     let last = state_of c.advance.new.run in
     let found = λ (o : Option Outcome) (h : verdict_in o ≡ outcome_of code last).
-        h ∙ outcome_comes code bound c.enough.result most input first last c.enough.ensures c.in_ok-run.ensures.state c.in_ok-advance.ensures.state in
+    h ∙ outcome_comes code bound c.enough.result most input first last c.enough.ensures c.in_ok-run.ensures.state c.in_ok-advance.ensures.state in
     record {
       well_formed = weaker c.outcome.result
           (λ (o : Option Outcome). verdict_in o ≡ outcome_of code last)
