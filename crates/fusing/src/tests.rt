@@ -1,0 +1,72 @@
+//! Listings, verified and fused, with the listings that were worked out by hand.
+
+use crate::fuse::fuse;
+use bsp_verify::verify::verify;
+use pram_syntax::buffer::Buffer;
+use std::alloc::Global;
+use superstep_code::listing_read::read_listing;
+use superstep_code::listing_write::write_listing;
+
+// The listing of the fused code.
+fn fused(alloc: Global, text: &[u8]) -> Option<Buffer> {
+    let code = read_listing(alloc, text).ok()?;
+    let verified = verify(alloc, code).ok()?;
+    let left = fuse(alloc, verified).ok()?;
+    let mut out = Buffer::new(alloc);
+    write_listing(left.code(), &mut out).ok()?;
+    Some(out)
+}
+
+#[test]
+fn code_without_empty_sends_stays(rt: HostRuntime) {
+    for text in [
+        // b[i] := a[1] for four processors
+        b"bsp 1\nrule crew\nprocs 4\narray a 1 2\narray b 1 4\nuniform 2\nprivate 2\ncode 13\n0 mark 7\n1 uset 0 1\n2 uset 1 4\n3 enter 0 1 1\n4 mark 8\n5 pset 0 1\n6 pask 1 0 0 1\n7 send\n8 reply\n9 pindex 0\n10 pput 1 0 1 2\n11 leave\n12 halt\n".as_slice(),
+        // a write is held from before the range to its end
+        b"bsp 1\nrule sum\nprocs 1\ncell s\nuniform 1\nprivate 0\ncode 6\n0 uput 0 0 0 1\n1 mark 2\n2 enter 0 0 1\n3 leave\n4 send\n5 halt\n",
+        // reads alone
+        b"bsp 1\nrule crew\nprocs 1\ncell s\nuniform 2\nprivate 0\ncode 5\n0 mark 1\n1 uask 0 0 1 1\n2 send\n3 reply\n4 halt\n",
+    ] {
+        let out = fused(rt.alloc(), text).expect(&rt, "fused code");
+        assert_eq!(rt; out.bytes(), text);
+    }
+}
+
+#[test]
+fn empty_sends_are_taken_away(rt: HostRuntime) {
+    for (text, left) in [
+        // behind a mark
+        (
+            b"bsp 1\nrule crew\nprocs 4\ncell s\nuniform 2\nprivate 0\ncode 8\n0 mark 1\n1 send\n2 uset 0 1\n3 jzero 0 6\n4 uset 1 2\n5 jump 0\n6 mark 2\n7 halt\n".as_slice(),
+            b"bsp 1\nrule crew\nprocs 4\ncell s\nuniform 2\nprivate 0\ncode 7\n0 mark 1\n1 uset 0 1\n2 jzero 0 5\n3 uset 1 2\n4 jump 0\n5 mark 2\n6 halt\n".as_slice(),
+        ),
+        // a jump to one goes to what stands behind it
+        (
+            b"bsp 1\nrule erew\nprocs 4\nuniform 1\nprivate 0\ncode 7\n0 mark 1\n1 send\n2 jzero 0 4\n3 uset 0 1\n4 send\n5 print 0\n6 halt\n",
+            b"bsp 1\nrule erew\nprocs 4\nuniform 1\nprivate 0\ncode 5\n0 mark 1\n1 jzero 0 3\n2 uset 0 1\n3 print 0\n4 halt\n",
+        ),
+        // two in a row, and a jump to the second one
+        (
+            b"bsp 1\nrule common\nprocs 4\nuniform 1\nprivate 0\ncode 5\n0 mark 1\n1 jzero 0 3\n2 send\n3 send\n4 jump 0\n",
+            b"bsp 1\nrule common\nprocs 4\nuniform 1\nprivate 0\ncode 3\n0 mark 1\n1 jzero 0 2\n2 jump 0\n",
+        ),
+        // a write is held at the first one
+        (
+            b"bsp 1\nrule crew\nprocs 4\ncell s\nuniform 1\nprivate 0\ncode 5\n0 mark 1\n1 uput 0 0 0 1\n2 send\n3 send\n4 halt\n",
+            b"bsp 1\nrule crew\nprocs 4\ncell s\nuniform 1\nprivate 0\ncode 4\n0 mark 1\n1 uput 0 0 0 1\n2 send\n3 halt\n",
+        ),
+        // a jump back over one, to a mark
+        (
+            b"bsp 1\nrule crew\nprocs 4\ncell s\nuniform 2\nprivate 0\ncode 8\n0 send\n1 mark 1\n2 uask 0 0 1 1\n3 send\n4 reply\n5 send\n6 jzero 0 1\n7 halt\n",
+            b"bsp 1\nrule crew\nprocs 4\ncell s\nuniform 2\nprivate 0\ncode 6\n0 mark 1\n1 uask 0 0 1 1\n2 send\n3 reply\n4 jzero 0 0\n5 halt\n",
+        ),
+        // the code of the fault that is told later
+        (
+            b"bsp 1\nrule crew\nprocs 1\nuniform 2\nprivate 0\ncode 6\n0 mark 4\n1 udiv 1 0 0 1\n2 mark 5\n3 send\n4 print 0\n5 halt\n",
+            b"bsp 1\nrule crew\nprocs 1\nuniform 2\nprivate 0\ncode 5\n0 mark 4\n1 udiv 1 0 0 1\n2 mark 5\n3 print 0\n4 halt\n",
+        ),
+    ] {
+        let out = fused(rt.alloc(), text).expect(&rt, "fused code");
+        assert_eq!(rt; out.bytes(), left);
+    }
+}
