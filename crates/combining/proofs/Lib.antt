@@ -1,0 +1,10 @@
+pub mod Chains
+pub mod Pairs
+pub mod Packing
+pub mod Gathered
+pub mod Columns
+pub mod MachinePuts
+pub mod ReadBack
+pub mod Asking
+pub mod HeldFits
+pub mod Askers

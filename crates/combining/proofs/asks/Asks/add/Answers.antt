@@ -1,0 +1,69 @@
+use Rattle.std.proofs.Common.{rules, ◌≡◌, ◌<◌, ◌+◌, ◌*◌, ◌^◌, length, arith, pos, true, false, FitsSigned, w64, refl, ap, ◌∙◌, eqb}
+use Rattle.std.proofs.lemmas.Int.{to_z-of_z}
+use Rattle.combining.specs.declared.asks.Asked.{Asked}
+use Rattle.combining.specs.Places.{place_of}
+use Rattle.combining.specs.Held.{hold, paired}
+use Rattle.combining.specs.Asked.{HeldAsk, ask_at, ask_key, key_of, marked_twice}
+use Rattle.combining.proofs.Pairs.{hold_at, hold_new, place_bound, length_paired}
+use Rattle.combining.proofs.Asking.{meant_at, fresh_at}
+use Rattle.combining.proofs.asks.Asks.add.Goals as goal
+
+pub push-requires-clause-new : goal.push-requires-clause-new
+push-requires-clause-new c =
+    let inv = c.self.invariant in
+    let b = place_bound (c.args.cell + 2 ^ 20 * c.args.ordinal) c.self.inside.index.keys in
+    let f = c.find-i.ensures.place in
+    omega arith
+
+pub push-requires-clause-room : goal.push-requires-clause-room
+push-requires-clause-room c =
+    let inv = c.self.invariant in
+    let n = length_paired ask_at c.self.inside.index.keys c.self.inside.asked.items inv.1 in
+    let r = rw (← c.self.view_is) at c.requires.room in
+    omega arith
+
+pub push_reserved-requires : goal.push_reserved-requires
+push_reserved-requires c =
+    let inv = c.self.invariant in
+    let n = length_paired ask_at c.self.inside.index.keys c.self.inside.asked.items inv.1 in
+    let r = rw (← c.self.view_is) at c.requires.room in
+    omega (arith, c.self.inside.asked.ok.0)
+
+abbrev again : Asked → Asked
+again x = record { again = true; value = x.value }
+
+abbrev none : Asked
+none = record { again = false; value = pos 0 }
+
+pub returns-then-i-len-clause-held : goal.returns-then-i-len-clause-held
+returns-then-i-len-clause-held c =
+    let ks = c.self.inside.index.keys in
+    let xs = c.self.inside.asked.items in
+    let read = c.args.ordinal in
+    let cell = c.args.cell in
+    let key = ask_key read cell in
+    let f : c.find-i.result ≡ place_of key ks = c.find-i.ensures.place in
+    let n : length xs ≡ length ks = c.self.invariant.1 in
+    let l : place_of key ks < length xs = (let v = c.self.inside.asked.ok.0 in omega arith) in
+    let x = c.index.result.now in
+    let is = rw f at c.index.ensures in
+    let fits : FitsSigned w64 x.value = search rules in
+    let small = c.requires.cell in
+    rw (f, ← c.self.view_is)
+    (hold_at ask_at (λ (x : HeldAsk). eqb (key_of x.ask) key) marked_twice again key none (meant_at read cell) (λ k x. refl) ks xs x _ n l is (λ i. record { again = true; value = to_z-of_z w64 x.value fits i })
+    ∙ ap (λ (y : HeldAsk). hold (λ (x : HeldAsk). eqb (key_of x.ask) key) marked_twice y (paired ask_at ks xs)) (fresh_at read cell small))
+
+pub returns-else-i-len-clause-held : goal.returns-else-i-len-clause-held
+returns-else-i-len-clause-held c =
+    let ks = c.self.inside.index.keys in
+    let xs = c.self.inside.asked.items in
+    let read = c.args.ordinal in
+    let cell = c.args.cell in
+    let key = ask_key read cell in
+    let n : length xs ≡ length ks = c.self.invariant.1 in
+    let b = place_bound key ks in
+    let p : place_of key ks ≡ length ks = (let v = c.self.inside.asked.ok.0 in let f = c.find-i.ensures.place in omega arith) in
+    let small = c.requires.cell in
+    rw (c.push.ensures.keys, c.push_reserved.ensures.items, ← c.self.view_is)
+    (hold_new ask_at (λ (x : HeldAsk). eqb (key_of x.ask) key) marked_twice again key none (meant_at read cell) (λ k x. refl) ks xs n p
+    ∙ ap (λ (y : HeldAsk). hold (λ (x : HeldAsk). eqb (key_of x.ask) key) marked_twice y (paired ask_at ks xs)) (fresh_at read cell small))

@@ -1,0 +1,59 @@
+-- The asks that are held, by read and cell in the order first held, and the values that came for them.
+use Rattle.std.specs.Prelude.{ℕ, ℤ, pos, ◌+◌, ◌*◌, ◌/◌, ◌%◌, ◌^◌, ◌<◌, List, [], ◌∷◌, map, true, false, if◌then◌else◌}
+use Rattle.std.specs.List.{filter}
+use Rattle.std.specs.Int.{cast_signed, w64}
+use Rattle.std.proofs.Common.{eqb}
+use Rattle.superstep_code.specs.Words.{CellAsk}
+use Rattle.combining.specs.declared.asks.Asked.{Asked}
+use Rattle.combining.specs.Held.{hold}
+
+-- an ask, and the value that came for it: 0 where none came
+pub record HeldAsk : Type 0 where
+  pub ask : CellAsk
+  pub value : ℤ
+
+pub record HeldAsks : Type 0 where
+  pub held : List HeldAsk
+  pub room : ℕ
+
+-- the number of a read and a cell as one number
+abbrev pub ask_key : ℕ → ℕ → ℕ
+ask_key read cell = cell + 2 ^ 20 * read
+
+abbrev pub key_of : CellAsk → ℕ
+key_of x = ask_key x.read x.cell
+
+abbrev pub ask_at : ℕ → Asked → HeldAsk
+ask_at key a = record { ask = record { read = key / 2 ^ 20; cell = key % 2 ^ 20; twice = a.again }; value = a.value }
+
+-- an ask that is made once more is marked
+abbrev pub marked_twice : HeldAsk → HeldAsk
+marked_twice x = record { ask = record { read = x.ask.read; cell = x.ask.cell; twice = true }; value = x.value }
+
+abbrev pub fresh_ask : ℕ → ℕ → HeldAsk
+fresh_ask read cell = record { ask = record { read = read; cell = cell; twice = false }; value = pos 0 }
+
+-- one more ask
+abbrev pub ask : ℕ → ℕ → List HeldAsk → List HeldAsk
+ask read cell = hold (λ (x : HeldAsk). eqb (key_of x.ask) (ask_key read cell)) marked_twice (fresh_ask read cell)
+
+-- the asks for module j, and their words
+abbrev pub asks_for : (ℕ → ℕ) → ℕ → List HeldAsk → List CellAsk
+asks_for part j held = filter (λ (x : CellAsk). eqb (part x.cell) j) (map (λ (x : HeldAsk). x.ask) held)
+
+abbrev pub IsAskBelow : ℕ → HeldAsk → Type 0
+IsAskBelow n x = x.ask.cell < n
+
+abbrev pub answered : HeldAsk → ℕ → HeldAsk
+answered x w = record { ask = x.ask; value = cast_signed w64 w }
+
+-- the words of a reply of module j go to the asks for it, in order, as far as they reach
+abbrev pub replied : (ℕ → ℕ) → ℕ → List ℕ → List HeldAsk → List HeldAsk
+replied part j ws [] = []
+replied part j [] (x ∷ rest) = x ∷ rest
+replied part j (w ∷ ws) (x ∷ rest) = if eqb (part x.ask.cell) j then answered x w ∷ replied part j ws rest else x ∷ replied part j (w ∷ ws) rest
+
+-- the value for a read and a cell
+abbrev pub value_for : ℕ → ℕ → List HeldAsk → ℤ
+value_for read cell [] = pos 0
+value_for read cell (x ∷ rest) = if eqb (key_of x.ask) (ask_key read cell) then x.value else value_for read cell rest

@@ -1,0 +1,178 @@
+//! Held asks.
+
+ghost use Rattle.std.specs.Prelude.{◌≡◌, ◌≤◌, ◌<◌, ◌+◌, ◌%◌, ◌++◌, ◌^◌, ◌&&◌, [], ◌∷◌, length, IfOk, take, drop, nat_lt};
+ghost use Rattle.std.specs.List.{AllByRecursion};
+ghost use Rattle.std.proofs.Common.{eqb};
+ghost use Rattle.superstep_code.specs.Words.{ask_word, ask_words};
+ghost use Rattle.combining.specs.Held.{paired};
+ghost use Rattle.combining.specs.Asked.{ask, ask_at, asks_for, value_for, replied, IsAskBelow};
+
+use crate::index::Index;
+use address_map::AddressMap;
+use std::alloc::{AllocError, Global};
+use std::marker::Model;
+
+// One ask: whether it was made more than once, and the value that came.
+#[derive(Clone, Copy, Debug)]
+pub(crate) struct Asked {
+    pub(crate) again: bool,
+    pub(crate) value: i64,
+}
+
+// Writes the word of an ask at n.
+fn write_ask(out: &mut [u64], n: usize, key: u32, asked: Asked) -> usize
+    requires { n + 1 ≤ length out.old }
+    ensures done { take result out.new ≡ take n out.old ++ ask_word (ask_at key asked).ask ∷ [] }
+    ensures rest { drop result out.new ≡ drop result out.old }
+    ensures length { length out.new ≡ length out.old }
+    ensures count { result ≡ n + 1 }
+{
+    let mark = if asked.again { 8_388_608 } else { 0 };
+    out[n] = u64::from(key) + mark;
+    n + 1
+}
+
+// Whether the next word of a reply is for this ask.
+fn is_due<M: AddressMap>(map: &M, part: u32, key: u32, words: &[u64], n: usize) -> bool
+    requires { key % 2 ^ 20 < (M.shape map.now).count }
+    ensures { result ≡ (nat_lt n (length words.now) && eqb ((M.shape map.now).part (key % 2 ^ 20)) part) }
+{
+    n < words.len() && map.place(key % 1_048_576).0 == part
+}
+
+// Keeps a reply's words at the asks that they are for.
+fn keep<M: AddressMap>(map: &M, part: u32, words: &[u64], keys: &[u32], asked: &mut [Asked])
+    requires cells { AllByRecursion (IsAskBelow (M.shape map.now).count) (paired ask_at keys.now asked.old) }
+    requires long { length asked.old ≡ length keys.now }
+    ensures held { paired ask_at keys.now asked.new ≡ replied (M.shape map.now).part part words.now (paired ask_at keys.now asked.old) }
+    ensures length { length asked.new ≡ length asked.old }
+{
+    let mut n = 0;
+    for i in 0..asked.len() {
+        if is_due(map, part, keys[i], words, n) {
+            asked[i].value = words[n].cast_signed();
+            n += 1;
+        }
+    }
+}
+
+/// The asks that a worker holds, by read and cell, in the order in which they were first held, and the values that came for them.
+#[derive(Drop)]
+pub struct Asks {
+    index: Index,
+    asked: Vec<Asked>,
+}
+
+impl Model for Asks {
+    ghost use Rattle.std.specs.Prelude.{◌≡◌, vec_capacity, length};
+    ghost use Rattle.combining.specs.Held.{paired};
+    ghost use Rattle.combining.specs.Asked.{HeldAsks, ask_at};
+
+    ghost Value = { HeldAsks };
+
+    ghost view = { λ x. record { held = paired ask_at x.index.keys x.asked.items; room = x.index.room } };
+
+    ghost invariant = { λ x. (vec_capacity x.asked ≡ x.index.room) × (length x.asked.items ≡ length x.index.keys) };
+}
+
+impl Asks {
+    /// Room for so many asks: no later call takes memory.
+    pub fn with_room(alloc: Global, room: usize) -> Result<Asks, AllocError>
+        requires { room < 2 ^ 30 }
+        ensures ok { IfOk result (λ x. (x.held ≡ []) × (x.room ≡ room)) }
+    {
+        let index = Index::with_room(alloc, room)?;
+        let asked = Vec::with_capacity(alloc, room)?;
+        Ok(Asks { index, asked })
+    }
+
+    /// How many asks are held.
+    pub fn len(&self) -> usize
+        ensures length { result ≡ length self.now.held }
+    {
+        self.index.len()
+    }
+
+    /// For how many there is room.
+    pub fn room(&self) -> usize
+        ensures room { result ≡ self.now.room }
+    {
+        self.index.room()
+    }
+
+    /// Holds an ask for a cell by a read of that number, or marks that it was made again.
+    pub fn add(&mut self, ordinal: u32, cell: u32)
+        requires room { length self.old.held < self.old.room }
+        requires ordinal { ordinal < 8 }
+        requires cell { cell < 2 ^ 20 }
+        ensures held { self.new.held ≡ ask ordinal cell self.old.held }
+        ensures room { self.new.room ≡ self.old.room }
+    {
+        let key = cell + 1_048_576 * ordinal;
+        let i = self.index.find(key);
+        if i < self.asked.len() {
+            self.asked[i] = Asked {
+                again: true,
+                value: self.asked[i].value,
+            };
+        } else {
+            self.index.push(key);
+            self.asked.push_reserved(Asked {
+                again: false,
+                value: 0,
+            });
+        }
+    }
+
+    /// Writes the words of the asks for one module, and says how many they are. What is behind them stays.
+    pub fn pack<M: AddressMap>(&self, map: &M, part: u32, out: &mut [u64]) -> usize
+        requires cells { AllByRecursion (IsAskBelow (M.shape map.now).count) self.now.held }
+        requires long { length (ask_words (asks_for (M.shape map.now).part part self.now.held)) ≤ length out.old }
+        ensures words { take result out.new ≡ ask_words (asks_for (M.shape map.now).part part self.now.held) }
+        ensures count { result ≡ length (ask_words (asks_for (M.shape map.now).part part self.now.held)) }
+        ensures rest { drop result out.new ≡ drop result out.old }
+        ensures length { length out.new ≡ length out.old }
+    {
+        let keys = self.index.keys();
+        let mut n = 0;
+        for i in 0..self.asked.len() {
+            let key = keys[i];
+            if map.place(key % 1_048_576).0 == part {
+                n = write_ask(out, n, key, self.asked[i]);
+            }
+        }
+        n
+    }
+
+    /// Keeps the words of a module's reply at the asks for it, in the order of the asks and as far as the words reach.
+    pub fn take_reply<M: AddressMap>(&mut self, map: &M, part: u32, words: &[u64])
+        requires cells { AllByRecursion (IsAskBelow (M.shape map.now).count) self.old.held }
+        ensures held { self.new.held ≡ replied (M.shape map.now).part part words.now self.old.held }
+        ensures room { self.new.room ≡ self.old.room }
+    {
+        keep(map, part, words, self.index.keys(), &mut self.asked);
+    }
+
+    /// The value that came for a read and a cell, and 0 where none came.
+    pub fn value(&self, ordinal: u32, cell: u32) -> i64
+        requires ordinal { ordinal < 8 }
+        requires cell { cell < 2 ^ 20 }
+        ensures value { result ≡ value_for ordinal cell self.now.held }
+    {
+        let i = self.index.find(cell + 1_048_576 * ordinal);
+        if i < self.asked.len() {
+            self.asked[i].value
+        } else {
+            0
+        }
+    }
+
+    /// Holds nothing any more.
+    pub fn clear(&mut self)
+        ensures none { self.new.held ≡ [] }
+        ensures room { self.new.room ≡ self.old.room }
+    {
+        self.index.clear();
+        self.asked.clear();
+    }
+}

@@ -1,0 +1,13 @@
+//! What a worker holds for the next exchange, and what a module does with what comes.
+#![tactic(auto)]
+
+pub mod asks;
+pub mod cells;
+pub mod index;
+pub mod laws;
+pub mod machine_rule;
+pub mod merge;
+pub mod puts;
+pub mod readers;
+#[cfg(test)]
+mod tests;

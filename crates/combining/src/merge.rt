@@ -1,0 +1,248 @@
+//! What a module does with the puts of all workers.
+
+ghost use Rattle.std.specs.Prelude.{◌≡◌, ◌<◌, length, ℕ, Some, None, map as each, set};
+ghost use Rattle.superstep_code.specs.WordReading.{put_length, read_value as value_of_words};
+ghost use Rattle.superstep_code.specs.Sending.{join, verdict_on, settled};
+ghost use Rattle.combining.specs.Reading.{put_in, entry_of_column, entry_read};
+ghost use Rattle.combining.specs.Gathering.{slot, value_at, note, placed, Collects, CollectsAll, TakesOut, TakesAllOut, Settles};
+ghost use Rattle.combining.specs.Merged.{refusal, IsMerged};
+
+use crate::cells::Cells;
+use crate::machine_rule::MachineRule;
+use address_map::AddressMap;
+use pram_values::kind::Kind;
+use write_rules::entry::Entry;
+
+// How many words a put has.
+fn put_words<R: MachineRule>(rule: &R) -> usize
+    ensures { result ≡ put_length (R.WriteRule.rule rule.now) }
+{
+    if rule.sums() { 4 } else { 3 }
+}
+
+// The value of a put.
+fn read_value<R: MachineRule>(rule: &R, words: &[u64]) -> i128
+    requires { length words.now ≡ put_length (R.WriteRule.rule rule.now) }
+    ensures { result ≡ value_of_words (R.WriteRule.rule rule.now) words.now }
+{
+    if rule.sums() {
+        (u128::from(words[2]) + 18_446_744_073_709_551_616 * u128::from(words[3])).cast_signed()
+    } else {
+        i128::from(words[2].cast_signed())
+    }
+}
+
+// Words as a put for this module, with its offset there, if they can be one.
+fn read<R: MachineRule, M: AddressMap>(
+    rule: &R,
+    map: &M,
+    part: u32,
+    words: &[u64],
+) -> Option<(u32, u32, Entry)>
+    requires { length words.now ≡ put_length (R.WriteRule.rule rule.now) }
+    ensures { result ≡ placed (M.shape map.now) (put_in (R.WriteRule.rule rule.now) (M.shape map.now) part words.now) }
+{
+    let first = words[0];
+    if first >= 2_097_152 {
+        return None;
+    }
+    let cell = (first % 1_048_576) as u32;
+    if cell >= map.cells() {
+        return None;
+    }
+    let (home, offset) = map.place(cell);
+    if home != part {
+        return None;
+    }
+    let entry = Entry {
+        owner: words[1].cast_signed(),
+        value: read_value(rule, words),
+        clash: first / 1_048_576 == 1,
+    };
+    Some((cell, offset, entry))
+}
+
+// One more entry.
+fn joined<R: MachineRule>(rule: &R, before: Option<Entry>, entry: Entry) -> Entry
+    ensures { Some result ≡ join (R.WriteRule.rule rule.now) before (Some entry) }
+{
+    match before {
+        None => entry,
+        Some(e) => rule.join(e, entry),
+    }
+}
+
+// Joins what one worker put.
+fn gather_column<R: MachineRule, M: AddressMap>(
+    rule: &R,
+    map: &M,
+    part: u32,
+    words: &[u64],
+    entries: &mut [Option<Entry>],
+)
+    requires { length entries.old ≡ (M.shape map.now).width part }
+    ensures gathered { Collects (M.shape map.now) part (join (R.WriteRule.rule rule.now)) (λ c. entry_of_column (R.WriteRule.rule rule.now) (M.shape map.now) part c words.now) entries.old entries.new }
+    ensures length { length entries.new ≡ length entries.old }
+{
+    let size = put_words(rule);
+    let mut i = 0;
+    while words.len() - i >= size {
+        let came = read(rule, map, part, &words[i..i + size]);
+        if let Some((_cell, offset, entry)) = came {
+            entries[offset as usize] = Some(joined(rule, entries[offset as usize], entry));
+        }
+        i += size;
+    }
+}
+
+// Joins what all workers put.
+fn gather<R: MachineRule, M: AddressMap>(
+    rule: &R,
+    map: &M,
+    part: u32,
+    columns: &[&[u64]],
+    entries: &mut [Option<Entry>],
+)
+    requires { length entries.old ≡ (M.shape map.now).width part }
+    ensures gathered { CollectsAll (M.shape map.now) part (join (R.WriteRule.rule rule.now)) (entry_read (R.WriteRule.rule rule.now) (M.shape map.now) part (each (λ x. x.now) columns.now)) entries.old entries.new }
+    ensures length { length entries.new ≡ length entries.old }
+{
+    for words in columns {
+        gather_column(rule, map, part, words, entries);
+    }
+}
+
+// The lesser of a new conflict and of one that was noted.
+pub(crate) fn least(cell: u32, kind: Kind, noted: Option<(u32, Kind)>) -> Option<(u32, Kind)>
+    ensures { result ≡ note cell (Some kind) noted }
+{
+    match noted {
+        Some((other, earlier)) if other <= cell => Some((other, earlier)),
+        _ => Some((cell, kind)),
+    }
+}
+
+// Settles one cell.
+fn settle_at<R: MachineRule>(
+    rule: &R,
+    cell: u32,
+    at: usize,
+    entries: &mut [Option<Entry>],
+    values: &mut [i64],
+    noted: Option<(u32, Kind)>,
+) -> Option<(u32, Kind)>
+    requires entry { at < length entries.old }
+    requires value { at < length values.old }
+    ensures entries { entries.new ≡ set entries.old at None }
+    ensures values { values.new ≡ set values.old at (settled (verdict_on (R.WriteRule.rule rule.now) (slot entries.old at)) (value_at values.old at)) }
+    ensures noted { result ≡ note cell (refusal (verdict_on (R.WriteRule.rule rule.now) (slot entries.old at))) noted }
+{
+    let Some(entry) = entries[at] else {
+        return noted;
+    };
+    entries[at] = None;
+    match rule.verdict(entry) {
+        Ok(value) => {
+            values[at] = value;
+            noted
+        }
+        Err(kind) => least(cell, kind, noted),
+    }
+}
+
+// Settles what one worker put.
+fn settle_column<R: MachineRule, M: AddressMap>(
+    rule: &R,
+    map: &M,
+    part: u32,
+    words: &[u64],
+    entries: &mut [Option<Entry>],
+    values: &mut [i64],
+    before: Option<(u32, Kind)>,
+) -> Option<(u32, Kind)>
+    requires entries { length entries.old ≡ (M.shape map.now).width part }
+    requires values { length values.old ≡ (M.shape map.now).width part }
+    ensures noted { TakesOut (M.shape map.now) part (join (R.WriteRule.rule rule.now)) (λ x. refusal (verdict_on (R.WriteRule.rule rule.now) x)) (λ c. entry_of_column (R.WriteRule.rule rule.now) (M.shape map.now) part c words.now) entries.old before entries.new result }
+    ensures owed { Settles (M.shape map.now) (R.WriteRule.rule rule.now) part entries.old values.old entries.new values.new }
+    ensures entries { length entries.new ≡ length entries.old }
+    ensures values { length values.new ≡ length values.old }
+{
+    let size = put_words(rule);
+    let mut noted = before;
+    let mut i = 0;
+    while words.len() - i >= size {
+        let came = read(rule, map, part, &words[i..i + size]);
+        if let Some((cell, offset, _entry)) = came {
+            noted = settle_at(rule, cell, offset as usize, entries, values, noted);
+        }
+        i += size;
+    }
+    noted
+}
+
+// Settles what all workers put.
+fn settle_all<R: MachineRule, M: AddressMap>(
+    rule: &R,
+    map: &M,
+    part: u32,
+    columns: &[&[u64]],
+    entries: &mut [Option<Entry>],
+    values: &mut [i64],
+) -> Option<(u32, Kind)>
+    requires entries { length entries.old ≡ (M.shape map.now).width part }
+    requires values { length values.old ≡ (M.shape map.now).width part }
+    ensures noted { TakesAllOut (M.shape map.now) part (λ x. refusal (verdict_on (R.WriteRule.rule rule.now) x)) (entry_read (R.WriteRule.rule rule.now) (M.shape map.now) part (each (λ x. x.now) columns.now)) entries.old entries.new result }
+    ensures owed { Settles (M.shape map.now) (R.WriteRule.rule rule.now) part entries.old values.old entries.new values.new }
+    ensures entries { length entries.new ≡ length entries.old }
+    ensures values { length values.new ≡ length values.old }
+{
+    let mut noted = None;
+    for words in columns {
+        noted = settle_column(rule, map, part, words, entries, values, noted);
+    }
+    noted
+}
+
+// Joins the puts of all workers in the entries, and then settles them.
+fn apply<R: MachineRule, M: AddressMap>(
+    rule: &R,
+    map: &M,
+    part: u32,
+    columns: &[&[u64]],
+    entries: &mut [Option<Entry>],
+    values: &mut [i64],
+) -> Option<(u32, Kind)>
+    requires part { part < (M.shape map.now).parts }
+    requires entries { length entries.old ≡ (M.shape map.now).width part }
+    requires values { length values.old ≡ (M.shape map.now).width part }
+    requires empty { (o : ℕ) → slot entries.old o ≡ None }
+    ensures merged { IsMerged (M.shape map.now) (R.WriteRule.rule rule.now) part (each (λ x. x.now) columns.now) values.old values.new result }
+    ensures empty { (o : ℕ) → slot entries.new o ≡ None }
+    ensures length { length entries.new ≡ length entries.old }
+{
+    gather(rule, map, part, columns, entries);
+    settle_all(rule, map, part, columns, entries, values)
+}
+
+/// Applies the puts of all workers to the cells of a module, whatever words the columns hold: groups of words that no worker writes
+/// for this module are passed over. The least cell in conflict, with its kind; such cells keep their values.
+pub fn merge_at_module<R: MachineRule, M: AddressMap>(
+    rule: &R,
+    map: &M,
+    part: u32,
+    columns: &[&[u64]],
+    cells: &mut Cells,
+) -> Option<(u32, Kind)>
+    requires part { part < (M.shape map.now).parts }
+    requires size { length cells.old ≡ (M.shape map.now).width part }
+    ensures merged { IsMerged (M.shape map.now) (R.WriteRule.rule rule.now) part (each (λ x. x.now) columns.now) cells.old cells.new result }
+{
+    apply(
+        rule,
+        map,
+        part,
+        columns,
+        &mut cells.entries,
+        &mut cells.values,
+    )
+}

@@ -1,0 +1,178 @@
+//! Held puts.
+
+ghost use Rattle.std.specs.Prelude.{◌≡◌, ◌≤◌, ◌<◌, ◌+◌, ◌*◌, ◌++◌, ◌^◌, [], ◌∷◌, length, IfOk, take, drop, FitsSigned};
+ghost use Rattle.std.specs.Int.{w64};
+ghost use Rattle.std.specs.List.{AllByRecursion};
+ghost use Rattle.superstep_code.specs.Words.{put_words, bit, word_of, low_word, high_word};
+ghost use Rattle.superstep_code.specs.WordReading.{FitsPut, FitsValue, put_length};
+ghost use Rattle.combining.specs.Held.{put, put_at, packed_puts, IsPutBelow};
+
+use crate::index::Index;
+use crate::machine_rule::MachineRule;
+use address_map::AddressMap;
+use std::alloc::{AllocError, Global};
+use std::marker::Model;
+use write_rules::entry::Entry;
+
+// The number of a mark.
+fn mark(clash: bool) -> u64
+    ensures { result ≡ bit clash }
+{
+    if clash { 1 } else { 0 }
+}
+
+// The low 64 bits of a sum.
+fn low(sum: i128) -> u64
+    ensures { result ≡ low_word sum }
+{
+    (sum.cast_unsigned() % 18_446_744_073_709_551_616) as u64
+}
+
+// The high 64 bits of a sum.
+fn high(sum: i128) -> u64
+    ensures { result ≡ high_word sum }
+{
+    (sum.cast_unsigned() / 18_446_744_073_709_551_616) as u64
+}
+
+// Writes a put whose value has one word, from n on.
+fn write_value(out: &mut [u64], n: usize, cell: u32, entry: Entry) -> usize
+    requires room { n + 3 ≤ length out.old }
+    requires fits { FitsSigned w64 entry.value }
+    ensures done { take result out.new ≡ take n out.old ++ (cell + 2 ^ 20 * bit entry.clash) ∷ word_of entry.owner ∷ word_of entry.value ∷ [] }
+    ensures rest { drop result out.new ≡ drop result out.old }
+    ensures length { length out.new ≡ length out.old }
+    ensures count { result ≡ n + 3 }
+{
+    out[n] = u64::from(cell) + 1_048_576 * mark(entry.clash);
+    out[n + 1] = entry.owner.cast_unsigned();
+    out[n + 2] = (entry.value as i64).cast_unsigned();
+    n + 3
+}
+
+// Writes a put whose value is a sum, from n on.
+fn write_sum(out: &mut [u64], n: usize, cell: u32, entry: Entry) -> usize
+    requires { n + 4 ≤ length out.old }
+    ensures done { take result out.new ≡ take n out.old ++ (cell + 2 ^ 20 * bit entry.clash) ∷ word_of entry.owner ∷ low_word entry.value ∷ high_word entry.value ∷ [] }
+    ensures rest { drop result out.new ≡ drop result out.old }
+    ensures length { length out.new ≡ length out.old }
+    ensures count { result ≡ n + 4 }
+{
+    out[n] = u64::from(cell) + 1_048_576 * mark(entry.clash);
+    out[n + 1] = entry.owner.cast_unsigned();
+    out[n + 2] = low(entry.value);
+    out[n + 3] = high(entry.value);
+    n + 4
+}
+
+// Writes the words of a put, from n on.
+fn write_put<R: MachineRule>(rule: &R, out: &mut [u64], n: usize, cell: u32, entry: Entry) -> usize
+    requires room { n + put_length (R.WriteRule.rule rule.now) ≤ length out.old }
+    requires fits { FitsValue (R.WriteRule.rule rule.now) entry.value }
+    ensures done { take result out.new ≡ take n out.old ++ put_words (R.WriteRule.rule rule.now) (put_at cell entry) }
+    ensures rest { drop result out.new ≡ drop result out.old }
+    ensures length { length out.new ≡ length out.old }
+    ensures count { result ≡ n + put_length (R.WriteRule.rule rule.now) }
+{
+    if rule.sums() {
+        write_sum(out, n, cell, entry)
+    } else {
+        write_value(out, n, cell, entry)
+    }
+}
+
+/// The puts that a worker holds: an entry for each cell, in the order in which the cells were first held.
+#[derive(Drop)]
+pub struct Puts {
+    index: Index,
+    entries: Vec<Entry>,
+}
+
+impl Model for Puts {
+    ghost use Rattle.std.specs.Prelude.{◌≡◌, vec_capacity, length};
+    ghost use Rattle.combining.specs.Held.{HeldPuts, paired, put_at};
+
+    ghost Value = { HeldPuts };
+
+    ghost view = { λ x. record { held = paired put_at x.index.keys x.entries.items; room = x.index.room } };
+
+    ghost invariant = { λ x. (vec_capacity x.entries ≡ x.index.room) × (length x.entries.items ≡ length x.index.keys) };
+}
+
+impl Puts {
+    /// Room for so many puts: no later call takes memory.
+    pub fn with_room(alloc: Global, room: usize) -> Result<Puts, AllocError>
+        requires { room < 2 ^ 30 }
+        ensures ok { IfOk result (λ x. (x.held ≡ []) × (x.room ≡ room)) }
+    {
+        let index = Index::with_room(alloc, room)?;
+        let entries = Vec::with_capacity(alloc, room)?;
+        Ok(Puts { index, entries })
+    }
+
+    /// How many cells are put to.
+    pub fn len(&self) -> usize
+        ensures length { result ≡ length self.now.held }
+    {
+        self.index.len()
+    }
+
+    /// For how many there is room.
+    pub fn room(&self) -> usize
+        ensures room { result ≡ self.now.room }
+    {
+        self.index.room()
+    }
+
+    /// Holds a write, joined to what is held for its cell.
+    pub fn add<R: MachineRule>(&mut self, rule: &R, cell: u32, processor: i64, value: i64)
+        requires { length self.old.held < self.old.room }
+        ensures held { self.new.held ≡ put (R.WriteRule.rule rule.now) (record { processor = processor; cell = cell; value = value }) self.old.held }
+        ensures room { self.new.room ≡ self.old.room }
+    {
+        let entry = rule.single(processor, value);
+        let i = self.index.find(cell);
+        if i < self.entries.len() {
+            self.entries[i] = rule.join(self.entries[i], entry);
+        } else {
+            self.index.push(cell);
+            self.entries.push_reserved(entry);
+        }
+    }
+
+    /// Writes the words of the puts for one module, and says how many they are. What is behind them stays.
+    pub fn pack<R: MachineRule, M: AddressMap>(
+        &self,
+        rule: &R,
+        map: &M,
+        part: u32,
+        out: &mut [u64],
+    ) -> usize
+        requires cells { AllByRecursion (IsPutBelow (M.shape map.now).count) self.now.held }
+        requires fit { AllByRecursion (FitsPut (R.WriteRule.rule rule.now)) self.now.held }
+        requires long { length (packed_puts (R.WriteRule.rule rule.now) (M.shape map.now).part part self.now.held) ≤ length out.old }
+        ensures words { take result out.new ≡ packed_puts (R.WriteRule.rule rule.now) (M.shape map.now).part part self.now.held }
+        ensures count { result ≡ length (packed_puts (R.WriteRule.rule rule.now) (M.shape map.now).part part self.now.held) }
+        ensures rest { drop result out.new ≡ drop result out.old }
+        ensures length { length out.new ≡ length out.old }
+    {
+        let keys = self.index.keys();
+        let mut n = 0;
+        for i in 0..self.entries.len() {
+            let cell = keys[i];
+            if map.place(cell).0 == part {
+                n = write_put(rule, out, n, cell, self.entries[i]);
+            }
+        }
+        n
+    }
+
+    /// Holds nothing any more.
+    pub fn clear(&mut self)
+        ensures none { self.new.held ≡ [] }
+        ensures room { self.new.room ≡ self.old.room }
+    {
+        self.index.clear();
+        self.entries.clear();
+    }
+}
