@@ -28,7 +28,6 @@ pub mod SumLemmas
 pub mod PartLemmas
 pub mod ConflictLemmas
 pub mod CellLemmas
-pub mod HoldLemmas
 pub mod OutcomeLemmas
 pub mod SameLemmas
 pub mod AlikeLemmas
