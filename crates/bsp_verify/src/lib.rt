@@ -7,7 +7,5 @@ pub mod paths_law;
 pub mod runs_law;
 pub mod state;
 mod table;
-#[cfg(test)]
-mod tests;
 pub mod verified;
 pub mod verify;

@@ -9,5 +9,3 @@ pub mod machine_rule;
 pub mod merge;
 pub mod puts;
 pub mod readers;
-#[cfg(test)]
-mod tests;

@@ -18,8 +18,6 @@ mod reply;
 mod run;
 mod send;
 mod step;
-#[cfg(test)]
-mod tests;
 mod uniform;
 mod uniform_fault;
 mod uniform_step;

@@ -5,6 +5,4 @@ mod empty;
 pub mod fuse;
 mod layout_copy;
 mod renumber;
-#[cfg(test)]
-mod tests;
 pub mod worked_law;

@@ -19,8 +19,6 @@ pub mod print;
 mod printer;
 pub mod rule;
 mod spell;
-#[cfg(test)]
-mod tests;
 pub mod token;
 pub mod tree;
 mod words;

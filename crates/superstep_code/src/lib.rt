@@ -23,6 +23,4 @@ mod printer;
 mod rule_line;
 mod spell;
 mod template;
-#[cfg(test)]
-mod tests;
 pub mod words_law;

@@ -22,6 +22,3 @@ pub use seats::{ColumnSeat, RowSeat};
 pub use start::line::StartLine;
 pub use start::runners::Runner;
 pub use start::starter::Starter;
-
-#[cfg(test)]
-mod tests;

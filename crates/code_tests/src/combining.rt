@@ -1,11 +1,11 @@
 //! Words and merges, as worked out by hand.
 
-use crate::asks::Asks;
-use crate::cells::Cells;
-use crate::machine_rule::MachineRule;
-use crate::merge::merge_at_module;
-use crate::puts::Puts;
-use crate::readers::read_conflict;
+use combining::asks::Asks;
+use combining::cells::Cells;
+use combining::machine_rule::MachineRule;
+use combining::merge::merge_at_module;
+use combining::puts::Puts;
+use combining::readers::read_conflict;
 use address_map::{AddressMap, Identity};
 use pram_values::kind::Kind;
 use std::alloc::Global;

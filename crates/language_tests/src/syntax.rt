@@ -2,14 +2,14 @@
 
 ghost use Rattle.std.specs.Prelude.{◌<◌, Some};
 
-use crate::buffer::Buffer;
-use crate::error::TextFault;
-use crate::input::read_input;
-use crate::parse::parse;
-use crate::print::print_tree;
-use crate::rule::Rule;
-use crate::token::Location;
-use crate::writer::{Out, OutFailed, WriteFault};
+use pram_syntax::buffer::Buffer;
+use pram_syntax::error::TextFault;
+use pram_syntax::input::read_input;
+use pram_syntax::parse::parse;
+use pram_syntax::print::print_tree;
+use pram_syntax::rule::Rule;
+use pram_syntax::token::Location;
+use pram_syntax::writer::{Out, OutFailed, WriteFault};
 use std::alloc::Global;
 use std::test::Fail;
 

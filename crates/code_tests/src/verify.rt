@@ -1,7 +1,7 @@
 //! Listings, each verified or with its first fault, as worked out by hand.
 
-use crate::fault::{Reason, VerifyFault};
-use crate::verify::verify;
+use bsp_verify::fault::{Reason, VerifyFault};
+use bsp_verify::verify::verify;
 use std::alloc::Global;
 use superstep_code::listing_read::read_listing;
 

@@ -1,6 +1,6 @@
 // How a row of the tests is tried: what the program prints for it, and its exit status.
 
-use crate::command::command;
+use pramc_command::command::command;
 use pram_syntax::buffer::Buffer;
 use pramc::sources::{SourceFault, Sources};
 use pramc::status::Status;

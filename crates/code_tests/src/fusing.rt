@@ -1,6 +1,6 @@
 //! Listings, verified and fused, with the listings that were worked out by hand.
 
-use crate::fuse::fuse;
+use fusing::fuse::fuse;
 use bsp_verify::verify::verify;
 use pram_syntax::buffer::Buffer;
 use std::alloc::Global;

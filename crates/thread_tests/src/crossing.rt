@@ -4,7 +4,7 @@ ghost use Rattle.std.specs.Thread.{IsSync};
 ghost use Rattle.turnstile.specs.Seats.{TurnstileShape, RowState, AreSeatsOf};
 ghost use Rattle.turnstile.specs.Tested.{SameOwners, MayPlay};
 
-use crate::{ColumnSeat, MAX_SIDE, RowSeat, Turnstile};
+use turnstile::{ColumnSeat, MAX_SIDE, RowSeat, Turnstile};
 use std::process::Abort;
 use std::sync::Wait;
 use std::test::Fail;

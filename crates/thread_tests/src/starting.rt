@@ -5,7 +5,7 @@ ghost use Rattle.turnstile.specs.declared.start.told.Told.TheVariants.{Nothing, 
 ghost use Rattle.turnstile.specs.Runners.{AreNewRunners};
 ghost use Rattle.turnstile.specs.Tested.{MayWait, SameRunners, HasHeard};
 
-use crate::{MAX_SIDE, Runner, StartLine, Starter};
+use turnstile::{MAX_SIDE, Runner, StartLine, Starter};
 use std::alloc::Global;
 use std::process::Abort;
 use std::sync::Wait;

@@ -1,6 +1,6 @@
 // What the program prints for its command line, its files and its writers.
 
-use crate::command::command;
+use pramc_command::command::command;
 use crate::rows::{Shelf, call, prints};
 use pram_syntax::buffer::Buffer;
 use pram_syntax::writer::{Out, OutFailed};

@@ -1,9 +1,9 @@
 //! Listings, each with its code or the offset of its first wrong line, as worked out by hand.
 
-use crate::error::ListingFault;
-use crate::instr::{Instr, Side};
-use crate::listing_read::read_listing;
-use crate::listing_write::write_listing;
+use superstep_code::error::ListingFault;
+use superstep_code::instr::{Instr, Side};
+use superstep_code::listing_read::read_listing;
+use superstep_code::listing_write::write_listing;
 use pram_syntax::buffer::Buffer;
 use pram_syntax::rule::Rule;
 use std::alloc::Global;

@@ -1,0 +1,15 @@
+//! Tests of the language: texts and their trees, and what the program prints for texts and command lines.
+#![tactic(auto)]
+
+#[cfg(test)]
+mod rows;
+#[cfg(test)]
+mod rows_check;
+#[cfg(test)]
+mod rows_command;
+#[cfg(test)]
+mod rows_parallel;
+#[cfg(test)]
+mod rows_uniform;
+#[cfg(test)]
+mod syntax;

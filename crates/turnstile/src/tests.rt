@@ -1,2 +1,0 @@
-mod crossing;
-mod starting;
