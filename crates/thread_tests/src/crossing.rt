@@ -2,7 +2,7 @@
 ghost use Rattle.std.specs.Prelude.{◌≡◌, ◌<◌, ◌≤◌, ◌+◌, ◌++◌, ◌∷◌, [], All, length, map, vec_capacity};
 ghost use Rattle.std.specs.Thread.{IsSync};
 ghost use Rattle.turnstile.specs.Seats.{TurnstileShape, RowState, AreSeatsOf};
-ghost use Rattle.turnstile.specs.Tested.{SameOwners, MayPlay};
+ghost use Rattle.thread_tests.specs.Tested.{SameOwners, MayPlay};
 
 use turnstile::{ColumnSeat, MAX_SIDE, RowSeat, Turnstile};
 use std::process::Abort;

@@ -3,7 +3,7 @@ ghost use Rattle.std.specs.Prelude.{◌≡◌, ◌<◌, ◌≤◌, ◌+◌, All,
 ghost use Rattle.std.specs.Thread.{IsSync};
 ghost use Rattle.turnstile.specs.declared.start.told.Told.TheVariants.{Nothing, Stop, Go};
 ghost use Rattle.turnstile.specs.Runners.{AreNewRunners};
-ghost use Rattle.turnstile.specs.Tested.{MayWait, SameRunners, HasHeard};
+ghost use Rattle.thread_tests.specs.Tested.{MayWait, SameRunners, HasHeard};
 
 use turnstile::{MAX_SIDE, Runner, StartLine, Starter};
 use std::alloc::Global;

@@ -14,7 +14,6 @@ pub mod Halves
 pub mod Rosters
 pub mod Closings
 pub mod Orders
-pub mod Players
 pub mod Hearings
 pub mod Sayings
 pub mod Rows

@@ -7,6 +7,5 @@ pub mod Works
 pub mod Interleavings
 pub mod Benches
 pub mod Closings
-pub mod Tested
 pub mod Lines
 pub mod Runners

@@ -6,7 +6,7 @@ use Rattle.std.proofs.lemmas.Option.{slice_get-get_or, slice_get_within, get_or_
 use Rattle.atomic_table.specs.Seated.{TableId}
 use Rattle.turnstile.specs.Seats.{TurnstileShape, RowState, AreSeatsOf}
 use Rattle.turnstile.specs.Runners.{RunnerState, AreNewRunners, HaveAllWaited}
-use Rattle.turnstile.specs.Tested.{whose, SameOwners, MayWait, which, SameRunners, HasHeard}
+use Rattle.thread_tests.specs.Tested.{whose, SameOwners, MayWait, which, SameRunners, HasHeard}
 
 pub only_one : {A : Type 0} (l : List A) (x : A) (xs : List A) → xs ≡ l ++ x ∷ [] → length xs ≡ 1 → (l ≡ []) × (slice_get xs 0 ≡ Some x)
 only_one [] x xs e n = (refl, ap (λ l. slice_get l 0) e)

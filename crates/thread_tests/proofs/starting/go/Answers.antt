@@ -1,6 +1,6 @@
 use Rattle.std.proofs.Common.{inr}
-use Rattle.turnstile.proofs.Players.{still_at, all_waited}
-use Rattle.turnstile.proofs.tests.starting.go.Goals as goal
+use Rattle.thread_tests.proofs.Players.{still_at, all_waited}
+use Rattle.thread_tests.proofs.starting.go.Goals as goal
 
 pub close-requires-clause-runners : goal.close-requires-clause-runners
 close-requires-clause-runners g c = still_at c.args.line.table c.args.runners.items c.join-runners.result.0.items c.requires.runners.tables c.join-runners.ensures.first.0

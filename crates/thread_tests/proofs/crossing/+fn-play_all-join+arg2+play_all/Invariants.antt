@@ -1,5 +1,5 @@
 use Rattle.std.proofs.Common.{◌+◌, ◌*◌, length}
-use Rattle.turnstile.proofs.tests.crossing.+fn-play_all-join+arg2+play_all.Given as goal
+use Rattle.thread_tests.proofs.crossing.+fn-play_all-join+arg2+play_all.Given as goal
 
 abbrev pub decreases-join+arg2 : goal.decreases-join+arg2
 decreases-join+arg2 g l = length l.seats.items * 2 + 1

@@ -1,5 +1,5 @@
 use Rattle.std.proofs.Common.{◌≡◌, length}
-use Rattle.turnstile.proofs.tests.crossing.play.Given as goal
+use Rattle.thread_tests.proofs.crossing.play.Given as goal
 
 abbrev pub invariant-loop-phase : goal.invariant-loop-phase
 invariant-loop-phase g l = record {

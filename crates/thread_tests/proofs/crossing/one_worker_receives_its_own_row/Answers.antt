@@ -1,7 +1,7 @@
 use Rattle.std.proofs.Common.{ℕ, ◌≡◌, ◌<◌, ◌+◌, ◌^◌, ◌∷◌, ◌++◌, [], List, length, length-append, ◌∙◌, ap, sym, arith}
 use Rattle.turnstile.specs.Seats.{RowState}
-use Rattle.turnstile.proofs.Players.{only_one, one_seat}
-use Rattle.turnstile.proofs.tests.crossing.one_worker_receives_its_own_row.Goals as goal
+use Rattle.thread_tests.proofs.Players.{only_one, one_seat}
+use Rattle.thread_tests.proofs.crossing.one_worker_receives_its_own_row.Goals as goal
 
 pub cross-column-requires-2-clause-own : goal.cross-column-requires-2-clause-own
 cross-column-requires-2-clause-own g c =
