@@ -1,4 +1,4 @@
--- A key is for good, and the time of the verdict doesn't matter.
+-- The time of the verdict doesn't matter, and a key is for good.
 use Rattle.std.proofs.Common.{◌≡◌, ℕ, zero, suc, ◌+◌, ◌*◌, ◌<◌, ◌≤◌, List, [], length, Bool, true, false, eqb, Option, Some, None, ℤ, refl, sym, ap, ◌∙◌, subst, arith, ⊎_elim, ◌⊎◌, inl, inr}
 use Rattle.std.specs.Prelude.{if◌then◌else◌, nat_lt, slice_get}
 use Rattle.std.proofs.lemmas.Bool.Decides.{nat_tests}
@@ -12,95 +12,16 @@ use Rattle.superstep_code.specs.Keys.{least}
 use Rattle.superstep_code.specs.Run.{Purpose, Sends, Replies, Votes, Way, On, Ending, Past, Refused, Lost, is_held, due, unless, decided, items_below, fault_of}
 use Rattle.superstep_code.specs.Steps.{own_key, is_active}
 use Rattle.superstep_code.proofs.KeyOrder.{keys_are_monoid}
-use Rattle.bsp_verify.specs.Judging.{is_mark}
 use Rattle.bsp_verify.specs.WellFormed.{IsWellFormed}
 use Rattle.flat_machine.specs.Flat.{Flat, range, noted, after_instr, owed}
 use Rattle.flat_machine.specs.ByExchanges.{State, after_exchange, outcome_of, opening}
-use Rattle.flat_machine.specs.ByInstructions.{exchanged, closed, going, instructed, step, step_by, steps, everywhere, outcome_within, IsOutcomeBy, IsFlatOutcome}
-use Rattle.flat_machine.specs.Verdicts.{told, AKeyIsForGood, AnyTimeOfVerdict}
+use Rattle.flat_machine.specs.ByInstructions.{exchanged, closed, going, instructed, step, step_by, steps, everywhere, outcome_within, IsOutcomeBy}
+use Rattle.flat_machine.specs.Verdicts.{told, IsLate, ends_statement, AKeyIsForGood, AVerdictMayBeLate, AnyTimeOfVerdict}
 use Rattle.flat_machine.proofs.Stepping.{unsome, carried_out, steps_more, one_end}
 use Rattle.flat_machine.proofs.Counts.{IsKeyOf, least_of, owed_of}
-use Rattle.flat_machine.proofs.Paths.{IsAt, Agrees, Fits, found, states_describe, mark_asks_none, reply_holds_none, vote_holds_none}
+use Rattle.flat_machine.proofs.Paths.{IsAt, Agrees, Fits, found, states_describe, mark_asks_none, halt_asks_none, reply_holds_none, vote_holds_none}
 use Rattle.flat_machine.proofs.Arrival.{arrives}
-use Rattle.flat_machine.proofs.Late.{IsLate, faulted, none_least, told_noted, closed_told, late_verdict}
-
--- ---- a key is for good
-
--- a mark notes nothing
-none_noted : (code : SuperstepCode) (line : ℕ) (f : Flat) → noted code (Mark line) f ≡ None
-none_noted code line f = total_none None least keys_are_monoid (λ v. own_key code (Mark line) f.uniform v (f.own v)) (λ v. go (is_active (f.own v))) (range f)
-  where
-    go : (b : Bool) → (let none : Option Key = None in if b then none else None) ≡ None
-    go true = refl
-    go false = refl
-
--- what is told is of this statement or of an earlier one
-told_counted : (code : SuperstepCode) (place : ℕ) (f : Flat) → IsAt code place f → (key : Key) → told code f ≡ Some key → key.count ≤ f.uniform.count
-told_counted code place f a key e =
-    subst (IsKeyOf (λ n. n ≤ f.uniform.count)) e
-    (least_of (λ n. n ≤ f.uniform.count) f.key (owed code f) a.counted.key (owed_of (λ n. n ≤ f.uniform.count) code f a.counted.put))
-
--- and behind a mark it is late
-late_behind : (code : SuperstepCode) (place line : ℕ) (f : Flat) → IsAt code place f → (key : Key) → told code f ≡ Some key →
-    IsLate code key (after_instr code (Mark line) f)
-late_behind code place line f a key e = record {
-  told = ap (λ x. least (least f.key x) (owed code f)) (none_noted code line f) ∙ ap (λ x. least x (owed code f)) (none_least f.key) ∙ e;
-  over = (let l = told_counted code place f a key e in omega (arith, l));
-}
-
-module _ (code : SuperstepCode) (formed : IsWellFormed code) (bound : ℕ) (input : List ℤ) (n : ℕ) (key : Key) where
-  abbrev here : State
-  here = steps code bound everywhere n (opening input)
-
-  abbrev verdict : Verdict
-  verdict = Faulted (fault_of key) (items_below key.count here.flat.uniform.output)
-
-  -- the state after one more instruction
-  one_more : (s : State) → step code bound everywhere here ≡ s → steps code bound everywhere (n + 1) (opening input) ≡ s
-  one_more s e = steps_more code bound everywhere n 1 (opening input) ∙ e
-
-  module _ (on : here.way ≡ On) (line : ℕ) (is : slice_get code.instructions here.place ≡ Some (Mark line)) (t : told code here.flat ≡ Some key) where
-    at_mark : (b : Bool) → eqb here.flat.uniform.count bound ≡ b →
-        step code bound everywhere here
-        ≡ (if b then closed code false here.place here.flat else going (here.place + 1) (after_instr code (Mark line) here.flat))
-    at_mark b e =
-        ap (step_by code bound everywhere here) on
-        ∙ ap (λ (o : Option Instr). carried_out code bound everywhere o here.place here.flat) is
-        ∙ ap (λ c. if c then closed code false here.place here.flat else going (here.place + 1) (after_instr code (Mark line) here.flat)) e
-
-    agrees : IsAt code here.place here.flat
-    agrees = states_describe code formed bound everywhere input n on
-
-    no_reads : here.flat.uniform.asks ≡ []
-    no_reads =
-        let x = found code formed here.place here.flat agrees in
-        mark_asks_none code here.place here.flat agrees line
-        (subst (λ (j : Instr). Fits code here.place here.flat agrees j) (unsome x.instr (Mark line) (sym x.is ∙ is)) x.fits)
-
-    good : (b : Bool) → eqb here.flat.uniform.count bound ≡ b → IsFlatOutcome code input bound verdict
-    good true e =
-        let s = one_more (closed code false here.place here.flat) (at_mark true e) in record {
-          instructions = n + 1;
-          ends = ap (λ (x : State). outcome_of code x) s ∙ closed_told code false here.place here.flat key no_reads t;
-        }
-    good false e =
-        let g = after_instr code (Mark line) here.flat in
-        let s = one_more (going (here.place + 1) g) (at_mark false e) in
-        let late = subst (λ (x : State). IsLate code key x.flat) (sym s) (late_behind code here.place line here.flat agrees key t) in
-        let told_late = late_verdict code formed bound everywhere input (n + 1) key (ap (λ (x : State). x.way) s) late in record {
-          instructions = (bound + 1) * length code.instructions;
-          ends = told_late ∙ ap (λ (x : State). faulted key (items_below key.count x.flat.uniform.output)) s;
-        }
-
-  by_mark : here.way ≡ On → told code here.flat ≡ Some key → (o : Option Instr) → slice_get code.instructions here.place ≡ o → is_mark o ≡ true →
-      IsFlatOutcome code input bound verdict
-  by_mark on t (Some (Mark line)) is h = good on line is t (eqb here.flat.uniform.count bound) refl
-  by_mark on t None is h = cc
-  by_mark on t (Some i) is h = cc
-
-pub a_key_is_for_good : AKeyIsForGood
-a_key_is_for_good code formed input bound n key on h t =
-    by_mark code formed bound input n key on t (slice_get code.instructions (steps code bound everywhere n (opening input)).place) refl h
+use Rattle.flat_machine.proofs.Late.{faulted, none_least, told_noted, closed_told, late_verdict}
 
 -- ---- two runs, in which the exchanges of different places decide
 
@@ -234,3 +155,91 @@ module _ (code : SuperstepCode) (formed : IsWellFormed code) (bound : ℕ) (one 
 pub any_time_of_verdict : AnyTimeOfVerdict
 any_time_of_verdict code formed judges input bound verdict =
     (λ o. other_outcome code formed bound judges everywhere input verdict o, λ o. other_outcome code formed bound everywhere judges input verdict o)
+
+-- ---- a key is for good
+
+-- a mark notes nothing
+none_noted : (code : SuperstepCode) (line : ℕ) (f : Flat) → noted code (Mark line) f ≡ None
+none_noted code line f = total_none None least keys_are_monoid (λ v. own_key code (Mark line) f.uniform v (f.own v)) (λ v. go (is_active (f.own v))) (range f)
+  where
+    go : (b : Bool) → (let none : Option Key = None in if b then none else None) ≡ None
+    go true = refl
+    go false = refl
+
+-- what is told is of this statement or of an earlier one
+told_counted : (code : SuperstepCode) (place : ℕ) (f : Flat) → IsAt code place f → (key : Key) → told code f ≡ Some key → key.count ≤ f.uniform.count
+told_counted code place f a key e =
+    subst (IsKeyOf (λ n. n ≤ f.uniform.count)) e
+    (least_of (λ n. n ≤ f.uniform.count) f.key (owed code f) a.counted.key (owed_of (λ n. n ≤ f.uniform.count) code f a.counted.put))
+
+-- and behind a mark it is late
+late_behind : (code : SuperstepCode) (place line : ℕ) (f : Flat) → IsAt code place f → (key : Key) → told code f ≡ Some key →
+    IsLate code key (after_instr code (Mark line) f)
+late_behind code place line f a key e = record {
+  told = ap (λ x. least (least f.key x) (owed code f)) (none_noted code line f) ∙ ap (λ x. least x (owed code f)) (none_least f.key) ∙ e;
+  over = (let l = told_counted code place f a key e in omega (arith, l));
+}
+
+module _ (code : SuperstepCode) (formed : IsWellFormed code) (bound : ℕ) (judges : ℕ → Bool) (input : List ℤ) (n : ℕ) (key : Key) where
+  abbrev here : State
+  here = steps code bound judges n (opening input)
+
+  abbrev verdict : Verdict
+  verdict = Faulted (fault_of key) (items_below key.count here.flat.uniform.output)
+
+  -- the state after one more instruction
+  one_more : (s : State) → step code bound judges here ≡ s → steps code bound judges (n + 1) (opening input) ≡ s
+  one_more s e = steps_more code bound judges n 1 (opening input) ∙ e
+
+  module _ (on : here.way ≡ On) (t : told code here.flat ≡ Some key) where
+    agrees : IsAt code here.place here.flat
+    agrees = states_describe code formed bound judges input n on
+
+    -- the instruction there, carried out
+    goes : (i : Instr) → slice_get code.instructions here.place ≡ Some i → step code bound judges here ≡ carried_out code bound judges (Some i) here.place here.flat
+    goes i is = ap (step_by code bound judges here) on ∙ ap (λ (o : Option Instr). carried_out code bound judges o here.place here.flat) is
+
+    fits : (i : Instr) → slice_get code.instructions here.place ≡ Some i → Fits code here.place here.flat agrees i
+    fits i is =
+        let x = found code formed here.place here.flat agrees in
+        subst (λ (j : Instr). Fits code here.place here.flat agrees j) (unsome x.instr i (sym x.is ∙ is)) x.fits
+
+    -- a close tells it
+    closes : (ended : Bool) → here.flat.uniform.asks ≡ [] → step code bound judges here ≡ closed code ended here.place here.flat →
+        IsOutcomeBy judges code input bound verdict
+    closes ended none e =
+        let s = one_more (closed code ended here.place here.flat) e in record {
+          instructions = n + 1;
+          ends = ap (λ (x : State). outcome_of code x) s ∙ closed_told code ended here.place here.flat key none t;
+        }
+
+    at_mark : (line : ℕ) → slice_get code.instructions here.place ≡ Some (Mark line) → (b : Bool) → eqb here.flat.uniform.count bound ≡ b →
+        IsOutcomeBy judges code input bound verdict
+    at_mark line is true e =
+        closes false (mark_asks_none code here.place here.flat agrees line (fits (Mark line) is))
+        (goes (Mark line) is ∙ ap (λ c. if c then closed code false here.place here.flat else going (here.place + 1) (after_instr code (Mark line) here.flat)) e)
+    at_mark line is false e =
+        let g = after_instr code (Mark line) here.flat in
+        let s = one_more (going (here.place + 1) g)
+        (goes (Mark line) is ∙ ap (λ c. if c then closed code false here.place here.flat else going (here.place + 1) g) e) in
+        let late = subst (λ (x : State). IsLate code key x.flat) (sym s) (late_behind code here.place line here.flat agrees key t) in
+        let told_late = late_verdict code formed bound judges input (n + 1) key (ap (λ (x : State). x.way) s) late in record {
+          instructions = (bound + 1) * length code.instructions;
+          ends = told_late ∙ ap (λ (x : State). faulted key (items_below key.count x.flat.uniform.output)) s;
+        }
+
+    by_end : (o : Option Instr) → slice_get code.instructions here.place ≡ o → ends_statement o ≡ true → IsOutcomeBy judges code input bound verdict
+    by_end (Some (Mark line)) is h = at_mark line is (eqb here.flat.uniform.count bound) refl
+    by_end (Some Halt) is h = closes true (halt_asks_none code here.place here.flat agrees (fits Halt is)) (goes Halt is)
+    by_end None is h = cc
+    by_end (Some i) is h = cc
+
+pub a_key_is_for_good : AKeyIsForGood
+a_key_is_for_good code formed judges input bound n key on h t =
+    let s = steps code bound judges n (opening input) in
+    other_outcome code formed bound judges everywhere input (Faulted (fault_of key) (items_below key.count s.flat.uniform.output))
+    (by_end code formed bound judges input n key on t (slice_get code.instructions s.place) refl h)
+
+pub a_verdict_may_be_late : AVerdictMayBeLate
+a_verdict_may_be_late code formed judges others input bound n key on l =
+    sym (same_outcome code formed bound judges others input) ∙ late_verdict code formed bound judges input n key on l

@@ -23,16 +23,11 @@ use Rattle.bsp_verify.specs.WellFormed.{IsWellFormed}
 use Rattle.flat_machine.specs.Flat.{Flat, cells, noted, after_instr, owed, read_conflicts, after_send, after_reply, after_vote}
 use Rattle.flat_machine.specs.ByExchanges.{State, outcome_of, opening}
 use Rattle.flat_machine.specs.ByInstructions.{closed, stopped, going, instructed, step, step_by, steps, outcome_within}
-use Rattle.flat_machine.specs.Verdicts.{told}
+use Rattle.flat_machine.specs.Verdicts.{told, IsLate}
 use Rattle.flat_machine.proofs.Stepping.{carried_out, outcome_is_past, past_is_not_on, over_stays, steps_more, outcome_stays}
 use Rattle.flat_machine.proofs.Counts.{IsKeyOf, AreReadsOf, reads_also, noted_of, owed_of, reads_of}
 use Rattle.flat_machine.proofs.Paths.{IsAt, Agrees, Fits, found, step_agrees, states_describe, mark_asks_none, halt_asks_none, reply_holds_none, vote_holds_none, put_holds_none}
 use Rattle.flat_machine.proofs.Arrival.{arrives}
-
--- the key is told, and its statement is over
-pub record IsLate (code : SuperstepCode) (key : Key) (f : Flat) : Type 0 where
-  pub told : told code f ≡ Some key
-  pub over : key.count < f.uniform.count
 
 -- the verdict of a key
 abbrev pub faulted : Key → List ℤ → Option Verdict

@@ -1,11 +1,17 @@
 //! When the verdict of verified code is fixed, and that there is one.
 
-ghost use Rattle.flat_machine.specs.Verdicts.{AKeyIsForGood, AnyTimeOfVerdict, OneOutcome};
+ghost use Rattle.flat_machine.specs.Verdicts.{AKeyIsForGood, AVerdictMayBeLate, AnyTimeOfVerdict, OneOutcome};
 
-/// Where a run of well-formed code comes to a mark, the least key among those noted and those that the
-/// held write still owes is the verdict of the run, whatever comes later.
+/// Where a run of well-formed code comes to a mark or to a halt, the least key among those noted and those
+/// that the held write still owes is the verdict of the run, whatever comes later.
 pub fn a_key_is_for_good()
     ensures { AKeyIsForGood }
+{}
+
+/// At any place of a run of well-formed code, the least key that is noted or owed is the verdict where its
+/// statement is over, whichever exchanges decided so far, and whichever decide.
+pub fn a_verdict_may_be_late()
+    ensures { AVerdictMayBeLate }
 {}
 
 /// The outcome is the same whichever exchanges before the close decide, and also where none does.
@@ -13,8 +19,9 @@ pub fn any_time_of_verdict()
     ensures { AnyTimeOfVerdict }
 {}
 
-/// Well-formed code has exactly one outcome for an input and a bound, one for all maps and numbers of
-/// workers. The flat machine comes to it within (bound + 1) * N instructions, N those of the code.
+/// Well-formed code has exactly one outcome for an input and a bound, one for the flat machine and for all
+/// maps and numbers of workers. The flat machine comes to it within (bound + 1) * N instructions, N those of
+/// the code, and keeps it after any greater number.
 pub fn one_outcome()
     ensures { OneOutcome }
 {}
