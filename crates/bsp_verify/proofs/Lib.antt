@@ -3,3 +3,5 @@ pub mod Ways
 pub mod PathLemmas
 pub mod RunLemmas
 pub mod ArrivalLemmas
+pub mod StretchLemmas
+pub mod WorkedStretchLemmas

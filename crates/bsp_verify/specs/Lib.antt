@@ -6,3 +6,5 @@ pub mod FirstFault
 pub mod Table
 pub mod Paths
 pub mod Runs
+pub mod Stretches
+pub mod WorkedStretches

@@ -1,5 +1,5 @@
 -- Paths of control: from the first place, from each instruction on to a successor, with the state that the instructions on the path leave.
-use Rattle.std.specs.Prelude.{◌≡◌, ℕ, zero, suc, ◌<◌, true, Some, slice_get, ◌⊎◌}
+use Rattle.std.specs.Prelude.{◌≡◌, ℕ, zero, suc, ◌<◌, ◌≤◌, true, false, Some, slice_get, ◌⊎◌}
 use Rattle.superstep_code.specs.declared.instr.Instr.{Instr}
 use Rattle.superstep_code.specs.Code.{SuperstepCode}
 use Rattle.bsp_verify.specs.declared.state.State.{State}
@@ -22,12 +22,20 @@ abbrev pub Comes : SuperstepCode → ℕ → Point → Type 0
 Comes code zero q = (q.place ≡ 0) × (q.state ≡ opening)
 Comes code (suc n) q = (p : Point) × Comes code n p × IsStep code p q
 
--- There is an instruction, with all that it names, and it goes with the range, the masks, and what is held and awaited; and from it
--- a path goes up, or to a mark.
+-- At most 64 masks, and outside of a range none; at most eight reads are held, and where answers are awaited nothing is.
+pub record IsWithin (s : State) : Type 0 where
+  pub masks : s.masks ≤ 64
+  pub asks : s.asks ≤ 8
+  pub outside : s.entered ≡ false → s.masks ≡ 0
+  pub alone : s.awaits ≡ true → (s.asks ≡ 0) × (s.put ≡ false)
+
+-- There is an instruction, with all that it names, and it goes with the range, the masks, and what is held and awaited; these
+-- are within their limits; and from it a path goes up, or to a mark.
 pub record IsSound (code : SuperstepCode) (q : Point) : Type 0 where
   pub instr : Instr
   pub is : slice_get code.instructions q.place ≡ Some instr
   pub allowed : IsAllowed code q.place instr q.state
+  pub within : IsWithin q.state
   pub rises : (t : ℕ) → Leads instr q.place t → (q.place < t) ⊎ (is_mark (slice_get code.instructions t) ≡ true)
 
 -- all paths of well-formed code are sound

@@ -6,6 +6,7 @@ mod judge;
 pub mod paths_law;
 pub mod runs_law;
 pub mod state;
+pub mod stretches_law;
 mod table;
 pub mod verified;
 pub mod verify;
