@@ -67,6 +67,14 @@ const OUT_OF_RANGE: &[u8] =
 const LATE_OUTPUT: &[u8] =
     b"bsp 1\nrule crew\nprocs 1\nuniform 2\nprivate 0\ncode 9\n0 mark 1\n1 uset 0 4\n2 print 0\n3 mark 2\n4 udiv 1 0 1 1\n5 print 1\n6 mark 3\n7 print 0\n8 halt\n";
 
+// A register compared with itself.
+const AT_MOST: &[u8] =
+    b"bsp 1\nrule crew\nprocs 1\nuniform 1\nprivate 0\ncode 2\n0 ule 0 0 0\n1 halt\n";
+
+// 2 <= 3, 2 <= 2 and 3 <= 2, and the same by the one processor.
+const THREE_COMPARISONS: &[u8] =
+    b"bsp 1\nrule crew\nprocs 1\narray a 0 2\nuniform 3\nprivate 4\ncode 29\n0 mark 1\n1 uset 0 2\n2 uset 1 3\n3 ule 2 0 1\n4 print 2\n5 ule 2 0 0\n6 print 2\n7 ule 2 1 0\n8 print 2\n9 enter 0 0 1\n10 pset 0 2\n11 pset 1 3\n12 pset 3 0\n13 ple 2 0 1\n14 pput 0 3 2 1\n15 send\n16 mark 2\n17 pset 3 1\n18 ple 2 0 0\n19 pput 0 3 2 1\n20 send\n21 mark 3\n22 pset 3 2\n23 ple 2 1 0\n24 pput 0 3 2 1\n25 send\n26 leave\n27 print 0\n28 halt\n";
+
 // More processors than there may be.
 const TOO_WIDE: &[u8] =
     b"bsp 1\nrule crew\nprocs 3\narray a 1 2\narray b 1 4\nuniform 2\nprivate 2\ncode 13\n0 mark 7\n1 uset 0 1\n2 uset 1 4\n3 enter 0 1 1\n4 mark 8\n5 pset 0 1\n6 pask 1 0 0 1\n7 send\n8 reply\n9 pindex 0\n10 pput 1 0 1 2\n11 leave\n12 halt\n";
@@ -101,7 +109,7 @@ fn goes_on(found: Option<Outcome>, wanted: &[i64]) -> bool {
 
 #[test]
 fn runs_end(rt: HostRuntime) {
-    let rows: [(&[u8], &[i64], u32, &[i64], &[i64]); 8] = [
+    let rows: [(&[u8], &[i64], u32, &[i64], &[i64]); 10] = [
         (BROADCAST, &[9, 8], 2, &[], &[9, 8, 9, 9, 9, 9]),
         (THREE_TURNS, &[], 9, &[], &[3, 6]),
         (CROSSED_READS, &[1, 2], 9, &[], &[1, 2, 12, 21]),
@@ -110,6 +118,8 @@ fn runs_end(rt: HostRuntime) {
         (UNIFORM_PUTS, &[1], 9, &[7], &[7]),
         (UNIFORM_PUTS_EREW, &[], 9, &[7], &[7]),
         (THREE_PARTS, &[], 9, &[], &[1, 1, 3, 4, 0, 0, 4, 4]),
+        (AT_MOST, &[], 1, &[], &[]),
+        (THREE_COMPARISONS, &[8, 8, 8], 3, &[1, 1, 0, 2], &[1, 1, 0]),
     ];
     for (text, input, bound, output, memory) in rows {
         assert!(rt; is_end(run(rt.alloc(), text, input, bound), output, memory));

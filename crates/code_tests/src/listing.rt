@@ -1,7 +1,7 @@
 //! Listings, each with its code or the offset of its first wrong line, as worked out by hand.
 
 use superstep_code::error::ListingFault;
-use superstep_code::instr::{Instr, Side};
+use superstep_code::instr::{Instr, Side, Truth};
 use superstep_code::listing_read::read_listing;
 use superstep_code::listing_write::write_listing;
 use pram_syntax::buffer::Buffer;
@@ -11,9 +11,13 @@ use std::alloc::Global;
 const WORKED: &[u8] =
     b"bsp 1\nrule crew\nprocs 4\narray a 1 2\narray b 1 4\nuniform 2\nprivate 2\ncode 13\n0 mark 7\n1 uset 0 1\n2 uset 1 4\n3 enter 0 1 1\n4 mark 8\n5 pset 0 1\n6 pask 1 0 0 1\n7 send\n8 reply\n9 pindex 0\n10 pput 1 0 1 2\n11 leave\n12 halt\n";
 
-// One instruction of each word.
+// Each word of the format, with its greatest operands once.
 const WORDS: &[u8] =
-    b"bsp 1\nrule sum\nprocs 16384\ncell s\nuniform 65536\nprivate 65536\ncode 46\n0 mark 4294967295\n1 uset 65535 -9223372036854775808\n2 pset 0 9223372036854775807\n3 ucopy 1 2\n4 pcopy 3 4\n5 uneg 1 2 3\n6 pneg 4 5 6\n7 uadd 1 2 3 4\n8 usub 1 2 3 4\n9 umul 1 2 3 4\n10 udiv 1 2 3 4\n11 umod 1 2 3 4\n12 padd 1 2 3 4\n13 psub 1 2 3 4\n14 pmul 1 2 3 4\n15 pdiv 1 2 3 4\n16 pmod 1 2 3 4\n17 ueq 1 2 3\n18 ult 1 2 3\n19 uand 1 2 3\n20 uor 1 2 3\n21 peq 1 2 3\n22 plt 1 2 3\n23 pand 1 2 3\n24 por 1 2 3\n25 unot 1 2\n26 pnot 1 2\n27 pfrom 1 2\n28 pindex 1\n29 enter 1 2 3\n30 leave\n31 mask 1\n32 flip\n33 unmask\n34 uask 1 2 3 4\n35 pask 1 2 3 4\n36 uput 1 2 3 4\n37 pput 1 2 3 4\n38 send\n39 reply\n40 vote 1\n41 print 1\n42 jump 65535\n43 jzero 1 2\n44 uset 0 0\n45 halt\n";
+    b"bsp 1\nrule sum\nprocs 16384\ncell s\nuniform 65536\nprivate 65536\ncode 48\n0 mark 4294967295\n1 uset 65535 -9223372036854775808\n2 pset 0 9223372036854775807\n3 ucopy 1 2\n4 pcopy 3 4\n5 uneg 1 2 3\n6 pneg 4 5 6\n7 uadd 1 2 3 4\n8 usub 1 2 3 4\n9 umul 1 2 3 4\n10 udiv 1 2 3 4\n11 umod 1 2 3 4\n12 padd 1 2 3 4\n13 psub 1 2 3 4\n14 pmul 1 2 3 4\n15 pdiv 1 2 3 4\n16 pmod 1 2 3 4\n17 ueq 1 2 3\n18 ult 1 2 3\n19 ule 1 2 3\n20 uand 1 2 3\n21 uor 1 2 3\n22 peq 1 2 3\n23 plt 1 2 3\n24 ple 1 2 3\n25 pand 1 2 3\n26 por 1 2 3\n27 unot 1 2\n28 pnot 1 2\n29 pfrom 1 2\n30 pindex 1\n31 enter 1 2 3\n32 leave\n33 mask 1\n34 flip\n35 unmask\n36 uask 1 2 3 4\n37 pask 1 2 3 4\n38 uput 1 2 3 4\n39 pput 1 2 3 4\n40 send\n41 reply\n42 vote 1\n43 print 1\n44 jump 65535\n45 jzero 1 2\n46 uset 0 0\n47 halt\n";
+
+// A register compared with itself.
+const AT_MOST: &[u8] =
+    b"bsp 1\nrule crew\nprocs 1\nuniform 1\nprivate 0\ncode 2\n0 ule 0 0 0\n1 halt\n";
 
 fn fault(alloc: Global, text: &[u8]) -> Option<ListingFault> {
     match read_listing(alloc, text) {
@@ -58,9 +62,22 @@ fn the_worked_listing_is_read(rt: HostRuntime) {
 }
 
 #[test]
+fn at_most_is_read(rt: HostRuntime) {
+    let code = read_listing(rt.alloc(), AT_MOST).ok().expect(&rt, "a listing");
+    let instr = Instr::Decide {
+        side: Side::Uniform,
+        operation: Truth::AtMost,
+        destination: 0,
+        left: 0,
+        right: 0,
+    };
+    assert_eq!(rt; code.instructions().get(0).copied(), Some(instr));
+}
+
+#[test]
 fn listings_are_written_back(rt: HostRuntime) {
     let alloc = rt.alloc();
-    for text in [WORKED, WORDS] {
+    for text in [WORKED, WORDS, AT_MOST] {
         let code = read_listing(alloc, text).ok().expect(&rt, "a listing");
         let mut out = Buffer::new(alloc);
         assert!(rt; write_listing(&code, &mut out).is_ok());

@@ -19,6 +19,7 @@ fn code_is_verified(rt: HostRuntime) {
         // b[i] := a[1] for four processors
         b"bsp 1\nrule crew\nprocs 4\narray a 1 2\narray b 1 4\nuniform 2\nprivate 2\ncode 13\n0 mark 7\n1 uset 0 1\n2 uset 1 4\n3 enter 0 1 1\n4 mark 8\n5 pset 0 1\n6 pask 1 0 0 1\n7 send\n8 reply\n9 pindex 0\n10 pput 1 0 1 2\n11 leave\n12 halt\n".as_slice(),
         b"bsp 1\nrule crew\nprocs 1\nuniform 0\nprivate 0\ncode 2\n0 mark 1\n1 jump 0\n",
+        b"bsp 1\nrule crew\nprocs 1\nuniform 1\nprivate 0\ncode 2\n0 ule 0 0 0\n1 halt\n",
         // both ways round a mask
         b"bsp 1\nrule crew\nprocs 1\nuniform 1\nprivate 1\ncode 7\n0 enter 0 0 1\n1 mask 0\n2 vote 0\n3 flip\n4 unmask\n5 leave\n6 halt\n",
         // a write is held from before the range to its end

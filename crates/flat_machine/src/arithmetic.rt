@@ -31,6 +31,7 @@ fn tested(operation: Truth, x: i64, y: i64) -> bool
     match operation {
         Truth::Equal => is_same(x, y),
         Truth::Less => x < y,
+        Truth::AtMost => x <= y,
         Truth::And => is_true(x) && is_true(y),
         Truth::Or => is_true(x) || is_true(y),
     }

@@ -34,7 +34,7 @@ abbrev pub operation_words : Side → List (List ℕ × Instr)
 operation_words side =
     (codes "add", Calculate side arithmetic.Add 0 0 0 0) ∷ (codes "sub", Calculate side arithmetic.Subtract 0 0 0 0) ∷ (codes "mul", Calculate side arithmetic.Multiply 0 0 0 0)
     ∷ (codes "div", Calculate side arithmetic.Divide 0 0 0 0) ∷ (codes "mod", Calculate side arithmetic.Remainder 0 0 0 0) ∷ (codes "eq", Decide side truth.Equal 0 0 0)
-    ∷ (codes "lt", Decide side truth.Less 0 0 0) ∷ (codes "and", Decide side truth.And 0 0 0) ∷ (codes "or", Decide side truth.Or 0 0 0) ∷ []
+    ∷ (codes "lt", Decide side truth.Less 0 0 0) ∷ (codes "le", Decide side truth.AtMost 0 0 0) ∷ (codes "and", Decide side truth.And 0 0 0) ∷ (codes "or", Decide side truth.Or 0 0 0) ∷ []
 
 -- the first of two that is there
 abbrev pub either : Option Instr → Option Instr → Option Instr

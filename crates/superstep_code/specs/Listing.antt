@@ -29,6 +29,7 @@ arithmetic_word arithmetic.Remainder = codes "mod"
 abbrev pub truth_word : Truth → List ℕ
 truth_word truth.Equal = codes "eq"
 truth_word truth.Less = codes "lt"
+truth_word truth.AtMost = codes "le"
 truth_word truth.And = codes "and"
 truth_word truth.Or = codes "or"
 

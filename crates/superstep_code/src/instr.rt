@@ -29,6 +29,8 @@ pub enum Arithmetic {
 pub enum Truth {
     Equal,
     Less,
+    /// At most, `<=`.
+    AtMost,
     And,
     Or,
 }

@@ -48,6 +48,7 @@ fn truth_text(operation: Truth) -> &'static [u8]
     match operation {
         Truth::Equal => b"eq",
         Truth::Less => b"lt",
+        Truth::AtMost => b"le",
         Truth::And => b"and",
         Truth::Or => b"or",
     }

@@ -135,6 +135,7 @@ fn operation_word(side: Side, stem: &[u8]) -> Option<Instr>
         b"mod" => Some(calculation(side, Arithmetic::Remainder)),
         b"eq" => Some(decision(side, Truth::Equal)),
         b"lt" => Some(decision(side, Truth::Less)),
+        b"le" => Some(decision(side, Truth::AtMost)),
         b"and" => Some(decision(side, Truth::And)),
         b"or" => Some(decision(side, Truth::Or)),
         _ => None,
