@@ -1,12 +1,12 @@
 //! Words and merges, as worked out by hand.
 
+use address_map::{AddressMap, Identity};
 use combining::asks::Asks;
 use combining::cells::Cells;
 use combining::machine_rule::MachineRule;
 use combining::merge::merge_at_module;
 use combining::puts::Puts;
 use combining::readers::read_conflict;
-use address_map::{AddressMap, Identity};
 use pram_values::kind::Kind;
 use std::alloc::Global;
 use write_rules::common::Common;

@@ -1,7 +1,7 @@
 //! Listings, verified and fused, with the listings that were worked out by hand.
 
-use fusing::fuse::fuse;
 use bsp_verify::verify::verify;
+use fusing::fuse::fuse;
 use pram_syntax::buffer::Buffer;
 use std::alloc::Global;
 use superstep_code::listing_read::read_listing;
