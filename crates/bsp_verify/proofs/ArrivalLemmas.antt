@@ -1,11 +1,12 @@
 -- A stretch of well-formed code comes to an exchange: between two marks it goes up, and no more marks are passed than statements begin.
 use Rattle.std.proofs.Common.{◌≡◌, ℕ, zero, suc, ◌+◌, ◌-◌, ◌*◌, ◌<◌, ◌≤◌, List, length, Bool, true, false, eqb, Option, Some, ℤ, refl, sym, ap, ◌∙◌, subst, arith, ⊎_elim, ◌⊎◌, inl, inr}
 use Rattle.std.specs.Prelude.{if◌then◌else◌, slice_get}
-use Rattle.std.specs.List.{list_any}
 use Rattle.std.proofs.lemmas.Bool.Decides.{nat_tests}
 use Rattle.superstep_code.specs.declared.instr.Side.TheVariants.{Uniform, Private}
 use Rattle.superstep_code.specs.declared.instr.Instr.{Instr}
 use Rattle.superstep_code.specs.declared.instr.Instr.TheVariants.{Mark, Ask, Send, Reply, Vote, Jump, JumpIfZero, Halt}
+use Rattle.superstep_code.specs.declared.mark.HeaderMark.{HeaderMark}
+use Rattle.superstep_code.specs.declared.mark.HeaderMark.TheVariants.{Clear, OutOfMemory, OutOfReserve}
 use Rattle.superstep_code.specs.Code.{SuperstepCode}
 use Rattle.superstep_code.specs.Setting.{Setting, workers}
 use Rattle.superstep_code.specs.Parts.{UniformPart}
@@ -157,16 +158,12 @@ module _ (t : Setting) (formed : IsWellFormed t.code) where
 
   module _ (ample : (t.bound + 1) * size + 1 ≤ t.enough) (w : ℕ) (messages : List Message) where
     exchanged : (r : machine.Ready) → IsRunning (record r.state { worker = machine.after_exchange t w r.purpose r.state.worker messages }) → IsRunning (machine.after t w r messages)
-    exchanged r a = go (list_any (λ (m : Message). m.refused) messages)
+    exchanged r a = go (machine.mark_of messages)
       where
-        go : (b : Bool) → IsRunning (if b then record r.state { way = machine.Refused } else record {
-          worker = machine.after_exchange t w r.purpose r.state.worker messages;
-          place = r.state.place;
-          way = machine.decided r.purpose r.state.worker.uniform (machine.key_of messages) r.state.way;
-          refusals = machine.refused_later r.state.refusals;
-        })
-        go true = record { found = λ h. cc; inside = λ h. cc }
-        go false = record {
+        go : (mark : HeaderMark) → IsRunning (machine.after_with t w r messages mark)
+        go OutOfMemory = record { found = λ h. cc; inside = λ h. cc }
+        go OutOfReserve = record { found = λ h. cc; inside = λ h. cc }
+        go Clear = record {
           found = λ h. a.found (decided_same machine.Lost (λ key ended e. cc) r.purpose r.state.worker.uniform (machine.key_of messages) r.state.way h);
           inside = λ h. a.inside (decided_same machine.On (λ key ended e. cc) r.purpose r.state.worker.uniform (machine.key_of messages) r.state.way h);
         }
@@ -192,7 +189,7 @@ module _ (t : Setting) (formed : IsWellFormed t.code) where
         go a b = let m = ample in grind (arith, a, b, m, l)
 
     next_running : (s : machine.State) → IsRunning s → IsRunning (machine.after t w (machine.ready t w s) messages)
-    next_running s a = go s.way refl
+    next_running s a = marked (machine.mark_now s.refusals)
       where
         stays : (way : machine.Way) → s.way ≡ way → (way ≡ machine.On → ⊥) → IsRunning (machine.after t w (record { purpose = machine.Closes; state = s }) messages)
         stays way e no_way = exchanged (record { purpose = machine.Closes; state = s }) (record { found = a.found; inside = λ h. absurd (no_way (sym e ∙ h)) })
@@ -201,8 +198,13 @@ module _ (t : Setting) (formed : IsWellFormed t.code) where
         go machine.On e = let i = a.inside e in arrived s a.found (machine.stretch t w s) (stops w t.enough s.place s.worker (fuelled s.place s.worker.uniform.count i.0 i.1))
         go (machine.Ending f) e = stays (machine.Ending f) e (λ h. cc)
         go (machine.Past k f) e = stays (machine.Past k f) e (λ h. cc)
-        go machine.Refused e = stays machine.Refused e (λ h. cc)
+        go (machine.Refused mark) e = stays (machine.Refused mark) e (λ h. cc)
         go machine.Lost e = absurd (a.found e)
+
+        marked : (mark : HeaderMark) → IsRunning (machine.after t w (machine.ready_with t w s mark) messages)
+        marked Clear = go s.way refl
+        marked OutOfMemory = exchanged (record { purpose = machine.Closes; state = machine.stopped OutOfMemory }) (record { found = λ h. cc; inside = λ h. cc })
+        marked OutOfReserve = exchanged (record { purpose = machine.Closes; state = machine.stopped OutOfReserve }) (record { found = λ h. cc; inside = λ h. cc })
 
   phases_running : (t.bound + 1) * size + 1 ≤ t.enough → (p n : ℕ) (ws : ℕ → machine.State) → ((w : ℕ) → IsRunning (ws w)) → (w : ℕ) → IsRunning (phases (machine.bsp t) p n ws w)
   phases_running ample p zero ws a w = a w

@@ -1,13 +1,14 @@
 -- A run goes along a path of control, and the state that the path gives describes what its workers hold and await.
 use Rattle.std.proofs.Common.{◌≡◌, ℕ, zero, suc, ◌+◌, List, [], ◌∷◌, length, Bool, true, false, not, eqb, Option, Some, None, ℤ, refl, sym, ap, ◌∙◌, subst, arith, ⊎_elim, ◌⊎◌, inl, inr}
 use Rattle.std.specs.Prelude.{if◌then◌else◌, ◌&&◌, nat_lt, slice_get}
-use Rattle.std.specs.List.{list_any}
 use Rattle.std.proofs.lemmas.Bool.Decides.{nat_tests}
 use Rattle.std.proofs.lemmas.List.{length-append}
 use Rattle.superstep_code.specs.declared.instr.Side.TheVariants.{Uniform, Private}
 use Rattle.superstep_code.specs.declared.instr.Instr.{Instr}
 use Rattle.superstep_code.specs.declared.instr.Instr.TheVariants.{Mark, Ask, Put, Send, Reply, Vote, Jump, JumpIfZero, Halt}
 use Rattle.superstep_code.specs.declared.key.Key.{Key}
+use Rattle.superstep_code.specs.declared.mark.HeaderMark.{HeaderMark}
+use Rattle.superstep_code.specs.declared.mark.HeaderMark.TheVariants.{Clear, OutOfMemory, OutOfReserve}
 use Rattle.superstep_code.specs.Code.{SuperstepCode}
 use Rattle.superstep_code.specs.Setting.{Setting, workers}
 use Rattle.superstep_code.specs.Parts.{UniformPart, Moment}
@@ -224,16 +225,12 @@ module _ (t : Setting) (formed : IsWellFormed t.code) where
   module _ (w : ℕ) (messages : List Message) where
     -- after an exchange it is there, if it was on its way
     exchanged : (r : machine.Ready) → (r.state.way ≡ machine.On → IsThere r.state.place (machine.after_exchange t w r.purpose r.state.worker messages).uniform) → Agrees (machine.after t w r messages)
-    exchanged r next = go (list_any (λ (m : Message). m.refused) messages)
+    exchanged r next = go (machine.mark_of messages)
       where
-        go : (b : Bool) → Agrees (if b then record r.state { way = machine.Refused } else record {
-          worker = machine.after_exchange t w r.purpose r.state.worker messages;
-          place = r.state.place;
-          way = machine.decided r.purpose r.state.worker.uniform (machine.key_of messages) r.state.way;
-          refusals = machine.refused_later r.state.refusals;
-        })
-        go true = λ h. cc
-        go false = λ h. next (decided_same machine.On (λ key ended e. cc) r.purpose r.state.worker.uniform (machine.key_of messages) r.state.way h)
+        go : (mark : HeaderMark) → Agrees (machine.after_with t w r messages mark)
+        go OutOfMemory = λ h. cc
+        go OutOfReserve = λ h. cc
+        go Clear = λ h. next (decided_same machine.On (λ key ended e. cc) r.purpose r.state.worker.uniform (machine.key_of messages) r.state.way h)
 
     -- the place behind an exchange
     behind : (stop : Stop) (place : ℕ) (x : UniformPart) (i : Instr) (u : UniformPart) (h : Stops stop place x) → h.instr ≡ i → ((k : ℕ) → Leads i k (k + 1)) → (Describes h.there.point.state x → Describes (after i h.there.point.state) u) → IsThere (place + 1) u
@@ -250,7 +247,7 @@ module _ (t : Setting) (formed : IsWellFormed t.code) where
     arrived s (At (ToClose ended) place x) h = exchanged (machine.ready_at s (At (ToClose ended) place x)) (λ e. cc)
 
     next_agrees : (s : machine.State) → Agrees s → Agrees (machine.after t w (machine.ready t w s) messages)
-    next_agrees s a = go s.way refl
+    next_agrees s a = marked (machine.mark_now s.refusals)
       where
         stays : (way : machine.Way) → s.way ≡ way → (way ≡ machine.On → ⊥) → Agrees (machine.after t w (record { purpose = machine.Closes; state = s }) messages)
         stays way e no_way = exchanged (record { purpose = machine.Closes; state = s }) (λ h. absurd (no_way (sym e ∙ h)))
@@ -259,8 +256,13 @@ module _ (t : Setting) (formed : IsWellFormed t.code) where
         go machine.On e = arrived s (machine.stretch t w s) (follow w t.enough s.place s.worker (a e))
         go (machine.Ending f) e = stays (machine.Ending f) e (λ h. cc)
         go (machine.Past k f) e = stays (machine.Past k f) e (λ h. cc)
-        go machine.Refused e = stays machine.Refused e (λ h. cc)
+        go (machine.Refused mark) e = stays (machine.Refused mark) e (λ h. cc)
         go machine.Lost e = stays machine.Lost e (λ h. cc)
+
+        marked : (mark : HeaderMark) → Agrees (machine.after t w (machine.ready_with t w s mark) messages)
+        marked Clear = go s.way refl
+        marked OutOfMemory = exchanged (record { purpose = machine.Closes; state = machine.stopped OutOfMemory }) (λ h. cc)
+        marked OutOfReserve = exchanged (record { purpose = machine.Closes; state = machine.stopped OutOfReserve }) (λ h. cc)
 
   phases_agree : (p n : ℕ) (ws : ℕ → machine.State) → ((w : ℕ) → Agrees (ws w)) → (w : ℕ) → Agrees (phases (machine.bsp t) p n ws w)
   phases_agree p zero ws a w = a w

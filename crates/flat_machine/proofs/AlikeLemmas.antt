@@ -79,7 +79,7 @@ module _ (code : SuperstepCode) (bound : ℕ) where
       (alike_led s.flat t.flat h.flat (slice_get code.instructions s.place) s.place)
   by_way s t h (Ending ended) = h
   by_way s t h (Past key ended) = h
-  by_way s t h Refused = h
+  by_way s t h (Refused mark) = h
   by_way s t h Lost = h
 
   alike_step : (s t : State) → AreSameStates s t → AreSameStates (step code bound everywhere s) (step code bound everywhere t)
@@ -93,7 +93,7 @@ module _ (code : SuperstepCode) (bound : ℕ) where
   still s On h = absurd (cc h)
   still s (Ending ended) h = refl
   still s (Past key ended) h = refl
-  still s Refused h = refl
+  still s (Refused mark) h = refl
   still s Lost h = refl
 
   -- a run that is over stays so
@@ -115,7 +115,7 @@ pub going_is_on : (way : Way) → is_going way ≡ true → way ≡ On
 going_is_on On h = refl
 going_is_on (Ending ended) h = absurd (cc h)
 going_is_on (Past key ended) h = absurd (cc h)
-going_is_on Refused h = absurd (cc h)
+going_is_on (Refused mark) h = absurd (cc h)
 going_is_on Lost h = absurd (cc h)
 
 -- what they come to is the same

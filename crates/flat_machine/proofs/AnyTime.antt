@@ -106,7 +106,7 @@ module _ (code : SuperstepCode) (formed : IsWellFormed code) (bound : ℕ) (one 
       go On e = ⊎_elim (λ x. inl x) (λ k. inr (e, k.0, k.1)) (instructed_alike s.place s.flat (a e))
       go (Ending ended) e = inl refl
       go (Past key ended) e = inl refl
-      go Refused e = inl refl
+      go (Refused mark) e = inl refl
       go Lost e = inl refl
 
   module _ (input : List ℤ) where

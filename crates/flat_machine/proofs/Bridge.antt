@@ -116,7 +116,7 @@ module _ (t : Plan) where
         go On e = run_on (suc x) s e ∙ comes enough s.place s.flat (ap (λ z. outcome_of t.code (many k z)) (sym (on_is s e)) ∙ o) t.enough x enough l s e
         go (Past key ended) e = run_past (suc x) s key ended e ∙ ap (λ z. Some z) (over (Past key ended) e (λ h. cc))
         go (Ending ended) e = no_outcome s (Ending ended) e (λ h. h) v (over (Ending ended) e (λ h. cc))
-        go Refused e = no_outcome s Refused e (λ h. h) v (over Refused e (λ h. cc))
+        go (Refused mark) e = no_outcome s (Refused mark) e (λ h. h) v (over (Refused mark) e (λ h. cc))
         go Lost e = no_outcome s Lost e (λ h. h) v (over Lost e (λ h. cc))
 
     module _ (k : ℕ) (comes : Comes k v) (enough : k ≤ t.enough) (x : ℕ) (l : k ≤ x) (s : State) (on : s.way ≡ On) where
@@ -225,7 +225,7 @@ module _ (t : Plan) where
         go rest On e = arrival_returns x rest s e (stretch t s) (reaches t.enough s.place s.flat) (sym (run_on x s e) ∙ h)
         go rest (Ending ended) e = absurd (unended ended e)
         go rest (Past key ended) e = (0, unsome _ (Some v) (sym (run_past x s key ended e) ∙ h))
-        go rest Refused e = no_outcome s Refused e (λ h. h) v (unsome _ (Some v) (sym (ap (went x s) e) ∙ h))
+        go rest (Refused mark) e = no_outcome s (Refused mark) e (λ h. h) v (unsome _ (Some v) (sym (ap (went x s) e) ∙ h))
         go rest Lost e = lost_ends (suc x) s e h
 
 -- ---- both ways

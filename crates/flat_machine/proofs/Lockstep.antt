@@ -1,13 +1,15 @@
 -- The run of the workers goes exchange by exchange with that of the flat machine.
 use Rattle.std.proofs.Common.{◌≡◌, ℕ, zero, suc, ◌+◌, ◌<◌, List, [], ◌∷◌, map, false, ◌||◌, refl, sym, ap, ◌∙◌, arith}
 use Rattle.std.specs.Prelude.{if◌then◌else◌}
-use Rattle.std.specs.List.{list_any, range_with_len}
+use Rattle.std.specs.List.{range_with_len}
+use Rattle.superstep_code.specs.declared.mark.HeaderMark.TheVariants.{Clear}
+use Rattle.superstep_code.specs.Marks.{worse}
 use Rattle.superstep_code.specs.Setting.{Setting, workers}
 use Rattle.superstep_code.specs.Parts.{UniformPart}
 use Rattle.superstep_code.specs.Words.{Message}
 use Rattle.superstep_code.specs.Worker.{Worker}
 use Rattle.superstep_code.specs.Stretch.{Stop, ToSend, ToReply, ToVote, ToClose, Arrival, Nowhere, At}
-use Rattle.superstep_code.specs.Run.{Purpose, Sends, Replies, Votes, Closes, Way, On, Ending, Past, Refused, Lost, Ready, ready, ready_at, ready_by, is_held, message_for, message_of, key_of, decided, after_exchange, after, is_over, verdict_by, state_of, cell_in, no_state, outcome_of, bsp, opening, opening_worker}
+use Rattle.superstep_code.specs.Run.{Purpose, Sends, Replies, Votes, Closes, Way, On, Ending, Past, Refused, Lost, Ready, mark_now, mark_of, ready, ready_at, ready_by, ready_with, is_held, message_for, message_of, key_of, decided, after_exchange, after, is_over, verdict_by, state_of, cell_in, no_state, outcome_of, bsp, opening, opening_worker}
 use Rattle.superstep_code.specs.Run as workers_run
 use Rattle.flat_machine.specs.Flat.{Flat}
 use Rattle.flat_machine.specs.ByExchanges as flat_run
@@ -20,18 +22,7 @@ use Rattle.flat_machine.proofs.Control.{ArrivedAs, until_splits}
 abbrev pub numbers : Setting → List ℕ
 numbers t = range_with_len 0 (workers t)
 
-pub map_within : {A : Type 0} (f g : ℕ → A) (n k : ℕ) → ((o : ℕ) → o < k + n → f o ≡ g o) → map f (range_with_len k n) ≡ map g (range_with_len k n)
-map_within f g zero k h = refl
-map_within f g (suc n) k h = ap (λ y. y ∷ map f (range_with_len (k + 1) n)) (h k (omega arith)) ∙ ap (λ t. g k ∷ t) (map_within f g n (k + 1) (λ o l. h o (omega arith)))
-
 -- ---- messages
-
--- no mark of refused memory is in them
-pub not_refused : (t : Setting) (p : Purpose) (x : Worker) (j : ℕ) → (message_for t p x j).refused ≡ false
-not_refused t Sends x j = refl
-not_refused t Replies x j = refl
-not_refused t (Votes d) x j = refl
-not_refused t Closes x j = refl
 
 pub own_key : (t : Setting) (p : Purpose) (x : Worker) (j : ℕ) → (message_for t p x j).key ≡ x.key
 own_key t Sends x j = refl
@@ -39,15 +30,10 @@ own_key t Replies x j = refl
 own_key t (Votes d) x j = refl
 own_key t Closes x j = refl
 
-pub unmarked : (t : Setting) (p : Purpose) (x : Worker) (j : ℕ) → record (message_for t p x j) { refused = false } ≡ message_for t p x j
-unmarked t Sends x j = refl
-unmarked t Replies x j = refl
-unmarked t (Votes d) x j = refl
-unmarked t Closes x j = refl
-
-pub none_refused : (f : ℕ → Message) → ((i : ℕ) → (f i).refused ≡ false) → (xs : List ℕ) → list_any (λ (m : Message). m.refused) (map f xs) ≡ false
-none_refused f h [] = refl
-none_refused f h (x ∷ xs) = ap (λ b. b || list_any (λ (m : Message). m.refused) (map f xs)) (h x) ∙ none_refused f h xs
+-- no mark is in them
+pub none_marked : (f : ℕ → Message) → ((i : ℕ) → (f i).mark ≡ Clear) → (xs : List ℕ) → mark_of (map f xs) ≡ Clear
+none_marked f h [] = refl
+none_marked f h (x ∷ xs) = ap (λ m. worse m (mark_of (map f xs))) (h x) ∙ none_marked f h xs
 
 module _ (t : Setting) (room : IsMapFor t.code t.map) where
   -- all workers stand where the flat machine does
@@ -105,11 +91,11 @@ module _ (t : Setting) (room : IsMapFor t.code t.map) where
         (until_splits t (splits_instr t room) t.code.instructions t.enough s.place s.flat (λ w. (ws w).worker) a.splits))
 
     pub readies : ReadyAs (flat_run.ready (plan t) s) (λ w. ready t w (ws w))
-    readies = ready_same _ (λ w. ready_by t w (ws w) s.way) _ (λ w l. ap (ready_by t w (ws w)) (sym (a.way w l))) (go s.way)
+    readies = ready_same _ (λ w. ready_by t w (ws w) s.way) _ (λ w l. ap (ready_by t w (ws w)) (sym (a.way w l)) ∙ ap (λ marks. ready_with t w (ws w) (mark_now marks)) (sym (a.unrefused w l))) (go s.way)
       where
         go : (way : Way) → ReadyAs (flat_run.ready_by (plan t) s way) (λ w. ready_by t w (ws w) way)
         go On = on_its_way
         go (Ending ended) = closes
         go (Past key ended) = closes
-        go Refused = closes
+        go (Refused mark) = closes
         go Lost = closes

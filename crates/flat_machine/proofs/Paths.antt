@@ -203,7 +203,7 @@ module _ (code : SuperstepCode) (formed : IsWellFormed code) (bound : ℕ) (judg
       go On e = instructed_agrees s.place s.flat (a e)
       go (Ending ended) e = a
       go (Past key ended) e = a
-      go Refused e = a
+      go (Refused mark) e = a
       go Lost e = a
 
   pub steps_agree : (n : ℕ) (s : State) → Agrees code s → Agrees code (steps code bound judges n s)

@@ -10,8 +10,9 @@ use Rattle.superstep_code.specs.Setting.{Setting, workers, all_cells}
 use Rattle.superstep_code.specs.Parts.{UniformPart}
 use Rattle.superstep_code.specs.Words.{Message}
 use Rattle.superstep_code.specs.Machine.{phase, phases, column, run}
-use Rattle.superstep_code.specs.Run.{Purpose, Sends, Replies, Votes, Closes, Way, Refused, State, Ready, ready, message_for, message_of, key_of, decided, refused_now, refused_later, after_exchange, after, is_over, verdict_by, state_of, cell_in, no_state, outcome_of, bsp, opening}
+use Rattle.superstep_code.specs.Run.{Purpose, Sends, Replies, Votes, Closes, Way, State, Ready, ready, message_for, message_of, key_of, decided, mark_now, marks_later, message_with, after_with, after_exchange, after, is_over, verdict_by, state_of, cell_in, no_state, outcome_of, bsp, opening}
 use Rattle.superstep_code.specs.Trace.{Exchange, exchange_of, exchanges_from}
+use Rattle.superstep_code.proofs.Refused.{map_within, for_clear}
 use Rattle.flat_machine.specs.ByExchanges as flat_run
 use Rattle.flat_machine.specs.Flatness.{IsMapFor, plan}
 use Rattle.flat_machine.proofs.Relation.{Splits}
@@ -19,7 +20,7 @@ use Rattle.flat_machine.proofs.Lists.{map_twice}
 use Rattle.flat_machine.proofs.Opening.{splits_same, splits_opening}
 use Rattle.flat_machine.proofs.Replies.{splits_vote, splits_reply}
 use Rattle.flat_machine.proofs.SendSplits.{splits_send}
-use Rattle.flat_machine.proofs.Lockstep.{numbers, map_within, not_refused, own_key, unmarked, none_refused, Agree, ReadyAs, readies}
+use Rattle.flat_machine.proofs.Lockstep.{numbers, own_key, none_marked, Agree, ReadyAs, readies}
 
 module _ (t : Setting) (room : IsMapFor t.code t.map) where
   -- there is a worker
@@ -49,14 +50,14 @@ module _ (t : Setting) (room : IsMapFor t.code t.map) where
 
     after_is : (w : ℕ) → w < workers t → after t w (rs w) (column_to w) ≡ came_to w
     after_is w l =
-        ap (λ b. if b then record (rs w).state { way = Refused } else gone (rs w).purpose)
-        (none_refused (λ i. message_for t r.purpose (rs i).state.worker w) (λ i. not_refused t r.purpose (rs i).state.worker w) (numbers t))
+        ap (after_with t w (rs w) (column_to w))
+        (none_marked (λ i. message_for t r.purpose (rs i).state.worker w) (λ i. for_clear t r.purpose (rs i).state.worker w) (numbers t))
         ∙ ap gone (h.purpose w l)
         ∙ (λ i. record {
           worker = after_exchange t w r.purpose (rs w).state.worker (column_to w);
           place = h.states.place w l i;
           way = decided r.purpose (h.states.splits.uniform w l i) (keys_are w i) (h.states.way w l i);
-          refusals = ap refused_later (h.states.unrefused w l) i;
+          refusals = ap marks_later (h.states.unrefused w l) i;
         })
       where
         gone : Purpose → State
@@ -64,7 +65,7 @@ module _ (t : Setting) (room : IsMapFor t.code t.map) where
           worker = after_exchange t w p (rs w).state.worker (column_to w);
           place = (rs w).state.place;
           way = decided p (rs w).state.worker.uniform (key_of (column_to w)) (rs w).state.way;
-          refusals = refused_later (rs w).state.refusals;
+          refusals = marks_later (rs w).state.refusals;
         }
 
     exchange_splits : (p : Purpose) → Splits t (flat_run.after_exchange t.code p r.state.flat) (λ w. after_exchange t w p (rs w).state.worker (map (λ i. message_for t p (rs i).state.worker w) (numbers t)))
@@ -91,8 +92,7 @@ module _ (t : Setting) (room : IsMapFor t.code t.map) where
     -- the messages are those of one kind of exchange
     message_is : (i w : ℕ) → i < workers t → message_of t i (ws i) w ≡ message_for t (flat_run.ready (plan t) s).purpose (ready t i (ws i)).state.worker w
     message_is i w l =
-        ap (λ b. record (message_for t (ready t i (ws i)).purpose (ready t i (ws i)).state.worker w) { refused = b }) (ap refused_now (a.unrefused i l))
-        ∙ unmarked t (ready t i (ws i)).purpose (ready t i (ws i)).state.worker w
+        ap (λ marks. message_with t (ready t i (ws i)) w (mark_now marks)) (a.unrefused i l)
         ∙ ap (λ p. message_for t p (ready t i (ws i)).state.worker w) (at.purpose i l)
 
     column_is : (w : ℕ) → column (bsp t) (workers t) ws w ≡ map (λ i. message_for t (flat_run.ready (plan t) s).purpose (ready t i (ws i)).state.worker w) (numbers t)

@@ -19,14 +19,14 @@ pub past_is_not_on : (way : Way) → IsPast way → way ≡ On → ⊥
 past_is_not_on (Past key ended) h e = cc
 past_is_not_on On h e = absurd h
 past_is_not_on (Ending ended) h e = absurd h
-past_is_not_on Refused h e = absurd h
+past_is_not_on (Refused mark) h e = absurd h
 past_is_not_on Lost h e = absurd h
 
 some_past : (way : Way) (output : List (ℕ × ℤ)) (memory : List ℤ) (v : Verdict) → verdict_by way output memory ≡ Some v → IsPast way
 some_past (Past key ended) output memory v e = tt
 some_past On output memory v e = cc
 some_past (Ending ended) output memory v e = cc
-some_past Refused output memory v e = cc
+some_past (Refused mark) output memory v e = cc
 some_past Lost output memory v e = cc
 
 -- an outcome means that the run is over
@@ -39,7 +39,7 @@ verdict_past (Past None true) output memory h = (_, refl)
 verdict_past (Past None false) output memory h = (_, refl)
 verdict_past On output memory h = absurd h
 verdict_past (Ending ended) output memory h = absurd h
-verdict_past Refused output memory h = absurd h
+verdict_past (Refused mark) output memory h = absurd h
 verdict_past Lost output memory h = absurd h
 
 -- and where it is over there is one
@@ -62,7 +62,7 @@ module _ (code : SuperstepCode) (bound : ℕ) (judges : ℕ → Bool) where
       go On e = absurd (h e)
       go (Ending ended) e = refl
       go (Past key ended) e = refl
-      go Refused e = refl
+      go (Refused mark) e = refl
       go Lost e = refl
 
   -- a run that is over stays so

@@ -97,7 +97,7 @@ module _ (code : SuperstepCode) (bound : ℕ) (judges : ℕ → Bool) where
       go On e = by_instr (slice_get code.instructions s.place) s.place s.flat (c e)
       go (Ending ended) e = c
       go (Past key ended) e = c
-      go Refused e = c
+      go (Refused mark) e = c
       go Lost e = c
 
 -- ---- a send where nothing is held

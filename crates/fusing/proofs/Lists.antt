@@ -31,7 +31,7 @@ module _ (code : SuperstepCode) (bound : ℕ) (judges : ℕ → Bool) where
       go On e = absurd (h e)
       go (Ending ended) e = refl
       go (Past key ended) e = refl
-      go Refused e = refl
+      go (Refused mark) e = refl
       go Lost e = refl
 
   step_stays : (s : State) → (s.way ≡ On → ⊥) → step code bound judges s ≡ s

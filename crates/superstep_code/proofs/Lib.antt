@@ -14,3 +14,4 @@ pub mod Known
 pub mod ReadBack
 pub mod KeyOrder
 pub mod Collected
+pub mod Refused

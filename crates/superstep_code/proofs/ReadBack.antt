@@ -94,8 +94,8 @@ values_back (z ∷ zs) f = λ i. to_z-of_z w64 z f.0 i ∷ values_back zs f.1 i
 abbrev Back : Rule → Purpose → Message → Type 0
 Back rule purpose m = read_words rule purpose (header_of m) (words rule m) ≡ m
 
-empty_back : (m : Message) → (m.puts ≡ []) × (m.asks ≡ []) × (m.values ≡ []) → record { key = m.key; refused = m.refused; active = m.active; puts = []; asks = []; values = [] } ≡ m
-empty_back m e = λ i. record { key = m.key; refused = m.refused; active = m.active; puts = sym e.0 i; asks = sym e.1 i; values = sym e.2 i }
+empty_back : (m : Message) → (m.puts ≡ []) × (m.asks ≡ []) × (m.values ≡ []) → record { key = m.key; mark = m.mark; active = m.active; puts = []; asks = []; values = [] } ≡ m
+empty_back m e = λ i. record { key = m.key; mark = m.mark; active = m.active; puts = sym e.0 i; asks = sym e.1 i; values = sym e.2 i }
 
 pub message_back : (rule : Rule) (purpose : Purpose) (m : Message) → CanBeSent rule purpose m → Back rule purpose m
 message_back rule Sends m h =
@@ -104,7 +104,7 @@ message_back rule Sends m h =
     ap (read_words rule Sends (header_of m)) e
     ∙ (λ i. record {
       key = m.key;
-      refused = m.refused;
+      mark = m.mark;
       active = m.active;
       puts = puts_back rule m.puts rest h.0 i;
       asks = (ap (map read_ask) (puts_behind rule m.puts rest) ∙ asks_back m.asks h.1) i;
@@ -113,6 +113,6 @@ message_back rule Sends m h =
 message_back rule Replies m h =
     let e : words rule m ≡ values_words m.values = (λ i. flat_map (put_words rule) (h.0 i) ++ (ask_words (h.1 i) ++ values_words m.values)) in
     ap (read_words rule Replies (header_of m)) e
-    ∙ (λ i. record { key = m.key; refused = m.refused; active = m.active; puts = sym h.0 i; asks = sym h.1 i; values = values_back m.values h.2 i })
+    ∙ (λ i. record { key = m.key; mark = m.mark; active = m.active; puts = sym h.0 i; asks = sym h.1 i; values = values_back m.values h.2 i })
 message_back rule (Votes d) m h = empty_back m h
 message_back rule Closes m h = empty_back m h

@@ -8,6 +8,8 @@ use Rattle.address_map.specs.Permutation.{same}
 use Rattle.superstep_code.specs.declared.instr.Side.TheVariants.{Uniform, Private}
 use Rattle.superstep_code.specs.declared.instr.Instr.TheVariants.{Mark, Set, Index, Enter, Leave, Ask, Put, Send, Reply, Halt}
 use Rattle.write_rules.specs.Verdict.{Verdict}
+use Rattle.superstep_code.specs.declared.mark.HeaderMark.{HeaderMark}
+use Rattle.superstep_code.specs.declared.mark.HeaderMark.TheVariants.{Clear}
 use Rattle.superstep_code.specs.Code.{SuperstepCode}
 use Rattle.superstep_code.specs.Machine.{run}
 use Rattle.superstep_code.specs.Run.{bsp, opening, setting}
@@ -51,8 +53,8 @@ broadcast = record {
 abbrev pub too_wide : SuperstepCode
 too_wide = record broadcast { procs = 3 }
 
--- the run of `broadcast` on two workers where worker 1 is refused memory in its second stretch
-abbrev pub refused_run : Option (Option Verdict)
-refused_run =
+-- the run of `broadcast` on two workers where worker 1 gets a mark in its second stretch
+abbrev pub refused_run : HeaderMark → Option (Option Verdict)
+refused_run mark =
     let t = setting broadcast (in_turn 8 2) 2 20 in
-    run (bsp t) 2 9 (λ w. record (opening t (pos 9 ∷ pos 8 ∷ []) w) { refusals = if eqb w 1 then false ∷ true ∷ [] else [] })
+    run (bsp t) 2 9 (λ w. record (opening t (pos 9 ∷ pos 8 ∷ []) w) { refusals = if eqb w 1 then Clear ∷ mark ∷ [] else [] })

@@ -8,6 +8,7 @@ pub mod Decoding
 pub mod Names
 pub mod Cutting
 pub mod Keys
+pub mod Marks
 pub mod Setting
 pub mod Parts
 pub mod Results
@@ -20,6 +21,7 @@ pub mod Answering
 pub mod Stretch
 pub mod Machine
 pub mod Run
+pub mod Refusals
 pub mod Trace
 pub mod Examples
 pub mod FaultExamples

@@ -13,6 +13,7 @@ use Rattle.write_rules.specs.Rule.{shares_reads}
 use Rattle.superstep_code.specs.declared.instr.Side.{Side}
 use Rattle.superstep_code.specs.declared.instr.Side.TheVariants.{Uniform, Private}
 use Rattle.superstep_code.specs.declared.key.Key.{Key}
+use Rattle.superstep_code.specs.declared.mark.HeaderMark.TheVariants.{Clear}
 use Rattle.superstep_code.specs.Keys.{together, least}
 use Rattle.superstep_code.specs.Setting.{Setting, module_cells, combining}
 use Rattle.superstep_code.specs.Parts.{Moment, Read, UniformPart, PrivatePart}
@@ -90,7 +91,7 @@ asks_held s = asks_from s 0 s.uniform.asks
 abbrev pub sent : Setting → Worker → ℕ → Message
 sent t s j = record {
   key = s.key;
-  refused = false;
+  mark = Clear;
   active = false;
   puts = filter (λ (x : CellPut). eqb (t.map.part x.cell) j) (puts_held t.code.rule s);
   asks = filter (λ (x : CellAsk). eqb (t.map.part x.cell) j) (asks_held s);

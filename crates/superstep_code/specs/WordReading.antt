@@ -6,18 +6,19 @@ use Rattle.std.proofs.Common.{eqb}
 use Rattle.pram_syntax.specs.declared.rule.Rule.{Rule}
 use Rattle.pram_syntax.specs.declared.rule.Rule.TheVariants.{Sum}
 use Rattle.superstep_code.specs.declared.key.Key.{Key}
+use Rattle.superstep_code.specs.declared.mark.HeaderMark.{HeaderMark}
 use Rattle.superstep_code.specs.Words.{CellPut, CellAsk, Message}
 use Rattle.superstep_code.specs.Run.{Purpose, Sends, Replies}
 
 -- what stands before the words, with the number of cells that are put to
 pub record Header : Type 0 where
   pub key : Option Key
-  pub refused : Bool
+  pub mark : HeaderMark
   pub active : Bool
   pub puts : ℕ
 
 abbrev pub header_of : Message → Header
-header_of m = record { key = m.key; refused = m.refused; active = m.active; puts = length m.puts }
+header_of m = record { key = m.key; mark = m.mark; active = m.active; puts = length m.puts }
 
 -- word k, or 0 behind the end
 abbrev pub word : List ℕ → ℕ → ℕ
@@ -56,9 +57,9 @@ read_ask x = record { read = x / 2 ^ 20 % 2 ^ 3; cell = x % 2 ^ 20; twice = is_s
 
 abbrev pub read_words : Rule → Purpose → Header → List ℕ → Message
 read_words rule Sends h words =
-    record { key = h.key; refused = h.refused; active = h.active; puts = read_puts rule h.puts words; asks = map read_ask (behind_puts rule h.puts words); values = [] }
-read_words rule Replies h words = record { key = h.key; refused = h.refused; active = h.active; puts = []; asks = []; values = map (cast_signed w64) words }
-read_words rule purpose h words = record { key = h.key; refused = h.refused; active = h.active; puts = []; asks = []; values = [] }
+    record { key = h.key; mark = h.mark; active = h.active; puts = read_puts rule h.puts words; asks = map read_ask (behind_puts rule h.puts words); values = [] }
+read_words rule Replies h words = record { key = h.key; mark = h.mark; active = h.active; puts = []; asks = []; values = map (cast_signed w64) words }
+read_words rule purpose h words = record { key = h.key; mark = h.mark; active = h.active; puts = []; asks = []; values = [] }
 
 -- ---- which messages there can be
 

@@ -6,6 +6,8 @@ use Rattle.pram_syntax.specs.declared.rule.Rule.{Rule}
 use Rattle.pram_syntax.specs.declared.rule.Rule.TheVariants.{Sum}
 use Rattle.write_rules.specs.declared.entry.Entry.{Entry}
 use Rattle.superstep_code.specs.declared.key.Key.{Key}
+use Rattle.superstep_code.specs.declared.mark.HeaderMark.{HeaderMark}
+use Rattle.superstep_code.specs.declared.mark.HeaderMark.TheVariants.{Clear}
 
 -- what the processors of a worker put to a cell
 pub record CellPut : Type 0 where
@@ -18,11 +20,11 @@ pub record CellAsk : Type 0 where
   pub cell : ℕ
   pub twice : Bool
 
--- A message from a worker to a module. Its header has the least key that the worker noted, whether it was refused memory, and
--- at a vote whether it has an active processor; the rest is words.
+-- A message from a worker to a module. Its header has the least key that the worker noted, a mark where it was refused memory or
+-- came past its reserve, and at a vote whether it has an active processor; the rest is words.
 pub record Message : Type 0 where
   pub key : Option Key
-  pub refused : Bool
+  pub mark : HeaderMark
   pub active : Bool
   pub puts : List CellPut
   pub asks : List CellAsk
@@ -30,7 +32,7 @@ pub record Message : Type 0 where
 
 -- a message without words, and with nothing in its header
 abbrev pub blank : Message
-blank = record { key = None; refused = false; active = false; puts = []; asks = []; values = [] }
+blank = record { key = None; mark = Clear; active = false; puts = []; asks = []; values = [] }
 
 -- ---- the words
 

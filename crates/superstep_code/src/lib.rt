@@ -16,6 +16,8 @@ mod lines;
 pub mod listing_read;
 pub mod listing_write;
 pub mod machine_law;
+pub mod mark;
+pub mod mark_law;
 mod name;
 mod numeral;
 mod operands;

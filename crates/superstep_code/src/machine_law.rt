@@ -5,6 +5,7 @@ ghost use Rattle.pram_syntax.specs.declared.rule.Rule.TheVariants.{Erew};
 ghost use Rattle.pram_values.specs.declared.kind.Kind.TheVariants.{DivideByZero, OutOfRange, TooWide, ReadConflict, WriteConflict};
 ghost use Rattle.pram_values.specs.declared.place.Place.TheVariants.{All, Processor, Cell};
 ghost use Rattle.write_rules.specs.Verdict.{Ended, Faulted, GoesOn};
+ghost use Rattle.superstep_code.specs.declared.mark.HeaderMark.TheVariants.{OutOfMemory, OutOfReserve};
 ghost use Rattle.superstep_code.specs.Run.{IsBspOutcome, Sends, Replies, Closes};
 ghost use Rattle.superstep_code.specs.Trace.{AreBspExchanges, relation_of};
 ghost use Rattle.superstep_code.specs.Examples.{broadcast, too_wide, refused_run, in_turn};
@@ -29,8 +30,9 @@ pub fn broadcast_on_two_workers()
     ensures most_sent { relation_of (record { purpose = Replies; sent = 2 ∷ 5 ∷ 0 ∷ []; received = 3 ∷ 3 ∷ 1 ∷ [] }) ≡ 5 }
     ensures exclusive_alone { IsBspOutcome (record broadcast { rule = Erew }) (in_turn 8 1) (pos 9 ∷ pos 8 ∷ []) 2
         (Faulted (record { kind = ReadConflict; line = 8; place = Cell 0 }) []) }
-    // A worker that is refused memory ends the run of all, without an outcome.
-    ensures refused { refused_run ≡ Some None }
+    // A worker that is refused memory, or comes past its reserve, ends the run of all, without an outcome.
+    ensures refused { refused_run OutOfMemory ≡ Some None }
+    ensures past_reserve { refused_run OutOfReserve ≡ Some None }
     ensures exclusive { IsBspOutcome (record broadcast { rule = Erew }) (in_turn 8 2) (pos 9 ∷ pos 8 ∷ []) 2
         (Faulted (record { kind = ReadConflict; line = 8; place = Cell 0 }) []) }
 {}

@@ -10,5 +10,6 @@ returns c = record {
   most_sent = refl;
   exclusive_alone = record { enough = 20; exchanges = 9; ends = refl };
   refused = refl;
+  past_reserve = refl;
   exclusive = record { enough = 20; exchanges = 9; ends = refl };
 }
