@@ -1,10 +1,9 @@
 -- Marks stop all workers, and up to the first one nothing is changed.
-use Rattle.std.proofs.Common.{◌≡◌, ℕ, zero, suc, ◌+◌, ◌<◌, List, [], ◌∷◌, map, drop, length, Bool, true, false, Option, Some, None, ℤ, refl, sym, ap, ◌∙◌, arith, ◌≤◌, ◌⊎◌, inl, inr, ⊎_elim, pos}
+use Rattle.std.proofs.Common.{◌≡◌, ℕ, zero, suc, ◌+◌, ◌<◌, List, [], ◌∷◌, map, drop, Bool, true, false, Option, Some, None, ℤ, refl, sym, ap, ◌∙◌, arith, ◌≤◌, ◌⊎◌, inl, inr, ⊎_elim, pos}
 use Rattle.std.specs.Prelude.{if◌then◌else◌, slice_index_or}
 use Rattle.std.specs.List.{range_with_len}
 use Rattle.std.proofs.Math.Nat.{eq-or-lt_of_le}
 use Rattle.pram_values.proofs.Totals.{total_map, total_same, total_within}
-use Rattle.write_rules.specs.Verdict.{Verdict}
 use Rattle.superstep_code.specs.declared.mark.HeaderMark.{HeaderMark}
 use Rattle.superstep_code.specs.declared.mark.HeaderMark.TheVariants.{Clear, OutOfMemory, OutOfReserve}
 use Rattle.superstep_code.specs.Marks.{worse, mark_among}
@@ -13,15 +12,15 @@ use Rattle.superstep_code.specs.Words.{Message}
 use Rattle.superstep_code.specs.Worker.{Worker}
 use Rattle.superstep_code.specs.Stretch.{ToSend, ToReply, ToVote, ToClose, Arrival, Nowhere, At}
 use Rattle.superstep_code.specs.Machine.{column, phase, phases, run}
-use Rattle.superstep_code.specs.Run.{Purpose, Sends, Replies, Votes, Closes, Way, On, Ending, Past, Refused, Lost, State, Ready, mark_now, marks_later, stopped, stretch, ready_at, ready_by, ready_with, ready, message_for, message_with, message_of, mark_of, after_with, after, is_over, state_of, verdict_by, bsp, opening, outcome_of, outcome_by}
-use Rattle.superstep_code.specs.Refusals.{with_marks, FirstIsSent, RestIsLeft, mark_of_all, AnyMarkCounts, MemoryGoesFirst, MarkIsAWorkers, MarksStopAll, MarkedRunsEnd, opening_with, AreClearBefore, mark_at, SameBeforeMarks, SameOutcomeBefore, AllStopAtAMark, NoOutcomeAtAMark}
+use Rattle.superstep_code.specs.Run.{Purpose, Sends, Replies, Votes, Closes, Way, On, Ending, Past, Refused, Lost, State, Ready, mark_now, marks_later, stopped, stretch, ready_at, ready_by, ready_with, ready, message_for, message_with, message_of, mark_of, after_with, after, is_over, state_of, verdict_by, bsp, opening, outcome_of}
+use Rattle.superstep_code.specs.Refusals.{with_marks, FirstIsSent, RestIsLeft, mark_of_all, AnyMarkCounts, MemoryGoesFirst, MarkIsAWorkers, MarksStopAll, MarkedRunsEnd, opening_with, mark_at, SameBeforeMarks, SameOutcomeBefore, AllStopAtAMark, NoOutcomeAtAMark}
 
 pub map_within : {A : Type 0} (f g : ℕ → A) (n k : ℕ) → ((o : ℕ) → o < k + n → f o ≡ g o) → map f (range_with_len k n) ≡ map g (range_with_len k n)
 map_within f g zero k h = refl
 map_within f g (suc n) k h = ap (λ y. y ∷ map f (range_with_len (k + 1) n)) (h k (omega arith)) ∙ ap (λ t. g k ∷ t) (map_within f g n (k + 1) (λ o l. h o (omega arith)))
 
-here_or_on : (k w : ℕ) → k ≤ w → (w ≡ k) ⊎ (k + 1 ≤ w)
-here_or_on k w low = ⊎_elim (λ here. inl (sym here)) (λ on. inr (omega (arith, on))) (eq-or-lt_of_le low)
+here_or_on : (k w : ℕ) → k ≤ w → (k ≡ w) ⊎ (k + 1 ≤ w)
+here_or_on k w low = ⊎_elim (λ here. inl here) (λ on. inr (omega (arith, on))) (eq-or-lt_of_le low)
 
 -- ---- marks together
 
@@ -227,11 +226,12 @@ module _ (t : Setting) where
     step_same : AreSame (λ w. marks_later (marks w)) (phase (bsp t) (workers t) us) (phase (bsp t) (workers t) ws)
     step_same w l = (
       ap (after t w (ready t w (us w))) (columns_same w)
-      ∙ ap (λ s. after t w (ready t w s) (column (bsp t) (workers t) ws w)) (h w l).0
-      ∙ after_same t w (marks w) (ws w) (clear w l) (h w l).1 (column (bsp t) (workers t) ws w) (column_clear w),
+          ∙ ap (λ s. after t w (ready t w s) (column (bsp t) (workers t) ws w)) (h w l).0
+          ∙ after_same t w (marks w) (ws w) (clear w l) (h w l).1 (column (bsp t) (workers t) ws w) (column_clear w),
       ap (λ (s : State). s.refusals)
-      (ap (λ ms. after t w (ready t w (with_marks ms (ws w))) (column (bsp t) (workers t) ws w)) (h w l).1
-      ∙ after_same t w [] (ws w) refl (h w l).1 (column (bsp t) (workers t) ws w) (column_clear w)))
+          (ap (λ ms. after t w (ready t w (with_marks ms (ws w))) (column (bsp t) (workers t) ws w)) (h w l).1
+          ∙ after_same t w [] (ws w) refl (h w l).1 (column (bsp t) (workers t) ws w) (column_clear w)),
+    )
 
   -- in the first n stretches nothing befalls them
   abbrev IsClear : (ℕ → List HeaderMark) → ℕ → Type 0
@@ -252,7 +252,7 @@ module _ (t : Setting) where
 
   -- ---- the outcome
 
-  bare : State → State
+  abbrev bare : State → State
   bare s = with_marks [] s
 
   bare_same : (f g : ℕ → State) (n k w : ℕ) → ((v : ℕ) → v < k + n → bare (f v) ≡ bare (g v)) → bare (state_of (map f (range_with_len k n)) w) ≡ bare (state_of (map g (range_with_len k n)) w)
@@ -263,7 +263,7 @@ module _ (t : Setting) where
   outcome_same : (marks : ℕ → List HeaderMark) (us ws : ℕ → State) → AreSame marks us ws → outcome_of t (map us (range_with_len 0 (workers t))) ≡ outcome_of t (map ws (range_with_len 0 (workers t)))
   outcome_same marks us ws h =
       let e : (w : ℕ) → bare (state_of (map us (range_with_len 0 (workers t))) w) ≡ bare (state_of (map ws (range_with_len 0 (workers t))) w) =
-          λ w. bare_same us ws (workers t) 0 w (λ v l. ap bare (h v (omega (arith, l))).0) in
+      λ w. bare_same us ws (workers t) 0 w (λ v l. ap bare (h v (omega (arith, l))).0) in
       ap (λ (at : ℕ → State). verdict_by (at 0).way (at 0).worker.uniform.output (map (λ c. slice_index_or (at (t.map.part c)).worker.cells (t.map.offset c) (pos 0)) (all_cells t))) (λ i w. e w i)
 
   module _ (some : 0 < workers t) where
@@ -305,7 +305,7 @@ pub all_stop_at_a_mark : AllStopAtAMark
 all_stop_at_a_mark t input marks n c bad w =
     let us = opening_with t input marks in
     let e : mark_of_all t (phases (bsp t) (workers t) n us) ≡ mark_at t marks n =
-        marks_then t (λ v. drop n (marks v)) (phases (bsp t) (workers t) n us) (phases (bsp t) (workers t) n (opening t input)) (phases_same t n marks us (opening t input) (opens t input marks) c) in
+    marks_then t (λ v. drop n (marks v)) (phases (bsp t) (workers t) n us) (phases (bsp t) (workers t) n (opening t input)) (phases_same t n marks us (opening t input) (opens t input marks) c) in
     ap (λ (f : ℕ → State). f w) (phases_last t n us) ∙ all_stop t (phases (bsp t) (workers t) n us) (λ k. bad (sym e ∙ k)) w ∙ ap stopped e
 
 pub no_outcome_at_a_mark : NoOutcomeAtAMark

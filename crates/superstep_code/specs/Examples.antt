@@ -1,5 +1,5 @@
 -- Code that shows what the machine does.
-use Rattle.std.specs.Prelude.{ℕ, List, [], ◌∷◌, true, false, Option, Some, None, pos, codes, if◌then◌else◌}
+use Rattle.std.specs.Prelude.{ℕ, List, [], ◌∷◌, Option, Some, None, pos, codes, if◌then◌else◌}
 use Rattle.std.proofs.Common.{eqb}
 use Rattle.pram_syntax.specs.declared.rule.Rule.TheVariants.{Crew}
 use Rattle.pram_syntax.specs.Layout.{SharedEntry}

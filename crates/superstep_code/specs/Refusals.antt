@@ -1,5 +1,5 @@
 -- What the marks of refused memory and of a passed reserve do to a run, whatever its code.
-use Rattle.std.specs.Prelude.{◌≡◌, ℕ, suc, ◌+◌, ◌<◌, ◌≤◌, List, [], ◌∷◌, drop, Option, Some, None, ℤ, Bool, false}
+use Rattle.std.specs.Prelude.{◌≡◌, ℕ, suc, ◌+◌, ◌<◌, ◌≤◌, List, [], ◌∷◌, drop, Option, Some, None, ℤ, false}
 use Rattle.std.specs.List.{range_with_len}
 use Rattle.write_rules.specs.Verdict.{Verdict}
 use Rattle.superstep_code.specs.declared.mark.HeaderMark.{HeaderMark}
@@ -33,18 +33,22 @@ abbrev pub AnyMarkCounts : Type 0
 AnyMarkCounts = (t : Setting) (ws : ℕ → State) (w : ℕ) → w < workers t → mark_of_all t ws ≡ Clear → mark_now (ws w).refusals ≡ Clear
 
 abbrev pub MemoryGoesFirst : Type 0
-MemoryGoesFirst = (t : Setting) (ws : ℕ → State) (w : ℕ) → w < workers t → mark_now (ws w).refusals ≡ OutOfMemory → mark_of_all t ws ≡ OutOfMemory
+MemoryGoesFirst = (t : Setting) (ws : ℕ → State) (w : ℕ) → w < workers t → mark_now (ws w).refusals ≡ OutOfMemory →
+    mark_of_all t ws ≡ OutOfMemory
 
 abbrev pub MarkIsAWorkers : Type 0
-MarkIsAWorkers = (t : Setting) (ws : ℕ → State) → (mark_of_all t ws ≡ Clear → ⊥) → (w : ℕ) × (w < workers t) × (mark_now (ws w).refusals ≡ mark_of_all t ws)
+MarkIsAWorkers = (t : Setting) (ws : ℕ → State) → (mark_of_all t ws ≡ Clear → ⊥) →
+    (w : ℕ) × (w < workers t) × (mark_now (ws w).refusals ≡ mark_of_all t ws)
 
 -- Whatever the states of the workers: where one of them has a mark, all have stopped behind the exchange ..
 abbrev pub MarksStopAll : Type 0
-MarksStopAll = (t : Setting) (ws : ℕ → State) → (mark_of_all t ws ≡ Clear → ⊥) → (w : ℕ) → phase (bsp t) (workers t) ws w ≡ stopped (mark_of_all t ws)
+MarksStopAll = (t : Setting) (ws : ℕ → State) → (mark_of_all t ws ≡ Clear → ⊥) → (w : ℕ) →
+    phase (bsp t) (workers t) ws w ≡ stopped (mark_of_all t ws)
 
 -- .. and a run that isn't over has no outcome.
 abbrev pub MarkedRunsEnd : Type 0
-MarkedRunsEnd = (t : Setting) (ws : ℕ → State) → (mark_of_all t ws ≡ Clear → ⊥) → is_over (ws 0).way ≡ false → (n : ℕ) → run (bsp t) (workers t) (suc (suc n)) ws ≡ Some None
+MarkedRunsEnd = (t : Setting) (ws : ℕ → State) → (mark_of_all t ws ≡ Clear → ⊥) → is_over (ws 0).way ≡ false → (n : ℕ) →
+    run (bsp t) (workers t) (suc (suc n)) ws ≡ Some None
 
 -- ---- whole runs
 
@@ -62,19 +66,23 @@ mark_at t marks n = mark_among (λ w. mark_now (drop n (marks w))) (range_with_l
 
 -- up to the first mark the run is that without marks ..
 abbrev pub SameBeforeMarks : Type 0
-SameBeforeMarks = (t : Setting) (input : List ℤ) (marks : ℕ → List HeaderMark) (n : ℕ) → AreClearBefore t marks n → (w : ℕ) → w < workers t →
+SameBeforeMarks = (t : Setting) (input : List ℤ) (marks : ℕ → List HeaderMark) (n : ℕ) → AreClearBefore t marks n → (w : ℕ) →
+    w < workers t →
     phases (bsp t) (workers t) n (opening_with t input marks) w ≡ with_marks (drop n (marks w)) (phases (bsp t) (workers t) n (opening t input) w)
 
 -- .. with the outcome of that where it is over by then; ..
 abbrev pub SameOutcomeBefore : Type 0
-SameOutcomeBefore = (t : Setting) (input : List ℤ) (marks : ℕ → List HeaderMark) (n : ℕ) → 0 < workers t → AreClearBefore t marks n → (outcome : Option Verdict) →
+SameOutcomeBefore = (t : Setting) (input : List ℤ) (marks : ℕ → List HeaderMark) (n : ℕ) → 0 < workers t →
+    AreClearBefore t marks n → (outcome : Option Verdict) →
     outcome_by t (suc n) input ≡ Some outcome → run (bsp t) (workers t) (suc n) (opening_with t input marks) ≡ Some outcome
 
 -- .. and at that mark all stop, without an outcome if the run isn't over.
 abbrev pub AllStopAtAMark : Type 0
-AllStopAtAMark = (t : Setting) (input : List ℤ) (marks : ℕ → List HeaderMark) (n : ℕ) → AreClearBefore t marks n → (mark_at t marks n ≡ Clear → ⊥) →
+AllStopAtAMark = (t : Setting) (input : List ℤ) (marks : ℕ → List HeaderMark) (n : ℕ) → AreClearBefore t marks n →
+    (mark_at t marks n ≡ Clear → ⊥) →
     (w : ℕ) → phases (bsp t) (workers t) (suc n) (opening_with t input marks) w ≡ stopped (mark_at t marks n)
 
 abbrev pub NoOutcomeAtAMark : Type 0
-NoOutcomeAtAMark = (t : Setting) (input : List ℤ) (marks : ℕ → List HeaderMark) (n : ℕ) → AreClearBefore t marks n → (mark_at t marks n ≡ Clear → ⊥) →
+NoOutcomeAtAMark = (t : Setting) (input : List ℤ) (marks : ℕ → List HeaderMark) (n : ℕ) → AreClearBefore t marks n →
+    (mark_at t marks n ≡ Clear → ⊥) →
     outcome_by t (suc n) input ≡ None → (m : ℕ) → n + 2 ≤ m → run (bsp t) (workers t) m (opening_with t input marks) ≡ Some None
