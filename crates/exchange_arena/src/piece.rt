@@ -114,6 +114,7 @@ impl Piece {
     /// The words that were filled in last, lent without copying, or none since the last `clear`.
     pub fn words(&self) -> &[u64]
         ensures value { result.now ≡ self.now.words }
+        ensures few { length result.now ≤ self.now.room }
     {
         &self.run.words(self.len + WORDS_OF_HEADER)[WORDS_OF_HEADER..]
     }

@@ -12,7 +12,7 @@ use Rattle.turnstile.specs.declared.views.Message.{Message}
 use Rattle.turnstile.specs.declared.work.Work.{Work}
 use Rattle.turnstile.specs.Blocks.{TwoBlocks, piece_of, even_block, odd_block}
 use Rattle.turnstile.specs.Turns.{message, blank, slot}
-use Rattle.turnstile.specs.Loads.{RowPlaced}
+use Rattle.turnstile.specs.Loads.{RowPlaced, ColumnPlaced}
 use Rattle.turnstile.specs.Works.{Rested, done}
 
 pub row_set : (blocks : TwoBlocks) (p w s k : ℕ) (xs : List PieceState) (i : ℕ) (x y : PieceState) → RowPlaced blocks p w s k xs → i < length xs → y ≡ get_or xs i y → emptied_piece x ≡ emptied_piece y → RowPlaced blocks p w s k (set xs i x)
@@ -73,6 +73,11 @@ pub row_has_room : (blocks : TwoBlocks) (p w s k : ℕ) (xs : List PieceState) (
 row_has_room blocks p w s k [] i y h lt e = absurd (omega arith)
 row_has_room blocks p w s k (z ∷ zs) zero y h lt e = ap (λ (q : PieceState). q.room) e ∙ ap (λ (q : PieceState). q.room) h.0 ∙ piece_has_room blocks (slot p s w k)
 row_has_room blocks p w s k (z ∷ zs) (suc i) y h lt e = row_has_room blocks p w s (suc k) zs i y h.1 (omega arith) e
+
+pub column_has_room : (blocks : TwoBlocks) (p w s k : ℕ) (xs : List PieceState) (i : ℕ) (y : PieceState) → ColumnPlaced blocks p w s k xs → i < length xs → y ≡ get_or xs i y → y.room ≡ blocks.room
+column_has_room blocks p w s k [] i y h lt e = absurd (omega arith)
+column_has_room blocks p w s k (z ∷ zs) zero y h lt e = ap (λ (q : PieceState). q.room) e ∙ ap (λ (q : PieceState). q.room) h.0 ∙ piece_has_room blocks (slot p s k w)
+column_has_room blocks p w s k (z ∷ zs) (suc i) y h lt e = column_has_room blocks p w s (suc k) zs i y h.1 (omega arith) e
 
 pub on_true : (b : Bool) (P Q : Type 0) → (P → Q) → OnTrue b P → OnTrue b Q
 on_true true P Q f p = f p

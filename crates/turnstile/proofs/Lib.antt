@@ -17,3 +17,4 @@ pub mod Orders
 pub mod Hearings
 pub mod Sayings
 pub mod Rows
+pub mod Acts

@@ -4,11 +4,13 @@ use Rattle.std.specs.Prelude.{◌≡◌, ℕ, All, ◌+◌, ◌*◌, ◌<◌, Bo
 use mathlib.Core.Option.{none, some}
 use mathlib.Core.Option as maybe
 use lib.ListN.{get_elem?}
+use Rattle.atomic_table.specs.Table.{State, Act, step, stepped, Valid, carried_after}
 use Rattle.exchange_arena.specs.Piece.{PieceState}
 use Rattle.turnstile.specs.declared.views.Message.{Message}
 use Rattle.turnstile.specs.declared.views.Worker.{Worker}
+use Rattle.turnstile.specs.declared.views.View.{View}
 use Rattle.turnstile.specs.Blocks.{TwoBlocks}
-use Rattle.turnstile.specs.Turns.{message, message_of, blank, entry, slot, saw, phase, HasTaken, Homes, looked, finished}
+use Rattle.turnstile.specs.Turns.{message, message_of, blank, entry, slot, saw, phase, HasTaken, Homes, Carried, seated, looked, finished, looks_at, finishes}
 use Rattle.turnstile.specs.Loads.{RowPlaced, ColumnPlaced, loaded, homes_with}
 
 -- a worker adds 1 to its own word, hands over a row and gives back a column; or it loads a worker's word
@@ -86,6 +88,41 @@ module _ (blocks : TwoBlocks) where
   abbrev pub IsInterleaving : List Event → Type 0
   IsInterleaving [] = Unit {0}
   IsInterleaving (e ∷ es) = IsInterleaving es × May (run es) e
+
+-- ---- the steps of the table
+
+-- no slot of those is k
+abbrev pub IsElsewhere : ℕ → Carried → Type 0
+IsElsewhere k [] = Unit {0}
+IsElsewhere k (x ∷ xs) = (k ≡ x.0 → ⊥) × IsElsewhere k xs
+
+-- what a seat carries is out: no two of its slots are one, and none of them is at home
+abbrev pub AreOut : Homes → Carried → Type 0
+AreOut homes [] = Unit {0}
+AreOut homes (x ∷ xs) = (get_elem? homes x.0 ≡ some none) × IsElsewhere x.0 xs × AreOut homes xs
+
+-- a table with these workers, as the steps above see it
+abbrev pub core_of : State (Option PieceState) View → (ℕ → Worker) → Core
+core_of s team = record { words = s.words; homes = s.homes; team = team }
+
+-- Whatever a seat gives and takes at the table when it adds 1 to its word, if it leaves as the table's rule says of a Finish,
+-- then the table that it leaves is the one after the Finish above.
+abbrev pub FinishesAreTheTables : Type 0
+FinishesAreTheTables = (b : TwoBlocks) (s : State (Option PieceState) View) (team : ℕ → Worker) (slots w id : ℕ) (row back : List PieceState) (v : View)
+    (a : Act (Option PieceState)) → let carried = loaded b.side w (phase (team w) + 1) 0 row back in let n = slice_index s.words w in
+    length row ≡ length back → AreOut s.homes carried → Valid s.homes carried a
+    → finishes (step slots w 1 0 none) (seated (team w), carried) n (v, carried_after carried a)
+    → core_of (stepped s w (n + 1) id carried v a) (changed team w v.mine) ≡ after b (core_of s team) (finish w row back)
+
+-- The same of a Look at a worker that wasn't seen in the phase.
+abbrev pub LooksAreTheTables : Type 0
+LooksAreTheTables = (b : TwoBlocks) (s : State (Option PieceState) View) (team : ℕ → Worker) (slots w i id : ℕ) (carried : Carried) (v : View)
+    (a : Act (Option PieceState)) → let n = slice_index s.words i in
+    (team w).at ≡ w → (team w).workers ≡ b.side → saw (team w) i ≡ false → AreOut s.homes carried → Valid s.homes carried a
+    → looks_at (step slots i 0 0 none) (seated (team w), carried) n (v, carried_after carried a)
+    → core_of (stepped s i n id carried v a) (changed team w v.mine) ≡ after b (core_of s team) (look w i)
+
+-- ---- the law
 
 -- what j has received from i in a phase is what i has sent to j in it, so where i has not come as far j has nothing
 abbrev pub ReceivesWhatWasSent : Type 0

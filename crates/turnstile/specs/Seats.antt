@@ -1,7 +1,8 @@
 -- What contracts see of a turnstile and of its seats.
 -- Histories are indexed by phase, from 0, and a row or a column by worker.
-use Rattle.std.specs.Prelude.{◌≡◌, ℕ, All, List, [], length, replicate, Some, slice_get}
+use Rattle.std.specs.Prelude.{◌≡◌, ℕ, ◌<◌, ◌≤◌, All, List, [], length, replicate, Some, slice_get}
 use Rattle.atomic_table.specs.Seated.{TableId}
+use Rattle.exchange_arena.specs.declared.block.TheConstants.{MAX_SIDE}
 use Rattle.turnstile.specs.declared.views.Message.{Message}
 use Rattle.turnstile.specs.Turns.{blank, entry}
 
@@ -72,6 +73,22 @@ ReceivedAsSent seats = (i j : ℕ) (a b : RowState) → slice_get seats i ≡ So
 
 -- one row and one column a phase, each with one message for each worker
 pub record IsWhole (r : RowState) : Type 0 where
+  pub phases : length r.received ≡ length r.sent
+  pub rows : All (λ row. length row ≡ r.workers) r.sent
+  pub columns : All (λ column. length column ≡ r.workers) r.received
+
+-- what holds of each seat that fills a row: whose it is, how long its row is, and its histories
+pub record IsRowSeat (r : RowState) : Type 0 where
+  pub below : r.worker < r.workers
+  pub few : r.workers ≤ MAX_SIDE
+  pub row : length r.row ≡ r.workers
+  pub whole : IsWhole r
+
+-- and of each that reads a column
+pub record IsColumnSeat (r : ColumnState) : Type 0 where
+  pub below : r.worker < r.workers
+  pub few : r.workers ≤ MAX_SIDE
+  pub column : length r.column ≡ r.workers
   pub phases : length r.received ≡ length r.sent
   pub rows : All (λ row. length row ≡ r.workers) r.sent
   pub columns : All (λ column. length column ≡ r.workers) r.received

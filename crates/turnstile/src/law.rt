@@ -1,9 +1,15 @@
 // The law of the turnstile.
-ghost use Rattle.turnstile.specs.Interleavings.{ReceivesWhatWasSent, ReceivesFromEach, HasWholeColumns};
+ghost use Rattle.turnstile.specs.Interleavings.{FinishesAreTheTables, LooksAreTheTables, ReceivesWhatWasSent, ReceivesFromEach, HasWholeColumns};
 
 /// What the workers have received, in whatever order they make their steps: a Finish or a Look of any worker, one at a
-/// time. The steps are those of the rule that the table keeps. The body is empty: this is a law, for proofs.
+/// time. The body is empty: this is a law, for proofs.
 pub fn interleaving_law()
+    // The steps are those that seats make at the table: what a seat may give and take by a Finish leaves this table and no other ..
+    ensures finishes { FinishesAreTheTables }
+
+    // .. and so does what it may give and take by a Look.
+    ensures looks { LooksAreTheTables }
+
     // What j has received from i in a phase is what i has sent to j in it.
     ensures sent { ReceivesWhatWasSent }
 

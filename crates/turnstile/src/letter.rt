@@ -61,6 +61,7 @@ impl Letter {
 
     pub(crate) fn words(&self) -> &[u64]
         ensures value { result.now ≡ self.now.words }
+        ensures few { length result.now ≤ self.now.room }
     {
         self.piece.words()
     }

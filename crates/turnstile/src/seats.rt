@@ -2,7 +2,7 @@
 ghost use Rattle.std.specs.Prelude.{◌≡◌, ◌<◌, ◌≤◌, ◌↔◌, length, map, IsTrue, slice_set, slice_index_or};
 ghost use Rattle.std.specs.Bool.{OnTrue, OnFalse};
 ghost use Rattle.turnstile.specs.Turns.{message, blank};
-ghost use Rattle.turnstile.specs.Seats.{blank_row};
+ghost use Rattle.turnstile.specs.Seats.{blank_row, IsRowSeat, IsColumnSeat};
 ghost use Rattle.turnstile.specs.Works.{Rested, row_state, column_state, SameButRow};
 
 use crate::work::Work;
@@ -63,6 +63,14 @@ impl RowSeat {
         work
     }
 
+    /// Whose seat it is.
+    pub fn worker(&self) -> usize
+        ensures value { result ≡ self.now.worker }
+        ensures seat { IsRowSeat self.now }
+    {
+        self.work.worker
+    }
+
     /// How many crossings the worker has made.
     pub fn phase(&self) -> u64
         ensures value { result ≡ length self.now.sent }
@@ -104,6 +112,14 @@ impl ColumnSeat {
         work
     }
 
+    /// Whose seat it is.
+    pub fn worker(&self) -> usize
+        ensures value { result ≡ self.now.worker }
+        ensures seat { IsColumnSeat self.now }
+    {
+        self.work.worker
+    }
+
     /// The header that the worker `i` sent in the last phase, or zero where it filled none.
     pub fn header(&self, i: usize) -> Header
         requires worker { i < self.now.workers }
@@ -116,6 +132,7 @@ impl ColumnSeat {
     pub fn from(&self, i: usize) -> &[u64]
         requires worker { i < self.now.workers }
         ensures value { result.now ≡ (slice_index_or self.now.column i blank).words }
+        ensures few { length result.now ≤ self.now.room }
     {
         self.work.column[i].words()
     }
