@@ -1,6 +1,6 @@
 # The crates are proved, built and tested by the toolchain's command `rt`.
 
-.PHONY: all check test examples bench refusals clean
+.PHONY: all check test examples bench refusals memory clean
 
 sources := $(shell find crates -name out -prune -o \( -name '*.rt' -o -name '*.antt' \) -print) crates.txt
 
@@ -32,6 +32,10 @@ bench:
 # Shows that callers which must not compile are refused.
 refusals:
 	set -e; for check in crates/*/refusals/check.sh; do bash $$check; done
+
+# Shows that memory is given back, and that each allocation may be refused.
+memory:
+	set -e; for check in crates/*/memory/check.sh; do bash $$check; done
 
 clean:
 	rm -rf bin crates/*/out

@@ -12,7 +12,7 @@ prepare() {
     cp "$top/HANDLES" "$work/"
     cp "$here/main.txt" "$program/src/main.rt"
     for crate in "${@:2}"; do
-        cp -r "$top/crates/$crate" "$work/crates/"
+        cp -a "$top/crates/$crate" "$work/crates/"
         grep "^$crate[: ]" "$top/crates.txt"
     done > "$work/crates.txt"
     echo "bench_$1: ${*:2} ${libraries:-} anyhow" >> "$work/crates.txt"

@@ -3,7 +3,7 @@
 # nothing.
 set -eu
 . "$(dirname "$0")/../lib.sh"
-prepare crossing exchange_arena turnstile
+prepare crossing exchange_arena turnstile thread_tests
 proof() {
     mkdir -p "$program/proofs/$2"
     cp "$here/$1.txt" "$program/proofs/$2/$3.antt"
