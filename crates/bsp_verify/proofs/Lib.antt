@@ -5,3 +5,4 @@ pub mod RunLemmas
 pub mod ArrivalLemmas
 pub mod StretchLemmas
 pub mod WorkedStretchLemmas
+pub mod WorkerLemmas

@@ -39,21 +39,21 @@ step_rises code place i a t l = inl (next_rises place t l)
 opening_within : IsWithin opening
 opening_within = record { masks = omega arith; asks = omega arith; outside = λ h. refl; alone = λ h. cc }
 
-is_false : (b : Bool) → not b ≡ true → b ≡ false
+pub is_false : (b : Bool) → not b ≡ true → b ≡ false
 is_false false h = refl
 is_false true h = cc
 
 not_both : {A : Type 0} (b : Bool) → b ≡ false → b ≡ true → A
 not_both b f h = cc
 
-both : (a b : Bool) → (a && b) ≡ true → (a ≡ true) × (b ≡ true)
+pub both : (a b : Bool) → (a && b) ≡ true → (a ≡ true) × (b ≡ true)
 both true b h = (refl, h)
 both false b h = cc
 
 below : (n m : ℕ) → nat_lt n m ≡ true → n + 1 ≤ m
 below n m h = grind (arith, nat_tests)
 
-is_zero : (n : ℕ) → eqb n 0 ≡ true → n ≡ 0
+pub is_zero : (n : ℕ) → eqb n 0 ≡ true → n ≡ 0
 is_zero n h = grind (arith, nat_tests)
 
 -- what may stand there passes no limit

@@ -3,6 +3,7 @@ use Rattle.std.proofs.Common.{◌≡◌, ℕ, zero, suc, ◌+◌, List, [], ◌�
 use Rattle.std.specs.Prelude.{if◌then◌else◌, ◌&&◌, nat_lt, slice_get}
 use Rattle.std.proofs.lemmas.Bool.Decides.{nat_tests}
 use Rattle.std.proofs.lemmas.List.{length-append}
+use Rattle.pram_values.specs.Truth.{is_nonzero}
 use Rattle.superstep_code.specs.declared.instr.Side.TheVariants.{Uniform, Private}
 use Rattle.superstep_code.specs.declared.instr.Instr.{Instr}
 use Rattle.superstep_code.specs.declared.instr.Instr.TheVariants.{Mark, Ask, Put, Send, Reply, Vote, Jump, JumpIfZero, Halt}
@@ -22,11 +23,13 @@ use Rattle.superstep_code.specs.Run as machine
 use Rattle.bsp_verify.specs.declared.state.State.{State}
 use Rattle.bsp_verify.specs.States.{opening, after}
 use Rattle.bsp_verify.specs.Control.{Leads}
-use Rattle.bsp_verify.specs.Judging.{fits_exchange}
+use Rattle.bsp_verify.specs.Judging.{fits_exchange, IsAllowed}
 use Rattle.bsp_verify.specs.WellFormed.{IsWellFormed}
-use Rattle.bsp_verify.specs.Paths.{Point, Comes}
-use Rattle.bsp_verify.specs.Runs.{IsOnPath, MayExchange, RunsAreSound}
+use Rattle.bsp_verify.specs.Paths.{Point, Comes, IsWithin}
+use Rattle.bsp_verify.specs.Runs.{worker_after, IsOnPath, MayExchange, RunsAreSound}
+use Rattle.bsp_verify.specs.Moments.{walked, DescribesWorker, IsDescribed, MomentsAreSound}
 use Rattle.bsp_verify.proofs.PathLemmas.{paths_sound}
+use Rattle.bsp_verify.proofs.WorkerLemmas.{none_came, Works, acts_worker, sent_worker, replied_worker, voted_worker, opening_worker}
 
 -- the state says what is held and awaited; answers are awaited alone
 pub record Describes (s : State) (u : UniformPart) : Type 0 where
@@ -80,10 +83,6 @@ no_asks (x ∷ xs) h = absurd (omega (arith, h))
 no_put : (o : Option Moment) → machine.is_held o ≡ false → o ≡ None
 no_put None h = refl
 no_put (Some m) h = cc
-
-none_came : {A : Type 0} (xs : List A) → nat_lt 0 (length xs) ≡ false → xs ≡ []
-none_came [] h = refl
-none_came (x ∷ xs) h = absurd (grind (arith, nat_tests))
 
 some_came : {A : Type 0} (xs : List A) → nat_lt 0 (length xs) ≡ true → xs ≡ [] → ⊥
 some_came [] h e = cc
@@ -145,86 +144,114 @@ module _ (s : State) (u : UniformPart) (d : Describes s u) where
       ⊎_elim (λ x. no_reads Halt refl (subst (λ (j : Instr). fits_exchange j s ≡ true) x h))
       (λ x. no_reads (Mark x.0) refl (subst (λ (j : Instr). fits_exchange j s ≡ true) x.1 h)) e
 
+-- the state of a path says of a worker what is held and awaited
+pub describes_uniform : (t : Setting) (w : ℕ) (s : State) (x : Worker) → IsWithin s → DescribesWorker t w s x → Describes s x.uniform
+describes_uniform t w s x l d = record { asks = d.asks; put = d.put; awaited = d.awaited; alone = l.alone }
+
 -- ---- stretches
 
-module _ (t : Setting) (formed : IsWellFormed t.code) where
-  -- there is a path there, with a state that describes it
-  pub record IsThere (place : ℕ) (u : UniformPart) : Type 0 where
+module _ (t : Setting) (formed : IsWellFormed t.code) (w : ℕ) where
+  -- there is a path there, with a state that describes the worker
+  pub record IsThere (place : ℕ) (x : Worker) : Type 0 where
     pub steps : ℕ
     pub point : Point
     pub comes : Comes t.code steps point
     pub here : point.place ≡ place
-    pub describes : Describes point.state u
+    pub describes : DescribesWorker t w point.state x
 
   -- one more step
-  onward : (n : ℕ) (q : Point) (c : Comes t.code n q) (i : Instr) (is : slice_get t.code.instructions q.place ≡ Some i) (place : ℕ) (u : UniformPart) → Leads i q.place place → Describes (after i q.state) u → IsThere place u
-  onward n q c i is place u l d = record { steps = suc n; point = record { place = place; state = after i q.state }; comes = (q, c, (i, is, l, refl)); here = refl; describes = d }
+  onward : (n : ℕ) (q : Point) (c : Comes t.code n q) (i : Instr) (is : slice_get t.code.instructions q.place ≡ Some i) (place : ℕ) (x : Worker) →
+      Leads i q.place place → DescribesWorker t w (after i q.state) x → IsThere place x
+  onward n q c i is place x l d =
+      record { steps = suc n; point = record { place = place; state = after i q.state }; comes = (q, c, (i, is, l, refl)); here = refl; describes = d }
 
-  pub record Stops (stop : Stop) (place : ℕ) (u : UniformPart) : Type 0 where
-    pub there : IsThere place u
+  pub record Stops (stop : Stop) (place : ℕ) (x : Worker) : Type 0 where
+    pub there : IsThere place x
     pub instr : Instr
     pub is : slice_get t.code.instructions place ≡ Some instr
     pub by : StopsBy stop instr
     pub fits : fits_exchange instr there.point.state ≡ true
 
-  abbrev Arrives : Arrival Worker → Type 0
-  Arrives Nowhere = Unit {0}
-  Arrives (At stop place x) = Stops stop place x.uniform
+  -- Whatever a reading of the run answers where it is nowhere, at a stop, or goes on: if the answers are good there, they are after an
+  -- instruction.
+  module _ {R : Type 0} (Good : R → Type 0) (nowhere : R) (stops : Stop → ℕ → Worker → R) (next : ℕ → Worker → R)
+      (stopped : (stop : Stop) (place : ℕ) (x : Worker) → Stops stop place x → Good (stops stop place x))
+      (going : (place : ℕ) (x : Worker) → IsThere place x → Good (next place x)) where
+    module _ (m : ℕ) (q : Point) (c : Comes t.code m q) (x : Worker) (d : DescribesWorker t w q.state x) where
+      abbrev at : Instr → R
+      at i = advance t.bound (λ (y : Worker). y.uniform) (after_instr t w) nowhere stops next (Some i) q.place x
 
-  module _ (w : ℕ) where
-    abbrev from : ℕ → ℕ → Worker → Arrival Worker
-    from n place x = until t.bound (λ (y : Worker). y.uniform) (after_instr t w) t.code.instructions n place x
+      module _ (i : Instr) (is : slice_get t.code.instructions q.place ≡ Some i) (may : IsAllowed t.code q.place i q.state) (within : IsWithin q.state) where
+        halts : (stop : Stop) → StopsBy stop i → Good (stops stop q.place x)
+        halts stop by =
+            stopped stop q.place x (record { there = record { steps = m; point = q; comes = c; here = refl; describes = d }; instr = i; is = is; by = by; fits = may.exchange })
 
-    module _ (n : ℕ) (next : (place : ℕ) (x : Worker) → IsThere place x.uniform → Arrives (from n place x)) (m : ℕ) (q : Point) (c : Comes t.code m q) (x : Worker) (d : Describes q.state x.uniform) where
-      abbrev at : Instr → Arrival Worker
-      at i = advance t.bound (λ (y : Worker). y.uniform) (after_instr t w) Nowhere (λ stop k z. At stop k z) (from n) (Some i) q.place x
+        goes : (place : ℕ) (y : Worker) → Leads i q.place place → DescribesWorker t w (after i q.state) y → Good (next place y)
+        goes place y l e = going place y (onward m q c i is place y l e)
 
-      module _ (i : Instr) (is : slice_get t.code.instructions q.place ≡ Some i) (fits : fits_exchange i q.state ≡ true) where
-        stops : (stop : Stop) → StopsBy stop i → Stops stop q.place x.uniform
-        stops stop by = record { there = record { steps = m; point = q; comes = c; here = refl; describes = d }; instr = i; is = is; by = by; fits = fits }
+        works : Works i → Leads i q.place (q.place + 1) → Good (next (q.place + 1) (after_instr t w i x))
+        works a l = goes (q.place + 1) (after_instr t w i x) l (acts_worker t w q.state x d q.place i a may within)
 
-        goes : (place : ℕ) (y : Worker) → Leads i q.place place → Describes (after i q.state) y.uniform → Arrives (from n place y)
-        goes place y l e = next place y (onward m q c i is place y.uniform l e)
-
-      step : (i : Instr) → slice_get t.code.instructions q.place ≡ Some i → fits_exchange i q.state ≡ true → Arrives (at i)
-      step Send is f = stops Send is f ToSend refl
-      step Reply is f = stops Reply is f ToReply refl
-      step (Vote v) is f = stops (Vote v) is f (ToVote v) refl
-      step Halt is f = stops Halt is f (ToClose true) (inl refl)
-      step (Mark line) is f = marked (eqb x.uniform.count t.bound)
+      step : (i : Instr) → slice_get t.code.instructions q.place ≡ Some i → IsAllowed t.code q.place i q.state → IsWithin q.state → Good (at i)
+      step Send is f l = halts Send is f l ToSend refl
+      step Reply is f l = halts Reply is f l ToReply refl
+      step (Vote v) is f l = halts (Vote v) is f l (ToVote v) refl
+      step Halt is f l = halts Halt is f l (ToClose true) (inl refl)
+      step (Mark line) is f l = marked (eqb x.uniform.count t.bound)
         where
-          marked : (b : Bool) → Arrives (if b then At (ToClose false) q.place x else from n (q.place + 1) (after_instr t w (Mark line) x))
-          marked true = stops (Mark line) is f (ToClose false) (inr (line, refl))
-          marked false = goes (Mark line) is f (q.place + 1) (after_instr t w (Mark line) x) refl (acts t.code (Mark line) q.state x.uniform tt (no_answers (Mark line) q.state (λ h. cc) f) d)
-      step (Jump target) is f = goes (Jump target) is f target x refl (record { asks = d.asks; put = d.put; awaited = d.awaited; alone = d.alone })
-      step (JumpIfZero r target) is f = forked _
+          marked : (b : Bool) → Good (if b then stops (ToClose false) q.place x else next (q.place + 1) (after_instr t w (Mark line) x))
+          marked true = halts (Mark line) is f l (ToClose false) (inr (line, refl))
+          marked false = works (Mark line) is f l tt refl
+      step (Jump target) is f l = goes (Jump target) is f l target x refl d
+      step (JumpIfZero r target) is f l = forked (is_nonzero (x.uniform.registers r))
         where
-          same : Describes (after (JumpIfZero r target) q.state) x.uniform
-          same = record { asks = d.asks; put = d.put; awaited = d.awaited; alone = d.alone }
+          forked : (b : Bool) → Good (if b then next (q.place + 1) x else next target x)
+          forked true = goes (JumpIfZero r target) is f l (q.place + 1) x (inr refl) d
+          forked false = goes (JumpIfZero r target) is f l target x (inl refl) d
+      step i is f l = works i is f l tt refl
 
-          forked : (b : Bool) → Arrives (if b then from n (q.place + 1) x else from n target x)
-          forked true = goes (JumpIfZero r target) is f (q.place + 1) x (inr refl) same
-          forked false = goes (JumpIfZero r target) is f target x (inl refl) same
-      step i is f = goes i is f (q.place + 1) (after_instr t w i x) refl (acts t.code i q.state x.uniform tt (no_answers i q.state (λ h. cc) f) d)
-
-    follow : (n : ℕ) (place : ℕ) (x : Worker) → IsThere place x.uniform → Arrives (from n place x)
-    follow zero place x h = tt
-    follow (suc n) place x h =
+    advances : (place : ℕ) (x : Worker) → IsThere place x →
+        Good (advance t.bound (λ (y : Worker). y.uniform) (after_instr t w) nowhere stops next (slice_get t.code.instructions place) place x)
+    advances place x h =
         let q = h.point in
         let s = paths_sound t.code formed h.steps q h.comes in
-        subst (λ k. Arrives (from (suc n) k x)) h.here
-        (subst (λ (o : Option Instr). Arrives (advance t.bound (λ (y : Worker). y.uniform) (after_instr t w) Nowhere (λ stop k z. At stop k z) (from n) o q.place x)) (sym s.is)
-        (step n (follow n) h.steps q h.comes x h.describes s.instr s.is s.allowed.exchange))
+        subst (λ k. Good (advance t.bound (λ (y : Worker). y.uniform) (after_instr t w) nowhere stops next (slice_get t.code.instructions k) k x)) h.here
+        (subst (λ (o : Option Instr). Good (advance t.bound (λ (y : Worker). y.uniform) (after_instr t w) nowhere stops next o q.place x)) (sym s.is)
+        (step h.steps q h.comes x h.describes s.instr s.is s.allowed s.within))
+
+  abbrev Arrives : Arrival Worker → Type 0
+  Arrives Nowhere = Unit {0}
+  Arrives (At stop place x) = Stops stop place x
+
+  abbrev from : ℕ → ℕ → Worker → Arrival Worker
+  from n place x = until t.bound (λ (y : Worker). y.uniform) (after_instr t w) t.code.instructions n place x
+
+  follow : (n : ℕ) (place : ℕ) (x : Worker) → IsThere place x → Arrives (from n place x)
+  follow zero place x h = tt
+  follow (suc n) place x h = advances Arrives Nowhere (λ stop k y. At stop k y) (from n) (λ stop k y b. b) (follow n) place x h
+
+  -- and at each moment it is there
+  abbrev IsMoment : Option (ℕ × Worker) → Type 0
+  IsMoment None = Unit {0}
+  IsMoment (Some (place, x)) = IsThere place x
+
+  abbrev walk : ℕ → ℕ → Worker → Option (ℕ × Worker)
+  walk n place x = walked t.bound (λ (y : Worker). y.uniform) (after_instr t w) t.code.instructions n place x
+
+  walks : (n : ℕ) (place : ℕ) (x : Worker) → IsThere place x → IsMoment (walk n place x)
+  walks zero place x h = h
+  walks (suc n) place x h = advances IsMoment None (λ stop k y. None) (walk n) (λ stop k y b. tt) (walks n) place x h
 
   -- ---- exchanges of a run
 
   -- as long as the run goes on, its place is on a path
-  abbrev Agrees : machine.State → Type 0
-  Agrees s = s.way ≡ machine.On → IsThere s.place s.worker.uniform
+  abbrev pub Agrees : machine.State → Type 0
+  Agrees s = s.way ≡ machine.On → IsThere s.place s.worker
 
-  module _ (w : ℕ) (messages : List Message) where
+  module _ (messages : List Message) where
     -- after an exchange it is there, if it was on its way
-    exchanged : (r : machine.Ready) → (r.state.way ≡ machine.On → IsThere r.state.place (machine.after_exchange t w r.purpose r.state.worker messages).uniform) → Agrees (machine.after t w r messages)
+    exchanged : (r : machine.Ready) → (r.state.way ≡ machine.On → IsThere r.state.place (machine.after_exchange t w r.purpose r.state.worker messages)) →
+        Agrees (machine.after t w r messages)
     exchanged r next = go (machine.mark_of messages)
       where
         go : (mark : HeaderMark) → Agrees (machine.after_with t w r messages mark)
@@ -233,17 +260,22 @@ module _ (t : Setting) (formed : IsWellFormed t.code) where
         go Clear = λ h. next (decided_same machine.On (λ key ended e. cc) r.purpose r.state.worker.uniform (machine.key_of messages) r.state.way h)
 
     -- the place behind an exchange
-    behind : (stop : Stop) (place : ℕ) (x : UniformPart) (i : Instr) (u : UniformPart) (h : Stops stop place x) → h.instr ≡ i → ((k : ℕ) → Leads i k (k + 1)) → (Describes h.there.point.state x → Describes (after i h.there.point.state) u) → IsThere (place + 1) u
-    behind stop place x i u h same leads described =
+    behind : (stop : Stop) (place : ℕ) (x : Worker) (i : Instr) (y : Worker) (h : Stops stop place x) → h.instr ≡ i → ((k : ℕ) → Leads i k (k + 1)) →
+        ((s : State) → DescribesWorker t w s x → DescribesWorker t w (after i s) y) → IsThere (place + 1) y
+    behind stop place x i y h same leads described =
         let q = h.there.point in
-        subst (λ k. IsThere (k + 1) u) h.there.here
-        (onward h.there.steps q h.there.comes i (ap (slice_get t.code.instructions) h.there.here ∙ h.is ∙ ap (λ j. Some j) same) (q.place + 1) u (leads q.place) (described h.there.describes))
+        subst (λ k. IsThere (k + 1) y) h.there.here
+        (onward h.there.steps q h.there.comes i (ap (slice_get t.code.instructions) h.there.here ∙ h.is ∙ ap (λ j. Some j) same) (q.place + 1) y (leads q.place)
+        (described q.state h.there.describes))
 
     arrived : (s : machine.State) (a : Arrival Worker) → Arrives a → Agrees (machine.after t w (machine.ready_at s a) messages)
     arrived s Nowhere h = exchanged (machine.ready_at s Nowhere) (λ e. cc)
-    arrived s (At ToSend place x) h = exchanged (machine.ready_at s (At ToSend place x)) (λ e. behind ToSend place x.uniform Send _ h h.by (λ k. refl) (λ d. sent h.there.point.state x.uniform d))
-    arrived s (At ToReply place x) h = exchanged (machine.ready_at s (At ToReply place x)) (λ e. behind ToReply place x.uniform Reply _ h h.by (λ k. refl) (λ d. record { asks = d.asks; put = d.put; awaited = refl; alone = λ f. cc }))
-    arrived s (At (ToVote v) place x) h = exchanged (machine.ready_at s (At (ToVote v) place x)) (λ e. behind (ToVote v) place x.uniform (Vote v) _ h h.by (λ k. refl) (λ d. record { asks = d.asks; put = d.put; awaited = d.awaited; alone = d.alone }))
+    arrived s (At ToSend place x) h =
+        exchanged (machine.ready_at s (At ToSend place x)) (λ e. behind ToSend place x Send _ h h.by (λ k. refl) (λ z d. sent_worker t w z x d messages))
+    arrived s (At ToReply place x) h =
+        exchanged (machine.ready_at s (At ToReply place x)) (λ e. behind ToReply place x Reply _ h h.by (λ k. refl) (λ z d. replied_worker t w z x d messages))
+    arrived s (At (ToVote v) place x) h =
+        exchanged (machine.ready_at s (At (ToVote v) place x)) (λ e. behind (ToVote v) place x (Vote v) _ h h.by (λ k. refl) (λ z d. voted_worker t w z x d v messages))
     arrived s (At (ToClose ended) place x) h = exchanged (machine.ready_at s (At (ToClose ended) place x)) (λ e. cc)
 
     next_agrees : (s : machine.State) → Agrees s → Agrees (machine.after t w (machine.ready t w s) messages)
@@ -253,7 +285,7 @@ module _ (t : Setting) (formed : IsWellFormed t.code) where
         stays way e no_way = exchanged (record { purpose = machine.Closes; state = s }) (λ h. absurd (no_way (sym e ∙ h)))
 
         go : (way : machine.Way) → s.way ≡ way → Agrees (machine.after t w (machine.ready_by t w s way) messages)
-        go machine.On e = arrived s (machine.stretch t w s) (follow w t.enough s.place s.worker (a e))
+        go machine.On e = arrived s (machine.stretch t w s) (follow t.enough s.place s.worker (a e))
         go (machine.Ending f) e = stays (machine.Ending f) e (λ h. cc)
         go (machine.Past k f) e = stays (machine.Past k f) e (λ h. cc)
         go (machine.Refused mark) e = stays (machine.Refused mark) e (λ h. cc)
@@ -264,18 +296,42 @@ module _ (t : Setting) (formed : IsWellFormed t.code) where
         marked OutOfMemory = exchanged (record { purpose = machine.Closes; state = machine.stopped OutOfMemory }) (λ h. cc)
         marked OutOfReserve = exchanged (record { purpose = machine.Closes; state = machine.stopped OutOfReserve }) (λ h. cc)
 
-  phases_agree : (p n : ℕ) (ws : ℕ → machine.State) → ((w : ℕ) → Agrees (ws w)) → (w : ℕ) → Agrees (phases (machine.bsp t) p n ws w)
+  begins : (input : List ℤ) → Agrees (machine.opening t input w)
+  begins input h = record { steps = 0; point = record { place = 0; state = opening }; comes = (refl, refl); here = refl; describes = opening_worker t w input }
+
+  may_make : (s : machine.State) → Agrees s → s.way ≡ machine.On → (stop : Stop) (place : ℕ) (x : Worker) → machine.stretch t w s ≡ At stop place x →
+      IsOnPath t.code place × MayExchange stop x.uniform
+  may_make s a h stop place x e =
+      let z = subst Arrives e (follow t.enough s.place s.worker (a h)) in
+      let p = z.there in
+      let sound = paths_sound t.code formed p.steps p.point p.comes in
+      ((p.steps, p.point, p.comes, p.here), may p.point.state x.uniform (describes_uniform t w p.point.state x sound.within p.describes) stop z.instr z.by z.fits)
+
+  described : (place : ℕ) (x : Worker) → IsThere place x → IsDescribed t w place x
+  described place x h = record {
+    steps = h.steps;
+    point = h.point;
+    comes = h.comes;
+    here = h.here;
+    describes = h.describes;
+    sound = paths_sound t.code formed h.steps h.point h.comes;
+  }
+
+  at_moment : (s : machine.State) → Agrees s → s.way ≡ machine.On → (m place : ℕ) (x : Worker) → walk m s.place s.worker ≡ Some (place, x) → IsDescribed t w place x
+  at_moment s a h m place x e = described place x (subst IsMoment e (walks m s.place s.worker (a h)))
+
+module _ (t : Setting) (formed : IsWellFormed t.code) where
+  phases_agree : (p n : ℕ) (ws : ℕ → machine.State) → ((w : ℕ) → Agrees t formed w (ws w)) → (w : ℕ) → Agrees t formed w (phases (machine.bsp t) p n ws w)
   phases_agree p zero ws a w = a w
-  phases_agree p (suc n) ws a w = phases_agree p n (phase (machine.bsp t) p ws) (λ v. next_agrees v (column (machine.bsp t) p ws v) (ws v) (a v)) w
+  phases_agree p (suc n) ws a w =
+      phases_agree p n (phase (machine.bsp t) p ws) (λ v. next_agrees t formed v (column (machine.bsp t) p ws v) (ws v) (a v)) w
 
-  begins : (input : List ℤ) (w : ℕ) → Agrees (machine.opening t input w)
-  begins input w h = record { steps = 0; point = record { place = 0; state = opening }; comes = (refl, refl); here = refl; describes = record { asks = refl; put = refl; awaited = refl; alone = λ f. cc } }
-
-  may_make : (w : ℕ) (s : machine.State) → Agrees s → s.way ≡ machine.On → (stop : Stop) (place : ℕ) (x : Worker) → machine.stretch t w s ≡ At stop place x → IsOnPath t.code place × MayExchange stop x.uniform
-  may_make w s a h stop place x e =
-      let z = subst Arrives e (follow w t.enough s.place s.worker (a h)) in
-      ((z.there.steps, z.there.point, z.there.comes, z.there.here), may z.there.point.state x.uniform z.there.describes stop z.instr z.by z.fits)
+  -- all workers after n exchanges
+  pub agree_after : (input : List ℤ) (n w : ℕ) → Agrees t formed w (worker_after t input n w)
+  agree_after input n w = phases_agree (workers t) n (machine.opening t input) (λ v. begins t formed v input) w
 
 pub runs_sound : RunsAreSound
-runs_sound t formed input n w h stop place x e =
-    may_make t formed w (phases (machine.bsp t) (workers t) n (machine.opening t input) w) (phases_agree t formed (workers t) n (machine.opening t input) (begins t formed input) w) h stop place x e
+runs_sound t formed input n w h stop place x e = may_make t formed w (worker_after t input n w) (agree_after t formed input n w) h stop place x e
+
+pub moments_sound : MomentsAreSound
+moments_sound t formed input n m w h place x e = at_moment t formed w (worker_after t input n w) (agree_after t formed input n w) h m place x e

@@ -8,3 +8,4 @@ pub mod Paths
 pub mod Runs
 pub mod Stretches
 pub mod WorkedStretches
+pub mod Moments

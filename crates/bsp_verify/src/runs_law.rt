@@ -1,5 +1,6 @@
 //! What runs of verified code can rely on, by the machine's definition.
 
+ghost use Rattle.bsp_verify.specs.Moments.{MomentsAreSound};
 ghost use Rattle.bsp_verify.specs.Runs.{RunsArrive, RunsAreSound};
 
 /// Each exchange that a worker comes to is on a path of control, and is one that it may make: a reply comes where answers are
@@ -12,4 +13,11 @@ pub fn runs_are_sound()
 /// No worker is led to a place without an instruction, or on and on without an exchange.
 pub fn runs_arrive()
     ensures { RunsArrive }
+{}
+
+/// At every moment of every stretch of every worker there is a path of control to its place, whose state
+/// says of the worker whether it has a range of processors, under how many masks each of them is, how many
+/// reads are held, of which side they are, whether a write is held, and whether answers are awaited.
+pub fn moments_are_sound()
+    ensures { MomentsAreSound }
 {}

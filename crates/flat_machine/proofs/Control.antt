@@ -11,7 +11,7 @@ use Rattle.superstep_code.specs.Worker as worker
 use Rattle.superstep_code.specs.Stretch.{Stop, ToSend, ToReply, ToVote, ToClose, Arrival, Nowhere, At, advance, until}
 use Rattle.flat_machine.specs.Flat.{Flat}
 use Rattle.flat_machine.specs.Flat as flat
-use Rattle.flat_machine.specs.OneControl.{walked}
+use Rattle.bsp_verify.specs.Moments.{walked}
 use Rattle.flat_machine.proofs.Relation.{Splits}
 
 module _ (t : Setting) where

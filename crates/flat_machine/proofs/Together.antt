@@ -9,8 +9,9 @@ use Rattle.flat_machine.specs.Flat.{Flat}
 use Rattle.flat_machine.specs.Flat as flat
 use Rattle.flat_machine.specs.ByExchanges as flat_run
 use Rattle.flat_machine.specs.Flatness.{IsMapFor, plan}
-use Rattle.flat_machine.specs.OneControl.{walked, AreAlike, AreTogether, AreAtOne, moment}
-use Rattle.flat_machine.specs.OneControl as control
+use Rattle.bsp_verify.specs.Runs.{worker_after}
+use Rattle.bsp_verify.specs.Moments.{walked, moment}
+use Rattle.flat_machine.specs.OneControl.{AreAlike, AreTogether, AreAtOne}
 use Rattle.flat_machine.proofs.Relation.{Splits}
 use Rattle.flat_machine.proofs.Control.{flat_uniform, worker_uniform, WalkedAs, walked_splits}
 use Rattle.flat_machine.proofs.Instructions.{splits_instr}
@@ -53,7 +54,7 @@ module _ (t : Setting) (room : IsMapFor t.code t.map) where
 
     module _ (input : List ℤ) (n : ℕ) where
       abbrev states : ℕ → State
-      states = control.after t input n
+      states = worker_after t input n
 
       abbrev agreed : (x : flat_run.State) × Agree t room x states
       agreed = phases_agree t room n (flat_run.opening input) (opening t input) (opening_agrees t room input)
