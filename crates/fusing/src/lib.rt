@@ -3,6 +3,5 @@
 
 mod empty;
 pub mod fuse;
-mod layout_copy;
 mod renumber;
 pub mod worked_law;

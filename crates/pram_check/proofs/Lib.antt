@@ -17,3 +17,8 @@ pub mod UseFaults
 pub mod StatementFaults
 pub mod ProgramFaults
 pub mod Chains
+pub mod BoundedExpressions
+pub mod Depths
+pub mod BoundedSteps
+pub mod BoundedStatements
+pub mod BoundedPrograms

@@ -6,3 +6,4 @@ pub mod Checked
 pub mod Walk
 pub mod Program
 pub mod Faults
+pub mod Bounded

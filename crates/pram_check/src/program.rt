@@ -2,6 +2,7 @@
 
 ghost use Rattle.std.specs.Prelude.{◌≡◌, IfOk, IfErr};
 ghost use Rattle.pram_check.specs.Breaches.{breaches, IsAccepted, Tells};
+ghost use Rattle.pram_check.specs.Bounded.{IsBounded};
 ghost use Rattle.pram_check.specs.Checked.{IsResolved};
 
 use crate::body::Statement;
@@ -64,6 +65,15 @@ impl Program {
         ensures says { IsResolved self.now }
     {
         &self.tree
+    }
+
+    /// Every program is within bounds: what its body names is declared, no statement has more than
+    /// eight shared reads, statements nest at most 64 deep, and there is no more of it than there
+    /// are tokens in its text.
+    pub fn bounded(&self)
+        ensures bounded { IsBounded self.now }
+    {
+        let _count = self.tree.token_count();
     }
 
     /// The rule of concurrent access.

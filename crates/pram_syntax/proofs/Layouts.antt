@@ -1,9 +1,10 @@
 -- A layout's fields, and the cells of its declarations.
-use Rattle.std.proofs.Common.{◌≡◌, ◌+◌, ◌<◌, ◌≤◌, ◌^◌, ◌++◌, ◌-ℤ◌, nat_abs, ℕ, zero, suc, List, [], ◌∷◌, Some, None, ℤ, pos, true, false, refl, sym, ap, ◌∙◌, subst, arith}
-use Rattle.std.specs.Prelude.{slice_get, int_le, ◌≤ℤ◌}
+use Rattle.std.proofs.Common.{length, get_or, ◌≡◌, ◌+◌, ◌<◌, ◌≤◌, ◌^◌, ◌++◌, ◌-ℤ◌, nat_abs, ℕ, zero, suc, List, [], ◌∷◌, Some, None, ℤ, pos, true, false, refl, sym, ap, ◌∙◌, subst, arith}
+use Rattle.std.specs.Prelude.{Bool, IfSome, slice_get, int_le, ◌≤ℤ◌}
 use Rattle.std.proofs.lemmas.Int.{ints}
+use Rattle.std.proofs.lemmas.List.{length-map}
 use Rattle.pram_syntax.specs.declared.layout.Entry as field
-use Rattle.pram_syntax.specs.Layout.{size, width, total_size, cell_at, cell_in, cell_from, bounds_of, IsSingle}
+use Rattle.pram_syntax.specs.Layout.{SharedEntry, size, width, total_size, cell_at, cell_in, cell_from, bounds_of, subscripts, IsSingle}
 use Rattle.pram_syntax.specs.LayoutFields.{shown, declared, IsNumbered}
 
 -- the cells of all declarations end where the last one's end
@@ -62,3 +63,33 @@ numbered_push es cells more e low high h first l k ordered single is =
     let alone : IsSingle e.is_array e.range.low e.range.high =
     subst (λ z. IsSingle e.is_array z e.range.high) (sym l) (subst (λ z. IsSingle e.is_array low z) (sym k) single) in
     numbered_more 0 es cells more e h first alone (is ∙ ap (λ n. cells + n) (sym sized))
+
+-- ---- one declaration among the others
+
+single_at : (at : ℕ) (es : List field.Entry) (cells i : ℕ) (d : field.Entry) → IsNumbered at es cells → i < length es → d ≡ get_or es i d →
+    IsSingle d.is_array d.range.low d.range.high
+single_at at [] cells i d h below is = absurd (omega (arith, below))
+single_at at (x ∷ es) cells zero d h below is = subst (λ (e : field.Entry). IsSingle e.is_array e.range.low e.range.high) (sym is) h.1
+single_at at (x ∷ es) cells (suc i) d h below is = single_at (at + size (shown x).bounds) es cells i d h.2 (omega (arith, below)) is
+
+pub declared_length : (es : List field.Entry) (i : ℕ) (all : List SharedEntry) → declared es ≡ all → i < length all → i < length es
+declared_length es i all view below = let e = ap length view in let l = length-map es shown in omega (arith, e, l)
+
+bounds_are : (b : Bool) (low high : ℤ) → IsSingle b low high → (low ≡ (subscripts (bounds_of b low high)).0) × (high ≡ (subscripts (bounds_of b low high)).1)
+bounds_are true low high h = (refl, refl)
+bounds_are false low high h = h
+
+-- a declaration's range has its bounds
+pub range_bounds : (es : List field.Entry) (cells i : ℕ) (d : field.Entry) (all : List SharedEntry) → IsNumbered 0 es cells → declared es ≡ all → i < length all → d ≡ get_or es i d →
+    IfSome (slice_get all i) (λ e. (d.range.low ≡ (subscripts e.bounds).0) × (d.range.high ≡ (subscripts e.bounds).1))
+range_bounds es cells i d all h view below is =
+    let inside = declared_length es i all view below in
+    let there : slice_get all i ≡ Some (shown d) =
+    ap (λ l. slice_get l i) (sym view) ∙ shown_at es i inside ∙ ap (λ (e : field.Entry). Some (shown e)) (sym is) in
+    subst (λ o. IfSome o (λ (e : SharedEntry). (d.range.low ≡ (subscripts e.bounds).0) × (d.range.high ≡ (subscripts e.bounds).1))) (sym there)
+    (bounds_are d.is_array d.range.low d.range.high (single_at 0 es cells i d h inside is))
+  where
+    shown_at : (es : List field.Entry) (i : ℕ) → i < length es → slice_get (declared es) i ≡ Some (shown (get_or es i d))
+    shown_at [] i below = absurd (omega (arith, below))
+    shown_at (x ∷ es) zero below = refl
+    shown_at (x ∷ es) (suc i) below = shown_at es i (omega (arith, below))

@@ -19,11 +19,16 @@ abbrev pub total_size : List SharedEntry → ℕ
 total_size [] = 0
 total_size (e ∷ es) = size e.bounds + total_size es
 
+-- the least and the greatest subscript; a single cell has the one subscript 0
+abbrev pub subscripts : Option (ℤ × ℤ) → ℤ × ℤ
+subscripts None = (pos 0, pos 0)
+subscripts (Some bounds) = bounds
+
 -- the cell of a subscript among cells that are numbered from `first` on and have the subscripts from low to high
 abbrev pub cell_at : ℕ → (low high subscript : ℤ) → Option ℕ
 cell_at first low high z = if int_le low z && int_le z high then Some (first + nat_abs (z -ℤ low)) else None
 
--- the same in a declaration; a single cell has the one subscript 0
+-- the same in a declaration
 abbrev pub cell_in : ℕ → Option (ℤ × ℤ) → ℤ → Option ℕ
 cell_in first None z = cell_at first (pos 0) (pos 0) z
 cell_in first (Some (low, high)) z = cell_at first low high z

@@ -8,6 +8,7 @@ pub mod Machine
 pub mod Follows
 pub mod Layout
 pub mod LayoutFields
+pub mod Declarations
 pub mod Lexemes
 pub mod Scanning
 pub mod Text

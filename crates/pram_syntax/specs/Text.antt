@@ -27,6 +27,10 @@ pub record IsTextOf (text : List ℕ) (tree : ProgramTree) : Type 0 where
   pub tokens : cut_of text ≡ Ok (cut (program_tokens tree) offsets)
   pub stands : IsTree limit limit tree
 
+-- No text is that of two trees.
+abbrev pub HasOneTreeAtMost : Type 0
+HasOneTreeAtMost = (text : List ℕ) (tree other : ProgramTree) → IsTextOf text tree → IsTextOf text other → tree ≡ other
+
 -- the answer is that tree, unless memory was refused
 abbrev pub IsAnswer : ProgramTree → Result ProgramTree TextFault → Type 0
 IsAnswer p (Ok q) = q ≡ p
@@ -59,7 +63,8 @@ pub record IsFaultAt (IsFault : List Token → ℕ → Type 0) (text : List ℕ)
   pub fault : IsFault tokens left
   pub place : at ≡ offset_of offsets left (length text)
 
--- Each refusal says what is wrong with the text, in this order: its length, its bytes, its tokens, its syntax or nesting. Of a refusal of memory it says nothing.
+-- Each refusal says what is wrong with the text, in this order: its length, its bytes, its tokens, its syntax or nesting. Memory is asked for
+-- behind the first two.
 abbrev pub IsFaultOf : {X : Type 0} → List ℕ → Result X TextFault → Type 0
 IsFaultOf text (Ok x) = Unit {0}
 IsFaultOf text (Err TextTooLong) = longest < length text
@@ -67,7 +72,7 @@ IsFaultOf text (Err (NotAscii at)) = IsFirstOther text at
 IsFaultOf text (Err (BadToken at)) = IsFirstBad text at
 IsFaultOf text (Err (Syntax at)) = IsFaultAt IsSyntaxFault text at
 IsFaultOf text (Err (TooDeep at)) = IsFaultAt IsDepthFault text at
-IsFaultOf text (Err OutOfMemory) = Unit {0}
+IsFaultOf text (Err OutOfMemory) = IsPlain text
 
 -- a refusal of the tokenizer, as one of the text
 abbrev pub lex_fault : LexError → TextFault

@@ -48,7 +48,7 @@ pub enum TextFault {
     Syntax(u32),
     /// The token there opens the 65th block or the 65th level of an expression (E5).
     TooDeep(u32),
-    /// Memory was refused (E16). Nothing is said of the text.
+    /// Memory was refused (E16). The text is neither too long nor has it a byte of 128 or more.
     OutOfMemory,
 }
 

@@ -104,7 +104,7 @@ pub fn read_input(alloc: Global, text: &[u8]) -> Result<Vec<i64>, TextFault>
         spec.IsInputOf text.now values → spec.AreAnswer (λ found. found.items) values result }
     // A text that is too long is told so, memory or not, and no other is.
     ensures too_long { (result ≡ Err TextTooLong) ↔ (longest < length text.now) }
-    // A refusal is right, and stands where it should.
+    // A refusal is right, and stands where it should. That of memory is of a plain text.
     ensures refused { spec.IsInputFault text.now result }
 {
     if text.len() > LONGEST {

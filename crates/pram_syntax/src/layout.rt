@@ -1,19 +1,20 @@
 //! Shared declarations and their cells.
 
-ghost use Rattle.std.specs.Prelude.{◌≡◌, ◌+◌, ◌≤◌, ◌<◌, ◌++◌, ◌∷◌, [], ◌+ℤ◌, ◌-ℤ◌, ◌≤ℤ◌, pos, ◌^◌, length, map, slice_get, nat_abs, Some, None, Option, IfSome, OnOk, OnErr, MatchOption};
+ghost use Rattle.std.specs.Prelude.{◌≡◌, ℤ, ◌+◌, ◌≤◌, ◌<◌, ◌++◌, ◌∷◌, [], ◌+ℤ◌, ◌-ℤ◌, ◌≤ℤ◌, pos, ◌^◌, length, map, slice_get, nat_abs, Some, None, Option, IfOk, IfSome, OnOk, OnErr, MatchOption};
 ghost use Rattle.pram_syntax.specs.Layout as spec;
-ghost use Rattle.pram_syntax.specs.Layout.{cell_at, bounds_of, IsSingle};
+ghost use Rattle.pram_syntax.specs.Layout.{cell_at, bounds_of, subscripts, IsSingle};
 
 use sqlite_items::{Items, at};
 use std::alloc::{AllocError, Global};
 use std::marker::Model;
 
-/// Consecutive cells with their subscripts: the number of the first one, whose subscript is `low`.
+/// The cells of a declaration with their subscripts from `low` to `high`: the cell at `low` has the
+/// number `first`, and those behind it the next ones. A single cell has the one subscript 0.
 #[derive(Clone, Copy)]
-struct Range {
-    first: u32,
-    low: i64,
-    high: i64,
+pub struct Range {
+    pub first: u32,
+    pub low: i64,
+    pub high: i64,
     ghost ordered: { low ≤ℤ high },
     ghost placed: { first + nat_abs (high -ℤ low) < 2 ^ 20 },
 }
@@ -32,6 +33,19 @@ struct Entry {
 pub struct Layout {
     entries: Vec<Entry>,
     cells: u32,
+}
+
+impl Entry {
+    // The same declaration.
+    fn copied(&self, alloc: Global) -> Result<Entry, AllocError>
+        ensures { IfOk result (λ copy. copy ≡ self.now) }
+    {
+        Ok(Entry {
+            name: Items::from_slice(alloc, self.name.as_slice())?,
+            is_array: self.is_array,
+            range: self.range,
+        })
+    }
 }
 
 impl Model for Layout {
@@ -111,7 +125,7 @@ impl Layout {
     pub fn subscript(&self, i: usize, number: u32) -> i64
         requires entry { i < length self.now }
         requires inside { IfSome (slice_get self.now i) (λ e. number < spec.size e.bounds) }
-        ensures { IfSome (slice_get self.now i) (λ e. IfSome e.bounds (λ b. result ≡ b.0 +ℤ pos number)) }
+        ensures { IfSome (slice_get self.now i) (λ e. result ≡ (subscripts e.bounds).0 +ℤ pos number) }
     {
         let entry = &self.entries[i];
         if entry.is_array {
@@ -119,6 +133,30 @@ impl Layout {
         } else {
             0
         }
+    }
+
+    /// The cells of a declaration, with their subscripts.
+    pub fn range(&self, i: usize) -> Range
+        requires { i < length self.now }
+        ensures bounds { IfSome (slice_get self.now i)
+            (λ e. (result.low ≡ (subscripts e.bounds).0) × (result.high ≡ (subscripts e.bounds).1)) }
+        ensures cells { (z : ℤ) → spec.cell_of self.now i z ≡ cell_at result.first result.low result.high z }
+    {
+        self.entries[i].range
+    }
+
+    /// The same declarations.
+    pub fn copied(&self, alloc: Global) -> Result<Layout, AllocError>
+        ensures { IfOk result (λ copy. copy ≡ self.now) }
+    {
+        let mut entries = Vec::new(alloc);
+        for entry in &self.entries {
+            entries.push(entry.copied(alloc)?)?;
+        }
+        Ok(Layout {
+            entries,
+            cells: self.cells,
+        })
     }
 
     /// Takes a single cell in, behind the other declarations.

@@ -8,6 +8,7 @@ pub mod input;
 pub mod layout;
 mod level;
 mod lexer;
+pub mod one_tree;
 pub mod parse;
 mod parse_decl;
 mod parse_expr;

@@ -65,7 +65,8 @@ fn lex_fault(fault: LexError) -> TextFault
 /// with which no program begins, or the end of the text where they run out, is
 /// `TextFault::Syntax` (E4), and the one that opens the 65th block or the 65th level of an
 /// expression `TextFault::TooDeep` (E5), if no syntax fault stands before it or at it.
-/// `TextFault::OutOfMemory` (E16) says that memory was refused.
+/// `TextFault::OutOfMemory` (E16) says that memory was refused. It is asked for only where the
+/// text is neither too long nor has a byte of 128 or more.
 pub fn parse(alloc: Global, text: &[u8]) -> Result<Tree, TextFault>
     // The tree is that of the text.
     ensures found { IfOk result (λ tree. spec.IsTextOf text.now tree) }
@@ -74,7 +75,7 @@ pub fn parse(alloc: Global, text: &[u8]) -> Result<Tree, TextFault>
     ensures only { (tree : ProgramTree) → spec.IsTextOf text.now tree → spec.IsAnswer tree result }
     // A text that is too long is told so, memory or not, and no other is.
     ensures too_long { (result ≡ Err TextTooLong) ↔ (longest < length text.now) }
-    // A refusal is right, and stands where it should.
+    // A refusal is right, and stands where it should. That of memory is of a plain text.
     ensures refused { spec.IsFaultOf text.now result }
 {
     if text.len() > LONGEST {
