@@ -6,7 +6,7 @@ use Rattle.pram_values.specs.Value.{Value}
 use Rattle.pram_syntax.specs.declared.rule.Rule.{Rule}
 use Rattle.address_map.specs.Lawful.{Shape, IsOf}
 use Rattle.superstep_code.specs.Sending.{verdict_on, settled, is_several}
-use Rattle.combining.specs.Reading.{entry_read, askers_read}
+use Rattle.superstep_code.specs.WordReading.{entry_read, askers_read}
 use Rattle.combining.specs.Gathering.{value_at}
 
 -- why the writers of a cell may not

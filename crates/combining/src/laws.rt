@@ -6,12 +6,11 @@ ghost use Rattle.pram_values.specs.Total.{total};
 ghost use Rattle.pram_syntax.specs.declared.rule.Rule.{Rule as RuleName};
 ghost use Rattle.address_map.specs.Lawful.{Shape};
 ghost use Rattle.superstep_code.specs.Words.{CellPut, CellAsk, Message, put_words, ask_words};
-ghost use Rattle.superstep_code.specs.WordReading.{FitsPut};
+ghost use Rattle.superstep_code.specs.WordReading.{puts_in, asks_in, entry_read, askers_read};
+ghost use Rattle.superstep_code.specs.Fitting.{FitsPut, FitsWrite, IsPutFor, IsAskFor};
 ghost use Rattle.superstep_code.specs.Worker.{HeldWrite, Worker};
 ghost use Rattle.superstep_code.specs.Sending.{join, entry_to, put_of, firsts, puts_held, entry_came, askers_came};
 ghost use Rattle.combining.specs.Held.{held_after, packed_puts, puts_for, IsPutBelow};
-ghost use Rattle.combining.specs.Reading.{puts_in, asks_in, entry_read, askers_read};
-ghost use Rattle.combining.specs.Laws.{FitsWrite, IsPutFor, IsAskFor};
 
 /// Writes that are added one by one to nothing are held as the machine's definition holds them: by cell in the order first held,
 /// each with what its writers come to. They fit in words if the writes do.

@@ -2,7 +2,7 @@
 
 ghost use Rattle.std.specs.Prelude.{◌≡◌, ◌<◌, length, ℕ, Some, None, map as each, set};
 ghost use Rattle.superstep_code.specs.Sending.{several};
-ghost use Rattle.combining.specs.Reading.{ask_in, askers_of_column, askers_read};
+ghost use Rattle.superstep_code.specs.WordReading.{ask_in, askers_of_column, askers_read};
 ghost use Rattle.combining.specs.Gathering.{slot, note, placed_ask, Collects, CollectsAll, TakesOut, TakesAllOut};
 ghost use Rattle.combining.specs.Merged.{shared, noted_cell, IsLeastShared};
 

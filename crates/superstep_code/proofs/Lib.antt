@@ -15,3 +15,4 @@ pub mod ReadBack
 pub mod KeyOrder
 pub mod Collected
 pub mod Refused
+pub mod MachineWords

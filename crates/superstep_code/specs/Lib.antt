@@ -14,7 +14,6 @@ pub mod Parts
 pub mod Results
 pub mod Steps
 pub mod Words
-pub mod WordReading
 pub mod Worker
 pub mod Sending
 pub mod Answering
@@ -22,6 +21,9 @@ pub mod Stretch
 pub mod Machine
 pub mod Run
 pub mod Refusals
+pub mod WordReading
+pub mod Fitting
+pub mod WordLaws
 pub mod Trace
 pub mod Examples
 pub mod FaultExamples

@@ -1,13 +1,18 @@
--- Reading words back: from a header and the words behind it the message. It takes any words.
-use Rattle.std.specs.Prelude.{◌≡◌, ℕ, zero, suc, ◌+◌, ◌*◌, ◌^◌, ◌/◌, ◌%◌, ◌<◌, List, [], ◌∷◌, map, length, drop, Bool, Option, ℤ, FitsSigned, slice_index_or}
-use Rattle.std.specs.List.{AllByRecursion}
+-- Reading words back: from a header and the words behind it the message to a module. It takes any words, and passes over those that
+-- no worker writes for the module.
+use Rattle.std.specs.Prelude.{ℕ, ◌+◌, ◌*◌, ◌^◌, ◌/◌, ◌%◌, List, [], ◌∷◌, map, length, take, drop, Bool, ◌&&◌, Option, Some, None, ℤ, nat_lt, slice_index_or, if◌then◌else◌}
+use Rattle.std.specs.List.{filter_map}
 use Rattle.std.specs.Int.{w64, w128, cast_signed}
 use Rattle.std.proofs.Common.{eqb}
+use Rattle.pram_values.specs.Total.{total}
 use Rattle.pram_syntax.specs.declared.rule.Rule.{Rule}
 use Rattle.pram_syntax.specs.declared.rule.Rule.TheVariants.{Sum}
+use Rattle.write_rules.specs.declared.entry.Entry.{Entry}
+use Rattle.address_map.specs.Lawful.{Shape}
 use Rattle.superstep_code.specs.declared.key.Key.{Key}
 use Rattle.superstep_code.specs.declared.mark.HeaderMark.{HeaderMark}
 use Rattle.superstep_code.specs.Words.{CellPut, CellAsk, Message}
+use Rattle.superstep_code.specs.Sending.{join, entry_in, several, asked_in}
 use Rattle.superstep_code.specs.Run.{Purpose, Sends, Replies}
 
 -- what stands before the words, with the number of cells that are put to
@@ -42,44 +47,75 @@ read_put rule words = record {
   entry = record { owner = cast_signed w64 (word words 1); value = read_value rule words; clash = is_set (word words 0 / 2 ^ 20) };
 }
 
--- n puts
-abbrev pub read_puts : Rule → ℕ → List ℕ → List CellPut
-read_puts rule zero words = []
-read_puts rule (suc n) words = read_put rule words ∷ read_puts rule n (drop (put_length rule) words)
-
--- the words behind n puts
-abbrev pub behind_puts : Rule → ℕ → List ℕ → List ℕ
-behind_puts rule zero words = words
-behind_puts rule (suc n) words = behind_puts rule n (drop (put_length rule) words)
-
 abbrev pub read_ask : ℕ → CellAsk
 read_ask x = record { read = x / 2 ^ 20 % 2 ^ 3; cell = x % 2 ^ 20; twice = is_set (x / 2 ^ 23) }
 
-abbrev pub read_words : Rule → Purpose → Header → List ℕ → Message
-read_words rule Sends h words =
-    record { key = h.key; mark = h.mark; active = h.active; puts = read_puts rule h.puts words; asks = map read_ask (behind_puts rule h.puts words); values = [] }
-read_words rule Replies h words = record { key = h.key; mark = h.mark; active = h.active; puts = []; asks = []; values = map (cast_signed w64) words }
-read_words rule purpose h words = record { key = h.key; mark = h.mark; active = h.active; puts = []; asks = []; values = [] }
+-- words in threes, and in fours; what is too short at the end is left
+abbrev pub threes : List ℕ → List (List ℕ)
+threes (a ∷ b ∷ c ∷ rest) = (a ∷ b ∷ c ∷ []) ∷ threes rest
+threes words = []
 
--- ---- which messages there can be
+abbrev pub fours : List ℕ → List (List ℕ)
+fours (a ∷ b ∷ c ∷ d ∷ rest) = (a ∷ b ∷ c ∷ d ∷ []) ∷ fours rest
+fours words = []
 
--- a cell of 20 bits, a writer of 64, and a value of 64, or a sum of 128
-abbrev pub FitsValue : Rule → ℤ → Type 0
-FitsValue Sum z = FitsSigned w128 z
-FitsValue rule z = FitsSigned w64 z
+-- words in groups, each as long as a put
+abbrev pub groups : Rule → List ℕ → List (List ℕ)
+groups Sum words = fours words
+groups rule words = threes words
 
-pub record FitsPut (rule : Rule) (x : CellPut) : Type 0 where
-  pub cell : x.cell < 2 ^ 20
-  pub owner : FitsSigned w64 x.entry.owner
-  pub value : FitsValue rule x.entry.value
+-- the put that a group of words is, if it is one for module j: its first word is in range, and its cell lies there
+abbrev pub put_in : Rule → Shape → ℕ → List ℕ → Option CellPut
+put_in rule m j words =
+    let x = read_put rule words in
+    if nat_lt (word words 0) (2 ^ 21) && nat_lt x.cell m.count && eqb (m.part x.cell) j then Some x else None
 
--- at most eight reads
-pub record FitsAsk (x : CellAsk) : Type 0 where
-  pub cell : x.cell < 2 ^ 20
-  pub read : x.read < 2 ^ 3
+abbrev pub puts_in : Rule → Shape → ℕ → List ℕ → List CellPut
+puts_in rule m j words = filter_map (put_in rule m j) (groups rule words)
 
--- a send carries puts and asks that fit, a reply values that fit, and the others nothing
-abbrev pub CanBeSent : Rule → Purpose → Message → Type 0
-CanBeSent rule Sends m = AllByRecursion (FitsPut rule) m.puts × AllByRecursion FitsAsk m.asks × (m.values ≡ [])
-CanBeSent rule Replies m = (m.puts ≡ []) × (m.asks ≡ []) × AllByRecursion (FitsSigned w64) m.values
-CanBeSent rule purpose m = (m.puts ≡ []) × (m.asks ≡ []) × (m.values ≡ [])
+-- the ask that a word is, if it is one for module j
+abbrev pub ask_in : Shape → ℕ → ℕ → Option CellAsk
+ask_in m j w =
+    let x = read_ask w in
+    if nat_lt w (2 ^ 24) && nat_lt x.cell m.count && eqb (m.part x.cell) j then Some x else None
+
+abbrev pub asks_in : Shape → ℕ → List ℕ → List CellAsk
+asks_in m j words = filter_map (ask_in m j) words
+
+-- ---- messages
+
+-- the words of the puts come first, as many as the header says
+abbrev pub put_part : Rule → Header → List ℕ → List ℕ
+put_part rule h words = take (h.puts * put_length rule) words
+
+abbrev pub ask_part : Rule → Header → List ℕ → List ℕ
+ask_part rule h words = drop (h.puts * put_length rule) words
+
+-- the message to module j
+abbrev pub read_message : Rule → Shape → ℕ → Purpose → Header → List ℕ → Message
+read_message rule m j Sends h words = record {
+  key = h.key;
+  mark = h.mark;
+  active = h.active;
+  puts = puts_in rule m j (put_part rule h words);
+  asks = asks_in m j (ask_part rule h words);
+  values = [];
+}
+read_message rule m j Replies h words = record { key = h.key; mark = h.mark; active = h.active; puts = []; asks = []; values = map (cast_signed w64) words }
+read_message rule m j purpose h words = record { key = h.key; mark = h.mark; active = h.active; puts = []; asks = []; values = [] }
+
+-- ---- what the words of some columns come to
+
+-- what the puts of one column come to at a cell, and those of all columns
+abbrev pub entry_of_column : Rule → Shape → ℕ → ℕ → List ℕ → Option Entry
+entry_of_column rule m j c words = total None (join rule) (entry_in c) (puts_in rule m j words)
+
+abbrev pub entry_read : Rule → Shape → ℕ → List (List ℕ) → ℕ → Option Entry
+entry_read rule m j columns c = total None (join rule) (λ words. total None (join rule) (entry_in c) (puts_in rule m j words)) columns
+
+-- how many ask for a cell by read k in one column, and in all: none, one, or two and more
+abbrev pub askers_of_column : Shape → ℕ → ℕ → ℕ → List ℕ → Option Bool
+askers_of_column m j k c words = total None several (asked_in k c) (asks_in m j words)
+
+abbrev pub askers_read : Shape → ℕ → List (List ℕ) → ℕ → ℕ → Option Bool
+askers_read m j columns k c = total None several (λ words. total None several (asked_in k c) (asks_in m j words)) columns

@@ -1,15 +1,29 @@
 //! Words of messages, and reading them back.
 
 ghost use Rattle.std.specs.Prelude.{◌≡◌, ◌∷◌, [], ◌+◌, ◌-◌, ◌^◌, pos, negsuc, true, false};
-ghost use Rattle.pram_syntax.specs.declared.rule.Rule.{Rule as RuleName};
 ghost use Rattle.pram_syntax.specs.declared.rule.Rule.TheVariants.{Common, Sum};
-ghost use Rattle.superstep_code.specs.Words.{Message, words, blank};
-ghost use Rattle.superstep_code.specs.Run.{Purpose};
-ghost use Rattle.superstep_code.specs.WordReading.{header_of, read_words, CanBeSent};
+ghost use Rattle.superstep_code.specs.Words.{words, blank};
+ghost use Rattle.superstep_code.specs.WordLaws.{WordsReadBack, SentIsReadBack, RepliedIsReadBack, VotedIsReadBack, ClosingIsReadBack, EntriesOfWords, AskersOfWords};
 
-/// The words of a message and its header give it back.
+/// The words of a message and its header give it back, at the module that it is for.
 pub fn words_read_back()
-    ensures back { (rule : RuleName) (purpose : Purpose) (m : Message) → CanBeSent rule purpose m → read_words rule purpose (header_of m) (words rule m) ≡ m }
+    ensures back { WordsReadBack }
+{}
+
+/// The messages of a worker are read back: always those of a vote and a close, and those of a send
+/// and a reply where its values fit in words.
+pub fn machine_words_read_back()
+    ensures sent { SentIsReadBack }
+    ensures replied { RepliedIsReadBack }
+    ensures voted { VotedIsReadBack }
+    ensures closing { ClosingIsReadBack }
+{}
+
+/// What the machine's definition makes of messages that are read from any headers and words, is what
+/// these words say: for the writers of a cell, and for those who ask for it.
+pub fn words_are_what_came()
+    ensures entries { EntriesOfWords }
+    ensures askers { AskersOfWords }
 {}
 
 /// The order of the words: of each put the cell with the mark of a conflict, the least writer and

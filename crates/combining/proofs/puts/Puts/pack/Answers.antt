@@ -2,7 +2,8 @@ use Rattle.std.proofs.Common.{◌≡◌, ◌<◌, ◌+◌, ◌∷◌, length, �
 use Rattle.std.proofs.lemmas.List.{get_or_default}
 use Rattle.std.proofs.lemmas.Bool.{eq-eqb, ne_eqb}
 use Rattle.superstep_code.specs.Words.{CellPut, put_words}
-use Rattle.superstep_code.specs.WordReading.{FitsPut, put_length}
+use Rattle.superstep_code.specs.WordReading.{put_length}
+use Rattle.superstep_code.specs.Fitting.{FitsPut}
 use Rattle.combining.specs.Held.{HeldPuts, put_at, packed_puts, IsPutBelow}
 use Rattle.combining.proofs.Pairs.{length_paired, paired_more, item_at, all_here, all_keys}
 use Rattle.combining.proofs.Packing.{pack_yes, pack_not, pack_room, pack_end, drop_further, words_length}
