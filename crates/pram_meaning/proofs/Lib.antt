@@ -22,3 +22,5 @@ pub mod Written
 pub mod Overwrites
 pub mod Swaps
 pub mod Columns
+pub mod SoundValues
+pub mod ValuesKept

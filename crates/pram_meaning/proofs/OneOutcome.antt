@@ -3,20 +3,12 @@ use Rattle.std.proofs.Common.{◌≡◌, ℕ, List, ℤ, refl, ap, sym, ◌∙�
 use Rattle.pram_meaning.specs.Meaning as relation
 use Rattle.pram_check.specs.Checked.{Checked}
 use Rattle.pram_meaning.specs.Bounded.{Done, Goes, Reaches, Stops, perform_list}
+use Rattle.pram_meaning.specs.Computed.{OneOutcome, OutcomeIsComputed, body_done, verdict_at}
 use Rattle.pram_meaning.specs.Meaning.{Ends, Fate}
-use Rattle.pram_meaning.specs.Outcome.{Body, HasOneOutcome, IsOutcome, opening}
+use Rattle.pram_meaning.specs.Outcome.{Body, IsOutcome, opening}
 use Rattle.write_rules.specs.Verdict.{Ended, Faulted, GoesOn, Verdict}
 use Rattle.pram_meaning.proofs.Agree.{Comes, Shows}
 use Rattle.pram_meaning.proofs.AgreeAll.{agree_list}
-
--- the verdict of a bounded run
-abbrev pub verdict_at : Done → Verdict
-verdict_at (Goes u m) = Ended m.output m.cells
-verdict_at (Stops k out) = Faulted k out
-verdict_at (Reaches out) = GoesOn out
-
-abbrev body_done : Checked → List ℤ → ℕ → Done
-body_done p input n = perform_list p n p.body (opening p input)
 
 shown : (p : Checked) (input : List ℤ) (n : ℕ) (b : Done) → Shows n (Body p input) b → IsOutcome p input n (verdict_at b)
 shown p input n (Goes u m) s = (m, s.0, s.1, refl, refl)
@@ -30,7 +22,7 @@ only_one p input n b c (Ended out mem) is =
 only_one p input n b c (Faulted k out) is = sym (ap verdict_at (c (relation.Stops k is.0 out) is.1 is.2))
 only_one p input n b c (GoesOn out) is = sym (ap verdict_at (c (relation.Reaches n out) is refl))
 
-pub one_outcome : (p : Checked) (input : List ℤ) (n : ℕ) → HasOneOutcome p input n
+pub one_outcome : OneOutcome
 one_outcome p input n = record {
   outcome = verdict_at (body_done p input n);
   is = shown p input n (body_done p input n) ((agree_list p n p.body).shows (opening p input) (omega arith));
@@ -41,3 +33,9 @@ one_outcome p input n = record {
 pub outcome_is : (p : Checked) (input : List ℤ) (n : ℕ) (b : Done) → perform_list p n p.body (opening p input) ≡ b → IsOutcome p input n (verdict_at b)
 outcome_is p input n b e =
     subst (λ (b : Done). IsOutcome p input n (verdict_at b)) e (shown p input n (body_done p input n) ((agree_list p n p.body).shows (opening p input) (omega arith)))
+
+pub outcome_is_computed : OutcomeIsComputed
+outcome_is_computed p input n v = (
+  only_one p input n (body_done p input n) ((agree_list p n p.body).comes (opening p input) (omega arith)) v,
+  λ e. subst (λ (v : Verdict). IsOutcome p input n v) (sym e) (outcome_is p input n (body_done p input n) refl),
+)

@@ -11,3 +11,5 @@ pub mod Judging
 pub mod Accesses
 pub mod Slates
 pub mod Sets
+pub mod Computed
+pub mod Values
