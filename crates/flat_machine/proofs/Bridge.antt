@@ -1,4 +1,4 @@
--- The flat machine's run exchange by exchange and its run instruction by instruction have the same outcomes.
+-- What the flat machine's run instruction by instruction comes to, its run exchange by exchange does.
 use Rattle.std.proofs.Common.{◌≡◌, ℕ, zero, suc, ◌+◌, ◌≤◌, List, Bool, true, false, eqb, Option, Some, None, ℤ, refl, sym, ap, ◌∙◌, subst, arith}
 use Rattle.std.specs.Prelude.{if◌then◌else◌, slice_get}
 use Rattle.pram_values.specs.Truth.{is_nonzero}
@@ -10,13 +10,12 @@ use Rattle.superstep_code.specs.Parts.{UniformPart}
 use Rattle.superstep_code.specs.Stretch.{Stop, ToSend, ToReply, ToVote, ToClose, Arrival, Nowhere, At, advance, until}
 use Rattle.superstep_code.specs.declared.key.Key.{Key}
 use Rattle.superstep_code.specs.Run.{Purpose, Sends, Replies, Votes, Closes, Way, On, Ending, Past, Refused, Lost, is_held, is_over, decided, due, unless}
-use Rattle.bsp_verify.proofs.RunLemmas.{decided_same}
 use Rattle.flat_machine.specs.Flat.{Flat, after_instr, after_send}
 use Rattle.flat_machine.specs.ByExchanges.{Plan, State, stretch, ready_at, ready_by, after, after_exchange, run, outcome_of, outcome_by, opening}
-use Rattle.flat_machine.proofs.Stepping.{IsPast, outcome_is_past, unsome, over_stays, steps_more}
-use Rattle.flat_machine.specs.ByInstructions.{stopped, exchanged, closed, going, instructed, steps, everywhere, outcome_within}
+use Rattle.flat_machine.proofs.Stepping.{IsPast, outcome_is_past, over_stays}
+use Rattle.flat_machine.specs.ByInstructions.{stopped, exchanged, closed, going, steps, everywhere, outcome_within}
 
-abbrev uniform : Flat → UniformPart
+abbrev pub uniform : Flat → UniformPart
 uniform f = f.uniform
 
 -- Whatever two readings of one run answer where it is nowhere, at a stop, or goes on: if the answers stand in a relation there, they do
@@ -46,10 +45,10 @@ module _ (code : SuperstepCode) (bound : ℕ) {R Q : Type 0} (Rel : R → Q → 
   advances (Some i) = goes (place + 1) (after_instr code i f)
 
 module _ (t : Plan) where
-  abbrev many : ℕ → State → State
+  abbrev pub many : ℕ → State → State
   many = steps t.code t.bound everywhere
 
-  abbrev lost_at : ℕ → Flat → State
+  abbrev pub lost_at : ℕ → Flat → State
   lost_at place f = record { flat = f; place = place; way = Lost }
 
   -- a run that is over stays so
@@ -57,34 +56,34 @@ module _ (t : Plan) where
   stays = over_stays t.code t.bound everywhere
 
   -- only what is past has an outcome
-  no_outcome : {A : Type 0} (s : State) (way : Way) → s.way ≡ way → (IsPast way → ⊥) → (v : Verdict) → outcome_of t.code s ≡ Some v → A
+  pub no_outcome : {A : Type 0} (s : State) (way : Way) → s.way ≡ way → (IsPast way → ⊥) → (v : Verdict) → outcome_of t.code s ≡ Some v → A
   no_outcome s way e h v o = absurd (h (subst IsPast e (outcome_is_past t.code s v o)))
 
-  on_is : (s : State) → s.way ≡ On → s ≡ going s.place s.flat
+  pub on_is : (s : State) → s.way ≡ On → s ≡ going s.place s.flat
   on_is s e = λ i. record { flat = s.flat; place = s.place; way = e i }
 
   -- a run of one exchange more, by its way
-  abbrev went : ℕ → State → Way → Option (Option Verdict)
+  abbrev pub went : ℕ → State → Way → Option (Option Verdict)
   went x s way = if is_over way then Some (outcome_of t.code s) else run t x (after t.code (ready_by t s way))
 
-  run_on : (x : ℕ) (s : State) → s.way ≡ On → run t (suc x) s ≡ run t x (after t.code (ready_at s (stretch t s)))
+  pub run_on : (x : ℕ) (s : State) → s.way ≡ On → run t (suc x) s ≡ run t x (after t.code (ready_at s (stretch t s)))
   run_on x s e = ap (went x s) e
 
-  run_past : (x : ℕ) (s : State) (key : Option Key) (ended : Bool) → s.way ≡ Past key ended → run t (suc x) s ≡ Some (outcome_of t.code s)
+  pub run_past : (x : ℕ) (s : State) (key : Option Key) (ended : Bool) → s.way ≡ Past key ended → run t (suc x) s ≡ Some (outcome_of t.code s)
   run_past x s key ended e = ap (went x s) e
 
   -- a close takes one exchange, or two
   module _ (s : State) (ended : Bool) (place : ℕ) (f : Flat) where
-    abbrev closing : Bool → State
+    abbrev pub closing : Bool → State
     closing b = after t.code (record { purpose = if b then Sends else Closes; state = record s { flat = f; place = place; way = Ending ended } })
 
-    abbrev closed_if : Bool → State
+    abbrev pub closed_if : Bool → State
     closed_if b = let last = if b then after_send t.code f else f in record { flat = last; place = place; way = Past last.key ended }
 
-    abbrev unended : Bool → Way
+    abbrev pub unended : Bool → Way
     unended b = if b then Ending ended else unless (due f.key f.uniform.count) (Ending ended)
 
-    closes : (x : ℕ) (b : Bool) → is_held f.uniform.put ≡ b → run t (suc (suc x)) (closing b) ≡ Some (outcome_of t.code (closed t.code ended place f))
+    pub closes : (x : ℕ) (b : Bool) → is_held f.uniform.put ≡ b → run t (suc (suc x)) (closing b) ≡ Some (outcome_of t.code (closed t.code ended place f))
     closes x true e =
         run_ended (ap unended e)
         ∙ ap (λ c. Some (outcome_of t.code (closed_if c))) (sym e)
@@ -155,84 +154,6 @@ module _ (t : Plan) where
         going (until t.bound uniform (after_instr t.code) t.code.instructions a) (λ n g h. comes_on k e n g h a (suc x) ka kx2 s on)
         (slice_get t.code.instructions place) o
 
-  -- ---- from exchanges to instructions
-
-  -- what a stretch arrives at is so many instructions on
-  abbrev Reached : State → Arrival Flat → Type 0
-  Reached z Nowhere = Unit {0}
-  Reached z (At stop place f) = (n : ℕ) × (many n z ≡ stopped t.code everywhere stop place f)
-
-  earlier : (place : ℕ) (f : Flat) (a : Arrival Flat) → Reached (instructed t.code t.bound everywhere place f) a → Reached (going place f) a
-  earlier place f Nowhere h = tt
-  earlier place f (At stop k g) h = (suc h.0, h.1)
-
-  reaches : (a place : ℕ) (f : Flat) → Reached (going place f) (until t.bound uniform (after_instr t.code) t.code.instructions a place f)
-  reaches zero place f = tt
-  reaches (suc a) place f =
-      earlier place f (until t.bound uniform (after_instr t.code) t.code.instructions (suc a) place f)
-      (advances t.code t.bound Reached place f (lost_at place f) Nowhere tt (stopped t.code everywhere) (λ stop n g. At stop n g) (λ stop. reaches_stop stop)
-      going (until t.bound uniform (after_instr t.code) t.code.instructions a) (reaches a) (slice_get t.code.instructions place))
-    where
-      reaches_stop : (stop : Stop) → Reached (stopped t.code everywhere stop place f) (At stop place f)
-      reaches_stop stop = (0, refl)
-
-  module _ (v : Verdict) where
-    abbrev Returns : State → Type 0
-    Returns s = (n : ℕ) × (outcome_of t.code (many n s) ≡ Some v)
-
-    -- behind some instructions
-    later : (n : ℕ) (s z : State) → many n s ≡ z → Returns z → Returns s
-    later n s z e r = (n + r.0, ap (outcome_of t.code) (steps_more t.code t.bound everywhere n r.0 s ∙ ap (many r.0) e) ∙ r.1)
-
-    closes_back : (s : State) (ended : Bool) (place : ℕ) (f : Flat) (x : ℕ) (b : Bool) → is_held f.uniform.put ≡ b → run t x (closing s ended place f b) ≡ Some (Some v) → outcome_of t.code (closed t.code ended place f) ≡ Some v
-    closes_back s ended place f zero b e h = cc
-    closes_back s ended place f (suc zero) true e h =
-        let w : (closing s ended place f true).way ≡ Ending ended = ap (unended s ended place f) e in
-        let z : None ≡ Some (Some v) = sym (ap (λ y. if is_over y then Some (outcome_of t.code (closing s ended place f true)) else None) w) ∙ h in
-        cc
-    closes_back s ended place f (suc zero) false e h =
-        ap (λ c. outcome_of t.code (closed_if s ended place f c)) e ∙ unsome _ (Some v) h
-    closes_back s ended place f (suc (suc x)) b e h = unsome _ (Some v) (sym (closes s ended place f x b e) ∙ h)
-
-    not_ending : (p : Purpose) (f : Flat) (ended : Bool) → decided p f.uniform f.key On ≡ Ending ended → ⊥
-    not_ending p f ended h = let z : On ≡ Ending ended = decided_same (Ending ended) (λ key b e. cc) p f.uniform f.key On h in cc
-
-    lost_ends : {A : Type 0} (x : ℕ) (s : State) → s.way ≡ Lost → run t x s ≡ Some (Some v) → A
-    lost_ends zero s e h = cc
-    lost_ends (suc x) s e h = no_outcome s Lost e (λ h. h) v (unsome _ (Some v) (sym (ap (went x s) e) ∙ h))
-
-    module _ (x : ℕ) (rest : (s : State) → ((ended : Bool) → s.way ≡ Ending ended → ⊥) → run t x s ≡ Some (Some v) → Returns s) (s : State) (on : s.way ≡ On) where
-      exchange_returns : (p : Purpose) (place : ℕ) (f : Flat) (n : ℕ) → many n (going s.place s.flat) ≡ exchanged t.code everywhere p place f →
-          run t x (after t.code (record { purpose = p; state = record s { flat = f; place = place + 1 } })) ≡ Some (Some v) → Returns s
-      exchange_returns p place f n e h =
-          later n s (exchanged t.code everywhere p place f) (ap (many n) (on_is s on) ∙ e)
-          (rest (exchanged t.code everywhere p place f) (not_ending p f)
-          (ap (λ w. run t x (record { flat = after_exchange t.code p f; place = place + 1; way = decided p f.uniform f.key w })) (sym on) ∙ h))
-
-      arrival_returns : (a : Arrival Flat) → Reached (going s.place s.flat) a → run t x (after t.code (ready_at s a)) ≡ Some (Some v) → Returns s
-      arrival_returns Nowhere r h = lost_ends x (after t.code (ready_at s Nowhere)) refl h
-      arrival_returns (At ToSend place f) r h = exchange_returns Sends place f r.0 r.1 h
-      arrival_returns (At ToReply place f) r h = exchange_returns Replies place f r.0 r.1 h
-      arrival_returns (At (ToVote d) place f) r h = exchange_returns (Votes d) place f r.0 r.1 h
-      arrival_returns (At (ToClose ended) place f) r h =
-          later r.0 s (closed t.code ended place f) (ap (many r.0) (on_is s on) ∙ r.1) (0, closes_back s ended place f x (is_held f.uniform.put) refl h)
-
-    returns : (x : ℕ) (s : State) → ((ended : Bool) → s.way ≡ Ending ended → ⊥) → run t x s ≡ Some (Some v) → Returns s
-    returns zero s unended h = cc
-    returns (suc x) s unended h = go (returns x) s.way refl
-      where
-        go : ((z : State) → ((ended : Bool) → z.way ≡ Ending ended → ⊥) → run t x z ≡ Some (Some v) → Returns z) → (way : Way) → s.way ≡ way → Returns s
-        go rest On e = arrival_returns x rest s e (stretch t s) (reaches t.enough s.place s.flat) (sym (run_on x s e) ∙ h)
-        go rest (Ending ended) e = absurd (unended ended e)
-        go rest (Past key ended) e = (0, unsome _ (Some v) (sym (run_past x s key ended e) ∙ h))
-        go rest (Refused mark) e = no_outcome s (Refused mark) e (λ h. h) v (unsome _ (Some v) (sym (ap (went x s) e) ∙ h))
-        go rest Lost e = lost_ends (suc x) s e h
-
--- ---- both ways
-
 pub to_exchanges : (code : SuperstepCode) (bound n : ℕ) (input : List ℤ) (v : Verdict) → outcome_within code bound everywhere n input ≡ Some v →
     outcome_by (record { code = code; bound = bound; enough = n }) (suc (suc n)) input ≡ Some (Some v)
 to_exchanges code bound n input v o = let t : Plan = record { code = code; bound = bound; enough = n } in settles t v n (comes_on t v n) (omega arith) (opening input) o n (omega arith)
-
-pub to_instructions : (t : Plan) (x : ℕ) (input : List ℤ) (v : Verdict) → outcome_by t x input ≡ Some (Some v) → (n : ℕ) × (outcome_within t.code t.bound everywhere n input ≡ Some v)
-to_instructions t x input v h = returns t v x (opening input) (λ ended e. cc) h

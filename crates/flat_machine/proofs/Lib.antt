@@ -13,6 +13,8 @@ pub mod Control
 pub mod Lockstep
 pub mod Runs
 pub mod Bridge
+pub mod ExchangeLists
+pub mod Listed
 pub mod Together
 pub mod Stepping
 pub mod Counts

@@ -1,6 +1,7 @@
 //! Workers with any lawful map are one flat machine.
 
 ghost use Rattle.flat_machine.specs.Flatness.{OutcomesAreSame, PurposesAreSame, RunsAgree, WorkersAreFlat};
+ghost use Rattle.flat_machine.specs.OneList.{ExchangesAreOne, WorkersMakeListed};
 
 /// The run of p workers with any lawful map is that of the flat machine, which has one memory, no
 /// workers and no messages: for every code, well formed or not, every input and every bound. So
@@ -17,4 +18,12 @@ pub fn workers_are_flat()
 /// every code.
 pub fn runs_agree()
     ensures { RunsAgree }
+{}
+
+/// There is one list of exchanges. The run instruction by instruction makes it, and for verified code the
+/// exchanges that the workers of every map make up to its outcome, each with its words, are for the same,
+/// one by one. So whoever counts the exchanges of code counts those of its workers.
+pub fn one_list_of_exchanges()
+    ensures same { ExchangesAreOne }
+    ensures workers { WorkersMakeListed }
 {}

@@ -2,7 +2,6 @@ pub mod Moving
 pub mod FormedAgain
 pub mod Clean
 pub mod Given
-pub mod Lists
 pub mod Follows
 pub mod Fused
 pub mod Pass

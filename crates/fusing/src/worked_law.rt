@@ -6,7 +6,7 @@ ghost use Rattle.pram_values.specs.declared.place.Place.TheVariants.{All};
 ghost use Rattle.write_rules.specs.Verdict.{Faulted};
 ghost use Rattle.superstep_code.specs.Run.{Sends, Closes};
 ghost use Rattle.flat_machine.specs.ByInstructions.{everywhere, outcome_within};
-ghost use Rattle.fusing.specs.Exchanges.{exchanges_of};
+ghost use Rattle.flat_machine.specs.Exchanges.{exchanges_of};
 ghost use Rattle.fusing.specs.Worked.{dividing, dividing_fused, writing, writing_fused};
 
 /// A fault that an empty send would have told is told at the close, and is the same.

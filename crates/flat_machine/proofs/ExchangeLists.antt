@@ -2,16 +2,13 @@
 use Rattle.std.proofs.Common.{◌≡◌, ℕ, zero, suc, ◌+◌, ◌-◌, ◌≤◌, List, [], ◌∷◌, ◌++◌, append_assoc, Bool, true, false, refl, sym, ap, ◌∙◌, arith, ⊎_elim}
 use Rattle.std.specs.Prelude.{if◌then◌else◌}
 use Rattle.std.proofs.lemmas.Bool.{cases_lt}
+use Rattle.std.proofs.lemmas.List.{append-nil}
 use Rattle.superstep_code.specs.Code.{SuperstepCode}
 use Rattle.superstep_code.specs.Run.{Way, On, Ending, Past, Refused, Lost}
 use Rattle.flat_machine.specs.ByExchanges.{State}
 use Rattle.flat_machine.specs.ByInstructions.{step, steps}
 use Rattle.flat_machine.proofs.Stepping.{IsPast, past_is_not_on, over_stays}
-use Rattle.fusing.specs.Exchanges.{Exchange, exchanges_by, exchanges_from, is_empty, but_empty}
-
-append_none : {A : Type 0} (xs : List A) → xs ++ [] ≡ xs
-append_none [] = refl
-append_none (x ∷ xs) = ap (λ ys. x ∷ ys) (append_none xs)
+use Rattle.flat_machine.specs.Exchanges.{Exchange, exchanges_by, exchanges_from, is_empty, but_empty}
 
 pub but_empty_append : (xs ys : List Exchange) → but_empty (xs ++ ys) ≡ but_empty xs ++ but_empty ys
 but_empty_append [] ys = refl
@@ -43,7 +40,7 @@ module _ (code : SuperstepCode) (bound : ℕ) (judges : ℕ → Bool) where
       ap (λ xs. xs ++ exchanges_from code bound judges n (step code bound judges s)) (none_by s h)
       ∙ ap (exchanges_from code bound judges n) (step_stays s h) ∙ none_from n s h
 
-  sum_from : (m n k : ℕ) → m + n ≡ k → (s : State) →
+  pub sum_from : (m n k : ℕ) → m + n ≡ k → (s : State) →
       exchanges_from code bound judges k s ≡ exchanges_from code bound judges m s ++ exchanges_from code bound judges n (steps code bound judges m s)
   sum_from zero n k e s = ap (λ j. exchanges_from code bound judges j s) (let h : k ≡ n = omega (arith, e) in h)
   sum_from (suc m) n zero e s = absurd (omega (arith, e))
@@ -57,7 +54,7 @@ module _ (code : SuperstepCode) (bound : ℕ) (judges : ℕ → Bool) where
       sum_from m (n - m) n (omega (arith, l)) s
       ∙ ap (λ xs. exchanges_from code bound judges m s ++ xs)
       (none_from (n - m) (steps code bound judges m s) (past_is_not_on (steps code bound judges m s).way h))
-      ∙ append_none (exchanges_from code bound judges m s)
+      ∙ append-nil (exchanges_from code bound judges m s)
 
   -- a run that is over has made all of its exchanges
   pub all_made : (m n : ℕ) (s : State) → IsPast (steps code bound judges m s).way → IsPast (steps code bound judges n s).way →
