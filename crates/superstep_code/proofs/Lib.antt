@@ -16,3 +16,4 @@ pub mod KeyOrder
 pub mod Collected
 pub mod Refused
 pub mod MachineWords
+pub mod HeaderBack

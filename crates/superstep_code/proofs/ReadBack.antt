@@ -13,10 +13,11 @@ use Rattle.pram_values.proofs.Totals.{total_map}
 use Rattle.pram_syntax.specs.declared.rule.Rule.{Rule}
 use Rattle.pram_syntax.specs.declared.rule.Rule.TheVariants.{Erew, Crew, Common, Priority, Sum}
 use Rattle.address_map.specs.Lawful.{Shape}
+use Rattle.superstep_code.specs.declared.header.MessageHeader.{MessageHeader}
 use Rattle.superstep_code.specs.Words.{CellPut, CellAsk, Message, bit, word_of, low_word, high_word, value_words, put_words, ask_word, ask_words, values_words, words}
 use Rattle.superstep_code.specs.Sending.{join, entry_in, several, asked_in}
 use Rattle.superstep_code.specs.Run.{Purpose, Sends, Replies, Votes, Closes}
-use Rattle.superstep_code.specs.WordReading.{Header, header_of, word, is_set, read_value, put_length, read_put, read_ask, groups, put_in, puts_in, ask_in, asks_in, put_part, ask_part, read_message, entry_of_column, askers_of_column}
+use Rattle.superstep_code.specs.WordReading.{header_of, word, is_set, read_value, put_length, read_put, read_ask, groups, put_in, puts_in, ask_in, asks_in, put_part, ask_part, read_message, entry_of_column, askers_of_column}
 use Rattle.superstep_code.specs.Fitting.{FitsValue, FitsPut, FitsAsk, IsPutFor, IsAskFor, CanBeSent}
 use Rattle.superstep_code.specs.WordLaws.{EntriesOfWords, AskersOfWords}
 
@@ -182,10 +183,10 @@ module _ (rule : Rule) (m : Shape) (j : ℕ) where
 -- what came from all workers comes to what the words say
 pub entries_of_words : EntriesOfWords
 entries_of_words rule m j received c =
-    total_map None (join rule) (λ (x : Message). total None (join rule) (entry_in c) x.puts) (λ (r : Header × List ℕ). read_message rule m j Sends r.0 r.1) received
-    ∙ sym (total_map None (join rule) (entry_of_column rule m j c) (λ (r : Header × List ℕ). put_part rule r.0 r.1) received)
+    total_map None (join rule) (λ (x : Message). total None (join rule) (entry_in c) x.puts) (λ (r : MessageHeader × List ℕ). read_message rule m j Sends r.0 r.1) received
+    ∙ sym (total_map None (join rule) (entry_of_column rule m j c) (λ (r : MessageHeader × List ℕ). put_part rule r.0 r.1) received)
 
 pub askers_of_words : AskersOfWords
 askers_of_words rule m j received k c =
-    total_map None several (λ (x : Message). total None several (asked_in k c) x.asks) (λ (r : Header × List ℕ). read_message rule m j Sends r.0 r.1) received
-    ∙ sym (total_map None several (askers_of_column m j k c) (λ (r : Header × List ℕ). ask_part rule r.0 r.1) received)
+    total_map None several (λ (x : Message). total None several (asked_in k c) x.asks) (λ (r : MessageHeader × List ℕ). read_message rule m j Sends r.0 r.1) received
+    ∙ sym (total_map None several (askers_of_column m j k c) (λ (r : MessageHeader × List ℕ). ask_part rule r.0 r.1) received)

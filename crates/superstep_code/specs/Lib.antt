@@ -22,6 +22,7 @@ pub mod Machine
 pub mod Run
 pub mod Refusals
 pub mod WordReading
+pub mod HeaderWords
 pub mod Fitting
 pub mod WordLaws
 pub mod Trace

@@ -3,12 +3,13 @@ use Rattle.std.specs.Prelude.{◌≡◌, ℕ, List, map}
 use Rattle.pram_syntax.specs.declared.rule.Rule.{Rule}
 use Rattle.address_map.specs.Lawful.{Shape}
 use Rattle.superstep_code.specs.Setting.{Setting}
+use Rattle.superstep_code.specs.declared.header.MessageHeader.{MessageHeader}
 use Rattle.superstep_code.specs.Words.{Message, words}
 use Rattle.superstep_code.specs.Worker.{Worker}
 use Rattle.superstep_code.specs.Sending.{sent, entry_came, askers_came}
 use Rattle.superstep_code.specs.Answering.{replied, voted, closing}
 use Rattle.superstep_code.specs.Run.{Purpose, Sends, Replies, Votes, Closes}
-use Rattle.superstep_code.specs.WordReading.{Header, header_of, read_message, put_part, ask_part, entry_read, askers_read}
+use Rattle.superstep_code.specs.WordReading.{header_of, read_message, put_part, ask_part, entry_read, askers_read}
 use Rattle.superstep_code.specs.Fitting.{CanBeSent, FitsWorker}
 
 -- a message to a module is read back from its header and its words
@@ -16,7 +17,8 @@ abbrev pub IsReadBack : Rule → Shape → ℕ → Purpose → Message → Type 
 IsReadBack rule m j purpose x = read_message rule m j purpose (header_of x) (words rule x) ≡ x
 
 abbrev pub WordsReadBack : Type 0
-WordsReadBack = (rule : Rule) (m : Shape) (j : ℕ) (purpose : Purpose) (x : Message) → CanBeSent rule m j purpose x → IsReadBack rule m j purpose x
+WordsReadBack = (rule : Rule) (m : Shape) (j : ℕ) (purpose : Purpose) (x : Message) → CanBeSent rule m j purpose x →
+    IsReadBack rule m j purpose x
 
 -- so are those of a worker whose values fit
 abbrev pub SentIsReadBack : Type 0
@@ -33,13 +35,13 @@ ClosingIsReadBack = (t : Setting) (s : Worker) (j : ℕ) → IsReadBack t.code.r
 
 -- of messages that are read from any headers and words: what the writers of a cell come to, and how many ask for it, are what the
 -- words say
-abbrev pub messages_read : Rule → Shape → ℕ → List (Header × List ℕ) → List Message
-messages_read rule m j = map (λ (r : Header × List ℕ). read_message rule m j Sends r.0 r.1)
+abbrev pub messages_read : Rule → Shape → ℕ → List (MessageHeader × List ℕ) → List Message
+messages_read rule m j = map (λ (r : MessageHeader × List ℕ). read_message rule m j Sends r.0 r.1)
 
 abbrev pub EntriesOfWords : Type 0
-EntriesOfWords = (rule : Rule) (m : Shape) (j : ℕ) (received : List (Header × List ℕ)) (c : ℕ) →
-    entry_came rule (messages_read rule m j received) c ≡ entry_read rule m j (map (λ (r : Header × List ℕ). put_part rule r.0 r.1) received) c
+EntriesOfWords = (rule : Rule) (m : Shape) (j : ℕ) (received : List (MessageHeader × List ℕ)) (c : ℕ) →
+    entry_came rule (messages_read rule m j received) c ≡ entry_read rule m j (map (λ (r : MessageHeader × List ℕ). put_part rule r.0 r.1) received) c
 
 abbrev pub AskersOfWords : Type 0
-AskersOfWords = (rule : Rule) (m : Shape) (j : ℕ) (received : List (Header × List ℕ)) (k c : ℕ) →
-    askers_came (messages_read rule m j received) k c ≡ askers_read m j (map (λ (r : Header × List ℕ). ask_part rule r.0 r.1) received) k c
+AskersOfWords = (rule : Rule) (m : Shape) (j : ℕ) (received : List (MessageHeader × List ℕ)) (k c : ℕ) →
+    askers_came (messages_read rule m j received) k c ≡ askers_read m j (map (λ (r : MessageHeader × List ℕ). ask_part rule r.0 r.1) received) k c

@@ -9,20 +9,13 @@ use Rattle.pram_syntax.specs.declared.rule.Rule.{Rule}
 use Rattle.pram_syntax.specs.declared.rule.Rule.TheVariants.{Sum}
 use Rattle.write_rules.specs.declared.entry.Entry.{Entry}
 use Rattle.address_map.specs.Lawful.{Shape}
-use Rattle.superstep_code.specs.declared.key.Key.{Key}
-use Rattle.superstep_code.specs.declared.mark.HeaderMark.{HeaderMark}
+use Rattle.superstep_code.specs.declared.header.MessageHeader.{MessageHeader}
 use Rattle.superstep_code.specs.Words.{CellPut, CellAsk, Message}
 use Rattle.superstep_code.specs.Sending.{join, entry_in, several, asked_in}
 use Rattle.superstep_code.specs.Run.{Purpose, Sends, Replies}
 
--- what stands before the words, with the number of cells that are put to
-pub record Header : Type 0 where
-  pub key : Option Key
-  pub mark : HeaderMark
-  pub active : Bool
-  pub puts : ℕ
-
-abbrev pub header_of : Message → Header
+-- what stands before the words of a message
+abbrev pub header_of : Message → MessageHeader
 header_of m = record { key = m.key; mark = m.mark; active = m.active; puts = length m.puts }
 
 -- word k, or 0 behind the end
@@ -85,14 +78,14 @@ asks_in m j words = filter_map (ask_in m j) words
 -- ---- messages
 
 -- the words of the puts come first, as many as the header says
-abbrev pub put_part : Rule → Header → List ℕ → List ℕ
+abbrev pub put_part : Rule → MessageHeader → List ℕ → List ℕ
 put_part rule h words = take (h.puts * put_length rule) words
 
-abbrev pub ask_part : Rule → Header → List ℕ → List ℕ
+abbrev pub ask_part : Rule → MessageHeader → List ℕ → List ℕ
 ask_part rule h words = drop (h.puts * put_length rule) words
 
 -- the message to module j
-abbrev pub read_message : Rule → Shape → ℕ → Purpose → Header → List ℕ → Message
+abbrev pub read_message : Rule → Shape → ℕ → Purpose → MessageHeader → List ℕ → Message
 read_message rule m j Sends h words = record {
   key = h.key;
   mark = h.mark;

@@ -23,8 +23,8 @@ pub struct Key {
     pub line: u32,
 }
 
-// The order of kinds.
-fn rank(kind: Kind) -> u8
+/// The order of kinds.
+pub(crate) fn rank(kind: Kind) -> u8
     ensures { result ≡ spec.rank kind }
 {
     match kind {

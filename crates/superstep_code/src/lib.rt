@@ -7,6 +7,8 @@ pub mod collected_law;
 mod cut;
 mod entry_line;
 pub mod error;
+pub mod header;
+pub mod header_law;
 pub mod instr;
 mod instr_line;
 mod instrs_read;
