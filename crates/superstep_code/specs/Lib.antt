@@ -29,3 +29,4 @@ pub mod Trace
 pub mod Examples
 pub mod FaultExamples
 pub mod WorkedExamples
+pub mod SmallExamples

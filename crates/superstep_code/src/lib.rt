@@ -28,3 +28,4 @@ mod rule_line;
 mod spell;
 mod template;
 pub mod words_law;
+pub mod worked_law;

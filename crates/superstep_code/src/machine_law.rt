@@ -1,16 +1,15 @@
 //! What the machine that superstep code runs on gives for worked code, by its definition alone.
 
-ghost use Rattle.std.specs.Prelude.{◌≡◌, [], ◌∷◌, Some, None, pos};
+ghost use Rattle.std.specs.Prelude.{◌≡◌, [], ◌∷◌, map, Some, None, pos};
 ghost use Rattle.pram_syntax.specs.declared.rule.Rule.TheVariants.{Erew};
 ghost use Rattle.pram_values.specs.declared.kind.Kind.TheVariants.{DivideByZero, OutOfRange, TooWide, ReadConflict, WriteConflict};
 ghost use Rattle.pram_values.specs.declared.place.Place.TheVariants.{All, Processor, Cell};
 ghost use Rattle.write_rules.specs.Verdict.{Ended, Faulted, GoesOn};
 ghost use Rattle.superstep_code.specs.declared.mark.HeaderMark.TheVariants.{OutOfMemory, OutOfReserve};
-ghost use Rattle.superstep_code.specs.Run.{IsBspOutcome, Sends, Replies, Closes};
-ghost use Rattle.superstep_code.specs.Trace.{AreBspExchanges, relation_of};
+ghost use Rattle.superstep_code.specs.Run.{IsBspOutcome, Sends, Replies, Closes, setting};
+ghost use Rattle.superstep_code.specs.Trace.{AreBspExchanges, exchanges_by, relation_of};
 ghost use Rattle.superstep_code.specs.Examples.{broadcast, too_wide, refused_run, in_turn};
 ghost use Rattle.superstep_code.specs.FaultExamples.{late_conflict, two_levels, zero_at_once, out_of_range, late_output};
-ghost use Rattle.superstep_code.specs.WorkedExamples.{three_turns, crossed_reads, added_up, counting_down, uniform_puts, three_parts};
 
 /// Four processors on two workers read one cell and write it to a cell each: how the run comes out,
 /// and what words its exchanges have. With exclusive reads it faults.
@@ -25,7 +24,8 @@ pub fn broadcast_on_two_workers()
         ∷ record { purpose = Sends; sent = 6 ∷ 6 ∷ []; received = 6 ∷ 6 ∷ [] }
         ∷ record { purpose = Closes; sent = 0 ∷ 0 ∷ []; received = 0 ∷ 0 ∷ [] }
         ∷ []) }
-    // The most words that a worker sends or receives in an exchange.
+    // The most words that a worker sends or receives in an exchange: of this run's, and where both differ.
+    ensures relations { map relation_of (exchanges_by (setting broadcast (in_turn 8 2) 2 20) 9 (pos 9 ∷ pos 8 ∷ [])) ≡ 2 ∷ 2 ∷ 6 ∷ 0 ∷ [] }
     ensures most_received { relation_of (record { purpose = Sends; sent = 1 ∷ 1 ∷ []; received = 2 ∷ 0 ∷ [] }) ≡ 2 }
     ensures most_sent { relation_of (record { purpose = Replies; sent = 2 ∷ 5 ∷ 0 ∷ []; received = 3 ∷ 3 ∷ 1 ∷ [] }) ≡ 5 }
     ensures exclusive_alone { IsBspOutcome (record broadcast { rule = Erew }) (in_turn 8 1) (pos 9 ∷ pos 8 ∷ []) 2
@@ -65,37 +65,4 @@ pub fn faults_that_are_told()
         (Faulted (record { kind = DivideByZero; line = 2; place = All }) (pos 4 ∷ [])) }
     ensures too_wide { IsBspOutcome too_wide (in_turn 8 2) [] 9
         (Faulted (record { kind = TooWide; line = 7; place = All }) []) }
-{}
-
-/// What ranges, reads, sums and votes give.
-pub fn worked_codes()
-    // The registers of a new range are 0.
-    ensures fresh { IsBspOutcome three_turns (in_turn 2 2) [] 9 (Ended [] (pos 3 ∷ pos 6 ∷ [])) }
-    // Two reads of one cell in one exchange are no conflict.
-    ensures apart { IsBspOutcome crossed_reads (in_turn 4 2) (pos 1 ∷ pos 2 ∷ []) 9
-        (Ended [] (pos 1 ∷ pos 2 ∷ pos 12 ∷ pos 21 ∷ [])) }
-    ensures apart_alone { IsBspOutcome crossed_reads (in_turn 4 1) (pos 1 ∷ pos 2 ∷ []) 9
-        (Ended [] (pos 1 ∷ pos 2 ∷ pos 12 ∷ pos 21 ∷ [])) }
-    // A put of a sum has four words.
-    ensures added { AreBspExchanges added_up (in_turn 1 2) (pos 5 ∷ []) 2 (Ended [] (pos 10 ∷ []))
-        (record { purpose = Sends; sent = 4 ∷ 4 ∷ []; received = 8 ∷ 0 ∷ [] }
-        ∷ record { purpose = Closes; sent = 0 ∷ 0 ∷ []; received = 0 ∷ 0 ∷ [] }
-        ∷ []) }
-    // A loop goes on as long as a processor of any worker is active.
-    ensures voted { IsBspOutcome counting_down (in_turn 4 2) [] 12 (Ended [] (pos 0 ∷ pos 2 ∷ pos 5 ∷ pos 9 ∷ [])) }
-    ensures voted_by_three { IsBspOutcome counting_down (in_turn 4 3) [] 12 (Ended [] (pos 0 ∷ pos 2 ∷ pos 5 ∷ pos 9 ∷ [])) }
-    ensures bounded { IsBspOutcome counting_down (in_turn 4 2) [] 11 (GoesOn []) }
-    // A uniform write is made once, whatever the number of workers.
-    ensures once { AreBspExchanges uniform_puts (in_turn 1 2) (pos 1 ∷ []) 9 (Ended (pos 7 ∷ []) (pos 7 ∷ []))
-        (record { purpose = Sends; sent = 4 ∷ 0 ∷ []; received = 4 ∷ 0 ∷ [] }
-        ∷ record { purpose = Sends; sent = 1 ∷ 1 ∷ []; received = 2 ∷ 0 ∷ [] }
-        ∷ record { purpose = Replies; sent = 2 ∷ 0 ∷ []; received = 1 ∷ 1 ∷ [] }
-        ∷ record { purpose = Sends; sent = 4 ∷ 0 ∷ []; received = 4 ∷ 0 ∷ [] }
-        ∷ record { purpose = Closes; sent = 0 ∷ 0 ∷ []; received = 0 ∷ 0 ∷ [] }
-        ∷ []) }
-    // All workers ask for the cell of a uniform read, and that is no conflict.
-    ensures uniform_read { IsBspOutcome (record uniform_puts { rule = Erew }) (in_turn 1 2) [] 9 (Ended (pos 7 ∷ []) (pos 7 ∷ [])) }
-    // What is turned round are the processors that were active before the mask, and the others do nothing.
-    ensures turned { IsBspOutcome three_parts (in_turn 8 2) [] 9
-        (Ended [] (pos 1 ∷ pos 1 ∷ pos 3 ∷ pos 4 ∷ pos 0 ∷ pos 0 ∷ pos 4 ∷ pos 4 ∷ [])) }
 {}

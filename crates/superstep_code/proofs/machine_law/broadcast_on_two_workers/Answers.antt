@@ -6,6 +6,7 @@ returns c = record {
   ended = record { enough = 20; exchanges = 9; ends = refl };
   bounded = record { enough = 20; exchanges = 9; ends = refl };
   exchanges = record { enough = 20; most = 9; ends = refl; told = refl };
+  relations = refl;
   most_received = refl;
   most_sent = refl;
   exclusive_alone = record { enough = 20; exchanges = 9; ends = refl };
