@@ -8,6 +8,8 @@ mod rows_check;
 #[cfg(test)]
 mod rows_command;
 #[cfg(test)]
+mod rows_order;
+#[cfg(test)]
 mod rows_parallel;
 #[cfg(test)]
 mod rows_uniform;

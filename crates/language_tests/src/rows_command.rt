@@ -1,10 +1,10 @@
 // What the program prints for its command line, its files and its writers.
 
-use pramc_command::command::command;
 use crate::rows::{Shelf, call, prints};
 use pram_syntax::buffer::Buffer;
 use pram_syntax::writer::{Out, OutFailed};
 use pramc::status::Status;
+use pramc_command::command::command;
 use std::test::Fail;
 
 const SUM: &[u8] =

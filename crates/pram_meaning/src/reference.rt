@@ -52,6 +52,7 @@ pub fn reference_run(
     bound: u32,
 ) -> Result<Outcome, RunRefusal>
     ensures outcome { IfOk result (λ o. IsOutcome program.now input.now bound (verdict_of o)) }
+    ensures fits { IfOk result (λ o. length input.now ≤ total_size program.now.layout) }
     ensures too_long { (result ≡ Err RunRefusal.InputTooLong) ↔ (total_size program.now.layout < length input.now) }
 {
     if input.len() > program.layout().cells() as usize {

@@ -1,8 +1,11 @@
 -- What a run of a text is, and why a text is not run.
-use Rattle.std.specs.Prelude.{◌≡◌, ◌<◌, ℕ, List, length, ℤ, Some, Result, Ok, Err}
+use Rattle.std.specs.Prelude.{◌≡◌, ◌<◌, ◌≤◌, ℕ, List, length, ℤ, Some, Result, Ok, Err}
+use Rattle.pram_syntax.specs.declared.error.TextFault.{TextFault}
+use Rattle.pram_syntax.specs.declared.error.TextFault.TheVariants.{OutOfMemory}
+use Rattle.pram_syntax.specs.Input.{IsInputFault}
 use Rattle.pram_syntax.specs.Layout.{SharedEntry, total_size}
 use Rattle.pram_syntax.specs.Program.{ProgramTree}
-use Rattle.pram_syntax.specs.Text.{IsTextOf, IsFaultOf}
+use Rattle.pram_syntax.specs.Text.{IsTextOf, IsFaultOf, IsPlain}
 use Rattle.pram_check.specs.declared.fault.Breach.{Breach}
 use Rattle.pram_check.specs.Breaches.{IsAccepted, breaches, first}
 use Rattle.pram_check.specs.Checked.{Checked, IsResolved}
@@ -22,6 +25,8 @@ pub record IsRunOf (text : List ℕ) (input : List ℤ) (n : ℕ) (layout : List
   pub program : Checked
   pub is_program : IsProgramOf text program
   pub declared : layout ≡ program.layout
+  -- the input has no more values than there are cells
+  pub fits : length input ≤ total_size layout
   pub outcome : IsOutcome program input n verdict
 
 -- the text is that of a tree, and this is the first thing that is wrong with it
@@ -36,18 +41,34 @@ pub record HasTooFewCells (text : List ℕ) (input : List ℤ) : Type 0 where
   pub is_program : IsProgramOf text program
   pub too_long : total_size program.layout < length input
 
--- each refusal of a text says what is wrong with it
+-- What a text, or an input, is refused for. Want of memory has one spelling, and is no refusal of a text.
+abbrev pub refusal_of : TextFault → Refusal
+refusal_of OutOfMemory = refusal.OutOfMemory
+refusal_of fault = refusal.Text fault
+
+-- such a fault of the text, which is no want of memory
+abbrev pub IsTextRefusal : List ℕ → TextFault → Type 0
+IsTextRefusal text OutOfMemory = ⊥
+IsTextRefusal text fault = IsFaultOf {X = ProgramTree} text (Err fault)
+
+-- such a fault of an input, which is no want of memory
+abbrev pub IsInputRefusal : List ℕ → TextFault → Type 0
+IsInputRefusal text OutOfMemory = ⊥
+IsInputRefusal text fault = IsInputFault {X = List ℤ} text (Err fault)
+
+-- Each refusal of a text says what is wrong with it. Memory is asked for only where the text is neither too long nor has a byte of 128 or
+-- more.
 abbrev pub IsNoProgram : {X : Type 0} → List ℕ → Result X Refusal → Type 0
 IsNoProgram text (Ok x) = Unit {0}
-IsNoProgram text (Err (refusal.Text fault)) = IsFaultOf {X = ProgramTree} text (Err fault)
+IsNoProgram text (Err (refusal.Text fault)) = IsTextRefusal text fault
 IsNoProgram text (Err (refusal.Program breach)) = HasBreach text breach
 IsNoProgram text (Err refusal.InputTooLong) = ⊥
-IsNoProgram text (Err refusal.OutOfMemory) = Unit {0}
+IsNoProgram text (Err refusal.OutOfMemory) = IsPlain text
 
 -- each refusal of a run says what is wrong with the text or with the input
 abbrev pub IsRefusedRightly : {X : Type 0} → List ℕ → List ℤ → Result X Refusal → Type 0
 IsRefusedRightly text input (Err refusal.InputTooLong) = HasTooFewCells text input
 IsRefusedRightly text input (Ok x) = Unit {0}
-IsRefusedRightly text input (Err (refusal.Text fault)) = IsFaultOf {X = ProgramTree} text (Err fault)
+IsRefusedRightly text input (Err (refusal.Text fault)) = IsTextRefusal text fault
 IsRefusedRightly text input (Err (refusal.Program breach)) = HasBreach text breach
-IsRefusedRightly text input (Err refusal.OutOfMemory) = Unit {0}
+IsRefusedRightly text input (Err refusal.OutOfMemory) = IsPlain text

@@ -1,8 +1,8 @@
 //! From a text to the outcome of its program.
 
-ghost use Rattle.std.specs.Prelude.{◌≡◌, IfOk};
+ghost use Rattle.std.specs.Prelude.{◌≡◌, ℕ, List, IfOk};
 ghost use Rattle.write_rules.specs.Verdict.{verdict_of};
-ghost use Rattle.pramc.specs.Report.{IsNoProgram, IsProgramOf, IsRefusedRightly, IsRunOf};
+ghost use Rattle.pramc.specs.Report.{IsNoProgram, IsProgramOf, IsRefusedRightly, IsRunOf, refusal_of};
 
 use pram_check::fault::{Breach, CheckFault};
 use pram_check::program::{Program, check};
@@ -26,6 +26,18 @@ pub enum Refusal {
     OutOfMemory,
 }
 
+impl Refusal {
+    /// What a text, or an input, is refused for. Want of memory has one spelling, whoever asked.
+    pub fn of_text(fault: TextFault) -> Refusal
+        ensures { result ≡ refusal_of fault }
+    {
+        match fault {
+            TextFault::OutOfMemory => Refusal::OutOfMemory,
+            _ => Refusal::Text(fault),
+        }
+    }
+}
+
 /// How a run came out, and the shared declarations by which its cells are named.
 #[derive(Drop)]
 pub struct Report {
@@ -41,13 +53,33 @@ pub fn compile(alloc: Global, text: &[u8]) -> Result<Program, Refusal>
 {
     let tree = match parse(alloc, text) {
         Ok(tree) => tree,
-        Err(TextFault::OutOfMemory) => return Err(Refusal::OutOfMemory),
-        Err(fault) => return Err(Refusal::Text(fault)),
+        Err(fault) => return Err(Refusal::of_text(fault)),
     };
     match check(alloc, tree) {
         Ok(program) => Ok(program),
         Err((CheckFault::Refused(breach), _tree)) => Err(Refusal::Program(breach)),
         Err((CheckFault::OutOfMemory, _tree)) => Err(Refusal::OutOfMemory),
+    }
+}
+
+/// Runs a program on an input, for at most `bound` statements. The first cells get the values of
+/// the input. It is refused for E11, and for E16 where memory was refused.
+pub fn run_program(
+    alloc: Global,
+    program: Program,
+    input: &[i64],
+    bound: u32,
+) -> Result<Report, Refusal>
+    ensures outcome { IfOk result (λ r. (text : List ℕ) → IsProgramOf text program → IsRunOf text input.now bound r.layout (verdict_of r.outcome)) }
+    ensures refused { (text : List ℕ) → IsProgramOf text program → IsRefusedRightly text input.now result }
+{
+    match reference_run(alloc, &program, input, bound) {
+        Ok(outcome) => {
+            let layout = program.into_layout();
+            Ok(Report { layout, outcome })
+        }
+        Err(RunRefusal::InputTooLong) => Err(Refusal::InputTooLong),
+        Err(RunRefusal::OutOfMemory) => Err(Refusal::OutOfMemory),
     }
 }
 
@@ -57,16 +89,8 @@ pub fn run_text(alloc: Global, text: &[u8], input: &[i64], bound: u32) -> Result
     ensures outcome { IfOk result (λ r. IsRunOf text.now input.now bound r.layout (verdict_of r.outcome)) }
     ensures refused { IsRefusedRightly text.now input.now result }
 {
-    let program = match compile(alloc, text) {
-        Ok(program) => program,
-        Err(refusal) => return Err(refusal),
-    };
-    match reference_run(alloc, &program, input, bound) {
-        Ok(outcome) => {
-            let layout = program.into_layout();
-            Ok(Report { layout, outcome })
-        }
-        Err(RunRefusal::InputTooLong) => Err(Refusal::InputTooLong),
-        Err(RunRefusal::OutOfMemory) => Err(Refusal::OutOfMemory),
+    match compile(alloc, text) {
+        Ok(program) => run_program(alloc, program, input, bound),
+        Err(refusal) => Err(refusal),
     }
 }

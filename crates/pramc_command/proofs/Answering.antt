@@ -1,8 +1,11 @@
 -- What is left on standard output, put together from what was written and what the last flush said.
-use Rattle.std.proofs.Common.{◌≡◌, ◌∙◌, ℕ, List, [], ap, sym, subst}
+use Rattle.std.proofs.Common.{◌≡◌, ◌∙◌, ℕ, ℤ, List, [], ap, sym, subst}
 use Rattle.std.proofs.lemmas.List.{append-nil}
 use Rattle.std.specs.Prelude.{Result, Ok, Err, IfOk, IfErr}
 use Rattle.pram_syntax.specs.Out.{OutState, StopsIn, with_bytes, with_failure}
+use Rattle.pram_syntax.specs.Layout.{SharedEntry}
+use Rattle.write_rules.specs.Verdict.{Verdict}
+use Rattle.pramc.specs.Report.{IsRunOf}
 use Rattle.pramc.specs.declared.status.Status.{Status}
 use Rattle.pramc.specs.declared.stop.Stop.{Stop}
 use Rattle.pramc.specs.declared.stop.Stop.TheVariants.{WriteFailed}
@@ -24,3 +27,8 @@ told status old mid new text (Ok s) tells written ok failed =
     subst (λ s. IsTold s old new) (sym ok.0) (record { text = text; tells = tells; written = ok.1 ∙ written })
 told status old mid new text (Err stop) tells written ok failed =
     subst (λ w. IsStopped w old new) (sym failed.0) (behind status old mid new text tells written failed.1)
+
+-- a run with the shared declarations that are lent
+pub with_layout : (text : List ℕ) (input : List ℤ) (n : ℕ) (layout lent : List SharedEntry) (verdict : Verdict) → lent ≡ layout
+    → IsRunOf text input n layout verdict → IsRunOf text input n lent verdict
+with_layout text input n layout lent verdict same run = subst (λ (l : List SharedEntry). IsRunOf text input n l verdict) (sym same) run

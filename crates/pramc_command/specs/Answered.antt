@@ -6,10 +6,12 @@ use Rattle.pram_syntax.specs.Program.{rule_word}
 use Rattle.pram_check.specs.Checked.{Checked}
 use Rattle.write_rules.specs.Verdict.{verdict_of}
 use Rattle.write_rules.specs.declared.outcome.Outcome.{Outcome}
-use Rattle.pramc.specs.Report.{IsProgramOf, IsRunOf}
+use Rattle.pramc.specs.Report.{HasBreach, HasTooFewCells, IsInputRefusal, IsProgramOf, IsRunOf, IsTextRefusal}
 use Rattle.pramc.specs.Shown.{line, shown}
 use Rattle.pramc.specs.Status.{status_of}
 use Rattle.pramc.specs.StoppedFields.{stop_text}
+use Rattle.pramc.specs.declared.run_text.Refusal.{Refusal}
+use Rattle.pramc.specs.declared.run_text.Refusal.TheVariants as refusal
 use Rattle.pramc.specs.declared.status.Status.{Status}
 use Rattle.pramc.specs.declared.status.Status.TheVariants.{Done, Refused}
 use Rattle.pramc.specs.declared.stop.Stop.{Stop}
@@ -39,9 +41,17 @@ pub record IsCutOff (old new : OutState) : Type 0 where
   pub tells : Tells status text
   pub stops : StopsIn old new text
 
+-- A refusal is true: there is a text, or an input, or both, which has what it tells. Of want of memory nothing is said.
+abbrev pub IsTrueOf : Refusal → Type 0
+IsTrueOf (refusal.Text fault) = (text : List ℕ) × (IsTextRefusal text fault ⊎ IsInputRefusal text fault)
+IsTrueOf (refusal.Program breach) = (text : List ℕ) × HasBreach text breach
+IsTrueOf refusal.InputTooLong = (text : List ℕ) × (input : List ℤ) × HasTooFewCells text input
+IsTrueOf refusal.OutOfMemory = Unit {0}
+
 -- before the program stops without an outcome nothing is written, but where the writer failed
 abbrev pub IsStopped : Stop → OutState → OutState → Type 0
 IsStopped stop.WriteFailed old new = IsCutOff old new
+IsStopped (stop.Refused r) old new = IsTrueOf r × (new ≡ old)
 IsStopped _ old new = new ≡ old
 
 -- standard output, and how the call ended
@@ -60,7 +70,8 @@ pub data Leaves (out out_new err err_new : OutState) : Status → Type 0 where
   Stopped : (why : Stop) → IsStopped why out out_new → IsReported err err_new (stop_text why)
       → Leaves out out_new err err_new Refused
 
--- the reason has nothing to do with standard output
+-- the reason has nothing to do with standard output, and is true
 abbrev pub IsNoFailure : Stop → Type 0
 IsNoFailure stop.WriteFailed = ⊥
+IsNoFailure (stop.Refused r) = IsTrueOf r
 IsNoFailure _ = Unit {0}

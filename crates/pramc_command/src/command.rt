@@ -19,7 +19,7 @@ use pram_syntax::layout::Layout;
 use pram_syntax::parse::LONGEST;
 use pram_syntax::rule::Rule;
 use pram_syntax::writer::{Out, OutFailed, WriteFault};
-use pramc::run_text::{Refusal, Report, compile, run_text};
+use pramc::run_text::{Refusal, Report, compile, run_program};
 use pramc::show::show;
 use pramc::sources::{SourceFault, Sources};
 use pramc::status::Status;
@@ -74,10 +74,7 @@ fn perform<'a, S: Sources, O: Out>(
 {
     let request = read_words(alloc, words)?;
     let text = load(alloc, sources, request.file)?;
-    let program = match compile(alloc, &text) {
-        Ok(program) => program,
-        Err(refusal) => return Err(Stop::Refused(refusal)),
-    };
+    let program = program_of(alloc, &text)?;
     match request.verb {
         Verb::Check => write_accepted(out, &program),
         Verb::Meaning => {
@@ -87,11 +84,20 @@ fn perform<'a, S: Sources, O: Out>(
         }
         Verb::Run => {
             let input = load_input(alloc, sources, request.input)?;
-            match run_text(alloc, &text, &input, request.bound) {
-                Ok(Report { layout, outcome }) => write_outcome(out, &layout, &outcome),
-                Err(refusal) => Err(Stop::Refused(refusal)),
-            }
+            let Report { layout, outcome } = run(alloc, program, &input, request.bound)?;
+            write_outcome(out, &layout, &outcome)
         }
+    }
+}
+
+// The program of a text.
+fn program_of<'a>(alloc: Global, text: &[u8]) -> Result<Program, Stop<'a>>
+    ensures program { IfOk result (IsProgramOf text.now) }
+    ensures refused { IfErr result IsNoFailure }
+{
+    match compile(alloc, text) {
+        Ok(program) => Ok(program),
+        Err(refusal) => Err(Stop::Refused(refusal)),
     }
 }
 
@@ -121,23 +127,35 @@ fn load_input<'a, S: Sources>(
     let text = load(alloc, sources, name)?;
     match read_input(alloc, &text) {
         Ok(values) => Ok(values),
-        Err(fault) => Err(Stop::Refused(Refusal::Text(fault))),
+        Err(fault) => Err(Stop::Refused(Refusal::of_text(fault))),
     }
 }
 
+// The outcome by the definition.
 fn mean<'a>(
     alloc: Global,
     program: &Program,
     input: &[i64],
     bound: u32,
 ) -> Result<Outcome, Stop<'a>>
-    ensures outcome { IfOk result (λ o. IsOutcome program.now input.now bound (verdict_of o)) }
-    ensures refused { IfErr result IsNoFailure }
+    ensures outcome { IfOk result (λ o. (text : List ℕ) → IsProgramOf text program.now → IsRunOf text input.now bound program.now.layout (verdict_of o)) }
+    ensures refused { (text : List ℕ) → IsProgramOf text program.now → IfErr result IsNoFailure }
 {
     match reference_run(alloc, program, input, bound) {
         Ok(outcome) => Ok(outcome),
         Err(RunRefusal::InputTooLong) => Err(Stop::Refused(Refusal::InputTooLong)),
         Err(RunRefusal::OutOfMemory) => Err(Stop::Refused(Refusal::OutOfMemory)),
+    }
+}
+
+// How a run of the program came out.
+fn run<'a>(alloc: Global, program: Program, input: &[i64], bound: u32) -> Result<Report, Stop<'a>>
+    ensures outcome { IfOk result (λ r. (text : List ℕ) → IsProgramOf text program → IsRunOf text input.now bound r.layout (verdict_of r.outcome)) }
+    ensures refused { (text : List ℕ) → IsProgramOf text program → IfErr result IsNoFailure }
+{
+    match run_program(alloc, program, input, bound) {
+        Ok(report) => Ok(report),
+        Err(refusal) => Err(Stop::Refused(refusal)),
     }
 }
 
