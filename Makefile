@@ -21,8 +21,9 @@ examples: bin/pramc
 check:
 	rt all check
 
-# The merge gate: every proof from nothing, every must-fail edit, every test and program.
+# The merge gate: the scripts of gate/, then every proof from nothing, every must-fail edit, every test and program.
 test:
+	python3 gate/crates_diagram.py
 	rt ci
 
 # Prints figures, and asserts nothing.

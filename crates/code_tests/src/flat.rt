@@ -1,6 +1,6 @@
 //! Codes that were worked out by hand, run on one memory.
 
-use flat_machine::flat_run::flat_run;
+use flat_run::flat_run;
 use pram_values::kind::Kind;
 use pram_values::place::Place;
 use std::alloc::Global;

@@ -24,12 +24,3 @@ pub mod Late
 pub mod AnyTime
 pub mod Laws
 pub mod Outcomes
-pub mod ListLemmas
-pub mod RegisterLemmas
-pub mod SumLemmas
-pub mod PartLemmas
-pub mod ConflictLemmas
-pub mod CellLemmas
-pub mod OutcomeLemmas
-pub mod SameLemmas
-pub mod AlikeLemmas

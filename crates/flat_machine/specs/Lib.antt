@@ -6,5 +6,3 @@ pub mod Flatness
 pub mod OneList
 pub mod OneControl
 pub mod Verdicts
-pub mod Views
-pub mod RunViews

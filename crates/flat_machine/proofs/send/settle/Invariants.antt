@@ -1,9 +1,0 @@
-use Rattle.std.proofs.Common.{◌-◌, length}
-use Rattle.flat_machine.proofs.CellLemmas.{AreSettled}
-use Rattle.flat_machine.proofs.send.settle.Given as goal
-
-abbrev pub invariant-cells : goal.invariant-cells
-invariant-cells l = AreSettled l.rule l.held.items l.fn.memory.items l.memory.items l.c
-
-abbrev pub decreases-cells : goal.decreases-cells
-decreases-cells l = length l.held.items - l.c

@@ -1,6 +1,0 @@
-use Rattle.std.proofs.Common.{◌≡◌, ◌++◌, drop}
-use Rattle.superstep_code.specs.Run.{items_below}
-use Rattle.flat_machine.proofs.verdict.items_below.Given as goal
-
-abbrev pub invariant-loop-item : goal.invariant-loop-item
-invariant-loop-item l = l.found.items ++ items_below l.count (drop l.item-index l.item-items) ≡ items_below l.count l.item-items

@@ -1,0 +1,19 @@
+use Rattle.std.proofs.Common.{◌-◌, ◌∙◌, None, length, ap, arith}
+use Rattle.superstep_code.specs.Parts.{PrivatePart}
+use Rattle.superstep_code.specs.Sending.{several, asks_for, cell_at}
+use Rattle.flat_run.specs.Views.{own_of}
+use Rattle.flat_run.proofs.PartLemmas.{own_is}
+use Rattle.flat_run.proofs.SumLemmas.{sum_goes}
+use Rattle.flat_run.proofs.conflict.askers.Goals as goal
+
+pub processors-preserved : goal.processors-preserved
+processors-preserved c =
+    let h = c.processors.invariant.bound in
+    let v = c.processors.v - 1 in
+    sum_goes None several (λ j. asks_for c.args.cell (cell_at c.args.k (own_of c.args.processors.now.items j).asks))
+    (length c.args.processors.now.items) c.processors.v v c.processors.came _
+    c.processors.invariant (omega (arith, c.processors-test.true))
+    (c.several-came.ensures
+    ∙ ap (λ a. several a c.processors.came)
+    (c.asks.ensures ∙ ap (λ (x : PrivatePart). asks_for c.args.cell (cell_at c.args.k x.asks))
+    (own_is c.args.processors.now.items v c.index.result.now (omega (arith, h, c.processors-test.true)) c.index.ensures)))

@@ -1,0 +1,13 @@
+use Rattle.std.proofs.Common.{None}
+use Rattle.superstep_code.specs.Keys.{least}
+use Rattle.superstep_code.specs.Steps.{own_key}
+use Rattle.superstep_steps.specs.Views.{uniform_of}
+use Rattle.flat_run.specs.Views.{own_of}
+use Rattle.flat_run.proofs.SumLemmas.{IsSumFrom}
+use Rattle.flat_run.proofs.instruct.own_keys.Given as goal
+
+abbrev pub invariant-processors : goal.invariant-processors
+invariant-processors l = IsSumFrom None least (λ v. own_key l.code l.instr (uniform_of l.u) v (own_of l.processors.items v)) l.u.width l.v l.noted
+
+abbrev pub decreases-processors : goal.decreases-processors
+decreases-processors l = l.v

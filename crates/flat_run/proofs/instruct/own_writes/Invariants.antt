@@ -1,0 +1,19 @@
+use Rattle.std.proofs.Common.{◌≡◌, ℕ, ◌<◌, ◌≤◌, length, None}
+use Rattle.superstep_code.specs.Sending.{join}
+use Rattle.superstep_code.specs.Steps.{index_of, own_write}
+use Rattle.flat_machine.specs.Flat.{single_to}
+use Rattle.superstep_steps.specs.Views.{uniform_of}
+use Rattle.flat_run.specs.Views.{own_of, held_of}
+use Rattle.flat_run.proofs.SumLemmas.{IsSumFrom}
+use Rattle.flat_run.proofs.instruct.own_writes.Given as goal
+
+abbrev pub invariant-processors : goal.invariant-processors
+invariant-processors l =
+    (length l.held.items ≡ length l.fn.held.items)
+    × ((c : ℕ) → c < length l.fn.held.items → IsSumFrom None (join l.code.rule)
+    (λ v. single_to l.code.rule c (index_of (uniform_of l.u) v) (own_write l.code l.instr (own_of l.processors.items v))) l.u.width l.v
+    (held_of l.held.items c))
+    × (l.v ≤ l.u.width)
+
+abbrev pub decreases-processors : goal.decreases-processors
+decreases-processors l = l.v

@@ -1,0 +1,15 @@
+use Rattle.std.proofs.Common.{◌≡◌, ◌-◌, length, map}
+use Rattle.superstep_code.specs.Parts.{Read}
+use Rattle.superstep_code.specs.Answering.{answers}
+use Rattle.superstep_steps.specs.Views.{registers_of, read_is}
+use Rattle.flat_run.proofs.CellLemmas.{uniform_left}
+use Rattle.flat_run.proofs.reply.answer_uniform.Given as goal
+
+abbrev pub invariant-reads : goal.invariant-reads
+invariant-reads l =
+    uniform_left (λ k c. registers_of l.memory.items c) l.awaited.items l.k (registers_of l.registers.items)
+    ≡ answers (λ k c. registers_of l.memory.items c) 0 (map (λ (x : Read). (x.destination, x.cell)) (map read_is l.awaited.items))
+    (registers_of l.fn.registers.items)
+
+abbrev pub decreases-reads : goal.decreases-reads
+decreases-reads l = length l.awaited.items - l.k

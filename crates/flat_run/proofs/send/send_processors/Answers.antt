@@ -1,0 +1,16 @@
+use Rattle.std.proofs.Common.{arith}
+use Rattle.superstep_code.specs.Sending.{own_sent}
+use Rattle.flat_run.proofs.PartLemmas.{each_starts, each_goes}
+use Rattle.flat_run.proofs.send.send_processors.Goals as goal
+
+pub processors-init : goal.processors-init
+processors-init c = each_starts (λ v. own_sent) c.args.processors.now.items
+
+pub processors-preserved : goal.processors-preserved
+processors-preserved c =
+    each_goes (λ v. own_sent) c.args.processors.now.items c.processors.processors.items c.processors.v c.index_mut.result.now c.send_own.new.x
+    c.processors.invariant (omega (arith, c.processors-test.true, c.len.ensures)) c.index_mut.ensures.value c.send_own.ensures
+
+pub returns-clause-each : goal.returns-clause-each
+returns-clause-each c = λ v l. let h = c.processors.invariant.count in c.processors.invariant.done v
+    (omega (arith, l, h, c.processors-test.false, c.len.ensures))

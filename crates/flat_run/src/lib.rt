@@ -1,0 +1,17 @@
+//! The flat machine as a plain program: superstep code run on one memory.
+#![tactic(auto)]
+
+mod conflict;
+mod instruct;
+mod machine;
+mod processor;
+mod processor_fault;
+mod program;
+mod reply;
+mod run;
+mod send;
+mod step;
+mod verdict;
+mod vote;
+
+pub use program::flat_run;

@@ -1,0 +1,118 @@
+//! A reply: each read gets the value of its cell.
+
+ghost use Rattle.std.specs.Prelude.{◌≡◌, ◌<◌, ℕ, OnOk, length, map};
+ghost use Rattle.std.specs.List.{zip};
+ghost use Rattle.superstep_code.specs.Answering as spec;
+ghost use Rattle.superstep_code.specs.Parts.{Read as SpecRead};
+ghost use Rattle.flat_machine.specs.Flat as flat;
+ghost use Rattle.superstep_steps.specs.Views.{registers_of, read_is, uniform_of};
+ghost use Rattle.flat_run.specs.Views.{part_of, own_of, flat_of, IsSized, AreSame};
+
+use crate::machine::Machine;
+use crate::processor::ProcessorState;
+use std::alloc::AllocError;
+use superstep_code::code::Code;
+use superstep_steps::{Read, UniformState, set_number, value_at};
+
+// A register after its value came; without a cell it keeps what it holds.
+fn answer(
+    memory: &Vec<i64>,
+    registers: &mut Vec<i64>,
+    destination: u16,
+    cell: Option<u32>,
+) -> Result<(), AllocError>
+    ensures { OnOk result (registers_of registers.new.items ≡ spec.answer (λ c. registers_of memory.now.items c) destination cell (registers_of registers.old.items)) }
+{
+    match cell {
+        None => Ok(()),
+        Some(cell) => set_number(registers, destination, value_at(memory, cell as usize)),
+    }
+}
+
+// The answers to the reads of the uniform part.
+fn answer_uniform(
+    memory: &Vec<i64>,
+    registers: &mut Vec<i64>,
+    awaited: &Vec<Read>,
+) -> Result<(), AllocError>
+    ensures { OnOk result (registers_of registers.new.items
+        ≡ spec.answers (λ k c. registers_of memory.now.items c) 0 (map (λ (x : SpecRead). (x.destination, x.cell)) (map read_is awaited.now.items)) (registers_of registers.old.items)) }
+{
+    let mut k = 0;
+    'reads: while k < awaited.len() {
+        let read = awaited[k];
+        answer(memory, registers, read.destination, read.cell)?;
+        k += 1;
+    }
+    Ok(())
+}
+
+// The answers to the reads of a processor.
+fn answer_own(
+    memory: &Vec<i64>,
+    registers: &mut Vec<i64>,
+    awaited: &Vec<Read>,
+    cells: &Vec<Option<u32>>,
+) -> Result<(), AllocError>
+    ensures { OnOk result (registers_of registers.new.items
+        ≡ spec.answers (λ k c. registers_of memory.now.items c) 0 (zip (spec.destinations (map read_is awaited.now.items)) cells.now.items) (registers_of registers.old.items)) }
+{
+    let mut k = 0;
+    'reads: while k < awaited.len() && k < cells.len() {
+        answer(memory, registers, awaited[k].destination, cells[k])?;
+        k += 1;
+    }
+    Ok(())
+}
+
+fn reply_own(
+    memory: &Vec<i64>,
+    awaited: &Vec<Read>,
+    x: &mut ProcessorState,
+) -> Result<(), AllocError>
+    ensures { OnOk result (part_of x.new ≡ spec.own_answered (λ k c. registers_of memory.now.items c) (map read_is awaited.now.items) (part_of x.old)) }
+{
+    answer_own(memory, &mut x.registers, awaited, &x.awaited)?;
+    x.awaited.clear();
+    Ok(())
+}
+
+fn reply_processors(
+    memory: &Vec<i64>,
+    awaited: &Vec<Read>,
+    processors: &mut Vec<ProcessorState>,
+) -> Result<(), AllocError>
+    ensures count { OnOk result (length processors.new.items ≡ length processors.old.items) }
+    ensures each { OnOk result ((v : ℕ) → v < length processors.old.items → own_of processors.new.items v
+        ≡ spec.own_answered (λ k c. registers_of memory.now.items c) (map read_is awaited.now.items) (own_of processors.old.items v)) }
+{
+    let mut v = 0;
+    'processors: while v < processors.len() {
+        reply_own(memory, awaited, &mut processors[v])?;
+        v += 1;
+    }
+    Ok(())
+}
+
+fn reply_uniform(memory: &Vec<i64>, u: &mut UniformState) -> Result<(), AllocError>
+    ensures { OnOk result (uniform_of u.new ≡ spec.uniform_answered (λ k c. registers_of memory.now.items c) (uniform_of u.old)) }
+{
+    answer_uniform(memory, &mut u.registers, &u.awaited)?;
+    u.awaited.clear();
+    Ok(())
+}
+
+/// What a reply does to the machine.
+pub fn reply(code: &Code, machine: &mut Machine) -> Result<(), AllocError>
+    requires { IsSized code.now machine.old }
+    ensures sized { OnOk result (IsSized code.now machine.new) }
+    ensures same { OnOk result (AreSame (flat_of machine.new) (flat.after_reply (flat_of machine.old))) }
+{
+    reply_processors(
+        &machine.memory,
+        &machine.uniform.awaited,
+        &mut machine.processors,
+    )?;
+    reply_uniform(&machine.memory, &mut machine.uniform)?;
+    Ok(())
+}

@@ -1,0 +1,37 @@
+//! A vote: whether a processor of the range is active.
+
+ghost use Rattle.std.specs.Prelude.{◌≡◌, OnOk, length};
+ghost use Rattle.std.specs.List.{list_any, range_with_len};
+ghost use Rattle.superstep_code.specs.Steps as spec;
+ghost use Rattle.flat_machine.specs.Flat as flat;
+ghost use Rattle.flat_run.specs.Views.{own_of, flat_of, IsSized, AreSame};
+
+use crate::machine::Machine;
+use crate::processor::{ProcessorState, is_active};
+use pram_values::truth::truth;
+use std::alloc::AllocError;
+use superstep_code::code::Code;
+use superstep_steps::set_number;
+
+fn any_active(processors: &Vec<ProcessorState>) -> bool
+    ensures { result ≡ list_any (λ v. spec.is_active (own_of processors.now.items v)) (range_with_len 0 (length processors.now.items)) }
+{
+    let mut active = false;
+    let mut v = processors.len();
+    'processors: while v > 0 {
+        v -= 1;
+        active = is_active(&processors[v]) || active;
+    }
+    active
+}
+
+/// What a vote does to the machine.
+pub fn vote(code: &Code, machine: &mut Machine, destination: u16) -> Result<(), AllocError>
+    requires { IsSized code.now machine.old }
+    ensures sized { OnOk result (IsSized code.now machine.new) }
+    ensures same { OnOk result (AreSame (flat_of machine.new) (flat.after_vote destination (flat_of machine.old))) }
+{
+    let active = any_active(&machine.processors);
+    set_number(&mut machine.uniform.registers, destination, truth(active))?;
+    Ok(())
+}

@@ -1,0 +1,11 @@
+use Rattle.std.proofs.Common.{◌∙◌, ap, arith, w64}
+use Rattle.std.proofs.lemmas.Int.{to_z-of_z}
+use Rattle.superstep_code.specs.Parts.{set_register}
+use Rattle.superstep_steps.proofs.RegisterLemmas.{set_is}
+use Rattle.superstep_steps.proofs.registers.set_number.Goals as goal
+
+pub returns : goal.returns
+returns c =
+    rw (to_z-of_z w64 c.args.value c.ranges.value)
+    (set_is c.make_room.new.values.items c.args.number c.args.value (omega (arith, c.in_ok-make_room.ensures.room))
+    ∙ ap (set_register c.args.number c.args.value) c.in_ok-make_room.ensures.same)

@@ -1,0 +1,77 @@
+//! Registers by number. One that was never set is 0, also where there is no place for it yet.
+
+ghost use Rattle.std.specs.Prelude.{◌≡◌, ◌≤◌, length, FitsSigned, OnOk};
+ghost use Rattle.std.specs.Int.{w64};
+ghost use Rattle.superstep_code.specs.Parts.{set_register};
+ghost use Rattle.superstep_code.specs.Steps as spec;
+ghost use Rattle.superstep_steps.specs.Views.{registers_of};
+
+use pram_values::kind::Kind;
+use std::alloc::AllocError;
+
+/// The value at a place; 0 where there is none.
+pub fn value_at(values: &[i64], place: usize) -> i64
+    ensures value { result ≡ registers_of values.now place }
+    ensures fits { FitsSigned w64 result }
+{
+    match values.get(place) {
+        Some(value) => *value,
+        None => 0,
+    }
+}
+
+/// The value of a register.
+pub fn register(registers: &[i64], number: u16) -> i64
+    ensures { result ≡ registers_of registers.now number }
+{
+    value_at(registers, number as usize)
+}
+
+/// There are places for so many values.
+pub fn make_room(values: &mut Vec<i64>, count: usize) -> Result<(), AllocError>
+    ensures room { OnOk result (count ≤ length values.new.items) }
+    ensures same { OnOk result (registers_of values.new.items ≡ registers_of values.old.items) }
+{
+    if values.len() < count {
+        values.resize(count, 0)?;
+    }
+    Ok(())
+}
+
+/// A register gets a value.
+pub fn set_number(registers: &mut Vec<i64>, number: u16, value: i64) -> Result<(), AllocError>
+    ensures { OnOk result (registers_of registers.new.items ≡ set_register number value (registers_of registers.old.items)) }
+{
+    let place = number as usize;
+    make_room(registers, place + 1)?;
+    registers[place] = value;
+    Ok(())
+}
+
+/// A register gets what was computed for it, and 0 for a fault.
+pub fn set_result(
+    registers: &mut Vec<i64>,
+    computed: Option<(u16, Result<i64, Kind>)>,
+) -> Result<(), AllocError>
+    ensures { OnOk result (registers_of registers.new.items ≡ spec.with_result computed (registers_of registers.old.items)) }
+{
+    match computed {
+        None => Ok(()),
+        Some((number, Ok(value))) => set_number(registers, number, value),
+        Some((number, Err(_))) => set_number(registers, number, 0),
+    }
+}
+
+/// A register gets 0 at once where there is no cell to read.
+pub fn zero_without(
+    registers: &mut Vec<i64>,
+    cell: Option<u32>,
+    number: u16,
+) -> Result<(), AllocError>
+    ensures { OnOk result (registers_of registers.new.items ≡ spec.zero_without cell number (registers_of registers.old.items)) }
+{
+    match cell {
+        None => set_number(registers, number, 0),
+        Some(_) => Ok(()),
+    }
+}

@@ -1,0 +1,162 @@
+//! What an instruction does to the uniform part.
+
+ghost use Rattle.std.specs.Prelude.{◌≡◌, ◌<◌, ◌++◌, ◌∷◌, [], None, OnOk, FitsSigned};
+ghost use Rattle.std.specs.Int.{w64};
+ghost use Rattle.superstep_code.specs.Parts.{opening_part};
+ghost use Rattle.superstep_code.specs.declared.instr.Instr.TheVariants as instr_is;
+ghost use Rattle.superstep_code.specs.declared.instr.Side.TheVariants as side_is;
+ghost use Rattle.superstep_code.specs.Steps as spec;
+ghost use Rattle.superstep_steps.specs.Views.{uniform_of, moment_is, read_is, HasRoom};
+
+use crate::arithmetic::computed_on;
+use crate::range::range_width;
+use crate::read::{Moment, Read};
+use crate::registers::{register, set_result, zero_without};
+use crate::uniform::UniformState;
+use std::alloc::{AllocError, Global};
+use superstep_code::code::Code;
+use superstep_code::instr::{Instr, Side};
+
+/// The uniform part at the beginning.
+pub fn open_uniform(alloc: Global) -> UniformState
+    ensures { uniform_of result ≡ opening_part }
+{
+    UniformState {
+        count: 0,
+        line: 0,
+        registers: Vec::new(alloc),
+        low: 0,
+        width: 0,
+        asks: Vec::new(alloc),
+        awaited: Vec::new(alloc),
+        put: None,
+        output: Vec::new(alloc),
+    }
+}
+
+/// The present statement, at that position.
+pub fn moment_of(u: &UniformState, position: u32) -> Moment
+    ensures { moment_is result ≡ spec.moment_of (uniform_of u.now) position }
+{
+    Moment {
+        count: u.count,
+        line: u.line,
+        position,
+    }
+}
+
+/// The index of the v-th processor of the range.
+pub fn index_of(u: &UniformState, v: u32) -> i64
+    requires { v < u.now.width }
+    ensures value { result ≡ spec.index_of (uniform_of u.now) v }
+    ensures fits { FitsSigned w64 result }
+{
+    u.low + i64::from(v)
+}
+
+// The range begins.
+fn enter(u: &mut UniformState, code: &Code, low: u16, high: u16, position: u32)
+    ensures { uniform_of u.new ≡ spec.on_uniform code.now (instr_is.Enter low high position) (uniform_of u.old) }
+{
+    let first = register(&u.registers, low);
+    let last = register(&u.registers, high);
+    match range_width(code.procs(), first, last) {
+        Ok(width) => {
+            u.low = first;
+            u.width = width;
+        }
+        Err(_) => {
+            u.low = first;
+            u.width = 0;
+        }
+    }
+}
+
+// A read of the uniform part is held.
+fn ask_uniform(
+    u: &mut UniformState,
+    code: &Code,
+    destination: u16,
+    entry: u16,
+    subscript: u16,
+    position: u32,
+) -> Result<(), AllocError>
+    ensures { OnOk result (uniform_of u.new ≡ spec.on_uniform code.now (instr_is.Ask side_is.Uniform destination entry subscript position) (uniform_of u.old)) }
+{
+    let cell = code
+        .layout()
+        .cell(entry as usize, register(&u.registers, subscript));
+    let moment = moment_of(u, position);
+    zero_without(&mut u.registers, cell, destination)?;
+    u.asks.push(Read {
+        side: Side::Uniform,
+        destination,
+        moment,
+        cell,
+    })?;
+    Ok(())
+}
+
+// A read of the processors is held.
+fn ask_private(u: &mut UniformState, destination: u16, position: u32) -> Result<(), AllocError>
+    ensures { OnOk result (uniform_of u.new ≡ spec.held_read (uniform_of u.old) (record { side = side_is.Private; destination = destination; moment = spec.moment_of (uniform_of u.old) position; cell = None })) }
+{
+    let moment = moment_of(u, position);
+    u.asks.push(Read {
+        side: Side::Private,
+        destination,
+        moment,
+        cell: None,
+    })?;
+    Ok(())
+}
+
+// An item of the output.
+fn print(u: &mut UniformState, source: u16) -> Result<(), AllocError>
+    ensures { OnOk result (uniform_of u.new ≡ record (uniform_of u.old) { output = (uniform_of u.old).output ++ (u.old.count, (uniform_of u.old).registers source) ∷ [] }) }
+{
+    let value = register(&u.registers, source);
+    let count = u.count;
+    u.output.push((count, value))?;
+    Ok(())
+}
+
+/// What an instruction does to the uniform part.
+pub fn step_uniform(u: &mut UniformState, code: &Code, instr: Instr) -> Result<(), AllocError>
+    requires room { HasRoom instr u.old.count }
+    ensures { OnOk result (uniform_of u.new ≡ spec.on_uniform code.now instr (uniform_of u.old)) }
+{
+    match instr {
+        Instr::Mark { line } => {
+            u.count += 1;
+            u.line = line;
+        }
+        Instr::Enter {
+            low,
+            high,
+            position,
+        } => enter(u, code, low, high, position),
+        Instr::Leave => u.width = 0,
+        Instr::Ask {
+            side: Side::Uniform,
+            destination,
+            entry,
+            subscript,
+            position,
+        } => ask_uniform(u, code, destination, entry, subscript, position)?,
+        Instr::Ask {
+            side: Side::Private,
+            destination,
+            entry: _,
+            subscript: _,
+            position,
+        } => ask_private(u, destination, position)?,
+        Instr::Put { position, .. } => u.put = Some(moment_of(u, position)),
+        Instr::Print { source } => print(u, source)?,
+        _ => {
+            let computed = computed_on(Side::Uniform, instr, &u.registers);
+            set_result(&mut u.registers, computed)?;
+        }
+    }
+    Ok(())
+}
