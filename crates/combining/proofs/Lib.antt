@@ -8,3 +8,4 @@ pub mod ReadBack
 pub mod Asking
 pub mod HeldFits
 pub mod Askers
+pub mod ModuleSends

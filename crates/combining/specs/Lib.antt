@@ -3,3 +3,4 @@ pub mod Held
 pub mod Gathering
 pub mod Merged
 pub mod Asked
+pub mod ModuleLaws

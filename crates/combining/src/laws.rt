@@ -10,6 +10,7 @@ ghost use Rattle.superstep_code.specs.WordReading.{puts_in, asks_in, entry_read,
 ghost use Rattle.superstep_code.specs.Fitting.{FitsPut, FitsWrite, IsPutFor, IsAskFor};
 ghost use Rattle.superstep_code.specs.Worker.{HeldWrite, Worker};
 ghost use Rattle.superstep_code.specs.Sending.{join, entry_to, put_of, firsts, puts_held, entry_came, askers_came};
+ghost use Rattle.combining.specs.ModuleLaws.{MergedCells, MergedConflict, SharedConflict};
 ghost use Rattle.combining.specs.Held.{held_after, packed_puts, puts_for, IsPutBelow};
 
 /// Writes that are added one by one to nothing are held as the machine's definition holds them: by cell in the order first held,
@@ -31,4 +32,13 @@ pub fn packed_words_are_read_back()
         → (c : ℕ) → entry_read rule m j (map (λ (x : Message). flat_map (put_words rule) x.puts) column) c ≡ entry_came rule column c }
     ensures askers { (m : Shape) (j : ℕ) (column : List Message) → AllByRecursion (λ (x : Message). AllByRecursion (IsAskFor m j) x.asks) column
         → (k c : ℕ) → askers_read m j (map (λ (x : Message). ask_words x.asks) column) k c ≡ askers_came column k c }
+{}
+
+/// What a module's merge leaves and tells of any headers and words are the cells and the conflict of the machine's worker after its
+/// send, where the map is lawful and its values are as many as the module's cells; what is told of a private read is the conflict that the
+/// machine notes of it.
+pub fn modules_are_the_machines()
+    ensures cells { MergedCells }
+    ensures conflict { MergedConflict }
+    ensures shared { SharedConflict }
 {}
