@@ -1,6 +1,7 @@
 //! Words and merges, as worked out by hand.
 
 use address_map::{AddressMap, Identity};
+use combining::answers::answer_asks;
 use combining::asks::Asks;
 use combining::cells::Cells;
 use combining::machine_rule::MachineRule;
@@ -45,6 +46,20 @@ fn asks_are_packed_once_with_a_mark(rt: HostRuntime) {
         (asks.value(0, 0), asks.value(1, 0), asks.value(2, 0)),
         (7, 8, 0)
     );
+}
+
+// Cells 1, 3, 5 and 7 lie in module 1 of two.
+#[test]
+fn asks_of_the_module_are_answered(rt: HostRuntime) {
+    let map = Identity::new(8, 2).expect(&rt, "eight cells");
+    let mut cells = Cells::new(rt.alloc(), map.size(1)).expect(&rt, "memory");
+    cells.set(0, 9);
+    cells.set(2, -1);
+    let mut out = [7; 6];
+    // Cell 5, cell 1 by read 2, cell 0 of the other module, no cell, no ask, and cell 1 by two.
+    let words = [5, 2_097_153, 0, 9, 16_777_217, 8_388_609];
+    assert_eq!(rt; answer_asks(&map, 1, &words, &cells, &mut out), 3);
+    assert_eq!(rt; out, [18_446_744_073_709_551_615, 9, 9, 7, 7, 7]);
 }
 
 #[test]

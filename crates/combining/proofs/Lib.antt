@@ -9,3 +9,4 @@ pub mod Asking
 pub mod HeldFits
 pub mod Askers
 pub mod ModuleSends
+pub mod ModuleReplies

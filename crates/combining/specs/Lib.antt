@@ -4,3 +4,4 @@ pub mod Gathering
 pub mod Merged
 pub mod Asked
 pub mod ModuleLaws
+pub mod Answers

@@ -10,6 +10,7 @@ ghost use Rattle.superstep_code.specs.WordReading.{puts_in, asks_in, entry_read,
 ghost use Rattle.superstep_code.specs.Fitting.{FitsPut, FitsWrite, IsPutFor, IsAskFor};
 ghost use Rattle.superstep_code.specs.Worker.{HeldWrite, Worker};
 ghost use Rattle.superstep_code.specs.Sending.{join, entry_to, put_of, firsts, puts_held, entry_came, askers_came};
+ghost use Rattle.combining.specs.Answers.{AnswersAreTheReply};
 ghost use Rattle.combining.specs.ModuleLaws.{MergedCells, MergedConflict, SharedConflict};
 ghost use Rattle.combining.specs.Held.{held_after, packed_puts, puts_for, IsPutBelow};
 
@@ -41,4 +42,9 @@ pub fn modules_are_the_machines()
     ensures cells { MergedCells }
     ensures conflict { MergedConflict }
     ensures shared { SharedConflict }
+{}
+
+/// What a module answers to the ask words of a send, by the values after it, are the words of the machine's reply.
+pub fn answers_are_the_machines()
+    ensures { AnswersAreTheReply }
 {}

@@ -1,6 +1,7 @@
 //! What a worker holds for the next exchange, and what a module does with what comes.
 #![tactic(auto)]
 
+pub mod answers;
 pub mod asks;
 pub mod cells;
 pub mod index;
