@@ -1,5 +1,6 @@
 //! Numbers below a power of two, dealt to the modules in turn.
 ghost use Rattle.std.specs.Prelude.{◌≡◌, ◌<◌, ◌≤◌, ◌^◌, ◌*◌, ◌+◌, ◌/◌, ◌%◌, Some, None, if◌then◌else◌, nat_lt, ◌&&◌, IfOk, IfErr, IfSome, MatchOption};
+ghost use Rattle.std.specs.Option.{ForSome};
 ghost use Rattle.address_map.specs.Lawful.{rows};
 ghost use Rattle.address_map.specs.Outcome.{IsWorkers, IsCells, IsFault};
 
@@ -11,11 +12,14 @@ pub(crate) struct Spread {
     pub(crate) cells: u32,
     pub(crate) bits: u32,
     pub(crate) modules: u32,
+    // Where the number of modules is a power of two, its exponent: then a number is split by shift and mask.
+    shift: Option<u32>,
     ghost power: { cells ≡ 2 ^ bits },
     ghost small: { bits ≤ 20 },
     ghost fits: { cells ≤ 2 ^ 20 },
     ghost one: { 1 ≤ modules },
     ghost few: { modules ≤ 32 },
+    ghost shifted: { ForSome shift (λ e. (e ≤ 20) × (modules ≡ 2 ^ e)) },
 }
 
 // The power of two that a number of cells is.
@@ -45,6 +49,7 @@ impl Spread {
                 cells,
                 bits,
                 modules,
+                shift: power_of(modules),
             }),
             None => Err(MapFault::BadMap),
         }
@@ -59,11 +64,15 @@ impl Spread {
     }
 
     // The module of a number, and its offset there.
+    #[tactic(auto, using(std::proofs::lemmas::Nat::and_mask, std::proofs::lemmas::Nat::pow_pos))]
     pub(crate) fn split(self, number: u32) -> (u32, u32)
         ensures part { result.0 ≡ number % self.modules }
         ensures offset { result.1 ≡ number / self.modules }
     {
-        (number % self.modules, number / self.modules)
+        match self.shift {
+            Some(shift) => (number & (self.modules - 1), number >> shift),
+            None => (number % self.modules, number / self.modules),
+        }
     }
 
     // What a value leaves below the number of cells: its low bits.
