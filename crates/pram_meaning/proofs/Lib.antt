@@ -24,3 +24,6 @@ pub mod Swaps
 pub mod Columns
 pub mod SoundValues
 pub mod ValuesKept
+pub mod DenotedExpressions
+pub mod DenotedStatements
+pub mod OneTree

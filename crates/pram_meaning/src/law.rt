@@ -3,7 +3,7 @@
 ghost use Rattle.std.specs.Prelude.{List};
 ghost use Rattle.pram_meaning.specs.declared.key.Key.{Key};
 ghost use Rattle.pram_meaning.specs.Conflict.{least, IsLeast};
-ghost use Rattle.pram_meaning.specs.Computed.{OneOutcome, OutcomeIsComputed};
+ghost use Rattle.pram_meaning.specs.Computed.{OneOutcome, OutcomeIsComputed, TreeHasOneOutcome};
 ghost use Rattle.pram_meaning.specs.Values.{OutcomesHaveValues, StatementsKeepValues, StepsKeepValues};
 
 #[tactic(auto, using(crate::proofs::OneOutcome::one_outcome, crate::proofs::OneOutcome::outcome_is_computed))]
@@ -12,6 +12,11 @@ ghost use Rattle.pram_meaning.specs.Values.{OutcomesHaveValues, StatementsKeepVa
 pub fn one_outcome()
     ensures one { OneOutcome }
     ensures computed { OutcomeIsComputed }
+{}
+
+/// Two programs that say one tree have the same outcome.
+pub fn a_tree_has_one_outcome()
+    ensures { TreeHasOneOutcome }
 {}
 
 /// In a run on an input of values of 64 bits, every cell, uniform variable, index, local and output

@@ -31,3 +31,4 @@ pub mod Moving
 pub mod StmtMoving
 pub mod RoundTrip
 pub mod Offsets
+pub mod OneTree

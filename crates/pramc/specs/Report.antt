@@ -29,6 +29,12 @@ pub record IsRunOf (text : List ℕ) (input : List ℤ) (n : ℕ) (layout : List
   pub fits : length input ≤ total_size layout
   pub outcome : IsOutcome program input n verdict
 
+-- Two runs of one text on one input, within one bound, have the same shared declarations and the same verdict.
+abbrev pub HasOneRunAtMost : Type 0
+HasOneRunAtMost =
+    (text : List ℕ) (input : List ℤ) (n : ℕ) (layout other : List SharedEntry) (verdict another : Verdict) →
+    IsRunOf text input n layout verdict → IsRunOf text input n other another → (layout ≡ other) × (verdict ≡ another)
+
 -- the text is that of a tree, and this is the first thing that is wrong with it
 pub record HasBreach (text : List ℕ) (breach : Breach) : Type 0 where
   pub tree : ProgramTree

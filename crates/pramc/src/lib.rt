@@ -2,6 +2,7 @@
 #![tactic(auto)]
 
 pub mod console;
+pub mod one_run;
 pub mod run_text;
 pub mod show;
 mod show_parts;
