@@ -28,8 +28,8 @@ use Rattle.bsp_verify.specs.WellFormed.{IsWellFormed}
 use Rattle.bsp_verify.specs.Paths.{Point, Comes, IsWithin}
 use Rattle.bsp_verify.specs.Runs.{worker_after, IsOnPath, MayExchange, RunsAreSound}
 use Rattle.bsp_verify.specs.Moments.{walked, DescribesWorker, IsDescribed, MomentsAreSound}
-use Rattle.bsp_verify.proofs.PathLemmas.{paths_sound}
-use Rattle.bsp_verify.proofs.WorkerLemmas.{none_came, Works, acts_worker, sent_worker, replied_worker, voted_worker, opening_worker}
+use Rattle.bsp_verify.proofs.PathLemmas.{both, is_false, is_zero, paths_sound}
+use Rattle.bsp_verify.proofs.WorkerLemmas.{none_of, none_came, Works, acts_worker, sent_worker, replied_worker, voted_worker, opening_worker}
 
 -- the state says what is held and awaited; answers are awaited alone
 pub record Describes (s : State) (u : UniformPart) : Type 0 where
@@ -61,24 +61,16 @@ none_awaited : (a b : Bool) → (not a && b) ≡ true → a ≡ false
 none_awaited false b h = refl
 none_awaited true b h = cc
 
-not_awaited : (a : Bool) → not a ≡ true → a ≡ false
-not_awaited false h = refl
-not_awaited true h = cc
-
 -- with answers awaited there is nothing but a reply
 pub no_answers : (i : Instr) (s : State) → (i ≡ Reply → ⊥) → fits_exchange i s ≡ true → s.awaits ≡ false
 no_answers Reply s n h = absurd (n refl)
-no_answers Send s n h = not_awaited s.awaits h
+no_answers Send s n h = is_false s.awaits h
 no_answers i s n h = none_awaited s.awaits _ h
 
 -- ---- exchanges
 
 pub sent : (s : State) (u : UniformPart) → Describes s u → Describes (after Send s) (uniform_sent u)
 sent s u d = record { asks = refl; put = refl; awaited = ap (nat_lt 0) d.asks; alone = λ h. (refl, refl) }
-
-no_asks : {A : Type 0} (xs : List A) → length xs ≡ 0 → xs ≡ []
-no_asks [] h = refl
-no_asks (x ∷ xs) h = absurd (omega (arith, h))
 
 no_put : (o : Option Moment) → machine.is_held o ≡ false → o ≡ None
 no_put None h = refl
@@ -87,17 +79,6 @@ no_put (Some m) h = cc
 some_came : {A : Type 0} (xs : List A) → nat_lt 0 (length xs) ≡ true → xs ≡ [] → ⊥
 some_came [] h e = cc
 some_came (x ∷ xs) h e = cc
-
-two : (a b : Bool) → (a && b) ≡ true → (a ≡ true) × (b ≡ true)
-two true b h = (refl, h)
-two false b h = cc
-
-is_zero : (n : ℕ) → eqb n 0 ≡ true → n ≡ 0
-is_zero n h = grind (arith, nat_tests)
-
-no_write : (b : Bool) → not b ≡ true → b ≡ false
-no_write false h = refl
-no_write true h = cc
 
 -- a verdict either is told, or leaves a run as it was
 pub unless_same : (z : machine.Way) → ((key : Option Key) (ended : Bool) → machine.Past key ended ≡ z → ⊥) → (way : machine.Way) (key : Option Key) → machine.unless key way ≡ z → way ≡ z
@@ -128,18 +109,18 @@ module _ (s : State) (u : UniformPart) (d : Describes s u) where
   nothing_awaited h = none_came u.awaited (d.awaited ∙ h)
 
   no_reads : (i : Instr) → fits_exchange i s ≡ (not s.awaits && eqb s.asks 0) → fits_exchange i s ≡ true → (u.awaited ≡ []) × (u.asks ≡ [])
-  no_reads i e h = let b = two (not s.awaits) (eqb s.asks 0) (sym e ∙ h) in (nothing_awaited (not_awaited s.awaits b.0), no_asks u.asks (d.asks ∙ is_zero s.asks b.1))
+  no_reads i e h = let b = both (not s.awaits) (eqb s.asks 0) (sym e ∙ h) in (nothing_awaited (is_false s.awaits b.0), none_of u.asks (d.asks ∙ is_zero s.asks b.1))
 
   may : (stop : Stop) (i : Instr) → StopsBy stop i → fits_exchange i s ≡ true → MayExchange stop u
-  may ToSend i e h = nothing_awaited (not_awaited s.awaits (subst (λ (j : Instr). fits_exchange j s ≡ true) e h))
+  may ToSend i e h = nothing_awaited (is_false s.awaits (subst (λ (j : Instr). fits_exchange j s ≡ true) e h))
   may ToReply i e h =
       let a = subst (λ (j : Instr). fits_exchange j s ≡ true) e h in
       let b = d.alone a in
-      (some_came u.awaited (d.awaited ∙ a), no_asks u.asks (d.asks ∙ b.0), no_put u.put (d.put ∙ b.1))
+      (some_came u.awaited (d.awaited ∙ a), none_of u.asks (d.asks ∙ b.0), no_put u.put (d.put ∙ b.1))
   may (ToVote x) i e h =
-      let a = two (not s.awaits) (eqb s.asks 0 && not s.put) (subst (λ (j : Instr). fits_exchange j s ≡ true) e h) in
-      let b = two (eqb s.asks 0) (not s.put) a.1 in
-      (nothing_awaited (not_awaited s.awaits a.0), no_asks u.asks (d.asks ∙ is_zero s.asks b.0), no_put u.put (d.put ∙ no_write s.put b.1))
+      let a = both (not s.awaits) (eqb s.asks 0 && not s.put) (subst (λ (j : Instr). fits_exchange j s ≡ true) e h) in
+      let b = both (eqb s.asks 0) (not s.put) a.1 in
+      (nothing_awaited (is_false s.awaits a.0), none_of u.asks (d.asks ∙ is_zero s.asks b.0), no_put u.put (d.put ∙ is_false s.put b.1))
   may (ToClose ended) i e h =
       ⊎_elim (λ x. no_reads Halt refl (subst (λ (j : Instr). fits_exchange j s ≡ true) x h))
       (λ x. no_reads (Mark x.0) refl (subst (λ (j : Instr). fits_exchange j s ≡ true) x.1 h)) e
@@ -219,14 +200,14 @@ module _ (t : Setting) (formed : IsWellFormed t.code) (w : ℕ) where
         (subst (λ (o : Option Instr). Good (advance t.bound (λ (y : Worker). y.uniform) (after_instr t w) nowhere stops next o q.place x)) (sym s.is)
         (step h.steps q h.comes x h.describes s.instr s.is s.allowed s.within))
 
-  abbrev Arrives : Arrival Worker → Type 0
+  abbrev pub Arrives : Arrival Worker → Type 0
   Arrives Nowhere = Unit {0}
   Arrives (At stop place x) = Stops stop place x
 
-  abbrev from : ℕ → ℕ → Worker → Arrival Worker
+  abbrev pub from : ℕ → ℕ → Worker → Arrival Worker
   from n place x = until t.bound (λ (y : Worker). y.uniform) (after_instr t w) t.code.instructions n place x
 
-  follow : (n : ℕ) (place : ℕ) (x : Worker) → IsThere place x → Arrives (from n place x)
+  pub follow : (n : ℕ) (place : ℕ) (x : Worker) → IsThere place x → Arrives (from n place x)
   follow zero place x h = tt
   follow (suc n) place x h = advances Arrives Nowhere (λ stop k y. At stop k y) (from n) (λ stop k y b. b) (follow n) place x h
 
@@ -278,7 +259,7 @@ module _ (t : Setting) (formed : IsWellFormed t.code) (w : ℕ) where
         exchanged (machine.ready_at s (At (ToVote v) place x)) (λ e. behind (ToVote v) place x (Vote v) _ h h.by (λ k. refl) (λ z d. voted_worker t w z x d v messages))
     arrived s (At (ToClose ended) place x) h = exchanged (machine.ready_at s (At (ToClose ended) place x)) (λ e. cc)
 
-    next_agrees : (s : machine.State) → Agrees s → Agrees (machine.after t w (machine.ready t w s) messages)
+    pub next_agrees : (s : machine.State) → Agrees s → Agrees (machine.after t w (machine.ready t w s) messages)
     next_agrees s a = marked (machine.mark_now s.refusals)
       where
         stays : (way : machine.Way) → s.way ≡ way → (way ≡ machine.On → ⊥) → Agrees (machine.after t w (record { purpose = machine.Closes; state = s }) messages)
@@ -296,7 +277,7 @@ module _ (t : Setting) (formed : IsWellFormed t.code) (w : ℕ) where
         marked OutOfMemory = exchanged (record { purpose = machine.Closes; state = machine.stopped OutOfMemory }) (λ h. cc)
         marked OutOfReserve = exchanged (record { purpose = machine.Closes; state = machine.stopped OutOfReserve }) (λ h. cc)
 
-  begins : (input : List ℤ) → Agrees (machine.opening t input w)
+  pub begins : (input : List ℤ) → Agrees (machine.opening t input w)
   begins input h = record { steps = 0; point = record { place = 0; state = opening }; comes = (refl, refl); here = refl; describes = opening_worker t w input }
 
   may_make : (s : machine.State) → Agrees s → s.way ≡ machine.On → (stop : Stop) (place : ℕ) (x : Worker) → machine.stretch t w s ≡ At stop place x →

@@ -24,34 +24,31 @@ use Rattle.bsp_verify.specs.States.{opening, after}
 use Rattle.bsp_verify.specs.Judging.{IsAllowed}
 use Rattle.bsp_verify.specs.Paths.{IsWithin}
 use Rattle.bsp_verify.specs.Moments.{HasPlaces, side_of, DescribesWorker}
+use Rattle.superstep_code.proofs.MachineWords.{all_map}
 use Rattle.bsp_verify.proofs.PathLemmas.{both, is_false, is_zero}
 
 -- ---- lists of processors
 
-either_way : (P : PrivatePart → Type 0) (b : Bool) (x y : PrivatePart) → P x → P y → P (if b then x else y)
+pub either_way : (P : PrivatePart → Type 0) (b : Bool) (x y : PrivatePart) → P x → P y → P (if b then x else y)
 either_way P true x y p q = p
 either_way P false x y p q = q
 
-all_map : {A B : Type 0} (P : A → Type 0) (Q : B → Type 0) (g : A → B) → ((x : A) → P x → Q (g x)) → (xs : List A) → AllByRecursion P xs → AllByRecursion Q (map g xs)
-all_map P Q g f [] h = tt
-all_map P Q g f (x ∷ xs) h = (f x h.0, all_map P Q g f xs h.1)
-
-all_made : {A B : Type 0} (Q : B → Type 0) (g : A → B) → ((x : A) → Q (g x)) → (xs : List A) → AllByRecursion Q (map g xs)
+pub all_made : {A B : Type 0} (Q : B → Type 0) (g : A → B) → ((x : A) → Q (g x)) → (xs : List A) → AllByRecursion Q (map g xs)
 all_made Q g f [] = tt
 all_made Q g f (x ∷ xs) = (f x, all_made Q g f xs)
 
-all_numbered : (P Q : PrivatePart → Type 0) (g : ℕ × PrivatePart → PrivatePart) → ((v : ℕ) (y : PrivatePart) → P y → Q (g (v, y))) →
+pub all_numbered : (P Q : PrivatePart → Type 0) (g : ℕ × PrivatePart → PrivatePart) → ((v : ℕ) (y : PrivatePart) → P y → Q (g (v, y))) →
     (vs : List ℕ) (ys : List PrivatePart) → AllByRecursion P ys → AllByRecursion Q (map g (zip vs ys))
 all_numbered P Q g f [] ys h = tt
 all_numbered P Q g f (v ∷ vs) [] h = tt
 all_numbered P Q g f (v ∷ vs) (y ∷ ys) h = (f v y h.0, all_numbered P Q g f vs ys h.1)
 
-length-numbered : (g : ℕ × PrivatePart → PrivatePart) (vs : List ℕ) (ys : List PrivatePart) → length ys ≡ length vs → length (map g (zip vs ys)) ≡ length vs
+pub length-numbered : (g : ℕ × PrivatePart → PrivatePart) (vs : List ℕ) (ys : List PrivatePart) → length ys ≡ length vs → length (map g (zip vs ys)) ≡ length vs
 length-numbered g [] ys h = refl
 length-numbered g (v ∷ vs) [] h = absurd (omega (arith, h))
 length-numbered g (v ∷ vs) (y ∷ ys) h = let r = length-numbered g vs ys (omega (arith, h)) in omega (arith, r)
 
-none_of : {A : Type 0} (xs : List A) → length xs ≡ 0 → xs ≡ []
+pub none_of : {A : Type 0} (xs : List A) → length xs ≡ 0 → xs ≡ []
 none_of [] h = refl
 none_of (x ∷ xs) h = absurd (omega (arith, h))
 
@@ -59,17 +56,17 @@ pub none_came : {A : Type 0} (xs : List A) → nat_lt 0 (length xs) ≡ false �
 none_came [] h = refl
 none_came (x ∷ xs) h = absurd (grind (arith, nat_tests))
 
-all_add : {A : Type 0} (P : A → Type 0) (xs : List A) (y : A) → AllByRecursion P xs → P y → AllByRecursion P (xs ++ y ∷ [])
+pub all_add : {A : Type 0} (P : A → Type 0) (xs : List A) (y : A) → AllByRecursion P xs → P y → AllByRecursion P (xs ++ y ∷ [])
 all_add P [] y h k = (k, tt)
 all_add P (x ∷ xs) y h k = (h.0, all_add P xs y h.1 k)
 
 -- ---- one processor
 
-length-flipped : (masks : List Bool) → length (flipped masks) ≡ length masks
+pub length-flipped : (masks : List Bool) → length (flipped masks) ≡ length masks
 length-flipped [] = refl
 length-flipped (b ∷ bs) = refl
 
-length-unmasked : (masks : List Bool) → length (unmasked masks) ≡ length masks - 1
+pub length-unmasked : (masks : List Bool) → length (unmasked masks) ≡ length masks - 1
 length-unmasked [] = refl
 length-unmasked (b ∷ bs) = let h : length bs ≡ length (b ∷ bs) - 1 = omega arith in h
 
@@ -96,7 +93,7 @@ one_part code i a s n u v y h =
 
 -- ---- the worker
 
-width_at_most : (procs : ℕ) (low high : ℤ) → or_empty (range_width procs low high) ≤ procs
+pub width_at_most : (procs : ℕ) (low high : ℤ) → or_empty (range_width procs low high) ≤ procs
 width_at_most procs low high = go (width low high) (nat_le (width low high) procs) refl
   where
     go : (n : ℕ) (b : Bool) → nat_le n procs ≡ b → or_empty (if b then Ok n else Err TooWide) ≤ procs

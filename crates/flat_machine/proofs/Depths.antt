@@ -6,6 +6,7 @@ use Rattle.superstep_code.specs.declared.instr.Instr.TheVariants.{Mask, Flip, Un
 use Rattle.superstep_code.specs.Code.{SuperstepCode}
 use Rattle.superstep_code.specs.Parts.{UniformPart, PrivatePart, fresh}
 use Rattle.superstep_code.specs.Steps.{is_active, flipped, unmasked, on_active, on_own, renews}
+use Rattle.bsp_verify.proofs.WorkerLemmas.{length-flipped, length-unmasked}
 use Rattle.flat_machine.specs.Flat.{Flat, after_instr}
 
 -- how many masks an instruction leaves
@@ -14,22 +15,14 @@ deeper (Mask s) n = n + 1
 deeper Unmask n = n - 1
 deeper i n = n
 
-length_flipped : (xs : List Bool) → length (flipped xs) ≡ length xs
-length_flipped [] = refl
-length_flipped (x ∷ xs) = refl
-
-length_unmasked : (xs : List Bool) → length (unmasked xs) ≡ length xs - 1
-length_unmasked [] = refl
-length_unmasked (x ∷ xs) = omega arith
-
 either : (b : Bool) (x y : PrivatePart) (n : ℕ) → length x.masks ≡ n → length y.masks ≡ n → length (if b then x else y).masks ≡ n
 either true x y n p q = p
 either false x y n p q = q
 
 depth_after : (code : SuperstepCode) (i : Instr) (u : UniformPart) (v : ℕ) (x : PrivatePart) → length (on_own code i u v x).masks ≡ deeper i (length x.masks)
 depth_after code (Mask s) u v x = omega arith
-depth_after code Flip u v x = length_flipped x.masks
-depth_after code Unmask u v x = length_unmasked x.masks
+depth_after code Flip u v x = length-flipped x.masks
+depth_after code Unmask u v x = length-unmasked x.masks
 depth_after code (Ask Uniform d c s q) u v x = refl
 depth_after code (Ask Private d c s q) u v x = either (is_active x) _ _ (length x.masks) refl refl
 depth_after code i u v x = either (is_active x) (on_active code i u v x) x (length x.masks) refl refl

@@ -7,7 +7,7 @@ use Rattle.superstep_code.specs.Code.{SuperstepCode}
 use Rattle.superstep_code.specs.Run.{Way, On, Ending, Past, Refused, Lost}
 use Rattle.flat_machine.specs.ByExchanges.{State}
 use Rattle.flat_machine.specs.ByInstructions.{step, steps}
-use Rattle.flat_machine.proofs.Stepping.{IsPast, past_is_not_on, over_stays}
+use Rattle.flat_machine.proofs.Stepping.{IsPast, past_is_not_on, step_stays}
 use Rattle.flat_machine.specs.Exchanges.{Exchange, exchanges_by, exchanges_from, is_empty, but_empty}
 
 pub but_empty_append : (xs ys : List Exchange) → but_empty (xs ++ ys) ≡ but_empty xs ++ but_empty ys
@@ -31,14 +31,11 @@ module _ (code : SuperstepCode) (bound : ℕ) (judges : ℕ → Bool) where
       go (Refused mark) e = refl
       go Lost e = refl
 
-  step_stays : (s : State) → (s.way ≡ On → ⊥) → step code bound judges s ≡ s
-  step_stays s h = over_stays code bound judges 1 s h
-
   pub none_from : (n : ℕ) (s : State) → (s.way ≡ On → ⊥) → exchanges_from code bound judges n s ≡ []
   none_from zero s h = refl
   none_from (suc n) s h =
       ap (λ xs. xs ++ exchanges_from code bound judges n (step code bound judges s)) (none_by s h)
-      ∙ ap (exchanges_from code bound judges n) (step_stays s h) ∙ none_from n s h
+      ∙ ap (exchanges_from code bound judges n) (step_stays code bound judges s h) ∙ none_from n s h
 
   pub sum_from : (m n k : ℕ) → m + n ≡ k → (s : State) →
       exchanges_from code bound judges k s ≡ exchanges_from code bound judges m s ++ exchanges_from code bound judges n (steps code bound judges m s)

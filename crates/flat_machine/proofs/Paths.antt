@@ -15,7 +15,8 @@ use Rattle.bsp_verify.specs.Control.{Leads}
 use Rattle.bsp_verify.specs.Judging.{fits_exchange}
 use Rattle.bsp_verify.specs.WellFormed.{IsWellFormed}
 use Rattle.bsp_verify.specs.Paths.{Point, Comes}
-use Rattle.bsp_verify.proofs.PathLemmas.{paths_sound}
+use Rattle.bsp_verify.proofs.PathLemmas.{both, is_false, is_zero, paths_sound}
+use Rattle.bsp_verify.proofs.WorkerLemmas.{none_of}
 use Rattle.bsp_verify.proofs.RunLemmas.{Describes, acts, no_answers, sent}
 use Rattle.flat_machine.specs.Flat.{Flat, after_instr, after_send, after_reply, after_vote}
 use Rattle.flat_machine.specs.ByExchanges.{State, opening}
@@ -44,21 +45,6 @@ opening_at code input = record {
 
 -- ---- what an instruction that may stand there finds
 
-both : (a b : Bool) → (a && b) ≡ true → (a ≡ true) × (b ≡ true)
-both true b h = (refl, h)
-both false b h = cc
-
-is_zero : (n : ℕ) → eqb n 0 ≡ true → n ≡ 0
-is_zero n h = grind (arith, nat_tests)
-
-is_false : (b : Bool) → not b ≡ true → b ≡ false
-is_false false h = refl
-is_false true h = cc
-
-no_reads : (xs : List Read) → length xs ≡ 0 → xs ≡ []
-no_reads [] h = refl
-no_reads (x ∷ xs) h = absurd (omega (arith, h))
-
 module _ (code : SuperstepCode) (place : ℕ) (f : Flat) (a : IsAt code place f) where
   -- the instruction may stand there, by what is held and awaited
   abbrev pub Fits : Instr → Type 0
@@ -67,7 +53,7 @@ module _ (code : SuperstepCode) (place : ℕ) (f : Flat) (a : IsAt code place f)
   asks_none : (i : Instr) → fits_exchange i a.point.state ≡ (not a.point.state.awaits && eqb a.point.state.asks 0) → Fits i → f.uniform.asks ≡ []
   asks_none i e h =
       let b = both (not a.point.state.awaits) (eqb a.point.state.asks 0) (sym e ∙ h) in
-      no_reads f.uniform.asks (a.describes.asks ∙ is_zero a.point.state.asks b.1)
+      none_of f.uniform.asks (a.describes.asks ∙ is_zero a.point.state.asks b.1)
 
   pub mark_asks_none : (line : ℕ) → Fits (Mark line) → f.uniform.asks ≡ []
   mark_asks_none line h = asks_none (Mark line) refl h

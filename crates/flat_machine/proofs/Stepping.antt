@@ -55,7 +55,7 @@ carried_out code bound judges o place f =
     advance bound (λ (g : Flat). g.uniform) (after_instr code) (record { flat = f; place = place; way = Lost }) (stopped code judges) going o place f
 
 module _ (code : SuperstepCode) (bound : ℕ) (judges : ℕ → Bool) where
-  step_stays : (s : State) → (s.way ≡ On → ⊥) → step code bound judges s ≡ s
+  pub step_stays : (s : State) → (s.way ≡ On → ⊥) → step code bound judges s ≡ s
   step_stays s h = go s.way refl
     where
       go : (way : Way) → s.way ≡ way → step_by code bound judges s way ≡ s

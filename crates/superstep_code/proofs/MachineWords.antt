@@ -10,13 +10,14 @@ use Rattle.pram_syntax.specs.declared.rule.Rule.{Rule}
 use Rattle.pram_syntax.specs.declared.rule.Rule.TheVariants.{Erew, Crew, Common, Priority, Sum}
 use Rattle.write_rules.specs.declared.entry.Entry.{Entry}
 use Rattle.write_rules.specs.Combining.{is_first, differ, marked}
-use Rattle.superstep_code.specs.Setting.{combining}
+use Rattle.superstep_code.specs.Setting.{Setting, combining}
 use Rattle.superstep_code.specs.Parts.{Read, PrivatePart}
 use Rattle.superstep_code.specs.Words.{CellPut, CellAsk}
 use Rattle.superstep_code.specs.Worker.{HeldWrite, Worker}
-use Rattle.superstep_code.specs.Sending.{firsts, join, entry_to, entry_held, put_of, puts_held, cell_at, present, cells_asked, asked_twice, asks_from, asks_held}
+use Rattle.superstep_code.specs.Sending.{firsts, join, entry_to, entry_held, put_of, puts_held, cell_at, present, cells_asked, asked_twice, asks_from, asks_held, sent}
+use Rattle.superstep_code.specs.Answering.{replied}
 use Rattle.superstep_code.specs.Run.{Sends, Replies, Votes, Closes}
-use Rattle.superstep_code.specs.Fitting.{FitsValue, FitsPut, FitsAsk, FitsWrite, IsPutFor, IsAskFor, IsCellBelow}
+use Rattle.superstep_code.specs.Fitting.{FitsValue, FitsPut, FitsAsk, FitsWrite, IsPutFor, IsAskFor, IsCellBelow, CanBeSent, FitsWorker}
 use Rattle.superstep_code.specs.WordLaws.{SentIsReadBack, RepliedIsReadBack, VotedIsReadBack, ClosingIsReadBack}
 use Rattle.superstep_code.proofs.ReadBack.{message_back}
 
@@ -50,7 +51,7 @@ single_fits Sum w f = record { owner = f.processor; value = record { sfits = (le
 
 -- ---- all items of a list
 
-all_kept : {A : Type 0} (P : A → Type 0) (test : A → Bool) (xs : List A) → AllByRecursion P xs → AllByRecursion P (filter test xs)
+pub all_kept : {A : Type 0} (P : A → Type 0) (test : A → Bool) (xs : List A) → AllByRecursion P xs → AllByRecursion P (filter test xs)
 all_kept P test [] h = tt
 all_kept P test (x ∷ xs) h = go (test x) (all_kept P test xs h.1)
   where
@@ -69,15 +70,15 @@ all_passed P Q part j told (x ∷ xs) h =
     (λ other. subst (λ (b : Bool). AllByRecursion Q (cond b (x ∷ inner) inner)) (sym other.0) rest)
     (eqb_tells (part x) j)
 
-all_firsts : (P : ℕ → Type 0) (xs : List ℕ) → AllByRecursion P xs → AllByRecursion P (firsts xs)
+pub all_firsts : (P : ℕ → Type 0) (xs : List ℕ) → AllByRecursion P xs → AllByRecursion P (firsts xs)
 all_firsts P [] h = tt
 all_firsts P (x ∷ xs) h = (h.0, all_kept P (λ y. not (eqb x y)) (firsts xs) (all_firsts P xs h.1))
 
-all_joined : {A : Type 0} (P : A → Type 0) (xs ys : List A) → AllByRecursion P xs → AllByRecursion P ys → AllByRecursion P (xs ++ ys)
+pub all_joined : {A : Type 0} (P : A → Type 0) (xs ys : List A) → AllByRecursion P xs → AllByRecursion P ys → AllByRecursion P (xs ++ ys)
 all_joined P [] ys f g = g
 all_joined P (x ∷ xs) ys f g = (f.0, all_joined P xs ys f.1 g)
 
-all_map : {A B : Type 0} (P : A → Type 0) (Q : B → Type 0) (f : A → B) → ((x : A) → P x → Q (f x)) → (xs : List A) → AllByRecursion P xs → AllByRecursion Q (map f xs)
+pub all_map : {A B : Type 0} (P : A → Type 0) (Q : B → Type 0) (f : A → B) → ((x : A) → P x → Q (f x)) → (xs : List A) → AllByRecursion P xs → AllByRecursion Q (map f xs)
 all_map P Q f h [] all = tt
 all_map P Q f h (x ∷ xs) all = (h x all.0, all_map P Q f h xs all.1)
 
@@ -151,22 +152,23 @@ module _ (n : ℕ) (small : n ≤ 2 ^ 20) (s : Worker) (own : AllByRecursion (λ
 
 -- ---- values
 
-zero_fits : FitsSigned w64 (pos 0)
+pub zero_fits : FitsSigned w64 (pos 0)
 zero_fits = record { sfits = omega arith }
 
-value_fits : (cells : List ℤ) (o : ℕ) → AllByRecursion (FitsSigned w64) cells → FitsSigned w64 (slice_index_or cells o (pos 0))
+pub value_fits : (cells : List ℤ) (o : ℕ) → AllByRecursion (FitsSigned w64) cells → FitsSigned w64 (slice_index_or cells o (pos 0))
 value_fits [] o h = zero_fits
 value_fits (z ∷ cells) zero h = h.0
 value_fits (z ∷ cells) (suc o) h = value_fits cells o h.1
 
-values_fit : {A : Type 0} (f : A → ℤ) → ((x : A) → FitsSigned w64 (f x)) → (xs : List A) → AllByRecursion (FitsSigned w64) (map f xs)
+pub values_fit : {A : Type 0} (f : A → ℤ) → ((x : A) → FitsSigned w64 (f x)) → (xs : List A) → AllByRecursion (FitsSigned w64) (map f xs)
 values_fit f h [] = tt
 values_fit f h (x ∷ xs) = (h x, values_fit f h xs)
 
 -- ---- messages
 
-pub sent_back : SentIsReadBack
-sent_back t s j fits = message_back t.code.rule t.map j Sends _ (puts, asks, refl)
+-- they can be sent
+pub sent_can : (t : Setting) (s : Worker) (j : ℕ) → FitsWorker t s → CanBeSent t.code.rule t.map j Sends (sent t s j)
+sent_can t s j fits = (puts, asks, refl)
   where
     puts : AllByRecursion (IsPutFor t.code.rule t.map j) (filter (λ (x : CellPut). eqb (t.map.part x.cell) j) (puts_held t.code.rule s))
     puts =
@@ -181,10 +183,15 @@ sent_back t s j fits = message_back t.code.rule t.map j Sends _ (puts, asks, ref
         (λ x f e. record { fits = f.0; of = record { below = f.1; here = e } }) (asks_held s)
         (asks_fit t.map.count fits.small s fits.own_asks 0 s.uniform.asks fits.asks (let l = fits.few in omega (arith, l)))
 
-pub replied_back : RepliedIsReadBack
-replied_back t s j fits =
-    message_back t.code.rule t.map j Replies _
+pub replied_can : (t : Setting) (s : Worker) (j : ℕ) → FitsWorker t s → CanBeSent t.code.rule t.map j Replies (replied t s j)
+replied_can t s j fits =
     (refl, refl, values_fit (λ c. slice_index_or s.cells (t.map.offset c) (pos 0)) (λ c. value_fits s.cells (t.map.offset c) fits.cells) (slice_index_or s.taken j []))
+
+pub sent_back : SentIsReadBack
+sent_back t s j fits = message_back t.code.rule t.map j Sends _ (sent_can t s j fits)
+
+pub replied_back : RepliedIsReadBack
+replied_back t s j fits = message_back t.code.rule t.map j Replies _ (replied_can t s j fits)
 
 pub voted_back : VotedIsReadBack
 voted_back t s j d = message_back t.code.rule t.map j (Votes d) _ (refl, refl, refl)

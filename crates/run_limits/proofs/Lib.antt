@@ -1,0 +1,5 @@
+pub mod Values
+pub mod Shares
+pub mod Keeping
+pub mod Runs
+pub mod Messages

@@ -1,0 +1,62 @@
+-- What the runs of code keep within: values of 64 bits, and messages that can be sent in few words.
+use Rattle.std.specs.Prelude.{◌≡◌, ℕ, ◌+◌, ◌-◌, ◌*◌, ◌/◌, ◌<◌, ◌≤◌, List, length, Some, ℤ, FitsSigned}
+use Rattle.std.specs.List.{AllByRecursion}
+use Rattle.std.specs.Int.{w64}
+use Rattle.pram_syntax.specs.declared.rule.Rule.{Rule}
+use Rattle.pram_syntax.specs.declared.rule.Rule.TheVariants.{Sum}
+use Rattle.superstep_code.specs.Limits.{IsCode}
+use Rattle.superstep_code.specs.Setting.{Setting, workers}
+use Rattle.superstep_code.specs.Parts.{Registers, PrivatePart}
+use Rattle.superstep_code.specs.Words.{words}
+use Rattle.superstep_code.specs.Worker.{Worker}
+use Rattle.superstep_code.specs.Run.{ready, message_of}
+use Rattle.superstep_code.specs.Fitting.{CanBeSent}
+use Rattle.bsp_verify.specs.WellFormed.{IsWellFormed}
+use Rattle.bsp_verify.specs.Runs.{worker_after}
+use Rattle.bsp_verify.specs.Moments.{moment}
+use Rattle.flat_machine.specs.Flatness.{IsMapFor}
+
+-- ---- values
+
+-- values of 64 bits
+abbrev pub AreValues : List ℤ → Type 0
+AreValues = AllByRecursion (FitsSigned w64)
+
+abbrev pub HaveValues : Registers → Type 0
+HaveValues registers = (r : ℕ) → FitsSigned w64 (registers r)
+
+-- all that a worker has, on both sides and in its module
+pub record IsOfValues (x : Worker) : Type 0 where
+  pub uniform : HaveValues x.uniform.registers
+  pub own : AllByRecursion (λ (y : PrivatePart). HaveValues y.registers) x.own
+  pub cells : AreValues x.cells
+
+-- a run on the workers of a map with a place for each cell, from an input of values
+pub record IsGiven (t : Setting) (input : List ℤ) : Type 0 where
+  pub code : IsCode t.code
+  pub room : IsMapFor t.code t.map
+  pub values : AreValues input
+
+-- at every moment, for every code
+abbrev pub ValuesFit : Type 0
+ValuesFit = (t : Setting) (input : List ℤ) → IsGiven t input → (n m w place : ℕ) (x : Worker) → moment t input n m w ≡ Some (place, x) → IsOfValues x
+
+-- ---- messages
+
+-- the most processors that a worker has: those of the code by the workers, rounded up
+abbrev pub share : Setting → ℕ
+share t = (t.code.procs + (workers t - 1)) / workers t
+
+-- for each of them there are at most so many words: eight reads, and a put
+abbrev pub words_for_each : Rule → ℕ
+words_for_each Sum = 12
+words_for_each rule = 11
+
+-- every message of worker w to module j, in the exchange behind n others
+abbrev pub MessagesCanBeSent : Type 0
+MessagesCanBeSent = (t : Setting) (input : List ℤ) → IsGiven t input → IsWellFormed t.code → (n w j : ℕ) → w < workers t →
+    let s = worker_after t input n w in CanBeSent t.code.rule t.map j (ready t w s).purpose (message_of t w s j)
+
+abbrev pub MessagesAreShort : Type 0
+MessagesAreShort = (t : Setting) (input : List ℤ) → IsGiven t input → IsWellFormed t.code → (n w j : ℕ) → w < workers t →
+    length (words t.code.rule (message_of t w (worker_after t input n w) j)) ≤ words_for_each t.code.rule * share t
