@@ -15,6 +15,7 @@ pub mod Runs
 pub mod Bridge
 pub mod ExchangeLists
 pub mod Listed
+pub mod OneWords
 pub mod Together
 pub mod Stepping
 pub mod Counts

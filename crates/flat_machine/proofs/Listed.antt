@@ -137,7 +137,7 @@ module _ (t : Plan) where
     not_ending : (p : Purpose) (f : Flat) (ended : Bool) → decided p f.uniform f.key On ≡ Ending ended → ⊥
     not_ending p f ended h = let z : On ≡ Ending ended = decided_same (Ending ended) (λ key b e. cc) p f.uniform f.key On h in cc
 
-    lost_ends : {A : Type 0} (x : ℕ) (s : State) → s.way ≡ Lost → run t x s ≡ Some (Some v) → A
+    pub lost_ends : {A : Type 0} (x : ℕ) (s : State) → s.way ≡ Lost → run t x s ≡ Some (Some v) → A
     lost_ends zero s e h = cc
     lost_ends (suc x) s e h = no_outcome t s Lost e (λ h. h) v (unsome _ (Some v) (sym (ap (went t x s) e) ∙ h))
 

@@ -1,13 +1,11 @@
 -- A flat run of well-formed code goes along a path of control, and the state that the path gives describes what is held and awaited.
-use Rattle.std.proofs.Common.{◌≡◌, ℕ, zero, suc, ◌+◌, List, [], ◌∷◌, length, Bool, true, false, not, eqb, Option, Some, ℤ, refl, sym, ap, ◌∙◌, subst, arith, ◌⊎◌, inl, inr}
+use Rattle.std.proofs.Common.{◌≡◌, ℕ, zero, suc, ◌+◌, List, [], Bool, true, false, not, eqb, Option, Some, ℤ, refl, sym, ap, ◌∙◌, subst, ◌⊎◌, inl, inr}
 use Rattle.std.specs.Prelude.{if◌then◌else◌, ◌&&◌, slice_get}
-use Rattle.std.proofs.lemmas.Bool.Decides.{nat_tests}
 use Rattle.pram_values.specs.Truth.{is_nonzero}
 use Rattle.superstep_code.specs.declared.instr.Side.{Side}
 use Rattle.superstep_code.specs.declared.instr.Instr.{Instr}
 use Rattle.superstep_code.specs.declared.instr.Instr.TheVariants.{Mark, Put, Send, Reply, Vote, Jump, JumpIfZero, Halt}
 use Rattle.superstep_code.specs.Code.{SuperstepCode}
-use Rattle.superstep_code.specs.Parts.{Read}
 use Rattle.superstep_code.specs.Run.{Way, On, Ending, Past, Refused, Lost, is_held}
 use Rattle.superstep_code.specs.Stretch.{ToClose}
 use Rattle.bsp_verify.specs.States as states

@@ -24,7 +24,7 @@ use Rattle.flat_machine.proofs.Lockstep.{numbers, own_key, none_marked, Agree, R
 
 module _ (t : Setting) (room : IsMapFor t.code t.map) where
   -- there is a worker
-  first : 0 < workers t
+  pub first : 0 < workers t
   first = let h = room.lawful.one in omega (arith, h)
 
   -- ---- an exchange

@@ -26,6 +26,12 @@ ExchangesAreOne = (code : SuperstepCode) (map : Shape) → IsMapFor code map →
     AreBspExchanges code map input bound verdict made → (n : ℕ) → outcome_within code bound everywhere n input ≡ Some verdict →
     made_for made ≡ purposes_of (exchanges_from code bound everywhere n (opening input))
 
+-- And each map has one list: the exchanges up to a verdict, with their words, don't depend on how many instructions a stretch may have, or
+-- on how many exchanges there may be, where these are enough.
+abbrev pub ExchangesAreUnique : Type 0
+ExchangesAreUnique = (code : SuperstepCode) (map : Shape) → IsMapFor code map → (input : List ℤ) (bound : ℕ) (verdict other : Verdict) (made more : List workers.Exchange) →
+    AreBspExchanges code map input bound verdict made → AreBspExchanges code map input bound other more → made ≡ more
+
 -- The workers of a map make exchanges up to the verdict, each with its words; and whatever they make is for what the code's list says.
 pub record MakesListed (code : SuperstepCode) (map : Shape) (input : List ℤ) (bound : ℕ) (verdict : Verdict) : Type 0 where
   pub made : List workers.Exchange

@@ -1,7 +1,7 @@
 //! Workers with any lawful map are one flat machine.
 
 ghost use Rattle.flat_machine.specs.Flatness.{OutcomesAreSame, PurposesAreSame, RunsAgree, WorkersAreFlat};
-ghost use Rattle.flat_machine.specs.OneList.{ExchangesAreOne, WorkersMakeListed};
+ghost use Rattle.flat_machine.specs.OneList.{ExchangesAreOne, ExchangesAreUnique, WorkersMakeListed};
 
 /// The run of p workers with any lawful map is that of the flat machine, which has one memory, no
 /// workers and no messages: for every code, well formed or not, every input and every bound. So
@@ -25,5 +25,6 @@ pub fn runs_agree()
 /// one by one. So whoever counts the exchanges of code counts those of its workers.
 pub fn one_list_of_exchanges()
     ensures same { ExchangesAreOne }
+    ensures unique { ExchangesAreUnique }
     ensures workers { WorkersMakeListed }
 {}

@@ -19,19 +19,20 @@ use Rattle.superstep_code.specs.Stretch.{ToSend, ToReply, ToVote, ToClose, Arriv
 use Rattle.superstep_code.specs.Machine.{phase, phases, column}
 use Rattle.superstep_code.specs.Sending.{firsts, present, cell_at, put_of, entry_held, puts_held, cells_asked, asked_twice, asks_from, asks_held, sent}
 use Rattle.superstep_code.specs.Answering.{replied, voted, closing}
-use Rattle.superstep_code.specs.Run.{Purpose, Sends, Replies, Votes, Closes, Way, On, Ending, Past, Refused, Lost, State, Ready, is_held, mark_now, no_worker, stretch, ready, ready_at, ready_by, ready_with, message_for, message_with, message_of, mark_of, after_exchange, after_with, after, bsp, opening}
+use Rattle.superstep_code.specs.Run.{Purpose, Sends, Replies, Votes, Closes, Way, On, Ending, Past, Refused, Lost, State, Ready, is_held, mark_now, no_worker, stretch, ready, ready_at, ready_by, ready_with, message_for, message_with, message_of, mark_of, after_exchange, after_with, after, bsp}
+use Rattle.superstep_code.specs.Refusals.{opening_with}
+use Rattle.superstep_code.proofs.ReadBack.{message_back}
 use Rattle.superstep_code.specs.Fitting.{CanBeSent, FitsWrite, FitsWorker, IsCellBelow}
 use Rattle.superstep_code.proofs.MachineWords.{all_map, sent_can, replied_can}
 use Rattle.bsp_verify.specs.declared.state.State as states
 use Rattle.bsp_verify.specs.WellFormed.{IsWellFormed}
 use Rattle.bsp_verify.specs.Paths.{IsWithin}
-use Rattle.bsp_verify.specs.Runs.{worker_after}
 use Rattle.bsp_verify.specs.Moments.{side_of, DescribesWorker}
 use Rattle.bsp_verify.proofs.PathLemmas.{paths_sound}
 use Rattle.bsp_verify.proofs.WorkerLemmas.{none_of}
 use Rattle.bsp_verify.proofs.RunLemmas.{Arrives, Agrees, follow, next_agrees, begins}
 use Rattle.flat_machine.specs.Flatness.{IsMapFor}
-use Rattle.run_limits.specs.Within.{AreValues, share, words_for_each, MessagesCanBeSent, MessagesAreShort}
+use Rattle.run_limits.specs.Within.{AreValues, share, words_for_each, marked_after, MessagesCanBeSent, MessagesAreReadBack, MessagesAreShort}
 use Rattle.run_limits.proofs.Shares.{some_share}
 use Rattle.run_limits.proofs.Keeping.{IsReadBelow, IsWriteBelow, IsOwnKept, IsKept, length-filter_map}
 use Rattle.run_limits.proofs.Runs.{KeptAt, until_kept, ready_kept, all_also, none_kept, keeps, exchange_kept, column_values, opening_kept}
@@ -315,14 +316,22 @@ module _ (t : Setting) (code : IsCode t.code) (room : IsMapFor t.code t.map) (fo
   all_hold zero ws h = h
   all_hold (suc n) ws h = all_hold n (phase (bsp t) (workers t) ws) (next_holds ws h)
 
-  pub fits_after : (input : List ℤ) → AreValues input → (n w j : ℕ) → w < workers t →
-      Fits j (ready t w (worker_after t input n w)) (message_of t w (worker_after t input n w) j)
-  fits_after input v n w j l =
-      let h = all_hold n (opening t input) (record { holds = λ i. (opening_kept t code room input v i, λ q. tt); agree = λ i. begins t formed i input }) in
-      message_fits w l j (worker_after t input n w) (h.holds w) (h.agree w)
+  pub fits_after : (input : List ℤ) → AreValues input → (marks : ℕ → List HeaderMark) (n w j : ℕ) → w < workers t →
+      Fits j (ready t w (marked_after t input marks n w)) (message_of t w (marked_after t input marks n w) j)
+  fits_after input v marks n w j l =
+      let h = all_hold n (opening_with t input marks) (record {
+        holds = λ i. (opening_kept t code room input v i, λ q. tt);
+        agree = λ i. begins t formed i input;
+      }) in
+      message_fits w l j (marked_after t input marks n w) (h.holds w) (h.agree w)
 
 pub messages_can_be_sent : MessagesCanBeSent
-messages_can_be_sent t input g formed n w j l = (fits_after t g.code g.room formed input g.values n w j l).can
+messages_can_be_sent t input g formed marks n w j l = (fits_after t g.code g.room formed input g.values marks n w j l).can
+
+pub messages_are_read_back : MessagesAreReadBack
+messages_are_read_back t input g formed marks n w j l =
+    let s = marked_after t input marks n w in
+    message_back t.code.rule t.map j (ready t w s).purpose (message_of t w s j) (messages_can_be_sent t input g formed marks n w j l)
 
 pub messages_are_short : MessagesAreShort
-messages_are_short t input g formed n w j l = (fits_after t g.code g.room formed input g.values n w j l).short
+messages_are_short t input g formed marks n w j l = (fits_after t g.code g.room formed input g.values marks n w j l).short

@@ -4,15 +4,18 @@ use Rattle.std.specs.List.{AllByRecursion}
 use Rattle.std.specs.Int.{w64}
 use Rattle.pram_syntax.specs.declared.rule.Rule.{Rule}
 use Rattle.pram_syntax.specs.declared.rule.Rule.TheVariants.{Sum}
+use Rattle.superstep_code.specs.declared.mark.HeaderMark.{HeaderMark}
 use Rattle.superstep_code.specs.Limits.{IsCode}
 use Rattle.superstep_code.specs.Setting.{Setting, workers}
 use Rattle.superstep_code.specs.Parts.{Registers, PrivatePart}
 use Rattle.superstep_code.specs.Words.{words}
 use Rattle.superstep_code.specs.Worker.{Worker}
-use Rattle.superstep_code.specs.Run.{ready, message_of}
+use Rattle.superstep_code.specs.Machine.{phases}
+use Rattle.superstep_code.specs.Run.{State, ready, message_of, bsp}
+use Rattle.superstep_code.specs.Refusals.{opening_with}
 use Rattle.superstep_code.specs.Fitting.{CanBeSent}
+use Rattle.superstep_code.specs.WordLaws.{IsReadBack}
 use Rattle.bsp_verify.specs.WellFormed.{IsWellFormed}
-use Rattle.bsp_verify.specs.Runs.{worker_after}
 use Rattle.bsp_verify.specs.Moments.{moment}
 use Rattle.flat_machine.specs.Flatness.{IsMapFor}
 
@@ -52,11 +55,21 @@ abbrev pub words_for_each : Rule → ℕ
 words_for_each Sum = 12
 words_for_each rule = 11
 
--- every message of worker w to module j, in the exchange behind n others
-abbrev pub MessagesCanBeSent : Type 0
-MessagesCanBeSent = (t : Setting) (input : List ℤ) → IsGiven t input → IsWellFormed t.code → (n w j : ℕ) → w < workers t →
-    let s = worker_after t input n w in CanBeSent t.code.rule t.map j (ready t w s).purpose (message_of t w s j)
+-- worker w after n exchanges of a run in which these marks come: of refused memory, or of a passed reserve
+abbrev pub marked_after : Setting → List ℤ → (ℕ → List HeaderMark) → ℕ → ℕ → State
+marked_after t input marks n w = phases (bsp t) (workers t) n (opening_with t input marks) w
 
+-- Every message of worker w to module j in the exchange behind n others, whatever marks come: it can be sent, ..
+abbrev pub MessagesCanBeSent : Type 0
+MessagesCanBeSent = (t : Setting) (input : List ℤ) → IsGiven t input → IsWellFormed t.code → (marks : ℕ → List HeaderMark) (n w j : ℕ) → w < workers t →
+    let s = marked_after t input marks n w in CanBeSent t.code.rule t.map j (ready t w s).purpose (message_of t w s j)
+
+-- .. is read back from its header and its words, ..
+abbrev pub MessagesAreReadBack : Type 0
+MessagesAreReadBack = (t : Setting) (input : List ℤ) → IsGiven t input → IsWellFormed t.code → (marks : ℕ → List HeaderMark) (n w j : ℕ) → w < workers t →
+    let s = marked_after t input marks n w in IsReadBack t.code.rule t.map j (ready t w s).purpose (message_of t w s j)
+
+-- .. and has few words.
 abbrev pub MessagesAreShort : Type 0
-MessagesAreShort = (t : Setting) (input : List ℤ) → IsGiven t input → IsWellFormed t.code → (n w j : ℕ) → w < workers t →
-    length (words t.code.rule (message_of t w (worker_after t input n w) j)) ≤ words_for_each t.code.rule * share t
+MessagesAreShort = (t : Setting) (input : List ℤ) → IsGiven t input → IsWellFormed t.code → (marks : ℕ → List HeaderMark) (n w j : ℕ) → w < workers t →
+    length (words t.code.rule (message_of t w (marked_after t input marks n w) j)) ≤ words_for_each t.code.rule * share t

@@ -1,6 +1,6 @@
 //! The limits that runs of code keep.
 
-ghost use Rattle.run_limits.specs.Within.{ValuesFit, MessagesCanBeSent, MessagesAreShort};
+ghost use Rattle.run_limits.specs.Within.{ValuesFit, MessagesCanBeSent, MessagesAreReadBack, MessagesAreShort};
 
 /// At every moment of a run from an input of 64-bit values, for every code, well formed or not, all
 /// registers and cells have values of 64 bits.
@@ -8,10 +8,12 @@ pub fn values_fit()
     ensures { ValuesFit }
 {}
 
-/// Every message of such a run of verified code can be sent, and so is read back: its cells are of the
-/// module and have 20 bits, its reads are at most eight, and its values and writers' indices have 64
-/// bits, or a sum 128. It has at most 11 words for each processor that a worker can have, under `sum` 12.
+/// Every message of such a run of verified code can be sent, also where memory is refused to workers: its
+/// cells are of the module and have 20 bits, its reads are at most eight, and its values and writers'
+/// indices have 64 bits, or a sum 128. So it is read back from its words. It has at most 11 of them for
+/// each processor that a worker can have, under `sum` 12.
 pub fn messages_fit()
     ensures sent { MessagesCanBeSent }
+    ensures read { MessagesAreReadBack }
     ensures short { MessagesAreShort }
 {}
