@@ -34,9 +34,9 @@ fn merge_two<R: MachineRule>(
 fn asks_are_packed_once_with_a_mark(rt: HostRuntime) {
     let map = Identity::new(8, 2).expect(&rt, "eight cells");
     let mut asks = Asks::with_room(rt.alloc(), 4).expect(&rt, "memory");
-    asks.add(0, 0);
-    asks.add(0, 0);
-    asks.add(1, 0);
+    assert_eq!(rt; asks.add(0, 0), 0);
+    assert_eq!(rt; asks.add(0, 0), 0);
+    assert_eq!(rt; asks.add(1, 0), 1);
     let mut words = [0; 4];
     assert_eq!(rt; asks.pack(&map, 0, &mut words), 2);
     assert_eq!(rt; words, [8_388_608, 1_048_576, 0, 0]);
@@ -46,6 +46,7 @@ fn asks_are_packed_once_with_a_mark(rt: HostRuntime) {
         (asks.value(0, 0), asks.value(1, 0), asks.value(2, 0)),
         (7, 8, 0)
     );
+    assert_eq!(rt; (asks.value_at(0), asks.value_at(1)), (7, 8));
 }
 
 // Cells 1, 3, 5 and 7 lie in module 1 of two.

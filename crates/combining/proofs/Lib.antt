@@ -10,3 +10,4 @@ pub mod HeldFits
 pub mod Askers
 pub mod ModuleSends
 pub mod ModuleReplies
+pub mod AskPlaces

@@ -1,5 +1,5 @@
 -- The asks that are held, by read and cell in the order first held, and the values that came for them.
-use Rattle.std.specs.Prelude.{ℕ, ℤ, pos, ◌+◌, ◌*◌, ◌/◌, ◌%◌, ◌^◌, ◌<◌, List, [], ◌∷◌, map, true, false, if◌then◌else◌}
+use Rattle.std.specs.Prelude.{◌≡◌, ℕ, suc, length, slice_index_or, ℤ, pos, ◌+◌, ◌*◌, ◌/◌, ◌%◌, ◌^◌, ◌<◌, List, [], ◌∷◌, map, true, false, if◌then◌else◌}
 use Rattle.std.specs.List.{filter}
 use Rattle.std.specs.Int.{cast_signed, w64}
 use Rattle.std.proofs.Common.{eqb}
@@ -57,3 +57,24 @@ replied part j (w ∷ ws) (x ∷ rest) = if eqb (part x.ask.cell) j then answere
 abbrev pub value_for : ℕ → ℕ → List HeldAsk → ℤ
 value_for read cell [] = pos 0
 value_for read cell (x ∷ rest) = if eqb (key_of x.ask) (ask_key read cell) then x.value else value_for read cell rest
+
+-- where the ask by a read for a cell stands, or the length
+abbrev pub place_held : ℕ → ℕ → List HeldAsk → ℕ
+place_held read cell [] = 0
+place_held read cell (x ∷ rest) = if eqb (key_of x.ask) (ask_key read cell) then 0 else suc (place_held read cell rest)
+
+-- the value at a place
+abbrev pub value_held : List HeldAsk → ℕ → ℤ
+value_held held i = slice_index_or (map (λ (x : HeldAsk). x.value) held) i (pos 0)
+
+-- The value of an ask stands at its place; and neither another ask nor a reply moves it.
+abbrev pub ValueStandsAtItsPlace : Type 0
+ValueStandsAtItsPlace = (read cell : ℕ) (held : List HeldAsk) → value_for read cell held ≡ value_held held (place_held read cell held)
+
+abbrev pub RepliesMoveNothing : Type 0
+RepliesMoveNothing = (part : ℕ → ℕ) (j : ℕ) (ws : List ℕ) (read cell : ℕ) (held : List HeldAsk) →
+    place_held read cell (replied part j ws held) ≡ place_held read cell held
+
+abbrev pub AsksMoveNothing : Type 0
+AsksMoveNothing = (read cell other_read other_cell : ℕ) (held : List HeldAsk) → place_held read cell held < length held →
+    place_held read cell (ask other_read other_cell held) ≡ place_held read cell held

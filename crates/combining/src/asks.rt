@@ -5,7 +5,7 @@ ghost use Rattle.std.specs.List.{AllByRecursion};
 ghost use Rattle.std.proofs.Common.{eqb};
 ghost use Rattle.superstep_code.specs.Words.{ask_word, ask_words};
 ghost use Rattle.combining.specs.Held.{paired};
-ghost use Rattle.combining.specs.Asked.{ask, ask_at, asks_for, value_for, replied, IsAskBelow};
+ghost use Rattle.combining.specs.Asked.{ask, ask_at, asks_for, value_for, replied, IsAskBelow, place_held, value_held};
 
 use crate::index::Index;
 use address_map::AddressMap;
@@ -100,12 +100,14 @@ impl Asks {
         self.index.room()
     }
 
-    /// Holds an ask for a cell by a read of that number, or marks that it was made again.
-    pub fn add(&mut self, ordinal: u32, cell: u32)
+    /// Holds an ask for a cell by a read of that number, or marks that it was made again. Says at which
+    /// place it is held, for `value_at`: no later ask or reply moves it.
+    pub fn add(&mut self, ordinal: u32, cell: u32) -> usize
         requires room { length self.old.held < self.old.room }
         requires ordinal { ordinal < 8 }
         requires cell { cell < 2 ^ 20 }
         ensures held { self.new.held ≡ ask ordinal cell self.old.held }
+        ensures place { result ≡ place_held ordinal cell self.old.held }
         ensures room { self.new.room ≡ self.old.room }
     {
         let key = cell + 1_048_576 * ordinal;
@@ -122,6 +124,7 @@ impl Asks {
                 value: 0,
             });
         }
+        i
     }
 
     /// Writes the words of the asks for one module, and says how many they are. What is behind them stays.
@@ -165,6 +168,14 @@ impl Asks {
         } else {
             0
         }
+    }
+
+    /// The value that came for the ask that is held at a place, and 0 where none came.
+    pub fn value_at(&self, place: usize) -> i64
+        requires { place < length self.now.held }
+        ensures value { result ≡ value_held self.now.held place }
+    {
+        self.asked[place].value
     }
 
     /// Holds nothing any more.

@@ -11,6 +11,7 @@ ghost use Rattle.superstep_code.specs.Fitting.{FitsPut, FitsWrite, IsPutFor, IsA
 ghost use Rattle.superstep_code.specs.Worker.{HeldWrite, Worker};
 ghost use Rattle.superstep_code.specs.Sending.{join, entry_to, put_of, firsts, puts_held, entry_came, askers_came};
 ghost use Rattle.combining.specs.Answers.{AnswersAreTheReply};
+ghost use Rattle.combining.specs.Asked.{ValueStandsAtItsPlace, AsksMoveNothing, RepliesMoveNothing};
 ghost use Rattle.combining.specs.ModuleLaws.{MergedCells, MergedConflict, SharedConflict};
 ghost use Rattle.combining.specs.Held.{held_after, packed_puts, puts_for, IsPutBelow};
 
@@ -47,4 +48,11 @@ pub fn modules_are_the_machines()
 /// What a module answers to the ask words of a send, by the values after it, are the words of the machine's reply.
 pub fn answers_are_the_machines()
     ensures { AnswersAreTheReply }
+{}
+
+/// The value of a held ask stands at the place that `Asks::add` told, whatever asks and replies come.
+pub fn held_asks_keep_their_places()
+    ensures value { ValueStandsAtItsPlace }
+    ensures asks { AsksMoveNothing }
+    ensures replies { RepliesMoveNothing }
 {}

@@ -1,4 +1,4 @@
-use Rattle.std.proofs.Common.{rules, ◌≡◌, ◌<◌, ◌+◌, ◌*◌, ◌^◌, length, arith, pos, true, false, FitsSigned, w64, refl, ap, ◌∙◌, eqb}
+use Rattle.std.proofs.Common.{rules, ◌≡◌, ◌<◌, ◌+◌, ◌*◌, ◌^◌, length, arith, pos, true, false, FitsSigned, w64, refl, sym, ap, ◌∙◌, eqb}
 use Rattle.std.proofs.lemmas.Int.{to_z-of_z}
 use Rattle.combining.specs.declared.asks.Asked.{Asked}
 use Rattle.combining.specs.Places.{place_of}
@@ -6,6 +6,7 @@ use Rattle.combining.specs.Held.{hold, paired}
 use Rattle.combining.specs.Asked.{HeldAsk, ask_at, ask_key, key_of, marked_twice}
 use Rattle.combining.proofs.Pairs.{hold_at, hold_new, place_bound, length_paired}
 use Rattle.combining.proofs.Asking.{meant_at, fresh_at}
+use Rattle.combining.proofs.AskPlaces.{place_paired}
 use Rattle.combining.proofs.asks.Asks.add.Goals as goal
 
 pub push-requires-clause-new : goal.push-requires-clause-new
@@ -67,3 +68,12 @@ returns-else-i-len-clause-held c =
     rw (c.push.ensures.keys, c.push_reserved.ensures.items, ← c.self.view_is)
     (hold_new ask_at (λ (x : HeldAsk). eqb (key_of x.ask) key) marked_twice again key none (meant_at read cell) (λ k x. refl) ks xs n p
     ∙ ap (λ (y : HeldAsk). hold (λ (x : HeldAsk). eqb (key_of x.ask) key) marked_twice y (paired ask_at ks xs)) (fresh_at read cell small))
+
+-- it is held where it was found, or last
+pub returns-then-i-len-clause-place : goal.returns-then-i-len-clause-place
+returns-then-i-len-clause-place c =
+    rw (← c.self.view_is) (c.find-i.ensures.place ∙ sym (place_paired c.args.ordinal c.args.cell c.self.inside.index.keys c.self.inside.asked.items c.self.invariant.1))
+
+pub returns-else-i-len-clause-place : goal.returns-else-i-len-clause-place
+returns-else-i-len-clause-place c =
+    rw (← c.self.view_is) (c.find-i.ensures.place ∙ sym (place_paired c.args.ordinal c.args.cell c.self.inside.index.keys c.self.inside.asked.items c.self.invariant.1))
