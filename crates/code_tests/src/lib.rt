@@ -2,11 +2,11 @@
 #![tactic(auto)]
 
 #[cfg(test)]
-mod combining;
-#[cfg(test)]
 mod flat;
 #[cfg(test)]
-mod fusing;
+mod fused;
+#[cfg(test)]
+mod held_and_merged;
 #[cfg(test)]
 mod listing;
 #[cfg(test)]
