@@ -44,6 +44,7 @@ pub record IsUniformKept (n : ℕ) (u : UniformPart) : Type 0 where
   pub values : HaveValues u.registers
   pub indices : (v : ℕ) → v < u.width → FitsSigned w64 (index_of u v)
   pub asks : AllByRecursion (IsReadBelow n) u.asks
+  pub output : AllByRecursion (λ (item : ℕ × ℤ). FitsSigned w64 item.1) u.output
 
 pub record IsKept (t : Setting) (w : ℕ) (x : Worker) : Type 0 where
   pub uniform : IsUniformKept t.map.count x.uniform
@@ -98,26 +99,34 @@ module _ (code : SuperstepCode) (n : ℕ) (room : total_size code.layout ≤ n) 
       go (Some c) e = let l = cell_below code.layout entry z c e in omega (arith, l, room)
 
   uniform_kept : (i : Instr) → IsInstr i → (u : UniformPart) → IsUniformKept n u → IsUniformKept n (on_uniform code i u)
-  uniform_kept (Mark line) a u h = record { values = h.values; indices = h.indices; asks = h.asks }
+  uniform_kept (Mark line) a u h = record { values = h.values; indices = h.indices; asks = h.asks; output = h.output }
   uniform_kept (Enter r s q) a u h = record {
     values = h.values;
     indices = λ v l. index_within code.procs (u.registers r) (u.registers s) (h.values r) (h.values s) v l;
     asks = h.asks;
+    output = h.output;
   }
-  uniform_kept Leave a u h = record { values = h.values; indices = λ v l. absurd (omega (arith, l)); asks = h.asks }
+  uniform_kept Leave a u h = record { values = h.values; indices = λ v l. absurd (omega (arith, l)); asks = h.asks; output = h.output }
   uniform_kept (Ask Uniform d e s q) a u h = record {
     values = zero_without_fits (cell_of code.layout e (u.registers s)) d u.registers h.values;
     indices = h.indices;
     asks = all_add (IsReadBelow n) u.asks _ h.asks (record { cell = cell_fits e (u.registers s); own = λ k. cc });
+    output = h.output;
   }
   uniform_kept (Ask Private d e s q) a u h = record {
     values = h.values;
     indices = h.indices;
     asks = all_add (IsReadBelow n) u.asks _ h.asks (record { cell = tt; own = λ k. refl });
+    output = h.output;
   }
-  uniform_kept (Put side e s v q) a u h = record { values = h.values; indices = h.indices; asks = h.asks }
-  uniform_kept (Print s) a u h = record { values = h.values; indices = h.indices; asks = h.asks }
-  uniform_kept i a u h = record { values = result_if (is_of Uniform i) i u.registers u.registers a h.values h.values; indices = h.indices; asks = h.asks }
+  uniform_kept (Put side e s v q) a u h = record { values = h.values; indices = h.indices; asks = h.asks; output = h.output }
+  uniform_kept (Print s) a u h = record {
+    values = h.values;
+    indices = h.indices;
+    asks = h.asks;
+    output = all_add (λ (item : ℕ × ℤ). FitsSigned w64 item.1) u.output _ h.output (h.values s);
+  }
+  uniform_kept i a u h = record { values = result_if (is_of Uniform i) i u.registers u.registers a h.values h.values; indices = h.indices; asks = h.asks; output = h.output }
 
   module _ (u : UniformPart) (k : IsUniformKept n u) (v : ℕ) (l : v < u.width) where
     active_kept : (i : Instr) → IsInstr i → (y : PrivatePart) → IsOwnKept n y → IsOwnKept n (on_active code i u v y)

@@ -3,3 +3,4 @@ pub mod Shares
 pub mod Keeping
 pub mod Runs
 pub mod Messages
+pub mod Outcomes

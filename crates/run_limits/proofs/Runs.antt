@@ -170,7 +170,7 @@ module _ (t : Setting) (w : ℕ) where
 
     sent_kept : IsKept t w (after_send t w x messages)
     sent_kept = record {
-      uniform = record { values = h.uniform.values; indices = h.uniform.indices; asks = tt };
+      uniform = record { values = h.uniform.values; indices = h.uniform.indices; asks = tt; output = h.uniform.output };
       own = all_map (IsOwnKept count) (IsOwnKept count) own_sent (λ y k. record { values = k.values; asks = tt }) x.own h.own;
       cells = all_map (λ (y : ℕ × ℤ). FitsSigned w64 y.1) (FitsSigned w64)
           (λ (y : ℕ × ℤ). settled (verdict_on t.code.rule (entry_came t.code.rule messages (t.map.cell w y.0))) y.1)
@@ -188,6 +188,7 @@ module _ (t : Setting) (w : ℕ) where
         values = answers_fit (value_came t x messages) came_fits 0 (map (λ (r : Read). (r.destination, r.cell)) x.uniform.awaited) x.uniform.registers h.uniform.values;
         indices = h.uniform.indices;
         asks = h.uniform.asks;
+        output = h.uniform.output;
       };
       own = all_map (IsOwnKept count) (IsOwnKept count) (own_answered (value_came t x messages) x.uniform.awaited)
           (λ y k. record { values = answers_fit (value_came t x messages) came_fits 0 (zip (destinations x.uniform.awaited) y.awaited) y.registers k.values; asks = k.asks }) x.own h.own;
@@ -203,6 +204,7 @@ module _ (t : Setting) (w : ℕ) where
         values = truth_set d (list_any (λ (y : Message). y.active) messages) x.uniform.registers h.uniform.values;
         indices = h.uniform.indices;
         asks = h.uniform.asks;
+        output = h.uniform.output;
       };
       own = h.own;
       cells = h.cells;
@@ -219,7 +221,7 @@ module _ (t : Setting) (w : ℕ) where
 
   pub none_kept : IsKept t w no_worker
   none_kept = record {
-    uniform = record { values = λ r. zero_fits; indices = λ v l. absurd (omega (arith, l)); asks = tt };
+    uniform = record { values = λ r. zero_fits; indices = λ v l. absurd (omega (arith, l)); asks = tt; output = tt };
     own = tt;
     cells = tt;
     writes = tt;
@@ -296,4 +298,4 @@ values_fit_in_runs t input g n m w place x e =
     let s = worker_after t input n w in
     let k : IsKept t w x = subst (λ (o : Option (ℕ × Worker)). KeptThen t g.code w (IsKept t w) (keeps t g.code g.room w) o) e
     (walked_kept t g.code w (IsKept t w) (keeps t g.code g.room w) m s.place s.worker (kept_after t g.code g.room input g.values n w)) in
-    record { uniform = k.uniform.values; own = all_also (IsOwnKept t.map.count) (λ (y : PrivatePart). HaveValues y.registers) (λ y h. h.values) x.own k.own; cells = k.cells }
+    record { uniform = k.uniform.values; own = all_also (IsOwnKept t.map.count) (λ (y : PrivatePart). HaveValues y.registers) (λ y h. h.values) x.own k.own; cells = k.cells; output = k.uniform.output }

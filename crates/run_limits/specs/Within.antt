@@ -4,6 +4,7 @@ use Rattle.std.specs.List.{AllByRecursion}
 use Rattle.std.specs.Int.{w64}
 use Rattle.pram_syntax.specs.declared.rule.Rule.{Rule}
 use Rattle.pram_syntax.specs.declared.rule.Rule.TheVariants.{Sum}
+use Rattle.write_rules.specs.Verdict.{Verdict, Ended, Faulted, GoesOn}
 use Rattle.superstep_code.specs.declared.mark.HeaderMark.{HeaderMark}
 use Rattle.superstep_code.specs.Limits.{IsCode}
 use Rattle.superstep_code.specs.Setting.{Setting, workers}
@@ -11,7 +12,7 @@ use Rattle.superstep_code.specs.Parts.{Registers, PrivatePart}
 use Rattle.superstep_code.specs.Words.{words}
 use Rattle.superstep_code.specs.Worker.{Worker}
 use Rattle.superstep_code.specs.Machine.{phases}
-use Rattle.superstep_code.specs.Run.{State, ready, message_of, bsp}
+use Rattle.superstep_code.specs.Run.{State, ready, message_of, bsp, IsBspOutcome}
 use Rattle.superstep_code.specs.Refusals.{opening_with}
 use Rattle.superstep_code.specs.Fitting.{CanBeSent}
 use Rattle.superstep_code.specs.WordLaws.{IsReadBack}
@@ -28,11 +29,12 @@ AreValues = AllByRecursion (FitsSigned w64)
 abbrev pub HaveValues : Registers → Type 0
 HaveValues registers = (r : ℕ) → FitsSigned w64 (registers r)
 
--- all that a worker has, on both sides and in its module
+-- all that a worker has: on both sides, in its module, and what was printed
 pub record IsOfValues (x : Worker) : Type 0 where
   pub uniform : HaveValues x.uniform.registers
   pub own : AllByRecursion (λ (y : PrivatePart). HaveValues y.registers) x.own
   pub cells : AreValues x.cells
+  pub output : AllByRecursion (λ (item : ℕ × ℤ). FitsSigned w64 item.1) x.uniform.output
 
 -- a run on the workers of a map with a place for each cell, from an input of values
 pub record IsGiven (t : Setting) (input : List ℤ) : Type 0 where
@@ -43,6 +45,16 @@ pub record IsGiven (t : Setting) (input : List ℤ) : Type 0 where
 -- at every moment, for every code
 abbrev pub ValuesFit : Type 0
 ValuesFit = (t : Setting) (input : List ℤ) → IsGiven t input → (n m w place : ℕ) (x : Worker) → moment t input n m w ≡ Some (place, x) → IsOfValues x
+
+-- the output and the memory of an outcome
+abbrev pub IsVerdictOfValues : Verdict → Type 0
+IsVerdictOfValues (Ended output memory) = AreValues output × AreValues memory
+IsVerdictOfValues (Faulted fault output) = AreValues output
+IsVerdictOfValues (GoesOn output) = AreValues output
+
+-- so are the outcomes of every code
+abbrev pub OutcomesFit : Type 0
+OutcomesFit = (t : Setting) (input : List ℤ) → IsGiven t input → (verdict : Verdict) → IsBspOutcome t.code t.map input t.bound verdict → IsVerdictOfValues verdict
 
 -- ---- messages
 

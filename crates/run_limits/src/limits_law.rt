@@ -1,11 +1,13 @@
 //! The limits that runs of code keep.
 
-ghost use Rattle.run_limits.specs.Within.{ValuesFit, MessagesCanBeSent, MessagesAreReadBack, MessagesAreShort};
+ghost use Rattle.run_limits.specs.Within.{OutcomesFit, ValuesFit, MessagesCanBeSent, MessagesAreReadBack, MessagesAreShort};
 
 /// At every moment of a run from an input of 64-bit values, for every code, well formed or not, all
-/// registers and cells have values of 64 bits.
+/// registers and cells and what was printed have values of 64 bits; and so have the output and the memory
+/// of its outcome.
 pub fn values_fit()
-    ensures { ValuesFit }
+    ensures moments { ValuesFit }
+    ensures outcomes { OutcomesFit }
 {}
 
 /// Every message of such a run of verified code can be sent, also where memory is refused to workers: its
