@@ -17,3 +17,4 @@ pub mod Collected
 pub mod Refused
 pub mod MachineWords
 pub mod HeaderBack
+pub mod Written

@@ -16,6 +16,7 @@ pub mod Steps
 pub mod Words
 pub mod Worker
 pub mod Sending
+pub mod WrittenCells
 pub mod Answering
 pub mod Stretch
 pub mod Machine

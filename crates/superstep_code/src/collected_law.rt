@@ -10,6 +10,7 @@ ghost use Rattle.superstep_code.specs.Keys.{is_first, least};
 ghost use Rattle.pram_values.specs.Place.{is_place_before};
 ghost use Rattle.superstep_code.specs.Setting.{combining};
 ghost use Rattle.superstep_code.specs.Sending.{join, several};
+ghost use Rattle.superstep_code.specs.WrittenCells.{EntriesOfAll, WritersGetTheRule, NoWritersNoVerdict};
 
 /// Which of two keys is told: that of the earlier statement, there that of the lesser position, there
 /// a fault of one processor rather than a conflict, and there that of the place that comes first.
@@ -34,4 +35,12 @@ pub fn collected_in_any_order()
     ensures entries { (rule : RuleName) → IsMonoid (Option CellEntry) None (join rule) }
     ensures carried { (rule : RuleName) → Carries rule (combining rule) }
     ensures askers { IsMonoid (Option Bool) None several }
+{}
+
+/// What the writes of all workers leave in a cell is the rule's value on the cell's writers, whoever
+/// holds them.
+pub fn writers_get_what_the_rule_gives()
+    ensures all { EntriesOfAll }
+    ensures given { WritersGetTheRule }
+    ensures none { NoWritersNoVerdict }
 {}
