@@ -48,7 +48,8 @@ Acts Send = ⊥
 Acts Reply = ⊥
 Acts _ = Unit {0}
 
-pub acts : (code : SuperstepCode) (i : Instr) (s : State) (u : UniformPart) → Acts i → s.awaits ≡ false → Describes s u → Describes (after i s) (on_uniform code i u)
+pub acts : (code : SuperstepCode) (i : Instr) (s : State) (u : UniformPart) → Acts i → s.awaits ≡ false → Describes s u →
+    Describes (after i s) (on_uniform code i u)
 acts code Send s u a f d = absurd a
 acts code Reply s u a f d = absurd a
 acts code (Ask Uniform x c r q) s u a f d = record { asks = length-append u.asks _ ∙ ap (λ n. n + 1) d.asks; put = d.put; awaited = d.awaited; alone = λ h. not_both s.awaits f h }
@@ -80,11 +81,13 @@ some_came [] h e = cc
 some_came (x ∷ xs) h e = cc
 
 -- a verdict either is told, or leaves a run as it was
-pub unless_same : (z : machine.Way) → ((key : Option Key) (ended : Bool) → machine.Past key ended ≡ z → ⊥) → (way : machine.Way) (key : Option Key) → machine.unless key way ≡ z → way ≡ z
+pub unless_same : (z : machine.Way) → ((key : Option Key) (ended : Bool) → machine.Past key ended ≡ z → ⊥) →
+    (way : machine.Way) (key : Option Key) → machine.unless key way ≡ z → way ≡ z
 unless_same z past way None e = e
 unless_same z past way (Some key) e = absurd (past (Some key) false e)
 
-pub decided_same : (z : machine.Way) → ((key : Option Key) (ended : Bool) → machine.Past key ended ≡ z → ⊥) → (p : machine.Purpose) (u : UniformPart) (key : Option Key) (way : machine.Way) → machine.decided p u key way ≡ z → way ≡ z
+pub decided_same : (z : machine.Way) → ((key : Option Key) (ended : Bool) → machine.Past key ended ≡ z → ⊥) →
+    (p : machine.Purpose) (u : UniformPart) (key : Option Key) (way : machine.Way) → machine.decided p u key way ≡ z → way ≡ z
 decided_same z past machine.Sends u key way h = go (machine.is_held u.put) h
   where
     go : (b : Bool) → (if b then way else machine.unless (machine.due key u.count) way) ≡ z → way ≡ z
@@ -172,7 +175,8 @@ module _ (t : Setting) (formed : IsWellFormed t.code) (w : ℕ) where
         works : Works i → Leads i q.place (q.place + 1) → Good (next (q.place + 1) (after_instr t w i x))
         works a l = goes (q.place + 1) (after_instr t w i x) l (acts_worker t w q.state x d q.place i a may within)
 
-      step : (i : Instr) → slice_get t.code.instructions q.place ≡ Some i → IsAllowed t.code q.place i q.state → IsWithin q.state → Good (at i)
+      step : (i : Instr) → slice_get t.code.instructions q.place ≡ Some i → IsAllowed t.code q.place i q.state → IsWithin q.state →
+          Good (at i)
       step Send is f l = halts Send is f l ToSend refl
       step Reply is f l = halts Reply is f l ToReply refl
       step (Vote v) is f l = halts (Vote v) is f l (ToVote v) refl
@@ -230,7 +234,8 @@ module _ (t : Setting) (formed : IsWellFormed t.code) (w : ℕ) where
 
   module _ (messages : List Message) where
     -- after an exchange it is there, if it was on its way
-    exchanged : (r : machine.Ready) → (r.state.way ≡ machine.On → IsThere r.state.place (machine.after_exchange t w r.purpose r.state.worker messages)) →
+    exchanged : (r : machine.Ready) → (r.state.way ≡ machine.On →
+        IsThere r.state.place (machine.after_exchange t w r.purpose r.state.worker messages)) →
         Agrees (machine.after t w r messages)
     exchanged r next = go (machine.mark_of messages)
       where
@@ -240,7 +245,8 @@ module _ (t : Setting) (formed : IsWellFormed t.code) (w : ℕ) where
         go Clear = λ h. next (decided_same machine.On (λ key ended e. cc) r.purpose r.state.worker.uniform (machine.key_of messages) r.state.way h)
 
     -- the place behind an exchange
-    behind : (stop : Stop) (place : ℕ) (x : Worker) (i : Instr) (y : Worker) (h : Stops stop place x) → h.instr ≡ i → ((k : ℕ) → Leads i k (k + 1)) →
+    behind : (stop : Stop) (place : ℕ) (x : Worker) (i : Instr) (y : Worker) (h : Stops stop place x) → h.instr ≡ i → ((k : ℕ) →
+        Leads i k (k + 1)) →
         ((s : State) → DescribesWorker t w s x → DescribesWorker t w (after i s) y) → IsThere (place + 1) y
     behind stop place x i y h same leads described =
         let q = h.there.point in
@@ -261,7 +267,8 @@ module _ (t : Setting) (formed : IsWellFormed t.code) (w : ℕ) where
     pub next_agrees : (s : machine.State) → Agrees s → Agrees (machine.after t w (machine.ready t w s) messages)
     next_agrees s a = marked (machine.mark_now s.refusals)
       where
-        stays : (way : machine.Way) → s.way ≡ way → (way ≡ machine.On → ⊥) → Agrees (machine.after t w (record { purpose = machine.Closes; state = s }) messages)
+        stays : (way : machine.Way) → s.way ≡ way → (way ≡ machine.On → ⊥) →
+            Agrees (machine.after t w (record { purpose = machine.Closes; state = s }) messages)
         stays way e no_way = exchanged (record { purpose = machine.Closes; state = s }) (λ h. absurd (no_way (sym e ∙ h)))
 
         go : (way : machine.Way) → s.way ≡ way → Agrees (machine.after t w (machine.ready_by t w s way) messages)
@@ -279,7 +286,8 @@ module _ (t : Setting) (formed : IsWellFormed t.code) (w : ℕ) where
   pub begins : (input : List ℤ) → Agrees (machine.opening t input w)
   begins input h = record { steps = 0; point = record { place = 0; state = opening }; comes = (refl, refl); here = refl; describes = opening_worker t w input }
 
-  may_make : (s : machine.State) → Agrees s → s.way ≡ machine.On → (stop : Stop) (place : ℕ) (x : Worker) → machine.stretch t w s ≡ At stop place x →
+  may_make : (s : machine.State) → Agrees s → s.way ≡ machine.On → (stop : Stop) (place : ℕ) (x : Worker) →
+      machine.stretch t w s ≡ At stop place x →
       IsOnPath t.code place × MayExchange stop x.uniform
   may_make s a h stop place x e =
       let z = subst Arrives e (follow t.enough s.place s.worker (a h)) in
@@ -297,11 +305,13 @@ module _ (t : Setting) (formed : IsWellFormed t.code) (w : ℕ) where
     sound = paths_sound t.code formed h.steps h.point h.comes;
   }
 
-  at_moment : (s : machine.State) → Agrees s → s.way ≡ machine.On → (m place : ℕ) (x : Worker) → walk m s.place s.worker ≡ Some (place, x) → IsDescribed t w place x
+  at_moment : (s : machine.State) → Agrees s → s.way ≡ machine.On → (m place : ℕ) (x : Worker) →
+      walk m s.place s.worker ≡ Some (place, x) → IsDescribed t w place x
   at_moment s a h m place x e = described place x (subst IsMoment e (walks m s.place s.worker (a h)))
 
 module _ (t : Setting) (formed : IsWellFormed t.code) where
-  phases_agree : (p n : ℕ) (ws : ℕ → machine.State) → ((w : ℕ) → Agrees t formed w (ws w)) → (w : ℕ) → Agrees t formed w (phases (machine.bsp t) p n ws w)
+  phases_agree : (p n : ℕ) (ws : ℕ → machine.State) → ((w : ℕ) → Agrees t formed w (ws w)) → (w : ℕ) →
+      Agrees t formed w (phases (machine.bsp t) p n ws w)
   phases_agree p zero ws a w = a w
   phases_agree p (suc n) ws a w =
       phases_agree p n (phase (machine.bsp t) p ws) (λ v. next_agrees t formed v (column (machine.bsp t) p ws v) (ws v) (a v)) w

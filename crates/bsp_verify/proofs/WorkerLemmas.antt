@@ -43,7 +43,8 @@ all_numbered P Q g f [] ys h = tt
 all_numbered P Q g f (v ∷ vs) [] h = tt
 all_numbered P Q g f (v ∷ vs) (y ∷ ys) h = (f v y h.0, all_numbered P Q g f vs ys h.1)
 
-pub length-numbered : (g : ℕ × PrivatePart → PrivatePart) (vs : List ℕ) (ys : List PrivatePart) → length ys ≡ length vs → length (map g (zip vs ys)) ≡ length vs
+pub length-numbered : (g : ℕ × PrivatePart → PrivatePart) (vs : List ℕ) (ys : List PrivatePart) → length ys ≡ length vs →
+    length (map g (zip vs ys)) ≡ length vs
 length-numbered g [] ys h = refl
 length-numbered g (v ∷ vs) [] h = absurd (omega (arith, h))
 length-numbered g (v ∷ vs) (y ∷ ys) h = let r = length-numbered g vs ys (omega (arith, h)) in omega (arith, r)
@@ -76,7 +77,8 @@ Works Send = ⊥
 Works Reply = ⊥
 Works _ = Unit {0}
 
-one_part : (code : SuperstepCode) (i : Instr) → Works i → (s : State) (n : ℕ) (u : UniformPart) (v : ℕ) (y : PrivatePart) → HasPlaces s.masks s.asks n y →
+one_part : (code : SuperstepCode) (i : Instr) → Works i → (s : State) (n : ℕ) (u : UniformPart) (v : ℕ) (y : PrivatePart) →
+    HasPlaces s.masks s.asks n y →
     HasPlaces (after i s).masks (after i s).asks n (on_own code i u v y)
 one_part code Send a s n u v y h = absurd a
 one_part code Reply a s n u v y h = absurd a
@@ -140,7 +142,8 @@ module _ (t : Setting) (w : ℕ) (s : State) (x : Worker) (d : DescribesWorker t
     awaited_of : (b : Bool) → AreOf b x.uniform.awaited
     awaited_of b = subst (AreOf b) (sym none_awaited) tt
 
-  pub acts_worker : (place : ℕ) (i : Instr) → Works i → IsAllowed t.code place i s → IsWithin s → DescribesWorker t w (after i s) (after_instr t w i x)
+  pub acts_worker : (place : ℕ) (i : Instr) → Works i → IsAllowed t.code place i s → IsWithin s →
+      DescribesWorker t w (after i s) (after_instr t w i x)
   acts_worker place Send a h l = absurd a
   acts_worker place Reply a h l = absurd a
   acts_worker place (Enter r q k) a h l = record {

@@ -19,11 +19,14 @@ use Rattle.bsp_verify.specs.Runs.{worker_after}
 -- the place and the state after n instructions of a stretch, if it has so many
 abbrev pub walked : {S : Type 0} → ℕ → (S → UniformPart) → (Instr → S → S) → List Instr → ℕ → ℕ → S → Option (ℕ × S)
 walked bound u step code zero place s = Some (place, s)
-walked bound u step code (suc n) place s = advance bound u step None (λ stop k x. None) (walked bound u step code n) (slice_get code place) place s
+walked bound u step code (suc n) place s =
+    advance bound u step None (λ stop k x. None) (walked bound u step code n) (slice_get code place) place s
 
 -- worker w after n exchanges and m instructions behind them, if the stretch has so many
 abbrev pub moment : Setting → List ℤ → ℕ → ℕ → ℕ → Option (ℕ × Worker)
-moment t input n m w = let s = worker_after t input n w in walked t.bound (λ (x : Worker). x.uniform) (after_instr t w) t.code.instructions m s.place s.worker
+moment t input n m w =
+    let s = worker_after t input n w in
+    walked t.bound (λ (x : Worker). x.uniform) (after_instr t w) t.code.instructions m s.place s.worker
 
 -- ---- what a state says of a worker
 

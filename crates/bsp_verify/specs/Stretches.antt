@@ -48,8 +48,8 @@ pub record IsPlaced (code : SuperstepCode) (place : ℕ) (i : Instr) (s : State)
   pub joins : (t : ℕ) → JumpsTo i t → scan_of code t ≡ s
   pub followed : goes_on i ≡ false → place + 1 < length code.instructions → IsReached code (place + 1)
 
--- The instructions `is`, from place `at` on, are entered with the state s, and left with m: each may stand where it does with the state that
--- those before it leave.
+-- The instructions `is`, from place `at` on, are entered with the state s, and left with m: each may stand where it does with the state
+-- that those before it leave.
 abbrev pub IsStretch : SuperstepCode → ℕ → State → List Instr → State → Type 0
 IsStretch code at s [] m = s ≡ m
 IsStretch code at s (i ∷ is) m = IsPlaced code at i s × IsStretch code (at + 1) (after i s) is m
@@ -80,7 +80,8 @@ AStretchIsCode = (code : SuperstepCode) (m : State) → 0 < length code.instruct
 abbrev pub PartsStand : Type 0
 PartsStand = (code : SuperstepCode) →
     Stands code 0 opening code.instructions
-    × ((at : ℕ) (s : State) (xs ys : List Instr) → Stands code at s (xs ++ ys) → Stands code at s xs × Stands code (at + length xs) (behind xs s) ys)
+    × ((at : ℕ) (s : State) (xs ys : List Instr) → Stands code at s (xs ++ ys) →
+    Stands code at s xs × Stands code (at + length xs) (behind xs s) ys)
 
 -- .. and it has its instructions there, and its places, the one behind it too, the states that the instructions leave one after the other.
 abbrev pub WhatStandsIsThere : Type 0

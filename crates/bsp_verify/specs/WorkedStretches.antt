@@ -18,4 +18,11 @@ abbrev pub ending : List Instr
 ending = Mark 2 ∷ Print 0 ∷ Halt ∷ []
 
 abbrev pub counting : SuperstepCode
-counting = record { rule = Crew; procs = 1; layout = []; uniform_registers = 2; private_registers = 0; instructions = settings ++ (turns ++ ending) }
+counting = record {
+  rule = Crew;
+  procs = 1;
+  layout = [];
+  uniform_registers = 2;
+  private_registers = 0;
+  instructions = settings ++ (turns ++ ending);
+}

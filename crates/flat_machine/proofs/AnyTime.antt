@@ -55,7 +55,8 @@ due_key (Some k) count key e = go (nat_lt k.count count) refl e
         less a b q = grind (arith, nat_tests)
     go false h d = cc
 
-late_where_due : (code : SuperstepCode) (f : Flat) (key : Key) → due f.key f.uniform.count ≡ Some key → is_held f.uniform.put ≡ false → IsLate code key f
+late_where_due : (code : SuperstepCode) (f : Flat) (key : Key) → due f.key f.uniform.count ≡ Some key → is_held f.uniform.put ≡ false →
+    IsLate code key f
 late_where_due code f key d h = let x = due_key f.key f.uniform.count key d in record { told = told_noted code f h ∙ x.0; over = x.1 }
 
 module _ (code : SuperstepCode) (formed : IsWellFormed code) (bound : ℕ) (one two : ℕ → Bool) where
@@ -73,7 +74,8 @@ module _ (code : SuperstepCode) (formed : IsWellFormed code) (bound : ℕ) (one 
       (λ e. inl (λ i. record { flat = after_exchange code purpose f; place = place + 1; way = (on one e ∙ sym (on two e)) i }))
       (λ k. inr (k.0, late_where_due code f k.0 k.1 k.2)) h
     where
-      on : (judges : ℕ → Bool) → decided purpose f.uniform f.key On ≡ On → (if judges place then decided purpose f.uniform f.key On else On) ≡ On
+      on : (judges : ℕ → Bool) → decided purpose f.uniform f.key On ≡ On →
+          (if judges place then decided purpose f.uniform f.key On else On) ≡ On
       on judges e = go (judges place)
         where
           go : (b : Bool) → (if b then decided purpose f.uniform f.key On else On) ≡ On
@@ -167,7 +169,8 @@ none_noted code line f = total_none None least keys_are_monoid (λ v. own_key co
     go false = refl
 
 -- what is told is of this statement or of an earlier one
-told_counted : (code : SuperstepCode) (place : ℕ) (f : Flat) → IsAt code place f → (key : Key) → told code f ≡ Some key → key.count ≤ f.uniform.count
+told_counted : (code : SuperstepCode) (place : ℕ) (f : Flat) → IsAt code place f → (key : Key) → told code f ≡ Some key →
+    key.count ≤ f.uniform.count
 told_counted code place f a key e =
     subst (IsKeyOf (λ n. n ≤ f.uniform.count)) e
     (least_of (λ n. n ≤ f.uniform.count) f.key (owed code f) a.counted.key (owed_of (λ n. n ≤ f.uniform.count) code f a.counted.put))
@@ -196,7 +199,8 @@ module _ (code : SuperstepCode) (formed : IsWellFormed code) (bound : ℕ) (judg
     agrees = states_describe code formed bound judges input n on
 
     -- the instruction there, carried out
-    goes : (i : Instr) → slice_get code.instructions here.place ≡ Some i → step code bound judges here ≡ carried_out code bound judges (Some i) here.place here.flat
+    goes : (i : Instr) → slice_get code.instructions here.place ≡ Some i →
+        step code bound judges here ≡ carried_out code bound judges (Some i) here.place here.flat
     goes i is = ap (step_by code bound judges here) on ∙ ap (λ (o : Option Instr). carried_out code bound judges o here.place here.flat) is
 
     fits : (i : Instr) → slice_get code.instructions here.place ≡ Some i → Fits code here.place here.flat agrees i
@@ -228,7 +232,8 @@ module _ (code : SuperstepCode) (formed : IsWellFormed code) (bound : ℕ) (judg
           ends = told_late ∙ ap (λ (x : State). faulted key (items_below key.count x.flat.uniform.output)) s;
         }
 
-    by_end : (o : Option Instr) → slice_get code.instructions here.place ≡ o → ends_statement o ≡ true → IsOutcomeBy judges code input bound verdict
+    by_end : (o : Option Instr) → slice_get code.instructions here.place ≡ o → ends_statement o ≡ true →
+        IsOutcomeBy judges code input bound verdict
     by_end (Some (Mark line)) is h = at_mark line is (eqb here.flat.uniform.count bound) refl
     by_end (Some Halt) is h = closes true (halt_asks_none code here.place here.flat agrees (fits Halt is)) (goes Halt is)
     by_end None is h = cc

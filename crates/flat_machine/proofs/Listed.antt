@@ -92,7 +92,8 @@ module _ (t : Plan) where
       pub lists : listed instructions s ≡ purposes
 
     -- behind some instructions
-    later : (n : ℕ) (s z : State) (first rest : List Purpose) → many t n s ≡ z → listed n s ≡ first → Returns z rest → Returns s (first ++ rest)
+    later : (n : ℕ) (s z : State) (first rest : List Purpose) → many t n s ≡ z → listed n s ≡ first → Returns z rest →
+        Returns s (first ++ rest)
     later n s z first rest e h r = record {
       instructions = n + r.instructions;
       ends = ap (outcome_of t.code) (steps_more t.code t.bound everywhere n r.instructions s ∙ ap (many t r.instructions) e) ∙ r.ends;
@@ -105,7 +106,8 @@ module _ (t : Plan) where
 
     -- a close is over by one exchange or by two
     module _ (s : State) (ended : Bool) (place : ℕ) (f : Flat) where
-      closes_back : (x : ℕ) (b : Bool) → is_held f.uniform.put ≡ b → run t x (closing t s ended place f b) ≡ Some (Some v) → outcome_of t.code (closed t.code ended place f) ≡ Some v
+      closes_back : (x : ℕ) (b : Bool) → is_held f.uniform.put ≡ b → run t x (closing t s ended place f b) ≡ Some (Some v) →
+          outcome_of t.code (closed t.code ended place f) ≡ Some v
       closes_back zero b e h = cc
       closes_back (suc zero) true e h =
           let w : (closing t s ended place f true).way ≡ Ending ended = ap (unended t s ended place f) e in
@@ -150,7 +152,8 @@ module _ (t : Plan) where
       arrived_is : (p : Purpose) (place : ℕ) (f : Flat) → arrived p place f ≡ exchanged t.code everywhere p place f
       arrived_is p place f = ap (λ w. record { flat = after_exchange t.code p f; place = place + 1; way = decided p f.uniform f.key w }) on
 
-      exchange_returns : (p : Purpose) (place : ℕ) (f : Flat) (n : ℕ) → many t n (going s.place s.flat) ≡ exchanged t.code everywhere p place f →
+      exchange_returns : (p : Purpose) (place : ℕ) (f : Flat) (n : ℕ) →
+          many t n (going s.place s.flat) ≡ exchanged t.code everywhere p place f →
           made n (going s.place s.flat) ≡ exchange p f.uniform ∷ [] → run t x (arrived p place f) ≡ Some (Some v) → Returns s (p ∷ purposes_from t x (arrived p place f))
       exchange_returns p place f n e m h =
           let z = exchanged t.code everywhere p place f in
@@ -175,11 +178,13 @@ module _ (t : Plan) where
     abbrev purposes_if : ℕ → State → Way → List Purpose
     purposes_if x s way = if is_over way then [] else (ready_by t s way).purpose ∷ purposes_from t x (after t.code (ready_by t s way))
 
-    returns : (x : ℕ) (s : State) → ((ended : Bool) → s.way ≡ Ending ended → ⊥) → run t x s ≡ Some (Some v) → Returns s (purposes_from t x s)
+    returns : (x : ℕ) (s : State) → ((ended : Bool) → s.way ≡ Ending ended → ⊥) → run t x s ≡ Some (Some v) →
+        Returns s (purposes_from t x s)
     returns zero s unended h = cc
     returns (suc x) s unended h = go (returns x) s.way refl
       where
-        go : ((z : State) → ((ended : Bool) → z.way ≡ Ending ended → ⊥) → run t x z ≡ Some (Some v) → Returns z (purposes_from t x z)) → (way : Way) → s.way ≡ way →
+        go : ((z : State) → ((ended : Bool) → z.way ≡ Ending ended → ⊥) → run t x z ≡ Some (Some v) →
+            Returns z (purposes_from t x z)) → (way : Way) → s.way ≡ way →
             Returns s (purposes_if x s s.way)
         go rest On e =
             subst (λ (way : Way). Returns s (purposes_if x s way)) (sym e)
@@ -191,5 +196,6 @@ module _ (t : Plan) where
         go rest (Refused mark) e = no_outcome t s (Refused mark) e (λ h. h) v (unsome _ (Some v) (sym (ap (went t x s) e) ∙ h))
         go rest Lost e = lost_ends (suc x) s e h
 
-pub to_instructions : (t : Plan) (x : ℕ) (input : List ℤ) (v : Verdict) → outcome_by t x input ≡ Some (Some v) → Returns t v (opening input) (purposes_by t x input)
+pub to_instructions : (t : Plan) (x : ℕ) (input : List ℤ) (v : Verdict) → outcome_by t x input ≡ Some (Some v) →
+    Returns t v (opening input) (purposes_by t x input)
 to_instructions t x input v h = returns t v x (opening input) (λ ended e. cc) h

@@ -196,7 +196,8 @@ module _ (t : Setting) (m : ℕ) (more : t.enough ≤ m) where
         other : is_over (vs 0).way ≡ is_over s.way
         other = ap (λ (y : State). is_over y.way) (sym (e 0 (first t room))) ∙ ap is_over (a.way 0 (first t room))
 
-        go : (((w : ℕ) → w < workers t → phase (bsp t) (workers t) ws w ≡ phase (bsp u) (workers t) vs w) → flat.run (plan t) n (flat.next (plan t) s) ≡ Some (Some v) →
+        go : (((w : ℕ) → w < workers t → phase (bsp t) (workers t) ws w ≡ phase (bsp u) (workers t) vs w) →
+            flat.run (plan t) n (flat.next (plan t) s) ≡ Some (Some v) →
             run (bsp u) (workers t) k (phase (bsp u) (workers t) vs) ≡ Some x →
             exchanges_from t n (phase (bsp t) (workers t) ws) ≡ exchanges_from u k (phase (bsp u) (workers t) vs)) → (b : Bool) → is_over s.way ≡ b →
             (if is_over s.way then [] else exchange_of t ws ∷ exchanges_from t n (phase (bsp t) (workers t) ws))

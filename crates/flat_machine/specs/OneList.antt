@@ -22,23 +22,27 @@ purposes_of = map (λ (e : Exchange). e.purpose)
 -- For every code, well formed or not: what the exchanges of the workers of a map are for, up to a verdict, is what those of any number of
 -- instructions that comes to it are for.
 abbrev pub ExchangesAreOne : Type 0
-ExchangesAreOne = (code : SuperstepCode) (map : Shape) → IsMapFor code map → (input : List ℤ) (bound : ℕ) (verdict : Verdict) (made : List workers.Exchange) →
+ExchangesAreOne = (code : SuperstepCode) (map : Shape) → IsMapFor code map →
+    (input : List ℤ) (bound : ℕ) (verdict : Verdict) (made : List workers.Exchange) →
     AreBspExchanges code map input bound verdict made → (n : ℕ) → outcome_within code bound everywhere n input ≡ Some verdict →
     made_for made ≡ purposes_of (exchanges_from code bound everywhere n (opening input))
 
 -- And each map has one list: the exchanges up to a verdict, with their words, don't depend on how many instructions a stretch may have, or
 -- on how many exchanges there may be, where these are enough.
 abbrev pub ExchangesAreUnique : Type 0
-ExchangesAreUnique = (code : SuperstepCode) (map : Shape) → IsMapFor code map → (input : List ℤ) (bound : ℕ) (verdict other : Verdict) (made more : List workers.Exchange) →
+ExchangesAreUnique = (code : SuperstepCode) (map : Shape) → IsMapFor code map →
+    (input : List ℤ) (bound : ℕ) (verdict other : Verdict) (made more : List workers.Exchange) →
     AreBspExchanges code map input bound verdict made → AreBspExchanges code map input bound other more → made ≡ more
 
 -- The workers of a map make exchanges up to the verdict, each with its words; and whatever they make is for what the code's list says.
 pub record MakesListed (code : SuperstepCode) (map : Shape) (input : List ℤ) (bound : ℕ) (verdict : Verdict) : Type 0 where
   pub made : List workers.Exchange
   pub makes : AreBspExchanges code map input bound verdict made
-  pub listed : (other : List workers.Exchange) → AreBspExchanges code map input bound verdict other → made_for other ≡ purposes_of (exchanges_of code bound input)
+  pub listed : (other : List workers.Exchange) → AreBspExchanges code map input bound verdict other →
+      made_for other ≡ purposes_of (exchanges_of code bound input)
 
 -- So do those of every map, where the code is well formed: no number of workers and no map is in the list.
 abbrev pub WorkersMakeListed : Type 0
-WorkersMakeListed = (code : SuperstepCode) → IsWellFormed code → (map : Shape) → IsMapFor code map → (input : List ℤ) (bound : ℕ) (verdict : Verdict) →
+WorkersMakeListed = (code : SuperstepCode) → IsWellFormed code → (map : Shape) → IsMapFor code map →
+    (input : List ℤ) (bound : ℕ) (verdict : Verdict) →
     IsFlatOutcome code input bound verdict → MakesListed code map input bound verdict

@@ -43,12 +43,14 @@ abbrev pub AVerdictMayBeLate : Type 0
 AVerdictMayBeLate = (code : SuperstepCode) → IsWellFormed code → (judges others : ℕ → Bool) (input : List ℤ) (bound n : ℕ) (key : Key) →
     let s = steps code bound judges n (opening input) in
     s.way ≡ On → IsLate code key s.flat →
-    outcome_within code bound others ((bound + 1) * length code.instructions) input ≡ Some (Faulted (fault_of key) (items_below key.count s.flat.uniform.output))
+    outcome_within code bound others ((bound + 1) * length code.instructions) input
+    ≡ Some (Faulted (fault_of key) (items_below key.count s.flat.uniform.output))
 
 -- The time of the verdict doesn't matter: the exchanges of any places may decide, or the closing one alone.
 abbrev pub AnyTimeOfVerdict : Type 0
 AnyTimeOfVerdict = (code : SuperstepCode) → IsWellFormed code → (judges : ℕ → Bool) (input : List ℤ) (bound : ℕ) (verdict : Verdict) →
-    (IsOutcomeBy judges code input bound verdict → IsFlatOutcome code input bound verdict) × (IsFlatOutcome code input bound verdict → IsOutcomeBy judges code input bound verdict)
+    (IsOutcomeBy judges code input bound verdict → IsFlatOutcome code input bound verdict)
+    × (IsFlatOutcome code input bound verdict → IsOutcomeBy judges code input bound verdict)
 
 -- A verdict that stands after (bound + 1) * N instructions, N those of the code, and after any greater number. It is the only one, of the
 -- flat machine and on the workers of every map.

@@ -56,7 +56,8 @@ pub record IsKept (t : Setting) (w : ℕ) (x : Worker) : Type 0 where
 
 -- ---- lists
 
-all_filter_map : {A B : Type 0} (P : A → Type 0) (Q : B → Type 0) (f : A → Option B) → ((x : A) (y : B) → P x → f x ≡ Some y → Q y) → (xs : List A) → AllByRecursion P xs →
+all_filter_map : {A B : Type 0} (P : A → Type 0) (Q : B → Type 0) (f : A → Option B) → ((x : A) (y : B) → P x → f x ≡ Some y → Q y) →
+    (xs : List A) → AllByRecursion P xs →
     AllByRecursion Q (filter_map f xs)
 all_filter_map P Q f h [] a = tt
 all_filter_map P Q f h (x ∷ xs) a = go (f x) refl (all_filter_map P Q f h xs a.1)
@@ -78,7 +79,8 @@ none_filter_map f h [] = refl
 none_filter_map f h (x ∷ xs) = ap (λ o. cons_option o (filter_map f xs)) (h x) ∙ none_filter_map f h xs
 
 -- numbers, each with a processor
-all_zipped : {A : Type 0} (P : ℕ → Type 0) (Q : A → Type 0) (vs : List ℕ) (ys : List A) → AllByRecursion P vs → AllByRecursion Q ys → AllByRecursion (λ (x : ℕ × A). P x.0 × Q x.1) (zip vs ys)
+all_zipped : {A : Type 0} (P : ℕ → Type 0) (Q : A → Type 0) (vs : List ℕ) (ys : List A) → AllByRecursion P vs → AllByRecursion Q ys →
+    AllByRecursion (λ (x : ℕ × A). P x.0 × Q x.1) (zip vs ys)
 all_zipped P Q [] ys h k = tt
 all_zipped P Q (v ∷ vs) [] h k = tt
 all_zipped P Q (v ∷ vs) (y ∷ ys) h k = ((h.0, k.0), all_zipped P Q vs ys h.1 k.1)
@@ -165,7 +167,8 @@ module _ (t : Setting) (code : IsCode t.code) (room : IsMapFor t.code t.map) (w 
           subst (IsWriteBelow count) (unsome (record { processor = index; cell = c; value = value }) h e)
           (record { fits = record { cell = (let s = room.lawful.small in omega (arith, s, b)); processor = f; value = g }; cell = b })
 
-  uniform_write_kept : (i : Instr) (u : UniformPart) → IsUniformKept count u → (h : HeldWrite) → by_processor (pos 0) (uniform_write t.code i u) ≡ Some h → IsWriteBelow count h
+  uniform_write_kept : (i : Instr) (u : UniformPart) → IsUniformKept count u → (h : HeldWrite) →
+      by_processor (pos 0) (uniform_write t.code i u) ≡ Some h → IsWriteBelow count h
   uniform_write_kept (Put Uniform e s v q) u k h = write_kept (pos 0) zero_fits e (u.registers s) (u.registers v) (k.values v) h
   uniform_write_kept i u k h = λ e. cc
 
@@ -173,7 +176,8 @@ module _ (t : Setting) (code : IsCode t.code) (room : IsMapFor t.code t.map) (w 
       by_processor index (own_write t.code i y) ≡ Some h → IsWriteBelow count h
   own_write_kept (Put Private e s v q) index f y k h = go (is_active y)
     where
-      go : (b : Bool) → by_processor index (if b then write_to (cell_for t.code e s y) (y.registers v) else None) ≡ Some h → IsWriteBelow count h
+      go : (b : Bool) → by_processor index (if b then write_to (cell_for t.code e s y) (y.registers v) else None) ≡ Some h →
+          IsWriteBelow count h
       go true = write_kept index f e (y.registers s) (y.registers v) (k.values v) h
       go false = λ e. cc
   own_write_kept i index f y k h = λ e. cc
@@ -190,7 +194,8 @@ module _ (t : Setting) (code : IsCode t.code) (room : IsMapFor t.code t.map) (w 
         go : (b : Bool) → AllByRecursion (IsWriteBelow count) (filter_map (λ (o : Option (ℕ × ℤ)). by_processor (pos 0) o) ((if b then uniform_write t.code i x.uniform else None) ∷ []))
         go true = one (by_processor (pos 0) (uniform_write t.code i x.uniform)) (λ z e. uniform_write_kept i x.uniform h.uniform z e)
           where
-            one : (o : Option HeldWrite) → ((z : HeldWrite) → o ≡ Some z → IsWriteBelow count z) → AllByRecursion (IsWriteBelow count) (cons_option o [])
+            one : (o : Option HeldWrite) → ((z : HeldWrite) → o ≡ Some z → IsWriteBelow count z) →
+                AllByRecursion (IsWriteBelow count) (cons_option o [])
             one None f = tt
             one (Some z) f = (f z refl, tt)
         go false = tt
@@ -201,7 +206,8 @@ module _ (t : Setting) (code : IsCode t.code) (room : IsMapFor t.code t.map) (w 
         (λ (y : ℕ × PrivatePart). by_processor (index_of x.uniform y.0) (own_write t.code i y.1))
         (λ y z k e. own_write_kept i (index_of x.uniform y.0) (h.uniform.indices y.0 k.0) y.1 k.1 z e) (numbered t w x) numbered_kept
 
-    parts_kept : (i : Instr) → IsInstr i → AllByRecursion (IsOwnKept count) (map (λ (y : ℕ × PrivatePart). on_own t.code i x.uniform y.0 y.1) (numbered t w x))
+    parts_kept : (i : Instr) → IsInstr i →
+        AllByRecursion (IsOwnKept count) (map (λ (y : ℕ × PrivatePart). on_own t.code i x.uniform y.0 y.1) (numbered t w x))
     parts_kept i a =
         all_map (λ (y : ℕ × PrivatePart). (y.0 < x.uniform.width) × IsOwnKept count y.1) (IsOwnKept count) (λ (y : ℕ × PrivatePart). on_own t.code i x.uniform y.0 y.1)
         (λ y k. own_kept t.code count room.room x.uniform h.uniform y.0 k.0 i a y.1 k.1) (numbered t w x) numbered_kept
@@ -219,14 +225,16 @@ module _ (t : Setting) (code : IsCode t.code) (room : IsMapFor t.code t.map) (w 
     room_for_one l = some_share t (omega (arith, l)) code.some_procs
 
     -- a put of the program makes one write, and one of the processors at most one each
-    few_writes : (i : Instr) (one : length (uniform_writes t w i x.uniform) ≤ 1) → own_writes t i x.uniform (numbered t w x) ≡ [] → w < workers t →
+    few_writes : (i : Instr) (one : length (uniform_writes t w i x.uniform) ≤ 1) → own_writes t i x.uniform (numbered t w x) ≡ [] →
+        w < workers t →
         length (uniform_writes t w i x.uniform ++ own_writes t i x.uniform (numbered t w x)) ≤ share t
     few_writes i one none l =
         let a = length-append (uniform_writes t w i x.uniform) (own_writes t i x.uniform (numbered t w x)) in
         let b = ap (λ (xs : List HeldWrite). length xs) none in
         let c = room_for_one l in omega (arith, a, b, c, one)
 
-    put_few : (i : Instr) → is_put i ≡ true → w < workers t → length (uniform_writes t w i x.uniform ++ own_writes t i x.uniform (numbered t w x)) ≤ share t
+    put_few : (i : Instr) → is_put i ≡ true → w < workers t →
+        length (uniform_writes t w i x.uniform ++ own_writes t i x.uniform (numbered t w x)) ≤ share t
     put_few (Put Uniform e s v q) p l =
         few_writes (Put Uniform e s v q) (length-filter_map (λ (o : Option (ℕ × ℤ)). by_processor (pos 0) o) ((if eqb w 0 then uniform_write t.code (Put Uniform e s v q) x.uniform else None) ∷ []))
         (none_filter_map (λ (y : ℕ × PrivatePart). by_processor (index_of x.uniform y.0) (own_write t.code (Put Uniform e s v q) y.1)) (λ y. refl) (numbered t w x)) l

@@ -81,7 +81,8 @@ for_each Priority = refl
 for_each Sum = refl
 
 -- eight asks and one put for each of n, or as many values as asks
-few_words : (rule : Rule) (m : Message) (n : ℕ) → length m.puts ≤ n → length m.asks + length m.values ≤ 8 * n → length (words rule m) ≤ words_for_each rule * n
+few_words : (rule : Rule) (m : Message) (n : ℕ) → length m.puts ≤ n → length m.asks + length m.values ≤ 8 * n →
+    length (words rule m) ≤ words_for_each rule * n
 few_words rule m n p a =
     let e = length-append (flat_map (put_words rule) m.puts) (ask_words m.asks ++ values_words m.values) in
     let f = length-append (ask_words m.asks) (values_words m.values) in
@@ -105,7 +106,8 @@ module _ (t : Setting) where
     pub short : length (words t.code.rule m) ≤ words_for_each t.code.rule * share t
 
   -- without words
-  bare : (j : ℕ) (purpose : Purpose) (m : Message) → CanBeSent t.code.rule t.map j purpose m → m.puts ≡ [] → m.asks ≡ [] → m.values ≡ [] → MessageFits j purpose m
+  bare : (j : ℕ) (purpose : Purpose) (m : Message) → CanBeSent t.code.rule t.map j purpose m → m.puts ≡ [] → m.asks ≡ [] →
+      m.values ≡ [] → MessageFits j purpose m
   bare j purpose m c p a v =
       let x = ap (λ (l : List CellPut). length l) p in
       let y = ap (λ (l : List CellAsk). length l) a in
@@ -119,7 +121,8 @@ module _ (t : Setting) where
   abbrev pub TakenFew : Worker → Type 0
   TakenFew x = AllByRecursion (λ (cells : List ℕ). length cells ≤ 8 * share t) x.taken
 
-  taken_at : (taken : List (List ℕ)) (j : ℕ) → AllByRecursion (λ (cells : List ℕ). length cells ≤ 8 * share t) taken → length (slice_index_or taken j []) ≤ 8 * share t
+  taken_at : (taken : List (List ℕ)) (j : ℕ) → AllByRecursion (λ (cells : List ℕ). length cells ≤ 8 * share t) taken →
+      length (slice_index_or taken j []) ≤ 8 * share t
   taken_at [] j h = omega arith
   taken_at (c ∷ cs) zero h = h.0
   taken_at (c ∷ cs) (suc j) h = taken_at cs j h.1
@@ -155,7 +158,8 @@ module _ (t : Setting) where
     abbrev ask_of : ℕ → ℕ → CellAsk
     ask_of n c = record { read = n; cell = c; twice = asked_twice x n c }
 
-    asks_few : (Good : Read → Type 0) → ((read : Read) (n : ℕ) → Good read → length (cells_asked x read n) ≤ share t) → (n : ℕ) (reads : List Read) → AllByRecursion Good reads →
+    asks_few : (Good : Read → Type 0) → ((read : Read) (n : ℕ) → Good read → length (cells_asked x read n) ≤ share t) →
+        (n : ℕ) (reads : List Read) → AllByRecursion Good reads →
         length (asks_from x n reads) ≤ length reads * share t
     asks_few Good each n [] h = omega arith
     asks_few Good each n (read ∷ rest) h =
@@ -203,7 +207,8 @@ module _ (t : Setting) where
           short = few_words t.code.rule (sent t x j) (share t) (omega (arith, f, g)) (omega (arith, a, b, c, e));
         }
 
-    replied_message : (s : states.State) → DescribesWorker t w s x → IsWithin s → TakenFew x → (j : ℕ) → MessageFits j Replies (replied t x j)
+    replied_message : (s : states.State) → DescribesWorker t w s x → IsWithin s → TakenFew x → (j : ℕ) →
+        MessageFits j Replies (replied t x j)
     replied_message s d within taken j =
         let few : length x.uniform.asks ≤ 8 = (let a = d.asks in let b = within.asks in omega (arith, a, b)) in
         let a = taken_at x.taken j taken in
@@ -217,7 +222,8 @@ module _ (t : Setting) where
 -- ---- runs
 
 -- of what is made by a function of the numbers from k on
-made_within : {B : Type 0} (Q : B → Type 0) (f : ℕ → B) (n k m : ℕ) → k + n ≤ m → ((i : ℕ) → i < m → Q (f i)) → AllByRecursion Q (map f (range_with_len k n))
+made_within : {B : Type 0} (Q : B → Type 0) (f : ℕ → B) (n k m : ℕ) → k + n ≤ m → ((i : ℕ) → i < m → Q (f i)) →
+    AllByRecursion Q (map f (range_with_len k n))
 made_within Q f zero k m h q = tt
 made_within Q f (suc n) k m h q = (q k (omega (arith, h)), made_within Q f n (k + 1) m (omega (arith, h)) q)
 
@@ -260,7 +266,8 @@ module _ (t : Setting) (code : IsCode t.code) (room : IsMapFor t.code t.map) (fo
     message_fits : (s : State) → Holds w s.worker → Agrees t formed w s → Fits j (ready t w s) (message_of t w s j)
     message_fits s h a = marks (mark_now s.refusals)
       where
-        by_way : (way : Way) → s.way ≡ way → Fits j (ready_by t w s way) (message_for t (ready_by t w s way).purpose (ready_by t w s way).state.worker j)
+        by_way : (way : Way) → s.way ≡ way →
+            Fits j (ready_by t w s way) (message_for t (ready_by t w s way).purpose (ready_by t w s way).state.worker j)
         by_way On e =
             at_arrival s (stretch t w s) (follow t formed w t.enough s.place s.worker (a e)) (until_kept t code w (Holds w) (holds_instr w) t.enough s.place s.worker h)
         by_way (Ending ended) e = closes s.worker
@@ -278,7 +285,8 @@ module _ (t : Setting) (code : IsCode t.code) (room : IsMapFor t.code t.map) (fo
   abbrev FewAsks : List Message → Type 0
   FewAsks = AllByRecursion (λ (m : Message). length m.asks ≤ 8 * share t)
 
-  taken_few : (w : ℕ) (p : Purpose) (x : Worker) (messages : List Message) → FewAsks messages → TakenFew t x → TakenFew t (after_exchange t w p x messages)
+  taken_few : (w : ℕ) (p : Purpose) (x : Worker) (messages : List Message) → FewAsks messages → TakenFew t x →
+      TakenFew t (after_exchange t w p x messages)
   taken_few w Sends x messages f h =
       all_map (λ (m : Message). length m.asks ≤ 8 * share t) (λ (cells : List ℕ). length cells ≤ 8 * share t) (λ (m : Message). map (λ (y : CellAsk). y.cell) m.asks)
       (λ m k. let e = length-map m.asks (λ (y : CellAsk). y.cell) in omega (arith, e, k)) messages f
@@ -295,7 +303,8 @@ module _ (t : Setting) (code : IsCode t.code) (room : IsMapFor t.code t.map) (fo
       made_within (λ (m : Message). length m.asks ≤ 8 * share t) (λ i. message_of t i (ws i) w) (workers t) 0 (workers t) (omega arith)
       (λ i l. (message_fits i l w (ws i) (h.holds i) (h.agree i)).asks)
 
-  after_holds : (w : ℕ) (r : Ready) (messages : List Message) → Holds w r.state.worker → AllByRecursion (λ (m : Message). AreValues m.values) messages → FewAsks messages →
+  after_holds : (w : ℕ) (r : Ready) (messages : List Message) → Holds w r.state.worker →
+      AllByRecursion (λ (m : Message). AreValues m.values) messages → FewAsks messages →
       Holds w (after t w r messages).worker
   after_holds w r messages h v f = marks (mark_of messages)
     where

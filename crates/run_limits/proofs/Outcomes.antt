@@ -34,7 +34,8 @@ below_fit count output h =
     items_fit (filter (λ (item : ℕ × ℤ). nat_lt item.0 count) output)
     (all_kept (λ (item : ℕ × ℤ). FitsSigned w64 item.1) (λ (item : ℕ × ℤ). nat_lt item.0 count) output h)
 
-verdict_fits : (way : Way) (output : List (ℕ × ℤ)) (memory : List ℤ) → AreItems output → AreValues memory → IsMaybeOfValues (verdict_by way output memory)
+verdict_fits : (way : Way) (output : List (ℕ × ℤ)) (memory : List ℤ) → AreItems output → AreValues memory →
+    IsMaybeOfValues (verdict_by way output memory)
 verdict_fits (Past (Some key) ended) output memory h m = below_fit key.count output h
 verdict_fits (Past None true) output memory h m = (items_fit output h, m)
 verdict_fits (Past None false) output memory h m = items_fit output h
@@ -61,7 +62,8 @@ outcome_fits t states h =
 -- ---- whole runs
 
 module _ (t : Setting) (code : IsCode t.code) (room : IsMapFor t.code t.map) (v : Verdict) where
-  run_fits : (n : ℕ) (ws : ℕ → State) → ((w : ℕ) → IsKept t w (ws w).worker) → run (bsp t) (workers t) n ws ≡ Some (Some v) → IsVerdictOfValues v
+  run_fits : (n : ℕ) (ws : ℕ → State) → ((w : ℕ) → IsKept t w (ws w).worker) → run (bsp t) (workers t) n ws ≡ Some (Some v) →
+      IsVerdictOfValues v
   run_fits zero ws h e = cc
   run_fits (suc n) ws h e = go (run_fits n (phase (bsp t) (workers t) ws) (phase_kept t code room ws h)) (is_over (ws 0).way) e
     where

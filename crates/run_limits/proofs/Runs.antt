@@ -48,7 +48,8 @@ all_also P Q f (x ∷ xs) h = (f x h.0, all_also P Q f xs h.1)
 module _ (t : Setting) (code : IsCode t.code) (w : ℕ) (K : Worker → Type 0) (keeps : (i : Instr) → IsInstr i → (x : Worker) → K x → K (after_instr t w i x)) where
   module _ {R : Type 0} (Good : R → Type 0) (nowhere : R) (lost : Good nowhere) (stops : Stop → ℕ → Worker → R) (stopping : (stop : Stop) (place : ℕ) (x : Worker) → K x → Good (stops stop place x))
       (next : ℕ → Worker → R) (going : (place : ℕ) (x : Worker) → K x → Good (next place x)) (place : ℕ) (x : Worker) (h : K x) where
-    marked : (line : ℕ) → IsInstr (Mark line) → (b : Bool) → Good (if b then stops (ToClose false) place x else next (place + 1) (after_instr t w (Mark line) x))
+    marked : (line : ℕ) → IsInstr (Mark line) → (b : Bool) →
+        Good (if b then stops (ToClose false) place x else next (place + 1) (after_instr t w (Mark line) x))
     marked line a true = stopping (ToClose false) place x h
     marked line a false = going (place + 1) (after_instr t w (Mark line) x) (keeps (Mark line) a x h)
 
@@ -66,7 +67,8 @@ module _ (t : Setting) (code : IsCode t.code) (w : ℕ) (K : Worker → Type 0) 
     by_instr Halt a = stopping (ToClose true) place x h
     by_instr i a = going (place + 1) (after_instr t w i x) (keeps i a x h)
 
-    goes : (o : Option Instr) → slice_get t.code.instructions place ≡ o → Good (advance t.bound (λ (y : Worker). y.uniform) (after_instr t w) nowhere stops next o place x)
+    goes : (o : Option Instr) → slice_get t.code.instructions place ≡ o →
+        Good (advance t.bound (λ (y : Worker). y.uniform) (after_instr t w) nowhere stops next o place x)
     goes None e = lost
     goes (Some i) e = by_instr i (all_at IsInstr t.code.instructions code.instructions place i e)
 
@@ -74,7 +76,8 @@ module _ (t : Setting) (code : IsCode t.code) (w : ℕ) (K : Worker → Type 0) 
   KeptAt Nowhere = Unit {0}
   KeptAt (At stop place x) = K x
 
-  pub until_kept : (n place : ℕ) (x : Worker) → K x → KeptAt (until t.bound (λ (y : Worker). y.uniform) (after_instr t w) t.code.instructions n place x)
+  pub until_kept : (n place : ℕ) (x : Worker) → K x →
+      KeptAt (until t.bound (λ (y : Worker). y.uniform) (after_instr t w) t.code.instructions n place x)
   until_kept zero place x h = tt
   until_kept (suc n) place x h =
       goes KeptAt Nowhere tt (λ stop k y. At stop k y) (λ stop k y g. g) (until t.bound (λ (y : Worker). y.uniform) (after_instr t w) t.code.instructions n) (until_kept n) place x h
@@ -84,7 +87,8 @@ module _ (t : Setting) (code : IsCode t.code) (w : ℕ) (K : Worker → Type 0) 
   KeptThen None = Unit {0}
   KeptThen (Some (place, x)) = K x
 
-  pub walked_kept : (n place : ℕ) (x : Worker) → K x → KeptThen (walked t.bound (λ (y : Worker). y.uniform) (after_instr t w) t.code.instructions n place x)
+  pub walked_kept : (n place : ℕ) (x : Worker) → K x →
+      KeptThen (walked t.bound (λ (y : Worker). y.uniform) (after_instr t w) t.code.instructions n place x)
   walked_kept zero place x h = h
   walked_kept (suc n) place x h =
       goes KeptThen None tt (λ stop k y. None) (λ stop k y g. tt) (walked t.bound (λ (y : Worker). y.uniform) (after_instr t w) t.code.instructions n) (walked_kept n) place x h
@@ -142,7 +146,8 @@ all_second [] zs h = tt
 all_second (x ∷ xs) [] h = tt
 all_second (x ∷ xs) (z ∷ zs) h = (h.0, all_second xs zs h.1)
 
-look_up_fits : (k c : ℕ) (found : List (CellAsk × ℤ)) → AllByRecursion (λ (x : CellAsk × ℤ). FitsSigned w64 x.1) found → FitsSigned w64 (look_up k c found)
+look_up_fits : (k c : ℕ) (found : List (CellAsk × ℤ)) → AllByRecursion (λ (x : CellAsk × ℤ). FitsSigned w64 x.1) found →
+    FitsSigned w64 (look_up k c found)
 look_up_fits k c [] h = zero_fits
 look_up_fits k c ((x, value) ∷ rest) h = go (eqb x.read k && eqb x.cell c) (look_up_fits k c rest h.1)
   where
@@ -256,7 +261,8 @@ module _ (t : Setting) (code : IsCode t.code) (room : IsMapFor t.code t.map) whe
   pub readies_kept : (w : ℕ) (s : State) → IsKept t w s.worker → IsKept t w (ready t w s).state.worker
   readies_kept w s h = ready_kept t code w (IsKept t w) (keeps w) (none_kept t w) s h
 
-  after_kept : (w : ℕ) (r : Ready) (messages : List Message) → IsKept t w r.state.worker → AreOfValues messages → IsKept t w (after t w r messages).worker
+  after_kept : (w : ℕ) (r : Ready) (messages : List Message) → IsKept t w r.state.worker → AreOfValues messages →
+      IsKept t w (after t w r messages).worker
   after_kept w r messages h m = marks (mark_of messages)
     where
       marks : (mark : HeaderMark) → IsKept t w (after_with t w r messages mark).worker
@@ -273,7 +279,8 @@ module _ (t : Setting) (code : IsCode t.code) (room : IsMapFor t.code t.map) whe
   pub phase_kept : (ws : ℕ → State) → ((w : ℕ) → IsKept t w (ws w).worker) → (w : ℕ) → IsKept t w (phase (bsp t) (workers t) ws w).worker
   phase_kept ws h w = after_kept w (ready t w (ws w)) (column (bsp t) (workers t) ws w) (readies_kept w (ws w) (h w)) (column_values ws h w)
 
-  phases_kept : (n : ℕ) (ws : ℕ → State) → ((w : ℕ) → IsKept t w (ws w).worker) → (w : ℕ) → IsKept t w (phases (bsp t) (workers t) n ws w).worker
+  phases_kept : (n : ℕ) (ws : ℕ → State) → ((w : ℕ) → IsKept t w (ws w).worker) → (w : ℕ) →
+      IsKept t w (phases (bsp t) (workers t) n ws w).worker
   phases_kept zero ws h w = h w
   phases_kept (suc n) ws h w = phases_kept n (phase (bsp t) (workers t) ws) (phase_kept ws h) w
 

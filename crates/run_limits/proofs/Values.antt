@@ -119,7 +119,8 @@ result_fits None r f h = h
 result_fits (Some (d, value)) r f h = set_fits d (or_zero value) r f h
 
 -- of the side that is meant
-pub result_if : (b : Bool) (i : Instr) (of r : Registers) → IsInstr i → HaveValues of → HaveValues r → HaveValues (with_result (if b then computed i of else None) r)
+pub result_if : (b : Bool) (i : Instr) (of r : Registers) → IsInstr i → HaveValues of → HaveValues r →
+    HaveValues (with_result (if b then computed i of else None) r)
 result_if true i of r h f g = result_fits (computed i of) r (computed_fits i h of f) g
 result_if false i of r h f g = g
 
@@ -127,7 +128,8 @@ pub zero_without_fits : (cell : Option ℕ) (d : ℕ) (r : Registers) → HaveVa
 zero_without_fits None d r h = set_fits d (pos 0) r zero_fits h
 zero_without_fits (Some c) d r h = h
 
-pub answers_fit : (value : ℕ → ℕ → ℤ) → ((k c : ℕ) → FitsSigned w64 (value k c)) → (k : ℕ) (reads : List (ℕ × Option ℕ)) (r : Registers) → HaveValues r →
+pub answers_fit : (value : ℕ → ℕ → ℤ) → ((k c : ℕ) → FitsSigned w64 (value k c)) →
+    (k : ℕ) (reads : List (ℕ × Option ℕ)) (r : Registers) → HaveValues r →
     HaveValues (answers value k reads r)
 answers_fit value f k [] r h = h
 answers_fit value f k ((d, None) ∷ rest) r h = answers_fit value f (k + 1) rest r h
@@ -136,7 +138,8 @@ answers_fit value f k ((d, Some c) ∷ rest) r h = answers_fit value f (k + 1) r
 -- ---- the indices of a range
 
 -- a processor's index lies between the bounds
-pub index_within : (procs : ℕ) (low high : ℤ) → FitsSigned w64 low → FitsSigned w64 high → (v : ℕ) → v < or_empty (range_width procs low high) → FitsSigned w64 (low +ℤ pos v)
+pub index_within : (procs : ℕ) (low high : ℤ) → FitsSigned w64 low → FitsSigned w64 high → (v : ℕ) →
+    v < or_empty (range_width procs low high) → FitsSigned w64 (low +ℤ pos v)
 index_within procs low high f g v l = go (nat_le (width low high) procs) l
   where
     inside : v < width low high → FitsSigned w64 (low +ℤ pos v)

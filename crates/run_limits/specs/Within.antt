@@ -44,7 +44,8 @@ pub record IsGiven (t : Setting) (input : List ℤ) : Type 0 where
 
 -- at every moment, for every code
 abbrev pub ValuesFit : Type 0
-ValuesFit = (t : Setting) (input : List ℤ) → IsGiven t input → (n m w place : ℕ) (x : Worker) → moment t input n m w ≡ Some (place, x) → IsOfValues x
+ValuesFit = (t : Setting) (input : List ℤ) → IsGiven t input → (n m w place : ℕ) (x : Worker) →
+    moment t input n m w ≡ Some (place, x) → IsOfValues x
 
 -- the output and the memory of an outcome
 abbrev pub IsVerdictOfValues : Verdict → Type 0
@@ -54,7 +55,8 @@ IsVerdictOfValues (GoesOn output) = AreValues output
 
 -- so are the outcomes of every code
 abbrev pub OutcomesFit : Type 0
-OutcomesFit = (t : Setting) (input : List ℤ) → IsGiven t input → (verdict : Verdict) → IsBspOutcome t.code t.map input t.bound verdict → IsVerdictOfValues verdict
+OutcomesFit = (t : Setting) (input : List ℤ) → IsGiven t input → (verdict : Verdict) →
+    IsBspOutcome t.code t.map input t.bound verdict → IsVerdictOfValues verdict
 
 -- ---- messages
 
@@ -73,15 +75,18 @@ marked_after t input marks n w = phases (bsp t) (workers t) n (opening_with t in
 
 -- Every message of worker w to module j in the exchange behind n others, whatever marks come: it can be sent, ..
 abbrev pub MessagesCanBeSent : Type 0
-MessagesCanBeSent = (t : Setting) (input : List ℤ) → IsGiven t input → IsWellFormed t.code → (marks : ℕ → List HeaderMark) (n w j : ℕ) → w < workers t →
+MessagesCanBeSent = (t : Setting) (input : List ℤ) → IsGiven t input → IsWellFormed t.code →
+    (marks : ℕ → List HeaderMark) (n w j : ℕ) → w < workers t →
     let s = marked_after t input marks n w in CanBeSent t.code.rule t.map j (ready t w s).purpose (message_of t w s j)
 
 -- .. is read back from its header and its words, ..
 abbrev pub MessagesAreReadBack : Type 0
-MessagesAreReadBack = (t : Setting) (input : List ℤ) → IsGiven t input → IsWellFormed t.code → (marks : ℕ → List HeaderMark) (n w j : ℕ) → w < workers t →
+MessagesAreReadBack = (t : Setting) (input : List ℤ) → IsGiven t input → IsWellFormed t.code →
+    (marks : ℕ → List HeaderMark) (n w j : ℕ) → w < workers t →
     let s = marked_after t input marks n w in IsReadBack t.code.rule t.map j (ready t w s).purpose (message_of t w s j)
 
 -- .. and has few words.
 abbrev pub MessagesAreShort : Type 0
-MessagesAreShort = (t : Setting) (input : List ℤ) → IsGiven t input → IsWellFormed t.code → (marks : ℕ → List HeaderMark) (n w j : ℕ) → w < workers t →
+MessagesAreShort = (t : Setting) (input : List ℤ) → IsGiven t input → IsWellFormed t.code →
+    (marks : ℕ → List HeaderMark) (n w j : ℕ) → w < workers t →
     length (words t.code.rule (message_of t w (marked_after t input marks n w) j)) ≤ words_for_each t.code.rule * share t
