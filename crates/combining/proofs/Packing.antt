@@ -58,10 +58,6 @@ pub value_fits : (rule : Rule) (z : ℤ) → is_sum rule ≡ false → FitsValue
 value_fits Sum z h f = cc
 value_fits rule z h f = f
 
-pub words_length : (rule : Rule) (x : CellPut) → length (put_words rule x) ≡ put_length rule
-words_length Sum x = refl
-words_length rule x = refl
-
 -- ---- the loop
 
 abbrev pub packed : {X : Type 0} → (X → List ℕ) → (X → Bool) → List X → List ℕ

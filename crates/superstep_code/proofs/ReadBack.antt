@@ -100,7 +100,7 @@ puts_back rule m j (x ∷ xs) is =
     ap (filter_map (put_in rule m j)) (group_back rule x (flat_map (put_words rule) xs))
     ∙ (λ i. cons_option (put_in_back rule m j x is.0 i) (puts_back rule m j xs is.1 i))
 
-put_long : (rule : Rule) (x : CellPut) → length (put_words rule x) ≡ put_length rule
+pub put_long : (rule : Rule) (x : CellPut) → length (put_words rule x) ≡ put_length rule
 put_long Erew x = refl
 put_long Crew x = refl
 put_long Common x = refl

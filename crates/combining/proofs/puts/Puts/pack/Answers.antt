@@ -6,7 +6,8 @@ use Rattle.superstep_code.specs.WordReading.{put_length}
 use Rattle.superstep_code.specs.Fitting.{FitsPut}
 use Rattle.combining.specs.Held.{HeldPuts, put_at, packed_puts, IsPutBelow}
 use Rattle.combining.proofs.Pairs.{length_paired, paired_more, item_at, all_here, all_keys}
-use Rattle.combining.proofs.Packing.{pack_yes, pack_not, pack_room, pack_end, drop_further, words_length}
+use Rattle.superstep_code.proofs.ReadBack.{put_long}
+use Rattle.combining.proofs.Packing.{pack_yes, pack_not, pack_room, pack_end, drop_further}
 use Rattle.combining.proofs.puts.Puts.pack.Goals as goal
 use Rattle.combining.proofs.puts.Puts.pack.Goals.{then-place-part, else-place-part}
 
@@ -36,7 +37,7 @@ write_put-n-requires-clause-room g c =
     let yes : mine (put_at k x) ≡ true = eq-eqb _ _ (sym c.place.ensures.part ∙ c.if-place-part.true) in
     let before = take c.loop-i.n c.loop-i.out in
     let r = pack_room (put_words rule) mine held i (put_at k x) more before (packed_puts rule (g.M.AddressMap.shape c.args.map.now).part c.args.part held) c.loop-i.invariant.all c.loop-i.n yes (length-take-le c.loop-i.n c.loop-i.out c.loop-i.invariant.within) in
-    let w = words_length rule (put_at k x) in
+    let w = put_long rule (put_at k x) in
     omega arith
 
 pub write_put-n-requires-clause-fits : goal.write_put-n-requires-clause-fits
@@ -73,7 +74,7 @@ loop-i-preserved g c =
           let more : drop i held ≡ put_at k x ∷ drop (i + 1) held = rw (← c.self.view_is) (paired_more put_at ks xs i k x n l p w.index.ensures) in
           let yes : mine (put_at k x) ≡ true = eq-eqb _ _ (sym c.place.ensures.part ∙ w.if-place-part.true) in
           let room = pack_room (put_words rule) mine held i (put_at k x) more before (packed_puts rule (g.M.AddressMap.shape c.args.map.now).part c.args.part held) c.loop-i.invariant.all c.loop-i.n yes (length-take-le c.loop-i.n c.loop-i.out c.loop-i.invariant.within) in
-          let long = words_length rule (put_at k x) in
+          let long = put_long rule (put_at k x) in
           rw (w.out-is, w.n-is)
           (record {
             within = (let e = w.write_put-n.ensures.length in let f = w.write_put-n.ensures.count in let h = c.requires.long in let q = c.loop-i.invariant.long in omega arith);
