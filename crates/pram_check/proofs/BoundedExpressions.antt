@@ -1,5 +1,6 @@
 -- What a tree says in a scope is named, read and as large as the tree.
-use Rattle.std.proofs.Common.{◌≡◌, ◌+◌, ◌≤◌, ◌<◌, ℕ, Bool, true, false, nat_eq, List, [], ◌∷◌, ◌++◌, Option, Some, None, length, length-append, refl, sym, ap, ◌∙◌, subst, arith, eqb-true, eq-eqb}
+use Rattle.std.proofs.Common.{◌≡◌, ◌+◌, ◌≤◌, ◌<◌, ℕ, Bool, true, false, nat_eq, List, [], ◌∷◌, ◌++◌, Option, Some, None, length}
+use Rattle.std.proofs.Common.{length-append, refl, sym, ap, ◌∙◌, subst, arith, eqb-true, eq-eqb}
 use Rattle.std.specs.Prelude.{if◌then◌else◌}
 use Rattle.std.specs.declared.boxed.Box.{Box}
 use Rattle.std.specs.declared.vec.Vec.{Vec}
@@ -16,14 +17,16 @@ use Rattle.pram_syntax.specs.Grammar.{tokens, step_tokens}
 use Rattle.pram_syntax.specs.Tokens.{AreReal, same_text}
 use Rattle.pram_syntax.proofs.ExprTokens.{tokens-Number, tokens-Name, tokens-Element, tokens-Paren, tokens-Prefix, tokens-Chain}
 use Rattle.pram_syntax.proofs.Real.{front_real}
-use Rattle.pram_check.specs.declared.body.Expression.{Expression, Row_of-Link, end_of-Link, items-the_row-Link, items_hidden-the_row-Link-0, more_of-Link}
+use Rattle.pram_check.specs.declared.body.Expression.{Expression, Row_of-Link, end_of-Link, items-the_row-Link, items_hidden-the_row-Link-0}
+use Rattle.pram_check.specs.declared.body.Expression.{more_of-Link}
 use Rattle.pram_check.specs.declared.body.Expression as value
 use Rattle.pram_check.specs.declared.body.Expression.TheBlock.{hidden-the_row-Link-0}
 use Rattle.pram_check.specs.declared.body.Link.{Link}
 use Rattle.pram_check.specs.declared.fault.Cause.{Cause}
 use Rattle.pram_check.specs.declared.scope.Meaning.{Meaning}
 use Rattle.pram_check.specs.declared.scope.Meaning.TheVariants as meaning
-use Rattle.pram_check.specs.Bounded.{Names, IsNamed, AreNamed, IsSingleCell, IsArray, IsInside, IsLocal, reads, link_reads, nodes, link_nodes}
+use Rattle.pram_check.specs.Bounded.{Names, IsNamed, AreNamed, IsSingleCell, IsArray, IsInside, IsLocal, reads, link_reads, nodes}
+use Rattle.pram_check.specs.Bounded.{link_nodes}
 use Rattle.pram_check.specs.Breaches.{Use, uses, step_uses, use_breaches, use_cause, read_count, is_read, ninth, or_else, at, most_reads}
 use Rattle.pram_check.specs.Resolved.{Says, SayLinks}
 use Rattle.pram_check.specs.Resolved as says
@@ -49,7 +52,8 @@ abbrev pub AreThere : Names → Scope → Type 0
 AreThere s [] = Unit {0}
 AreThere s (b ∷ scope) = IsThere s b.1 × AreThere s scope
 
-pub found_there : (s : Names) (scope : Scope) (text : List ℕ) (m : Meaning) → AreThere s scope → meaning_of scope text ≡ Some m → IsThere s m
+pub found_there : (s : Names) (scope : Scope) (text : List ℕ) (m : Meaning) → AreThere s scope → meaning_of scope text ≡ Some m →
+    IsThere s m
 found_there s [] text m h is = absurd (cc is)
 found_there s (b ∷ scope) text m h is = by (same_text b.0 text) refl (found_there s scope text m h.1)
   where
@@ -100,11 +104,13 @@ record AreWithin (s : Names) (scope : Scope) (rest : List (Binary × Expr)) (lin
   few : nodes_all links ≤ length (step_tokens rest)
 
 -- how many shared reads a name is
-one_read : (scope : Scope) (x : Name) (m : Meaning) → meaning_of scope x.text ≡ Some m → read_count scope (uses (e.Name x)) ≡ (if is_read (Some m) false then 1 else 0) + 0
+one_read : (scope : Scope) (x : Name) (m : Meaning) → meaning_of scope x.text ≡ Some m →
+    read_count scope (uses (e.Name x)) ≡ (if is_read (Some m) false then 1 else 0) + 0
 one_read scope x m is = ap (read_count scope) (uses-Name x) ∙ ap (λ o. (if is_read o false then 1 else 0) + 0) is
 
 module _ (s : Names) (scope : Scope) (there : AreThere s scope) where
-  a_name : (x : Name) (y : Expression) (m : Meaning) → meaning_of scope x.text ≡ Some m → IsNamed s y → reads y ≡ (if is_read (Some m) false then 1 else 0) + 0 → nodes y ≡ 1 →
+  a_name : (x : Name) (y : Expression) (m : Meaning) → meaning_of scope x.text ≡ Some m → IsNamed s y →
+      reads y ≡ (if is_read (Some m) false then 1 else 0) + 0 → nodes y ≡ 1 →
       Within s scope (e.Name x) y
   a_name x y m is named read one = record {
     named = named;
@@ -112,16 +118,19 @@ module _ (s : Names) (scope : Scope) (there : AreThere s scope) where
     few = (let t = ap length (tokens-Name x) in omega (arith, t, one));
   }
 
-  an_element : (x : Name) (k : ℕ) (i : Expr) (j : Box Expression Global) → meaning_of scope x.text ≡ Some (meaning.Array k) → Within s scope i j.value →
+  an_element : (x : Name) (k : ℕ) (i : Expr) (j : Box Expression Global) → meaning_of scope x.text ≡ Some (meaning.Array k) →
+      Within s scope i j.value →
       Within s scope (e.Element x i) (value.Element k j)
   an_element x k i j is w = record {
     named = (found_there s scope x.text (meaning.Array k) there is, w.named);
     read = ap (λ n. 1 + n) w.read
         ∙ sym (ap (read_count scope) (uses-Element x i) ∙ ap (λ o. (if is_read o true then 1 else 0) + read_count scope (uses i)) is);
-    few = (let t = ap length (tokens-Element x i) in let a = length-append (tokens i) (token.Mark mark.CloseBracket ∷ []) in let f = w.few in omega (arith, t, a, f));
+    few = (let t = ap length (tokens-Element x i) in let a = length-append (tokens i) (token.Mark mark.CloseBracket ∷ []) in let f =
+        w.few in omega (arith, t, a, f));
   }
 
-  a_chain : (first : Expr) (rest : List (Binary × Expr)) (x : Box Expression Global) (links : Vec Link Global) → Within s scope first x.value → AreWithin s scope rest links.items →
+  a_chain : (first : Expr) (rest : List (Binary × Expr)) (x : Box Expression Global) (links : Vec Link Global) →
+      Within s scope first x.value → AreWithin s scope rest links.items →
       Within s scope (e.Chain first rest) (value.Chain x links)
   a_chain first rest x links w v =
       let row = hidden-the_row-Link-0 links in
@@ -147,12 +156,16 @@ module _ (s : Names) (scope : Scope) (there : AreThere s scope) where
       read = sym (ap (read_count scope) (uses-Number n));
       few = (let t = ap length (tokens-Number n) in omega (arith, t));
     }
-    within _ _ (says.uniform x k is) real = a_name x (value.Uniform k) (meaning.Uniform k) is (found_there s scope x.text (meaning.Uniform k) there is) refl refl
+    within _ _ (says.uniform x k is) real = a_name x (value.Uniform k) (meaning.Uniform k) is
+        (found_there s scope x.text (meaning.Uniform k) there is) refl refl
     within _ _ (says.index x is) real = a_name x value.Index meaning.Index is (found_there s scope x.text meaning.Index there is) refl refl
-    within _ _ (says.local x k is) real = a_name x (value.Local k) (meaning.Local k) is (found_there s scope x.text (meaning.Local k) there is) refl refl
-    within _ _ (says.cell x k is) real = a_name x (value.Cell k) (meaning.Cell k) is (found_there s scope x.text (meaning.Cell k) there is) refl refl
+    within _ _ (says.local x k is) real = a_name x (value.Local k) (meaning.Local k) is
+        (found_there s scope x.text (meaning.Local k) there is) refl refl
+    within _ _ (says.cell x k is) real = a_name x (value.Cell k) (meaning.Cell k) is
+        (found_there s scope x.text (meaning.Cell k) there is) refl refl
     within _ _ (says.element x k i j is said) real =
-        an_element x k i j is (within i j.value said (front_real (tokens i) (token.Mark mark.CloseBracket ∷ []) (subst AreReal (tokens-Element x i) real).1.1))
+        an_element x k i j is (within i j.value said (front_real (tokens i) (token.Mark mark.CloseBracket ∷ [])
+        (subst AreReal (tokens-Element x i) real).1.1))
     within _ _ (says.paren i x said) real =
         let close = token.Mark mark.CloseParen ∷ [] in
         let w = within i x said (front_real (tokens i) close (subst AreReal (tokens-Paren i) real).1) in
@@ -173,7 +186,8 @@ module _ (s : Names) (scope : Scope) (there : AreThere s scope) where
         a_chain first rest x links (within first x.value said (front_real (tokens first) (step_tokens rest) parts))
         (within_links rest links.items linked (back_real (tokens first) (step_tokens rest) parts))
 
-    within_links : (rest : List (Binary × Expr)) (links : List Link) → SayLinks scope rest links → AreReal (step_tokens rest) → AreWithin s scope rest links
+    within_links : (rest : List (Binary × Expr)) (links : List Link) → SayLinks scope rest links → AreReal (step_tokens rest) →
+        AreWithin s scope rest links
     within_links _ _ says.none real = record { named = tt; read = refl; few = omega arith }
     within_links _ _ (says.more o i rest x links here behind) real =
         let w = within i x here (front_real (tokens i) (step_tokens rest) real.1) in
@@ -196,7 +210,8 @@ pub back_none : {A : Type 0} (xs ys : List A) → xs ++ ys ≡ [] → ys ≡ []
 back_none [] ys h = h
 back_none (x ∷ xs) ys h = absurd (cc h)
 
-one_more : (n : ℕ) (l : Location) (c : Option Cause) (read : Bool) → n ≤ most_reads → at l (or_else c (ninth n read)) ≡ [] → n + (if read then 1 else 0) ≤ most_reads
+one_more : (n : ℕ) (l : Location) (c : Option Cause) (read : Bool) → n ≤ most_reads → at l (or_else c (ninth n read)) ≡ [] →
+    n + (if read then 1 else 0) ≤ most_reads
 one_more n l (Some c) read h none = absurd (cc none)
 one_more n l None false h none = omega arith
 one_more n l None true h none = by (nat_eq n most_reads) refl
@@ -208,12 +223,14 @@ one_more n l None true h none = by (nat_eq n most_reads) refl
     by false e = grind (arith, eq-eqb)
 
 -- a statement whose reads are nowhere the ninth has at most eight
-pub few_reads : (scope : Scope) (n : ℕ) (us : List Use) → n ≤ most_reads → use_breaches scope n us ≡ [] → n + read_count scope us ≤ most_reads
+pub few_reads : (scope : Scope) (n : ℕ) (us : List Use) → n ≤ most_reads → use_breaches scope n us ≡ [] →
+    n + read_count scope us ≤ most_reads
 few_reads scope n [] h none = omega arith
 few_reads scope n (u ∷ us) h none =
     let m = meaning_of scope u.name.text in
     let one = if is_read m u.subscripted then 1 else 0 in
     let here = at u.name.location (or_else (use_cause m u.subscripted) (ninth n (is_read m u.subscripted))) in
-    let first = one_more n u.name.location (use_cause m u.subscripted) (is_read m u.subscripted) h (front_none here (use_breaches scope (n + one) us) none) in
+    let first = one_more n u.name.location (use_cause m u.subscripted) (is_read m u.subscripted) h
+    (front_none here (use_breaches scope (n + one) us) none) in
     let rest = few_reads scope (n + one) us first (back_none here (use_breaches scope (n + one) us) none) in
     omega (arith, rest)

@@ -1,5 +1,6 @@
 -- An accepted program is within bounds.
-use Rattle.std.proofs.Common.{◌≡◌, ◌+◌, ◌≤◌, ℕ, Bool, true, false, ◌&&◌, ◌||◌, nat_le, nat_lt, List, [], ◌∷◌, ◌++◌, Option, Some, None, ℤ, pos, length, length-append, append_assoc, refl, sym, ap, ◌∙◌, subst, arith}
+use Rattle.std.proofs.Common.{◌≡◌, ◌+◌, ◌≤◌, ℕ, Bool, true, false, ◌&&◌, ◌||◌, nat_le, nat_lt, List, [], ◌∷◌, ◌++◌, Option, Some, None, ℤ}
+use Rattle.std.proofs.Common.{pos, length, length-append, append_assoc, refl, sym, ap, ◌∙◌, subst, arith}
 use Rattle.std.specs.Prelude.{slice_get, if◌then◌else◌, int_lt, ◌≤ℤ◌, MatchOption}
 use Rattle.std.specs.List.{AllByRecursion}
 use Rattle.std.proofs.lemmas.Bool.Decides.{nat_tests}
@@ -22,7 +23,8 @@ use Rattle.pram_check.specs.declared.fault.Spot.TheVariants.{TextEnd}
 use Rattle.pram_check.specs.declared.scope.Meaning.{Meaning}
 use Rattle.pram_check.specs.declared.scope.Meaning.TheVariants.{Uniform, Cell, Array}
 use Rattle.pram_check.specs.Bounded.{IsBounded}
-use Rattle.pram_check.specs.Breaches.{at, new_cause, bounds_cause, cells_cause, shared_cause, or_else, declaration_breaches, block_breaches, body_context, procs_cause, token_breaches, most_procs, most_tokens, IsAccepted}
+use Rattle.pram_check.specs.Breaches.{at, new_cause, bounds_cause, cells_cause, shared_cause, or_else, declaration_breaches, block_breaches}
+use Rattle.pram_check.specs.Breaches.{body_context, procs_cause, token_breaches, most_procs, most_tokens, IsAccepted}
 use Rattle.pram_check.specs.Checked.{Checked, IsResolved}
 use Rattle.pram_check.specs.Scope.{Scope, meaning_of, declared_from, globals, shared_entries, uniform_count}
 use Rattle.pram_check.proofs.BoundedExpressions.{AreThere, back_real, front_none, back_none}
@@ -31,26 +33,30 @@ use Rattle.pram_check.proofs.Depths.{depth_within}
 
 -- ---- what is declared is there
 
-entry_behind : (front : List SharedEntry) (e : SharedEntry) (rest : List SharedEntry) → slice_get (front ++ e ∷ rest) (length front) ≡ Some e
+entry_behind : (front : List SharedEntry) (e : SharedEntry) (rest : List SharedEntry) →
+    slice_get (front ++ e ∷ rest) (length front) ≡ Some e
 entry_behind [] e rest = refl
 entry_behind (x ∷ front) e rest = entry_behind front e rest
 
 longer : (front : List SharedEntry) (e : SharedEntry) → length (front ++ e ∷ []) ≡ length front + 1
 longer front e = length-append front (e ∷ [])
 
-declared_there : (layout : List SharedEntry) (uniforms : ℕ) (front : List SharedEntry) (u : ℕ) (ds : List Declaration) → layout ≡ front ++ shared_entries ds → uniforms ≡ u + uniform_count ds →
+declared_there : (layout : List SharedEntry) (uniforms : ℕ) (front : List SharedEntry) (u : ℕ) (ds : List Declaration) →
+    layout ≡ front ++ shared_entries ds → uniforms ≡ u + uniform_count ds →
     AreThere (outer layout uniforms) (declared_from (length front) u ds)
 declared_there layout uniforms front u [] all count = tt
 declared_there layout uniforms front u (declare.Cell x ∷ ds) all count =
     let e : SharedEntry = record { name = x.text; bounds = None } in
-    let here : slice_get layout (length front) ≡ Some e = ap (λ l. slice_get l (length front)) all ∙ entry_behind front e (shared_entries ds) in
+    let here : slice_get layout (length front) ≡ Some e = ap (λ l. slice_get l (length front)) all
+    ∙ entry_behind front e (shared_entries ds) in
     let more = declared_there layout uniforms (front ++ e ∷ []) u ds (all ∙ sym (append_assoc front (e ∷ []) (shared_entries ds))) count in (
       subst (λ o. MatchOption o ⊥ (λ e. e.bounds ≡ None)) (sym here) refl,
       subst (λ n. AreThere (outer layout uniforms) (declared_from n u ds)) (longer front e) more,
     )
 declared_there layout uniforms front u (declare.Array x low high ∷ ds) all count =
     let e : SharedEntry = record { name = x.text; bounds = Some (low.value, high.value) } in
-    let here : slice_get layout (length front) ≡ Some e = ap (λ l. slice_get l (length front)) all ∙ entry_behind front e (shared_entries ds) in
+    let here : slice_get layout (length front) ≡ Some e = ap (λ l. slice_get l (length front)) all
+    ∙ entry_behind front e (shared_entries ds) in
     let more = declared_there layout uniforms (front ++ e ∷ []) u ds (all ∙ sym (append_assoc front (e ∷ []) (shared_entries ds))) count in (
       subst (λ o. MatchOption o ⊥ (λ e. (b : ℤ × ℤ) × (e.bounds ≡ Some b))) (sym here) ((low.value, high.value), refl),
       subst (λ n. AreThere (outer layout uniforms) (declared_from n u ds)) (longer front e) more,
@@ -112,21 +118,27 @@ second_none : (a b : Option Cause) → or_else a b ≡ None → b ≡ None
 second_none None b h = h
 second_none (Some c) b h = absurd (cc h)
 
-later_new : (scope : Scope) (e u c : ℕ) (ds : List Declaration) (text : List ℕ) → Has scope text → declaration_breaches scope e u c ds ≡ [] → IsNew (names_of (shared_entries ds)) text
+later_new : (scope : Scope) (e u c : ℕ) (ds : List Declaration) (text : List ℕ) → Has scope text →
+    declaration_breaches scope e u c ds ≡ [] → IsNew (names_of (shared_entries ds)) text
 later_new scope e u c [] text has none = tt
 later_new scope e u c (declare.Cell x ∷ ds) text has none =
-    let new = first_none (new_cause scope x.text) _ (no_cause x.location (shared_cause scope c x.text None) (front_none (at x.location (shared_cause scope c x.text None)) _ none)) in (
+    let new = first_none (new_cause scope x.text) _ (no_cause x.location (shared_cause scope c x.text None)
+    (front_none (at x.location (shared_cause scope c x.text None)) _ none)) in (
       differs scope text x.text has new,
-      later_new (scope ++ (x.text, Cell e) ∷ []) (e + 1) u (c + 1) ds text (has_front scope ((x.text, Cell e) ∷ []) text has) (back_none (at x.location (shared_cause scope c x.text None)) _ none),
+      later_new (scope ++ (x.text, Cell e) ∷ []) (e + 1) u (c + 1) ds text (has_front scope ((x.text, Cell e) ∷ []) text has)
+          (back_none (at x.location (shared_cause scope c x.text None)) _ none),
     )
 later_new scope e u c (declare.Array x low high ∷ ds) text has none =
     let bounds = Some (low.value, high.value) in
-    let new = first_none (new_cause scope x.text) _ (no_cause x.location (shared_cause scope c x.text bounds) (front_none (at x.location (shared_cause scope c x.text bounds)) _ none)) in (
+    let new = first_none (new_cause scope x.text) _ (no_cause x.location (shared_cause scope c x.text bounds)
+    (front_none (at x.location (shared_cause scope c x.text bounds)) _ none)) in (
       differs scope text x.text has new,
-      later_new (scope ++ (x.text, Array e) ∷ []) (e + 1) u (c + size bounds) ds text (has_front scope ((x.text, Array e) ∷ []) text has) (back_none (at x.location (shared_cause scope c x.text bounds)) _ none),
+      later_new (scope ++ (x.text, Array e) ∷ []) (e + 1) u (c + size bounds) ds text (has_front scope ((x.text, Array e) ∷ []) text has)
+          (back_none (at x.location (shared_cause scope c x.text bounds)) _ none),
     )
 later_new scope e u c (declare.Uniform x ∷ ds) text has none =
-    later_new (scope ++ (x.text, Uniform u) ∷ []) e (u + 1) c ds text (has_front scope ((x.text, Uniform u) ∷ []) text has) (back_none (at x.location (new_cause scope x.text)) _ none)
+    later_new (scope ++ (x.text, Uniform u) ∷ []) e (u + 1) c ds text (has_front scope ((x.text, Uniform u) ∷ []) text has)
+    (back_none (at x.location (new_cause scope x.text)) _ none)
 
 -- ---- the shared declarations of an accepted tree
 
@@ -149,21 +161,27 @@ record Laid (c : ℕ) (ds : List Declaration) : Type 0 where
   different : AreDifferent (names_of (shared_entries ds))
   cells : c + total_size (shared_entries ds) ≤ most_cells
 
-laid : (scope : Scope) (e u c : ℕ) (ds : List Declaration) → c ≤ most_cells → declaration_breaches scope e u c ds ≡ [] → AreReal (declarations_tokens ds) → Laid c ds
+laid : (scope : Scope) (e u c : ℕ) (ds : List Declaration) → c ≤ most_cells → declaration_breaches scope e u c ds ≡ [] →
+    AreReal (declarations_tokens ds) → Laid c ds
 laid scope e u c [] h none real = record { entries = tt; different = tt; cells = omega arith }
 laid scope e u c (declare.Cell x ∷ ds) h none real =
-    let causes = no_cause x.location (shared_cause scope c x.text None) (front_none (at x.location (shared_cause scope c x.text None)) _ none) in
+    let causes = no_cause x.location (shared_cause scope c x.text None)
+    (front_none (at x.location (shared_cause scope c x.text None)) _ none) in
     let fits = fitting c 1 h (second_none (bounds_cause None) _ (second_none (new_cause scope x.text) _ causes)) in
     let behind = back_none (at x.location (shared_cause scope c x.text None)) _ none in
     let more = laid (scope ++ (x.text, Cell e) ∷ []) (e + 1) u (c + 1) ds fits behind real.1.1.1 in
     record {
       entries = (record { is_name = real.1.0; are_bounds = tt }, more.entries);
-      different = (later_new (scope ++ (x.text, Cell e) ∷ []) (e + 1) u (c + 1) ds x.text (has_last scope x.text (Cell e)) behind, more.different);
+      different = (
+        later_new (scope ++ (x.text, Cell e) ∷ []) (e + 1) u (c + 1) ds x.text (has_last scope x.text (Cell e)) behind,
+        more.different,
+      );
       cells = (let f = more.cells in omega (arith, f));
     }
 laid scope e u c (declare.Array x low high ∷ ds) h none real =
     let bounds = Some (low.value, high.value) in
-    let causes = no_cause x.location (shared_cause scope c x.text bounds) (front_none (at x.location (shared_cause scope c x.text bounds)) _ none) in
+    let causes = no_cause x.location (shared_cause scope c x.text bounds)
+    (front_none (at x.location (shared_cause scope c x.text bounds)) _ none) in
     let rest = second_none (new_cause scope x.text) _ causes in
     let fits = fitting c (size bounds) h (second_none (bounds_cause bounds) _ rest) in
     let behind = back_none (at x.location (shared_cause scope c x.text bounds)) _ none in
@@ -172,14 +190,26 @@ laid scope e u c (declare.Array x low high ∷ ds) h none real =
     let upper : IsNumber high.value = real.1.1.1.1.1.0 in
     record {
       entries = (
-        record { is_name = real.1.0; are_bounds = (lower.no_sign, ordered low.value high.value (first_none (bounds_cause bounds) _ rest), upper.bounded) },
+        record {
+          is_name = real.1.0;
+          are_bounds = (
+            lower.no_sign,
+            ordered low.value high.value (first_none (bounds_cause bounds) _ rest),
+            upper.bounded,
+          );
+        },
         more.entries,
       );
-      different = (later_new (scope ++ (x.text, Array e) ∷ []) (e + 1) u (c + size bounds) ds x.text (has_last scope x.text (Array e)) behind, more.different);
+      different = (
+        later_new (scope ++ (x.text, Array e) ∷ []) (e + 1) u (c + size bounds) ds x.text
+            (has_last scope x.text (Array e)) behind,
+        more.different,
+      );
       cells = (let f = more.cells in omega (arith, f));
     }
 laid scope e u c (declare.Uniform x ∷ ds) h none real =
-    let more = laid (scope ++ (x.text, Uniform u) ∷ []) e (u + 1) c ds h (back_none (at x.location (new_cause scope x.text)) _ none) real.1.1.1 in
+    let more = laid (scope ++ (x.text, Uniform u) ∷ []) e (u + 1) c ds h
+    (back_none (at x.location (new_cause scope x.text)) _ none) real.1.1.1 in
     record { entries = more.entries; different = more.different; cells = more.cells }
 
 few_declared : (ds : List Declaration) → length (shared_entries ds) + uniform_count ds ≤ length (declarations_tokens ds)
@@ -215,18 +245,27 @@ bounded p stands accepted resolved =
     let body = block_breaches t.body (body_context t.declarations) in
     let behind = back_none procs _ accepted in
     let rest = back_none declared _ behind in
-    let declared_real : AreReal (declarations_tokens t.declarations ++ (token.Mark mark.Begin ∷ (block_tokens t.body ++ token.Mark mark.End ∷ []))) = stands.are_real.1.1.1.1.1.1 in
+    let declared_real : AreReal (declarations_tokens t.declarations ++
+    (token.Mark mark.Begin ∷ (block_tokens t.body ++ token.Mark mark.End ∷ []))) = stands.are_real.1.1.1.1.1.1 in
     let end = token.Mark mark.End ∷ [] in
     let tail = token.Mark mark.Begin ∷ (block_tokens t.body ++ end) in
     let body_real = front_real (block_tokens t.body) end (back_real (declarations_tokens t.declarations) tail declared_real).1 in
-    let l = laid [] 0 0 0 t.declarations (omega arith) (front_none declared _ behind) (front_real (declarations_tokens t.declarations) tail declared_real) in
+    let l = laid [] 0 0 0 t.declarations (omega arith) (front_none declared _ behind)
+    (front_real (declarations_tokens t.declarations) tail declared_real) in
     let there = declared_there p.layout p.uniforms [] 0 t.declarations resolved.layout (let u = resolved.uniforms in omega (arith, u)) in
-    let w = statements_within p.layout p.uniforms (globals t.declarations) there [] t.body p.body resolved.body (front_none body _ rest) body_real in
-    let n = few_procs p.procs t.procs.value resolved.procs (no_cause t.procs.location (procs_cause t.procs.value) (front_none procs _ accepted)) in
+    let w = statements_within p.layout p.uniforms (globals t.declarations) there [] t.body p.body resolved.body
+    (front_none body _ rest) body_real in
+    let n = few_procs p.procs t.procs.value resolved.procs (no_cause t.procs.location (procs_cause t.procs.value)
+    (front_none procs _ accepted)) in
     record {
       some_procs = n.0;
       few_procs = n.1;
-      layout = subst IsLayout (sym resolved.layout) (record { entries = l.entries; different = l.different; cells = (let f = l.cells in omega (arith, f)) });
+      layout = subst IsLayout (sym resolved.layout) (record {
+        entries = l.entries;
+        different = l.different;
+        cells =
+            (let f = l.cells in omega (arith, f));
+      });
       body = w.within;
       depth = (let e = w.deep in let f = depth_within limit limit t.body stands.is_block in omega (arith, e, f));
       small = (

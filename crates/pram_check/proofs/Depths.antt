@@ -57,24 +57,30 @@ depth-Print l v = ap tree_depth (sym (s.rolls-Print l v)) ∙ fold-roll-Stmt ℕ
 
 pub depth-While : (l : Location) (v : Expr) (body : List Stmt) → tree_depth (s.While l v body) ≡ 1 + block_depth body
 unfolding tree_depth
-depth-While l v body = ap tree_depth (sym (s.rolls-While l v body)) ∙ fold-roll-Stmt ℕ node_depth (Stmt-F.While l v body) ∙ ap (λ n. 1 + n) (each body)
+depth-While l v body = ap tree_depth (sym (s.rolls-While l v body)) ∙ fold-roll-Stmt ℕ node_depth (Stmt-F.While l v body)
+    ∙ ap (λ n. 1 + n) (each body)
 
-pub depth-If : (l : Location) (v : Expr) (body : List Stmt) (other : Option (List Stmt)) → tree_depth (s.If l v body other) ≡ 1 + max (block_depth body) (else_depth other)
+pub depth-If : (l : Location) (v : Expr) (body : List Stmt) (other : Option (List Stmt)) →
+    tree_depth (s.If l v body other) ≡ 1 + max (block_depth body) (else_depth other)
 unfolding tree_depth
 depth-If l v body None =
-    ap tree_depth (sym (s.rolls-If l v body None)) ∙ fold-roll-Stmt ℕ node_depth (Stmt-F.If l v body None) ∙ ap (λ n. 1 + max n 0) (each body)
+    ap tree_depth (sym (s.rolls-If l v body None)) ∙ fold-roll-Stmt ℕ node_depth (Stmt-F.If l v body None)
+    ∙ ap (λ n. 1 + max n 0) (each body)
 depth-If l v body (Some other) =
     ap tree_depth (sym (s.rolls-If l v body (Some other))) ∙ fold-roll-Stmt ℕ node_depth (Stmt-F.If l v body (Some other))
     ∙ ap (λ n. 1 + max n (deepest (map tree_depth other))) (each body) ∙ ap (λ n. 1 + max (block_depth body) n) (each other)
 
 pub depth-For : (l : Location) (x : Name) (low high : Expr) (body : List Stmt) → tree_depth (s.For l x low high body) ≡ 1 + block_depth body
 unfolding tree_depth
-depth-For l x low high body = ap tree_depth (sym (s.rolls-For l x low high body)) ∙ fold-roll-Stmt ℕ node_depth (Stmt-F.For l x low high body) ∙ ap (λ n. 1 + n) (each body)
+depth-For l x low high body = ap tree_depth (sym (s.rolls-For l x low high body))
+    ∙ fold-roll-Stmt ℕ node_depth (Stmt-F.For l x low high body) ∙ ap (λ n. 1 + n) (each body)
 
-pub depth-Pardo : (l : Location) (low : Expr) (x : Name) (high : Expr) (locals : List Name) (body : List Stmt) → tree_depth (s.Pardo l low x high locals body) ≡ 1 + block_depth body
+pub depth-Pardo : (l : Location) (low : Expr) (x : Name) (high : Expr) (locals : List Name) (body : List Stmt) →
+    tree_depth (s.Pardo l low x high locals body) ≡ 1 + block_depth body
 unfolding tree_depth
 depth-Pardo l low x high locals body =
-    ap tree_depth (sym (s.rolls-Pardo l low x high locals body)) ∙ fold-roll-Stmt ℕ node_depth (Stmt-F.Pardo l low x high locals body) ∙ ap (λ n. 1 + n) (each body)
+    ap tree_depth (sym (s.rolls-Pardo l low x high locals body)) ∙ fold-roll-Stmt ℕ node_depth (Stmt-F.Pardo l low x high locals body)
+    ∙ ap (λ n. 1 + n) (each body)
 
 -- ---- what the grammar says of it
 
@@ -90,8 +96,10 @@ module _ (b d : ℕ) (further : (body : List Stmt) → IsFurtherBlock b d body �
       let f = further body k in
       let g = further other m in
       omega (arith, e, f, g)
-  statement_depth _ (grammar.for_to at x low high body h g k) = let e = depth-For at x low high body in let f = further body k in omega (arith, e, f)
-  statement_depth _ (grammar.pardo at low x high locals body h g k) = let e = depth-Pardo at low x high locals body in let f = further body k in omega (arith, e, f)
+  statement_depth _ (grammar.for_to at x low high body h g k) = let e = depth-For at x low high body in let f = further body k in omega
+      (arith, e, f)
+  statement_depth _ (grammar.pardo at low x high locals body h g k) = let e = depth-Pardo at low x high locals body in let f =
+      further body k in omega (arith, e, f)
 
   statements_depth : (body : List Stmt) → grammar.AreStatements d (IsFurtherBlock b d) body → block_depth body ≤ b
   statements_depth [] h = omega arith

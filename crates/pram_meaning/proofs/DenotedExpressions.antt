@@ -64,34 +64,44 @@ links_by scope [] s t v = Gives t v
 links_by scope (l ∷ ls) s t v = and_then (value_by scope l.1 s t) (λ t w. and_then (operation (operate l.0 v w) t) (links_by scope ls s))
 
 module _ (scope : Scope) (s : View) where
-  each : (rest : List (Binary × Expr)) (t : Trail) (v : ℤ) → links_value (map (λ l. (l.0, value_by scope l.1)) rest) s t v ≡ links_by scope rest s t v
+  each : (rest : List (Binary × Expr)) (t : Trail) (v : ℤ) → links_value
+      (map (λ l. (l.0, value_by scope l.1)) rest) s t v ≡ links_by scope rest s t v
   each [] t v = refl
   each (l ∷ rest) t v = ap (and_then (value_by scope l.1 s t)) (λ j t w. and_then (operation (operate l.0 v w) t) (λ t u. each rest t u j))
 
   by-Number : (n : Numeral) (t : Trail) → value_by scope (e.Number n) s t ≡ Gives t n.value
   unfolding value_by
-  by-Number n t = ap (λ x. value_by scope x s t) (sym (e.rolls-Number n)) ∙ ap (λ (f : Reading). f s t) (fold-roll-Expr Reading (node_value scope) (Expr-F.Number n))
+  by-Number n t = ap (λ x. value_by scope x s t) (sym (e.rolls-Number n))
+      ∙ ap (λ (f : Reading). f s t) (fold-roll-Expr Reading (node_value scope) (Expr-F.Number n))
 
   by-Name : (x : Name) (t : Trail) → value_by scope (e.Name x) s t ≡ name_value (meaning_of scope x.text) s t
   unfolding value_by
-  by-Name x t = ap (λ y. value_by scope y s t) (sym (e.rolls-Name x)) ∙ ap (λ (f : Reading). f s t) (fold-roll-Expr Reading (node_value scope) (Expr-F.Name x))
+  by-Name x t = ap (λ y. value_by scope y s t) (sym (e.rolls-Name x))
+      ∙ ap (λ (f : Reading). f s t) (fold-roll-Expr Reading (node_value scope) (Expr-F.Name x))
 
-  by-Element : (x : Name) (i : Expr) (t : Trail) → value_by scope (e.Element x i) s t ≡ element_value (meaning_of scope x.text) (value_by scope i) s t
+  by-Element : (x : Name) (i : Expr) (t : Trail) → value_by scope (e.Element x i) s t ≡ element_value (meaning_of scope x.text)
+      (value_by scope i) s t
   unfolding value_by
-  by-Element x i t = ap (λ y. value_by scope y s t) (sym (e.rolls-Element x i)) ∙ ap (λ (f : Reading). f s t) (fold-roll-Expr Reading (node_value scope) (Expr-F.Element x i))
+  by-Element x i t = ap (λ y. value_by scope y s t) (sym (e.rolls-Element x i))
+      ∙ ap (λ (f : Reading). f s t) (fold-roll-Expr Reading (node_value scope) (Expr-F.Element x i))
 
   by-Paren : (i : Expr) (t : Trail) → value_by scope (e.Paren i) s t ≡ value_by scope i s t
   unfolding value_by
-  by-Paren i t = ap (λ y. value_by scope y s t) (sym (e.rolls-Paren i)) ∙ ap (λ (f : Reading). f s t) (fold-roll-Expr Reading (node_value scope) (Expr-F.Paren i))
+  by-Paren i t = ap (λ y. value_by scope y s t) (sym (e.rolls-Paren i))
+      ∙ ap (λ (f : Reading). f s t) (fold-roll-Expr Reading (node_value scope) (Expr-F.Paren i))
 
-  by-Prefix : (p : Prefix) (i : Expr) (t : Trail) → value_by scope (e.Prefix p i) s t ≡ and_then (value_by scope i s t) (λ t v. operation (operate_before p v) t)
+  by-Prefix : (p : Prefix) (i : Expr) (t : Trail) → value_by scope (e.Prefix p i) s t ≡ and_then (value_by scope i s t)
+      (λ t v. operation (operate_before p v) t)
   unfolding value_by
-  by-Prefix p i t = ap (λ y. value_by scope y s t) (sym (e.rolls-Prefix p i)) ∙ ap (λ (f : Reading). f s t) (fold-roll-Expr Reading (node_value scope) (Expr-F.Prefix p i))
+  by-Prefix p i t = ap (λ y. value_by scope y s t) (sym (e.rolls-Prefix p i))
+      ∙ ap (λ (f : Reading). f s t) (fold-roll-Expr Reading (node_value scope) (Expr-F.Prefix p i))
 
-  by-Chain : (first : Expr) (rest : List (Binary × Expr)) (t : Trail) → value_by scope (e.Chain first rest) s t ≡ and_then (value_by scope first s t) (links_by scope rest s)
+  by-Chain : (first : Expr) (rest : List (Binary × Expr)) (t : Trail) →
+      value_by scope (e.Chain first rest) s t ≡ and_then (value_by scope first s t) (links_by scope rest s)
   unfolding value_by
   by-Chain first rest t =
-      ap (λ y. value_by scope y s t) (sym (e.rolls-Chain first rest)) ∙ ap (λ (f : Reading). f s t) (fold-roll-Expr Reading (node_value scope) (Expr-F.Chain first rest))
+      ap (λ y. value_by scope y s t) (sym (e.rolls-Chain first rest))
+      ∙ ap (λ (f : Reading). f s t) (fold-roll-Expr Reading (node_value scope) (Expr-F.Chain first rest))
       ∙ ap (and_then (value_by scope first s t)) (λ j t v. each rest t v j)
 
   mutual
@@ -102,7 +112,8 @@ module _ (scope : Scope) (s : View) where
     value_said _ _ (says.local x k is) t = sym (by-Name x t ∙ ap (λ o. name_value o s t) is)
     value_said _ _ (says.cell x k is) t = sym (by-Name x t ∙ ap (λ o. name_value o s t) is)
     value_said _ _ (says.element x k i j is said) t =
-        ap (λ a. and_then a (λ t z. read s (cell_of s.layout k z) t)) (value_said i j.value said t) ∙ sym (by-Element x i t ∙ ap (λ o. element_value o (value_by scope i) s t) is)
+        ap (λ a. and_then a (λ t z. read s (cell_of s.layout k z) t)) (value_said i j.value said t)
+        ∙ sym (by-Element x i t ∙ ap (λ o. element_value o (value_by scope i) s t) is)
     value_said _ _ (says.paren i x said) t = value_said i x said t ∙ sym (by-Paren i t)
     value_said _ _ (says.prefix p i j said) t =
         ap (λ a. and_then a (λ t v. operation (operate_before p v) t)) (value_said i j.value said t) ∙ sym (by-Prefix p i t)
@@ -110,7 +121,8 @@ module _ (scope : Scope) (s : View) where
         attempt_chain s x links t ∙ ap (λ a. and_then a (attempt_items s links.items)) (value_said first x.value said t)
         ∙ ap (and_then (value_by scope first s t)) (λ j t v. links_said rest links.items linked t v j) ∙ sym (by-Chain first rest t)
 
-    links_said : (rest : List (Binary × Expr)) (links : List Link) → SayLinks scope rest links → (t : Trail) (v : ℤ) → attempt_items s links t v ≡ links_by scope rest s t v
+    links_said : (rest : List (Binary × Expr)) (links : List Link) → SayLinks scope rest links → (t : Trail) (v : ℤ) →
+        attempt_items s links t v ≡ links_by scope rest s t v
     links_said _ _ says.none t v = refl
     links_said _ _ (says.more o i rest x links here behind) t v =
         ap (λ a. and_then a (λ t w. and_then (operation (operate o v w) t) (attempt_items s links))) (value_said i x here t)

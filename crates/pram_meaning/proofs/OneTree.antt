@@ -37,4 +37,5 @@ module _ (p q : Checked) (rp : IsResolved p) (rq : IsResolved q) (same : p.tree 
 
 pub tree_has_one_outcome : TreeHasOneOutcome
 tree_has_one_outcome p q rp rq same input n v w is also =
-    (outcome_is_computed p input n v).0 is ∙ ap verdict_at (same_done p q rp rq same input n) ∙ sym ((outcome_is_computed q input n w).0 also)
+    (outcome_is_computed p input n v).0 is ∙ ap verdict_at (same_done p q rp rq same input n)
+    ∙ sym ((outcome_is_computed q input n w).0 also)

@@ -1,12 +1,14 @@
 -- What operations and write rules give of values of 64 bits.
-use Rattle.std.proofs.Common.{◌≡◌, ℕ, zero, suc, ◌+◌, ◌<◌, List, [], ◌∷◌, ◌++◌, Bool, true, false, Ok, Err, ℤ, pos, negsuc, neg_ℤ, ◌+ℤ◌, ◌-ℤ◌, ◌*ℤ◌, not, ◌||◌, ◌≤ℤ◌, int_le, int_lt, ◌&&◌, nat_abs, if◌then◌else◌, refl, ap, arith, subst, replicate}
+use Rattle.std.proofs.Common.{◌≡◌, ℕ, zero, suc, ◌+◌, ◌<◌, List, [], ◌∷◌, ◌++◌, Bool, true, false, Ok, Err, ℤ, pos, negsuc, neg_ℤ, ◌+ℤ◌}
+use Rattle.std.proofs.Common.{◌-ℤ◌, ◌*ℤ◌, not, ◌||◌, ◌≤ℤ◌, int_le, int_lt, ◌&&◌, nat_abs, if◌then◌else◌, refl, ap, arith, subst, replicate}
 use Rattle.std.specs.Prelude.{slice_index_or, slice_set}
 use Rattle.std.specs.List.{AllByRecursion}
 use Rattle.std.proofs.lemmas.Int.{ints}
 use Rattle.pram_syntax.specs.declared.rule.Rule.{Rule}
 use Rattle.pram_syntax.specs.declared.rule.Rule.TheVariants.{Erew, Crew, Common, Priority, Sum}
 use Rattle.pram_syntax.specs.declared.token.Binary.{Binary}
-use Rattle.pram_syntax.specs.declared.token.Binary.TheVariants.{Or, And, Equal, Unequal, Less, AtMost, Greater, AtLeast, Add, Subtract, Multiply, Divide, Remainder}
+use Rattle.pram_syntax.specs.declared.token.Binary.TheVariants.{Or, And, Equal, Unequal, Less, AtMost, Greater, AtLeast, Add, Subtract}
+use Rattle.pram_syntax.specs.declared.token.Binary.TheVariants.{Multiply, Divide, Remainder}
 use Rattle.pram_syntax.specs.declared.tree.Prefix.{Prefix}
 use Rattle.pram_syntax.specs.declared.tree.Prefix.TheVariants.{Negate, Not}
 use Rattle.pram_syntax.specs.Layout.{width}
@@ -39,7 +41,11 @@ truth_is false = zero_is
 
 -- between two values
 pub between : (a z b : ℤ) → IsValue a → IsValue b → a ≤ℤ z → z ≤ℤ b → IsValue z
-between a z b low high h g = record { least = (let l = low.least in omega (arith, ints, l, h)); most = (let m = high.most in omega (arith, ints, m, g)) }
+between a z b low high h g = record {
+  least = (let l = low.least in omega (arith, ints, l, h));
+  most =
+      (let m = high.most in omega (arith, ints, m, g));
+}
 
 -- ---- results
 
@@ -61,8 +67,16 @@ remainder_is x d h some = by d h (floor_remainder x d) (remainder_is_within x d 
     nonzero e = absurd (cc (some, ap is_nonzero e))
 
     by : (d : ℤ) → IsValue d → (r : ℤ) → IsRemainderFor d r → IsValue r
-    by (pos n) h r w = record { least = (let a = w.0 in omega (arith, ints, a)); most = (let a = w.1 in let b = h.most in omega (arith, ints, a, b)) }
-    by (negsuc n) h r w = record { least = (let a = w.0 in let b = h.least in omega (arith, ints, a, b)); most = (let a = w.1 in omega (arith, ints, a)) }
+    by (pos n) h r w = record {
+      least = (let a = w.0 in omega (arith, ints, a));
+      most =
+          (let a = w.1 in let b = h.most in omega (arith, ints, a, b));
+    }
+    by (negsuc n) h r w = record {
+      least = (let a = w.0 in let b = h.least in omega (arith, ints, a, b));
+      most =
+          (let a = w.1 in omega (arith, ints, a));
+    }
 
 quotient_sound : (x d : ℤ) → IsSound (quotient x d)
 quotient_sound x d = by (is_nonzero d)
@@ -134,7 +148,8 @@ least_sound : (w : Write) (ws : List Write) → WritesValue w → AllByRecursion
 least_sound w [] h g = h
 least_sound w (v ∷ vs) h g = by (int_le w.processor v.processor) (least_sound w vs h g.1) (least_sound v vs g.0 g.1)
   where
-    by : (b : Bool) → IsValue (least_writer w vs).value → IsValue (least_writer v vs).value → IsValue (if b then least_writer w vs else least_writer v vs).value
+    by : (b : Bool) → IsValue (least_writer w vs).value → IsValue (least_writer v vs).value →
+        IsValue (if b then least_writer w vs else least_writer v vs).value
     by true a c = a
     by false a c = c
 
@@ -170,4 +185,5 @@ pub numbers_first : (a : ℤ) (k : ℕ) → AreNumbers a (suc k) → IsValue a
 numbers_first a k h = let e : a +ℤ pos 0 ≡ a = omega (arith, ints) in subst IsValue e (h 0 (omega arith))
 
 pub numbers_rest : (a : ℤ) (k : ℕ) → AreNumbers a (suc k) → AreNumbers (a +ℤ pos 1) k
-numbers_rest a k h j below = let e : a +ℤ pos (j + 1) ≡ (a +ℤ pos 1) +ℤ pos j = omega (arith, ints) in subst IsValue e (h (j + 1) (omega (arith, below)))
+numbers_rest a k h j below = let e : a +ℤ pos (j + 1) ≡ (a +ℤ pos 1) +ℤ pos j = omega (arith, ints) in subst IsValue e
+    (h (j + 1) (omega (arith, below)))

@@ -50,7 +50,8 @@ StatementsKeepValues =
 -- So does every statement inside pardo, on every set of its processors.
 abbrev pub StepsKeepValues : Type 0
 StepsKeepValues =
-    (p : Checked) (n : ℕ) (s : Names) (x : Step) (vs : List ℕ) (m : State) → IsStep s x → HasValues m → ComesToValues (perform_on p n x vs m)
+    (p : Checked) (n : ℕ) (s : Names) (x : Step) (vs : List ℕ) (m : State) → IsStep s x → HasValues m →
+    ComesToValues (perform_on p n x vs m)
 
 -- The outcome of a program on an input of values of 64 bits has such values alone.
 abbrev pub OutcomesHaveValues : Type 0

@@ -3,3 +3,4 @@ pub mod Shown
 pub mod Status
 pub mod Stopped
 pub mod StoppedFields
+pub mod Held

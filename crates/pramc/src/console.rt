@@ -1,7 +1,8 @@
 //! The system's files and streams.
 
-ghost use Rattle.std.specs.Prelude.{◌≡◌, ◌+◌, ◌<◌, ◌≤◌, ◌^◌, None, OnOk, OnErr};
+ghost use Rattle.std.specs.Prelude.{◌≡◌, ◌⊎◌, ◌+◌, ◌++◌, ◌<◌, ◌≤◌, ◌^◌, [], None, IfOk, OnOk, OnErr, length, take};
 ghost use Rattle.pram_syntax.specs.Out.{OutState, with_failure};
+ghost use Rattle.pramc.specs.Held.{held_at};
 
 use crate::sources::{SourceFault, Sources};
 use pram_syntax::writer::{Out, OutFailed};
@@ -37,7 +38,8 @@ impl<P: Print> Stream<P> {
     fn pass(&mut self) -> Result<(), OutFailed>
         requires counted { self.old.failures < 2 ^ 63 }
         ensures ok { OnOk result ((self.new.failures ≡ self.old.failures) × (self.new.len ≡ 0)) }
-        ensures failed { OnErr result (self.new.failures ≡ self.old.failures + 1) }
+        ensures failed { OnErr result ((self.new.failures ≡ self.old.failures + 1) × (self.new.len ≡ self.old.len)) }
+        ensures held { self.new.held ≡ self.old.held }
     {
         match self.stream.write_all(&self.held[..self.len]) {
             Ok(()) => {
@@ -52,16 +54,36 @@ impl<P: Print> Stream<P> {
     }
 }
 
+impl<P: Print> Stream<P> {
+    // Holds more bytes, behind those held.
+    fn hold(&mut self, bytes: &[u8])
+        requires room { self.old.len + length bytes.now ≤ 4096 }
+        ensures kept { take self.new.len self.new.held ≡ take self.old.len self.old.held ++ bytes.now }
+        ensures failures { self.new.failures ≡ self.old.failures }
+    {
+        let end = self.len + bytes.len();
+        self.held[self.len..end].copy_from_slice(bytes);
+        self.len = end;
+    }
+}
+
 impl<P: Print> Out for Stream<P> {
     ghost state = { λ s. record { taken = None; failures = s.failures } };
 
-    fn write(&mut self, bytes: &[u8]) -> Result<usize, OutFailed> {
+    fn write(&mut self, bytes: &[u8]) -> Result<usize, OutFailed>
+        requires counted { self.old.failures < 2 ^ 63 }
+        ensures some { IfOk result (λ n. (bytes.now ≡ []) ⊎ (0 < n)) }
+        ensures part { IfOk result (λ n. n ≤ length bytes.now) }
+        // What was taken is held, behind what was held before, if that wasn't handed on.
+        ensures taken { IfOk result (λ n. (take self.new.len self.new.held ≡ held_at self.old.len self.old.held ++ take n bytes.now)
+            × (self.new.failures ≡ self.old.failures)) }
+        ensures failed { OnErr result (self.new.failures ≡ self.old.failures + 1) }
+    {
         if self.len == 4096 {
             self.pass()?;
         }
         let count = bytes.len().min(4096 - self.len);
-        self.held[self.len..self.len + count].copy_from_slice(&bytes[..count]);
-        self.len += count;
+        self.hold(&bytes[..count]);
         Ok(count)
     }
 
