@@ -1,6 +1,6 @@
 -- Worked code of three stretches: two registers are set, a loop counts one of them down, and it is printed.
 use Rattle.std.specs.Prelude.{List, [], ◌∷◌, ◌++◌, pos}
-use Rattle.pram_syntax.specs.declared.rule.Rule.TheVariants.{Crew}
+use Rattle.pram_model.specs.declared.rule.Rule.TheVariants.{Crew}
 use Rattle.superstep_code.specs.declared.instr.Arithmetic.TheVariants.{Subtract}
 use Rattle.superstep_code.specs.declared.instr.Side.TheVariants.{Uniform}
 use Rattle.superstep_code.specs.declared.instr.Instr.{Instr}

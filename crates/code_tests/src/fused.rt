@@ -2,7 +2,7 @@
 
 use bsp_verify::verify::verify;
 use fusing::fuse::fuse;
-use pram_syntax::buffer::Buffer;
+use text_out::buffer::Buffer;
 use std::alloc::Global;
 use superstep_code::listing_read::read_listing;
 use superstep_code::listing_write::write_listing;

@@ -1,7 +1,7 @@
 //! Listings, each with its code or the offset of its first wrong line, as worked out by hand.
 
-use pram_syntax::buffer::Buffer;
-use pram_syntax::rule::Rule;
+use text_out::buffer::Buffer;
+use pram_model::rule::Rule;
 use std::alloc::Global;
 use superstep_code::error::ListingFault;
 use superstep_code::instr::{Instr, Side, Truth};

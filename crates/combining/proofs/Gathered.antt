@@ -6,7 +6,7 @@ use Rattle.std.proofs.lemmas.Bool.{cases_lt, cases_eq, lt-ltb, le-ltb}
 use Rattle.pram_values.specs.declared.kind.Kind.{Kind}
 use Rattle.pram_values.specs.Total.{IsMonoid}
 use Rattle.pram_values.proofs.Totals.{neutral_right}
-use Rattle.pram_syntax.specs.declared.rule.Rule.{Rule}
+use Rattle.pram_model.specs.declared.rule.Rule.{Rule}
 use Rattle.write_rules.specs.declared.entry.Entry.{Entry}
 use Rattle.address_map.specs.Lawful.{Shape, IsOf, IsLawful}
 use Rattle.superstep_code.specs.Sending.{verdict_on, settled}

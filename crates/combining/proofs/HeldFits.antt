@@ -2,7 +2,7 @@
 use Rattle.std.proofs.Common.{List, [], ◌∷◌, Bool, true, false, eqb}
 use Rattle.std.specs.Prelude.{if◌then◌else◌}
 use Rattle.std.specs.List.{AllByRecursion}
-use Rattle.pram_syntax.specs.declared.rule.Rule.{Rule}
+use Rattle.pram_model.specs.declared.rule.Rule.{Rule}
 use Rattle.superstep_code.specs.Setting.{combining}
 use Rattle.superstep_code.specs.Words.{CellPut}
 use Rattle.superstep_code.specs.Fitting.{FitsPut, FitsWrite}

@@ -5,7 +5,7 @@ use Rattle.std.specs.List.{filter, filter_map, cons_option}
 use Rattle.std.proofs.lemmas.Bool.{eq-eqb, ne_eqb}
 use Rattle.std.proofs.lemmas.Bool.Decides.{eqb_tells}
 use Rattle.pram_values.specs.Total.{total}
-use Rattle.pram_syntax.specs.declared.rule.Rule.{Rule}
+use Rattle.pram_model.specs.declared.rule.Rule.{Rule}
 use Rattle.write_rules.specs.declared.entry.Entry.{Entry}
 use Rattle.superstep_code.specs.Setting.{combining}
 use Rattle.superstep_code.specs.Words.{CellPut}

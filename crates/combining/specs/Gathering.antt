@@ -1,7 +1,7 @@
 -- A place for each offset of a module, in which what comes for a cell is collected, and is then taken out again.
 use Rattle.std.specs.Prelude.{◌≡◌, ℕ, ℤ, pos, ◌<◌, List, Bool, Option, Some, None, get_or, nat_lt, if◌then◌else◌}
 use Rattle.pram_values.specs.declared.kind.Kind.{Kind}
-use Rattle.pram_syntax.specs.declared.rule.Rule.{Rule}
+use Rattle.pram_model.specs.declared.rule.Rule.{Rule}
 use Rattle.write_rules.specs.declared.entry.Entry.{Entry}
 use Rattle.address_map.specs.Lawful.{Shape, IsOf}
 use Rattle.std.proofs.Common.{eqb}

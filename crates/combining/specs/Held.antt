@@ -2,8 +2,8 @@
 use Rattle.std.specs.Prelude.{◌≡◌, refl, ℕ, List, [], ◌∷◌, Bool, true, false, if◌then◌else◌, ◌<◌}
 use Rattle.std.specs.List.{filter, flat_map}
 use Rattle.std.proofs.Common.{eqb}
-use Rattle.pram_syntax.specs.declared.rule.Rule.{Rule}
-use Rattle.pram_syntax.specs.declared.rule.Rule.TheVariants.{Sum}
+use Rattle.pram_model.specs.declared.rule.Rule.{Rule}
+use Rattle.pram_model.specs.declared.rule.Rule.TheVariants.{Sum}
 use Rattle.write_rules.specs.declared.entry.Entry.{Entry}
 use Rattle.write_rules.specs.Combining.{exclusive, exclusive_rule}
 use Rattle.superstep_code.specs.Setting.{combining}

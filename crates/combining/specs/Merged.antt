@@ -3,7 +3,7 @@ use Rattle.std.specs.Prelude.{◌≡◌, ℕ, ℤ, ◌<◌, List, length, Bool, 
 use Rattle.pram_values.specs.declared.kind.Kind.{Kind}
 use Rattle.pram_values.specs.declared.kind.Kind.TheVariants.{ReadConflict}
 use Rattle.pram_values.specs.Value.{Value}
-use Rattle.pram_syntax.specs.declared.rule.Rule.{Rule}
+use Rattle.pram_model.specs.declared.rule.Rule.{Rule}
 use Rattle.address_map.specs.Lawful.{Shape, IsOf}
 use Rattle.superstep_code.specs.Sending.{verdict_on, settled, is_several}
 use Rattle.superstep_code.specs.WordReading.{entry_read, askers_read}

@@ -3,7 +3,7 @@ use Rattle.std.specs.Prelude.{◌≡◌, ℕ, ℤ, ◌<◌, List, length, map, O
 use Rattle.pram_values.specs.declared.kind.Kind.{Kind}
 use Rattle.pram_values.specs.declared.kind.Kind.TheVariants.{ReadConflict}
 use Rattle.pram_values.specs.Total.{total}
-use Rattle.pram_syntax.specs.declared.rule.Rule.{Rule}
+use Rattle.pram_model.specs.declared.rule.Rule.{Rule}
 use Rattle.address_map.specs.Lawful.{IsLawful}
 use Rattle.superstep_code.specs.declared.header.MessageHeader.{MessageHeader}
 use Rattle.superstep_code.specs.declared.key.Key.{Key}

@@ -3,7 +3,7 @@
 ghost use Rattle.std.specs.Prelude.{◌≡◌, ℕ, List, [], map, None};
 ghost use Rattle.std.specs.List.{AllByRecursion, filter_map, flat_map};
 ghost use Rattle.pram_values.specs.Total.{total};
-ghost use Rattle.pram_syntax.specs.declared.rule.Rule.{Rule as RuleName};
+ghost use Rattle.pram_model.specs.declared.rule.Rule.{Rule as RuleName};
 ghost use Rattle.address_map.specs.Lawful.{Shape};
 ghost use Rattle.superstep_code.specs.Words.{CellPut, CellAsk, Message, put_words, ask_words};
 ghost use Rattle.superstep_code.specs.WordReading.{puts_in, asks_in, entry_read, askers_read};

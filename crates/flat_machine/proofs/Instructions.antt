@@ -2,8 +2,8 @@
 use Rattle.std.proofs.Common.{◌≡◌, ℕ, zero, suc, ◌<◌, ◌≤◌, ◌%◌, List, [], ◌∷◌, ◌++◌, map, length, Bool, true, false, Option, Some, None, ℤ, pos, cond, eqb, refl, sym, ap, ◌∙◌, subst, arith}
 use Rattle.std.specs.Prelude.{if◌then◌else◌}
 use Rattle.std.specs.List.{filter_map, cons_option, range_with_len, zip}
-use Rattle.pram_syntax.specs.Layout.{total_size}
-use Rattle.pram_syntax.specs.declared.rule.Rule.{Rule}
+use Rattle.pram_model.specs.Layout.{total_size}
+use Rattle.pram_model.specs.declared.rule.Rule.{Rule}
 use Rattle.pram_values.specs.Total.{IsMonoid, total}
 use Rattle.pram_values.proofs.Totals.{total_same, total_map, total_within, neutral_right, total_both, total_joined, total_at, total_parts, total_again}
 use Rattle.write_rules.specs.declared.entry.Entry.{Entry}

@@ -1,7 +1,7 @@
 -- A sum over the cells of all modules is one over the cells of the layout.
 use Rattle.std.proofs.Common.{◌≡◌, ℕ, zero, suc, ◌+◌, ◌<◌, ◌≤◌, List, [], ◌∷◌, Bool, true, false, cond, eqb, refl, sym, ap, ◌∙◌, arith}
 use Rattle.std.specs.List.{range_with_len}
-use Rattle.pram_syntax.specs.Layout.{total_size}
+use Rattle.pram_model.specs.Layout.{total_size}
 use Rattle.pram_values.specs.Total.{IsMonoid, total}
 use Rattle.pram_values.proofs.Totals.{total_map, total_within, total_none, total_both, total_at}
 use Rattle.superstep_code.specs.Setting.{Setting, workers, module_cells}

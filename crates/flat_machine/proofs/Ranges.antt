@@ -3,9 +3,9 @@ use Rattle.std.proofs.Common.{◌≡◌, ℕ, zero, suc, ◌+◌, ◌<◌, ◌�
 use Rattle.std.specs.Prelude.{if◌then◌else◌, ◌&&◌}
 use Rattle.std.proofs.lemmas.Bool.Decides.{nat_tests}
 use Rattle.std.proofs.lemmas.Int.{ints}
-use Rattle.pram_syntax.specs.Layout.{SharedEntry, width, size, total_size, cell_in, cell_from, cell_of}
-use Rattle.pram_syntax.specs.Layout as layout
-use Rattle.pram_syntax.specs.declared.rule.Rule.{Rule}
+use Rattle.pram_model.specs.Layout.{SharedEntry, width, size, total_size, cell_in, cell_from, cell_of}
+use Rattle.pram_model.specs.Layout as layout
+use Rattle.pram_model.specs.declared.rule.Rule.{Rule}
 use Rattle.pram_values.specs.Total.{total}
 use Rattle.pram_values.proofs.Totals.{total_none}
 use Rattle.superstep_code.specs.declared.instr.Side.TheVariants.{Uniform, Private}

@@ -2,7 +2,7 @@
 use Rattle.std.proofs.Common.{◌≡◌, ℕ, ◌<◌, ◌≤◌, ◌%◌, List, [], map, length, Bool, true, Some, None, eqb, ◌&&◌}
 use Rattle.std.specs.Prelude.{slice_index_or}
 use Rattle.std.specs.List.{AllByRecursion, filter, list_any, range_with_len}
-use Rattle.pram_syntax.specs.Layout.{total_size}
+use Rattle.pram_model.specs.Layout.{total_size}
 use Rattle.pram_values.specs.Total.{total}
 use Rattle.superstep_code.specs.Code.{SuperstepCode}
 use Rattle.superstep_code.specs.Keys.{least}

@@ -2,7 +2,7 @@
 use Rattle.std.proofs.Common.{◌≡◌, ℕ, zero, suc, ◌+◌, ◌<◌, ◌%◌, List, [], ◌∷◌, map, length, Bool, true, false, cond, Option, Some, None, ℤ, pos, eqb, refl, sym, ap, ◌∙◌, subst, arith}
 use Rattle.std.specs.Prelude.{if◌then◌else◌, ◌&&◌, ◌||◌, slice_index_or}
 use Rattle.std.specs.List.{filter, list_any, range_with_len, zip}
-use Rattle.pram_syntax.specs.Layout.{total_size}
+use Rattle.pram_model.specs.Layout.{total_size}
 use Rattle.pram_values.specs.Total.{IsMonoid, total}
 use Rattle.pram_values.specs.Truth.{truth}
 use Rattle.pram_values.proofs.Totals.{total_map, total_within}

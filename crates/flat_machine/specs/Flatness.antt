@@ -1,6 +1,6 @@
 -- Workers that exchange messages are one flat machine.
 use Rattle.std.specs.Prelude.{◌≡◌, ℕ, ◌≤◌, map, ℤ, List, Some}
-use Rattle.pram_syntax.specs.Layout.{total_size}
+use Rattle.pram_model.specs.Layout.{total_size}
 use Rattle.write_rules.specs.Verdict.{Verdict}
 use Rattle.address_map.specs.Lawful.{Shape, IsLawful}
 use Rattle.superstep_code.specs.Code.{SuperstepCode}

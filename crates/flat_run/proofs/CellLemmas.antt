@@ -3,7 +3,7 @@ use Rattle.std.proofs.Common.{◌≡◌, ℕ, zero, suc, ◌+◌, ◌<◌, ◌�
 use Rattle.std.proofs.lemmas.Bool.Decides.{eqb_tells}
 use Rattle.std.proofs.lemmas.List.{length-set}
 use Rattle.std.specs.List.{zip}
-use Rattle.pram_syntax.specs.declared.rule.Rule.{Rule}
+use Rattle.pram_model.specs.declared.rule.Rule.{Rule}
 use Rattle.write_rules.specs.declared.entry.Entry.{Entry}
 use Rattle.superstep_code.specs.Parts.{Registers, Read}
 use Rattle.superstep_code.specs.Sending.{verdict_on, settled}

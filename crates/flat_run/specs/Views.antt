@@ -1,6 +1,6 @@
 -- What the values of the plain program stand for.
 use Rattle.std.specs.Prelude.{◌≡◌, ℕ, ◌<◌, ◌≤◌, List, map, length, reverse, Option, None, slice_index_or}
-use Rattle.pram_syntax.specs.Layout.{total_size}
+use Rattle.pram_model.specs.Layout.{total_size}
 use Rattle.write_rules.specs.declared.entry.Entry.{Entry}
 use Rattle.superstep_code.specs.Code.{SuperstepCode}
 use Rattle.superstep_code.specs.Parts.{PrivatePart, fresh}

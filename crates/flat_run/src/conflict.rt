@@ -2,7 +2,7 @@
 
 ghost use Rattle.std.specs.Prelude.{◌≡◌, ◌<◌, ◌&&◌, None, Some, if◌then◌else◌, length, map, pos};
 ghost use Rattle.std.specs.List.{range_with_len};
-ghost use Rattle.pram_syntax.specs.Layout.{total_size};
+ghost use Rattle.pram_model.specs.Layout.{total_size};
 ghost use Rattle.pram_values.specs.Total.{total};
 ghost use Rattle.pram_values.specs.declared.kind.Kind.TheVariants as kind_is;
 ghost use Rattle.write_rules.specs.Rule.{shares_reads as spec_shares_reads};
@@ -13,7 +13,7 @@ ghost use Rattle.flat_run.specs.Views.{part_of, own_of, held_of, flat_of, IsSize
 
 use crate::machine::Machine;
 use crate::processor::ProcessorState;
-use pram_syntax::rule::Rule;
+use pram_model::rule::Rule;
 use pram_values::kind::Kind;
 use pram_values::place::Place;
 use superstep_code::code::Code;

@@ -2,7 +2,7 @@
 
 ghost use Rattle.std.specs.Prelude.{◌≡◌, ◌<◌, ℕ, None, OnOk, IfOk, if◌then◌else◌, length, map, pos};
 ghost use Rattle.std.specs.List.{range_with_len};
-ghost use Rattle.pram_syntax.specs.Layout.{total_size};
+ghost use Rattle.pram_model.specs.Layout.{total_size};
 ghost use Rattle.pram_values.specs.Total.{total};
 ghost use Rattle.superstep_code.specs.Keys.{least as spec_least};
 ghost use Rattle.superstep_code.specs.Parts.{fresh as spec_fresh};
@@ -15,7 +15,7 @@ ghost use Rattle.flat_run.specs.Views.{own_of, held_of, flat_of, IsSized, AreSam
 use crate::machine::Machine;
 use crate::processor::{ProcessorState, fresh, step_own};
 use crate::processor_fault::{own_key, own_write};
-use pram_syntax::rule::Rule;
+use pram_model::rule::Rule;
 use std::alloc::{AllocError, Global};
 use superstep_code::code::Code;
 use superstep_code::instr::Instr;

@@ -11,7 +11,7 @@ use crate::conflict::conflicts;
 use crate::instruct::none_held;
 use crate::machine::Machine;
 use crate::processor::ProcessorState;
-use pram_syntax::rule::Rule;
+use pram_model::rule::Rule;
 use pram_values::kind::Kind;
 use std::alloc::{AllocError, Global};
 use std::mem;

@@ -1,7 +1,7 @@
 //! What a run comes to.
 
 ghost use Rattle.std.specs.Prelude.{◌≡◌, ◌≤◌, ◌++◌, ◌∷◌, [], IfOk, OnOk, length, map};
-ghost use Rattle.pram_syntax.specs.Layout.{total_size};
+ghost use Rattle.pram_model.specs.Layout.{total_size};
 ghost use Rattle.superstep_code.specs.Run as spec;
 ghost use Rattle.flat_machine.specs.ByExchanges.{outcome_of};
 ghost use Rattle.flat_machine.specs.Flat.{cells};

@@ -14,7 +14,8 @@ use Rattle.pram_syntax.specs.declared.token.Token.TheVariants as token
 use Rattle.pram_syntax.specs.declared.tree.Expr.{Expr}
 use Rattle.pram_syntax.specs.declared.tree.Expr.TheVariants as e
 use Rattle.pram_syntax.specs.Grammar.{tokens, step_tokens}
-use Rattle.pram_syntax.specs.Tokens.{AreReal, same_text}
+use Rattle.pram_model.specs.Names.{same_text}
+use Rattle.pram_syntax.specs.Tokens.{AreReal}
 use Rattle.pram_syntax.proofs.ExprTokens.{tokens-Number, tokens-Name, tokens-Element, tokens-Paren, tokens-Prefix, tokens-Chain}
 use Rattle.pram_syntax.proofs.Real.{front_real}
 use Rattle.pram_check.specs.declared.body.Expression.{Expression, Row_of-Link, end_of-Link, items-the_row-Link, items_hidden-the_row-Link-0}

@@ -10,10 +10,11 @@ use Rattle.pram_syntax.specs.declared.token.Token.TheVariants as token
 use Rattle.pram_syntax.specs.declared.tree.Declaration.{Declaration}
 use Rattle.pram_syntax.specs.declared.tree.Declaration.TheVariants as declare
 use Rattle.pram_syntax.specs.Blocks.{block_tokens}
-use Rattle.pram_syntax.specs.Declarations.{IsEntry, IsNew, AreDifferent, names_of, IsLayout}
-use Rattle.pram_syntax.specs.Layout.{SharedEntry, size, total_size, most_cells}
+use Rattle.pram_model.specs.Declarations.{IsEntry, IsNew, AreDifferent, names_of, IsLayout}
+use Rattle.pram_model.specs.Layout.{SharedEntry, size, total_size, most_cells}
 use Rattle.pram_syntax.specs.Program.{IsTree, limit, declarations_tokens, program_tokens}
-use Rattle.pram_syntax.specs.Tokens.{AreReal, IsNumber, same_text}
+use Rattle.pram_model.specs.Names.{same_text}
+use Rattle.pram_syntax.specs.Tokens.{AreReal, IsNumber}
 use Rattle.pram_syntax.proofs.Real.{front_real}
 use Rattle.pram_check.specs.declared.fault.Breach.{Breach}
 use Rattle.pram_check.specs.declared.fault.Cause.{Cause}

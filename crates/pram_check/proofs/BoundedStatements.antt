@@ -4,7 +4,7 @@ use Rattle.std.proofs.Common.{refl, sym, ap, ◌∙◌, subst, arith}
 use Rattle.std.proofs.lemmas.List.{append-nil}
 use Rattle.std.specs.declared.vec.Vec.{Vec}
 use Rattle.std.specs.declared.alloc.Global.{Global}
-use Rattle.pram_syntax.specs.Layout.{SharedEntry}
+use Rattle.pram_model.specs.Layout.{SharedEntry}
 use Rattle.pram_syntax.specs.declared.token.Binary.TheVariants as op
 use Rattle.pram_syntax.specs.declared.token.Location.{Location}
 use Rattle.pram_syntax.specs.declared.token.Name.{Name}

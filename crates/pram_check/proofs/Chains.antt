@@ -1,7 +1,7 @@
 -- A name's chain says of it what the whole scope says.
 use Rattle.std.proofs.Common.{◌≡◌, ℕ, Bool, true, false, ◌&&◌, ◌==◌, nat_eq, List, [], ◌∷◌, refl, ap, ◌∙◌, eqb-true, eq-eqb}
 use Rattle.std.specs.List.{filter}
-use Rattle.pram_syntax.specs.Tokens.{same_text}
+use Rattle.pram_model.specs.Names.{same_text}
 use Rattle.pram_check.specs.declared.scope.Binding.{Binding}
 use Rattle.pram_check.specs.Scope.{meaning_of}
 use Rattle.pram_check.specs.ScopeFields.{bound, chain_of, is_in_chain}

@@ -3,7 +3,7 @@ use Rattle.std.proofs.Common.{◌≡◌, ◌+◌, ◌<◌, ◌≤◌, ℕ, List,
 use Rattle.std.proofs.lemmas.List.{append-nil, drop_more}
 use Rattle.pram_syntax.specs.declared.tree.Declaration.{Declaration}
 use Rattle.pram_syntax.specs.declared.tree.Declaration.TheVariants as declare
-use Rattle.pram_syntax.specs.Layout.{SharedEntry, size, total_size}
+use Rattle.pram_model.specs.Layout.{SharedEntry, size, total_size}
 use Rattle.pram_check.specs.declared.scope.Meaning.TheVariants.{Uniform, Cell, Array}
 use Rattle.pram_check.specs.Scope.{Scope, declared_from, shared_entries, uniform_count}
 use Rattle.pram_check.specs.Breaches.{at, shared_cause, new_cause, declaration_breaches, first}

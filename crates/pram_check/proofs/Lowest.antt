@@ -5,7 +5,7 @@ use Rattle.std.specs.List.{All, list_any}
 use mathlib.Core.Logic.{◌⊎◌, inl, inr}
 use Rattle.std.proofs.lemmas.Bool.Decides.{nat_tests}
 use Rattle.std.proofs.lemmas.List.Elements.{All-cons}
-use Rattle.pram_syntax.specs.Layout.{size, most_cells}
+use Rattle.pram_model.specs.Layout.{size, most_cells}
 use Rattle.pram_check.specs.declared.scope.Meaning.{Meaning}
 use Rattle.pram_check.specs.declared.scope.Meaning.TheVariants.{Uniform, Cell, Array, Index, Local}
 use Rattle.pram_check.specs.declared.fault.Cause.{Cause}

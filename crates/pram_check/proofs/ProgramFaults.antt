@@ -11,7 +11,7 @@ use Rattle.pram_syntax.specs.declared.tree.Declaration.{Declaration}
 use Rattle.pram_syntax.specs.declared.tree.Declaration.TheVariants as declare
 use Rattle.pram_syntax.specs.declared.tree.Stmt.{Stmt}
 use Rattle.pram_syntax.specs.Blocks.{block_tokens}
-use Rattle.pram_syntax.specs.Layout.{size}
+use Rattle.pram_model.specs.Layout.{size}
 use Rattle.pram_syntax.specs.Program.{ProgramTree, program_tokens, declarations_tokens, rule_token}
 use Rattle.pram_check.specs.declared.fault.Breach.{Breach}
 use Rattle.pram_check.specs.declared.fault.Cause.TheVariants.{Limit}

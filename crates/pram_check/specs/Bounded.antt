@@ -1,7 +1,7 @@
 -- What a program's body names, reads and holds: all of it within bounds.
 use Rattle.std.specs.Prelude.{◌≡◌, ℕ, ◌+◌, ◌≤◌, ◌<◌, max, List, [], ◌∷◌, length, Option, Some, None, ℤ, slice_get, MatchOption}
-use Rattle.pram_syntax.specs.Declarations.{IsLayout}
-use Rattle.pram_syntax.specs.Layout.{SharedEntry}
+use Rattle.pram_model.specs.Declarations.{IsLayout}
+use Rattle.pram_model.specs.Layout.{SharedEntry}
 use Rattle.pram_syntax.specs.Program.{limit, program_tokens}
 use Rattle.pram_syntax.specs.Tokens.{IsNumber}
 use Rattle.pram_check.specs.declared.body.Expression.{Expression, Number, Uniform, Index, Local, Cell, Element', Prefix', Chain'}

@@ -1,7 +1,7 @@
 -- What a checked program is, and which tree it is of.
 use Rattle.std.specs.Prelude.{◌≡◌, ℕ, List, pos}
-use Rattle.pram_syntax.specs.declared.rule.Rule.{Rule}
-use Rattle.pram_syntax.specs.Layout.{SharedEntry}
+use Rattle.pram_model.specs.declared.rule.Rule.{Rule}
+use Rattle.pram_model.specs.Layout.{SharedEntry}
 use Rattle.pram_syntax.specs.Program.{ProgramTree}
 use Rattle.pram_check.specs.declared.body.Statement.{Statement}
 use Rattle.pram_check.specs.Scope.{globals, shared_entries, uniform_count}

@@ -10,7 +10,7 @@ use Rattle.pram_syntax.specs.declared.tree.Declaration.TheVariants as declare
 use Rattle.pram_syntax.specs.declared.tree.Stmt.{Stmt}
 use Rattle.pram_syntax.specs.declared.tree.Stmt.TheOpen.{Stmt-F}
 use Rattle.pram_syntax.specs.declared.tree.Stmt.TheFolds.{fold-Stmt}
-use Rattle.pram_syntax.specs.Layout.{size, most_cells}
+use Rattle.pram_model.specs.Layout.{size, most_cells}
 use Rattle.pram_syntax.specs.Program.{ProgramTree, program_tokens}
 use Rattle.pram_check.specs.declared.scope.Meaning.{Meaning}
 use Rattle.pram_check.specs.declared.scope.Meaning.TheVariants.{Uniform, Cell, Array, Index, Local}

@@ -3,8 +3,8 @@ use Rattle.std.specs.Prelude.{ℕ, ◌+◌, if◌then◌else◌, List, [], ◌�
 use Rattle.pram_syntax.specs.declared.token.Name.{Name}
 use Rattle.pram_syntax.specs.declared.tree.Declaration.{Declaration}
 use Rattle.pram_syntax.specs.declared.tree.Declaration.TheVariants as declare
-use Rattle.pram_syntax.specs.Layout.{SharedEntry}
-use Rattle.pram_syntax.specs.Tokens.{same_text}
+use Rattle.pram_model.specs.Layout.{SharedEntry}
+use Rattle.pram_model.specs.Names.{same_text}
 use Rattle.pram_check.specs.declared.scope.Meaning.{Meaning}
 use Rattle.pram_check.specs.declared.scope.Meaning.TheVariants.{Uniform, Cell, Array, Index, Local}
 

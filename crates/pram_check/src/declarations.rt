@@ -2,7 +2,7 @@
 
 ghost use Rattle.std.specs.Prelude.{◌≡◌, ◌+◌, ◌≤◌, ◌<◌, ◌++◌, [], ◌∷◌, ◌≤ℤ◌, ◌^◌, ◌↔◌, IsTrue, length, Some, None};
 ghost use Rattle.std.specs.Prelude.{MatchOption};
-ghost use Rattle.pram_syntax.specs.Layout.{size, width, total_size, most_cells};
+ghost use Rattle.pram_model.specs.Layout.{size, width, total_size, most_cells};
 ghost use Rattle.pram_check.specs.Scope as names;
 ghost use Rattle.pram_check.specs.Breaches.{at, new_cause, bounds_cause, cells_cause, shared_cause};
 ghost use Rattle.pram_check.specs.Breaches.{declaration_breaches};

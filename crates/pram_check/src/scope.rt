@@ -4,7 +4,7 @@ ghost use Rattle.std.specs.Prelude.{◌≡◌, ◌-◌, ◌<◌, ◌≤◌, [], 
 ghost use Rattle.std.specs.List.{All};
 ghost use Rattle.pram_check.specs.Scope.{meaning_of};
 ghost use Rattle.pram_check.specs.ScopeFields as spec;
-ghost use Rattle.pram_syntax.specs.Tokens.{same_text};
+ghost use Rattle.pram_model.specs.Names.{same_text};
 
 use std::alloc::{AllocError, Global};
 use std::marker::Model;

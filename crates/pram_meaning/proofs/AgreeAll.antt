@@ -16,7 +16,7 @@ use Rattle.pram_meaning.specs.Conflict.{Part}
 use Rattle.pram_meaning.specs.Meaning.{AttemptedOn, Begins, Does, Either, Ends, Evaluated, Fate, Fates, ForTurns, IsEnd, Means, MeansList, MeansListOn, MeansOn, MeansRow, MeansRowOn, PardoDone, Tested, Then, TurnsOn, UnlessNone, Yields, at_fault, at_start, begins, on}
 use Rattle.pram_meaning.specs.Store.{State, View, numbers, printed, seen, with_team, with_uniform, without_team}
 use Rattle.pram_meaning.specs.Together.{after_write, alone, assigned, assigned_by, parts, those, together}
-use Rattle.pram_syntax.specs.Layout.{width}
+use Rattle.pram_model.specs.Layout.{width}
 use Rattle.pram_values.specs.Truth.{is_nonzero}
 use Rattle.write_rules.specs.declared.fault.Fault.{Fault}
 use Rattle.pram_meaning.proofs.Agree.{Agree, Comes, Grows, Shows, agree_counted, agree_either, agree_end, agree_evaluated, agree_loop, agree_tested, agree_then, agree_valued, comes_then, count_of, end_comes, end_grows, end_shows, grows_then, shows_map, shows_then}

@@ -12,7 +12,7 @@ use Rattle.pram_meaning.specs.Runs.{IsBehaviour}
 use Rattle.pram_meaning.specs.Store.{State, printed, seen}
 use Rattle.pram_meaning.specs.Together.{assigned}
 use Rattle.pram_meaning.specs.declared.run.Halt.{Halt}
-use Rattle.pram_syntax.specs.Layout.{width}
+use Rattle.pram_model.specs.Layout.{width}
 use Rattle.pram_meaning.proofs.Halts.{halts}
 
 items_are_all : (w : Checked) (n : ℕ) {k : _} (ss : Row_of-Statement k) (m : State) → perform_list w n (items-the_row-Statement k ss) m ≡ perform_row w n ss m

@@ -20,7 +20,7 @@ use Rattle.pram_meaning.specs.Store.{numbers}
 use Rattle.pram_meaning.proofs.Groups.{past, same_number}
 use Rattle.pram_meaning.proofs.Swaps.{found, transposed}
 use Rattle.pram_meaning.proofs.Trails.{trail_is}
-use Rattle.pram_syntax.specs.declared.rule.Rule.TheVariants.{Common}
+use Rattle.pram_model.specs.declared.rule.Rule.TheVariants.{Common}
 use Rattle.pram_values.specs.Truth.{is_equal}
 use Rattle.pram_values.specs.declared.kind.Kind.TheVariants.{WriteConflict}
 use Rattle.write_rules.specs.Rule.{common_value, written}

@@ -2,7 +2,7 @@
 use Rattle.std.proofs.Common.{◌≡◌, List, [], ◌∷◌, Option, Some, None, ℤ, pos, refl, ap, sym, ◌∙◌}
 use mathlib.Core.List.{map}
 use Rattle.std.specs.Prelude.{slice_index_or}
-use Rattle.pram_syntax.specs.Layout.{cell_of}
+use Rattle.pram_model.specs.Layout.{cell_of}
 use Rattle.pram_syntax.specs.declared.token.Binary.{Binary}
 use Rattle.pram_syntax.specs.declared.token.Name.{Name}
 use Rattle.pram_syntax.specs.declared.token.Numeral.{Numeral}

@@ -2,7 +2,7 @@
 use Rattle.std.proofs.Common.{◌≡◌, ℕ, ◌+◌, List, [], ◌∷◌, Bool, true, false, Option, Some, None, ℤ, pos, length, if◌then◌else◌, refl, ap}
 use Rattle.std.proofs.Common.{sym, ◌∙◌}
 use mathlib.Core.List.{map}
-use Rattle.pram_syntax.specs.Layout.{cell_of, width}
+use Rattle.pram_model.specs.Layout.{cell_of, width}
 use Rattle.pram_syntax.specs.declared.token.Location.{Location}
 use Rattle.pram_syntax.specs.declared.token.Name.{Name}
 use Rattle.pram_syntax.specs.declared.tree.Expr.{Expr}

@@ -8,7 +8,7 @@ use Rattle.pram_meaning.specs.Bounded.{Goes, counted, for_turns, perform_list, t
 use Rattle.pram_meaning.specs.Runs.{IsBehaviour}
 use Rattle.pram_meaning.specs.Store.{State, with_uniform}
 use Rattle.pram_meaning.specs.declared.run.Halt.{Halt}
-use Rattle.pram_syntax.specs.Layout.{width}
+use Rattle.pram_model.specs.Layout.{width}
 use Rattle.pram_meaning.proofs.Halts.{halts}
 
 cases_lt_z : (a z : ℤ) → (a <ℤ z) ⊎ (z ≤ℤ a)

@@ -4,7 +4,7 @@ use Rattle.std.proofs.lemmas.List.{drop_more, drop_all}
 use Rattle.pram_meaning.specs.declared.access.Access.{Access}
 use Rattle.pram_meaning.specs.declared.access.Judged.{Judged}
 use Rattle.pram_meaning.specs.declared.slate as rust
-use Rattle.pram_syntax.specs.declared.rule.Rule.{Rule}
+use Rattle.pram_model.specs.declared.rule.Rule.{Rule}
 use Rattle.pram_values.specs.declared.kind.Kind.{Kind}
 use Rattle.write_rules.specs.Rule.{written}
 use Rattle.pram_meaning.specs.Accesses.{judged, judged_in, write_for, writes_for}

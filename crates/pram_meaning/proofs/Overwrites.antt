@@ -11,7 +11,7 @@ use Rattle.pram_meaning.specs.Judging.{with_value}
 use Rattle.pram_meaning.specs.Together.{overwritten, settled}
 use Rattle.pram_meaning.proofs.Groups.{other_number, same_number}
 use Rattle.pram_meaning.proofs.Written.{same_writes}
-use Rattle.pram_syntax.specs.declared.rule.Rule.{Rule}
+use Rattle.pram_model.specs.declared.rule.Rule.{Rule}
 use Rattle.pram_values.specs.Value.{Value}
 use Rattle.write_rules.specs.Rule.{written}
 use Rattle.write_rules.specs.declared.write.Write.{Write}

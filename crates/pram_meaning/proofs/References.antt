@@ -6,7 +6,7 @@ use Rattle.pram_meaning.specs.Outcome.{IsOutcome, opening}
 use Rattle.pram_meaning.specs.Runs.{state_of}
 use Rattle.pram_meaning.specs.Store.{State, no_team}
 use Rattle.pram_meaning.specs.declared.run.Run.{Run}
-use Rattle.pram_syntax.specs.Layout.{total_size}
+use Rattle.pram_model.specs.Layout.{total_size}
 use Rattle.write_rules.specs.Verdict.{Ended, Faulted, GoesOn}
 use Rattle.write_rules.specs.declared.fault.Fault.{Fault}
 use Rattle.pram_meaning.proofs.OneOutcome.{outcome_is}

@@ -9,7 +9,7 @@ use Rattle.pram_meaning.specs.Conflict.{Part, conflict_of, fault_of, keys, least
 use Rattle.write_rules.specs.Rule.{shares_reads}
 use Rattle.pram_meaning.specs.Judging.{attempt_is, part_is}
 use Rattle.pram_meaning.specs.declared.key.Key.{Key}
-use Rattle.pram_syntax.specs.declared.rule.Rule.{Rule}
+use Rattle.pram_model.specs.declared.rule.Rule.{Rule}
 use Rattle.pram_values.specs.declared.kind.Kind.{Kind}
 
 trail_at : (t : Trail) (r : Result rust.Effect.Effect Kind) → trail_of (attempt_is t r) ≡ t

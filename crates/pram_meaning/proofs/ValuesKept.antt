@@ -2,8 +2,8 @@
 use Rattle.std.proofs.Common.{ℕ, zero, suc, ◌+◌, ◌-◌, List, [], ◌∷◌, Bool, true, false, Result, Ok, Err, ℤ, pos, ◌+ℤ◌, if◌then◌else◌, sym}
 use Rattle.std.proofs.Common.{subst, Option, Some, None, replicate, length, nat_lt, nat_eq}
 use Rattle.std.specs.List.{AllByRecursion}
-use Rattle.pram_syntax.specs.declared.rule.Rule.{Rule}
-use Rattle.pram_syntax.specs.Layout.{cell_of, total_size, width}
+use Rattle.pram_model.specs.declared.rule.Rule.{Rule}
+use Rattle.pram_model.specs.Layout.{cell_of, total_size, width}
 use Rattle.pram_check.specs.Bounded as bounded
 use Rattle.pram_check.specs.Bounded.{AreNamed, ArePair, ArePartStatements, ArePartSteps, AreStatements, AreSteps, IsAssign, IsBounded}
 use Rattle.pram_check.specs.Bounded.{IsInnerAssign, IsNamed, IsSole, IsStatement, IsStep, Names, with_locals}

@@ -9,7 +9,7 @@ use Rattle.pram_meaning.specs.Accesses.{access_to, judged, judged_in, key_of, ma
 use Rattle.pram_meaning.specs.Attempt.{Attempt, Effect, Fails, Gives}
 use Rattle.pram_meaning.specs.Conflict.{Part, cell_conflict, lesser, value_key, write_conflict, write_to, writes_by, writes_to}
 use Rattle.pram_meaning.proofs.Folds.{InEach, each_ends}
-use Rattle.pram_syntax.specs.declared.rule.Rule.{Rule}
+use Rattle.pram_model.specs.declared.rule.Rule.{Rule}
 use Rattle.write_rules.specs.Rule.{written}
 use Rattle.write_rules.specs.declared.write.Write.{Write}
 

@@ -1,7 +1,7 @@
 -- What processors do to cells in a statement, as a list, and what a write rule says to it.
 use Rattle.std.specs.Prelude.{◌+◌, max, Ok, Err, Bool, false, slice_index_or, ℕ, ℤ, List, [], ◌∷◌, map, length, pos, nat_eq, if◌then◌else◌, Option, Some, None}
 use Rattle.std.specs.List.{flat_map}
-use Rattle.pram_syntax.specs.declared.rule.Rule.{Rule}
+use Rattle.pram_model.specs.declared.rule.Rule.{Rule}
 use Rattle.pram_values.specs.declared.kind.Kind.TheVariants.{ReadConflict}
 use Rattle.pram_values.specs.declared.place.Place.TheVariants.{Cell}
 use Rattle.pram_values.specs.Truth.{is_equal}

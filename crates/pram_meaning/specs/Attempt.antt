@@ -1,6 +1,6 @@
 -- A processor's attempt at a statement, from the store before it (this project's own profile).
 use Rattle.std.specs.Prelude.{Ok, Err, ℕ, List, [], ◌∷◌, ◌++◌, Option, Some, None, ℤ, pos, nat_lt, if◌then◌else◌, slice_index_or}
-use Rattle.pram_syntax.specs.Layout.{cell_of, width}
+use Rattle.pram_model.specs.Layout.{cell_of, width}
 use Rattle.pram_values.specs.declared.kind.Kind.{Kind}
 use Rattle.pram_values.specs.declared.kind.Kind.TheVariants.{OutOfRange, TooWide}
 use Rattle.pram_values.specs.Value.{Value}

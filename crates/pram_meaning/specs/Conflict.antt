@@ -3,7 +3,7 @@
 -- this project's own profile.
 use Rattle.std.specs.Prelude.{◌≡◌, Ok, Err, ℕ, ◌+◌, List, [], ◌∷◌, ◌++◌, Bool, false, not, ◌&&◌, ◌||◌, if◌then◌else◌, ℤ, pos, Option, Some, None, nat_eq, nat_lt, length}
 use Rattle.std.specs.List.{fold, flat_map, list_any, All, Contains}
-use Rattle.pram_syntax.specs.declared.rule.Rule.{Rule}
+use Rattle.pram_model.specs.declared.rule.Rule.{Rule}
 use Rattle.pram_values.specs.declared.kind.Kind.TheVariants.{ReadConflict}
 use Rattle.pram_values.specs.declared.place.Place.TheVariants.{Processor, Cell}
 use Rattle.pram_values.specs.Place.{is_place_before}

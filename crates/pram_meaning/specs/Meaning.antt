@@ -2,7 +2,7 @@
 -- Concurrent statements for all indices of a range: JáJá, An Introduction to Parallel Algorithms, chapter 1 (`pardo` of the
 -- work-time notation). The counting of statements is this project's own profile.
 use Rattle.std.specs.Prelude.{◌≡◌, ℕ, zero, suc, ◌+◌, List, [], ◌∷◌, Bool, true, false, Result, Ok, Err, ℤ, pos, ◌+ℤ◌}
-use Rattle.pram_syntax.specs.Layout.{width}
+use Rattle.pram_model.specs.Layout.{width}
 use Rattle.pram_check.specs.Checked.{Checked}
 use Rattle.pram_check.specs.declared.body.Expression.{Expression}
 use Rattle.pram_check.specs.declared.body.Statement.{Statement, Assign, Print, While', If', For', Pardo, Row_of-Statement, end_of-Statement, more_of-Statement}

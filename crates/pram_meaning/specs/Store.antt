@@ -2,7 +2,7 @@
 -- Shared and private memory: JáJá, An Introduction to Parallel Algorithms, chapter 1 (the PRAM). Uniform variables are this
 -- project's own profile.
 use Rattle.std.specs.Prelude.{ℕ, zero, suc, ◌+◌, List, [], ◌∷◌, ◌++◌, ℤ, pos, ◌+ℤ◌, replicate, slice_index_or, slice_set}
-use Rattle.pram_syntax.specs.Layout.{SharedEntry}
+use Rattle.pram_model.specs.Layout.{SharedEntry}
 use Rattle.pram_check.specs.Checked.{Checked}
 
 -- a processor of a pardo: its index and its locals

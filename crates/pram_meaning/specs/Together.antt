@@ -2,7 +2,7 @@
 -- (JáJá, An Introduction to Parallel Algorithms, chapter 1: the processors of a PRAM work synchronously).
 use Rattle.std.specs.Prelude.{Result, Ok, Err, ℕ, ◌+◌, List, [], ◌∷◌, Bool, true, false, if◌then◌else◌, map, ℤ, pos, Option, Some, None}
 use Rattle.std.specs.List.{fold, flat_map}
-use Rattle.pram_syntax.specs.declared.rule.Rule.{Rule}
+use Rattle.pram_model.specs.declared.rule.Rule.{Rule}
 use Rattle.pram_check.specs.Checked.{Checked}
 use Rattle.pram_check.specs.declared.body.Target.{Target}
 use Rattle.pram_check.specs.declared.body.Target.TheVariants as target

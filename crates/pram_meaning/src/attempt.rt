@@ -2,7 +2,7 @@
 
 ghost use Rattle.std.specs.Prelude.{◌≡◌, ◌++◌, ◌∷◌, [], ◌+ℤ◌, ◌-◌, ◌<◌, ◌≤◌, FitsSigned, MatchOption, IfSome, IfOk, OnOk, IfErr, pos};
 ghost use Rattle.std.specs.Int.{w64};
-ghost use Rattle.pram_syntax.specs.Layout.{width};
+ghost use Rattle.pram_model.specs.Layout.{width};
 ghost use Rattle.pram_meaning.specs.Attempt.{attempt, operation, read, write, attempt_assign, attempt_step, attempt_bounds, attempt_range};
 ghost use Rattle.pram_meaning.specs.Runs.{view_is, IsAttempt, IsEffect, IsPair};
 

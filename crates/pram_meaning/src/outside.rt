@@ -1,7 +1,7 @@
 //! Statements outside pardo.
 
 ghost use Rattle.std.specs.Prelude.{◌≡◌, ◌≤ℤ◌, ◌<ℤ◌, ◌+ℤ◌, pos, true, false, ◌≤◌, ◌<◌, ◌+◌, OnOk};
-ghost use Rattle.pram_syntax.specs.Layout.{width};
+ghost use Rattle.pram_model.specs.Layout.{width};
 ghost use Rattle.pram_meaning.specs.Attempt.{attempt_bounds};
 ghost use Rattle.pram_meaning.specs.Store.{seen, with_uniform};
 ghost use Rattle.pram_meaning.specs.Bounded.{counted, evaluated, found, tested, perform, perform_list, turns, for_turns, for_all, pardo};

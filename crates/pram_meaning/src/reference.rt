@@ -1,7 +1,7 @@
 //! The reference interpreter.
 
 ghost use Rattle.std.specs.Prelude.{◌≡◌, ◌++◌, ◌↔◌, ◌<◌, ◌-◌, ◌≤◌, [], IfOk, length, replicate, pos};
-ghost use Rattle.pram_syntax.specs.Layout.{total_size};
+ghost use Rattle.pram_model.specs.Layout.{total_size};
 ghost use Rattle.write_rules.specs.Verdict.{verdict_of};
 ghost use Rattle.pram_meaning.specs.Outcome.{IsOutcome};
 

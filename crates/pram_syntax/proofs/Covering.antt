@@ -3,7 +3,7 @@ use Rattle.std.proofs.Common.{◌≡◌, ℕ, zero, suc, Bool, true, false, List
 use Rattle.std.proofs.lemmas.List.{append-nil}
 use Rattle.pram_syntax.specs.declared.level.Level.{Level}
 use Rattle.pram_syntax.specs.declared.level.Level.TheVariants as level
-use Rattle.pram_syntax.specs.declared.rule.Rule.{Rule}
+use Rattle.pram_model.specs.declared.rule.Rule.{Rule}
 use Rattle.pram_syntax.specs.declared.token.Binary.{Binary}
 use Rattle.pram_syntax.specs.declared.token.Binary.TheVariants as op
 use Rattle.pram_syntax.specs.declared.token.Location.{Location}

@@ -1,15 +1,16 @@
 -- The machine reads each header and each list of declarations to its end, and no list of tokens stands for two of them.
 use Rattle.std.proofs.Common.{◌≡◌, ℕ, List, [], ◌∷◌, ◌++◌, refl, sym, ap, ◌∙◌, if◌then◌else◌}
-use Rattle.pram_syntax.specs.declared.rule.Rule.{Rule}
-use Rattle.pram_syntax.specs.declared.rule.Rule.TheVariants as rule
+use Rattle.pram_model.specs.declared.rule.Rule.{Rule}
+use Rattle.pram_model.specs.declared.rule.Rule.TheVariants as rule
 use Rattle.pram_syntax.specs.declared.token.Location.{Location}
 use Rattle.pram_syntax.specs.declared.token.Mark.TheVariants as mark
 use Rattle.pram_syntax.specs.declared.token.Token.{Token}
 use Rattle.pram_syntax.specs.declared.token.Token.TheVariants as token
 use Rattle.pram_syntax.specs.declared.tree.Declaration.{Declaration}
 use Rattle.pram_syntax.specs.declared.tree.Declaration.TheVariants as declaration
-use Rattle.pram_syntax.specs.Tokens.{same_text}
-use Rattle.pram_syntax.specs.Program.{rule_word, rule_token, declarations_tokens}
+use Rattle.pram_model.specs.Names.{same_text}
+use Rattle.pram_model.specs.Rules.{rule_word}
+use Rattle.pram_syntax.specs.Program.{rule_token, declarations_tokens}
 use Rattle.pram_syntax.specs.Machine.{verdict}
 use Rattle.pram_syntax.specs.Symbols.{Stack, WantRule, Declarations}
 

@@ -3,7 +3,7 @@ use Rattle.std.proofs.Common.{◌≡◌, ℕ, Bool, true, false, List, [], ◌�
 use Rattle.std.proofs.lemmas.List.{append-nil}
 use Rattle.pram_syntax.specs.declared.level.Level.{Level}
 use Rattle.pram_syntax.specs.declared.level.Level.TheVariants as level
-use Rattle.pram_syntax.specs.declared.rule.Rule.TheVariants as rule
+use Rattle.pram_model.specs.declared.rule.Rule.TheVariants as rule
 use Rattle.pram_syntax.specs.declared.token.Binary.TheVariants as op
 use Rattle.pram_syntax.specs.declared.token.Location.{Location}
 use Rattle.pram_syntax.specs.declared.token.Mark.TheVariants as mark
@@ -15,7 +15,8 @@ use Rattle.pram_syntax.specs.declared.tree.Declaration.TheVariants as declaratio
 use Rattle.pram_syntax.specs.declared.tree.Expr.{Expr}
 use Rattle.pram_syntax.specs.declared.tree.Expr.TheVariants as e
 use Rattle.pram_syntax.specs.declared.tree.Stmt.TheVariants as s
-use Rattle.pram_syntax.specs.Tokens.{AreReal, IsName, IsNumber}
+use Rattle.pram_model.specs.Names.{IsName}
+use Rattle.pram_syntax.specs.Tokens.{AreReal, IsNumber}
 use Rattle.pram_syntax.specs.Grammar.{tokens, chained, compared, number, atom, IsTerm, IsSum, IsNegation, comparison, IsConjunction, IsAt, Further}
 use Rattle.pram_syntax.specs.Blocks.{statement_tokens, assign, for_to}
 use Rattle.pram_syntax.specs.Program.{rule_token}

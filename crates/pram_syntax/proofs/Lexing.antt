@@ -12,7 +12,8 @@ use Rattle.pram_syntax.specs.declared.token.Token.{Token}
 use Rattle.pram_syntax.specs.declared.words.Fixed.{Fixed}
 use Rattle.pram_syntax.specs.declared.words.Fixed.TheVariants as fixed
 use Rattle.pram_syntax.specs.Lexemes.{lookup, program_words, statement_words, operator_words, keyword, token_of, span, value_after, largest, number_lexeme, word_lexeme, narrow_lexeme, wide_lexeme, wide_symbol, narrow_symbol, is_blank, lexeme_at}
-use Rattle.pram_syntax.specs.Tokens.{IsNumber, IsReal, is_one_of, is_keyword, same_text, are_words, begins_with_letter, is_word, is_letter, is_digit}
+use Rattle.pram_model.specs.Names.{is_one_of, is_keyword, same_text, are_words, begins_with_letter, is_word, is_letter, is_digit}
+use Rattle.pram_syntax.specs.Tokens.{IsNumber, IsReal}
 
 -- the token of a lexeme is a real one
 abbrev pub IsRealLexeme : Lexeme → Type 0

@@ -19,12 +19,9 @@ pub mod Exits
 pub mod ExprParts
 pub mod StmtParts
 pub mod DeclParts
-pub mod Layouts
 pub mod Values
 pub mod Lexing
 pub mod Scans
-pub mod Writing
-pub mod Progress
 pub mod Inputs
 pub mod Printed
 pub mod Moving

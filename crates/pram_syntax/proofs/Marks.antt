@@ -1,14 +1,14 @@
 -- Two marks of one number are one, and a word that is one of the rules' is the word of a rule.
 use Rattle.std.proofs.Common.{◌≡◌, ℕ, Bool, true, false, true≢false, List, [], ◌∷◌, refl, sym, ap, ◌∙◌, get_or, nat_eq, ◌&&◌, ◌||◌, ◌==◌}
 use Rattle.std.proofs.lemmas.Bool.{eqb-true}
-use Rattle.pram_syntax.specs.declared.rule.Rule.{Rule}
-use Rattle.pram_syntax.specs.declared.rule.Rule.TheVariants as rule
+use Rattle.pram_model.specs.declared.rule.Rule.{Rule}
+use Rattle.pram_model.specs.declared.rule.Rule.TheVariants as rule
 use Rattle.pram_syntax.specs.declared.token.Mark.{Mark}
 use Rattle.pram_syntax.specs.declared.token.Mark.TheVariants as mark
 use Rattle.pram_syntax.specs.declared.token.Token.{Token}
 use Rattle.pram_syntax.specs.declared.token.Token.TheVariants as token
-use Rattle.pram_syntax.specs.Tokens.{same_text, is_one_of}
-use Rattle.pram_syntax.specs.Program.{rule_word, rule_words}
+use Rattle.pram_model.specs.Names.{same_text, is_one_of}
+use Rattle.pram_model.specs.Rules.{rule_word, rule_words}
 use Rattle.pram_syntax.specs.Symbols.{code, is_mark}
 
 abbrev marks : List Mark

@@ -13,7 +13,7 @@ use Rattle.pram_syntax.specs.declared.words.Fixed.{Fixed}
 use Rattle.pram_syntax.specs.declared.words.Fixed.TheVariants as fixed
 use Rattle.pram_syntax.specs.Lexemes.{keyword, token_of, span, value_after, largest, number_lexeme, word_lexeme, narrow_lexeme, wide_lexeme, wide_symbol, narrow_symbol, is_blank, lexeme_at}
 use Rattle.pram_syntax.specs.Scanning.{Cut, cut, cut_of, next_line, place, scan, scan_by, with_front}
-use Rattle.pram_syntax.specs.Tokens.{is_word, is_letter, is_digit}
+use Rattle.pram_model.specs.Names.{is_word, is_letter, is_digit}
 use Rattle.pram_syntax.specs.InOrder.{place_of, places, StandInOrder}
 
 -- ascending numbers, from low on and below high

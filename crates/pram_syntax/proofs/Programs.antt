@@ -2,7 +2,7 @@
 use Rattle.std.proofs.Common.{◌≡◌, ℕ, zero, suc, ◌+◌, Err, true, false, List, [], ◌∷◌, ◌++◌, length, refl, sym, ap, ◌∙◌, subst, arith, append_assoc, nat_eq}
 use Rattle.std.proofs.lemmas.List.{append-nil}
 use Rattle.std.proofs.lemmas.Bool.{eqb-true}
-use Rattle.pram_syntax.specs.declared.rule.Rule.{Rule}
+use Rattle.pram_model.specs.declared.rule.Rule.{Rule}
 use Rattle.pram_syntax.specs.declared.token.Location.{Location}
 use Rattle.pram_syntax.specs.declared.token.Mark.TheVariants as mark
 use Rattle.pram_syntax.specs.declared.token.Name.{Name}

@@ -27,7 +27,8 @@ use Rattle.pram_syntax.specs.Program.{IsTree, ProgramTree, limit, program_tokens
 use Rattle.pram_syntax.specs.Scanning.{cut, line_after, longest, next_line, place, scan, with_front}
 use Rattle.pram_syntax.specs.Spelling.{binary_text, mark_end, mark_text, opening_text, spelled, spelling, token_end, token_text}
 use Rattle.pram_syntax.specs.Text.{IsAsciiTo}
-use Rattle.pram_syntax.specs.Tokens.{AreReal, IsName, IsNumber, IsReal, are_words, is_digit, is_keyword, is_letter, is_one_of, is_word, same_text}
+use Rattle.pram_model.specs.Names.{IsName, are_words, is_digit, is_keyword, is_letter, is_one_of, is_word, same_text}
+use Rattle.pram_syntax.specs.Tokens.{AreReal, IsNumber, IsReal}
 use Rattle.pram_syntax.proofs.Lexing.{spellings}
 use Rattle.pram_syntax.proofs.Moving.{bare}
 use Rattle.pram_syntax.proofs.Scans.{pass_blank, pass_token}

@@ -7,8 +7,9 @@ use Rattle.pram_syntax.specs.declared.token.Token.{Token}
 use Rattle.pram_syntax.specs.declared.token.Token.TheVariants as token
 use Rattle.pram_syntax.specs.declared.tree.Declaration.{Declaration}
 use Rattle.pram_syntax.specs.declared.tree.Declaration.TheVariants as declaration
-use Rattle.pram_syntax.specs.Tokens.{is_one_of}
-use Rattle.pram_syntax.specs.Program.{rule_words, declaration_tokens, declarations_tokens}
+use Rattle.pram_model.specs.Names.{is_one_of}
+use Rattle.pram_model.specs.Rules.{rule_words}
+use Rattle.pram_syntax.specs.Program.{declaration_tokens, declarations_tokens}
 use Rattle.pram_syntax.specs.Machine.{step}
 use Rattle.pram_syntax.specs.Symbols.{Stack, Operand, Rest, Subscript, Want, WantRule, WantName, WantNumber, WantAtMost, Declarations, AfterShared, Statements, AfterName, ForHead, ForName, Else, Locals, Move, Next, Refused, is_mark, at_mark, bounds, at_declaration}
 use Rattle.pram_syntax.proofs.Marks.{mark_is, rule_of_word}

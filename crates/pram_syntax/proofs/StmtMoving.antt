@@ -20,7 +20,8 @@ use Rattle.pram_syntax.specs.declared.tree.Stmt.TheFolds.{fold-roll-Stmt}
 use Rattle.pram_syntax.specs.Blocks.{statement_tokens, block_tokens, local_tokens, IsStatement, assign, assign_element, print, while, if_then, if_else, for_to, pardo, AreStatements, IsFurtherBlock, IsBlock}
 use Rattle.pram_syntax.specs.Grammar.{tokens, Fits, Further}
 use Rattle.pram_syntax.specs.Places.{bare_expr, bare_name, bare_number, bare_statement, bare_step, bare_declaration, start, without_locations}
-use Rattle.pram_syntax.specs.Program.{ProgramTree, declaration_tokens, declarations_tokens, program_tokens, rule_word, tree_of}
+use Rattle.pram_model.specs.Rules.{rule_word}
+use Rattle.pram_syntax.specs.Program.{ProgramTree, declaration_tokens, declarations_tokens, program_tokens, tree_of}
 use Rattle.pram_syntax.proofs.Moving.{Like, Moves, fits_moves, further_moves, fixed_binary, fixed_mark, like_as, like_fixed, like_name, like_none, like_number, like_opening, like_part}
 use Rattle.pram_syntax.proofs.StmtTokens.{spell_assign, spell_assign_element, spell_print, spell_while, spell_if_then, spell_if_else, spell_for, spell_pardo}
 

@@ -7,7 +7,7 @@ use Rattle.pram_syntax.specs.declared.error.LexError.TheVariants as lex
 use Rattle.pram_syntax.specs.Lexemes.{is_blank, largest, value_after}
 use Rattle.pram_syntax.specs.Scanning.{longest}
 use Rattle.pram_syntax.specs.Text.{IsFirstOther, IsPlain}
-use Rattle.pram_syntax.specs.Tokens.{is_digit}
+use Rattle.pram_model.specs.Names.{is_digit}
 
 -- a run of bytes without white space, and the offset of the first one
 pub record Word : Type 0 where

@@ -14,7 +14,7 @@ use Rattle.pram_syntax.specs.declared.token.Token.{Token}
 use Rattle.pram_syntax.specs.declared.token.Token.TheVariants as token
 use Rattle.pram_syntax.specs.declared.words.Fixed.{Fixed}
 use Rattle.pram_syntax.specs.declared.words.Fixed.TheVariants as fixed
-use Rattle.pram_syntax.specs.Tokens.{is_digit, is_letter, is_word, same_text}
+use Rattle.pram_model.specs.Names.{is_digit, is_letter, is_word, same_text}
 
 -- what stands beside a spelling in such a list
 abbrev pub lookup : List (List ℕ × Fixed) → List ℕ → Option Fixed

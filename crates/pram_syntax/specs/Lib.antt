@@ -6,15 +6,10 @@ pub mod Faults
 pub mod Symbols
 pub mod Machine
 pub mod Follows
-pub mod Layout
-pub mod LayoutFields
-pub mod Declarations
 pub mod Lexemes
 pub mod Scanning
 pub mod Text
-pub mod Out
 pub mod Input
 pub mod Spelling
-pub mod Printing
 pub mod Places
 pub mod InOrder

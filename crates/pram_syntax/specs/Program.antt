@@ -1,7 +1,7 @@
 -- Whole programs: their tree, its tokens, and which trees stand in the grammar.
-use Rattle.std.specs.Prelude.{◌≡◌, ℕ, List, [], ◌∷◌, ◌++◌, codes}
-use Rattle.pram_syntax.specs.declared.rule.Rule.{Rule}
-use Rattle.pram_syntax.specs.declared.rule.Rule.TheVariants as rule
+use Rattle.std.specs.Prelude.{◌≡◌, ℕ, List, [], ◌∷◌, ◌++◌}
+use Rattle.pram_model.specs.declared.rule.Rule.{Rule}
+use Rattle.pram_model.specs.Rules.{rule_word}
 use Rattle.pram_syntax.specs.declared.token.Location.{Location}
 use Rattle.pram_syntax.specs.declared.token.Mark.TheVariants as mark
 use Rattle.pram_syntax.specs.declared.token.Numeral.{Numeral}
@@ -24,18 +24,6 @@ pub record ProgramTree : Type 0 where
 -- the program of these parts
 abbrev pub tree_of : Rule → Location → Numeral → List Declaration → List Stmt → ProgramTree
 tree_of r at n xs statements = record { rule = r; rule_location = at; procs = n; declarations = xs; body = statements }
-
--- RULE
-abbrev pub rule_word : Rule → List ℕ
-rule_word rule.Erew = codes "erew"
-rule_word rule.Crew = codes "crew"
-rule_word rule.Common = codes "common"
-rule_word rule.Priority = codes "priority"
-rule_word rule.Sum = codes "sum"
-
--- the five words
-abbrev pub rule_words : List (List ℕ)
-rule_words = codes "erew" ∷ codes "crew" ∷ codes "common" ∷ codes "priority" ∷ codes "sum" ∷ []
 
 -- a rule's word, which is a name everywhere else
 abbrev pub rule_token : Rule → Location → Token

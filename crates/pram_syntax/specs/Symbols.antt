@@ -10,8 +10,8 @@ use Rattle.pram_syntax.specs.declared.token.Opening.TheVariants as opening
 use Rattle.pram_syntax.specs.declared.token.Token.{Token}
 use Rattle.pram_syntax.specs.declared.token.Token.TheVariants as token
 use Rattle.pram_syntax.specs.Grammar.{joins}
-use Rattle.pram_syntax.specs.Program.{rule_words}
-use Rattle.pram_syntax.specs.Tokens.{is_one_of}
+use Rattle.pram_model.specs.Rules.{rule_words}
+use Rattle.pram_model.specs.Names.{is_one_of}
 
 -- With the number of levels of nesting that may still be opened.
 pub data Symbol : Type 0 where

@@ -3,7 +3,8 @@
 ghost use Rattle.std.specs.Prelude.{◌≡◌, ℕ, pos, ◌+◌, ◌≤◌, ◌<◌, true, false, Some, None, Ok, Err, take, drop, length, slice_index, IfOk, MatchOption};
 ghost use Rattle.pram_syntax.specs.Lexemes as lexemes;
 ghost use Rattle.pram_syntax.specs.Scanning as scanning;
-ghost use Rattle.pram_syntax.specs.Tokens.{AreReal, is_digit, is_letter};
+ghost use Rattle.pram_model.specs.Names.{is_digit, is_letter};
+ghost use Rattle.pram_syntax.specs.Tokens.{AreReal};
 
 use crate::error::LexError;
 use crate::token::{Location, Name, Numeral, Token};

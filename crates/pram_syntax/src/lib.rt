@@ -1,11 +1,9 @@
 //! The concrete syntax of PRAM programs.
 #![tactic(auto)]
 
-pub mod buffer;
 pub mod error;
 mod front;
 pub mod input;
-pub mod layout;
 mod level;
 mod lexer;
 pub mod one_tree;
@@ -18,9 +16,10 @@ mod parser;
 pub mod places;
 pub mod print;
 mod printer;
-pub mod rule;
 mod spell;
 pub mod token;
 pub mod tree;
 mod words;
-pub mod writer;
+
+pub use pram_model::{layout, rule};
+pub use text_out::{buffer, writer};

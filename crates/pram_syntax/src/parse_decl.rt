@@ -2,14 +2,15 @@
 
 ghost use Rattle.std.specs.Prelude.{◌≡◌, true, false, [], ◌∷◌, ◌++◌, length, IfOk, MatchOption};
 ghost use Rattle.pram_syntax.specs.Machine as machine;
+ghost use Rattle.pram_model.specs.Rules as rules;
 ghost use Rattle.pram_syntax.specs.Program as grammar;
 ghost use Rattle.pram_syntax.specs.Symbols as symbol;
-ghost use Rattle.pram_syntax.specs.Tokens.{is_one_of};
+ghost use Rattle.pram_model.specs.Names.{is_one_of};
 ghost use Rattle.pram_syntax.specs.Follows.{Follows};
 
 use crate::error::ParseError;
 use crate::front::{a_name, a_number, behind_mark, copied, expect};
-use crate::rule::Rule;
+use pram_model::rule::Rule;
 use crate::token::{Location, Mark, Name, Numeral, Token};
 use crate::tree::Declaration;
 use sqlite_items::Items;
@@ -17,8 +18,8 @@ use std::alloc::Global;
 
 /// The rule that has this word.
 fn rule_of(text: &[u8]) -> Option<Rule>
-    ensures word { MatchOption result (is_one_of grammar.rule_words text.now ≡ false)
-        (λ r. text.now ≡ grammar.rule_word r) }
+    ensures word { MatchOption result (is_one_of rules.rule_words text.now ≡ false)
+        (λ r. text.now ≡ rules.rule_word r) }
 {
     match text {
         b"erew" => Some(Rule::Erew),

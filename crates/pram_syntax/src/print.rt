@@ -3,9 +3,9 @@
 ghost use Rattle.std.specs.Prelude.{◌≡◌, ◌++◌, ◌<◌, ◌^◌, []};
 ghost use Rattle.pram_syntax.specs.Blocks.{block_tokens, local_tokens, statement_tokens};
 ghost use Rattle.pram_syntax.specs.Grammar.{step_tokens, tokens};
-ghost use Rattle.pram_syntax.specs.Out.{Writes};
+ghost use Rattle.text_out.specs.Out.{Writes};
 ghost use Rattle.pram_syntax.specs.Places.{PrintingReadsBack};
-ghost use Rattle.pram_syntax.specs.Printing.{Prints, printing};
+ghost use Rattle.text_out.specs.Printing.{Prints, printing};
 ghost use Rattle.pram_syntax.specs.Program.{declaration_tokens, declarations_tokens, header_tokens, program_tokens};
 ghost use Rattle.pram_syntax.specs.Spelling.{spelled, spelling};
 
@@ -13,7 +13,7 @@ use crate::printer::Printer;
 use crate::spell::rule_text;
 use crate::token::{Binary, Mark, Name, Opening, Token};
 use crate::tree::{Declaration, Expr, Stmt, Tree};
-use crate::writer::{Out, WriteFault};
+use text_out::writer::{Out, WriteFault};
 
 impl<'a, W: Out> Printer<'a, W> {
     #[cycle(expr)]

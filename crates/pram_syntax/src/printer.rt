@@ -2,13 +2,13 @@
 
 ghost use Rattle.std.specs.Prelude.{◌≡◌, ◌++◌, ◌∷◌, []};
 ghost use Rattle.pram_syntax.specs.Grammar.{prefix_token};
-ghost use Rattle.pram_syntax.specs.Printing.{MayFail, Prints, printing};
+ghost use Rattle.text_out.specs.Printing.{MayFail, Prints, printing};
 ghost use Rattle.pram_syntax.specs.Spelling.{opening_text, spelled};
 
 use crate::spell::{binary_text, mark_end, mark_text, opening_text};
 use crate::token::{Binary, Mark, Name, Numeral, Opening, Token};
 use crate::tree::Prefix;
-use crate::writer::Out;
+use text_out::writer::Out;
 use itoa::Buffer;
 
 /// Prints until its writer fails, and then nothing more.

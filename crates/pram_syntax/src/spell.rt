@@ -1,14 +1,14 @@
 //! The spelling of words and symbols.
 
 ghost use Rattle.std.specs.Prelude.{◌≡◌};
-ghost use Rattle.pram_syntax.specs.Program as program;
+ghost use Rattle.pram_model.specs.Rules as rules;
 ghost use Rattle.pram_syntax.specs.Spelling as spec;
 
-use crate::rule::Rule;
+use pram_model::rule::Rule;
 use crate::token::{Binary, Mark, Opening};
 
 pub(crate) fn rule_text(rule: Rule) -> &'static [u8]
-    ensures text { result.now ≡ program.rule_word rule }
+    ensures text { result.now ≡ rules.rule_word rule }
 {
     match rule {
         Rule::Erew => b"erew",

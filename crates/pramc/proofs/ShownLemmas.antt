@@ -4,7 +4,7 @@ use Rattle.std.specs.Bool.{if◌then◌else◌}
 use Rattle.std.proofs.Common.{◌≤◌, ◌-◌, nat_lt, true, false, arith, ◌≡◌, ◌<◌, ◌+◌, ◌++◌, ◌∙◌, ◌∷◌, [], List, ℕ, ap, sym, subst, append_assoc, drop, get_or, length, codes, slice_get, take}
 use Rattle.std.specs.Prelude.{ℤ, Option, Some, None, IfSome}
 use Rattle.std.proofs.lemmas.Option.{slice_get-get_or}
-use Rattle.pram_syntax.specs.Layout.{SharedEntry, size}
+use Rattle.pram_model.specs.Layout.{SharedEntry, size}
 use Rattle.std.specs.Fmt.{signed_decimal}
 use Rattle.std.proofs.lemmas.List.{append-nil, drop_more}
 use Rattle.pramc.specs.Shown.{cell_text, entry_line, item_lines, memory_lines, spaced, subscript_text}

@@ -3,7 +3,7 @@ use Rattle.std.specs.Prelude.{◌≡◌, ◌<◌, ◌≤◌, ℕ, List, length, 
 use Rattle.pram_syntax.specs.declared.error.TextFault.{TextFault}
 use Rattle.pram_syntax.specs.declared.error.TextFault.TheVariants.{OutOfMemory}
 use Rattle.pram_syntax.specs.Input.{IsInputFault}
-use Rattle.pram_syntax.specs.Layout.{SharedEntry, total_size}
+use Rattle.pram_model.specs.Layout.{SharedEntry, total_size}
 use Rattle.pram_syntax.specs.Program.{ProgramTree}
 use Rattle.pram_syntax.specs.Text.{IsTextOf, IsFaultOf, IsPlain}
 use Rattle.pram_check.specs.declared.fault.Breach.{Breach}

@@ -1,7 +1,7 @@
 -- How an outcome is written: each output item on a line, then how the run came out.
 use Rattle.std.specs.Prelude.{ℕ, ◌-◌, nat_lt, ℤ, pos, ◌+ℤ◌, List, [], ◌∷◌, ◌++◌, Option, Some, None, if◌then◌else◌, codes, take, drop, decimal}
 use Rattle.std.specs.Fmt.{signed_decimal}
-use Rattle.pram_syntax.specs.Layout.{SharedEntry, size}
+use Rattle.pram_model.specs.Layout.{SharedEntry, size}
 use Rattle.pram_values.specs.declared.kind.Kind.{Kind}
 use Rattle.pram_values.specs.declared.kind.Kind.TheVariants as kind
 use Rattle.pram_values.specs.declared.place.Place.{Place}

@@ -1,7 +1,7 @@
 //! The system's files and streams.
 
 ghost use Rattle.std.specs.Prelude.{◌≡◌, ◌⊎◌, ◌+◌, ◌++◌, ◌<◌, ◌≤◌, ◌^◌, [], None, IfOk, OnOk, OnErr, length, take};
-ghost use Rattle.pram_syntax.specs.Out.{OutState, with_failure};
+ghost use Rattle.text_out.specs.Out.{OutState, with_failure};
 ghost use Rattle.pramc.specs.Held.{held_at};
 
 use crate::sources::{SourceFault, Sources};

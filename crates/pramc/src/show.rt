@@ -2,7 +2,7 @@
 
 ghost use Rattle.std.specs.Prelude.{◌≡◌, ◌++◌, ◌<◌, ◌^◌, codes};
 ghost use Rattle.std.specs.Fmt.{decimal};
-ghost use Rattle.pram_syntax.specs.Out.{Writes};
+ghost use Rattle.text_out.specs.Out.{Writes};
 ghost use Rattle.write_rules.specs.Verdict.{Ended, Faulted, verdict_of};
 ghost use Rattle.pramc.specs.Shown as shown;
 

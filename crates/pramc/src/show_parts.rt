@@ -2,8 +2,8 @@
 
 ghost use Rattle.std.specs.Prelude.{◌≡◌, ◌++◌, ◌<◌, ◌^◌, IfSome, Option, drop, length, slice_get, take};
 ghost use Rattle.std.specs.Fmt.{signed_decimal};
-ghost use Rattle.pram_syntax.specs.Layout.{size};
-ghost use Rattle.pram_syntax.specs.Out.{Writes};
+ghost use Rattle.pram_model.specs.Layout.{size};
+ghost use Rattle.text_out.specs.Out.{Writes};
 ghost use Rattle.pramc.specs.Shown as shown;
 
 use itoa::Buffer;

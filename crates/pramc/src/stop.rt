@@ -1,7 +1,7 @@
 //! Why the program stops without an outcome, and how it says so.
 
 ghost use Rattle.std.specs.Prelude.{◌≡◌, ◌<◌, ◌^◌};
-ghost use Rattle.pram_syntax.specs.Out.{Writes};
+ghost use Rattle.text_out.specs.Out.{Writes};
 ghost use Rattle.pramc.specs.Stopped as stopped;
 ghost use Rattle.pramc.specs.StoppedFields.{stop_text};
 ghost use Rattle.pramc.specs.declared.stop.Stop.TheVariants.{Refused, WriteFailed};

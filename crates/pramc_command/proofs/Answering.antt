@@ -2,8 +2,8 @@
 use Rattle.std.proofs.Common.{◌≡◌, ◌∙◌, ℕ, ℤ, List, [], ap, sym, subst}
 use Rattle.std.proofs.lemmas.List.{append-nil}
 use Rattle.std.specs.Prelude.{Result, Ok, Err, IfOk, IfErr}
-use Rattle.pram_syntax.specs.Out.{OutState, StopsIn, with_bytes, with_failure}
-use Rattle.pram_syntax.specs.Layout.{SharedEntry}
+use Rattle.text_out.specs.Out.{OutState, StopsIn, with_bytes, with_failure}
+use Rattle.pram_model.specs.Layout.{SharedEntry}
 use Rattle.write_rules.specs.Verdict.{Verdict}
 use Rattle.pramc.specs.Report.{IsRunOf}
 use Rattle.pramc.specs.declared.status.Status.{Status}

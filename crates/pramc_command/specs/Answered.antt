@@ -1,8 +1,8 @@
 -- What a call of the program leaves on its streams.
 use Rattle.std.specs.Prelude.{◌≡◌, ◌⊎◌, ℕ, ℤ, List, ◌++◌, Result, Ok, Err, codes, decimal}
-use Rattle.pram_syntax.specs.Layout.{SharedEntry, total_size}
-use Rattle.pram_syntax.specs.Out.{OutState, StopsIn, with_bytes}
-use Rattle.pram_syntax.specs.Program.{rule_word}
+use Rattle.pram_model.specs.Layout.{SharedEntry, total_size}
+use Rattle.text_out.specs.Out.{OutState, StopsIn, with_bytes}
+use Rattle.pram_model.specs.Rules.{rule_word}
 use Rattle.pram_check.specs.Checked.{Checked}
 use Rattle.write_rules.specs.Verdict.{verdict_of}
 use Rattle.write_rules.specs.declared.outcome.Outcome.{Outcome}

@@ -1,8 +1,8 @@
 //! The program `pramc`, but for the real files and streams.
 
 ghost use Rattle.std.specs.Prelude.{◌≡◌, ◌<◌, ◌^◌, ℕ, ℤ, List, IfOk, IfErr};
-ghost use Rattle.pram_syntax.specs.Out.{Writes, with_failure};
-ghost use Rattle.pram_syntax.specs.Program.{rule_word as spec_rule_word};
+ghost use Rattle.text_out.specs.Out.{Writes, with_failure};
+ghost use Rattle.pram_model.specs.Rules.{rule_word as spec_rule_word};
 ghost use Rattle.write_rules.specs.Verdict.{verdict_of};
 ghost use Rattle.pramc.specs.Report.{IsProgramOf, IsRunOf};
 ghost use Rattle.pram_meaning.specs.Outcome.{IsOutcome};

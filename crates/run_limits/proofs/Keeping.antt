@@ -4,7 +4,7 @@ use Rattle.std.specs.Prelude.{if◌then◌else◌}
 use Rattle.std.specs.List.{AllByRecursion, filter_map, cons_option, zip}
 use Rattle.std.specs.Int.{w64}
 use Rattle.std.proofs.lemmas.List.{length-append, length-map}
-use Rattle.pram_syntax.specs.Layout.{total_size, cell_of}
+use Rattle.pram_model.specs.Layout.{total_size, cell_of}
 use Rattle.superstep_code.specs.declared.instr.Side.TheVariants.{Uniform, Private}
 use Rattle.superstep_code.specs.declared.instr.Instr.{Instr}
 use Rattle.superstep_code.specs.declared.instr.Instr.TheVariants.{Mark, CopyUniform, Index, Enter, Leave, Mask, Flip, Unmask, Ask, Put, Print}

@@ -4,8 +4,8 @@ use Rattle.std.specs.Prelude.{if◌then◌else◌, slice_index_or}
 use Rattle.std.specs.List.{AllByRecursion, filter, flat_map, range_with_len}
 use Rattle.std.proofs.lemmas.List.{length-append, length-map}
 use Rattle.std.proofs.Math.Nat.{mul-le-mul_left}
-use Rattle.pram_syntax.specs.declared.rule.Rule.{Rule}
-use Rattle.pram_syntax.specs.declared.rule.Rule.TheVariants.{Erew, Crew, Common, Priority, Sum}
+use Rattle.pram_model.specs.declared.rule.Rule.{Rule}
+use Rattle.pram_model.specs.declared.rule.Rule.TheVariants.{Erew, Crew, Common, Priority, Sum}
 use Rattle.superstep_code.specs.declared.mark.HeaderMark.{HeaderMark}
 use Rattle.superstep_code.specs.declared.mark.HeaderMark.TheVariants.{Clear, OutOfMemory, OutOfReserve}
 use Rattle.superstep_code.specs.declared.instr.Instr.{Instr}

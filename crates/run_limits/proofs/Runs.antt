@@ -4,8 +4,8 @@ use Rattle.std.specs.Prelude.{if◌then◌else◌, ◌&&◌, slice_get, slice_in
 use Rattle.std.specs.List.{AllByRecursion, filter, zip, range_with_len, list_any}
 use Rattle.std.specs.Int.{w64}
 use Rattle.std.proofs.lemmas.List.{length-map}
-use Rattle.pram_syntax.specs.declared.rule.Rule.{Rule}
-use Rattle.pram_syntax.specs.declared.rule.Rule.TheVariants.{Erew, Crew, Common, Priority, Sum}
+use Rattle.pram_model.specs.declared.rule.Rule.{Rule}
+use Rattle.pram_model.specs.declared.rule.Rule.TheVariants.{Erew, Crew, Common, Priority, Sum}
 use Rattle.pram_values.specs.declared.kind.Kind.TheVariants.{WriteConflict}
 use Rattle.pram_values.specs.Value.{Value, checked}
 use Rattle.pram_values.specs.Truth.{is_nonzero}

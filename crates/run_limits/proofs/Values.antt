@@ -4,7 +4,7 @@ use Rattle.std.specs.Prelude.{if◌then◌else◌, int_le, nat_le}
 use Rattle.std.specs.Int.{w64}
 use Rattle.std.proofs.lemmas.Int.{ints}
 use Rattle.std.proofs.lemmas.Bool.Decides.{nat_tests}
-use Rattle.pram_syntax.specs.Layout.{width}
+use Rattle.pram_model.specs.Layout.{width}
 use Rattle.pram_values.specs.declared.kind.Kind.TheVariants.{Overflow, DivideByZero, TooWide}
 use Rattle.pram_values.specs.Value.{Value, fits, checked}
 use Rattle.pram_values.specs.Truth.{truth, is_nonzero}

@@ -4,10 +4,10 @@ use Rattle.std.proofs.lemmas.Bool.Decides.{nat_tests}
 use Rattle.std.proofs.lemmas.Int.{ints}
 use Rattle.std.specs.Fmt.{signed_decimal}
 use Rattle.std.specs.Prelude.{ℤ, pos, Some, None, Option, ◌&&◌}
-use Rattle.pram_syntax.specs.Tokens.{IsName, are_words, begins_with_letter, is_keyword, is_word}
+use Rattle.pram_model.specs.Names.{IsName, are_words, begins_with_letter, is_keyword, is_word}
 use Rattle.superstep_code.specs.Code.{Wide}
 use Rattle.std.specs.Prelude.{codes}
-use Rattle.pram_syntax.specs.Layout.{SharedEntry}
+use Rattle.pram_model.specs.Layout.{SharedEntry}
 use Rattle.superstep_code.specs.Cutting.{IsCut, Lacks}
 use Rattle.superstep_code.specs.Limits.{AreBounds, Fits, IsEntry}
 use Rattle.superstep_code.specs.Listing.{entry_line, entry_words, line}

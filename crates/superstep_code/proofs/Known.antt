@@ -3,7 +3,7 @@ use Rattle.std.proofs.Common.{◌≡◌, ℕ, List, [], ◌∷◌, ◌++◌, ref
 use Rattle.std.specs.List.{list_any}
 use Rattle.std.specs.Prelude.{◌||◌}
 use Rattle.std.specs.Str.{bytes_eq}
-use Rattle.pram_syntax.specs.Layout.{SharedEntry}
+use Rattle.pram_model.specs.Layout.{SharedEntry}
 use Rattle.superstep_code.specs.Limits.{IsNew, names_of}
 use Rattle.superstep_code.specs.Names.{AreKnown}
 use Rattle.superstep_code.proofs.Entries.{names-more}

@@ -3,10 +3,10 @@ use Rattle.std.proofs.Common.{◌≡◌, ℕ, List, ◌∷◌, ◌++◌, refl, s
 use Rattle.std.proofs.lemmas.Fmt.{decimal_injective}
 use Rattle.std.specs.Fmt.{decimal, signed_decimal}
 use Rattle.std.specs.Prelude.{ℤ, Some, None, Option}
-use Rattle.pram_syntax.specs.declared.rule.Rule.{Rule}
-use Rattle.pram_syntax.specs.declared.rule.Rule.TheVariants as rule
-use Rattle.pram_syntax.specs.Layout.{SharedEntry}
-use Rattle.pram_syntax.specs.Tokens.{IsName}
+use Rattle.pram_model.specs.declared.rule.Rule.{Rule}
+use Rattle.pram_model.specs.declared.rule.Rule.TheVariants as rule
+use Rattle.pram_model.specs.Layout.{SharedEntry}
+use Rattle.pram_model.specs.Names.{IsName}
 use Rattle.superstep_code.specs.declared.instr.Instr.{Instr}
 use Rattle.superstep_code.specs.Cutting.{Lacks, spaced}
 use Rattle.superstep_code.specs.Decoding.{candidate_of, template_of}

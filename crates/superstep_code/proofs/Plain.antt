@@ -5,10 +5,10 @@ use Rattle.std.proofs.lemmas.Bool.Decides.{nat_tests}
 use Rattle.std.specs.Prelude.{nat_lt, ◌&&◌}
 use Rattle.std.specs.Fmt.{decimal, signed_decimal}
 use Rattle.std.specs.Prelude.{ℤ, codes, Some, None, Option}
-use Rattle.pram_syntax.specs.declared.rule.Rule.{Rule}
-use Rattle.pram_syntax.specs.declared.rule.Rule.TheVariants as rule
-use Rattle.pram_syntax.specs.Layout.{SharedEntry}
-use Rattle.pram_syntax.specs.Tokens.{IsName}
+use Rattle.pram_model.specs.declared.rule.Rule.{Rule}
+use Rattle.pram_model.specs.declared.rule.Rule.TheVariants as rule
+use Rattle.pram_model.specs.Layout.{SharedEntry}
+use Rattle.pram_model.specs.Names.{IsName}
 use Rattle.superstep_code.specs.declared.instr.Instr.{Instr}
 use Rattle.superstep_code.specs.Cutting.{Lacks, spaced}
 use Rattle.superstep_code.specs.Limits.{AreBounds, IsEntry, IsInstr}

@@ -4,11 +4,11 @@ use Rattle.std.proofs.lemmas.List.{append-nil, drop_all}
 use Rattle.std.proofs.lemmas.List.Concat.{flat_map-append}
 use Rattle.std.proofs.lemmas.Option.{slice_get_cases}
 use Rattle.std.specs.Prelude.{ℤ, pos, slice_get, IfSome, Some, codes}
-use Rattle.pram_syntax.specs.declared.rule.Rule.{Rule}
-use Rattle.pram_syntax.specs.Program.{rule_word}
+use Rattle.pram_model.specs.declared.rule.Rule.{Rule}
+use Rattle.pram_model.specs.Rules.{rule_word}
 use Rattle.std.specs.Fmt.{decimal, signed_decimal}
-use Rattle.pram_syntax.specs.Printing.{Printing, Prints}
-use Rattle.pram_syntax.proofs.Printed.{PrintedTo, printed_as, printed_more, prints_nothing, prints_then}
+use Rattle.text_out.specs.Printing.{Printing, Prints}
+use Rattle.text_out.proofs.Printed.{PrintedTo, printed_as, printed_more, prints_nothing, prints_then}
 use Rattle.superstep_code.specs.declared.instr.Instr.{Instr}
 use Rattle.superstep_code.specs.Code.{SuperstepCode}
 use Rattle.superstep_code.specs.Listing.{line, field_words, instr_words, numbers_of, side_of, stem_of, ended, entry_line, entry_words, head_lines, instr_lines, size_lines, spelling}

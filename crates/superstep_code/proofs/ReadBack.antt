@@ -10,8 +10,8 @@ use Rattle.std.proofs.Math.Nat.{zero-mul}
 use Rattle.std.proofs.Math.Seq.{take-append_seam, drop-append_seam}
 use Rattle.pram_values.specs.Total.{total}
 use Rattle.pram_values.proofs.Totals.{total_map}
-use Rattle.pram_syntax.specs.declared.rule.Rule.{Rule}
-use Rattle.pram_syntax.specs.declared.rule.Rule.TheVariants.{Erew, Crew, Common, Priority, Sum}
+use Rattle.pram_model.specs.declared.rule.Rule.{Rule}
+use Rattle.pram_model.specs.declared.rule.Rule.TheVariants.{Erew, Crew, Common, Priority, Sum}
 use Rattle.address_map.specs.Lawful.{Shape}
 use Rattle.superstep_code.specs.declared.header.MessageHeader.{MessageHeader}
 use Rattle.superstep_code.specs.Words.{CellPut, CellAsk, Message, bit, word_of, low_word, high_word, value_words, put_words, ask_word, ask_words, values_words, words}

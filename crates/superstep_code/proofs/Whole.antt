@@ -2,9 +2,9 @@
 use Rattle.std.proofs.Common.{◌≡◌, ℕ, List, [], ◌∷◌, ◌++◌, refl, sym, ap, ◌∙◌, ◌<◌, ◌≤◌, length, map, arith, subst, append_assoc, lit<, lit≤, ◌⊎◌, inl, inr}
 use Rattle.std.specs.List.{AllByRecursion}
 use Rattle.std.specs.Prelude.{codes, ℤ, Option, Some, None}
-use Rattle.pram_syntax.specs.declared.rule.Rule.{Rule}
-use Rattle.pram_syntax.specs.declared.rule.Rule.TheVariants as rule
-use Rattle.pram_syntax.specs.Layout.{SharedEntry, total_size}
+use Rattle.pram_model.specs.declared.rule.Rule.{Rule}
+use Rattle.pram_model.specs.declared.rule.Rule.TheVariants as rule
+use Rattle.pram_model.specs.Layout.{SharedEntry, total_size}
 use Rattle.superstep_code.specs.Code.{SuperstepCode}
 use Rattle.superstep_code.specs.Limits.{AreDifferent, IsCode, IsEntry, IsLayout, IsNew, most_procs, names_of}
 use Rattle.superstep_code.specs.Listing.{ended, entry_line, entry_words, field_words, head_lines, instr_lines, line, lines_of, rule_line, size_lines}

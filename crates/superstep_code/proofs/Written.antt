@@ -4,7 +4,7 @@ use Rattle.std.specs.Prelude.{if◌then◌else◌}
 use Rattle.std.specs.List.{filter, flat_map}
 use Rattle.pram_values.specs.Total.{total}
 use Rattle.pram_values.proofs.Totals.{total_joined}
-use Rattle.pram_syntax.specs.declared.rule.Rule.{Rule}
+use Rattle.pram_model.specs.declared.rule.Rule.{Rule}
 use Rattle.write_rules.specs.declared.entry.Entry.{Entry}
 use Rattle.write_rules.specs.declared.write.Write.{Write}
 use Rattle.superstep_code.specs.Setting.{combining}

@@ -1,6 +1,6 @@
 -- From the words of an instruction's line to the instruction. A tool of the proofs.
 use Rattle.std.specs.Prelude.{ℕ, List, [], ◌∷◌, codes, ℤ, pos, negsuc, Option, Some, None, if◌then◌else◌, ◌==◌, nat_lt, slice_index_or}
-use Rattle.pram_syntax.specs.Tokens.{same_text}
+use Rattle.pram_model.specs.Names.{same_text}
 use Rattle.superstep_code.specs.declared.instr.Arithmetic.TheVariants as arithmetic
 use Rattle.superstep_code.specs.declared.instr.Instr.{Instr}
 use Rattle.superstep_code.specs.declared.instr.Instr.TheVariants.{Mark, Set, Copy, Negate, Calculate, Decide, Not, CopyUniform, Index, Enter, Leave, Mask, Flip, Unmask, Ask, Put, Send, Reply, Vote, Print, Jump, JumpIfZero, Halt}

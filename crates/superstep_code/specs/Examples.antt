@@ -1,8 +1,8 @@
 -- Code that shows what the machine does.
 use Rattle.std.specs.Prelude.{ℕ, List, [], ◌∷◌, Option, Some, None, pos, codes, if◌then◌else◌}
 use Rattle.std.proofs.Common.{eqb}
-use Rattle.pram_syntax.specs.declared.rule.Rule.TheVariants.{Crew}
-use Rattle.pram_syntax.specs.Layout.{SharedEntry}
+use Rattle.pram_model.specs.declared.rule.Rule.TheVariants.{Crew}
+use Rattle.pram_model.specs.Layout.{SharedEntry}
 use Rattle.address_map.specs.Lawful.{Shape, spread}
 use Rattle.address_map.specs.Permutation.{same}
 use Rattle.superstep_code.specs.declared.instr.Side.TheVariants.{Uniform, Private}

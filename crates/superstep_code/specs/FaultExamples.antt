@@ -1,6 +1,6 @@
 -- Code that faults.
 use Rattle.std.specs.Prelude.{[], ◌∷◌, pos, codes}
-use Rattle.pram_syntax.specs.declared.rule.Rule.TheVariants.{Crew, Common}
+use Rattle.pram_model.specs.declared.rule.Rule.TheVariants.{Crew, Common}
 use Rattle.superstep_code.specs.declared.instr.Arithmetic.TheVariants.{Add, Subtract, Divide}
 use Rattle.superstep_code.specs.declared.instr.Side.TheVariants.{Uniform, Private}
 use Rattle.superstep_code.specs.declared.instr.Instr.TheVariants.{Mark, Set, Calculate, Index, Enter, Leave, Ask, Put, Send, Reply, Print, Halt}

@@ -2,9 +2,9 @@
 use Rattle.std.specs.Prelude.{ℕ, ◌+◌, List, [], ◌∷◌, ◌++◌, length, map, codes, ℤ, pos, Option, Some, None}
 use Rattle.std.specs.Fmt.{decimal, signed_decimal}
 use Rattle.std.specs.List.{flat_map, join_with_byte}
-use Rattle.pram_syntax.specs.declared.rule.Rule.{Rule}
-use Rattle.pram_syntax.specs.Layout.{SharedEntry}
-use Rattle.pram_syntax.specs.Program.{rule_word}
+use Rattle.pram_model.specs.declared.rule.Rule.{Rule}
+use Rattle.pram_model.specs.Layout.{SharedEntry}
+use Rattle.pram_model.specs.Rules.{rule_word}
 use Rattle.superstep_code.specs.declared.instr.Arithmetic.{Arithmetic}
 use Rattle.superstep_code.specs.declared.instr.Arithmetic.TheVariants as arithmetic
 use Rattle.superstep_code.specs.declared.instr.Instr.{Instr}

@@ -5,9 +5,9 @@ use Rattle.superstep_code.specs.declared.entry_line.Kind.TheVariants.{Cell, Arra
 use Rattle.std.specs.Prelude.{◌≡◌}
 use Rattle.std.specs.List.{list_any}
 use Rattle.std.specs.Str.{bytes_eq}
-use Rattle.pram_syntax.specs.Layout.{SharedEntry}
+use Rattle.pram_model.specs.Layout.{SharedEntry}
 use Rattle.superstep_code.specs.Limits.{AreBounds, names_of}
-use Rattle.pram_syntax.specs.Tokens.{are_words, begins_with_letter, is_keyword}
+use Rattle.pram_model.specs.Names.{are_words, begins_with_letter, is_keyword}
 
 abbrev pub is_name : List ℕ → Bool
 is_name text = begins_with_letter text && (are_words text && not (is_keyword text))

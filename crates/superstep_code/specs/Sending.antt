@@ -7,7 +7,7 @@ use Rattle.pram_values.specs.declared.kind.Kind.TheVariants.{ReadConflict}
 use Rattle.pram_values.specs.declared.place.Place.TheVariants.{Cell}
 use Rattle.pram_values.specs.Value.{Value}
 use Rattle.pram_values.specs.Total.{total}
-use Rattle.pram_syntax.specs.declared.rule.Rule.{Rule}
+use Rattle.pram_model.specs.declared.rule.Rule.{Rule}
 use Rattle.write_rules.specs.declared.entry.Entry.{Entry}
 use Rattle.write_rules.specs.Rule.{shares_reads}
 use Rattle.superstep_code.specs.declared.instr.Side.{Side}

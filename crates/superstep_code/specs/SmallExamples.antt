@@ -1,7 +1,7 @@
 -- Short code, each for one thing that a wrong machine gets wrong.
 use Rattle.std.specs.Prelude.{ℕ, List, [], ◌∷◌, pos, codes}
-use Rattle.pram_syntax.specs.declared.rule.Rule.TheVariants.{Crew}
-use Rattle.pram_syntax.specs.Layout.{SharedEntry}
+use Rattle.pram_model.specs.declared.rule.Rule.TheVariants.{Crew}
+use Rattle.pram_model.specs.Layout.{SharedEntry}
 use Rattle.superstep_code.specs.declared.instr.Arithmetic.TheVariants.{Divide}
 use Rattle.superstep_code.specs.declared.instr.Truth.TheVariants.{Equal}
 use Rattle.superstep_code.specs.declared.instr.Side.TheVariants.{Uniform, Private}

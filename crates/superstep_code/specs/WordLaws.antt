@@ -1,6 +1,6 @@
 -- What is said of messages and the words that they have.
 use Rattle.std.specs.Prelude.{◌≡◌, ℕ, List, map}
-use Rattle.pram_syntax.specs.declared.rule.Rule.{Rule}
+use Rattle.pram_model.specs.declared.rule.Rule.{Rule}
 use Rattle.address_map.specs.Lawful.{Shape}
 use Rattle.superstep_code.specs.Setting.{Setting}
 use Rattle.superstep_code.specs.declared.header.MessageHeader.{MessageHeader}

@@ -5,8 +5,8 @@ use Rattle.std.specs.List.{filter_map}
 use Rattle.std.specs.Int.{w64, w128, cast_signed}
 use Rattle.std.proofs.Common.{eqb}
 use Rattle.pram_values.specs.Total.{total}
-use Rattle.pram_syntax.specs.declared.rule.Rule.{Rule}
-use Rattle.pram_syntax.specs.declared.rule.Rule.TheVariants.{Sum}
+use Rattle.pram_model.specs.declared.rule.Rule.{Rule}
+use Rattle.pram_model.specs.declared.rule.Rule.TheVariants.{Sum}
 use Rattle.write_rules.specs.declared.entry.Entry.{Entry}
 use Rattle.address_map.specs.Lawful.{Shape}
 use Rattle.superstep_code.specs.declared.header.MessageHeader.{MessageHeader}

@@ -1,6 +1,6 @@
 -- Code with loops, masks, sums and votes.
 use Rattle.std.specs.Prelude.{[], ◌∷◌, pos, codes}
-use Rattle.pram_syntax.specs.declared.rule.Rule.TheVariants.{Erew, Crew, Sum}
+use Rattle.pram_model.specs.declared.rule.Rule.TheVariants.{Erew, Crew, Sum}
 use Rattle.superstep_code.specs.declared.instr.Arithmetic.TheVariants.{Add, Subtract, Multiply}
 use Rattle.superstep_code.specs.declared.instr.Truth.TheVariants.{Less}
 use Rattle.superstep_code.specs.declared.instr.Side.TheVariants.{Uniform, Private}

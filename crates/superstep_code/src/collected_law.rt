@@ -1,7 +1,7 @@
 //! What several processors, cells and workers give is collected in any order.
 
 ghost use Rattle.std.specs.Prelude.{◌≡◌, ◌<◌, Bool, true, false, Option, None};
-ghost use Rattle.pram_syntax.specs.declared.rule.Rule.{Rule as RuleName};
+ghost use Rattle.pram_model.specs.declared.rule.Rule.{Rule as RuleName};
 ghost use Rattle.pram_values.specs.Total.{IsMonoid};
 ghost use Rattle.write_rules.specs.declared.entry.Entry.{Entry as CellEntry};
 ghost use Rattle.write_rules.specs.Combining.{Carries};

@@ -2,8 +2,8 @@
 
 ghost use Rattle.std.specs.Prelude.{◌≡◌, ◌++◌, ◌∷◌, codes, ℕ, ℤ, List, Some, None, MatchOption};
 ghost use Rattle.std.specs.Fmt.{signed_decimal};
-ghost use Rattle.pram_syntax.specs.Layout.{SharedEntry};
-ghost use Rattle.pram_syntax.specs.Tokens.{IsName};
+ghost use Rattle.pram_model.specs.Layout.{SharedEntry};
+ghost use Rattle.pram_model.specs.Names.{IsName};
 ghost use Rattle.superstep_code.specs.Limits.{AreBounds, IsEntry};
 ghost use Rattle.superstep_code.specs.Listing as spec;
 ghost use Rattle.superstep_code.specs.Names as names;

@@ -3,14 +3,14 @@
 ghost use Rattle.std.specs.Prelude.{◌≡◌, ◌≤◌, ◌+◌, ◌++◌, ◌∷◌, [], List, ℕ, map, MatchBool, IfOk, OnOk, not, ◌||◌};
 ghost use Rattle.std.specs.HashSet.{contains_by};
 ghost use Rattle.std.specs.Str.{bytes_eq};
-ghost use Rattle.pram_syntax.specs.Layout.{SharedEntry, most_cells, size, total_size};
+ghost use Rattle.pram_model.specs.Layout.{SharedEntry, most_cells, size, total_size};
 ghost use Rattle.superstep_code.specs.Limits.{AreBounds, IsEntry, IsLayout};
 ghost use Rattle.superstep_code.specs.Names.{AreKnown};
 ghost use Rattle.superstep_code.specs.Listing.{ended, entry_line};
 
 use crate::entry_line::Declaration;
 use crate::lines::next_entry;
-use pram_syntax::layout::Layout;
+use pram_model::layout::Layout;
 use std::alloc::{AllocError, Global};
 use std::collections::HashSet;
 

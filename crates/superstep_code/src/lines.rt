@@ -1,8 +1,8 @@
 //! The next line of a listing, and the text behind it.
 
 ghost use Rattle.std.specs.Prelude.{◌≡◌, ◌≤◌, ◌++◌, ◌∷◌, codes, ℕ, List, MatchBool, MatchOption};
-ghost use Rattle.pram_syntax.specs.declared.rule.Rule.{Rule};
-ghost use Rattle.pram_syntax.specs.Layout.{SharedEntry};
+ghost use Rattle.pram_model.specs.declared.rule.Rule.{Rule};
+ghost use Rattle.pram_model.specs.Layout.{SharedEntry};
 ghost use Rattle.superstep_code.specs.declared.instr.Instr.{Instr};
 ghost use Rattle.superstep_code.specs.Cutting.{Lacks};
 ghost use Rattle.superstep_code.specs.Limits.{IsEntry, IsInstr};
@@ -14,7 +14,7 @@ use crate::instr::Instr;
 use crate::instr_line::instr_of;
 use crate::numeral::field;
 use crate::rule_line::rule_of;
-use pram_syntax::rule::Rule;
+use pram_model::rule::Rule;
 
 fn is_version(bytes: &[u8]) -> bool
     ensures value { MatchBool result (bytes.now ≡ codes "bsp 1") (bytes.now ≡ codes "bsp 1" → ⊥) }

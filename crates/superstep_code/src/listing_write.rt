@@ -1,13 +1,13 @@
 //! The writer of listings.
 
 ghost use Rattle.std.specs.Prelude.{◌≡◌, ◌<◌, ◌≤◌, ◌^◌, length};
-ghost use Rattle.pram_syntax.specs.Out.{Writes};
+ghost use Rattle.text_out.specs.Out.{Writes};
 ghost use Rattle.superstep_code.specs.Listing.{spelling};
 ghost use Rattle.superstep_code.specs.Text.{IsListing, longest};
 
 use crate::code::Code;
 use crate::printer::Printer;
-use pram_syntax::writer::{Out, WriteFault};
+use text_out::writer::{Out, WriteFault};
 
 /// Writes the listing of code, the one text that `read_listing` reads as this code: each line is
 /// ended by LF, its words have one space between them, and its numbers are decimal, without

@@ -1,7 +1,7 @@
 //! What the machine that superstep code runs on gives for worked code, by its definition alone.
 
 ghost use Rattle.std.specs.Prelude.{◌≡◌, [], ◌∷◌, map, Some, None, pos};
-ghost use Rattle.pram_syntax.specs.declared.rule.Rule.TheVariants.{Erew};
+ghost use Rattle.pram_model.specs.declared.rule.Rule.TheVariants.{Erew};
 ghost use Rattle.pram_values.specs.declared.kind.Kind.TheVariants.{DivideByZero, OutOfRange, TooWide, ReadConflict, WriteConflict};
 ghost use Rattle.pram_values.specs.declared.place.Place.TheVariants.{All, Processor, Cell};
 ghost use Rattle.write_rules.specs.Verdict.{Ended, Faulted, GoesOn};

@@ -1,7 +1,7 @@
 //! The names of declarations.
 
 ghost use Rattle.std.specs.Prelude.{◌≡◌, ◌||◌};
-ghost use Rattle.pram_syntax.specs.Tokens as tokens;
+ghost use Rattle.pram_model.specs.Names as tokens;
 ghost use Rattle.superstep_code.specs.Names as spec;
 
 /// Whether a text is a name: a letter, then letters, digits and `_`, and no keyword.

@@ -3,7 +3,7 @@
 ghost use Rattle.std.specs.Prelude.{◌≡◌, ◌<◌, ◌++◌, ◌∷◌, [], codes, take, pos, length, map, slice_get, IfSome, None, Some, ◌≤◌};
 ghost use Rattle.std.specs.Fmt.{signed_decimal};
 ghost use Rattle.std.specs.List.{flat_map};
-ghost use Rattle.pram_syntax.specs.Printing.{MayFail, Prints, printing};
+ghost use Rattle.text_out.specs.Printing.{MayFail, Prints, printing};
 ghost use Rattle.superstep_code.specs.Limits.{most_instructions};
 ghost use Rattle.superstep_code.specs.Listing.{ended, entry_line, entry_words, field_words, head_lines, instr_lines, instr_words, line, spelling};
 ghost use Rattle.superstep_code.specs.Cutting.{spaced};
@@ -12,9 +12,9 @@ use crate::code::Code;
 use crate::instr::Instr;
 use crate::spell::{letter, numbers, rule_text, stem};
 use itoa::Buffer;
-use pram_syntax::layout::Layout;
-use pram_syntax::rule::Rule;
-use pram_syntax::writer::Out;
+use pram_model::layout::Layout;
+use pram_model::rule::Rule;
+use text_out::writer::Out;
 
 /// Prints until its writer fails, and then nothing more.
 #[derive(Drop)]

@@ -1,10 +1,10 @@
 //! The line of a rule.
 
 ghost use Rattle.std.specs.Prelude.{◌≡◌, MatchOption};
-ghost use Rattle.pram_syntax.specs.declared.rule.Rule.{Rule};
+ghost use Rattle.pram_model.specs.declared.rule.Rule.{Rule};
 ghost use Rattle.superstep_code.specs.Listing as spec;
 
-use pram_syntax::rule::Rule;
+use pram_model::rule::Rule;
 
 /// The rule of such a line.
 pub(crate) fn rule_of(bytes: &[u8]) -> Option<Rule>

@@ -1,11 +1,11 @@
 //! The words and numbers of a listing.
 
 ghost use Rattle.std.specs.Prelude.{◌≡◌, ◌≤◌, take};
-ghost use Rattle.pram_syntax.specs.Program.{rule_word};
+ghost use Rattle.pram_model.specs.Rules.{rule_word};
 ghost use Rattle.superstep_code.specs.Listing as spec;
 
 use crate::instr::{Arithmetic, Instr, Side, Truth};
-use pram_syntax::rule::Rule;
+use pram_model::rule::Rule;
 
 /// The word of a rule.
 pub(crate) fn rule_text(rule: Rule) -> &'static [u8]

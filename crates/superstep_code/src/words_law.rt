@@ -1,7 +1,7 @@
 //! Words of messages, and reading them back.
 
 ghost use Rattle.std.specs.Prelude.{◌≡◌, ◌∷◌, [], ◌+◌, ◌-◌, ◌^◌, pos, negsuc, true, false};
-ghost use Rattle.pram_syntax.specs.declared.rule.Rule.TheVariants.{Common, Sum};
+ghost use Rattle.pram_model.specs.declared.rule.Rule.TheVariants.{Common, Sum};
 ghost use Rattle.superstep_code.specs.Words.{words, blank};
 ghost use Rattle.superstep_code.specs.WordLaws.{WordsReadBack, SentIsReadBack, RepliedIsReadBack, VotedIsReadBack, ClosingIsReadBack, EntriesOfWords, AskersOfWords};
 

@@ -1,7 +1,7 @@
 //! What the machine gives for worked code, by its definition alone: one law for each thing shown.
 
 ghost use Rattle.std.specs.Prelude.{[], ◌∷◌, pos};
-ghost use Rattle.pram_syntax.specs.declared.rule.Rule.TheVariants.{Erew};
+ghost use Rattle.pram_model.specs.declared.rule.Rule.TheVariants.{Erew};
 ghost use Rattle.pram_values.specs.declared.kind.Kind.TheVariants.{DivideByZero, TooWide, WriteConflict};
 ghost use Rattle.pram_values.specs.declared.place.Place.TheVariants.{All, Processor, Cell};
 ghost use Rattle.write_rules.specs.Verdict.{Ended, Faulted, GoesOn};

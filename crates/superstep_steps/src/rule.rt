@@ -4,7 +4,7 @@ ghost use Rattle.std.specs.Prelude.{◌≡◌};
 ghost use Rattle.superstep_code.specs.Setting.{combining};
 ghost use Rattle.superstep_code.specs.Sending as spec;
 
-use pram_syntax::rule::Rule;
+use pram_model::rule::Rule;
 use pram_values::kind::Kind;
 use write_rules::common::Common;
 use write_rules::entry::Entry;

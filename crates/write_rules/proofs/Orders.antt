@@ -3,8 +3,8 @@ use Rattle.std.proofs.Common.{zero, suc, ◌≡◌, ◌<◌, ℕ, List, [], ◌�
 use Rattle.std.proofs.lemmas.List.Edits.{swap_is}
 use Rattle.std.proofs.lemmas.List.Sorted.{IsPermutation-keeps, IsPermutation-map}
 use Rattle.std.specs.List.Sorted.{IsPermutation}
-use Rattle.pram_syntax.specs.declared.rule.Rule.{Rule}
-use Rattle.pram_syntax.specs.declared.rule.Rule.TheVariants.{Erew, Crew, Common, Priority, Sum}
+use Rattle.pram_model.specs.declared.rule.Rule.{Rule}
+use Rattle.pram_model.specs.declared.rule.Rule.TheVariants.{Erew, Crew, Common, Priority, Sum}
 use Rattle.write_rules.specs.Combining.{AreWriters, Carries, Combining, common, exclusive, joined, priority, summed}
 use Rattle.write_rules.specs.CommonLaws.{common_carries}
 use Rattle.write_rules.specs.ExclusiveLaws.{exclusive_carries}

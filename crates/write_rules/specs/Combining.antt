@@ -2,8 +2,8 @@
 use Rattle.std.specs.Prelude.{◌≡◌, ◌≢◌, List, ◌∷◌, map, Bool, true, false, not, ◌&&◌, ◌||◌, if◌then◌else◌, Err, ℤ, ◌+ℤ◌, int_lt, int_le, FitsSigned}
 use Rattle.std.specs.List.{fold, All, AllPairs}
 use Rattle.std.specs.Int.{w64, w128, int_wrap}
-use Rattle.pram_syntax.specs.declared.rule.Rule.{Rule}
-use Rattle.pram_syntax.specs.declared.rule.Rule.TheVariants.{Erew, Crew}
+use Rattle.pram_model.specs.declared.rule.Rule.{Rule}
+use Rattle.pram_model.specs.declared.rule.Rule.TheVariants.{Erew, Crew}
 use Rattle.pram_values.specs.declared.kind.Kind.TheVariants.{WriteConflict}
 use Rattle.pram_values.specs.Value.{Value, checked}
 use Rattle.pram_values.specs.Truth.{is_equal}

@@ -2,7 +2,7 @@
 use Rattle.std.proofs.Common.{◌≡◌, ◌⊎◌, inl, inr, List, [], ◌∷◌, map, fold, Bool, true, false, not, ◌||◌, if◌then◌else◌, ℤ, Err, refl, ap, sym, ◌∙◌, subst, FitsSigned, arith}
 use Rattle.std.specs.Int.{w64}
 use Rattle.std.proofs.lemmas.Int.{ints}
-use Rattle.pram_syntax.specs.declared.rule.Rule.TheVariants as name
+use Rattle.pram_model.specs.declared.rule.Rule.TheVariants as name
 use Rattle.pram_values.specs.declared.kind.Kind.TheVariants.{WriteConflict}
 use Rattle.pram_values.specs.Truth.{is_equal}
 use Rattle.pram_values.specs.Value.{checked}

@@ -2,7 +2,7 @@
 use Rattle.std.proofs.Common.{◌≡◌, ◌≢◌, ◌⊎◌, inl, inr, List, [], ◌∷◌, map, fold, Bool, true, false, if◌then◌else◌, refl, ap, sym, ◌∙◌, FitsSigned, All, AllPairs, int_le, arith, suc, subst}
 use Rattle.std.specs.Int.{w64}
 use Rattle.std.proofs.lemmas.Int.{ints}
-use Rattle.pram_syntax.specs.declared.rule.Rule.TheVariants.{Priority}
+use Rattle.pram_model.specs.declared.rule.Rule.TheVariants.{Priority}
 use Rattle.write_rules.specs.declared.entry.Entry.{Entry}
 use Rattle.write_rules.specs.declared.write.Write.{Write}
 use Rattle.write_rules.specs.Rule.{least_writer}

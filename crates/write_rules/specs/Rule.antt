@@ -2,8 +2,8 @@
 -- Exclusive, common and priority writes: JáJá, An Introduction to Parallel Algorithms, chapter 1 (EREW and CREW, common CRCW,
 -- priority CRCW). The sum is this project's own profile, and so are the faults.
 use Rattle.std.specs.Prelude.{Ok, Err, List, [], ◌∷◌, Bool, true, false, if◌then◌else◌, ℤ, pos, ◌+ℤ◌, int_le}
-use Rattle.pram_syntax.specs.declared.rule.Rule.{Rule}
-use Rattle.pram_syntax.specs.declared.rule.Rule.TheVariants.{Erew, Crew, Common, Priority, Sum}
+use Rattle.pram_model.specs.declared.rule.Rule.{Rule}
+use Rattle.pram_model.specs.declared.rule.Rule.TheVariants.{Erew, Crew, Common, Priority, Sum}
 use Rattle.pram_values.specs.declared.kind.Kind.TheVariants.{WriteConflict}
 use Rattle.pram_values.specs.Value.{Value, checked}
 use Rattle.pram_values.specs.Truth.{is_equal}

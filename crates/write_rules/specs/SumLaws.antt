@@ -7,7 +7,7 @@ use Rattle.std.proofs.lemmas.Bool.Decides.{Decides-eqb, eqb_tells}
 use Rattle.std.proofs.lemmas.Map.Made.{IsDistinct-from_AllPairs}
 use Rattle.std.proofs.lemmas.Map.Steps.{length-le_from_distinct_below}
 use Rattle.std.specs.List.{list_any}
-use Rattle.pram_syntax.specs.declared.rule.Rule.TheVariants.{Sum}
+use Rattle.pram_model.specs.declared.rule.Rule.TheVariants.{Sum}
 use Rattle.pram_values.specs.Value.{checked}
 use Rattle.write_rules.specs.declared.entry.Entry.{Entry}
 use Rattle.write_rules.specs.declared.write.Write.{Write}

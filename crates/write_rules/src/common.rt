@@ -21,7 +21,7 @@ fn differ(a: Entry, b: Entry) -> bool
 impl WriteRule for Common {
     ghost use Rattle.write_rules.specs.Combining.{common};
     ghost use Rattle.write_rules.specs.CommonLaws.{common_carries};
-    ghost use Rattle.pram_syntax.specs.declared.rule.Rule.TheVariants as name;
+    ghost use Rattle.pram_model.specs.declared.rule.Rule.TheVariants as name;
 
     ghost rule = { λ r. name.Common };
 

@@ -2,7 +2,7 @@
 
 ghost use Rattle.std.specs.Prelude.{◌≡◌, List, ◌∷◌};
 ghost use Rattle.std.specs.List.Sorted.{IsPermutation};
-ghost use Rattle.pram_syntax.specs.declared.rule.Rule.{Rule as RuleName};
+ghost use Rattle.pram_model.specs.declared.rule.Rule.{Rule as RuleName};
 ghost use Rattle.write_rules.specs.Combining.{Combining, Carries, AreWriters, joined};
 ghost use Rattle.write_rules.specs.Rule.{rule_value};
 ghost use Rattle.write_rules.specs.declared.write.Write as specification;

@@ -13,7 +13,7 @@ pub struct Priority;
 impl WriteRule for Priority {
     ghost use Rattle.write_rules.specs.Combining.{priority};
     ghost use Rattle.write_rules.specs.PriorityLaws.{priority_carries};
-    ghost use Rattle.pram_syntax.specs.declared.rule.Rule.TheVariants as name;
+    ghost use Rattle.pram_model.specs.declared.rule.Rule.TheVariants as name;
 
     ghost rule = { λ r. name.Priority };
 

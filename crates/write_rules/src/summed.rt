@@ -29,7 +29,7 @@ fn added(x: i128, y: i128) -> i128
 impl WriteRule for Summed {
     ghost use Rattle.write_rules.specs.Combining.{summed};
     ghost use Rattle.write_rules.specs.SumLaws.{summed_carries};
-    ghost use Rattle.pram_syntax.specs.declared.rule.Rule.TheVariants as name;
+    ghost use Rattle.pram_model.specs.declared.rule.Rule.TheVariants as name;
 
     ghost rule = { λ r. name.Sum };
 

@@ -9,7 +9,7 @@ use pram_values::kind::Kind;
 /// How the writers of one cell are combined. Joining goes in any order.
 pub trait WriteRule {
     ghost use Rattle.write_rules.specs.Combining.{Combining, Carries};
-    ghost use Rattle.pram_syntax.specs.declared.rule.Rule.{Rule as RuleName};
+    ghost use Rattle.pram_model.specs.declared.rule.Rule.{Rule as RuleName};
 
     /// The rule that it carries.
     ghost rule: { Self → RuleName };

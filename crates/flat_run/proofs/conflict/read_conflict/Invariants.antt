@@ -1,5 +1,5 @@
 use Rattle.std.proofs.Common.{None}
-use Rattle.pram_syntax.specs.Layout.{total_size}
+use Rattle.pram_model.specs.Layout.{total_size}
 use Rattle.superstep_code.specs.Keys.{least}
 use Rattle.superstep_steps.specs.Views.{read_is}
 use Rattle.flat_run.specs.Views.{flat_of}

@@ -1,5 +1,5 @@
 use Rattle.std.proofs.Common.{◌≡◌, ℕ, ◌<◌, ◌≤◌, ◌∙◌, sym, ap, cond, arith, ⊎_elim}
-use Rattle.pram_syntax.specs.Layout.{total_size}
+use Rattle.pram_model.specs.Layout.{total_size}
 use Rattle.flat_machine.specs.Flat.{written}
 use Rattle.flat_run.specs.Views.{held_of, flat_of}
 use Rattle.flat_run.proofs.CellLemmas.{past_held}

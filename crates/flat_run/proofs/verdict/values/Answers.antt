@@ -1,5 +1,5 @@
 use Rattle.std.proofs.Common.{◌∙◌, ap, take}
-use Rattle.pram_syntax.specs.Layout.{total_size}
+use Rattle.pram_model.specs.Layout.{total_size}
 use Rattle.flat_run.proofs.OutcomeLemmas.{first_values}
 use Rattle.flat_run.proofs.verdict.values.Goals as goal
 

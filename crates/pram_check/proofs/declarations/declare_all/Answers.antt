@@ -1,5 +1,5 @@
 use Rattle.std.proofs.Common.{◌+◌, ◌++◌, ap, ◌∙◌, arith, length, drop}
-use Rattle.pram_syntax.specs.Layout.{total_size}
+use Rattle.pram_model.specs.Layout.{total_size}
 use Rattle.pram_check.specs.Scope.{declared_from, shared_entries, uniform_count}
 use Rattle.pram_check.specs.Breaches.{declaration_breaches, first}
 use Rattle.pram_check.proofs.Judging.{exit}

@@ -1,6 +1,6 @@
 use Rattle.std.proofs.Common.{refl}
 use Rattle.pramc.specs.Shown.{fault_text, item_lines, line}
-use Rattle.pram_syntax.proofs.Progress.{breaks_off, closes, goes_on, starts}
+use Rattle.text_out.proofs.Progress.{breaks_off, closes, goes_on, starts}
 use Rattle.pramc.proofs.show.show_fault.Goals as goal
 
 pub returns-in_err-write_items : goal.returns-in_err-write_items

@@ -1,6 +1,6 @@
 use Rattle.std.proofs.Common.{codes, refl}
 use Rattle.pramc.specs.Shown.{line}
-use Rattle.pram_syntax.proofs.Progress.{breaks_off, starts}
+use Rattle.text_out.proofs.Progress.{breaks_off, starts}
 use Rattle.pramc.proofs.show.show_front.Goals as goal
 
 pub returns-in_err-write_items : goal.returns-in_err-write_items

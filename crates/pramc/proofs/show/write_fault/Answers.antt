@@ -1,7 +1,7 @@
 use Rattle.std.proofs.Common.{◌∷◌, ◌++◌, ◌∙◌, [], codes, refl}
 use Rattle.std.specs.Prelude.{decimal}
 use Rattle.pramc.specs.Shown.{kind_text, place_text}
-use Rattle.pram_syntax.proofs.Progress.{breaks_off, closes, goes_on, starts}
+use Rattle.text_out.proofs.Progress.{breaks_off, closes, goes_on, starts}
 use Rattle.pramc.proofs.ShownLemmas.{fault_split}
 use Rattle.pramc.proofs.show.write_fault.Goals as goal
 

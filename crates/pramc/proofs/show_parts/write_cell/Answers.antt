@@ -1,5 +1,5 @@
 use Rattle.std.proofs.Common.{◌<◌, ◌∙◌, ap, sym, subst}
-use Rattle.pram_syntax.specs.Out.{Writes}
+use Rattle.text_out.specs.Out.{Writes}
 use Rattle.pramc.specs.Shown.{cell_text}
 use Rattle.pramc.proofs.ShownLemmas.{cell_behind, cell_here}
 use Rattle.pramc.proofs.show_parts.write_cell.Goals as goal

@@ -1,6 +1,6 @@
 use Rattle.std.proofs.Common.{[], ◌∷◌, ◌++◌, refl, codes}
 use Rattle.pramc.specs.Shown.{bounds_text, spaced}
-use Rattle.pram_syntax.proofs.Progress.{breaks_off, closes, goes_on, starts}
+use Rattle.text_out.proofs.Progress.{breaks_off, closes, goes_on, starts}
 use Rattle.pramc.proofs.ShownLemmas.{entry_split}
 use Rattle.pramc.proofs.show_parts.write_entry.Goals as goal
 

@@ -1,5 +1,5 @@
-use Rattle.pram_syntax.proofs.Writing.{writes_stopped}
-use Rattle.pram_syntax.proofs.Progress.{goes_on, stops}
+use Rattle.text_out.proofs.Writing.{writes_stopped}
+use Rattle.text_out.proofs.Progress.{goes_on, stops}
 use Rattle.pramc.proofs.ShownLemmas.{items_at}
 use Rattle.pramc.proofs.show_parts.write_items.Goals as goal
 

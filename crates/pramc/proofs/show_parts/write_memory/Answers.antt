@@ -1,5 +1,5 @@
 use Rattle.std.proofs.Common.{◌<◌, subst}
-use Rattle.pram_syntax.proofs.Progress.{breaks_off, goes_on}
+use Rattle.text_out.proofs.Progress.{breaks_off, goes_on}
 use Rattle.pramc.proofs.ShownLemmas.{memory_at}
 use Rattle.pramc.proofs.show_parts.write_memory.Goals as goal
 

@@ -1,6 +1,6 @@
 use Rattle.std.proofs.Common.{drop}
 use Rattle.pramc.specs.Shown.{memory_lines}
-use Rattle.pram_syntax.proofs.Progress.{Progress}
+use Rattle.text_out.proofs.Progress.{Progress}
 use Rattle.pramc.proofs.show_parts.write_memory.Given as goal
 
 abbrev pub invariant-loop-i : goal.invariant-loop-i

@@ -1,6 +1,6 @@
 use Rattle.std.proofs.Common.{drop}
 use Rattle.pramc.specs.Shown.{spaced}
-use Rattle.pram_syntax.proofs.Progress.{Progress}
+use Rattle.text_out.proofs.Progress.{Progress}
 use Rattle.pramc.proofs.show_parts.write_values.Given as goal
 
 abbrev pub invariant-loop-value : goal.invariant-loop-value

@@ -1,7 +1,7 @@
 use Rattle.std.proofs.Common.{◌≡◌, ◌∙◌, ◌++◌, ◌∷◌, ap, sym, subst, lit≤}
 use Rattle.std.specs.Fmt.{signed_decimal}
 use Rattle.std.specs.Prelude.{Some}
-use Rattle.pram_syntax.specs.Tokens.{IsName}
+use Rattle.pram_model.specs.Names.{IsName}
 use Rattle.superstep_code.specs.Limits.{AreBounds}
 use Rattle.superstep_code.proofs.Cuts.{cut_as, not_cut}
 use Rattle.superstep_code.proofs.Declared.{high_fits, is_name_no, is_name_yes, lacks_name, low_fits}

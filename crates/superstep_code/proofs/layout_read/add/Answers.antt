@@ -1,7 +1,7 @@
 use Rattle.std.proofs.Common.{refl, sym, subst}
 use Rattle.std.specs.HashSet.{contains_by}
 use Rattle.std.specs.Str.{bytes_eq}
-use Rattle.pram_syntax.specs.Layout.{SharedEntry}
+use Rattle.pram_model.specs.Layout.{SharedEntry}
 use Rattle.superstep_code.specs.Limits.{IsLayout}
 use Rattle.superstep_code.proofs.Entries.{layout_more, layout_new, layout_room}
 use Rattle.superstep_code.proofs.Known.{known_more, known_new, known_taken}

@@ -1,6 +1,6 @@
 use Rattle.std.proofs.Common.{◌≡◌, ◌∙◌, ◌++◌, ◌∷◌, [], refl, sym, ap, subst, Bool}
 use Rattle.std.specs.Prelude.{MatchBool}
-use Rattle.pram_syntax.specs.Layout.{SharedEntry}
+use Rattle.pram_model.specs.Layout.{SharedEntry}
 use Rattle.superstep_code.specs.Limits.{IsLayout}
 use Rattle.superstep_code.specs.Listing.{entry_line}
 use Rattle.superstep_code.proofs.Cuts.{one_cut}

@@ -1,5 +1,5 @@
 use Rattle.std.proofs.Common.{◌≡◌, drop}
-use Rattle.pram_syntax.specs.Tokens as tokens
+use Rattle.pram_model.specs.Names as tokens
 use Rattle.superstep_code.proofs.name.are_words.Given as goal
 
 abbrev pub invariant-loop-b : goal.invariant-loop-b

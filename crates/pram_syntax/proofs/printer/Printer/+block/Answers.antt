@@ -2,7 +2,8 @@ use Rattle.std.proofs.Common.{None, Some, ap, sym, ◌∙◌}
 use Rattle.pram_syntax.specs.declared.tree.Stmt.TheVariants as s
 use Rattle.pram_syntax.specs.Blocks.{block_tokens, local_tokens, statement_tokens}
 use Rattle.pram_syntax.specs.Spelling.{spelling}
-use Rattle.pram_syntax.proofs.Printed.{printed_as, printed_more, prints_then, spelling-append, spelling-assign, spelling-assign_element, spelling-for, spelling-if, spelling-pardo, spelling-print, spelling-while}
+use Rattle.text_out.proofs.Printed.{printed_as, printed_more, prints_then}
+use Rattle.pram_syntax.proofs.Printed.{spelling-append, spelling-assign, spelling-assign_element, spelling-for, spelling-if, spelling-pardo, spelling-print, spelling-while}
 use Rattle.pram_syntax.proofs.printer.Printer.+block.Goals as goal
 
 pub statement-returns-in-Assign-clause-prints : goal.statement-returns-in-Assign-clause-prints

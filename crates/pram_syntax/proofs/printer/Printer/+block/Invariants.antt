@@ -1,8 +1,8 @@
 use Rattle.std.proofs.Common.{◌≡◌}
-use Rattle.pram_syntax.specs.Printing.{printing}
+use Rattle.text_out.specs.Printing.{printing}
 use Rattle.pram_syntax.specs.Spelling.{spelling}
 use Rattle.pram_syntax.specs.Blocks.{block_tokens}
-use Rattle.pram_syntax.proofs.Printed.{PrintedTo}
+use Rattle.text_out.proofs.Printed.{PrintedTo}
 use Rattle.pram_syntax.proofs.printer.Printer.+block.Given as goal
 
 abbrev pub invariant-statements-loop-statement : goal.invariant-statements-loop-statement

@@ -1,7 +1,8 @@
 use Rattle.std.proofs.Common.{◌∙◌}
 use Rattle.pram_syntax.specs.Grammar.{step_tokens}
 use Rattle.pram_syntax.specs.Spelling.{spelling}
-use Rattle.pram_syntax.proofs.Printed.{as_chain, as_paren, as_prefix, printed_as, printed_more, prints_then, step_more, step_text}
+use Rattle.text_out.proofs.Printed.{printed_as, printed_more, prints_then}
+use Rattle.pram_syntax.proofs.Printed.{as_chain, as_paren, as_prefix, step_more, step_text}
 use Rattle.pram_syntax.proofs.printer.Printer.+expr.Goals as goal
 
 pub element-returns-clause-prints : goal.element-returns-clause-prints

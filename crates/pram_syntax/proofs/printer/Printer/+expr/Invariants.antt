@@ -1,8 +1,8 @@
 use Rattle.std.proofs.Common.{◌≡◌}
-use Rattle.pram_syntax.specs.Printing.{printing}
+use Rattle.text_out.specs.Printing.{printing}
 use Rattle.pram_syntax.specs.Spelling.{spelling}
 use Rattle.pram_syntax.specs.Grammar.{step_tokens}
-use Rattle.pram_syntax.proofs.Printed.{PrintedTo}
+use Rattle.text_out.proofs.Printed.{PrintedTo}
 use Rattle.pram_syntax.proofs.printer.Printer.+expr.Given as goal
 
 abbrev pub invariant-steps-loop-step : goal.invariant-steps-loop-step

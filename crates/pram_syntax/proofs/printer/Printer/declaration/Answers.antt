@@ -1,7 +1,7 @@
 use Rattle.std.proofs.Common.{ap}
 use Rattle.pram_syntax.specs.Program.{declaration_tokens}
 use Rattle.pram_syntax.specs.Spelling.{spelling}
-use Rattle.pram_syntax.proofs.Printed.{printed_as, prints_then}
+use Rattle.text_out.proofs.Printed.{printed_as, prints_then}
 use Rattle.pram_syntax.proofs.printer.Printer.declaration.Goals as goal
 
 pub returns-in-Cell-clause-prints : goal.returns-in-Cell-clause-prints

@@ -1,7 +1,8 @@
 use Rattle.std.proofs.Common.{◌∙◌}
 use Rattle.pram_syntax.specs.Program.{declaration_tokens, declarations_tokens}
 use Rattle.pram_syntax.specs.Spelling.{spelling}
-use Rattle.pram_syntax.proofs.Printed.{printed_more, spelling-append}
+use Rattle.text_out.proofs.Printed.{printed_more}
+use Rattle.pram_syntax.proofs.Printed.{spelling-append}
 use Rattle.pram_syntax.proofs.printer.Printer.declarations.Goals as goal
 
 pub loop-declaration-preserved : goal.loop-declaration-preserved

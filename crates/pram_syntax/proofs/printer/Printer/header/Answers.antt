@@ -1,8 +1,8 @@
 use Rattle.std.proofs.Common.{◌++◌, ◌∷◌, [], ap, sym, ◌∙◌}
 use Rattle.pram_syntax.specs.declared.token.Token.TheVariants as token
-use Rattle.pram_syntax.specs.Program.{rule_word}
+use Rattle.pram_model.specs.Rules.{rule_word}
 use Rattle.pram_syntax.specs.Spelling.{spelled}
-use Rattle.pram_syntax.proofs.Printed.{printed_as, prints_then}
+use Rattle.text_out.proofs.Printed.{printed_as, prints_then}
 use Rattle.pram_syntax.proofs.printer.Printer.header.Goals as goal
 
 pub returns-clause-prints : goal.returns-clause-prints

@@ -5,7 +5,8 @@ use Rattle.pram_syntax.specs.declared.token.Name.{Name}
 use Rattle.pram_syntax.specs.declared.token.Token.{Token}
 use Rattle.pram_syntax.specs.Blocks.{local_tokens}
 use Rattle.pram_syntax.specs.Spelling.{spelling}
-use Rattle.pram_syntax.proofs.Printed.{printed_more, prints_then, spelling-append}
+use Rattle.text_out.proofs.Printed.{printed_more, prints_then}
+use Rattle.pram_syntax.proofs.Printed.{spelling-append}
 use Rattle.pram_syntax.proofs.printer.Printer.locals.Goals as goal
 
 -- the tokens of one local

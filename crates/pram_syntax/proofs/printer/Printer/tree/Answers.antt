@@ -2,7 +2,8 @@ use Rattle.std.proofs.Common.{ap, sym}
 use Rattle.pram_syntax.specs.Blocks.{block_tokens}
 use Rattle.pram_syntax.specs.Program.{declarations_tokens}
 use Rattle.pram_syntax.specs.Spelling.{spelling}
-use Rattle.pram_syntax.proofs.Printed.{printed_as, prints_then, spelling-program}
+use Rattle.text_out.proofs.Printed.{printed_as, prints_then}
+use Rattle.pram_syntax.proofs.Printed.{spelling-program}
 use Rattle.pram_syntax.proofs.printer.Printer.tree.Goals as goal
 
 pub returns-clause-prints : goal.returns-clause-prints

@@ -1,4 +1,4 @@
-use Rattle.pram_syntax.proofs.Printed.{prints_then}
+use Rattle.text_out.proofs.Printed.{prints_then}
 use Rattle.pram_syntax.proofs.printer.Printer.turns.Goals as goal
 
 pub returns-clause-prints : goal.returns-clause-prints

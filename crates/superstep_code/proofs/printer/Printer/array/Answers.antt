@@ -1,7 +1,7 @@
 use Rattle.std.proofs.Common.{sym, ap, rules}
 use Rattle.std.proofs.Math.Facts.{to_z-of_z}
 use Rattle.std.specs.Fmt.{signed_decimal}
-use Rattle.pram_syntax.proofs.Printed.{printed_as, prints_then}
+use Rattle.text_out.proofs.Printed.{printed_as, prints_then}
 use Rattle.superstep_code.proofs.Printed.{printed-array}
 use Rattle.superstep_code.proofs.printer.Printer.array.Goals as goal
 use mir.Syntax.{w64}

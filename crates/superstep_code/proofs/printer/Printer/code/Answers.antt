@@ -1,6 +1,6 @@
 use Rattle.std.proofs.Common.{sym, ap, ◌∙◌, ◌++◌, ◌∷◌, [], length, map}
 use Rattle.std.specs.Prelude.{codes}
-use Rattle.pram_syntax.proofs.Printed.{printed_as, prints_then}
+use Rattle.text_out.proofs.Printed.{printed_as, prints_then}
 use Rattle.superstep_code.specs.Listing.{ended, entry_line, field_words, head_lines, instr_lines, line}
 use Rattle.superstep_code.proofs.Printed.{printed-code, printed-sizes}
 use Rattle.superstep_code.proofs.printer.Printer.code.Goals as goal

@@ -1,5 +1,5 @@
 use Rattle.std.proofs.Common.{sym}
-use Rattle.pram_syntax.proofs.Printed.{printed_as, prints_then}
+use Rattle.text_out.proofs.Printed.{printed_as, prints_then}
 use Rattle.superstep_code.proofs.Printed.{printed-head}
 use Rattle.superstep_code.proofs.printer.Printer.head.Goals as goal
 

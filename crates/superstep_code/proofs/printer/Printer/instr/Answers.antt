@@ -1,7 +1,7 @@
 use Rattle.std.proofs.Common.{sym, ap, arith}
 use Rattle.std.proofs.Math.Facts.{to_z_pos}
 use Rattle.std.specs.Fmt.{signed_decimal}
-use Rattle.pram_syntax.proofs.Printed.{printed_as, prints_then}
+use Rattle.text_out.proofs.Printed.{printed_as, prints_then}
 use Rattle.superstep_code.specs.Cutting.{spaced}
 use Rattle.superstep_code.proofs.Printed.{printed-instr}
 use Rattle.superstep_code.proofs.printer.Printer.instr.Goals as goal

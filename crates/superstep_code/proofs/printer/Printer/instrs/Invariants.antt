@@ -1,5 +1,5 @@
 use Rattle.std.proofs.Common.{◌≡◌}
-use Rattle.pram_syntax.specs.Printing.{printing}
+use Rattle.text_out.specs.Printing.{printing}
 use Rattle.superstep_code.proofs.Printed.{InstrsTo}
 use Rattle.superstep_code.proofs.printer.Printer.instrs.Given as goal
 

@@ -3,7 +3,7 @@ use Rattle.std.specs.Prelude.{pos}
 use Rattle.std.proofs.lemmas.List.{get_or_default}
 use Rattle.std.proofs.Math.Facts.{to_z-of_z}
 use Rattle.std.specs.Fmt.{signed_decimal}
-use Rattle.pram_syntax.proofs.Printed.{printed_as, printed_more, prints_then}
+use Rattle.text_out.proofs.Printed.{printed_as, printed_more, prints_then}
 use Rattle.superstep_code.specs.Cutting.{spaced}
 use Rattle.superstep_code.proofs.printer.Printer.numbers.Goals as goal
 use mir.Syntax.{w64}

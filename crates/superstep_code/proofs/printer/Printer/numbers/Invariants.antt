@@ -1,6 +1,6 @@
 use Rattle.std.proofs.Common.{◌≡◌}
-use Rattle.pram_syntax.specs.Printing.{printing}
-use Rattle.pram_syntax.proofs.Printed.{PrintedTo}
+use Rattle.text_out.specs.Printing.{printing}
+use Rattle.text_out.proofs.Printed.{PrintedTo}
 use Rattle.superstep_code.specs.Cutting.{spaced}
 use Rattle.superstep_code.proofs.printer.Printer.numbers.Given as goal
 

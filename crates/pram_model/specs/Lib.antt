@@ -1,0 +1,5 @@
+pub mod Names
+pub mod Rules
+pub mod Layout
+pub mod LayoutFields
+pub mod Declarations

@@ -1,7 +1,0 @@
-use Rattle.std.proofs.Common.{drop}
-use Rattle.pram_syntax.specs.Out.{joined}
-use Rattle.pram_syntax.proofs.Progress.{Progress}
-use Rattle.pram_syntax.proofs.writer.Out.write_parts.Given as goal
-
-abbrev pub invariant-loop-part : goal.invariant-loop-part
-invariant-loop-part g l = Progress (g.Self.Out.state l.fn.self) (g.Self.Out.state l.self) (joined l.fn.parts) (joined (drop l.part-index l.fn.parts))
