@@ -6,19 +6,19 @@ use Rattle.pram_values.specs.Truth.{is_nonzero}
 use Rattle.superstep_code.specs.declared.instr.Side.TheVariants.{Uniform, Private}
 use Rattle.superstep_code.specs.declared.instr.Instr.{Instr}
 use Rattle.superstep_code.specs.declared.instr.Instr.TheVariants.{Mark, Ask, Put, Send, Reply, Vote, Jump, JumpIfZero, Halt}
-use Rattle.superstep_code.specs.declared.key.Key.{Key}
-use Rattle.superstep_code.specs.declared.mark.HeaderMark.{HeaderMark}
-use Rattle.superstep_code.specs.declared.mark.HeaderMark.TheVariants.{Clear, OutOfMemory, OutOfReserve}
+use Rattle.superstep_machine.specs.declared.key.Key.{Key}
+use Rattle.superstep_machine.specs.declared.mark.HeaderMark.{HeaderMark}
+use Rattle.superstep_machine.specs.declared.mark.HeaderMark.TheVariants.{Clear, OutOfMemory, OutOfReserve}
 use Rattle.superstep_code.specs.Code.{SuperstepCode}
-use Rattle.superstep_code.specs.Setting.{Setting, workers}
-use Rattle.superstep_code.specs.Parts.{UniformPart, Moment}
-use Rattle.superstep_code.specs.Steps.{on_uniform}
-use Rattle.superstep_code.specs.Words.{Message}
-use Rattle.superstep_code.specs.Worker.{Worker, after_instr}
-use Rattle.superstep_code.specs.Sending.{uniform_sent}
-use Rattle.superstep_code.specs.Stretch.{Stop, ToSend, ToReply, ToVote, ToClose, Arrival, Nowhere, At, advance, until}
-use Rattle.superstep_code.specs.Machine.{phases, phase, column}
-use Rattle.superstep_code.specs.Run as machine
+use Rattle.superstep_machine.specs.Setting.{Setting, workers}
+use Rattle.superstep_machine.specs.Parts.{UniformPart, Moment}
+use Rattle.superstep_machine.specs.Steps.{on_uniform}
+use Rattle.superstep_machine.specs.Words.{Message}
+use Rattle.superstep_machine.specs.Worker.{Worker, after_instr}
+use Rattle.superstep_machine.specs.Sending.{uniform_sent}
+use Rattle.superstep_machine.specs.Stretch.{Stop, ToSend, ToReply, ToVote, ToClose, Arrival, Nowhere, At, advance, until}
+use Rattle.superstep_machine.specs.Machine.{phases, phase, column}
+use Rattle.superstep_machine.specs.Run as machine
 use Rattle.bsp_verify.specs.declared.state.State.{State}
 use Rattle.bsp_verify.specs.States.{opening, after}
 use Rattle.bsp_verify.specs.Control.{Leads}

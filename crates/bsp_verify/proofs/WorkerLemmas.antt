@@ -10,21 +10,21 @@ use Rattle.superstep_code.specs.declared.instr.Side.TheVariants.{Uniform, Privat
 use Rattle.superstep_code.specs.declared.instr.Instr.{Instr}
 use Rattle.superstep_code.specs.declared.instr.Instr.TheVariants.{Enter, Leave, Mask, Flip, Unmask, Ask, Put, Send, Reply}
 use Rattle.superstep_code.specs.Code.{SuperstepCode}
-use Rattle.superstep_code.specs.Setting.{Setting, processors}
-use Rattle.superstep_code.specs.Parts.{Read, UniformPart, PrivatePart, fresh}
-use Rattle.superstep_code.specs.Results.{range_width, or_empty}
-use Rattle.superstep_code.specs.Steps.{is_active, flipped, unmasked, on_active, on_own}
-use Rattle.superstep_code.specs.Words.{Message}
-use Rattle.superstep_code.specs.Worker.{Worker, numbered, after_instr}
-use Rattle.superstep_code.specs.Run as machine
-use Rattle.superstep_code.specs.Sending.{own_sent, after_send}
-use Rattle.superstep_code.specs.Answering.{value_came, own_answered, after_reply, after_vote}
+use Rattle.superstep_machine.specs.Setting.{Setting, processors}
+use Rattle.superstep_machine.specs.Parts.{Read, UniformPart, PrivatePart, fresh}
+use Rattle.superstep_machine.specs.Results.{range_width, or_empty}
+use Rattle.superstep_machine.specs.Steps.{is_active, flipped, unmasked, on_active, on_own}
+use Rattle.superstep_machine.specs.Words.{Message}
+use Rattle.superstep_machine.specs.Worker.{Worker, numbered, after_instr}
+use Rattle.superstep_machine.specs.Run as machine
+use Rattle.superstep_machine.specs.Sending.{own_sent, after_send}
+use Rattle.superstep_machine.specs.Answering.{value_came, own_answered, after_reply, after_vote}
 use Rattle.bsp_verify.specs.declared.state.State.{State}
 use Rattle.bsp_verify.specs.States.{opening, after}
 use Rattle.bsp_verify.specs.Judging.{IsAllowed}
 use Rattle.bsp_verify.specs.Paths.{IsWithin}
 use Rattle.bsp_verify.specs.Moments.{HasPlaces, side_of, DescribesWorker}
-use Rattle.superstep_code.proofs.MachineWords.{all_map}
+use Rattle.superstep_machine.proofs.MachineWords.{all_map}
 use Rattle.bsp_verify.proofs.PathLemmas.{both, is_false, is_zero}
 
 -- ---- lists of processors

@@ -4,11 +4,11 @@ use Rattle.std.specs.List.{AllByRecursion}
 use Rattle.superstep_code.specs.declared.instr.Side.{Side}
 use Rattle.superstep_code.specs.declared.instr.Side.TheVariants.{Uniform, Private}
 use Rattle.superstep_code.specs.declared.instr.Instr.{Instr}
-use Rattle.superstep_code.specs.Setting.{Setting, processors}
-use Rattle.superstep_code.specs.Parts.{Read, UniformPart, PrivatePart}
-use Rattle.superstep_code.specs.Worker.{Worker, after_instr}
-use Rattle.superstep_code.specs.Stretch.{advance}
-use Rattle.superstep_code.specs.Run.{On, is_held}
+use Rattle.superstep_machine.specs.Setting.{Setting, processors}
+use Rattle.superstep_machine.specs.Parts.{Read, UniformPart, PrivatePart}
+use Rattle.superstep_machine.specs.Worker.{Worker, after_instr}
+use Rattle.superstep_machine.specs.Stretch.{advance}
+use Rattle.superstep_machine.specs.Run.{On, is_held}
 use Rattle.bsp_verify.specs.declared.state.State.{State}
 use Rattle.bsp_verify.specs.WellFormed.{IsWellFormed}
 use Rattle.bsp_verify.specs.Paths.{Point, Comes, IsSound}

@@ -4,7 +4,7 @@ use flat_run::flat_run;
 use pram_values::kind::Kind;
 use pram_values::place::Place;
 use std::alloc::Global;
-use superstep_code::listing_read::read_listing;
+use superstep_listing::listing_read::read_listing;
 use write_rules::fault::Fault;
 use write_rules::outcome::Outcome;
 

@@ -3,7 +3,7 @@
 use bsp_verify::fault::{Reason, VerifyFault};
 use bsp_verify::verify::verify;
 use std::alloc::Global;
-use superstep_code::listing_read::read_listing;
+use superstep_listing::listing_read::read_listing;
 
 fn read_and_verify(alloc: Global, text: &[u8]) -> Option<Result<(), VerifyFault>> {
     let code = read_listing(alloc, text).ok()?;

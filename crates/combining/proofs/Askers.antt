@@ -9,10 +9,10 @@ use Rattle.pram_values.specs.declared.kind.Kind.{Kind}
 use Rattle.pram_values.specs.declared.kind.Kind.TheVariants.{ReadConflict}
 use Rattle.pram_values.specs.Total.{total}
 use Rattle.address_map.specs.Lawful.{Shape, IsOf}
-use Rattle.superstep_code.specs.Words.{CellAsk}
-use Rattle.superstep_code.specs.WordReading.{read_ask, ask_in, asks_in, askers_of_column, askers_read}
-use Rattle.superstep_code.specs.Sending.{several, asked_in, is_several}
-use Rattle.superstep_code.proofs.Collected.{askers_are_monoid}
+use Rattle.superstep_machine.specs.Words.{CellAsk}
+use Rattle.superstep_machine.specs.WordReading.{read_ask, ask_in, asks_in, askers_of_column, askers_read}
+use Rattle.superstep_machine.specs.Sending.{several, asked_in, is_several}
+use Rattle.superstep_machine.proofs.Collected.{askers_are_monoid}
 use Rattle.combining.specs.Gathering.{placed_ask}
 use Rattle.combining.specs.Merged.{shared, noted_cell, IsLeastShared}
 

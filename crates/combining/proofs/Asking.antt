@@ -4,7 +4,7 @@ use Rattle.std.specs.Prelude.{if◌then◌else◌, ◌==◌, nat_lt, ◌&&◌}
 use Rattle.std.specs.List.{flat_map, filter}
 use Rattle.std.proofs.lemmas.List.{drop_more, drop_all}
 use Rattle.std.proofs.lemmas.Bool.{cases_lt, lt-ltb}
-use Rattle.superstep_code.specs.Words.{bit, ask_word, ask_words}
+use Rattle.superstep_machine.specs.Words.{bit, ask_word, ask_words}
 use Rattle.combining.specs.declared.asks.Asked.{Asked}
 use Rattle.combining.specs.Places.{place_of}
 use Rattle.combining.specs.Held.{paired}

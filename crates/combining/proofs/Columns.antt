@@ -10,10 +10,10 @@ use Rattle.pram_model.specs.declared.rule.Rule.{Rule}
 use Rattle.pram_model.specs.declared.rule.Rule.TheVariants.{Sum}
 use Rattle.write_rules.specs.declared.entry.Entry.{Entry}
 use Rattle.address_map.specs.Lawful.{Shape, IsOf}
-use Rattle.superstep_code.specs.Words.{CellPut}
-use Rattle.superstep_code.specs.WordReading.{word, read_put, put_length, threes, fours, groups, put_in, puts_in, entry_of_column}
-use Rattle.superstep_code.specs.Sending.{join, entry_in}
-use Rattle.superstep_code.proofs.Collected.{entries_are_monoid}
+use Rattle.superstep_machine.specs.Words.{CellPut}
+use Rattle.superstep_machine.specs.WordReading.{word, read_put, put_length, threes, fours, groups, put_in, puts_in, entry_of_column}
+use Rattle.superstep_machine.specs.Sending.{join, entry_in}
+use Rattle.superstep_machine.proofs.Collected.{entries_are_monoid}
 use Rattle.combining.specs.Gathering.{placed}
 
 pub size_some : (rule : Rule) → 3 ≤ put_length rule

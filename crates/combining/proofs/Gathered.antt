@@ -9,7 +9,7 @@ use Rattle.pram_values.proofs.Totals.{neutral_right}
 use Rattle.pram_model.specs.declared.rule.Rule.{Rule}
 use Rattle.write_rules.specs.declared.entry.Entry.{Entry}
 use Rattle.address_map.specs.Lawful.{Shape, IsOf, IsLawful}
-use Rattle.superstep_code.specs.Sending.{verdict_on, settled}
+use Rattle.superstep_machine.specs.Sending.{verdict_on, settled}
 use Rattle.combining.specs.Gathering.{slot, value_at, Gathers, IsNoted, note, Notes, Owes}
 
 -- different cells of a module lie apart

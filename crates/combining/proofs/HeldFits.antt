@@ -3,11 +3,11 @@ use Rattle.std.proofs.Common.{List, [], ◌∷◌, Bool, true, false, eqb}
 use Rattle.std.specs.Prelude.{if◌then◌else◌}
 use Rattle.std.specs.List.{AllByRecursion}
 use Rattle.pram_model.specs.declared.rule.Rule.{Rule}
-use Rattle.superstep_code.specs.Setting.{combining}
-use Rattle.superstep_code.specs.Words.{CellPut}
-use Rattle.superstep_code.specs.Fitting.{FitsPut, FitsWrite}
-use Rattle.superstep_code.specs.Worker.{HeldWrite}
-use Rattle.superstep_code.proofs.MachineWords.{join_fits, single_fits}
+use Rattle.superstep_machine.specs.Setting.{combining}
+use Rattle.superstep_machine.specs.Words.{CellPut}
+use Rattle.superstep_machine.specs.Fitting.{FitsPut, FitsWrite}
+use Rattle.superstep_machine.specs.Worker.{HeldWrite}
+use Rattle.superstep_machine.proofs.MachineWords.{join_fits, single_fits}
 use Rattle.combining.specs.Held.{put, put_at, entry_of_write, held_after}
 
 put_fits : (rule : Rule) (w : HeldWrite) → FitsWrite w → (held : List CellPut) → AllByRecursion (FitsPut rule) held → AllByRecursion (FitsPut rule) (put rule w held)

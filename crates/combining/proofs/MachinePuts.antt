@@ -7,11 +7,11 @@ use Rattle.std.proofs.lemmas.Bool.Decides.{eqb_tells}
 use Rattle.pram_values.specs.Total.{total}
 use Rattle.pram_model.specs.declared.rule.Rule.{Rule}
 use Rattle.write_rules.specs.declared.entry.Entry.{Entry}
-use Rattle.superstep_code.specs.Setting.{combining}
-use Rattle.superstep_code.specs.Words.{CellPut}
-use Rattle.superstep_code.specs.Worker.{HeldWrite}
-use Rattle.superstep_code.specs.Sending.{firsts, join, entry_to, put_of}
-use Rattle.superstep_code.proofs.Collected.{entries_are_monoid}
+use Rattle.superstep_machine.specs.Setting.{combining}
+use Rattle.superstep_machine.specs.Words.{CellPut}
+use Rattle.superstep_machine.specs.Worker.{HeldWrite}
+use Rattle.superstep_machine.specs.Sending.{firsts, join, entry_to, put_of}
+use Rattle.superstep_machine.proofs.Collected.{entries_are_monoid}
 use Rattle.combining.specs.Held.{put, put_at, entry_of_write, held_after}
 
 -- ---- each once

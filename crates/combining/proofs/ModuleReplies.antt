@@ -2,12 +2,12 @@
 use Rattle.std.proofs.Common.{◌≡◌, ℕ, zero, suc, List, [], ◌∷◌, map, Some, ap, ◌∙◌}
 use Rattle.std.specs.Prelude.{slice_get, slice_index_or}
 use Rattle.std.proofs.lemmas.Simd.{map-map}
-use Rattle.superstep_code.specs.declared.header.MessageHeader.{MessageHeader}
-use Rattle.superstep_code.specs.Words.{CellAsk, Message, values_words}
-use Rattle.superstep_code.specs.Sending.{after_send}
-use Rattle.superstep_code.specs.Run.{Sends}
-use Rattle.superstep_code.specs.WordReading.{asks_in, ask_part, read_message}
-use Rattle.superstep_code.specs.WordLaws.{messages_read}
+use Rattle.superstep_machine.specs.declared.header.MessageHeader.{MessageHeader}
+use Rattle.superstep_machine.specs.Words.{CellAsk, Message, values_words}
+use Rattle.superstep_machine.specs.Sending.{after_send}
+use Rattle.superstep_machine.specs.Run.{Sends}
+use Rattle.superstep_machine.specs.WordReading.{asks_in, ask_part, read_message}
+use Rattle.superstep_machine.specs.WordLaws.{messages_read}
 use Rattle.combining.specs.Gathering.{value_at}
 use Rattle.combining.specs.Answers.{AnswersAreTheReply}
 

@@ -10,15 +10,15 @@ use Rattle.pram_values.specs.Total.{total}
 use Rattle.pram_values.specs.Value.{Value}
 use Rattle.pram_values.proofs.Totals.{total_same}
 use Rattle.address_map.specs.Lawful.{Shape, IsOf, IsLawful}
-use Rattle.superstep_code.specs.declared.key.Key.{Key}
-use Rattle.superstep_code.specs.Keys.{least}
-use Rattle.superstep_code.specs.Setting.{module_cells}
-use Rattle.superstep_code.specs.Parts.{Moment}
-use Rattle.superstep_code.specs.Sending.{entry_came, askers_came, verdict_on, settled, conflict_at, put_conflict, is_private, is_several}
-use Rattle.superstep_code.specs.WordReading.{entry_read, askers_read}
-use Rattle.superstep_code.specs.WordLaws.{messages_read}
-use Rattle.superstep_code.proofs.KeyOrder.{by_earlier_place, keys_are_monoid, least_again}
-use Rattle.superstep_code.proofs.ReadBack.{entries_of_words, askers_of_words}
+use Rattle.superstep_machine.specs.declared.key.Key.{Key}
+use Rattle.superstep_machine.specs.Keys.{least}
+use Rattle.superstep_machine.specs.Setting.{module_cells}
+use Rattle.superstep_machine.specs.Parts.{Moment}
+use Rattle.superstep_machine.specs.Sending.{entry_came, askers_came, verdict_on, settled, conflict_at, put_conflict, is_private, is_several}
+use Rattle.superstep_machine.specs.WordReading.{entry_read, askers_read}
+use Rattle.superstep_machine.specs.WordLaws.{messages_read}
+use Rattle.superstep_machine.proofs.KeyOrder.{by_earlier_place, keys_are_monoid, least_again}
+use Rattle.superstep_machine.proofs.ReadBack.{entries_of_words, askers_of_words}
 use Rattle.combining.specs.Gathering.{value_at}
 use Rattle.combining.specs.Merged.{refusal, shared}
 use Rattle.combining.specs.ModuleLaws.{put_parts, ask_parts, key_of_conflict, key_of_shared, MergedCells, MergedConflict, SharedConflict}

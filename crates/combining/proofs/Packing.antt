@@ -5,9 +5,9 @@ use Rattle.std.proofs.lemmas.List.{drop-drop, drop_all}
 use native.Mathlib.Numerals.{unary_clauses}
 use Rattle.pram_model.specs.declared.rule.Rule.{Rule}
 use Rattle.pram_model.specs.declared.rule.Rule.TheVariants.{Sum}
-use Rattle.superstep_code.specs.Words.{CellPut, put_words, bit, word_of, low_word, high_word}
-use Rattle.superstep_code.specs.WordReading.{put_length}
-use Rattle.superstep_code.specs.Fitting.{FitsValue}
+use Rattle.superstep_machine.specs.Words.{CellPut, put_words, bit, word_of, low_word, high_word}
+use Rattle.superstep_machine.specs.WordReading.{put_length}
+use Rattle.superstep_machine.specs.Fitting.{FitsValue}
 use Rattle.combining.specs.Held.{is_sum}
 
 -- ---- words written from n on

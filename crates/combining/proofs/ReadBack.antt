@@ -5,11 +5,11 @@ use Rattle.std.proofs.lemmas.Bool.Decides.{eqb_tells}
 use Rattle.pram_values.specs.Total.{total}
 use Rattle.pram_model.specs.declared.rule.Rule.{Rule}
 use Rattle.address_map.specs.Lawful.{Shape}
-use Rattle.superstep_code.specs.Words.{CellPut, Message, put_words, ask_words}
-use Rattle.superstep_code.specs.WordReading.{puts_in, entry_read, askers_read}
-use Rattle.superstep_code.specs.Fitting.{FitsPut, IsPutFor, IsAskFor}
-use Rattle.superstep_code.specs.Sending.{join, entry_in, entry_came, several, asked_in, askers_came}
-use Rattle.superstep_code.proofs.ReadBack.{puts_back, asks_back}
+use Rattle.superstep_machine.specs.Words.{CellPut, Message, put_words, ask_words}
+use Rattle.superstep_machine.specs.WordReading.{puts_in, entry_read, askers_read}
+use Rattle.superstep_machine.specs.Fitting.{FitsPut, IsPutFor, IsAskFor}
+use Rattle.superstep_machine.specs.Sending.{join, entry_in, entry_came, several, asked_in, askers_came}
+use Rattle.superstep_machine.proofs.ReadBack.{puts_back, asks_back}
 use Rattle.combining.specs.Held.{IsPutBelow, puts_for, packed_puts}
 
 -- those of a worker for a module

@@ -1,14 +1,14 @@
 -- What a module answers to the asks of one worker.
 use Rattle.std.specs.Prelude.{◌≡◌, ℕ, ℤ, List, map, Option, Some, None, slice_get}
 use Rattle.address_map.specs.Lawful.{Shape}
-use Rattle.superstep_code.specs.declared.header.MessageHeader.{MessageHeader}
-use Rattle.superstep_code.specs.Setting.{Setting}
-use Rattle.superstep_code.specs.Words.{CellAsk, words, values_words}
-use Rattle.superstep_code.specs.Worker.{Worker}
-use Rattle.superstep_code.specs.Sending.{after_send}
-use Rattle.superstep_code.specs.Answering.{replied}
-use Rattle.superstep_code.specs.WordReading.{asks_in, ask_part}
-use Rattle.superstep_code.specs.WordLaws.{messages_read}
+use Rattle.superstep_machine.specs.declared.header.MessageHeader.{MessageHeader}
+use Rattle.superstep_machine.specs.Setting.{Setting}
+use Rattle.superstep_machine.specs.Words.{CellAsk, words, values_words}
+use Rattle.superstep_machine.specs.Worker.{Worker}
+use Rattle.superstep_machine.specs.Sending.{after_send}
+use Rattle.superstep_machine.specs.Answering.{replied}
+use Rattle.superstep_machine.specs.WordReading.{asks_in, ask_part}
+use Rattle.superstep_machine.specs.WordLaws.{messages_read}
 use Rattle.combining.specs.Gathering.{value_at}
 
 -- where the cell of an ask lies

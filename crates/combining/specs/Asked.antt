@@ -3,7 +3,7 @@ use Rattle.std.specs.Prelude.{◌≡◌, ℕ, suc, length, slice_index_or, ℤ, 
 use Rattle.std.specs.List.{filter}
 use Rattle.std.specs.Int.{cast_signed, w64}
 use Rattle.std.proofs.Common.{eqb}
-use Rattle.superstep_code.specs.Words.{CellAsk}
+use Rattle.superstep_machine.specs.Words.{CellAsk}
 use Rattle.combining.specs.declared.asks.Asked.{Asked}
 use Rattle.combining.specs.Held.{hold}
 

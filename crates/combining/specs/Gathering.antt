@@ -5,8 +5,8 @@ use Rattle.pram_model.specs.declared.rule.Rule.{Rule}
 use Rattle.write_rules.specs.declared.entry.Entry.{Entry}
 use Rattle.address_map.specs.Lawful.{Shape, IsOf}
 use Rattle.std.proofs.Common.{eqb}
-use Rattle.superstep_code.specs.Words.{CellPut, CellAsk}
-use Rattle.superstep_code.specs.Sending.{verdict_on, settled}
+use Rattle.superstep_machine.specs.Words.{CellPut, CellAsk}
+use Rattle.superstep_machine.specs.Sending.{verdict_on, settled}
 
 abbrev pub slot : {E : Type 0} → List (Option E) → ℕ → Option E
 slot slots o = get_or slots o None

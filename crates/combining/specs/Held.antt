@@ -6,9 +6,9 @@ use Rattle.pram_model.specs.declared.rule.Rule.{Rule}
 use Rattle.pram_model.specs.declared.rule.Rule.TheVariants.{Sum}
 use Rattle.write_rules.specs.declared.entry.Entry.{Entry}
 use Rattle.write_rules.specs.Combining.{exclusive, exclusive_rule}
-use Rattle.superstep_code.specs.Setting.{combining}
-use Rattle.superstep_code.specs.Words.{CellPut, put_words}
-use Rattle.superstep_code.specs.Worker.{HeldWrite}
+use Rattle.superstep_machine.specs.Setting.{combining}
+use Rattle.superstep_machine.specs.Words.{CellPut, put_words}
+use Rattle.superstep_machine.specs.Worker.{HeldWrite}
 
 -- whether the values are sums, which have two words
 abbrev pub is_sum : Rule → Bool

@@ -5,8 +5,8 @@ use Rattle.pram_values.specs.declared.kind.Kind.TheVariants.{ReadConflict}
 use Rattle.pram_values.specs.Value.{Value}
 use Rattle.pram_model.specs.declared.rule.Rule.{Rule}
 use Rattle.address_map.specs.Lawful.{Shape, IsOf}
-use Rattle.superstep_code.specs.Sending.{verdict_on, settled, is_several}
-use Rattle.superstep_code.specs.WordReading.{entry_read, askers_read}
+use Rattle.superstep_machine.specs.Sending.{verdict_on, settled, is_several}
+use Rattle.superstep_machine.specs.WordReading.{entry_read, askers_read}
 use Rattle.combining.specs.Gathering.{value_at}
 
 -- why the writers of a cell may not

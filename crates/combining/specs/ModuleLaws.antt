@@ -5,15 +5,15 @@ use Rattle.pram_values.specs.declared.kind.Kind.TheVariants.{ReadConflict}
 use Rattle.pram_values.specs.Total.{total}
 use Rattle.pram_model.specs.declared.rule.Rule.{Rule}
 use Rattle.address_map.specs.Lawful.{IsLawful}
-use Rattle.superstep_code.specs.declared.header.MessageHeader.{MessageHeader}
-use Rattle.superstep_code.specs.declared.key.Key.{Key}
-use Rattle.superstep_code.specs.Keys.{least}
-use Rattle.superstep_code.specs.Setting.{Setting, workers, module_cells}
-use Rattle.superstep_code.specs.Parts.{Moment, Read}
-use Rattle.superstep_code.specs.Worker.{Worker}
-use Rattle.superstep_code.specs.Sending.{entry_came, verdict_on, conflict_at, put_conflict, is_private, read_conflict, after_send}
-use Rattle.superstep_code.specs.WordReading.{put_part, ask_part}
-use Rattle.superstep_code.specs.WordLaws.{messages_read}
+use Rattle.superstep_machine.specs.declared.header.MessageHeader.{MessageHeader}
+use Rattle.superstep_machine.specs.declared.key.Key.{Key}
+use Rattle.superstep_machine.specs.Keys.{least}
+use Rattle.superstep_machine.specs.Setting.{Setting, workers, module_cells}
+use Rattle.superstep_machine.specs.Parts.{Moment, Read}
+use Rattle.superstep_machine.specs.Worker.{Worker}
+use Rattle.superstep_machine.specs.Sending.{entry_came, verdict_on, conflict_at, put_conflict, is_private, read_conflict, after_send}
+use Rattle.superstep_machine.specs.WordReading.{put_part, ask_part}
+use Rattle.superstep_machine.specs.WordLaws.{messages_read}
 use Rattle.combining.specs.Merged.{IsMerged, IsLeastShared}
 
 -- the words of the puts, and of the asks, of all messages that came

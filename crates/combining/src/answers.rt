@@ -1,7 +1,7 @@
 //! What a module answers to the asks of one worker.
 
 ghost use Rattle.std.specs.Prelude.{◌≡◌, ◌<◌, ◌≤◌, length, take, drop};
-ghost use Rattle.superstep_code.specs.WordReading.{ask_in};
+ghost use Rattle.superstep_machine.specs.WordReading.{ask_in};
 ghost use Rattle.combining.specs.Answers.{offset_of, answers};
 
 use crate::cells::Cells;

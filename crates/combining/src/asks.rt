@@ -3,7 +3,7 @@
 ghost use Rattle.std.specs.Prelude.{◌≡◌, ◌≤◌, ◌<◌, ◌+◌, ◌%◌, ◌++◌, ◌^◌, ◌&&◌, [], ◌∷◌, length, IfOk, take, drop, nat_lt};
 ghost use Rattle.std.specs.List.{AllByRecursion};
 ghost use Rattle.std.proofs.Common.{eqb};
-ghost use Rattle.superstep_code.specs.Words.{ask_word, ask_words};
+ghost use Rattle.superstep_machine.specs.Words.{ask_word, ask_words};
 ghost use Rattle.combining.specs.Held.{paired};
 ghost use Rattle.combining.specs.Asked.{ask, ask_at, asks_for, value_for, replied, IsAskBelow, place_held, value_held};
 

@@ -11,7 +11,7 @@ use write_rules::write_rule::WriteRule;
 
 /// A write rule that combines as the machine's definition says.
 pub trait MachineRule: WriteRule {
-    ghost use Rattle.superstep_code.specs.Setting.{combining as machine_combining};
+    ghost use Rattle.superstep_machine.specs.Setting.{combining as machine_combining};
 
     /// Whether the values are sums, which have two words.
     fn sums(&self) -> bool

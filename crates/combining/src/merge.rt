@@ -1,8 +1,8 @@
 //! What a module does with the puts of all workers.
 
 ghost use Rattle.std.specs.Prelude.{◌≡◌, ◌<◌, length, ℕ, Some, None, map as each, set};
-ghost use Rattle.superstep_code.specs.WordReading.{put_length, read_value as value_of_words, put_in, entry_of_column, entry_read};
-ghost use Rattle.superstep_code.specs.Sending.{join, verdict_on, settled};
+ghost use Rattle.superstep_machine.specs.WordReading.{put_length, read_value as value_of_words, put_in, entry_of_column, entry_read};
+ghost use Rattle.superstep_machine.specs.Sending.{join, verdict_on, settled};
 ghost use Rattle.combining.specs.Gathering.{slot, value_at, note, placed, Collects, CollectsAll, TakesOut, TakesAllOut, Settles};
 ghost use Rattle.combining.specs.Merged.{refusal, IsMerged};
 

@@ -3,9 +3,9 @@
 ghost use Rattle.std.specs.Prelude.{◌≡◌, ◌≤◌, ◌<◌, ◌+◌, ◌*◌, ◌++◌, ◌^◌, [], ◌∷◌, length, IfOk, take, drop, FitsSigned};
 ghost use Rattle.std.specs.Int.{w64};
 ghost use Rattle.std.specs.List.{AllByRecursion};
-ghost use Rattle.superstep_code.specs.Words.{put_words, bit, word_of, low_word, high_word};
-ghost use Rattle.superstep_code.specs.WordReading.{put_length};
-ghost use Rattle.superstep_code.specs.Fitting.{FitsPut, FitsValue};
+ghost use Rattle.superstep_machine.specs.Words.{put_words, bit, word_of, low_word, high_word};
+ghost use Rattle.superstep_machine.specs.WordReading.{put_length};
+ghost use Rattle.superstep_machine.specs.Fitting.{FitsPut, FitsValue};
 ghost use Rattle.combining.specs.Held.{put, put_at, packed_puts, IsPutBelow};
 
 use crate::index::Index;

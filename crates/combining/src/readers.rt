@@ -1,8 +1,8 @@
 //! Which cell of a module two or more processors ask for.
 
 ghost use Rattle.std.specs.Prelude.{◌≡◌, ◌<◌, length, ℕ, Some, None, map as each, set};
-ghost use Rattle.superstep_code.specs.Sending.{several};
-ghost use Rattle.superstep_code.specs.WordReading.{ask_in, askers_of_column, askers_read};
+ghost use Rattle.superstep_machine.specs.Sending.{several};
+ghost use Rattle.superstep_machine.specs.WordReading.{ask_in, askers_of_column, askers_read};
 ghost use Rattle.combining.specs.Gathering.{slot, note, placed_ask, Collects, CollectsAll, TakesOut, TakesAllOut};
 ghost use Rattle.combining.specs.Merged.{shared, noted_cell, IsLeastShared};
 

@@ -6,12 +6,12 @@ use Rattle.pram_values.proofs.Totals.{total_none}
 use Rattle.write_rules.specs.Verdict.{Verdict, Faulted}
 use Rattle.superstep_code.specs.declared.instr.Instr.{Instr}
 use Rattle.superstep_code.specs.declared.instr.Instr.TheVariants.{Mark, Send, Reply, Vote, Jump, JumpIfZero, Halt}
-use Rattle.superstep_code.specs.declared.key.Key.{Key}
+use Rattle.superstep_machine.specs.declared.key.Key.{Key}
 use Rattle.superstep_code.specs.Code.{SuperstepCode}
-use Rattle.superstep_code.specs.Keys.{least}
-use Rattle.superstep_code.specs.Run.{Purpose, Sends, Replies, Votes, Way, On, Ending, Past, Refused, Lost, is_held, due, unless, decided, items_below, fault_of}
-use Rattle.superstep_code.specs.Steps.{own_key, is_active}
-use Rattle.superstep_code.proofs.KeyOrder.{keys_are_monoid}
+use Rattle.superstep_machine.specs.Keys.{least}
+use Rattle.superstep_machine.specs.Run.{Purpose, Sends, Replies, Votes, Way, On, Ending, Past, Refused, Lost, is_held, due, unless, decided, items_below, fault_of}
+use Rattle.superstep_machine.specs.Steps.{own_key, is_active}
+use Rattle.superstep_machine.proofs.KeyOrder.{keys_are_monoid}
 use Rattle.bsp_verify.specs.WellFormed.{IsWellFormed}
 use Rattle.flat_machine.specs.Flat.{Flat, range, noted, after_instr, owed}
 use Rattle.flat_machine.specs.ByExchanges.{State, after_exchange, outcome_of, opening}

@@ -8,12 +8,12 @@ use Rattle.write_rules.specs.Verdict.{Verdict}
 use Rattle.superstep_code.specs.declared.instr.Side.TheVariants.{Uniform, Private}
 use Rattle.superstep_code.specs.declared.instr.Instr.{Instr}
 use Rattle.superstep_code.specs.declared.instr.Instr.TheVariants.{Mark, Ask, Send, Reply, Vote, Jump, JumpIfZero, Halt}
-use Rattle.superstep_code.specs.declared.key.Key.{Key}
+use Rattle.superstep_machine.specs.declared.key.Key.{Key}
 use Rattle.superstep_code.specs.Code.{SuperstepCode}
-use Rattle.superstep_code.specs.Parts.{UniformPart}
-use Rattle.superstep_code.specs.Run.{Purpose, Sends, Replies, Votes, Closes, Way, On, is_held, due, unless, decided}
-use Rattle.superstep_code.specs.Steps.{on_uniform}
-use Rattle.superstep_code.specs.Stretch.{ToClose}
+use Rattle.superstep_machine.specs.Parts.{UniformPart}
+use Rattle.superstep_machine.specs.Run.{Purpose, Sends, Replies, Votes, Closes, Way, On, is_held, due, unless, decided}
+use Rattle.superstep_machine.specs.Steps.{on_uniform}
+use Rattle.superstep_machine.specs.Stretch.{ToClose}
 use Rattle.bsp_verify.specs.Control.{Leads}
 use Rattle.bsp_verify.specs.Judging.{is_mark, has_target, stays_within}
 use Rattle.bsp_verify.specs.WellFormed.{IsWellFormed}

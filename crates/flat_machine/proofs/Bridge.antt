@@ -6,10 +6,10 @@ use Rattle.write_rules.specs.Verdict.{Verdict}
 use Rattle.superstep_code.specs.declared.instr.Instr.{Instr}
 use Rattle.superstep_code.specs.declared.instr.Instr.TheVariants.{Mark, Send, Reply, Vote, Jump, JumpIfZero, Halt}
 use Rattle.superstep_code.specs.Code.{SuperstepCode}
-use Rattle.superstep_code.specs.Parts.{UniformPart}
-use Rattle.superstep_code.specs.Stretch.{Stop, ToSend, ToReply, ToVote, ToClose, Arrival, Nowhere, At, advance, until}
-use Rattle.superstep_code.specs.declared.key.Key.{Key}
-use Rattle.superstep_code.specs.Run.{Purpose, Sends, Replies, Votes, Closes, Way, On, Ending, Past, Refused, Lost, is_held, is_over, decided, due, unless}
+use Rattle.superstep_machine.specs.Parts.{UniformPart}
+use Rattle.superstep_machine.specs.Stretch.{Stop, ToSend, ToReply, ToVote, ToClose, Arrival, Nowhere, At, advance, until}
+use Rattle.superstep_machine.specs.declared.key.Key.{Key}
+use Rattle.superstep_machine.specs.Run.{Purpose, Sends, Replies, Votes, Closes, Way, On, Ending, Past, Refused, Lost, is_held, is_over, decided, due, unless}
 use Rattle.flat_machine.specs.Flat.{Flat, after_instr, after_send}
 use Rattle.flat_machine.specs.ByExchanges.{Plan, State, stretch, ready_at, ready_by, after, after_exchange, run, outcome_of, outcome_by, opening}
 use Rattle.flat_machine.proofs.Stepping.{IsPast, outcome_is_past, over_stays}

@@ -4,11 +4,11 @@ use Rattle.std.specs.Prelude.{if◌then◌else◌, slice_get}
 use Rattle.pram_values.specs.Truth.{is_nonzero}
 use Rattle.superstep_code.specs.declared.instr.Instr.{Instr}
 use Rattle.superstep_code.specs.declared.instr.Instr.TheVariants.{Mark, Send, Reply, Vote, Jump, JumpIfZero, Halt}
-use Rattle.superstep_code.specs.Setting.{Setting, workers}
-use Rattle.superstep_code.specs.Parts.{UniformPart}
-use Rattle.superstep_code.specs.Worker.{Worker}
-use Rattle.superstep_code.specs.Worker as worker
-use Rattle.superstep_code.specs.Stretch.{Stop, ToSend, ToReply, ToVote, ToClose, Arrival, Nowhere, At, advance, until}
+use Rattle.superstep_machine.specs.Setting.{Setting, workers}
+use Rattle.superstep_machine.specs.Parts.{UniformPart}
+use Rattle.superstep_machine.specs.Worker.{Worker}
+use Rattle.superstep_machine.specs.Worker as worker
+use Rattle.superstep_machine.specs.Stretch.{Stop, ToSend, ToReply, ToVote, ToClose, Arrival, Nowhere, At, advance, until}
 use Rattle.flat_machine.specs.Flat.{Flat}
 use Rattle.flat_machine.specs.Flat as flat
 use Rattle.bsp_verify.specs.Moments.{walked}

@@ -12,14 +12,14 @@ use Rattle.write_rules.specs.Rule.{shares_reads}
 use Rattle.superstep_code.specs.declared.instr.Side.TheVariants.{Uniform, Private}
 use Rattle.superstep_code.specs.declared.instr.Instr.{Instr}
 use Rattle.superstep_code.specs.declared.instr.Instr.TheVariants.{Mark, Ask, Put, Print}
-use Rattle.superstep_code.specs.declared.key.Key.{Key}
+use Rattle.superstep_machine.specs.declared.key.Key.{Key}
 use Rattle.superstep_code.specs.Code.{SuperstepCode}
-use Rattle.superstep_code.specs.Keys.{is_first, least}
-use Rattle.superstep_code.specs.Parts.{Moment, Read, UniformPart, PrivatePart}
-use Rattle.superstep_code.specs.Results.{position_of}
-use Rattle.superstep_code.specs.Run.{is_held}
-use Rattle.superstep_code.specs.Sending.{verdict_on, conflict_at, put_conflict, is_private, is_several}
-use Rattle.superstep_code.specs.Steps.{fault_at, uniform_key, own_key, index_of, is_active, wrong_own}
+use Rattle.superstep_machine.specs.Keys.{is_first, least}
+use Rattle.superstep_machine.specs.Parts.{Moment, Read, UniformPart, PrivatePart}
+use Rattle.superstep_machine.specs.Results.{position_of}
+use Rattle.superstep_machine.specs.Run.{is_held}
+use Rattle.superstep_machine.specs.Sending.{verdict_on, conflict_at, put_conflict, is_private, is_several}
+use Rattle.superstep_machine.specs.Steps.{fault_at, uniform_key, own_key, index_of, is_active, wrong_own}
 use Rattle.flat_machine.specs.Flat.{Flat, range, cells, noted, after_instr, owed, askers, read_conflict, read_conflicts, conflicts, after_send, after_reply, after_vote, opening}
 
 -- a key, if there is one, is of such a statement

@@ -4,8 +4,8 @@ use Rattle.superstep_code.specs.declared.instr.Side.TheVariants.{Uniform, Privat
 use Rattle.superstep_code.specs.declared.instr.Instr.{Instr}
 use Rattle.superstep_code.specs.declared.instr.Instr.TheVariants.{Mask, Flip, Unmask, Ask}
 use Rattle.superstep_code.specs.Code.{SuperstepCode}
-use Rattle.superstep_code.specs.Parts.{UniformPart, PrivatePart, fresh}
-use Rattle.superstep_code.specs.Steps.{is_active, on_active, on_own, renews}
+use Rattle.superstep_machine.specs.Parts.{UniformPart, PrivatePart, fresh}
+use Rattle.superstep_machine.specs.Steps.{is_active, on_active, on_own, renews}
 use Rattle.bsp_verify.proofs.WorkerLemmas.{length-flipped, length-unmasked}
 use Rattle.flat_machine.specs.Flat.{Flat, after_instr}
 

@@ -10,17 +10,17 @@ use Rattle.write_rules.specs.declared.entry.Entry.{Entry}
 use Rattle.superstep_code.specs.declared.instr.Side.TheVariants.{Uniform, Private}
 use Rattle.superstep_code.specs.declared.instr.Instr.{Instr}
 use Rattle.superstep_code.specs.declared.instr.Instr.TheVariants.{Enter, Leave, Ask}
-use Rattle.superstep_code.specs.declared.key.Key.{Key}
+use Rattle.superstep_machine.specs.declared.key.Key.{Key}
 use Rattle.superstep_code.specs.Code.{SuperstepCode}
-use Rattle.superstep_code.specs.Keys.{least}
-use Rattle.superstep_code.specs.Setting.{Setting, workers, processors}
-use Rattle.superstep_code.specs.Parts.{Read, UniformPart, PrivatePart, fresh}
-use Rattle.superstep_code.specs.Steps.{on_uniform, uniform_key, uniform_write, index_of, on_own, own_key, own_write, is_put, renews}
-use Rattle.superstep_code.specs.Worker.{Worker, numbered, by_processor, uniform_writes, own_writes}
-use Rattle.superstep_code.specs.Worker as worker
-use Rattle.superstep_code.specs.Sending.{join, cell_at, entry_to, entry_held}
-use Rattle.superstep_code.proofs.KeyOrder.{keys_are_monoid, least_again}
-use Rattle.superstep_code.proofs.Collected.{entries_are_monoid}
+use Rattle.superstep_machine.specs.Keys.{least}
+use Rattle.superstep_machine.specs.Setting.{Setting, workers, processors}
+use Rattle.superstep_machine.specs.Parts.{Read, UniformPart, PrivatePart, fresh}
+use Rattle.superstep_machine.specs.Steps.{on_uniform, uniform_key, uniform_write, index_of, on_own, own_key, own_write, is_put, renews}
+use Rattle.superstep_machine.specs.Worker.{Worker, numbered, by_processor, uniform_writes, own_writes}
+use Rattle.superstep_machine.specs.Worker as worker
+use Rattle.superstep_machine.specs.Sending.{join, cell_at, entry_to, entry_held}
+use Rattle.superstep_machine.proofs.KeyOrder.{keys_are_monoid, least_again}
+use Rattle.superstep_machine.proofs.Collected.{entries_are_monoid}
 use Rattle.flat_machine.specs.Flat.{Flat, single_to, written}
 use Rattle.flat_machine.specs.Flat as flat
 use Rattle.flat_machine.specs.Flatness.{IsMapFor}

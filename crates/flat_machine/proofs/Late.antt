@@ -11,14 +11,14 @@ use Rattle.write_rules.specs.Verdict.{Verdict, Faulted}
 use Rattle.superstep_code.specs.declared.instr.Side.TheVariants.{Uniform, Private}
 use Rattle.superstep_code.specs.declared.instr.Instr.{Instr}
 use Rattle.superstep_code.specs.declared.instr.Instr.TheVariants.{Mark, Ask, Put, Print, Send, Reply, Vote, Jump, JumpIfZero, Halt}
-use Rattle.superstep_code.specs.declared.key.Key.{Key}
+use Rattle.superstep_machine.specs.declared.key.Key.{Key}
 use Rattle.superstep_code.specs.Code.{SuperstepCode}
-use Rattle.superstep_code.specs.Keys.{least}
-use Rattle.superstep_code.specs.Parts.{Moment}
-use Rattle.superstep_code.specs.Run.{Sends, Way, On, Past, is_held, due, unless, decided, items_below, fault_of}
-use Rattle.superstep_code.specs.Sending.{put_conflict, verdict_on}
-use Rattle.superstep_code.specs.Stretch.{ToClose}
-use Rattle.superstep_code.proofs.KeyOrder.{by_earlier_statement, keys_are_monoid}
+use Rattle.superstep_machine.specs.Keys.{least}
+use Rattle.superstep_machine.specs.Parts.{Moment}
+use Rattle.superstep_machine.specs.Run.{Sends, Way, On, Past, is_held, due, unless, decided, items_below, fault_of}
+use Rattle.superstep_machine.specs.Sending.{put_conflict, verdict_on}
+use Rattle.superstep_machine.specs.Stretch.{ToClose}
+use Rattle.superstep_machine.proofs.KeyOrder.{by_earlier_statement, keys_are_monoid}
 use Rattle.bsp_verify.specs.WellFormed.{IsWellFormed}
 use Rattle.flat_machine.specs.Flat.{Flat, cells, noted, after_instr, owed, read_conflicts, after_send, after_reply, after_vote}
 use Rattle.flat_machine.specs.ByExchanges.{State, outcome_of, opening}

@@ -1,8 +1,8 @@
 -- Workers with any lawful map are the flat machine.
 use Rattle.std.proofs.Common.{suc, ◌+◌, ◌*◌, length, Option, Some, refl, sym, ap, ◌∙◌}
 use Rattle.write_rules.specs.Verdict.{Verdict}
-use Rattle.superstep_code.specs.Trace.{exchanges_by}
-use Rattle.superstep_code.specs.Run.{opening, setting}
+use Rattle.superstep_machine.specs.Trace.{exchanges_by}
+use Rattle.superstep_machine.specs.Run.{opening, setting}
 use Rattle.flat_machine.specs.ByExchanges as flat
 use Rattle.flat_machine.specs.Flatness.{OutcomesAreSame, PurposesAreSame, RunsAgree, WorkersAreFlat, plan}
 use Rattle.flat_machine.specs.ByInstructions.{steps, everywhere}

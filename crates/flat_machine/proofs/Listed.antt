@@ -4,9 +4,9 @@ use Rattle.std.specs.Prelude.{if◌then◌else◌, slice_get}
 use Rattle.std.proofs.lemmas.List.{append-nil, map-append}
 use Rattle.write_rules.specs.Verdict.{Verdict}
 use Rattle.superstep_code.specs.declared.instr.Instr.{Instr}
-use Rattle.superstep_code.specs.Stretch.{ToSend, ToReply, ToVote, ToClose, Arrival, Nowhere, At, advance, until}
-use Rattle.superstep_code.specs.Run.{Purpose, Sends, Replies, Votes, Closes, Way, On, Ending, Past, Refused, Lost, is_held, is_over, decided}
-use Rattle.superstep_code.specs.Sending.{uniform_sent}
+use Rattle.superstep_machine.specs.Stretch.{ToSend, ToReply, ToVote, ToClose, Arrival, Nowhere, At, advance, until}
+use Rattle.superstep_machine.specs.Run.{Purpose, Sends, Replies, Votes, Closes, Way, On, Ending, Past, Refused, Lost, is_held, is_over, decided}
+use Rattle.superstep_machine.specs.Sending.{uniform_sent}
 use Rattle.bsp_verify.proofs.RunLemmas.{decided_same}
 use Rattle.flat_machine.specs.Flat.{Flat, after_instr}
 use Rattle.flat_machine.specs.ByExchanges.{Plan, State, stretch, ready_at, ready, ready_by, after, after_exchange, run, purposes_from, purposes_by, outcome_of, outcome_by, opening}

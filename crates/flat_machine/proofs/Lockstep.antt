@@ -2,15 +2,15 @@
 use Rattle.std.proofs.Common.{◌≡◌, ℕ, ◌<◌, List, [], ◌∷◌, map, refl, sym, ap, ◌∙◌}
 use Rattle.std.specs.Prelude.{if◌then◌else◌}
 use Rattle.std.specs.List.{range_with_len}
-use Rattle.superstep_code.specs.declared.mark.HeaderMark.TheVariants.{Clear}
-use Rattle.superstep_code.specs.Marks.{worse}
-use Rattle.superstep_code.specs.Setting.{Setting, workers}
-use Rattle.superstep_code.specs.Parts.{UniformPart}
-use Rattle.superstep_code.specs.Words.{Message}
-use Rattle.superstep_code.specs.Worker.{Worker}
-use Rattle.superstep_code.specs.Stretch.{Stop, ToSend, ToReply, ToVote, ToClose, Arrival, Nowhere, At}
-use Rattle.superstep_code.specs.Run.{Purpose, Sends, Replies, Votes, Closes, Way, On, Ending, Past, Refused, Lost, Ready, mark_now, mark_of, ready, ready_at, ready_by, ready_with, is_held, message_for, message_of, key_of, decided, after_exchange, after, is_over, verdict_by, state_of, cell_in, no_state, outcome_of, bsp, opening, opening_worker}
-use Rattle.superstep_code.specs.Run as workers_run
+use Rattle.superstep_machine.specs.declared.mark.HeaderMark.TheVariants.{Clear}
+use Rattle.superstep_machine.specs.Marks.{worse}
+use Rattle.superstep_machine.specs.Setting.{Setting, workers}
+use Rattle.superstep_machine.specs.Parts.{UniformPart}
+use Rattle.superstep_machine.specs.Words.{Message}
+use Rattle.superstep_machine.specs.Worker.{Worker}
+use Rattle.superstep_machine.specs.Stretch.{Stop, ToSend, ToReply, ToVote, ToClose, Arrival, Nowhere, At}
+use Rattle.superstep_machine.specs.Run.{Purpose, Sends, Replies, Votes, Closes, Way, On, Ending, Past, Refused, Lost, Ready, mark_now, mark_of, ready, ready_at, ready_by, ready_with, is_held, message_for, message_of, key_of, decided, after_exchange, after, is_over, verdict_by, state_of, cell_in, no_state, outcome_of, bsp, opening, opening_worker}
+use Rattle.superstep_machine.specs.Run as workers_run
 use Rattle.flat_machine.specs.Flat.{Flat}
 use Rattle.flat_machine.specs.ByExchanges as flat_run
 use Rattle.flat_machine.specs.Flatness.{IsMapFor, plan}

@@ -8,12 +8,12 @@ use Rattle.pram_model.specs.declared.rule.Rule.{Rule}
 use Rattle.pram_values.specs.Total.{IsMonoid, total}
 use Rattle.pram_values.proofs.Totals.{neutral_right, total_joined}
 use Rattle.write_rules.specs.declared.entry.Entry.{Entry}
-use Rattle.superstep_code.specs.Setting.{combining}
-use Rattle.superstep_code.specs.Parts.{Read, PrivatePart}
-use Rattle.superstep_code.specs.Words.{CellPut, CellAsk}
-use Rattle.superstep_code.specs.Worker.{HeldWrite, Worker}
-use Rattle.superstep_code.specs.Sending.{firsts, join, entry_to, entry_held, put_of, puts_held, entry_in, cell_at, present, cells_asked, several, asks_for, is_several, asked_twice, asks_from, asked_in}
-use Rattle.superstep_code.proofs.Collected.{entries_are_monoid, askers_are_monoid}
+use Rattle.superstep_machine.specs.Setting.{combining}
+use Rattle.superstep_machine.specs.Parts.{Read, PrivatePart}
+use Rattle.superstep_machine.specs.Words.{CellPut, CellAsk}
+use Rattle.superstep_machine.specs.Worker.{HeldWrite, Worker}
+use Rattle.superstep_machine.specs.Sending.{firsts, join, entry_to, entry_held, put_of, puts_held, entry_in, cell_at, present, cells_asked, several, asks_for, is_several, asked_twice, asks_from, asked_in}
+use Rattle.superstep_machine.proofs.Collected.{entries_are_monoid, askers_are_monoid}
 use Rattle.flat_machine.proofs.Relation.{wants}
 use Rattle.flat_machine.proofs.Lists.{same_number, with_itself, turned}
 

@@ -4,7 +4,7 @@ use Rattle.std.specs.List.{range_with_len}
 use Rattle.pram_model.specs.Layout.{total_size}
 use Rattle.pram_values.specs.Total.{IsMonoid, total}
 use Rattle.pram_values.proofs.Totals.{total_map, total_within, total_none, total_both, total_at}
-use Rattle.superstep_code.specs.Setting.{Setting, workers, module_cells}
+use Rattle.superstep_machine.specs.Setting.{Setting, workers, module_cells}
 use Rattle.flat_machine.specs.Flat.{cells}
 use Rattle.flat_machine.specs.Flatness.{IsMapFor}
 use Rattle.flat_machine.proofs.Lists.{same_number, with_itself}

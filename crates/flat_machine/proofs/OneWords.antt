@@ -6,22 +6,22 @@ use Rattle.std.proofs.lemmas.Bool.{cases_lt}
 use Rattle.pram_values.specs.Truth.{is_nonzero}
 use Rattle.pram_values.proofs.Totals.{total_within}
 use Rattle.write_rules.specs.Verdict.{Verdict}
-use Rattle.superstep_code.specs.declared.mark.HeaderMark.{HeaderMark}
-use Rattle.superstep_code.specs.declared.mark.HeaderMark.TheVariants.{Clear, OutOfMemory, OutOfReserve}
+use Rattle.superstep_machine.specs.declared.mark.HeaderMark.{HeaderMark}
+use Rattle.superstep_machine.specs.declared.mark.HeaderMark.TheVariants.{Clear, OutOfMemory, OutOfReserve}
 use Rattle.superstep_code.specs.declared.instr.Instr.{Instr}
 use Rattle.superstep_code.specs.declared.instr.Instr.TheVariants.{Mark, Send, Reply, Vote, Jump, JumpIfZero, Halt}
-use Rattle.superstep_code.specs.Setting.{Setting, workers}
-use Rattle.superstep_code.specs.Words.{Message, words}
-use Rattle.superstep_code.specs.Worker.{Worker, after_instr}
-use Rattle.superstep_code.specs.Stretch.{ToSend, ToReply, ToVote, ToClose, Arrival, Nowhere, At, advance, until}
-use Rattle.superstep_code.specs.Machine.{phase, column, run}
-use Rattle.superstep_code.specs.Run.{Purpose, Sends, Replies, Votes, Closes, Way, On, Ending, Past, Refused, Lost, State, Ready, mark_now, mark_of, stretch, ready, ready_at, ready_by, ready_with, message_for, message_with, message_of, after_exchange, after_with, after, is_over, outcome_of, bsp, opening, setting}
-use Rattle.superstep_code.specs.Trace.{words_between, sum_over, exchange_of, exchanges_from, exchanges_by}
+use Rattle.superstep_machine.specs.Setting.{Setting, workers}
+use Rattle.superstep_machine.specs.Words.{Message, words}
+use Rattle.superstep_machine.specs.Worker.{Worker, after_instr}
+use Rattle.superstep_machine.specs.Stretch.{ToSend, ToReply, ToVote, ToClose, Arrival, Nowhere, At, advance, until}
+use Rattle.superstep_machine.specs.Machine.{phase, column, run}
+use Rattle.superstep_machine.specs.Run.{Purpose, Sends, Replies, Votes, Closes, Way, On, Ending, Past, Refused, Lost, State, Ready, mark_now, mark_of, stretch, ready, ready_at, ready_by, ready_with, message_for, message_with, message_of, after_exchange, after_with, after, is_over, outcome_of, bsp, opening, setting}
+use Rattle.superstep_machine.specs.Trace.{words_between, sum_over, exchange_of, exchanges_from, exchanges_by}
 use Rattle.flat_machine.specs.ByExchanges as flat
 use Rattle.flat_machine.specs.Flat.{Flat}
 use Rattle.flat_machine.specs.Flatness.{IsMapFor, plan}
 use Rattle.flat_machine.specs.OneList.{ExchangesAreUnique}
-use Rattle.superstep_code.proofs.Refused.{map_within}
+use Rattle.superstep_machine.proofs.Refused.{map_within}
 use Rattle.flat_machine.proofs.Lockstep.{Agree, readies}
 use Rattle.flat_machine.proofs.Runs.{first, phase_agrees, run_same, opening_agrees}
 use Rattle.flat_machine.proofs.Listed.{lost_ends}

@@ -3,14 +3,14 @@ use Rattle.std.proofs.Common.{◌≡◌, ℕ, ◌<◌, List, [], map, Some, None
 use Rattle.std.specs.Prelude.{slice_index_or}
 use Rattle.std.specs.List.{filter, range_with_len}
 use Rattle.pram_values.proofs.Totals.{total_within, total_none}
-use Rattle.superstep_code.specs.Setting.{Setting, workers}
-use Rattle.superstep_code.specs.Words.{CellAsk}
-use Rattle.superstep_code.specs.Worker.{Worker}
-use Rattle.superstep_code.specs.Sending.{join, cell_at, entry_held}
-use Rattle.superstep_code.specs.Keys.{least}
-use Rattle.superstep_code.specs.Run.{opening_worker}
-use Rattle.superstep_code.proofs.KeyOrder.{keys_are_monoid}
-use Rattle.superstep_code.proofs.Collected.{entries_are_monoid}
+use Rattle.superstep_machine.specs.Setting.{Setting, workers}
+use Rattle.superstep_machine.specs.Words.{CellAsk}
+use Rattle.superstep_machine.specs.Worker.{Worker}
+use Rattle.superstep_machine.specs.Sending.{join, cell_at, entry_held}
+use Rattle.superstep_machine.specs.Keys.{least}
+use Rattle.superstep_machine.specs.Run.{opening_worker}
+use Rattle.superstep_machine.proofs.KeyOrder.{keys_are_monoid}
+use Rattle.superstep_machine.proofs.Collected.{entries_are_monoid}
 use Rattle.flat_machine.specs.Flat.{Flat}
 use Rattle.flat_machine.specs.Flat as flat
 use Rattle.flat_machine.specs.Flatness.{IsMapFor}

@@ -6,8 +6,8 @@ use Rattle.superstep_code.specs.declared.instr.Side.{Side}
 use Rattle.superstep_code.specs.declared.instr.Instr.{Instr}
 use Rattle.superstep_code.specs.declared.instr.Instr.TheVariants.{Mark, Put, Send, Reply, Vote, Jump, JumpIfZero, Halt}
 use Rattle.superstep_code.specs.Code.{SuperstepCode}
-use Rattle.superstep_code.specs.Run.{Way, On, Ending, Past, Refused, Lost, is_held}
-use Rattle.superstep_code.specs.Stretch.{ToClose}
+use Rattle.superstep_machine.specs.Run.{Way, On, Ending, Past, Refused, Lost, is_held}
+use Rattle.superstep_machine.specs.Stretch.{ToClose}
 use Rattle.bsp_verify.specs.States as states
 use Rattle.bsp_verify.specs.Control.{Leads}
 use Rattle.bsp_verify.specs.Judging.{fits_exchange}

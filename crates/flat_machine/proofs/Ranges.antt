@@ -12,10 +12,10 @@ use Rattle.superstep_code.specs.declared.instr.Side.TheVariants.{Uniform, Privat
 use Rattle.superstep_code.specs.declared.instr.Instr.{Instr}
 use Rattle.superstep_code.specs.declared.instr.Instr.TheVariants.{Mask, Flip, Unmask, Ask, Put}
 use Rattle.superstep_code.specs.Code.{SuperstepCode}
-use Rattle.superstep_code.specs.Parts.{Read, UniformPart, PrivatePart}
-use Rattle.superstep_code.specs.Steps.{on_uniform, uniform_write, is_active, cell_for, write_to, on_active, on_own, own_write, index_of}
-use Rattle.superstep_code.specs.Sending.{join, cell_at}
-use Rattle.superstep_code.proofs.Collected.{entries_are_monoid}
+use Rattle.superstep_machine.specs.Parts.{Read, UniformPart, PrivatePart}
+use Rattle.superstep_machine.specs.Steps.{on_uniform, uniform_write, is_active, cell_for, write_to, on_active, on_own, own_write, index_of}
+use Rattle.superstep_machine.specs.Sending.{join, cell_at}
+use Rattle.superstep_machine.proofs.Collected.{entries_are_monoid}
 use Rattle.flat_machine.specs.Flat.{Flat, range, single_to, written}
 use Rattle.flat_machine.proofs.Relation.{IsBySide, AreBySide}
 

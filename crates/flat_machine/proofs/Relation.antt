@@ -5,12 +5,12 @@ use Rattle.std.specs.List.{AllByRecursion, filter, list_any, range_with_len}
 use Rattle.pram_model.specs.Layout.{total_size}
 use Rattle.pram_values.specs.Total.{total}
 use Rattle.superstep_code.specs.Code.{SuperstepCode}
-use Rattle.superstep_code.specs.Keys.{least}
-use Rattle.superstep_code.specs.Setting.{Setting, workers, processors, module_cells}
-use Rattle.superstep_code.specs.Parts.{Read}
-use Rattle.superstep_code.specs.Words.{CellAsk}
-use Rattle.superstep_code.specs.Worker.{Worker}
-use Rattle.superstep_code.specs.Sending.{join, cell_at, is_private, entry_held}
+use Rattle.superstep_machine.specs.Keys.{least}
+use Rattle.superstep_machine.specs.Setting.{Setting, workers, processors, module_cells}
+use Rattle.superstep_machine.specs.Parts.{Read}
+use Rattle.superstep_machine.specs.Words.{CellAsk}
+use Rattle.superstep_machine.specs.Worker.{Worker}
+use Rattle.superstep_machine.specs.Sending.{join, cell_at, is_private, entry_held}
 use Rattle.flat_machine.specs.Flat.{Flat}
 
 -- a private read has no cell of its own: each processor has one

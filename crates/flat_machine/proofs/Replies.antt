@@ -6,14 +6,14 @@ use Rattle.pram_model.specs.Layout.{total_size}
 use Rattle.pram_values.specs.Total.{IsMonoid, total}
 use Rattle.pram_values.specs.Truth.{truth}
 use Rattle.pram_values.proofs.Totals.{total_map, total_within}
-use Rattle.superstep_code.specs.Setting.{Setting, workers, processors}
-use Rattle.superstep_code.specs.Parts.{Registers, set_register, Read, UniformPart}
-use Rattle.superstep_code.specs.Steps.{is_active}
-use Rattle.superstep_code.specs.Words.{CellAsk, Message, blank}
-use Rattle.superstep_code.specs.Worker.{Worker}
-use Rattle.superstep_code.specs.Sending.{cell_at}
-use Rattle.superstep_code.specs.Answering.{replied, look_up, value_came, answer, answers, destinations, uniform_answered, own_answered, voted}
-use Rattle.superstep_code.specs.Answering as answering
+use Rattle.superstep_machine.specs.Setting.{Setting, workers, processors}
+use Rattle.superstep_machine.specs.Parts.{Registers, set_register, Read, UniformPart}
+use Rattle.superstep_machine.specs.Steps.{is_active}
+use Rattle.superstep_machine.specs.Words.{CellAsk, Message, blank}
+use Rattle.superstep_machine.specs.Worker.{Worker}
+use Rattle.superstep_machine.specs.Sending.{cell_at}
+use Rattle.superstep_machine.specs.Answering.{replied, look_up, value_came, answer, answers, destinations, uniform_answered, own_answered, voted}
+use Rattle.superstep_machine.specs.Answering as answering
 use Rattle.flat_machine.specs.Flat.{Flat, range, any_active}
 use Rattle.flat_machine.specs.Flat as flat
 use Rattle.flat_machine.specs.Flatness.{IsMapFor}

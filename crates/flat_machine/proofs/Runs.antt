@@ -5,14 +5,14 @@ use Rattle.std.specs.List.{range_with_len}
 use Rattle.std.proofs.lemmas.List.FromFn.{get_or-map-range_with_len}
 use Rattle.pram_model.specs.Layout.{total_size}
 use Rattle.pram_values.proofs.Totals.{total_map, total_same}
-use Rattle.superstep_code.specs.Keys.{least}
-use Rattle.superstep_code.specs.Setting.{Setting, workers, all_cells}
-use Rattle.superstep_code.specs.Parts.{UniformPart}
-use Rattle.superstep_code.specs.Words.{Message}
-use Rattle.superstep_code.specs.Machine.{phase, phases, column, run}
-use Rattle.superstep_code.specs.Run.{Purpose, Sends, Replies, Votes, Closes, Way, State, Ready, ready, message_for, message_of, key_of, decided, mark_now, marks_later, message_with, after_with, after_exchange, after, is_over, verdict_by, state_of, cell_in, no_state, outcome_of, bsp, opening}
-use Rattle.superstep_code.specs.Trace.{Exchange, exchange_of, exchanges_from}
-use Rattle.superstep_code.proofs.Refused.{map_within, for_clear}
+use Rattle.superstep_machine.specs.Keys.{least}
+use Rattle.superstep_machine.specs.Setting.{Setting, workers, all_cells}
+use Rattle.superstep_machine.specs.Parts.{UniformPart}
+use Rattle.superstep_machine.specs.Words.{Message}
+use Rattle.superstep_machine.specs.Machine.{phase, phases, column, run}
+use Rattle.superstep_machine.specs.Run.{Purpose, Sends, Replies, Votes, Closes, Way, State, Ready, ready, message_for, message_of, key_of, decided, mark_now, marks_later, message_with, after_with, after_exchange, after, is_over, verdict_by, state_of, cell_in, no_state, outcome_of, bsp, opening}
+use Rattle.superstep_machine.specs.Trace.{Exchange, exchange_of, exchanges_from}
+use Rattle.superstep_machine.proofs.Refused.{map_within, for_clear}
 use Rattle.flat_machine.specs.ByExchanges as flat_run
 use Rattle.flat_machine.specs.Flatness.{IsMapFor, plan}
 use Rattle.flat_machine.proofs.Relation.{Splits}

@@ -5,15 +5,15 @@ use Rattle.std.specs.List.{range_with_len}
 use Rattle.pram_values.specs.Total.{total}
 use Rattle.pram_values.proofs.Totals.{total_within, total_none, total_both}
 use Rattle.write_rules.specs.Rule.{shares_reads}
-use Rattle.superstep_code.specs.Keys.{least}
-use Rattle.superstep_code.specs.Setting.{Setting, workers, processors, module_cells}
-use Rattle.superstep_code.specs.Parts.{Read, UniformPart}
-use Rattle.superstep_code.specs.Words.{CellAsk, Message}
-use Rattle.superstep_code.specs.Worker.{Worker}
-use Rattle.superstep_code.specs.Sending.{join, is_several, sent, entry_came, verdict_on, put_conflict, askers_came, is_private, read_conflicts, conflicts, uniform_sent, own_sent}
-use Rattle.superstep_code.specs.Sending as sending
-use Rattle.superstep_code.proofs.KeyOrder.{keys_are_monoid}
-use Rattle.superstep_code.proofs.Collected.{entries_are_monoid}
+use Rattle.superstep_machine.specs.Keys.{least}
+use Rattle.superstep_machine.specs.Setting.{Setting, workers, processors, module_cells}
+use Rattle.superstep_machine.specs.Parts.{Read, UniformPart}
+use Rattle.superstep_machine.specs.Words.{CellAsk, Message}
+use Rattle.superstep_machine.specs.Worker.{Worker}
+use Rattle.superstep_machine.specs.Sending.{join, is_several, sent, entry_came, verdict_on, put_conflict, askers_came, is_private, read_conflicts, conflicts, uniform_sent, own_sent}
+use Rattle.superstep_machine.specs.Sending as sending
+use Rattle.superstep_machine.proofs.KeyOrder.{keys_are_monoid}
+use Rattle.superstep_machine.proofs.Collected.{entries_are_monoid}
 use Rattle.flat_machine.specs.Flat.{Flat}
 use Rattle.flat_machine.specs.Flat as flat
 use Rattle.flat_machine.specs.Flatness.{IsMapFor}

@@ -8,15 +8,15 @@ use Rattle.pram_values.specs.declared.kind.Kind.TheVariants.{ReadConflict}
 use Rattle.pram_values.specs.Total.{total, in_class}
 use Rattle.pram_values.proofs.Totals.{total_same, total_map, total_within, total_none, total_both}
 use Rattle.write_rules.specs.declared.entry.Entry.{Entry}
-use Rattle.superstep_code.specs.Keys.{least}
-use Rattle.superstep_code.specs.Setting.{Setting, workers, processors, module_cells}
-use Rattle.superstep_code.specs.Parts.{Moment, Read, UniformPart, PrivatePart}
-use Rattle.superstep_code.specs.Words.{CellAsk, Message}
-use Rattle.superstep_code.specs.Worker.{Worker}
-use Rattle.superstep_code.specs.Sending.{join, cell_at, present, several, asks_for, is_several, asks_from, asks_held, sent, entry_in, entry_came, entry_held, verdict_on, settled, conflict_at, put_conflict, asked_in, askers_came, is_private, read_conflict, read_conflicts}
-use Rattle.superstep_code.specs.Sending as sending
-use Rattle.superstep_code.proofs.KeyOrder.{keys_are_monoid}
-use Rattle.superstep_code.proofs.Collected.{askers_are_monoid}
+use Rattle.superstep_machine.specs.Keys.{least}
+use Rattle.superstep_machine.specs.Setting.{Setting, workers, processors, module_cells}
+use Rattle.superstep_machine.specs.Parts.{Moment, Read, UniformPart, PrivatePart}
+use Rattle.superstep_machine.specs.Words.{CellAsk, Message}
+use Rattle.superstep_machine.specs.Worker.{Worker}
+use Rattle.superstep_machine.specs.Sending.{join, cell_at, present, several, asks_for, is_several, asks_from, asks_held, sent, entry_in, entry_came, entry_held, verdict_on, settled, conflict_at, put_conflict, asked_in, askers_came, is_private, read_conflict, read_conflicts}
+use Rattle.superstep_machine.specs.Sending as sending
+use Rattle.superstep_machine.proofs.KeyOrder.{keys_are_monoid}
+use Rattle.superstep_machine.proofs.Collected.{askers_are_monoid}
 use Rattle.flat_machine.specs.Flat.{Flat, range}
 use Rattle.flat_machine.specs.Flat as flat
 use Rattle.flat_machine.specs.Flatness.{IsMapFor}

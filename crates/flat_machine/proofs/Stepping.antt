@@ -4,8 +4,8 @@ use Rattle.std.proofs.lemmas.Bool.{cases_lt}
 use Rattle.write_rules.specs.Verdict.{Verdict}
 use Rattle.superstep_code.specs.declared.instr.Instr.{Instr}
 use Rattle.superstep_code.specs.Code.{SuperstepCode}
-use Rattle.superstep_code.specs.Run.{Way, On, Ending, Past, Refused, Lost, verdict_by}
-use Rattle.superstep_code.specs.Stretch.{advance}
+use Rattle.superstep_machine.specs.Run.{Way, On, Ending, Past, Refused, Lost, verdict_by}
+use Rattle.superstep_machine.specs.Stretch.{advance}
 use Rattle.flat_machine.specs.Flat.{Flat, after_instr}
 use Rattle.flat_machine.specs.ByExchanges.{State, outcome_of, opening}
 use Rattle.flat_machine.specs.ByInstructions.{stopped, going, step_by, step, steps, outcome_within}

@@ -1,10 +1,10 @@
 -- Workers that are one flat state are under one control.
 use Rattle.std.proofs.Common.{◌≡◌, ℕ, zero, suc, ◌<◌, List, [], ◌∷◌, map, length, Option, Some, None, ℤ, refl, sym, ap, ◌∙◌, subst}
 use Rattle.std.specs.Prelude.{slice_get}
-use Rattle.superstep_code.specs.Setting.{Setting, workers, processors}
-use Rattle.superstep_code.specs.Parts.{PrivatePart}
-use Rattle.superstep_code.specs.Worker.{Worker, after_instr}
-use Rattle.superstep_code.specs.Run.{State, ready, opening}
+use Rattle.superstep_machine.specs.Setting.{Setting, workers, processors}
+use Rattle.superstep_machine.specs.Parts.{PrivatePart}
+use Rattle.superstep_machine.specs.Worker.{Worker, after_instr}
+use Rattle.superstep_machine.specs.Run.{State, ready, opening}
 use Rattle.flat_machine.specs.Flat.{Flat}
 use Rattle.flat_machine.specs.Flat as flat
 use Rattle.flat_machine.specs.ByExchanges as flat_run

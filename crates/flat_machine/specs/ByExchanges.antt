@@ -2,8 +2,8 @@
 use Rattle.std.specs.Prelude.{ℕ, zero, suc, ◌+◌, List, [], ◌∷◌, map, Option, Some, None, ℤ, if◌then◌else◌}
 use Rattle.write_rules.specs.Verdict.{Verdict}
 use Rattle.superstep_code.specs.Code.{SuperstepCode}
-use Rattle.superstep_code.specs.Stretch.{ToSend, ToReply, ToVote, ToClose, Arrival, Nowhere, At, until}
-use Rattle.superstep_code.specs.Run.{Purpose, Sends, Replies, Votes, Closes, Way, On, Ending, Lost, is_held, decided, is_over, verdict_by}
+use Rattle.superstep_machine.specs.Stretch.{ToSend, ToReply, ToVote, ToClose, Arrival, Nowhere, At, until}
+use Rattle.superstep_machine.specs.Run.{Purpose, Sends, Replies, Votes, Closes, Way, On, Ending, Lost, is_held, decided, is_over, verdict_by}
 use Rattle.flat_machine.specs.Flat.{Flat, cells, after_instr, after_send, after_reply, after_vote}
 use Rattle.flat_machine.specs.Flat as flat
 

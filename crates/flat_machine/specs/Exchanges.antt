@@ -1,10 +1,10 @@
 -- The exchanges of a flat run, each with what it is for, and whether anything was held there.
 use Rattle.std.specs.Prelude.{ℕ, zero, suc, ◌+◌, ◌*◌, List, [], ◌∷◌, ◌++◌, length, Bool, true, false, not, ◌&&◌, ◌||◌, ℤ, if◌then◌else◌, slice_get}
 use Rattle.superstep_code.specs.Code.{SuperstepCode}
-use Rattle.superstep_code.specs.Parts.{Read, UniformPart}
-use Rattle.superstep_code.specs.Run.{Purpose, Sends, Replies, Votes, Closes, Way, On, is_held}
-use Rattle.superstep_code.specs.Sending.{uniform_sent}
-use Rattle.superstep_code.specs.Stretch.{Stop, ToSend, ToReply, ToVote, ToClose, advance}
+use Rattle.superstep_machine.specs.Parts.{Read, UniformPart}
+use Rattle.superstep_machine.specs.Run.{Purpose, Sends, Replies, Votes, Closes, Way, On, is_held}
+use Rattle.superstep_machine.specs.Sending.{uniform_sent}
+use Rattle.superstep_machine.specs.Stretch.{Stop, ToSend, ToReply, ToVote, ToClose, advance}
 use Rattle.flat_machine.specs.Flat.{Flat, after_instr}
 use Rattle.flat_machine.specs.ByExchanges.{State, opening}
 use Rattle.flat_machine.specs.ByInstructions.{step, everywhere}

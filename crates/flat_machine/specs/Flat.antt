@@ -11,14 +11,14 @@ use Rattle.pram_values.specs.Truth.{truth}
 use Rattle.write_rules.specs.declared.entry.Entry.{Entry}
 use Rattle.write_rules.specs.Rule.{shares_reads}
 use Rattle.superstep_code.specs.declared.instr.Instr.{Instr}
-use Rattle.superstep_code.specs.declared.key.Key.{Key}
+use Rattle.superstep_machine.specs.declared.key.Key.{Key}
 use Rattle.superstep_code.specs.Code.{SuperstepCode}
-use Rattle.superstep_code.specs.Keys.{least}
-use Rattle.superstep_code.specs.Setting.{combining}
-use Rattle.superstep_code.specs.Parts.{set_register, Read, UniformPart, PrivatePart, opening_part, fresh}
-use Rattle.superstep_code.specs.Steps.{on_uniform, uniform_key, uniform_write, index_of, is_active, on_own, own_key, own_write, is_put, renews}
-use Rattle.superstep_code.specs.Sending.{join, cell_at, several, asks_for, is_several, verdict_on, settled, conflict_at, put_conflict, is_private, uniform_sent, own_sent}
-use Rattle.superstep_code.specs.Answering.{uniform_answered, own_answered}
+use Rattle.superstep_machine.specs.Keys.{least}
+use Rattle.superstep_machine.specs.Setting.{combining}
+use Rattle.superstep_machine.specs.Parts.{set_register, Read, UniformPart, PrivatePart, opening_part, fresh}
+use Rattle.superstep_machine.specs.Steps.{on_uniform, uniform_key, uniform_write, index_of, is_active, on_own, own_key, own_write, is_put, renews}
+use Rattle.superstep_machine.specs.Sending.{join, cell_at, several, asks_for, is_several, verdict_on, settled, conflict_at, put_conflict, is_private, uniform_sent, own_sent}
+use Rattle.superstep_machine.specs.Answering.{uniform_answered, own_answered}
 
 -- The flat state: the uniform part, the part of the v-th processor of the range, the value of each cell, what the writers that are
 -- held for a cell come to, and the least key that was noted.

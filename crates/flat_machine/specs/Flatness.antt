@@ -4,10 +4,10 @@ use Rattle.pram_model.specs.Layout.{total_size}
 use Rattle.write_rules.specs.Verdict.{Verdict}
 use Rattle.address_map.specs.Lawful.{Shape, IsLawful}
 use Rattle.superstep_code.specs.Code.{SuperstepCode}
-use Rattle.superstep_code.specs.Setting.{Setting}
-use Rattle.superstep_code.specs.Run.{IsBspOutcome}
-use Rattle.superstep_code.specs.Run as workers
-use Rattle.superstep_code.specs.Trace.{Exchange, exchanges_by}
+use Rattle.superstep_machine.specs.Setting.{Setting}
+use Rattle.superstep_machine.specs.Run.{IsBspOutcome}
+use Rattle.superstep_machine.specs.Run as workers
+use Rattle.superstep_machine.specs.Trace.{Exchange, exchanges_by}
 use Rattle.flat_machine.specs.ByExchanges.{Plan}
 use Rattle.flat_machine.specs.ByExchanges as flat
 use Rattle.flat_machine.specs.ByInstructions.{IsFlatOutcome}

@@ -1,9 +1,9 @@
 -- All workers of a run are under one control.
 use Rattle.std.specs.Prelude.{◌≡◌, ℕ, ◌<◌, List, length, Option, Some, None, ℤ, slice_get}
-use Rattle.superstep_code.specs.Setting.{Setting, workers}
-use Rattle.superstep_code.specs.Parts.{PrivatePart}
-use Rattle.superstep_code.specs.Worker.{Worker}
-use Rattle.superstep_code.specs.Run.{State, ready}
+use Rattle.superstep_machine.specs.Setting.{Setting, workers}
+use Rattle.superstep_machine.specs.Parts.{PrivatePart}
+use Rattle.superstep_machine.specs.Worker.{Worker}
+use Rattle.superstep_machine.specs.Run.{State, ready}
 use Rattle.bsp_verify.specs.Runs.{worker_after}
 use Rattle.bsp_verify.specs.Moments.{moment}
 use Rattle.flat_machine.specs.Flatness.{IsMapFor}

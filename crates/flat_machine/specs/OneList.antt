@@ -3,9 +3,9 @@ use Rattle.std.specs.Prelude.{◌≡◌, ℕ, List, map, Some, ℤ}
 use Rattle.write_rules.specs.Verdict.{Verdict}
 use Rattle.address_map.specs.Lawful.{Shape}
 use Rattle.superstep_code.specs.Code.{SuperstepCode}
-use Rattle.superstep_code.specs.Run.{Purpose}
-use Rattle.superstep_code.specs.Trace.{AreBspExchanges}
-use Rattle.superstep_code.specs.Trace as workers
+use Rattle.superstep_machine.specs.Run.{Purpose}
+use Rattle.superstep_machine.specs.Trace.{AreBspExchanges}
+use Rattle.superstep_machine.specs.Trace as workers
 use Rattle.bsp_verify.specs.WellFormed.{IsWellFormed}
 use Rattle.flat_machine.specs.Flatness.{IsMapFor}
 use Rattle.flat_machine.specs.ByExchanges.{opening}

@@ -4,10 +4,10 @@ use Rattle.write_rules.specs.Verdict.{Verdict, Faulted}
 use Rattle.address_map.specs.Lawful.{Shape}
 use Rattle.superstep_code.specs.declared.instr.Instr.{Instr}
 use Rattle.superstep_code.specs.declared.instr.Instr.TheVariants.{Mark, Halt}
-use Rattle.superstep_code.specs.declared.key.Key.{Key}
+use Rattle.superstep_machine.specs.declared.key.Key.{Key}
 use Rattle.superstep_code.specs.Code.{SuperstepCode}
-use Rattle.superstep_code.specs.Keys.{least}
-use Rattle.superstep_code.specs.Run.{IsBspOutcome, On, fault_of, items_below}
+use Rattle.superstep_machine.specs.Keys.{least}
+use Rattle.superstep_machine.specs.Run.{IsBspOutcome, On, fault_of, items_below}
 use Rattle.bsp_verify.specs.WellFormed.{IsWellFormed}
 use Rattle.flat_machine.specs.Flat.{Flat, owed}
 use Rattle.flat_machine.specs.Flatness.{IsMapFor}

@@ -5,8 +5,8 @@ use Rattle.pram_values.specs.Truth.{is_nonzero}
 use Rattle.superstep_code.specs.declared.instr.Instr.{Instr}
 use Rattle.superstep_code.specs.declared.instr.Instr.TheVariants.{Mark, Send, Reply, Vote, Jump, JumpIfZero, Halt}
 use Rattle.superstep_code.specs.Code.{SuperstepCode}
-use Rattle.superstep_code.specs.Parts.{UniformPart}
-use Rattle.superstep_code.specs.Run.{Way, On, Ending, Past, Refused, Lost, Purpose, Sends, Replies, Votes, Closes, is_held, decided, verdict_by}
+use Rattle.superstep_machine.specs.Parts.{UniformPart}
+use Rattle.superstep_machine.specs.Run.{Way, On, Ending, Past, Refused, Lost, Purpose, Sends, Replies, Votes, Closes, is_held, decided, verdict_by}
 use Rattle.flat_machine.specs.Flat.{Flat, cells, after_send}
 use Rattle.flat_machine.specs.ByExchanges.{State, after_exchange, opening, outcome_of}
 use Rattle.flat_machine.specs.ByInstructions.{exchanged, closed, instructed, step_by, step, steps, everywhere, outcome_within}

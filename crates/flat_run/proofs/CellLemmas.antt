@@ -5,9 +5,9 @@ use Rattle.std.proofs.lemmas.List.{length-set}
 use Rattle.std.specs.List.{zip}
 use Rattle.pram_model.specs.declared.rule.Rule.{Rule}
 use Rattle.write_rules.specs.declared.entry.Entry.{Entry}
-use Rattle.superstep_code.specs.Parts.{Registers, Read}
-use Rattle.superstep_code.specs.Sending.{verdict_on, settled}
-use Rattle.superstep_code.specs.Answering.{answer, answers, destinations}
+use Rattle.superstep_machine.specs.Parts.{Registers, Read}
+use Rattle.superstep_machine.specs.Sending.{verdict_on, settled}
+use Rattle.superstep_machine.specs.Answering.{answer, answers, destinations}
 use Rattle.superstep_steps.specs.declared.read.Read.{Read as HeldRead}
 use Rattle.superstep_steps.specs.Views.{registers_of, read_is}
 use Rattle.flat_run.specs.Views.{held_of}

@@ -1,11 +1,11 @@
 -- The conflicts of the reads of a send, one after the other.
 use Rattle.std.proofs.Common.{◌≡◌, ℕ, zero, suc, ◌+◌, ◌<◌, ◌≤◌, List, [], ◌∷◌, length, map, drop, Option, Some, None, ◌&&◌, cond, refl, sym, ap, ◌∙◌, arith, slice_index_or}
 use Rattle.pram_values.specs.declared.kind.Kind.TheVariants.{ReadConflict}
-use Rattle.superstep_code.specs.declared.key.Key.{Key}
+use Rattle.superstep_machine.specs.declared.key.Key.{Key}
 use Rattle.superstep_code.specs.Code.{SuperstepCode}
-use Rattle.superstep_code.specs.Keys.{least}
-use Rattle.superstep_code.specs.Parts.{Read}
-use Rattle.superstep_code.specs.Sending.{conflict_at, is_private, is_several}
+use Rattle.superstep_machine.specs.Keys.{least}
+use Rattle.superstep_machine.specs.Parts.{Read}
+use Rattle.superstep_machine.specs.Sending.{conflict_at, is_private, is_several}
 use Rattle.superstep_steps.specs.declared.read.Read.{Read as HeldRead}
 use Rattle.flat_machine.specs.Flat.{Flat, askers, read_conflict, read_conflicts}
 use Rattle.superstep_steps.specs.Views.{read_is}

@@ -3,7 +3,7 @@ use Rattle.std.proofs.Common.{◌≡◌, ℕ, zero, suc, ◌+◌, ◌<◌, ◌�
 use Rattle.std.specs.Prelude.{nat_lt}
 use Rattle.std.proofs.lemmas.List.{append_assoc, append-nil}
 use Rattle.std.specs.List.{filter, range_with_len}
-use Rattle.superstep_code.specs.Run.{items, items_below}
+use Rattle.superstep_machine.specs.Run.{items, items_below}
 use Rattle.superstep_steps.specs.Views.{registers_of}
 use Rattle.flat_run.proofs.ListLemmas.{split_at, drop_all}
 

@@ -1,8 +1,8 @@
 -- The parts of the processors in their list, and the cells in theirs.
 use Rattle.std.proofs.Common.{◌≡◌, ℕ, zero, suc, ◌<◌, ◌≤◌, List, [], ◌∷◌, length, Option, None, refl, sym, ap, ◌∙◌, arith, slice_index_or, slice_set, ◌+◌, ◌++◌, ⊎_elim}
 use Rattle.std.proofs.lemmas.List.{length-set}
-use Rattle.superstep_code.specs.Parts.{PrivatePart, fresh}
-use Rattle.superstep_code.specs.Sending.{cell_at}
+use Rattle.superstep_machine.specs.Parts.{PrivatePart, fresh}
+use Rattle.superstep_machine.specs.Sending.{cell_at}
 use Rattle.flat_run.specs.declared.processor.ProcessorState.{ProcessorState}
 use Rattle.flat_run.specs.Views.{part_of, own_of}
 use Rattle.flat_run.proofs.ListLemmas.{at_or_before}

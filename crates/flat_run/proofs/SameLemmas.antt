@@ -11,11 +11,11 @@ use Rattle.superstep_code.specs.declared.instr.Side.TheVariants.{Uniform, Privat
 use Rattle.superstep_code.specs.declared.instr.Instr.{Instr}
 use Rattle.superstep_code.specs.declared.instr.Instr.TheVariants.{Enter, Leave, Ask, Put}
 use Rattle.superstep_code.specs.Code.{SuperstepCode}
-use Rattle.superstep_code.specs.Keys.{least}
-use Rattle.superstep_code.specs.Parts.{Read, UniformPart, PrivatePart, set_register, fresh}
-use Rattle.superstep_code.specs.Steps.{on_uniform, on_own, uniform_key, own_key, uniform_write, own_write, index_of, is_active, is_put, renews}
-use Rattle.superstep_code.specs.Sending.{join, cell_at, several, asks_for, is_several, verdict_on, settled, conflict_at, put_conflict, is_private, uniform_sent, own_sent}
-use Rattle.superstep_code.specs.Answering.{uniform_answered, own_answered}
+use Rattle.superstep_machine.specs.Keys.{least}
+use Rattle.superstep_machine.specs.Parts.{Read, UniformPart, PrivatePart, set_register, fresh}
+use Rattle.superstep_machine.specs.Steps.{on_uniform, on_own, uniform_key, own_key, uniform_write, own_write, index_of, is_active, is_put, renews}
+use Rattle.superstep_machine.specs.Sending.{join, cell_at, several, asks_for, is_several, verdict_on, settled, conflict_at, put_conflict, is_private, uniform_sent, own_sent}
+use Rattle.superstep_machine.specs.Answering.{uniform_answered, own_answered}
 use Rattle.flat_machine.specs.Flat.{Flat, range, cells, noted, single_to, written, after_instr, owed, askers, read_conflict, read_conflicts, conflicts, after_send, after_reply, any_active, after_vote}
 use Rattle.flat_run.specs.Views.{AreSame}
 use Rattle.flat_run.proofs.SumLemmas.{any_is}

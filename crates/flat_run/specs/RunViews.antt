@@ -5,11 +5,11 @@ use Rattle.superstep_code.specs.declared.instr.Instr.TheVariants.{Mark}
 use Rattle.write_rules.specs.declared.outcome.Outcome.{Outcome}
 use Rattle.write_rules.specs.Verdict.{Verdict, verdict_of}
 use Rattle.superstep_code.specs.Code.{SuperstepCode}
-use Rattle.superstep_code.specs.Run.{Way, On, Past, Lost}
+use Rattle.superstep_machine.specs.Run.{Way, On, Past, Lost}
 use Rattle.flat_run.specs.declared.run.Stand.{Stand}
 use Rattle.flat_run.specs.declared.run.Stand.TheVariants as stand
 use Rattle.flat_run.specs.declared.run.Run.{Run}
-use Rattle.superstep_code.specs.Stretch.{advance}
+use Rattle.superstep_machine.specs.Stretch.{advance}
 use Rattle.flat_machine.specs.Flat.{Flat, after_instr}
 use Rattle.flat_machine.specs.ByExchanges.{State}
 use Rattle.flat_machine.specs.ByInstructions.{stopped, going, everywhere}

@@ -6,7 +6,7 @@ ghost use Rattle.pram_model.specs.Layout.{total_size};
 ghost use Rattle.pram_values.specs.Total.{total};
 ghost use Rattle.pram_values.specs.declared.kind.Kind.TheVariants as kind_is;
 ghost use Rattle.write_rules.specs.Rule.{shares_reads as spec_shares_reads};
-ghost use Rattle.superstep_code.specs.Sending as spec;
+ghost use Rattle.superstep_machine.specs.Sending as spec;
 ghost use Rattle.flat_machine.specs.Flat as flat;
 ghost use Rattle.superstep_steps.specs.Views.{moment_is, put_is, read_is};
 ghost use Rattle.flat_run.specs.Views.{part_of, own_of, held_of, flat_of, IsSized};
@@ -18,7 +18,7 @@ use pram_values::kind::Kind;
 use pram_values::place::Place;
 use superstep_code::code::Code;
 use superstep_code::instr::Side;
-use superstep_code::key::{Key, least};
+use superstep_machine::key::{Key, least};
 use superstep_steps::{Moment, Read, verdict_on};
 
 // A fault of several processors at a cell.

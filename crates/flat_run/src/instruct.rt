@@ -4,10 +4,10 @@ ghost use Rattle.std.specs.Prelude.{◌≡◌, ◌<◌, ℕ, None, OnOk, IfOk, i
 ghost use Rattle.std.specs.List.{range_with_len};
 ghost use Rattle.pram_model.specs.Layout.{total_size};
 ghost use Rattle.pram_values.specs.Total.{total};
-ghost use Rattle.superstep_code.specs.Keys.{least as spec_least};
-ghost use Rattle.superstep_code.specs.Parts.{fresh as spec_fresh};
-ghost use Rattle.superstep_code.specs.Sending.{join as spec_join};
-ghost use Rattle.superstep_code.specs.Steps as spec;
+ghost use Rattle.superstep_machine.specs.Keys.{least as spec_least};
+ghost use Rattle.superstep_machine.specs.Parts.{fresh as spec_fresh};
+ghost use Rattle.superstep_machine.specs.Sending.{join as spec_join};
+ghost use Rattle.superstep_machine.specs.Steps as spec;
 ghost use Rattle.flat_machine.specs.Flat.{single_to, after_instr, noted as spec_noted, written as spec_written};
 ghost use Rattle.superstep_steps.specs.Views.{uniform_of, HasRoom};
 ghost use Rattle.flat_run.specs.Views.{own_of, held_of, flat_of, IsSized, AreSame};
@@ -19,7 +19,7 @@ use pram_model::rule::Rule;
 use std::alloc::{AllocError, Global};
 use superstep_code::code::Code;
 use superstep_code::instr::Instr;
-use superstep_code::key::{Key, least};
+use superstep_machine::key::{Key, least};
 use superstep_steps::{
     UniformState, index_of, join, single, step_uniform, uniform_key, uniform_write,
 };

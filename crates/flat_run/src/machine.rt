@@ -1,7 +1,7 @@
 //! The flat machine.
 
 use crate::processor::ProcessorState;
-use superstep_code::key::Key;
+use superstep_machine::key::Key;
 use superstep_steps::UniformState;
 use write_rules::entry::Entry;
 

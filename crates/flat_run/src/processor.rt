@@ -2,8 +2,8 @@
 
 ghost use Rattle.std.specs.Prelude.{◌≡◌, ◌<◌, ◌++◌, ◌∷◌, [], ◌&&◌, None, OnOk, reverse};
 ghost use Rattle.pram_values.specs.Truth.{is_nonzero};
-ghost use Rattle.superstep_code.specs.Parts.{fresh as spec_fresh};
-ghost use Rattle.superstep_code.specs.Steps as spec;
+ghost use Rattle.superstep_machine.specs.Parts.{fresh as spec_fresh};
+ghost use Rattle.superstep_machine.specs.Steps as spec;
 ghost use Rattle.superstep_steps.specs.Views.{uniform_of};
 ghost use Rattle.flat_run.specs.Views.{part_of};
 

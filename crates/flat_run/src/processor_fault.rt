@@ -1,7 +1,7 @@
 //! What an instruction notes and writes for a processor.
 
 ghost use Rattle.std.specs.Prelude.{◌≡◌, ◌<◌};
-ghost use Rattle.superstep_code.specs.Steps as spec;
+ghost use Rattle.superstep_machine.specs.Steps as spec;
 ghost use Rattle.superstep_steps.specs.Views.{uniform_of};
 ghost use Rattle.flat_run.specs.Views.{part_of};
 
@@ -10,7 +10,7 @@ use pram_values::kind::Kind;
 use pram_values::place::Place;
 use superstep_code::code::Code;
 use superstep_code::instr::{Instr, Side};
-use superstep_code::key::Key;
+use superstep_machine::key::Key;
 use superstep_steps::{
     UniformState, computed_on, fault_at, index_of, missing, position_of, register, write_to,
     wrong_in,

@@ -2,8 +2,8 @@
 
 ghost use Rattle.std.specs.Prelude.{◌≡◌, ◌<◌, ℕ, OnOk, length, map};
 ghost use Rattle.std.specs.List.{zip};
-ghost use Rattle.superstep_code.specs.Answering as spec;
-ghost use Rattle.superstep_code.specs.Parts.{Read as SpecRead};
+ghost use Rattle.superstep_machine.specs.Answering as spec;
+ghost use Rattle.superstep_machine.specs.Parts.{Read as SpecRead};
 ghost use Rattle.flat_machine.specs.Flat as flat;
 ghost use Rattle.superstep_steps.specs.Views.{registers_of, read_is, uniform_of};
 ghost use Rattle.flat_run.specs.Views.{part_of, own_of, flat_of, IsSized, AreSame};

@@ -2,7 +2,7 @@
 
 ghost use Rattle.std.specs.Prelude.{◌≡◌, ◌≤◌, ◌<◌, ℕ, OnOk, FitsSigned, length};
 ghost use Rattle.std.specs.Int.{w64};
-ghost use Rattle.superstep_code.specs.Sending as spec;
+ghost use Rattle.superstep_machine.specs.Sending as spec;
 ghost use Rattle.flat_machine.specs.Flat as flat;
 ghost use Rattle.superstep_steps.specs.Views.{registers_of, uniform_of};
 ghost use Rattle.flat_run.specs.Views.{part_of, own_of, held_of, flat_of, IsSized, AreSame};
@@ -16,7 +16,7 @@ use pram_values::kind::Kind;
 use std::alloc::{AllocError, Global};
 use std::mem;
 use superstep_code::code::Code;
-use superstep_code::key::least;
+use superstep_machine::key::least;
 use superstep_steps::{UniformState, value_at, verdict_on};
 use write_rules::entry::Entry;
 

@@ -2,7 +2,7 @@
 
 ghost use Rattle.std.specs.Prelude.{◌≡◌, ◌<◌, ◌+◌, ◌^◌, Some, OnOk};
 ghost use Rattle.superstep_code.specs.declared.instr.Instr.TheVariants as instr_is;
-ghost use Rattle.superstep_code.specs.Run as spec;
+ghost use Rattle.superstep_machine.specs.Run as spec;
 ghost use Rattle.flat_machine.specs.ByInstructions.{instructed, exchanged, closed, going, everywhere};
 ghost use Rattle.flat_machine.specs.Flat.{after_instr};
 ghost use Rattle.superstep_steps.specs.Views.{put_is};
@@ -19,7 +19,7 @@ use pram_values::truth::is_true;
 use std::alloc::{AllocError, Global};
 use superstep_code::code::Code;
 use superstep_code::instr::Instr;
-use superstep_code::key::Key;
+use superstep_machine::key::Key;
 use superstep_steps::{Moment, register};
 
 // Whether a put is held.

@@ -2,7 +2,7 @@
 
 ghost use Rattle.std.specs.Prelude.{◌≡◌, ◌≤◌, ◌++◌, ◌∷◌, [], IfOk, OnOk, length, map};
 ghost use Rattle.pram_model.specs.Layout.{total_size};
-ghost use Rattle.superstep_code.specs.Run as spec;
+ghost use Rattle.superstep_machine.specs.Run as spec;
 ghost use Rattle.flat_machine.specs.ByExchanges.{outcome_of};
 ghost use Rattle.flat_machine.specs.Flat.{cells};
 ghost use Rattle.superstep_steps.specs.Views.{registers_of};
@@ -11,7 +11,7 @@ ghost use Rattle.flat_run.specs.RunViews.{state_of, verdict_in};
 use crate::run::{Run, Stand};
 use std::alloc::{AllocError, Global};
 use superstep_code::code::Code;
-use superstep_code::key::Key;
+use superstep_machine::key::Key;
 use write_rules::fault::Fault;
 use write_rules::outcome::Outcome;
 

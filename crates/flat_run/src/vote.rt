@@ -2,7 +2,7 @@
 
 ghost use Rattle.std.specs.Prelude.{◌≡◌, OnOk, length};
 ghost use Rattle.std.specs.List.{list_any, range_with_len};
-ghost use Rattle.superstep_code.specs.Steps as spec;
+ghost use Rattle.superstep_machine.specs.Steps as spec;
 ghost use Rattle.flat_machine.specs.Flat as flat;
 ghost use Rattle.flat_run.specs.Views.{own_of, flat_of, IsSized, AreSame};
 

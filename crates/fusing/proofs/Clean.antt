@@ -7,12 +7,12 @@ use Rattle.superstep_code.specs.declared.instr.Side.TheVariants.{Uniform, Privat
 use Rattle.superstep_code.specs.declared.instr.Instr.{Instr}
 use Rattle.superstep_code.specs.declared.instr.Instr.TheVariants.{Mark, Enter, Leave, Mask, Flip, Unmask, Ask, Send, Reply, Vote, Jump, JumpIfZero, Halt}
 use Rattle.superstep_code.specs.Code.{SuperstepCode}
-use Rattle.superstep_code.specs.Keys.{least}
-use Rattle.superstep_code.specs.Parts.{PrivatePart, UniformPart}
-use Rattle.superstep_code.specs.Run.{Way, On, Ending, Past, Refused, Lost, is_held}
-use Rattle.superstep_code.specs.Sending.{verdict_on, settled}
-use Rattle.superstep_code.specs.Steps.{is_active, on_active}
-use Rattle.superstep_code.specs.Stretch.{ToClose}
+use Rattle.superstep_machine.specs.Keys.{least}
+use Rattle.superstep_machine.specs.Parts.{PrivatePart, UniformPart}
+use Rattle.superstep_machine.specs.Run.{Way, On, Ending, Past, Refused, Lost, is_held}
+use Rattle.superstep_machine.specs.Sending.{verdict_on, settled}
+use Rattle.superstep_machine.specs.Steps.{is_active, on_active}
+use Rattle.superstep_machine.specs.Stretch.{ToClose}
 use Rattle.flat_machine.specs.Flat.{Flat, after_instr, after_send, after_reply, after_vote, read_conflicts, conflicts}
 use Rattle.flat_machine.specs.ByExchanges.{State}
 use Rattle.flat_machine.specs.ByInstructions.{stopped, going, step, step_by}

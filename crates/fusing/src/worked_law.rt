@@ -4,7 +4,7 @@ ghost use Rattle.std.specs.Prelude.{◌≡◌, [], ◌∷◌, Some, None, true, 
 ghost use Rattle.pram_values.specs.declared.kind.Kind.TheVariants.{DivideByZero};
 ghost use Rattle.pram_values.specs.declared.place.Place.TheVariants.{All};
 ghost use Rattle.write_rules.specs.Verdict.{Faulted};
-ghost use Rattle.superstep_code.specs.Run.{Sends, Closes};
+ghost use Rattle.superstep_machine.specs.Run.{Sends, Closes};
 ghost use Rattle.flat_machine.specs.ByInstructions.{everywhere, outcome_within};
 ghost use Rattle.flat_machine.specs.Exchanges.{exchanges_of};
 ghost use Rattle.fusing.specs.Worked.{dividing, dividing_fused, writing, writing_fused};

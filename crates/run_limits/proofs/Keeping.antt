@@ -10,13 +10,13 @@ use Rattle.superstep_code.specs.declared.instr.Instr.{Instr}
 use Rattle.superstep_code.specs.declared.instr.Instr.TheVariants.{Mark, CopyUniform, Index, Enter, Leave, Mask, Flip, Unmask, Ask, Put, Print}
 use Rattle.superstep_code.specs.Code.{SuperstepCode}
 use Rattle.superstep_code.specs.Limits.{IsCode, IsInstr}
-use Rattle.superstep_code.specs.Setting.{Setting, workers, processors}
-use Rattle.superstep_code.specs.Parts.{Read, UniformPart, PrivatePart, fresh}
-use Rattle.superstep_code.specs.Results.{is_of, range_width, or_empty}
-use Rattle.superstep_code.specs.Steps.{on_uniform, uniform_write, index_of, is_active, cell_for, write_to, on_active, on_own, own_write, is_put}
-use Rattle.superstep_code.specs.Worker.{HeldWrite, Worker, numbered, by_processor, uniform_writes, own_writes, after_instr}
-use Rattle.superstep_code.specs.Fitting.{FitsWrite, IsCellBelow}
-use Rattle.superstep_code.proofs.MachineWords.{all_map, all_joined, zero_fits}
+use Rattle.superstep_machine.specs.Setting.{Setting, workers, processors}
+use Rattle.superstep_machine.specs.Parts.{Read, UniformPart, PrivatePart, fresh}
+use Rattle.superstep_machine.specs.Results.{is_of, range_width, or_empty}
+use Rattle.superstep_machine.specs.Steps.{on_uniform, uniform_write, index_of, is_active, cell_for, write_to, on_active, on_own, own_write, is_put}
+use Rattle.superstep_machine.specs.Worker.{HeldWrite, Worker, numbered, by_processor, uniform_writes, own_writes, after_instr}
+use Rattle.superstep_machine.specs.Fitting.{FitsWrite, IsCellBelow}
+use Rattle.superstep_machine.proofs.MachineWords.{all_map, all_joined, zero_fits}
 use Rattle.bsp_verify.proofs.PathLemmas.{unsome}
 use Rattle.bsp_verify.proofs.WorkerLemmas.{either_way, all_made, all_add, width_at_most}
 use Rattle.flat_machine.specs.Flatness.{IsMapFor}

@@ -6,24 +6,24 @@ use Rattle.std.proofs.lemmas.List.{length-append, length-map}
 use Rattle.std.proofs.Math.Nat.{mul-le-mul_left}
 use Rattle.pram_model.specs.declared.rule.Rule.{Rule}
 use Rattle.pram_model.specs.declared.rule.Rule.TheVariants.{Erew, Crew, Common, Priority, Sum}
-use Rattle.superstep_code.specs.declared.mark.HeaderMark.{HeaderMark}
-use Rattle.superstep_code.specs.declared.mark.HeaderMark.TheVariants.{Clear, OutOfMemory, OutOfReserve}
+use Rattle.superstep_machine.specs.declared.mark.HeaderMark.{HeaderMark}
+use Rattle.superstep_machine.specs.declared.mark.HeaderMark.TheVariants.{Clear, OutOfMemory, OutOfReserve}
 use Rattle.superstep_code.specs.declared.instr.Instr.{Instr}
 use Rattle.superstep_code.specs.Limits.{IsCode, IsInstr}
-use Rattle.superstep_code.specs.Setting.{Setting, workers, processors}
-use Rattle.superstep_code.specs.Parts.{Read, PrivatePart}
-use Rattle.superstep_code.specs.Words.{CellPut, CellAsk, Message, put_words, ask_words, values_words, words}
-use Rattle.superstep_code.specs.WordReading.{put_length}
-use Rattle.superstep_code.specs.Worker.{HeldWrite, Worker, after_instr}
-use Rattle.superstep_code.specs.Stretch.{ToSend, ToReply, ToVote, ToClose, Arrival, Nowhere, At}
-use Rattle.superstep_code.specs.Machine.{phase, phases, column}
-use Rattle.superstep_code.specs.Sending.{firsts, present, cell_at, put_of, entry_held, puts_held, cells_asked, asked_twice, asks_from, asks_held, sent}
-use Rattle.superstep_code.specs.Answering.{replied, voted, closing}
-use Rattle.superstep_code.specs.Run.{Purpose, Sends, Replies, Votes, Closes, Way, On, Ending, Past, Refused, Lost, State, Ready, is_held, mark_now, no_worker, stretch, ready, ready_at, ready_by, ready_with, message_for, message_with, message_of, mark_of, after_exchange, after_with, after, bsp}
-use Rattle.superstep_code.specs.Refusals.{opening_with}
-use Rattle.superstep_code.proofs.ReadBack.{message_back}
-use Rattle.superstep_code.specs.Fitting.{CanBeSent, FitsWrite, FitsWorker, IsCellBelow}
-use Rattle.superstep_code.proofs.MachineWords.{all_map, sent_can, replied_can}
+use Rattle.superstep_machine.specs.Setting.{Setting, workers, processors}
+use Rattle.superstep_machine.specs.Parts.{Read, PrivatePart}
+use Rattle.superstep_machine.specs.Words.{CellPut, CellAsk, Message, put_words, ask_words, values_words, words}
+use Rattle.superstep_machine.specs.WordReading.{put_length}
+use Rattle.superstep_machine.specs.Worker.{HeldWrite, Worker, after_instr}
+use Rattle.superstep_machine.specs.Stretch.{ToSend, ToReply, ToVote, ToClose, Arrival, Nowhere, At}
+use Rattle.superstep_machine.specs.Machine.{phase, phases, column}
+use Rattle.superstep_machine.specs.Sending.{firsts, present, cell_at, put_of, entry_held, puts_held, cells_asked, asked_twice, asks_from, asks_held, sent}
+use Rattle.superstep_machine.specs.Answering.{replied, voted, closing}
+use Rattle.superstep_machine.specs.Run.{Purpose, Sends, Replies, Votes, Closes, Way, On, Ending, Past, Refused, Lost, State, Ready, is_held, mark_now, no_worker, stretch, ready, ready_at, ready_by, ready_with, message_for, message_with, message_of, mark_of, after_exchange, after_with, after, bsp}
+use Rattle.superstep_machine.specs.Refusals.{opening_with}
+use Rattle.superstep_machine.proofs.ReadBack.{message_back}
+use Rattle.superstep_machine.specs.Fitting.{CanBeSent, FitsWrite, FitsWorker, IsCellBelow}
+use Rattle.superstep_machine.proofs.MachineWords.{all_map, sent_can, replied_can}
 use Rattle.bsp_verify.specs.declared.state.State as states
 use Rattle.bsp_verify.specs.WellFormed.{IsWellFormed}
 use Rattle.bsp_verify.specs.Paths.{IsWithin}

@@ -5,10 +5,10 @@ use Rattle.std.specs.List.{AllByRecursion, filter, range_with_len}
 use Rattle.std.specs.Int.{w64}
 use Rattle.write_rules.specs.Verdict.{Verdict}
 use Rattle.superstep_code.specs.Limits.{IsCode}
-use Rattle.superstep_code.specs.Setting.{Setting, workers, all_cells}
-use Rattle.superstep_code.specs.Machine.{phase, run}
-use Rattle.superstep_code.specs.Run.{Way, On, Ending, Past, Refused, Lost, State, is_over, items, items_below, verdict_by, state_of, cell_in, outcome_of, bsp, opening, setting}
-use Rattle.superstep_code.proofs.MachineWords.{all_map, all_kept, value_fits, values_fit}
+use Rattle.superstep_machine.specs.Setting.{Setting, workers, all_cells}
+use Rattle.superstep_machine.specs.Machine.{phase, run}
+use Rattle.superstep_machine.specs.Run.{Way, On, Ending, Past, Refused, Lost, State, is_over, items, items_below, verdict_by, state_of, cell_in, outcome_of, bsp, opening, setting}
+use Rattle.superstep_machine.proofs.MachineWords.{all_map, all_kept, value_fits, values_fit}
 use Rattle.bsp_verify.proofs.WorkerLemmas.{all_made}
 use Rattle.bsp_verify.proofs.PathLemmas.{unsome}
 use Rattle.flat_machine.specs.Flatness.{IsMapFor}

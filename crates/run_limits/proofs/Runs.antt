@@ -10,21 +10,21 @@ use Rattle.pram_values.specs.declared.kind.Kind.TheVariants.{WriteConflict}
 use Rattle.pram_values.specs.Value.{Value, checked}
 use Rattle.pram_values.specs.Truth.{is_nonzero}
 use Rattle.write_rules.specs.declared.entry.Entry.{Entry}
-use Rattle.superstep_code.specs.declared.mark.HeaderMark.{HeaderMark}
-use Rattle.superstep_code.specs.declared.mark.HeaderMark.TheVariants.{Clear, OutOfMemory, OutOfReserve}
+use Rattle.superstep_machine.specs.declared.mark.HeaderMark.{HeaderMark}
+use Rattle.superstep_machine.specs.declared.mark.HeaderMark.TheVariants.{Clear, OutOfMemory, OutOfReserve}
 use Rattle.superstep_code.specs.declared.instr.Instr.{Instr}
 use Rattle.superstep_code.specs.declared.instr.Instr.TheVariants.{Mark, Send, Reply, Vote, Jump, JumpIfZero, Halt}
 use Rattle.superstep_code.specs.Limits.{IsCode, IsInstr}
-use Rattle.superstep_code.specs.Setting.{Setting, workers, module_cells}
-use Rattle.superstep_code.specs.Parts.{Read, PrivatePart}
-use Rattle.superstep_code.specs.Words.{CellAsk, Message, blank}
-use Rattle.superstep_code.specs.Worker.{Worker, after_instr}
-use Rattle.superstep_code.specs.Stretch.{Stop, ToSend, ToReply, ToVote, ToClose, Arrival, Nowhere, At, advance, until}
-use Rattle.superstep_code.specs.Machine.{phase, phases, column}
-use Rattle.superstep_code.specs.Sending.{verdict_on, settled, own_sent, entry_came, after_send}
-use Rattle.superstep_code.specs.Answering.{look_up, value_came, destinations, own_answered, after_reply, after_vote}
-use Rattle.superstep_code.specs.Run.{Purpose, Sends, Replies, Votes, Closes, Way, On, Ending, Past, Refused, Lost, State, Ready, mark_now, no_worker, stretch, ready, ready_at, ready_by, ready_with, message_for, message_with, message_of, mark_of, after_exchange, after_with, after, bsp, opening}
-use Rattle.superstep_code.proofs.MachineWords.{all_map, zero_fits, value_fits, values_fit}
+use Rattle.superstep_machine.specs.Setting.{Setting, workers, module_cells}
+use Rattle.superstep_machine.specs.Parts.{Read, PrivatePart}
+use Rattle.superstep_machine.specs.Words.{CellAsk, Message, blank}
+use Rattle.superstep_machine.specs.Worker.{Worker, after_instr}
+use Rattle.superstep_machine.specs.Stretch.{Stop, ToSend, ToReply, ToVote, ToClose, Arrival, Nowhere, At, advance, until}
+use Rattle.superstep_machine.specs.Machine.{phase, phases, column}
+use Rattle.superstep_machine.specs.Sending.{verdict_on, settled, own_sent, entry_came, after_send}
+use Rattle.superstep_machine.specs.Answering.{look_up, value_came, destinations, own_answered, after_reply, after_vote}
+use Rattle.superstep_machine.specs.Run.{Purpose, Sends, Replies, Votes, Closes, Way, On, Ending, Past, Refused, Lost, State, Ready, mark_now, no_worker, stretch, ready, ready_at, ready_by, ready_with, message_for, message_with, message_of, mark_of, after_exchange, after_with, after, bsp, opening}
+use Rattle.superstep_machine.proofs.MachineWords.{all_map, zero_fits, value_fits, values_fit}
 use Rattle.bsp_verify.specs.Runs.{worker_after}
 use Rattle.bsp_verify.specs.Moments.{walked}
 use Rattle.bsp_verify.proofs.WorkerLemmas.{all_made}

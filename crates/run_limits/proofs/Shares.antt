@@ -5,8 +5,8 @@ use Rattle.std.proofs.lemmas.Bool.{cases_lt}
 use Rattle.std.proofs.lemmas.Bool.Decides.{nat_tests}
 use Rattle.std.proofs.Math.Nat.{div-add-mod, mul-le-mul_left, le-div_iff_mul-le, mod-eq_of_lt, add-mod_right}
 use Rattle.pram_values.specs.Total.{in_class}
-use Rattle.superstep_code.specs.Setting.{Setting, workers, processors}
-use Rattle.superstep_code.proofs.MachineWords.{all_kept}
+use Rattle.superstep_machine.specs.Setting.{Setting, workers, processors}
+use Rattle.superstep_machine.proofs.MachineWords.{all_kept}
 use Rattle.run_limits.specs.Within.{share}
 
 module _ (p : ℕ) (some : 0 < p) (w : ℕ) where

@@ -15,10 +15,10 @@ use Rattle.superstep_code.specs.declared.instr.Arithmetic.TheVariants.{Add, Subt
 use Rattle.superstep_code.specs.declared.instr.Instr.{Instr}
 use Rattle.superstep_code.specs.declared.instr.Instr.TheVariants.{Set, Copy, Negate, Calculate, Decide, Not}
 use Rattle.superstep_code.specs.Limits.{IsInstr}
-use Rattle.superstep_code.specs.Parts.{Registers, set_register}
-use Rattle.superstep_code.specs.Results.{calculated, computed, or_zero, range_width, or_empty}
-use Rattle.superstep_code.specs.Steps.{with_result, zero_without}
-use Rattle.superstep_code.specs.Answering.{answers}
+use Rattle.superstep_machine.specs.Parts.{Registers, set_register}
+use Rattle.superstep_machine.specs.Results.{calculated, computed, or_zero, range_width, or_empty}
+use Rattle.superstep_machine.specs.Steps.{with_result, zero_without}
+use Rattle.superstep_machine.specs.Answering.{answers}
 use Rattle.run_limits.specs.Within.{HaveValues}
 
 pub zero_fits : FitsSigned w64 (pos 0)

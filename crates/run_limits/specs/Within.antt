@@ -5,17 +5,17 @@ use Rattle.std.specs.Int.{w64}
 use Rattle.pram_model.specs.declared.rule.Rule.{Rule}
 use Rattle.pram_model.specs.declared.rule.Rule.TheVariants.{Sum}
 use Rattle.write_rules.specs.Verdict.{Verdict, Ended, Faulted, GoesOn}
-use Rattle.superstep_code.specs.declared.mark.HeaderMark.{HeaderMark}
+use Rattle.superstep_machine.specs.declared.mark.HeaderMark.{HeaderMark}
 use Rattle.superstep_code.specs.Limits.{IsCode}
-use Rattle.superstep_code.specs.Setting.{Setting, workers}
-use Rattle.superstep_code.specs.Parts.{Registers, PrivatePart}
-use Rattle.superstep_code.specs.Words.{words}
-use Rattle.superstep_code.specs.Worker.{Worker}
-use Rattle.superstep_code.specs.Machine.{phases}
-use Rattle.superstep_code.specs.Run.{State, ready, message_of, bsp, IsBspOutcome}
-use Rattle.superstep_code.specs.Refusals.{opening_with}
-use Rattle.superstep_code.specs.Fitting.{CanBeSent}
-use Rattle.superstep_code.specs.WordLaws.{IsReadBack}
+use Rattle.superstep_machine.specs.Setting.{Setting, workers}
+use Rattle.superstep_machine.specs.Parts.{Registers, PrivatePart}
+use Rattle.superstep_machine.specs.Words.{words}
+use Rattle.superstep_machine.specs.Worker.{Worker}
+use Rattle.superstep_machine.specs.Machine.{phases}
+use Rattle.superstep_machine.specs.Run.{State, ready, message_of, bsp, IsBspOutcome}
+use Rattle.superstep_machine.specs.Refusals.{opening_with}
+use Rattle.superstep_machine.specs.Fitting.{CanBeSent}
+use Rattle.superstep_machine.specs.WordLaws.{IsReadBack}
 use Rattle.bsp_verify.specs.WellFormed.{IsWellFormed}
 use Rattle.bsp_verify.specs.Moments.{moment}
 use Rattle.flat_machine.specs.Flatness.{IsMapFor}

@@ -64,8 +64,8 @@ impl Code {
         }
     }
 
-    /// Code of these parts.
-    pub(crate) fn of(
+    /// Code of these parts, which are within the limits.
+    pub fn of(
         rule: Rule,
         procs: u32,
         layout: Layout,

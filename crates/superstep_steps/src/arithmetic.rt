@@ -1,8 +1,8 @@
 //! What a register instruction computes.
 
 ghost use Rattle.std.specs.Prelude.{◌≡◌, None, if◌then◌else◌};
-ghost use Rattle.superstep_code.specs.Results as spec;
-ghost use Rattle.superstep_code.specs.Steps as steps;
+ghost use Rattle.superstep_machine.specs.Results as spec;
+ghost use Rattle.superstep_machine.specs.Steps as steps;
 ghost use Rattle.superstep_steps.specs.Views.{registers_of};
 
 use crate::registers::register;

@@ -1,7 +1,7 @@
 //! How many processors a range has.
 
 ghost use Rattle.std.specs.Prelude.{◌≡◌, ◌≤ℤ◌, ◌+ℤ◌, ◌^◌, pos, IfOk};
-ghost use Rattle.superstep_code.specs.Results as spec;
+ghost use Rattle.superstep_machine.specs.Results as spec;
 
 use pram_values::kind::Kind;
 

@@ -2,8 +2,8 @@
 
 ghost use Rattle.std.specs.Prelude.{◌≡◌, ◌≤◌, length, FitsSigned, OnOk};
 ghost use Rattle.std.specs.Int.{w64};
-ghost use Rattle.superstep_code.specs.Parts.{set_register};
-ghost use Rattle.superstep_code.specs.Steps as spec;
+ghost use Rattle.superstep_machine.specs.Parts.{set_register};
+ghost use Rattle.superstep_machine.specs.Steps as spec;
 ghost use Rattle.superstep_steps.specs.Views.{registers_of};
 
 use pram_values::kind::Kind;

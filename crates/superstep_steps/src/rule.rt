@@ -1,8 +1,8 @@
 //! How the writers of one cell are combined, by the rule of the code.
 
 ghost use Rattle.std.specs.Prelude.{◌≡◌};
-ghost use Rattle.superstep_code.specs.Setting.{combining};
-ghost use Rattle.superstep_code.specs.Sending as spec;
+ghost use Rattle.superstep_machine.specs.Setting.{combining};
+ghost use Rattle.superstep_machine.specs.Sending as spec;
 
 use pram_model::rule::Rule;
 use pram_values::kind::Kind;

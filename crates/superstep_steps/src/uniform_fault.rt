@@ -1,8 +1,8 @@
 //! What an instruction notes and writes for the uniform part.
 
 ghost use Rattle.std.specs.Prelude.{◌≡◌};
-ghost use Rattle.superstep_code.specs.Results.{missing as spec_missing, kind_of as spec_kind_of};
-ghost use Rattle.superstep_code.specs.Steps as spec;
+ghost use Rattle.superstep_machine.specs.Results.{missing as spec_missing, kind_of as spec_kind_of};
+ghost use Rattle.superstep_machine.specs.Steps as spec;
 ghost use Rattle.superstep_steps.specs.Views.{uniform_of};
 
 use crate::arithmetic::{computed_on, position_of, wrong_in};
@@ -13,7 +13,7 @@ use pram_values::kind::Kind;
 use pram_values::place::Place;
 use superstep_code::code::Code;
 use superstep_code::instr::{Instr, Side};
-use superstep_code::key::Key;
+use superstep_machine::key::Key;
 
 /// No cell is a fault.
 pub fn missing(cell: Option<u32>) -> Option<Kind>

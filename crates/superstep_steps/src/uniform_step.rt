@@ -2,10 +2,10 @@
 
 ghost use Rattle.std.specs.Prelude.{◌≡◌, ◌<◌, ◌++◌, ◌∷◌, [], None, OnOk, FitsSigned};
 ghost use Rattle.std.specs.Int.{w64};
-ghost use Rattle.superstep_code.specs.Parts.{opening_part};
+ghost use Rattle.superstep_machine.specs.Parts.{opening_part};
 ghost use Rattle.superstep_code.specs.declared.instr.Instr.TheVariants as instr_is;
 ghost use Rattle.superstep_code.specs.declared.instr.Side.TheVariants as side_is;
-ghost use Rattle.superstep_code.specs.Steps as spec;
+ghost use Rattle.superstep_machine.specs.Steps as spec;
 ghost use Rattle.superstep_steps.specs.Views.{uniform_of, moment_is, read_is, HasRoom};
 
 use crate::arithmetic::computed_on;

@@ -1,4 +1,4 @@
-use Rattle.superstep_code.proofs.ReadBack.{asks_back}
+use Rattle.superstep_machine.proofs.ReadBack.{asks_back}
 use Rattle.combining.proofs.ReadBack.{packed_back, entries_back, askers_back}
 use Rattle.combining.proofs.laws.packed_words_are_read_back.Goals as goal
 

@@ -1,8 +1,8 @@
 use Rattle.std.proofs.Common.{ℕ, ℤ, Option, map, sym, ap, ◌∙◌, refl}
 use Rattle.write_rules.specs.declared.entry.Entry.{Entry}
-use Rattle.superstep_code.specs.Sending.{join, verdict_on, settled}
-use Rattle.superstep_code.proofs.Collected.{entries_are_monoid}
-use Rattle.superstep_code.specs.WordReading.{entry_read}
+use Rattle.superstep_machine.specs.Sending.{join, verdict_on, settled}
+use Rattle.superstep_machine.proofs.Collected.{entries_are_monoid}
+use Rattle.superstep_machine.specs.WordReading.{entry_read}
 use Rattle.combining.specs.Gathering.{value_at}
 use Rattle.combining.specs.Merged.{refusal}
 use Rattle.combining.proofs.Gathered.{held, nothing_left, none_noted, least_noted, is_empty}

@@ -1,7 +1,7 @@
 use Rattle.std.proofs.Common.{◌≡◌, length, ℕ, Option, drop, map}
 use Rattle.write_rules.specs.declared.entry.Entry.{Entry}
-use Rattle.superstep_code.specs.Sending.{join}
-use Rattle.superstep_code.specs.WordReading.{entry_read}
+use Rattle.superstep_machine.specs.Sending.{join}
+use Rattle.superstep_machine.specs.WordReading.{entry_read}
 use Rattle.combining.specs.Gathering.{Gathers}
 use Rattle.combining.proofs.merge.gather.Given as goal
 

@@ -1,7 +1,7 @@
 use Rattle.std.proofs.Common.{◌≡◌, ◌≤◌, ◌-◌, length, ℕ, Option, drop}
 use Rattle.write_rules.specs.declared.entry.Entry.{Entry}
-use Rattle.superstep_code.specs.Sending.{join}
-use Rattle.superstep_code.specs.WordReading.{entry_of_column}
+use Rattle.superstep_machine.specs.Sending.{join}
+use Rattle.superstep_machine.specs.WordReading.{entry_of_column}
 use Rattle.combining.specs.Gathering.{Gathers}
 use Rattle.combining.proofs.merge.gather_column.Given as goal
 

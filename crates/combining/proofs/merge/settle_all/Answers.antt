@@ -1,8 +1,8 @@
 use Rattle.std.proofs.Common.{◌<◌, ◌+◌, ℕ, Option, None, length, map, drop, ◌∙◌, arith}
 use Rattle.write_rules.specs.declared.entry.Entry.{Entry}
-use Rattle.superstep_code.specs.Sending.{join, verdict_on}
-use Rattle.superstep_code.proofs.Collected.{entries_are_monoid}
-use Rattle.superstep_code.specs.WordReading.{entry_of_column, entry_read}
+use Rattle.superstep_machine.specs.Sending.{join, verdict_on}
+use Rattle.superstep_machine.proofs.Collected.{entries_are_monoid}
+use Rattle.superstep_machine.specs.WordReading.{entry_of_column, entry_read}
 use Rattle.combining.specs.Merged.{refusal}
 use Rattle.combining.proofs.Gathered.{Notes_same}
 use Rattle.combining.proofs.Columns.{columns_more, columns_end}

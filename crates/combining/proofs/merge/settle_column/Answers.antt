@@ -1,8 +1,8 @@
 use Rattle.std.proofs.Common.{◌≡◌, ◌≤◌, ◌<◌, ◌+◌, ◌-◌, length, ℕ, drop, sym, ap, ◌∙◌, arith, length-set, refl, Option}
 use Rattle.write_rules.specs.declared.entry.Entry.{Entry}
-use Rattle.superstep_code.specs.WordReading.{put_length, entry_of_column}
-use Rattle.superstep_code.specs.Sending.{join, entry_in, verdict_on}
-use Rattle.superstep_code.proofs.Collected.{entries_are_monoid}
+use Rattle.superstep_machine.specs.WordReading.{put_length, entry_of_column}
+use Rattle.superstep_machine.specs.Sending.{join, entry_in, verdict_on}
+use Rattle.superstep_machine.proofs.Collected.{entries_are_monoid}
 use Rattle.combining.specs.Held.{put_at}
 use Rattle.combining.specs.Merged.{refusal}
 use Rattle.combining.proofs.Gathered.{Notes_same, note_taken, settle_one}

@@ -1,7 +1,7 @@
 use Rattle.std.proofs.Common.{◌≡◌, ◌≤◌, ◌-◌, length, ℕ, ℤ, Option, drop}
 use Rattle.write_rules.specs.declared.entry.Entry.{Entry}
-use Rattle.superstep_code.specs.Sending.{join, verdict_on}
-use Rattle.superstep_code.specs.WordReading.{entry_of_column}
+use Rattle.superstep_machine.specs.Sending.{join, verdict_on}
+use Rattle.superstep_machine.specs.WordReading.{entry_of_column}
 use Rattle.combining.specs.Gathering.{Notes, Owes}
 use Rattle.combining.specs.Merged.{refusal}
 use Rattle.combining.proofs.merge.settle_column.Given as goal

@@ -1,7 +1,7 @@
 use Rattle.std.proofs.Common.{◌<◌, ◌+◌, ℕ, Option, Bool, None, length, map, drop, ◌∙◌, arith}
-use Rattle.superstep_code.specs.Sending.{several}
-use Rattle.superstep_code.proofs.Collected.{askers_are_monoid}
-use Rattle.superstep_code.specs.WordReading.{askers_of_column, askers_read}
+use Rattle.superstep_machine.specs.Sending.{several}
+use Rattle.superstep_machine.proofs.Collected.{askers_are_monoid}
+use Rattle.superstep_machine.specs.WordReading.{askers_of_column, askers_read}
 use Rattle.combining.proofs.Gathered.{Gathers_same}
 use Rattle.combining.proofs.Columns.{columns_more, columns_end}
 use Rattle.combining.proofs.readers.count_all.Goals as goal

@@ -1,6 +1,6 @@
 use Rattle.std.proofs.Common.{◌≡◌, length, ℕ, Option, Bool, drop, map}
-use Rattle.superstep_code.specs.Sending.{several}
-use Rattle.superstep_code.specs.WordReading.{askers_read}
+use Rattle.superstep_machine.specs.Sending.{several}
+use Rattle.superstep_machine.specs.WordReading.{askers_read}
 use Rattle.combining.specs.Gathering.{Gathers}
 use Rattle.combining.proofs.readers.count_all.Given as goal
 

@@ -1,7 +1,7 @@
 use Rattle.std.proofs.Common.{◌<◌, ◌+◌, length, ℕ, Bool, drop, get_or, sym, ap, ◌∙◌, arith, length-set, Option, Some}
-use Rattle.superstep_code.specs.Sending.{several}
-use Rattle.superstep_code.proofs.Collected.{askers_are_monoid}
-use Rattle.superstep_code.specs.WordReading.{ask_in, askers_of_column}
+use Rattle.superstep_machine.specs.Sending.{several}
+use Rattle.superstep_machine.proofs.Collected.{askers_are_monoid}
+use Rattle.superstep_machine.specs.WordReading.{ask_in, askers_of_column}
 use Rattle.combining.specs.Gathering.{slot, Gathers}
 use Rattle.combining.proofs.Gathered.{Gathers_same, gather_one, gather_none}
 use Rattle.combining.proofs.Askers.{item, askers_more, nothing_asked, asked, asked_of, asked_here, asked_others, askers_end}

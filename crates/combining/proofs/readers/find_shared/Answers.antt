@@ -1,7 +1,7 @@
 use Rattle.std.proofs.Common.{ℕ, Option, Bool, List, map, ◌∙◌, refl}
-use Rattle.superstep_code.specs.Sending.{several}
-use Rattle.superstep_code.proofs.Collected.{askers_are_monoid}
-use Rattle.superstep_code.specs.WordReading.{askers_read}
+use Rattle.superstep_machine.specs.Sending.{several}
+use Rattle.superstep_machine.proofs.Collected.{askers_are_monoid}
+use Rattle.superstep_machine.specs.WordReading.{askers_read}
 use Rattle.combining.specs.Merged.{shared}
 use Rattle.combining.proofs.Gathered.{none_noted, least_noted, is_empty}
 use Rattle.combining.proofs.Askers.{least_shared}

@@ -1,5 +1,5 @@
 use Rattle.std.proofs.Common.{◌≡◌, length, ℕ, Option, None, Bool, drop, map}
-use Rattle.superstep_code.specs.WordReading.{askers_read}
+use Rattle.superstep_machine.specs.WordReading.{askers_read}
 use Rattle.combining.specs.Gathering.{Notes}
 use Rattle.combining.specs.Merged.{shared}
 use Rattle.combining.proofs.readers.note_all.Given as goal

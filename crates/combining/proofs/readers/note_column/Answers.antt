@@ -1,7 +1,7 @@
 use Rattle.std.proofs.Common.{◌<◌, ◌+◌, length, ℕ, Bool, drop, get_or, sym, ap, ◌∙◌, arith, length-set, refl, Option}
-use Rattle.superstep_code.specs.Sending.{several}
-use Rattle.superstep_code.proofs.Collected.{askers_are_monoid}
-use Rattle.superstep_code.specs.WordReading.{ask_in, askers_of_column}
+use Rattle.superstep_machine.specs.Sending.{several}
+use Rattle.superstep_machine.proofs.Collected.{askers_are_monoid}
+use Rattle.superstep_machine.specs.WordReading.{ask_in, askers_of_column}
 use Rattle.combining.specs.Gathering.{Notes}
 use Rattle.combining.specs.Merged.{shared}
 use Rattle.combining.proofs.Gathered.{Notes_same, note_taken, note_none}

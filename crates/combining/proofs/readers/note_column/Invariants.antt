@@ -1,6 +1,6 @@
 use Rattle.std.proofs.Common.{◌≡◌, length, ℕ, Option, Bool, drop}
-use Rattle.superstep_code.specs.Sending.{several}
-use Rattle.superstep_code.specs.WordReading.{askers_of_column}
+use Rattle.superstep_machine.specs.Sending.{several}
+use Rattle.superstep_machine.specs.WordReading.{askers_of_column}
 use Rattle.combining.specs.Gathering.{Notes}
 use Rattle.combining.specs.Merged.{shared}
 use Rattle.combining.proofs.readers.note_column.Given as goal

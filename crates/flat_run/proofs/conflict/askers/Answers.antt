@@ -1,6 +1,6 @@
 use Rattle.std.proofs.Common.{◌-◌, ◌∙◌, None, length, ap, arith}
-use Rattle.superstep_code.specs.Parts.{PrivatePart}
-use Rattle.superstep_code.specs.Sending.{several, asks_for, cell_at}
+use Rattle.superstep_machine.specs.Parts.{PrivatePart}
+use Rattle.superstep_machine.specs.Sending.{several, asks_for, cell_at}
 use Rattle.flat_run.specs.Views.{own_of}
 use Rattle.flat_run.proofs.PartLemmas.{own_is}
 use Rattle.flat_run.proofs.SumLemmas.{sum_goes}

@@ -1,5 +1,5 @@
 use Rattle.std.proofs.Common.{length, None}
-use Rattle.superstep_code.specs.Sending.{several, asks_for, cell_at}
+use Rattle.superstep_machine.specs.Sending.{several, asks_for, cell_at}
 use Rattle.flat_run.specs.Views.{own_of}
 use Rattle.flat_run.proofs.SumLemmas.{IsSumFrom}
 use Rattle.flat_run.proofs.conflict.askers.Given as goal

@@ -3,8 +3,8 @@ use Rattle.std.specs.List.{range_with_len}
 use Rattle.pram_model.specs.Layout.{total_size}
 use Rattle.pram_values.specs.declared.kind.Kind.TheVariants.{ReadConflict}
 use Rattle.pram_values.specs.Total.{total}
-use Rattle.superstep_code.specs.Keys.{least}
-use Rattle.superstep_code.specs.Sending.{several, asks_for, cell_at, conflict_at, is_private, is_several}
+use Rattle.superstep_machine.specs.Keys.{least}
+use Rattle.superstep_machine.specs.Sending.{several, asks_for, cell_at, conflict_at, is_private, is_several}
 use Rattle.superstep_steps.specs.Views.{read_is}
 use Rattle.flat_run.specs.Views.{own_of, flat_of}
 use Rattle.flat_run.proofs.ConflictLemmas.{conflict_by}

@@ -1,5 +1,5 @@
 use Rattle.std.proofs.Common.{◌-◌, ◌∙◌, ap, arith}
-use Rattle.superstep_code.specs.Keys.{least}
+use Rattle.superstep_machine.specs.Keys.{least}
 use Rattle.flat_run.specs.Views.{flat_of}
 use Rattle.flat_run.proofs.ConflictLemmas.{reads_go}
 use Rattle.flat_run.proofs.conflict.read_conflicts.Goals as goal

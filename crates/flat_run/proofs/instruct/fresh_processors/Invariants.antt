@@ -1,5 +1,5 @@
 use Rattle.std.proofs.Common.{◌≡◌, ℕ, length}
-use Rattle.superstep_code.specs.Parts.{fresh}
+use Rattle.superstep_machine.specs.Parts.{fresh}
 use Rattle.flat_run.specs.Views.{own_of}
 use Rattle.flat_run.proofs.instruct.fresh_processors.Given as goal
 

@@ -1,5 +1,5 @@
 use Rattle.std.proofs.Common.{arith}
-use Rattle.superstep_code.specs.Sending.{own_sent}
+use Rattle.superstep_machine.specs.Sending.{own_sent}
 use Rattle.flat_run.proofs.PartLemmas.{each_starts, each_goes}
 use Rattle.flat_run.proofs.send.send_processors.Goals as goal
 

@@ -1,5 +1,5 @@
 use Rattle.std.proofs.Common.{◌-◌, length}
-use Rattle.superstep_code.specs.Sending.{own_sent}
+use Rattle.superstep_machine.specs.Sending.{own_sent}
 use Rattle.flat_run.proofs.PartLemmas.{AreEach}
 use Rattle.flat_run.proofs.send.send_processors.Given as goal
 

@@ -1,5 +1,5 @@
 use Rattle.std.proofs.Common.{◌≡◌, ◌++◌, drop}
-use Rattle.superstep_code.specs.Run.{items}
+use Rattle.superstep_machine.specs.Run.{items}
 use Rattle.flat_run.proofs.verdict.items.Given as goal
 
 abbrev pub invariant-loop-item : goal.invariant-loop-item

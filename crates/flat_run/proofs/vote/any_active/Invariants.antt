@@ -1,5 +1,5 @@
 use Rattle.std.proofs.Common.{length, false, ◌||◌}
-use Rattle.superstep_code.specs.Steps.{is_active}
+use Rattle.superstep_machine.specs.Steps.{is_active}
 use Rattle.flat_run.specs.Views.{own_of}
 use Rattle.flat_run.proofs.SumLemmas.{IsSumFrom}
 use Rattle.flat_run.proofs.vote.any_active.Given as goal

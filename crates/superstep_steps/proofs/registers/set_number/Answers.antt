@@ -1,6 +1,6 @@
 use Rattle.std.proofs.Common.{◌∙◌, ap, arith, w64}
 use Rattle.std.proofs.lemmas.Int.{to_z-of_z}
-use Rattle.superstep_code.specs.Parts.{set_register}
+use Rattle.superstep_machine.specs.Parts.{set_register}
 use Rattle.superstep_steps.proofs.RegisterLemmas.{set_is}
 use Rattle.superstep_steps.proofs.registers.set_number.Goals as goal
 

@@ -3,9 +3,9 @@ use Rattle.std.proofs.Common.{w64, to_z, of_z}
 use Rattle.std.proofs.lemmas.Int.{to_z-of_z}
 use Rattle.write_rules.specs.declared.entry.Entry.{Entry}
 use Rattle.write_rules.specs.Combining.{Combining}
-use Rattle.superstep_code.specs.Setting.{combining}
-use Rattle.superstep_code.specs.Words.{CellPut}
-use Rattle.superstep_code.specs.Worker.{HeldWrite}
+use Rattle.superstep_machine.specs.Setting.{combining}
+use Rattle.superstep_machine.specs.Words.{CellPut}
+use Rattle.superstep_machine.specs.Worker.{HeldWrite}
 use Rattle.combining.specs.Places.{place_of}
 use Rattle.combining.specs.Held.{put_at, entry_of_write}
 use Rattle.combining.proofs.Pairs.{hold_at, hold_new, place_bound, length_paired}

@@ -1,12 +1,12 @@
 use Rattle.std.proofs.Common.{◌≡◌, ◌<◌, ◌+◌, ◌∷◌, length, ℕ, take, drop, sym, ap, ◌∙◌, subst, arith, true, false, length-take-le, get_or, eqb}
 use Rattle.std.proofs.lemmas.List.{get_or_default}
 use Rattle.std.proofs.lemmas.Bool.{eq-eqb, ne_eqb}
-use Rattle.superstep_code.specs.Words.{CellPut, put_words}
-use Rattle.superstep_code.specs.WordReading.{put_length}
-use Rattle.superstep_code.specs.Fitting.{FitsPut}
+use Rattle.superstep_machine.specs.Words.{CellPut, put_words}
+use Rattle.superstep_machine.specs.WordReading.{put_length}
+use Rattle.superstep_machine.specs.Fitting.{FitsPut}
 use Rattle.combining.specs.Held.{HeldPuts, put_at, packed_puts, IsPutBelow}
 use Rattle.combining.proofs.Pairs.{length_paired, paired_more, item_at, all_here, all_keys}
-use Rattle.superstep_code.proofs.ReadBack.{put_long}
+use Rattle.superstep_machine.proofs.ReadBack.{put_long}
 use Rattle.combining.proofs.Packing.{pack_yes, pack_not, pack_room, pack_end, drop_further}
 use Rattle.combining.proofs.puts.Puts.pack.Goals as goal
 use Rattle.combining.proofs.puts.Puts.pack.Goals.{then-place-part, else-place-part}

@@ -1,0 +1,4 @@
+pub mod Examples
+pub mod FaultExamples
+pub mod WorkedExamples
+pub mod SmallExamples

@@ -1,6 +1,0 @@
-use Rattle.superstep_code.proofs.KeyOrder.{keys_are_monoid, least_again}
-use Rattle.superstep_code.proofs.Collected.{entries_are_monoid, combining_carries, askers_are_monoid}
-use Rattle.superstep_code.proofs.collected_law.collected_in_any_order.Goals as goal
-
-pub returns : goal.returns
-returns c = record { keys = keys_are_monoid; again = least_again; entries = entries_are_monoid; carried = combining_carries; askers = askers_are_monoid }

@@ -1,5 +1,0 @@
-use Rattle.superstep_code.proofs.HeaderBack.{given_back}
-use Rattle.superstep_code.proofs.header_law.headers_are_given_back.Goals as goal
-
-pub returns-clause-back : goal.returns-clause-back
-returns-clause-back c = given_back

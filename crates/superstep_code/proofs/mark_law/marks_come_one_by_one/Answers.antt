@@ -1,5 +1,0 @@
-use Rattle.superstep_code.proofs.Refused.{first_is_sent, rest_is_left}
-use Rattle.superstep_code.proofs.mark_law.marks_come_one_by_one.Goals as goal
-
-pub returns : goal.returns
-returns c = record { sent = first_is_sent; left = rest_is_left }

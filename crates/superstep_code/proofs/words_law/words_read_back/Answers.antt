@@ -1,5 +1,0 @@
-use Rattle.superstep_code.proofs.ReadBack.{message_back}
-use Rattle.superstep_code.proofs.words_law.words_read_back.Goals as goal
-
-pub returns : goal.returns
-returns c = record { back = message_back }

@@ -1,5 +1,0 @@
-use Rattle.std.proofs.Common.{refl}
-use Rattle.superstep_code.proofs.words_law.worked_words.Goals as goal
-
-pub returns : goal.returns
-returns c = record { values = refl; sums = refl }

@@ -1,5 +1,0 @@
-use Rattle.std.proofs.Common.{refl}
-use Rattle.superstep_code.proofs.worked_law.a_cell_in_conflict_keeps_its_value.Goals as goal
-
-pub returns : goal.returns
-returns c = record { enough = 20; exchanges = 9; ends = refl }

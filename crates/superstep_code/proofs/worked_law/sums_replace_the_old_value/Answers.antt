@@ -1,7 +1,0 @@
-use Rattle.std.proofs.Common.{refl}
-use Rattle.std.specs.Int.{int_wrap}
-use Rattle.superstep_code.proofs.worked_law.sums_replace_the_old_value.Goals as goal
-
-pub returns : goal.returns
-unfolding int_wrap
-returns c = record { added = record { enough = 20; most = 20; ends = refl; told = refl } }

@@ -1,7 +1,0 @@
-use Rattle.std.proofs.Common.{refl}
-use Rattle.std.specs.Int.{int_wrap}
-use Rattle.superstep_code.proofs.worked_law.uniform_writes_are_made_once.Goals as goal
-
-pub returns : goal.returns
-unfolding int_wrap
-returns c = record { once = record { enough = 20; most = 20; ends = refl; told = refl } }

@@ -1,0 +1,13 @@
+pub mod Printed
+pub mod Cuts
+pub mod Numerals
+pub mod Spaces
+pub mod Decoded
+pub mod Declared
+pub mod Plain
+pub mod Entries
+pub mod Once
+pub mod Stuck
+pub mod Whole
+pub mod Listed
+pub mod Known

@@ -1,0 +1,10 @@
+use Rattle.std.proofs.Common.{◌≡◌}
+use Rattle.text_out.specs.Printing.{printing}
+use Rattle.text_out.proofs.Printed.{PrintedTo}
+use Rattle.superstep_listing.specs.Cutting.{spaced}
+use Rattle.superstep_listing.proofs.printer.Printer.numbers.Given as goal
+
+abbrev pub invariant-loop-number : goal.invariant-loop-number
+invariant-loop-number g l =
+    (l.self.out.ghost_name ≡ l.fn.self.out.ghost_name)
+    × PrintedTo spaced (printing (g.W.Out.state l.fn.self.out.now) l.fn.self.failed) (printing (g.W.Out.state l.self.out.now) l.self.failed) l.numbers l.number-index

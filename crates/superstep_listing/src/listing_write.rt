@@ -1,0 +1,33 @@
+//! The writer of listings.
+
+ghost use Rattle.std.specs.Prelude.{◌≡◌, ◌<◌, ◌≤◌, ◌^◌, length};
+ghost use Rattle.text_out.specs.Out.{Writes};
+ghost use Rattle.superstep_listing.specs.Listing.{spelling};
+ghost use Rattle.superstep_listing.specs.Text.{IsListing, longest};
+
+use superstep_code::code::Code;
+use crate::printer::Printer;
+use text_out::writer::{Out, WriteFault};
+
+/// Writes the listing of code, the one text that `read_listing` reads as this code: each line is
+/// ended by LF, its words have one space between them, and its numbers are decimal, without
+/// leading zeros.
+///
+/// `WriteFault` (E17) says that the writer failed. What it took is a beginning of the listing.
+pub fn write_listing<W: Out>(code: &Code, out: &mut W) -> Result<(), WriteFault>
+    requires counted { (W.Out.state out.old).failures < 2 ^ 63 }
+    ensures written { Writes (W.Out.state out.old) (W.Out.state out.new) (spelling code.now) result }
+{
+    let mut printer = Printer { out, failed: false };
+    printer.code(code);
+    let Printer { failed, .. } = printer;
+    if failed { Err(WriteFault) } else { Ok(()) }
+}
+
+/// What `write_listing` writes, if it is short enough, is the listing of that code. So
+/// `read_listing` finds that code, unless memory is refused.
+pub fn writing_reads_back(code: &Code)
+    ensures reads_back { length (spelling code.now) ≤ longest → IsListing (spelling code.now) code.now }
+{
+    let _instructions = code.instructions();
+}
