@@ -2,10 +2,10 @@
 
 use bsp_verify::verify::verify;
 use fusing::fuse::fuse;
-use text_out::buffer::Buffer;
 use std::alloc::Global;
 use superstep_listing::listing_read::read_listing;
 use superstep_listing::listing_write::write_listing;
+use text_out::buffer::Buffer;
 
 // The listing of the fused code.
 fn fused(alloc: Global, text: &[u8]) -> Option<Buffer> {

@@ -137,4 +137,3 @@ spelling-program p =
     spelling-append (header_tokens p.rule p.rule_location p.procs []) (declarations_tokens p.declarations ++ rest)
     ∙ ap (λ l. spelling (header_tokens p.rule p.rule_location p.procs []) ++ l) (spelling-append (declarations_tokens p.declarations) rest
     ∙ ap (λ l. spelling (declarations_tokens p.declarations) ++ (marked mark.Begin ++ l)) (spelling-append (block_tokens p.body) end))
-

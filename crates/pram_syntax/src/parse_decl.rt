@@ -10,9 +10,9 @@ ghost use Rattle.pram_syntax.specs.Follows.{Follows};
 
 use crate::error::ParseError;
 use crate::front::{a_name, a_number, behind_mark, copied, expect};
-use pram_model::rule::Rule;
 use crate::token::{Location, Mark, Name, Numeral, Token};
 use crate::tree::Declaration;
+use pram_model::rule::Rule;
 use sqlite_items::Items;
 use std::alloc::Global;
 

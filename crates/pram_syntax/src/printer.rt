@@ -8,8 +8,8 @@ ghost use Rattle.pram_syntax.specs.Spelling.{opening_text, spelled};
 use crate::spell::{binary_text, mark_end, mark_text, opening_text};
 use crate::token::{Binary, Mark, Name, Numeral, Opening, Token};
 use crate::tree::Prefix;
-use text_out::writer::Out;
 use itoa::Buffer;
+use text_out::writer::Out;
 
 /// Prints until its writer fails, and then nothing more.
 #[derive(Drop)]

@@ -7,9 +7,9 @@ ghost use Rattle.superstep_listing.specs.Listing.{ended, instr_lines, size_lines
 ghost use Rattle.superstep_listing.specs.Reading.{AreInstrs, AreRest, IsReadError};
 
 use crate::error::ReadError;
-use superstep_code::instr::Instr;
 use crate::lines::{next_field, next_instr};
 use std::alloc::Global;
+use superstep_code::instr::Instr;
 
 /// No code has more registers of a side, or more instructions.
 const MOST: u32 = 65_536;

@@ -10,11 +10,11 @@ ghost use Rattle.superstep_listing.specs.Listing as spec;
 
 use crate::cut::cut;
 use crate::entry_line::{Declaration, entry_of};
-use superstep_code::instr::Instr;
 use crate::instr_line::instr_of;
 use crate::numeral::field;
 use crate::rule_line::rule_of;
 use pram_model::rule::Rule;
+use superstep_code::instr::Instr;
 
 fn is_version(bytes: &[u8]) -> bool
     ensures value { MatchBool result (bytes.now ≡ codes "bsp 1") (bytes.now ≡ codes "bsp 1" → ⊥) }

@@ -8,12 +8,12 @@ ghost use Rattle.superstep_listing.specs.Listing.{spelling};
 ghost use Rattle.superstep_listing.specs.Reading.{AreCode, IsReadError};
 ghost use Rattle.superstep_listing.specs.Text as spec;
 
-use superstep_code::code::Code;
 use crate::error::{ListingFault, ReadError};
 use crate::instrs_read::rest_of;
 use crate::layout_read::layout_of;
 use crate::lines::{next_field, next_rule, next_version};
 use std::alloc::Global;
+use superstep_code::code::Code;
 
 /// The greatest length of a listing, in bytes.
 pub const LONGEST: usize = 8_388_608;

@@ -5,8 +5,8 @@ ghost use Rattle.text_out.specs.Out.{Writes};
 ghost use Rattle.superstep_listing.specs.Listing.{spelling};
 ghost use Rattle.superstep_listing.specs.Text.{IsListing, longest};
 
-use superstep_code::code::Code;
 use crate::printer::Printer;
+use superstep_code::code::Code;
 use text_out::writer::{Out, WriteFault};
 
 /// Writes the listing of code, the one text that `read_listing` reads as this code: each line is

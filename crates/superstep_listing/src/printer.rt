@@ -8,12 +8,12 @@ ghost use Rattle.superstep_code.specs.Limits.{most_instructions};
 ghost use Rattle.superstep_listing.specs.Listing.{ended, entry_line, entry_words, field_words, head_lines, instr_lines, instr_words, line, spelling};
 ghost use Rattle.superstep_listing.specs.Cutting.{spaced};
 
-use superstep_code::code::Code;
-use superstep_code::instr::Instr;
 use crate::spell::{letter, numbers, rule_text, stem};
 use itoa::Buffer;
 use pram_model::layout::Layout;
 use pram_model::rule::Rule;
+use superstep_code::code::Code;
+use superstep_code::instr::Instr;
 use text_out::writer::Out;
 
 /// Prints until its writer fails, and then nothing more.

@@ -4,11 +4,11 @@ ghost use Rattle.std.specs.Thread.{IsSync};
 ghost use Rattle.turnstile.specs.Seats.{TurnstileShape, RowState, AreSeatsOf};
 ghost use Rattle.thread_tests.specs.Tested.{SameOwners, MayPlay};
 
-use turnstile::{ColumnSeat, MAX_SIDE, RowSeat, Turnstile};
 use std::process::Abort;
 use std::sync::Wait;
 use std::test::Fail;
 use std::thread::{Threads, join};
+use turnstile::{ColumnSeat, MAX_SIDE, RowSeat, Turnstile};
 
 const PHASES: u64 = 1000;
 

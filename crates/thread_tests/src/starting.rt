@@ -5,12 +5,12 @@ ghost use Rattle.turnstile.specs.declared.start.told.Told.TheVariants.{Nothing, 
 ghost use Rattle.turnstile.specs.Runners.{AreNewRunners};
 ghost use Rattle.thread_tests.specs.Tested.{MayWait, SameRunners, HasHeard};
 
-use turnstile::{MAX_SIDE, Runner, StartLine, Starter};
 use std::alloc::Global;
 use std::process::Abort;
 use std::sync::Wait;
 use std::test::Fail;
 use std::thread::{Threads, join};
+use turnstile::{MAX_SIDE, Runner, StartLine, Starter};
 
 // The runner `me` waits, and compares what it hears.
 fn hear<R: Wait + Abort>(
