@@ -24,6 +24,7 @@ check:
 # The merge gate: the scripts of gate/, then every proof from nothing, every must-fail edit, every test and program.
 test:
 	python3 gate/crates_diagram.py
+	python3 gate/definitions.py
 	rt ci
 
 # Prints figures, and asserts nothing.
