@@ -11,3 +11,5 @@ pub mod Askers
 pub mod ModuleSends
 pub mod ModuleReplies
 pub mod AskPlaces
+pub mod MachineAsks
+pub mod Came

@@ -43,7 +43,7 @@ filter_less p x out (y ∷ ys) =
     ∙ ap (λ zs. cond (p y) (y ∷ zs) zs) (filter_less p x out ys))
     (eqb_tells x y)
 
-firsts_filter : (p : ℕ → Bool) (xs : List ℕ) → firsts (filter p xs) ≡ filter p (firsts xs)
+pub firsts_filter : (p : ℕ → Bool) (xs : List ℕ) → firsts (filter p xs) ≡ filter p (firsts xs)
 firsts_filter p [] = refl
 firsts_filter p (x ∷ xs) = go (p x) refl (firsts_filter p xs)
   where
@@ -130,7 +130,7 @@ same_but f g c h (x ∷ xs) =
     ∙ sym (ap (λ t. filter_map g (cond (not t) (x ∷ rest) rest)) other.0))
     (eqb_tells c x)
 
-length_filter : {A : Type 0} (p : A → Bool) (xs : List A) → length (filter p xs) ≤ length xs
+pub length_filter : {A : Type 0} (p : A → Bool) (xs : List A) → length (filter p xs) ≤ length xs
 length_filter p [] = omega arith
 length_filter p (x ∷ xs) = go (p x) (length_filter p xs)
   where

@@ -3,5 +3,7 @@ pub mod Held
 pub mod Gathering
 pub mod Merged
 pub mod Asked
+pub mod Adding
+pub mod Came
 pub mod ModuleLaws
 pub mod Answers

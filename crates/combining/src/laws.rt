@@ -10,8 +10,10 @@ ghost use Rattle.superstep_machine.specs.WordReading.{puts_in, asks_in, entry_re
 ghost use Rattle.superstep_machine.specs.Fitting.{FitsPut, FitsWrite, IsPutFor, IsAskFor};
 ghost use Rattle.superstep_machine.specs.Worker.{HeldWrite, Worker};
 ghost use Rattle.superstep_machine.specs.Sending.{join, entry_to, put_of, firsts, puts_held, entry_came, askers_came};
+ghost use Rattle.combining.specs.Adding.{AddedAsksAreTheMachines, AsksCanBeAdded, FittingAsksAreTheMachines, CellsStayBelow};
 ghost use Rattle.combining.specs.Answers.{AnswersAreTheReply};
 ghost use Rattle.combining.specs.Asked.{ValueStandsAtItsPlace, AsksMoveNothing, RepliesMoveNothing};
+ghost use Rattle.combining.specs.Came.{ValuesAreTheMachines, AddedAsksGetTheirValues};
 ghost use Rattle.combining.specs.ModuleLaws.{MergedCells, MergedConflict, SharedConflict};
 ghost use Rattle.combining.specs.Held.{held_after, packed_puts, puts_for, IsPutBelow};
 
@@ -22,6 +24,16 @@ pub fn held_puts_are_the_machines()
         → held_after rule writes [] ≡ filter_map (λ c. put_of c (total None (join rule) (entry_to rule c) writes)) (firsts (map (λ (w : HeldWrite). w.cell) writes)) }
     ensures worker { (rule : RuleName) (s : Worker) → held_after rule s.held [] ≡ puts_held rule s }
     ensures fit { (rule : RuleName) (writes : List HeldWrite) → AllByRecursion FitsWrite writes → AllByRecursion (FitsPut rule) (held_after rule writes []) }
+{}
+
+/// What the reads of a worker ask for, added read by read to nothing, each time first the uniform part's cell and then those of the
+/// processors in order, is held as the machine's definition holds it: by read the cells in the order first asked for, marked where two
+/// processors ask. All asks of a worker that fits can be added, and cells below a number stay below it.
+pub fn held_asks_are_the_machines()
+    ensures held { AddedAsksAreTheMachines }
+    ensures fit { AsksCanBeAdded }
+    ensures fitting { FittingAsksAreTheMachines }
+    ensures below { CellsStayBelow }
 {}
 
 /// The words that were packed for a module are read as the puts and the asks that they were packed from; so what is read from columns
@@ -55,4 +67,11 @@ pub fn held_asks_keep_their_places()
     ensures value { ValueStandsAtItsPlace }
     ensures asks { AsksMoveNothing }
     ensures replies { RepliesMoveNothing }
+{}
+
+/// When the replies of all modules were taken, one after the other, the value for a read and a cell is the one that the machine's worker
+/// takes for them: for any asks that it sent, and for those that were added read by read.
+pub fn taken_values_are_the_machines()
+    ensures wanted { ValuesAreTheMachines }
+    ensures added { AddedAsksGetTheirValues }
 {}
