@@ -13,3 +13,4 @@ pub mod ModuleReplies
 pub mod AskPlaces
 pub mod MachineAsks
 pub mod Came
+pub mod ByTheRule

@@ -7,3 +7,4 @@ pub mod Adding
 pub mod Came
 pub mod ModuleLaws
 pub mod Answers
+pub mod ByTheRule

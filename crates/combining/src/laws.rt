@@ -13,6 +13,7 @@ ghost use Rattle.superstep_machine.specs.Sending.{join, entry_to, put_of, firsts
 ghost use Rattle.combining.specs.Adding.{AddedAsksAreTheMachines, AsksCanBeAdded, FittingAsksAreTheMachines, CellsStayBelow};
 ghost use Rattle.combining.specs.Answers.{AnswersAreTheReply};
 ghost use Rattle.combining.specs.Asked.{ValueStandsAtItsPlace, AsksMoveNothing, RepliesMoveNothing};
+ghost use Rattle.combining.specs.ByTheRule.{MergesByTheRule};
 ghost use Rattle.combining.specs.Came.{ValuesAreTheMachines, AddedAsksGetTheirValues};
 ghost use Rattle.combining.specs.ModuleLaws.{MergedCells, MergedConflict, SharedConflict};
 ghost use Rattle.combining.specs.Held.{held_after, packed_puts, puts_for, IsPutBelow};
@@ -55,6 +56,12 @@ pub fn modules_are_the_machines()
     ensures cells { MergedCells }
     ensures conflict { MergedConflict }
     ensures shared { SharedConflict }
+{}
+
+/// A merge of what all workers packed gives each cell of the module what the write rule gives for the set of the cell's writers, and tells
+/// the least cell for whose writers it gives a conflict: the writers of a cell are different processors, on whichever workers they are.
+pub fn merges_give_what_the_rule_gives()
+    ensures { MergesByTheRule }
 {}
 
 /// What a module answers to the ask words of a send, by the values after it, are the words of the machine's reply.

@@ -25,7 +25,8 @@ use Rattle.flat_machine.specs.Flat.{Flat, single_to, written}
 use Rattle.flat_machine.specs.Flat as flat
 use Rattle.flat_machine.specs.Flatness.{IsMapFor}
 use Rattle.flat_machine.proofs.Relation.{IsRanged, wants, Splits}
-use Rattle.flat_machine.proofs.Lists.{turned, remainder_below, all_by, map_twice, zip_map}
+use Rattle.superstep_machine.proofs.Numbers.{turned}
+use Rattle.flat_machine.proofs.Lists.{remainder_below, all_by, map_twice, zip_map}
 use Rattle.flat_machine.proofs.Opening.{no_cell}
 use Rattle.flat_machine.proofs.Depths.{level_after}
 use Rattle.flat_machine.proofs.Ranges.{uniform_below, own_below, uniform_awaited_stays, own_awaited_stays, none_written, by_side_stays}

@@ -2,24 +2,9 @@
 use Rattle.std.proofs.Common.{◌≡◌, ℕ, zero, suc, ◌+◌, ◌<◌, ◌≤◌, ◌%◌, List, [], ◌∷◌, ◌++◌, map, Bool, true, false, cond, eqb, refl, ap, ◌∙◌, arith}
 use Rattle.std.specs.Prelude.{slice_index_or}
 use Rattle.std.specs.List.{AllByRecursion, range_with_len, zip}
-use Rattle.std.proofs.lemmas.Bool.Decides.{nat_tests}
 use Rattle.std.proofs.lemmas.List.FromFn.{get_or-map-range_with_len}
 use Rattle.pram_values.specs.Total.{total, in_class}
-
-pub same_number : (m n : ℕ) → eqb m n ≡ true → m ≡ n
-same_number m n h = grind (arith, nat_tests, h)
-
-pub with_itself : (n : ℕ) → eqb n n ≡ true
-with_itself n = grind (arith, nat_tests)
-
-pub turned : (m n : ℕ) → eqb m n ≡ eqb n m
-turned m n = go (eqb m n) (eqb n m) refl refl
-  where
-    go : (a b : Bool) → eqb m n ≡ a → eqb n m ≡ b → a ≡ b
-    go true true x y = refl
-    go true false x y = absurd (grind (arith, nat_tests, x, y))
-    go false true x y = absurd (grind (arith, nat_tests, x, y))
-    go false false x y = refl
+use Rattle.superstep_machine.proofs.Numbers.{same_number}
 
 pub remainder_below : (v p : ℕ) → 1 ≤ p → v % p < p
 remainder_below v p h = omega (arith, h)

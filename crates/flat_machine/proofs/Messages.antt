@@ -1,28 +1,22 @@
--- What a message says of a cell is what its sender holds for it and asks for.
-use Rattle.std.proofs.Common.{◌≡◌, ℕ, zero, suc, ◌+◌, ◌<◌, List, [], ◌∷◌, ◌++◌, map, length, Bool, true, false, not, cond, Option, Some, None, eqb, refl, sym, ap, ◌∙◌, arith}
+-- What a message asks of a cell is what its sender asks of it.
+use Rattle.std.proofs.Common.{◌≡◌, ℕ, zero, suc, ◌+◌, ◌<◌, List, [], ◌∷◌, ◌++◌, map, length, Bool, true, false, cond, Option, Some, None, eqb, refl, sym, ap, ◌∙◌, arith}
 use Rattle.std.specs.Prelude.{if◌then◌else◌, ◌&&◌, ◌||◌, slice_get}
-use Rattle.std.specs.List.{filter, filter_map, cons_option, list_any}
+use Rattle.std.specs.List.{filter, cons_option, list_any}
 use Rattle.std.proofs.lemmas.Bool.Decides.{nat_tests}
 use Rattle.std.proofs.lemmas.List.Elements.{filter-append}
-use Rattle.pram_model.specs.declared.rule.Rule.{Rule}
-use Rattle.pram_values.specs.Total.{IsMonoid, total}
+use Rattle.pram_values.specs.Total.{total}
 use Rattle.pram_values.proofs.Totals.{neutral_right, total_joined}
-use Rattle.write_rules.specs.declared.entry.Entry.{Entry}
-use Rattle.superstep_machine.specs.Setting.{combining}
 use Rattle.superstep_machine.specs.Parts.{Read, PrivatePart}
-use Rattle.superstep_machine.specs.Words.{CellPut, CellAsk}
-use Rattle.superstep_machine.specs.Worker.{HeldWrite, Worker}
-use Rattle.superstep_machine.specs.Sending.{firsts, join, entry_to, entry_held, put_of, puts_held, entry_in, cell_at, present, cells_asked, several, asks_for, is_several, asked_twice, asks_from, asked_in}
-use Rattle.superstep_machine.proofs.Collected.{entries_are_monoid, askers_are_monoid}
+use Rattle.superstep_machine.specs.Words.{CellAsk}
+use Rattle.superstep_machine.specs.Worker.{Worker}
+use Rattle.superstep_machine.specs.Sending.{firsts, cell_at, present, cells_asked, several, asks_for, is_several, asked_twice, asks_from, asked_in}
+use Rattle.superstep_machine.proofs.Numbers.{same_number, with_itself}
+use Rattle.superstep_machine.proofs.Collected.{askers_are_monoid}
+use Rattle.superstep_machine.proofs.CellPuts.{has, has_firsts, sum_firsts, same_either}
 use Rattle.flat_machine.proofs.Relation.{wants}
-use Rattle.flat_machine.proofs.Lists.{same_number, with_itself, turned}
 
 unsome : {A : Type 0} (x y : A) → Some x ≡ Some y → x ≡ y
 unsome x y h = cc
-
--- whether a number is in a list
-abbrev pub has : ℕ → List ℕ → Bool
-has c xs = list_any (λ d. eqb d c) xs
 
 pub any_joined : {A : Type 0} (test : A → Bool) (xs ys : List A) → list_any test (xs ++ ys) ≡ (list_any test xs || list_any test ys)
 any_joined test [] ys = refl
@@ -32,116 +26,6 @@ any_joined test (x ∷ xs) ys = go (test x) (any_joined test xs ys)
         (b || list_any test (xs ++ ys)) ≡ ((b || list_any test xs) || list_any test ys)
     go true rest = refl
     go false rest = rest
-
--- a test that c passes keeps it
-has_filtered : (test : ℕ → Bool) (c : ℕ) → test c ≡ true → (ds : List ℕ) → has c (filter test ds) ≡ has c ds
-has_filtered test c h [] = refl
-has_filtered test c h (d ∷ ds) = go (has_filtered test c h ds) (test d) refl (eqb d c) refl
-  where
-    go : has c (filter test ds) ≡ has c ds → (b : Bool) → test d ≡ b → (a : Bool) → eqb d c ≡ a →
-        has c (cond b (d ∷ filter test ds) (filter test ds)) ≡ (eqb d c || has c ds)
-    go rest true e a is = ap (λ z. eqb d c || z) rest
-    go rest false e true is = let no : true ≡ false = sym h ∙ ap test (sym (same_number d c is)) ∙ e in absurd (cc)
-    go rest false e false is = rest ∙ ap (λ z. z || has c ds) (sym is)
-
-has_firsts : (c : ℕ) (xs : List ℕ) → has c (firsts xs) ≡ has c xs
-has_firsts c [] = refl
-has_firsts c (x ∷ xs) = go (has_firsts c xs) (eqb x c) refl
-  where
-    go : has c (firsts xs) ≡ has c xs → (b : Bool) → eqb x c ≡ b → (b || has c (filter (λ y. not (eqb x y)) (firsts xs))) ≡ (b || has c xs)
-    go rest true e = refl
-    go rest false e = has_filtered (λ y. not (eqb x y)) c (ap not e) (firsts xs) ∙ rest
-
-module _ {A : Type 0} (op : Option A → Option A → Option A) (m : IsMonoid (Option A) None op) (f : ℕ → Option A) (c : ℕ) where
-  -- what stands at c among these
-  abbrev pub at_c : ℕ → Option A
-  at_c d = cond (eqb d c) (f d) None
-
-  sum_filtered : (test : ℕ → Bool) → test c ≡ true → (ds : List ℕ) → total None op at_c (filter test ds) ≡ total None op at_c ds
-  sum_filtered test h [] = refl
-  sum_filtered test h (d ∷ ds) = go (sum_filtered test h ds) (test d) refl (eqb d c) refl
-    where
-      go : total None op at_c (filter test ds) ≡ total None op at_c ds → (b : Bool) → test d ≡ b → (a : Bool) → eqb d c ≡ a →
-          total None op at_c (cond b (d ∷ filter test ds) (filter test ds)) ≡ op (cond (eqb d c) (f d) None) (total None op at_c ds)
-      go rest true e a is = ap (op (at_c d)) rest
-      go rest false e true is = let no : true ≡ false = sym h ∙ ap test (sym (same_number d c is)) ∙ e in absurd (cc)
-      go rest false e false is = rest ∙ sym (m.neutral (total None op at_c ds)) ∙ ap (λ b. op (cond b (f d) None) (total None op at_c ds)) (sym is)
-
-  sum_without : (ds : List ℕ) → total None op at_c (filter (λ y. not (eqb c y)) ds) ≡ None
-  sum_without [] = refl
-  sum_without (d ∷ ds) = go (sum_without ds) (eqb c d) refl
-    where
-      go : total None op at_c (filter (λ y. not (eqb c y)) ds) ≡ None → (b : Bool) → eqb c d ≡ b →
-          total None op at_c (cond (not b) (d ∷ filter (λ y. not (eqb c y)) ds) (filter (λ y. not (eqb c y)) ds)) ≡ None
-      go rest true e = rest
-      go rest false e = ap (λ b. op (cond b (f d) None) (total None op at_c (filter (λ y. not (eqb c y)) ds))) (turned d c ∙ e) ∙ m.neutral _ ∙ rest
-
-  -- of a list in which each stands once
-  pub sum_firsts : (xs : List ℕ) → total None op at_c (firsts xs) ≡ cond (has c xs) (f c) None
-  sum_firsts [] = refl
-  sum_firsts (x ∷ xs) = go (sum_firsts xs) (eqb x c) refl
-    where
-      go : total None op at_c (firsts xs) ≡ cond (has c xs) (f c) None → (b : Bool) → eqb x c ≡ b →
-          op (cond b (f x) None) (total None op at_c (filter (λ y. not (eqb x y)) (firsts xs))) ≡ cond (b || has c xs) (f c) None
-      go rest true e =
-          ap (λ (y : ℕ). op (f y) (total None op at_c (filter (λ z. not (eqb y z)) (firsts xs)))) (same_number x c e)
-          ∙ ap (op (f c)) (sum_without (firsts xs))
-          ∙ neutral_right None op m (f c)
-      go rest false e = m.neutral _ ∙ sum_filtered (λ y. not (eqb x y)) (ap not e) (firsts xs) ∙ rest
-
--- ---- what is put
-
-same_either : {A : Type 0} (b : Bool) (x : A) → x ≡ cond b x x
-same_either true x = refl
-same_either false x = refl
-
--- the puts of such entries whose cells pass a test
-abbrev puts_passing : (ℕ → Bool) → (ℕ → Option Entry) → List ℕ → List CellPut
-puts_passing test f ds = filter (λ (x : CellPut). test x.cell) (filter_map (λ d. put_of d (f d)) ds)
-
--- where c passes, they come to what stands at c
-puts_sum : (rule : Rule) (f : ℕ → Option Entry) (c : ℕ) (test : ℕ → Bool) → test c ≡ true → (ds : List ℕ) →
-    total None (join rule) (entry_in c) (puts_passing test f ds) ≡ total None (join rule) (λ d. cond (eqb d c) (f d) None) ds
-puts_sum rule f c test h [] = refl
-puts_sum rule f c test h (d ∷ ds) = go (puts_sum rule f c test h ds) (f d)
-  where
-    passed : (e : Entry) (b : Bool) → test d ≡ b → (a : Bool) → eqb d c ≡ a →
-        total None (join rule) (entry_in c) (cond b (record { cell = d; entry = e } ∷ puts_passing test f ds) (puts_passing test f ds))
-        ≡ join rule (cond (eqb d c) (Some e) None) (total None (join rule) (entry_in c) (puts_passing test f ds))
-    passed e true is a at = refl
-    passed e false is true at = let no : true ≡ false = sym h ∙ ap test (sym (same_number d c at)) ∙ is in absurd (cc)
-    passed e false is false at = ap (λ b. join rule (cond b (Some e) None) (total None (join rule) (entry_in c) (puts_passing test f ds))) (sym at)
-
-    go : total None (join rule) (entry_in c) (puts_passing test f ds) ≡ total None (join rule) (λ y. cond (eqb y c) (f y) None) ds → (o : Option Entry) →
-        total None (join rule) (entry_in c) (filter (λ (x : CellPut). test x.cell) (cons_option (put_of d o) (filter_map (λ y. put_of y (f y)) ds)))
-        ≡ join rule (cond (eqb d c) o None) (total None (join rule) (λ y. cond (eqb y c) (f y) None) ds)
-    go same None = same ∙ ap (λ e. join rule e (total None (join rule) (λ y. cond (eqb y c) (f y) None) ds)) (same_either (eqb d c) None)
-    go same (Some e) = passed e (test d) refl (eqb d c) refl ∙ ap (join rule (cond (eqb d c) (Some e) None)) same
-
--- nothing is held for a cell that isn't listed
-none_held : (rule : Rule) (c : ℕ) (held : List HeldWrite) → has c (map (λ (x : HeldWrite). x.cell) held) ≡ false →
-    total None (join rule) (entry_to rule c) held ≡ None
-none_held rule c [] h = refl
-none_held rule c (x ∷ held) h = go (none_held rule c held) (eqb x.cell c) h
-  where
-    go : (has c (map (λ (y : HeldWrite). y.cell) held) ≡ false → total None (join rule) (entry_to rule c) held ≡ None) → (b : Bool) →
-        (b || has c (map (λ (y : HeldWrite). y.cell) held)) ≡ false →
-        join rule (if b then Some ((combining rule).single x.processor x.value) else None) (total None (join rule) (entry_to rule c) held) ≡ None
-    go rest true h = absurd (cc)
-    go rest false h = rest h
-
--- one message, at a cell of its module
-pub puts_message : (rule : Rule) (s : Worker) (c : ℕ) (test : ℕ → Bool) → test c ≡ true →
-    total None (join rule) (entry_in c) (filter (λ (x : CellPut). test x.cell) (puts_held rule s)) ≡ entry_held rule s c
-puts_message rule s c test h =
-    let cells = map (λ (x : HeldWrite). x.cell) s.held in
-    puts_sum rule (entry_held rule s) c test h (firsts cells)
-    ∙ sum_firsts (join rule) (entries_are_monoid rule) (entry_held rule s) c cells
-    ∙ go (has c cells) refl
-  where
-    go : (b : Bool) → has c (map (λ (x : HeldWrite). x.cell) s.held) ≡ b → cond b (entry_held rule s c) None ≡ entry_held rule s c
-    go true e = refl
-    go false e = sym (none_held rule c s.held e)
 
 -- ---- what is asked
 

@@ -7,7 +7,7 @@ use Rattle.pram_values.proofs.Totals.{total_map, total_within, total_none, total
 use Rattle.superstep_machine.specs.Setting.{Setting, workers, module_cells}
 use Rattle.flat_machine.specs.Flat.{cells}
 use Rattle.flat_machine.specs.Flatness.{IsMapFor}
-use Rattle.flat_machine.proofs.Lists.{same_number, with_itself}
+use Rattle.superstep_machine.proofs.Numbers.{same_number, with_itself}
 
 module _ {M : Type 0} (e : M) (op : M → M → M) (m : IsMonoid M e op) where
   -- sums in two lists, in either order

@@ -18,7 +18,8 @@ use Rattle.flat_machine.specs.Flat.{Flat, range, any_active}
 use Rattle.flat_machine.specs.Flat as flat
 use Rattle.flat_machine.specs.Flatness.{IsMapFor}
 use Rattle.flat_machine.proofs.Relation.{wants, Splits}
-use Rattle.flat_machine.proofs.Lists.{same_number, with_itself, all_below, map_twice, map_class, zip_map, item_at}
+use Rattle.superstep_machine.proofs.Numbers.{same_number, with_itself}
+use Rattle.flat_machine.proofs.Lists.{all_below, map_twice, map_class, zip_map, item_at}
 use Rattle.flat_machine.proofs.Opening.{no_cell}
 use Rattle.flat_machine.proofs.Instructions.{by_workers}
 

@@ -17,15 +17,17 @@ use Rattle.superstep_machine.specs.Sending.{join, cell_at, present, several, ask
 use Rattle.superstep_machine.specs.Sending as sending
 use Rattle.superstep_machine.proofs.KeyOrder.{keys_are_monoid}
 use Rattle.superstep_machine.proofs.Collected.{askers_are_monoid}
+use Rattle.superstep_machine.proofs.CellPuts.{has, puts_message}
 use Rattle.flat_machine.specs.Flat.{Flat, range}
 use Rattle.flat_machine.specs.Flat as flat
 use Rattle.flat_machine.specs.Flatness.{IsMapFor}
 use Rattle.flat_machine.proofs.Relation.{wants, Splits}
-use Rattle.flat_machine.proofs.Lists.{same_number, with_itself, all_below, map_twice, map_each, zip_map}
+use Rattle.superstep_machine.proofs.Numbers.{same_number, with_itself}
+use Rattle.flat_machine.proofs.Lists.{all_below, map_twice, map_each, zip_map}
 use Rattle.flat_machine.proofs.Opening.{no_cell}
 use Rattle.flat_machine.proofs.Instructions.{by_workers}
 use Rattle.flat_machine.proofs.Modules.{of_modules_each}
-use Rattle.flat_machine.proofs.Messages.{has, puts_message, askers_of, asks_message, wants_asked}
+use Rattle.flat_machine.proofs.Messages.{askers_of, asks_message, wants_asked}
 
 -- ---- what is listed
 

@@ -5,3 +5,5 @@ pub mod Refused
 pub mod MachineWords
 pub mod HeaderBack
 pub mod Written
+pub mod Numbers
+pub mod CellPuts

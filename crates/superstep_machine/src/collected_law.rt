@@ -10,7 +10,7 @@ ghost use Rattle.superstep_machine.specs.Keys.{is_first, least};
 ghost use Rattle.pram_values.specs.Place.{is_place_before};
 ghost use Rattle.superstep_machine.specs.Setting.{combining};
 ghost use Rattle.superstep_machine.specs.Sending.{join, several};
-ghost use Rattle.superstep_machine.specs.WrittenCells.{EntriesOfAll, WritersGetTheRule, NoWritersNoVerdict};
+ghost use Rattle.superstep_machine.specs.WrittenCells.{EntriesOfAll, EntriesThatCame, WritersGetTheRule, NoWritersNoVerdict};
 
 /// Which of two keys is told: that of the earlier statement, there that of the lesser position, there
 /// a fault of one processor rather than a conflict, and there that of the place that comes first.
@@ -41,6 +41,8 @@ pub fn collected_in_any_order()
 /// holds them.
 pub fn writers_get_what_the_rule_gives()
     ensures all { EntriesOfAll }
+    // They come to the cell's module whole.
+    ensures came { EntriesThatCame }
     ensures given { WritersGetTheRule }
     ensures none { NoWritersNoVerdict }
 {}
