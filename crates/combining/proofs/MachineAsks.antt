@@ -14,6 +14,7 @@ use Rattle.superstep_machine.specs.Words.{CellAsk}
 use Rattle.superstep_machine.specs.Worker.{Worker}
 use Rattle.superstep_machine.specs.Fitting.{IsCellBelow}
 use Rattle.superstep_machine.specs.Sending.{firsts, cell_at, present, several, is_several, asks_for, asked_twice, asks_from}
+use Rattle.superstep_machine.proofs.MachineWords.{all_firsts, all_map, cell_at_below}
 use Rattle.combining.specs.Asked.{HeldAsk, IsAskBelow, ask_key, key_of, marked_twice, ask}
 use Rattle.combining.specs.Adding.{cells_added, asked_from, asked_by, asked_after, unanswered, HasOneSide, HaveOneSide, AddedAsksAreTheMachines, AsksCanBeAdded, FittingAsksAreTheMachines, CellsStayBelow}
 use Rattle.combining.proofs.MachinePuts.{firsts_filter, length_filter}
@@ -174,18 +175,6 @@ small_apart : (k : ℕ) (cs : List ℕ) (ys : List (ℕ × ℕ)) → AllByRecurs
 small_apart k [] ys all = (tt, all)
 small_apart k (c ∷ cs) ys all = let rest = small_apart k cs ys all.1 in ((all.0, rest.0), rest.1)
 
-small_filter : (p : ℕ → Bool) (cs : List ℕ) → AllSmall cs → AllSmall (filter p cs)
-small_filter p [] all = tt
-small_filter p (c ∷ cs) all = go (p c) (small_filter p cs all.1)
-  where
-    go : (b : Bool) → AllSmall (filter p cs) → AllSmall (cond b (c ∷ filter p cs) (filter p cs))
-    go true rest = (all.0, rest)
-    go false rest = rest
-
-small_firsts : (cs : List ℕ) → AllSmall cs → AllSmall (firsts cs)
-small_firsts [] all = tt
-small_firsts (c ∷ cs) all = (all.0, small_filter (λ d. not (eqb c d)) (firsts cs) (small_firsts cs all.1))
-
 after_more : (xs ys : List (ℕ × ℕ)) (held : List HeldAsk) → asked_after (xs ++ ys) held ≡ asked_after ys (asked_after xs held)
 after_more [] ys held = refl
 after_more (x ∷ xs) ys held = after_more xs ys (ask x.0 x.1 held)
@@ -235,7 +224,7 @@ reads_are s k (read ∷ rest) sides all =
     let now : ℕ → CellAsk = λ c. record { read = k; cell = c; twice = asked_twice s k c } in
     after_more (pairs k cs) later []
     ∙ ap (asked_after later) (read_within k (length cs) cs (omega arith) ∙ marks_are s.own k read.cell read.side sides.0)
-    ∙ all_behind s k (k + 1) (omega arith) (asked_twice s k) (firsts cs) (small_firsts cs both.0) rest both.1
+    ∙ all_behind s k (k + 1) (omega arith) (asked_twice s k) (firsts cs) (all_firsts (λ c. c < 2 ^ 20) cs both.0) rest both.1
     ∙ ap (λ ys. map (λ c. unanswered (now c)) (firsts cs) ++ ys) (reads_are s (k + 1) rest sides.1 both.1)
     ∙ sym (map-append unanswered (map now (firsts cs)) (asks_from s (k + 1) rest)
     ∙ ap (λ ys. ys ++ map unanswered (asks_from s (k + 1) rest)) (map-map unanswered now (firsts cs)))
@@ -246,15 +235,10 @@ added_are_machines s sides small = reads_are s 0 s.uniform.asks sides small
 -- ---- of a worker that fits
 
 module _ (n : ℕ) where
-  cell_below : (k : ℕ) (cells : List (Option ℕ)) → AllByRecursion (IsCellBelow n) cells → IsCellBelow n (cell_at k cells)
-  cell_below k [] all = tt
-  cell_below zero (c ∷ cells) all = all.0
-  cell_below (suc k) (c ∷ cells) all = cell_below k cells all.1
-
   own_below : (k : ℕ) (own : List PrivatePart) → AllByRecursion (λ (x : PrivatePart). AllByRecursion (IsCellBelow n) x.asks) own
       → AllByRecursion (IsCellBelow n) (own_cells k own)
-  own_below k [] all = tt
-  own_below k (x ∷ own) all = (cell_below k x.asks all.0, own_below k own all.1)
+  own_below k = all_map (λ (x : PrivatePart). AllByRecursion (IsCellBelow n) x.asks) (IsCellBelow n) (λ (x : PrivatePart). cell_at k x.asks)
+      (λ x below. cell_at_below n k x.asks below)
 
   abbrev Fits : ℕ × ℕ → Type 0
   Fits a = (a.0 < 2 ^ 3) × (a.1 < n)

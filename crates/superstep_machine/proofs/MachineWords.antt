@@ -128,7 +128,7 @@ all_present n [] h = tt
 all_present n (None ∷ os) h = all_present n os h.1
 all_present n (Some c ∷ os) h = (h.0, all_present n os h.1)
 
-cell_at_below : (n k : ℕ) (os : List (Option ℕ)) → AllByRecursion (IsCellBelow n) os → IsCellBelow n (cell_at k os)
+pub cell_at_below : (n k : ℕ) (os : List (Option ℕ)) → AllByRecursion (IsCellBelow n) os → IsCellBelow n (cell_at k os)
 cell_at_below n k [] h = tt
 cell_at_below n zero (o ∷ os) h = h.0
 cell_at_below n (suc k) (o ∷ os) h = cell_at_below n k os h.1
