@@ -26,9 +26,10 @@ use Rattle.bsp_verify.specs.Judging.{fits_exchange, IsAllowed}
 use Rattle.bsp_verify.specs.WellFormed.{IsWellFormed}
 use Rattle.bsp_verify.specs.Paths.{Point, Comes, IsWithin}
 use Rattle.bsp_verify.specs.Runs.{worker_after, IsOnPath, MayExchange, RunsAreSound}
-use Rattle.bsp_verify.specs.Moments.{walked, DescribesWorker, IsDescribed, MomentsAreSound}
+use Rattle.superstep_machine.specs.Sides.{HaveOneSide}
+use Rattle.bsp_verify.specs.Moments.{walked, DescribesWorker, IsDescribed, MomentsAreSound, ReadsHaveOneSide, SentReadsHaveOneSide}
 use Rattle.bsp_verify.proofs.PathLemmas.{both, is_false, is_zero, paths_sound}
-use Rattle.bsp_verify.proofs.WorkerLemmas.{none_of, none_came, Works, acts_worker, sent_worker, replied_worker, voted_worker, opening_worker}
+use Rattle.bsp_verify.proofs.WorkerLemmas.{one_side, none_of, none_came, Works, acts_worker, sent_worker, replied_worker, voted_worker, opening_worker}
 
 -- the state says what is held and awaited; answers are awaited alone
 pub record Describes (s : State) (u : UniformPart) : Type 0 where
@@ -295,6 +296,14 @@ module _ (t : Setting) (formed : IsWellFormed t.code) (w : ℕ) where
       let sound = paths_sound t.code formed p.steps p.point p.comes in
       ((p.steps, p.point, p.comes, p.here), may p.point.state x.uniform (describes_uniform t w p.point.state x sound.within p.describes) stop z.instr z.by z.fits)
 
+  one_side_at : (s : machine.State) → Agrees s → s.way ≡ machine.On → (stop : Stop) (place : ℕ) (x : Worker) →
+      machine.stretch t w s ≡ At stop place x →
+      HaveOneSide x.own 0 x.uniform.asks
+  one_side_at s a h stop place x e =
+      let z = subst Arrives e (follow t.enough s.place s.worker (a h)) in
+      let p = z.there in
+      one_side t w p.point.state x p.describes
+
   described : (place : ℕ) (x : Worker) → IsThere place x → IsDescribed t w place x
   described place x h = record {
     steps = h.steps;
@@ -325,3 +334,11 @@ runs_sound t formed input n w h stop place x e = may_make t formed w (worker_aft
 
 pub moments_sound : MomentsAreSound
 moments_sound t formed input n m w h place x e = at_moment t formed w (worker_after t input n w) (agree_after t formed input n w) h m place x e
+
+pub reads_have_one_side : ReadsHaveOneSide
+reads_have_one_side t formed input n m w h place x e =
+    let d = moments_sound t formed input n m w h place x e in one_side t w d.point.state x d.describes
+
+pub sent_reads_have_one_side : SentReadsHaveOneSide
+sent_reads_have_one_side t formed input n w h stop place x e =
+    one_side_at t formed w (worker_after t input n w) (agree_after t formed input n w) h stop place x e

@@ -17,7 +17,8 @@ use Rattle.superstep_machine.specs.Steps.{is_active, flipped, unmasked, on_activ
 use Rattle.superstep_machine.specs.Words.{Message}
 use Rattle.superstep_machine.specs.Worker.{Worker, numbered, after_instr}
 use Rattle.superstep_machine.specs.Run as machine
-use Rattle.superstep_machine.specs.Sending.{own_sent, after_send}
+use Rattle.superstep_machine.specs.Sides.{IsBySide, AreBySide, HasOneSide, HaveOneSide}
+use Rattle.superstep_machine.specs.Sending.{is_private, own_sent, after_send}
 use Rattle.superstep_machine.specs.Answering.{value_came, own_answered, after_reply, after_vote}
 use Rattle.bsp_verify.specs.declared.state.State.{State}
 use Rattle.bsp_verify.specs.States.{opening, after}
@@ -139,6 +140,9 @@ module _ (t : Setting) (w : ℕ) (s : State) (x : Worker) (d : DescribesWorker t
     asks_of : (b : Bool) → AreOf b x.uniform.asks
     asks_of b = subst (AreOf b) (sym no_asks) tt
 
+    none_own : AreBySide x.uniform.asks
+    none_own = subst AreBySide (sym no_asks) tt
+
     awaited_of : (b : Bool) → AreOf b x.uniform.awaited
     awaited_of b = subst (AreOf b) (sym none_awaited) tt
 
@@ -153,6 +157,7 @@ module _ (t : Setting) (w : ℕ) (s : State) (x : Worker) (d : DescribesWorker t
     each = all_fresh h.exchange (l.outside (is_false s.entered h.mode)) (processors t w (or_empty (range_width t.code.procs (x.uniform.registers r) (x.uniform.registers q))));
     asks = d.asks;
     asks_side = asks_of h.exchange true;
+    asks_own = none_own h.exchange;
     put = d.put;
     awaited = d.awaited;
     awaited_side = awaited_of h.exchange true;
@@ -164,6 +169,7 @@ module _ (t : Setting) (w : ℕ) (s : State) (x : Worker) (d : DescribesWorker t
     each = all_fresh h.exchange (is_zero s.masks h.masks) (processors t w 0);
     asks = d.asks;
     asks_side = asks_of h.exchange false;
+    asks_own = none_own h.exchange;
     put = d.put;
     awaited = d.awaited;
     awaited_side = awaited_of h.exchange false;
@@ -175,6 +181,7 @@ module _ (t : Setting) (w : ℕ) (s : State) (x : Worker) (d : DescribesWorker t
     each = all_parts (Ask Uniform e c r q) tt;
     asks = length-append x.uniform.asks _ ∙ ap (λ n. n + 1) d.asks;
     asks_side = all_add (λ (z : Read). z.side ≡ side_of s.entered) x.uniform.asks _ d.asks_side (ap side_of (sym (is_false s.entered h.mode)));
+    asks_own = all_add IsBySide x.uniform.asks _ d.asks_own (λ e. cc);
     put = d.put;
     awaited = d.awaited;
     awaited_side = d.awaited_side;
@@ -186,6 +193,7 @@ module _ (t : Setting) (w : ℕ) (s : State) (x : Worker) (d : DescribesWorker t
     each = all_parts (Ask Private e c r q) tt;
     asks = length-append x.uniform.asks _ ∙ ap (λ n. n + 1) d.asks;
     asks_side = all_add (λ (z : Read). z.side ≡ side_of s.entered) x.uniform.asks _ d.asks_side (ap side_of (sym h.mode));
+    asks_own = all_add IsBySide x.uniform.asks _ d.asks_own (λ e. refl);
     put = d.put;
     awaited = d.awaited;
     awaited_side = d.awaited_side;
@@ -197,6 +205,7 @@ module _ (t : Setting) (w : ℕ) (s : State) (x : Worker) (d : DescribesWorker t
     each = all_parts (Put side c r v q) tt;
     asks = d.asks;
     asks_side = d.asks_side;
+    asks_own = d.asks_own;
     put = refl;
     awaited = d.awaited;
     awaited_side = d.awaited_side;
@@ -208,6 +217,7 @@ module _ (t : Setting) (w : ℕ) (s : State) (x : Worker) (d : DescribesWorker t
     each = all_parts i tt;
     asks = d.asks;
     asks_side = d.asks_side;
+    asks_own = d.asks_own;
     put = d.put;
     awaited = d.awaited;
     awaited_side = d.awaited_side;
@@ -224,6 +234,7 @@ module _ (t : Setting) (w : ℕ) (s : State) (x : Worker) (d : DescribesWorker t
         (λ y h. record { masks = h.masks; asks = refl; awaited = h.asks ∙ sym d.asks }) x.own d.each;
     asks = refl;
     asks_side = tt;
+    asks_own = tt;
     put = refl;
     awaited = ap (nat_lt 0) d.asks;
     awaited_side = d.asks_side;
@@ -238,6 +249,7 @@ module _ (t : Setting) (w : ℕ) (s : State) (x : Worker) (d : DescribesWorker t
         (λ y h. record { masks = h.masks; asks = h.asks; awaited = refl }) x.own d.each;
     asks = d.asks;
     asks_side = d.asks_side;
+    asks_own = d.asks_own;
     put = d.put;
     awaited = refl;
     awaited_side = tt;
@@ -251,6 +263,7 @@ module _ (t : Setting) (w : ℕ) (s : State) (x : Worker) (d : DescribesWorker t
     each = d.each;
     asks = d.asks;
     asks_side = d.asks_side;
+    asks_own = d.asks_own;
     put = d.put;
     awaited = d.awaited;
     awaited_side = d.awaited_side;
@@ -264,7 +277,30 @@ opening_worker t w input = record {
   each = tt;
   asks = refl;
   asks_side = tt;
+  asks_own = tt;
   put = refl;
   awaited = refl;
   awaited_side = tt;
 }
+
+-- ---- each read is of one side
+
+private_sides : (own : List PrivatePart) (k : ℕ) (reads : List Read) → AllByRecursion (λ (r : Read). r.side ≡ Private) reads →
+    AreBySide reads → HaveOneSide own k reads
+private_sides own k [] sides cells = tt
+private_sides own k (r ∷ reads) sides cells =
+    (subst (HasOneSide own k r.cell) (sym sides.0) (cells.0 (ap is_private sides.0)), private_sides own (k + 1) reads sides.1 cells.1)
+
+uniform_sides : (k : ℕ) (reads : List Read) → AllByRecursion (λ (r : Read). r.side ≡ Uniform) reads → HaveOneSide [] k reads
+uniform_sides k [] sides = tt
+uniform_sides k (r ∷ reads) sides = (subst (HasOneSide [] k r.cell) (sym sides.0) tt, uniform_sides (k + 1) reads sides.1)
+
+pub one_side : (t : Setting) (w : ℕ) (s : State) (x : Worker) → DescribesWorker t w s x → HaveOneSide x.own 0 x.uniform.asks
+one_side t w s x d = go s.entered refl
+  where
+    go : (b : Bool) → s.entered ≡ b → HaveOneSide x.own 0 x.uniform.asks
+    go true e = private_sides x.own 0 x.uniform.asks (subst (λ (b : Bool). AllByRecursion (λ (r : Read). r.side ≡ side_of b) x.uniform.asks) e d.asks_side) d.asks_own
+    go false e =
+        let none : x.own ≡ [] = none_of x.own (d.processors ∙ ap (λ n. length (processors t w n)) (d.outside e)) in
+        subst (λ own. HaveOneSide own 0 x.uniform.asks) (sym none)
+        (uniform_sides 0 x.uniform.asks (subst (λ (b : Bool). AllByRecursion (λ (r : Read). r.side ≡ side_of b) x.uniform.asks) e d.asks_side))

@@ -7,8 +7,9 @@ use Rattle.superstep_code.specs.declared.instr.Instr.{Instr}
 use Rattle.superstep_machine.specs.Setting.{Setting, processors}
 use Rattle.superstep_machine.specs.Parts.{Read, UniformPart, PrivatePart}
 use Rattle.superstep_machine.specs.Worker.{Worker, after_instr}
-use Rattle.superstep_machine.specs.Stretch.{advance}
-use Rattle.superstep_machine.specs.Run.{On, is_held}
+use Rattle.superstep_machine.specs.Sides.{AreBySide, HaveOneSide}
+use Rattle.superstep_machine.specs.Stretch.{Stop, At, advance}
+use Rattle.superstep_machine.specs.Run.{On, is_held, stretch}
 use Rattle.bsp_verify.specs.declared.state.State.{State}
 use Rattle.bsp_verify.specs.WellFormed.{IsWellFormed}
 use Rattle.bsp_verify.specs.Paths.{Point, Comes, IsSound}
@@ -43,7 +44,7 @@ side_of false = Uniform
 
 -- Worker w is as the state says. Outside of a range the width is 0; a range isn't wider than the code has processors; and the worker has
 -- its processors of it. Each is under so many masks. So many reads are held, all of the side of the range, and so are those that are
--- awaited; and a write is held, and answers are awaited, or not.
+-- awaited; a private read has no cell of the uniform part; and a write is held, and answers are awaited, or not.
 pub record DescribesWorker (t : Setting) (w : ℕ) (s : State) (x : Worker) : Type 0 where
   pub outside : s.entered ≡ false → x.uniform.width ≡ 0
   pub narrow : x.uniform.width ≤ t.code.procs
@@ -51,6 +52,7 @@ pub record DescribesWorker (t : Setting) (w : ℕ) (s : State) (x : Worker) : Ty
   pub each : AllByRecursion (HasPlaces s.masks s.asks (length x.uniform.awaited)) x.own
   pub asks : length x.uniform.asks ≡ s.asks
   pub asks_side : AllByRecursion (λ (r : Read). r.side ≡ side_of s.entered) x.uniform.asks
+  pub asks_own : AreBySide x.uniform.asks
   pub put : is_held x.uniform.put ≡ s.put
   pub awaited : nat_lt 0 (length x.uniform.awaited) ≡ s.awaits
   pub awaited_side : AllByRecursion (λ (r : Read). r.side ≡ side_of s.entered) x.uniform.awaited
@@ -69,3 +71,13 @@ pub record IsDescribed (t : Setting) (w place : ℕ) (x : Worker) : Type 0 where
 abbrev pub MomentsAreSound : Type 0
 MomentsAreSound = (t : Setting) → IsWellFormed t.code → (input : List ℤ) (n m w : ℕ) → (worker_after t input n w).way ≡ On →
     (place : ℕ) (x : Worker) → moment t input n m w ≡ Some (place, x) → IsDescribed t w place x
+
+-- So each read that is held is of one side, at every moment, ..
+abbrev pub ReadsHaveOneSide : Type 0
+ReadsHaveOneSide = (t : Setting) → IsWellFormed t.code → (input : List ℤ) (n m w : ℕ) → (worker_after t input n w).way ≡ On →
+    (place : ℕ) (x : Worker) → moment t input n m w ≡ Some (place, x) → HaveOneSide x.own 0 x.uniform.asks
+
+-- .. and where a worker comes to an exchange.
+abbrev pub SentReadsHaveOneSide : Type 0
+SentReadsHaveOneSide = (t : Setting) → IsWellFormed t.code → (input : List ℤ) (n w : ℕ) → (worker_after t input n w).way ≡ On →
+    (stop : Stop) (place : ℕ) (x : Worker) → stretch t w (worker_after t input n w) ≡ At stop place x → HaveOneSide x.own 0 x.uniform.asks

@@ -1,6 +1,6 @@
 //! What runs of verified code can rely on, by the machine's definition.
 
-ghost use Rattle.bsp_verify.specs.Moments.{MomentsAreSound};
+ghost use Rattle.bsp_verify.specs.Moments.{MomentsAreSound, ReadsHaveOneSide, SentReadsHaveOneSide};
 ghost use Rattle.bsp_verify.specs.Runs.{RunsArrive, RunsAreSound};
 
 /// Each exchange that a worker comes to is on a path of control, and is one that it may make: a reply comes where answers are
@@ -20,4 +20,11 @@ pub fn runs_arrive()
 /// reads are held, of which side they are, whether a write is held, and whether answers are awaited.
 pub fn moments_are_sound()
     ensures { MomentsAreSound }
+{}
+
+/// Each read that a worker holds is of one side, at every moment of every stretch and where it comes to an
+/// exchange: a private read has no cell of the uniform part, and by a uniform one no processor asks.
+pub fn reads_have_one_side()
+    ensures moments { ReadsHaveOneSide }
+    ensures sent { SentReadsHaveOneSide }
 {}

@@ -13,10 +13,11 @@ use Rattle.superstep_machine.specs.Parts.{Read, PrivatePart}
 use Rattle.superstep_machine.specs.Words.{CellAsk}
 use Rattle.superstep_machine.specs.Worker.{Worker}
 use Rattle.superstep_machine.specs.Fitting.{IsCellBelow}
+use Rattle.superstep_machine.specs.Sides.{HasOneSide, HaveOneSide}
 use Rattle.superstep_machine.specs.Sending.{firsts, cell_at, present, several, is_several, asks_for, asked_twice, asks_from}
 use Rattle.superstep_machine.proofs.MachineWords.{all_firsts, all_map, cell_at_below}
 use Rattle.combining.specs.Asked.{HeldAsk, IsAskBelow, ask_key, key_of, marked_twice, ask}
-use Rattle.combining.specs.Adding.{cells_added, asked_from, asked_by, asked_after, unanswered, HasOneSide, HaveOneSide, AddedAsksAreTheMachines, AsksCanBeAdded, FittingAsksAreTheMachines, CellsStayBelow}
+use Rattle.combining.specs.Adding.{cells_added, asked_from, asked_by, asked_after, unanswered, AddedAsksAreTheMachines, AsksCanBeAdded, FittingAsksAreTheMachines, CellsStayBelow}
 use Rattle.combining.proofs.MachinePuts.{firsts_filter, length_filter}
 
 -- ---- one read

@@ -1,13 +1,12 @@
 -- The asks of a worker, added read by read to what is held.
-use Rattle.std.specs.Prelude.{◌≡◌, ℕ, ◌+◌, ◌^◌, ◌<◌, pos, List, [], ◌∷◌, ◌++◌, map, Option, None}
+use Rattle.std.specs.Prelude.{◌≡◌, ℕ, ◌+◌, ◌^◌, ◌<◌, pos, List, [], ◌∷◌, ◌++◌, map}
 use Rattle.std.specs.List.{AllByRecursion}
-use Rattle.superstep_code.specs.declared.instr.Side.{Side}
-use Rattle.superstep_code.specs.declared.instr.Side.TheVariants.{Uniform, Private}
 use Rattle.superstep_machine.specs.Setting.{Setting}
 use Rattle.superstep_machine.specs.Parts.{Read, PrivatePart}
 use Rattle.superstep_machine.specs.Words.{CellAsk}
 use Rattle.superstep_machine.specs.Worker.{Worker}
 use Rattle.superstep_machine.specs.Fitting.{FitsWorker}
+use Rattle.superstep_machine.specs.Sides.{HaveOneSide}
 use Rattle.superstep_machine.specs.Sending.{cell_at, present, asks_held}
 use Rattle.combining.specs.Asked.{HeldAsk, IsAskBelow, ask}
 
@@ -31,16 +30,6 @@ asked_after (a ∷ rest) held = asked_after rest (ask a.0 a.1 held)
 -- an ask for which no value came
 abbrev pub unanswered : CellAsk → HeldAsk
 unanswered x = record { ask = x; value = pos 0 }
-
--- a private read has no cell of the uniform part, and by a uniform read no processor asks
-abbrev pub HasOneSide : List PrivatePart → ℕ → Option ℕ → Side → Type 0
-HasOneSide own k cell Private = cell ≡ None
-HasOneSide own k cell Uniform = AllByRecursion (λ (x : PrivatePart). cell_at k x.asks ≡ None) own
-
--- read by read from number k on
-abbrev pub HaveOneSide : List PrivatePart → ℕ → List Read → Type 0
-HaveOneSide own k [] = Unit {0}
-HaveOneSide own k (read ∷ rest) = HasOneSide own k read.cell read.side × HaveOneSide own (k + 1) rest
 
 -- What a worker's reads ask for, added to nothing, is what the machine's worker holds, with no value yet. The premise is needed: a cell
 -- that the uniform part and one processor ask for by the same read would be marked here, and the machine counts processors alone.

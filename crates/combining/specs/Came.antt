@@ -7,9 +7,10 @@ use Rattle.superstep_machine.specs.Words.{CellAsk, Message, values_words}
 use Rattle.superstep_machine.specs.Worker.{Worker}
 use Rattle.superstep_machine.specs.Fitting.{FitsWorker}
 use Rattle.superstep_machine.specs.Sending.{after_send}
+use Rattle.superstep_machine.specs.Sides.{HaveOneSide}
 use Rattle.superstep_machine.specs.Answering.{value_came}
 use Rattle.combining.specs.Asked.{HeldAsk, replied, value_for}
-use Rattle.combining.specs.Adding.{unanswered, asked_by, asked_after, HaveOneSide}
+use Rattle.combining.specs.Adding.{unanswered, asked_by, asked_after}
 
 -- the words of the replies of modules j, j + 1, .. are taken one after the other
 abbrev pub all_replied : (ℕ → ℕ) → ℕ → List (List ℕ) → List HeldAsk → List HeldAsk

@@ -17,7 +17,7 @@ use Rattle.superstep_machine.specs.Steps.{on_uniform, uniform_write, is_active, 
 use Rattle.superstep_machine.specs.Sending.{join, cell_at}
 use Rattle.superstep_machine.proofs.Collected.{entries_are_monoid}
 use Rattle.flat_machine.specs.Flat.{Flat, range, single_to, written}
-use Rattle.flat_machine.proofs.Relation.{IsBySide, AreBySide}
+use Rattle.superstep_machine.specs.Sides.{IsBySide, AreBySide}
 
 -- what holds of both holds of the one that a test takes
 pub either : {A : Type 0} (P : A → Type 0) (b : Bool) (x y : A) → P x → P y → P (if b then x else y)

@@ -1,7 +1,7 @@
 -- The workers' states together are one flat state.
 use Rattle.std.proofs.Common.{◌≡◌, ℕ, ◌<◌, ◌≤◌, ◌%◌, List, [], map, length, Bool, true, Some, None, eqb, ◌&&◌}
 use Rattle.std.specs.Prelude.{slice_index_or}
-use Rattle.std.specs.List.{AllByRecursion, filter, list_any, range_with_len}
+use Rattle.std.specs.List.{filter, list_any, range_with_len}
 use Rattle.pram_model.specs.Layout.{total_size}
 use Rattle.pram_values.specs.Total.{total}
 use Rattle.superstep_code.specs.Code.{SuperstepCode}
@@ -10,15 +10,9 @@ use Rattle.superstep_machine.specs.Setting.{Setting, workers, processors, module
 use Rattle.superstep_machine.specs.Parts.{Read}
 use Rattle.superstep_machine.specs.Words.{CellAsk}
 use Rattle.superstep_machine.specs.Worker.{Worker}
-use Rattle.superstep_machine.specs.Sending.{join, cell_at, is_private, entry_held}
+use Rattle.superstep_machine.specs.Sides.{AreBySide}
+use Rattle.superstep_machine.specs.Sending.{join, cell_at, entry_held}
 use Rattle.flat_machine.specs.Flat.{Flat}
-
--- a private read has no cell of its own: each processor has one
-abbrev pub IsBySide : Read → Type 0
-IsBySide read = is_private read.side ≡ true → read.cell ≡ None
-
-abbrev pub AreBySide : List Read → Type 0
-AreBySide = AllByRecursion IsBySide
 
 -- What is asked for is a cell, and a private read has none but those of its processors; nothing is held but for cells; and all processors
 -- are under as many masks.

@@ -17,7 +17,8 @@ use Rattle.superstep_machine.proofs.Collected.{entries_are_monoid}
 use Rattle.flat_machine.specs.Flat.{Flat}
 use Rattle.flat_machine.specs.Flat as flat
 use Rattle.flat_machine.specs.Flatness.{IsMapFor}
-use Rattle.flat_machine.proofs.Relation.{IsBySide, AreBySide, Splits}
+use Rattle.superstep_machine.specs.Sides.{IsBySide, AreBySide}
+use Rattle.flat_machine.proofs.Relation.{Splits}
 use Rattle.flat_machine.proofs.Lists.{map_twice, item_at}
 use Rattle.flat_machine.proofs.Opening.{no_cell}
 use Rattle.flat_machine.proofs.Sends.{Finds, column, cells_sent, owed_by_modules, askers_are, reads_by_modules, wants_uniform_sent, wants_own_sent}

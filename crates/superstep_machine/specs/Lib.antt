@@ -7,6 +7,7 @@ pub mod Steps
 pub mod Words
 pub mod Worker
 pub mod Sending
+pub mod Sides
 pub mod WrittenCells
 pub mod Answering
 pub mod Stretch
