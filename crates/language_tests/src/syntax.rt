@@ -6,7 +6,7 @@ use pram_syntax::buffer::Buffer;
 use pram_syntax::error::TextFault;
 use pram_syntax::input::read_input;
 use pram_syntax::parse::parse;
-use pram_syntax::print::print_tree;
+use pram_printer::print::print_tree;
 use pram_syntax::rule::Rule;
 use pram_syntax::token::Location;
 use pram_syntax::writer::{Out, OutFailed, WriteFault};

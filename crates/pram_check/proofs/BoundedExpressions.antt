@@ -5,19 +5,19 @@ use Rattle.std.specs.Prelude.{if◌then◌else◌}
 use Rattle.std.specs.declared.boxed.Box.{Box}
 use Rattle.std.specs.declared.vec.Vec.{Vec}
 use Rattle.std.specs.declared.alloc.Global.{Global}
-use Rattle.pram_syntax.specs.declared.token.Location.{Location}
-use Rattle.pram_syntax.specs.declared.token.Name.{Name}
-use Rattle.pram_syntax.specs.declared.token.Binary.{Binary}
-use Rattle.pram_syntax.specs.declared.token.Mark.TheVariants as mark
-use Rattle.pram_syntax.specs.declared.token.Token.{Token}
-use Rattle.pram_syntax.specs.declared.token.Token.TheVariants as token
+use Rattle.pram_tokens.specs.declared.token.Location.{Location}
+use Rattle.pram_tokens.specs.declared.token.Name.{Name}
+use Rattle.pram_tokens.specs.declared.token.Binary.{Binary}
+use Rattle.pram_tokens.specs.declared.token.Mark.TheVariants as mark
+use Rattle.pram_tokens.specs.declared.token.Token.{Token}
+use Rattle.pram_tokens.specs.declared.token.Token.TheVariants as token
 use Rattle.pram_syntax.specs.declared.tree.Expr.{Expr}
 use Rattle.pram_syntax.specs.declared.tree.Expr.TheVariants as e
 use Rattle.pram_syntax.specs.Grammar.{tokens, step_tokens}
 use Rattle.pram_model.specs.Names.{same_text}
-use Rattle.pram_syntax.specs.Tokens.{AreReal}
+use Rattle.pram_tokens.specs.Tokens.{AreReal}
 use Rattle.pram_syntax.proofs.ExprTokens.{tokens-Number, tokens-Name, tokens-Element, tokens-Paren, tokens-Prefix, tokens-Chain}
-use Rattle.pram_syntax.proofs.Real.{front_real}
+use Rattle.pram_tokens.proofs.Real.{front_real}
 use Rattle.pram_check.specs.declared.body.Expression.{Expression, Row_of-Link, end_of-Link, items-the_row-Link, items_hidden-the_row-Link-0}
 use Rattle.pram_check.specs.declared.body.Expression.{more_of-Link}
 use Rattle.pram_check.specs.declared.body.Expression as value

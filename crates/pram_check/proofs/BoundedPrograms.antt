@@ -5,8 +5,8 @@ use Rattle.std.specs.Prelude.{slice_get, if◌then◌else◌, int_lt, ◌≤ℤ�
 use Rattle.std.specs.List.{AllByRecursion}
 use Rattle.std.proofs.lemmas.Bool.Decides.{nat_tests}
 use Rattle.std.proofs.lemmas.Int.{ints}
-use Rattle.pram_syntax.specs.declared.token.Mark.TheVariants as mark
-use Rattle.pram_syntax.specs.declared.token.Token.TheVariants as token
+use Rattle.pram_tokens.specs.declared.token.Mark.TheVariants as mark
+use Rattle.pram_tokens.specs.declared.token.Token.TheVariants as token
 use Rattle.pram_syntax.specs.declared.tree.Declaration.{Declaration}
 use Rattle.pram_syntax.specs.declared.tree.Declaration.TheVariants as declare
 use Rattle.pram_syntax.specs.Blocks.{block_tokens}
@@ -14,8 +14,8 @@ use Rattle.pram_model.specs.Declarations.{IsEntry, IsNew, AreDifferent, names_of
 use Rattle.pram_model.specs.Layout.{SharedEntry, size, total_size, most_cells}
 use Rattle.pram_syntax.specs.Program.{IsTree, limit, declarations_tokens, program_tokens}
 use Rattle.pram_model.specs.Names.{same_text}
-use Rattle.pram_syntax.specs.Tokens.{AreReal, IsNumber}
-use Rattle.pram_syntax.proofs.Real.{front_real}
+use Rattle.pram_tokens.specs.Tokens.{AreReal, IsNumber}
+use Rattle.pram_tokens.proofs.Real.{front_real}
 use Rattle.pram_check.specs.declared.fault.Breach.{Breach}
 use Rattle.pram_check.specs.declared.fault.Cause.{Cause}
 use Rattle.pram_check.specs.declared.fault.Cause.TheVariants as cause

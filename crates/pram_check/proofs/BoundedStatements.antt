@@ -5,19 +5,19 @@ use Rattle.std.proofs.lemmas.List.{append-nil}
 use Rattle.std.specs.declared.vec.Vec.{Vec}
 use Rattle.std.specs.declared.alloc.Global.{Global}
 use Rattle.pram_model.specs.Layout.{SharedEntry}
-use Rattle.pram_syntax.specs.declared.token.Binary.TheVariants as op
-use Rattle.pram_syntax.specs.declared.token.Location.{Location}
-use Rattle.pram_syntax.specs.declared.token.Name.{Name}
-use Rattle.pram_syntax.specs.declared.token.Mark.TheVariants as mark
-use Rattle.pram_syntax.specs.declared.token.Opening.TheVariants as opening
-use Rattle.pram_syntax.specs.declared.token.Token.TheVariants as token
+use Rattle.pram_tokens.specs.declared.token.Binary.TheVariants as op
+use Rattle.pram_tokens.specs.declared.token.Location.{Location}
+use Rattle.pram_tokens.specs.declared.token.Name.{Name}
+use Rattle.pram_tokens.specs.declared.token.Mark.TheVariants as mark
+use Rattle.pram_tokens.specs.declared.token.Opening.TheVariants as opening
+use Rattle.pram_tokens.specs.declared.token.Token.TheVariants as token
 use Rattle.pram_syntax.specs.declared.tree.Expr.{Expr}
 use Rattle.pram_syntax.specs.declared.tree.Stmt.{Stmt}
 use Rattle.pram_syntax.specs.declared.tree.Stmt.TheVariants as st
 use Rattle.pram_syntax.specs.Grammar.{tokens}
 use Rattle.pram_syntax.specs.Blocks.{statement_tokens, block_tokens, else_tokens, local_tokens}
-use Rattle.pram_syntax.specs.Tokens.{AreReal}
-use Rattle.pram_syntax.proofs.Real.{front_real}
+use Rattle.pram_tokens.specs.Tokens.{AreReal}
+use Rattle.pram_tokens.proofs.Real.{front_real}
 use Rattle.pram_syntax.proofs.StmtTokens.{spell_print, spell_for, spell_pardo}
 use Rattle.pram_check.specs.declared.body.Expression.{Expression}
 use Rattle.pram_check.specs.declared.body.Statement.{Statement, Row_of-Statement, end_of-Statement, items-the_row-Statement}

@@ -1,8 +1,8 @@
 -- How deep a tree's statements nest.
 use Rattle.std.proofs.Common.{◌≡◌, ◌+◌, ◌≤◌, ℕ, zero, suc, max, List, [], ◌∷◌, Option, Some, None, refl, sym, ap, ◌∙◌, arith}
 use mathlib.Core.List.{map}
-use Rattle.pram_syntax.specs.declared.token.Location.{Location}
-use Rattle.pram_syntax.specs.declared.token.Name.{Name}
+use Rattle.pram_tokens.specs.declared.token.Location.{Location}
+use Rattle.pram_tokens.specs.declared.token.Name.{Name}
 use Rattle.pram_syntax.specs.declared.tree.Expr.{Expr}
 use Rattle.pram_syntax.specs.declared.tree.Stmt.{Stmt}
 use Rattle.pram_syntax.specs.declared.tree.Stmt.TheVariants as s

@@ -4,9 +4,9 @@ use Rattle.std.proofs.lemmas.List.{append-nil, take-append-drop, take_more}
 use Rattle.std.specs.declared.boxed.Box.{Box}
 use Rattle.std.specs.declared.vec.Vec.{Vec}
 use Rattle.std.specs.declared.alloc.Global.{Global}
-use Rattle.pram_syntax.specs.declared.token.Name.{Name}
-use Rattle.pram_syntax.specs.declared.token.Numeral.{Numeral}
-use Rattle.pram_syntax.specs.declared.token.Binary.{Binary}
+use Rattle.pram_tokens.specs.declared.token.Name.{Name}
+use Rattle.pram_tokens.specs.declared.token.Numeral.{Numeral}
+use Rattle.pram_tokens.specs.declared.token.Binary.{Binary}
 use Rattle.pram_syntax.specs.declared.tree.Prefix.{Prefix}
 use Rattle.pram_syntax.specs.declared.tree.Expr.{Expr}
 use Rattle.pram_syntax.specs.declared.tree.Expr.TheVariants as e

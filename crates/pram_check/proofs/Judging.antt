@@ -2,7 +2,7 @@
 use Rattle.std.proofs.Common.{◌≡◌, ◌+◌, ℕ, List, [], ◌∷◌, ◌++◌, Some, None, Result, Ok, Err, refl, sym, ap, ◌∙◌, subst, arith, append_assoc}
 use Rattle.std.proofs.lemmas.Result.{err_from_is_err_and}
 use Rattle.std.specs.Prelude.{IsErrAnd, if◌then◌else◌}
-use Rattle.pram_syntax.specs.declared.token.Location.{Location}
+use Rattle.pram_tokens.specs.declared.token.Location.{Location}
 use Rattle.pram_check.specs.declared.fault.Breach.{Breach}
 use Rattle.pram_check.specs.declared.fault.Cause.{Cause}
 use Rattle.pram_check.specs.declared.fault.Spot.TheVariants.{Offset}

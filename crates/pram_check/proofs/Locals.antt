@@ -1,7 +1,7 @@
 -- The locals of a pardo, taken in one after the other.
 use Rattle.std.proofs.Common.{◌≡◌, ◌+◌, ◌<◌, ℕ, List, [], ◌∷◌, ◌++◌, Some, None, sym, ap, ◌∙◌, arith, append_assoc, length, get_or, take, drop}
 use Rattle.std.proofs.lemmas.List.{append-nil, take-append-drop, take_more, length-take-le}
-use Rattle.pram_syntax.specs.declared.token.Name.{Name}
+use Rattle.pram_tokens.specs.declared.token.Name.{Name}
 use Rattle.pram_check.specs.declared.scope.Meaning.TheVariants.{Local}
 use Rattle.pram_check.specs.Scope.{Scope, locals_from}
 use Rattle.pram_check.specs.Breaches.{at, new_cause, local_breaches, first}

@@ -1,8 +1,8 @@
 -- How the first breach of a statement follows from those of its parts.
 use Rattle.std.proofs.Common.{◌≡◌, List, [], ◌∷◌, ◌++◌, Option, None, refl, sym, ap, ◌∙◌, append_assoc, ℕ, ◌+◌, ◌<◌, length, take, drop, get_or}
 use Rattle.std.proofs.lemmas.List.{append-nil, take-append-drop, take_more}
-use Rattle.pram_syntax.specs.declared.token.Location.{Location}
-use Rattle.pram_syntax.specs.declared.token.Name.{Name}
+use Rattle.pram_tokens.specs.declared.token.Location.{Location}
+use Rattle.pram_tokens.specs.declared.token.Name.{Name}
 use Rattle.pram_syntax.specs.declared.tree.Expr.{Expr}
 use Rattle.pram_syntax.specs.declared.tree.Stmt.{Stmt}
 use Rattle.pram_syntax.specs.declared.tree.Stmt.TheVariants as s

@@ -4,9 +4,9 @@ use Rattle.std.specs.Prelude.{if◌then◌else◌}
 use Rattle.std.specs.List.Sorted.{IsStrictlyIncreasing}
 use mathlib.Core.Logic.{◌⊎◌, inl}
 use Rattle.std.proofs.lemmas.List.Elements.{All-cons}
-use Rattle.pram_syntax.specs.declared.token.Mark.TheVariants as mark
-use Rattle.pram_syntax.specs.declared.token.Numeral.{Numeral}
-use Rattle.pram_syntax.specs.declared.token.Token.TheVariants as token
+use Rattle.pram_tokens.specs.declared.token.Mark.TheVariants as mark
+use Rattle.pram_tokens.specs.declared.token.Numeral.{Numeral}
+use Rattle.pram_tokens.specs.declared.token.Token.TheVariants as token
 use Rattle.pram_syntax.specs.declared.tree.Declaration.{Declaration}
 use Rattle.pram_syntax.specs.declared.tree.Declaration.TheVariants as declare
 use Rattle.pram_syntax.specs.declared.tree.Stmt.{Stmt}
@@ -22,9 +22,9 @@ use Rattle.pram_check.specs.Scope.{Scope}
 use Rattle.pram_check.specs.Breaches.{at, first, breaches, procs_cause, block_breaches, body_context, outside_of, declaration_breaches, token_breaches, most_tokens}
 use Rattle.pram_check.specs.Faults.{all_at, procs_causes, block_faults, declaration_faults, faults, offset_in, offsets_in, IsBefore, IsLeast}
 use Rattle.pram_syntax.specs.Text.{IsTextOf}
-use Rattle.pram_syntax.proofs.Offsets.{in_order}
+use Rattle.pram_tokens.proofs.Offsets.{in_order}
 use Rattle.pram_check.proofs.Sublists.{Between, between, increasing}
-use Rattle.pram_syntax.specs.InOrder.{places, StandInOrder}
+use Rattle.pram_tokens.specs.InOrder.{places, StandInOrder}
 use Rattle.pram_check.proofs.Least.{Told, ToldIn, Leads, told_at, told_nothing, told_append, join, front, behind, nothing}
 use Rattle.pram_check.proofs.Lowest.{shared_lowest, new_lowest, where_it_holds}
 use Rattle.pram_check.proofs.StatementFaults.{named, told_statement}

@@ -3,7 +3,7 @@ use Rattle.std.proofs.Common.{◌≡◌, ◌+◌, ◌<◌, ℕ, List, [], ◌∷
 use Rattle.std.proofs.lemmas.List.{take_more}
 use Rattle.std.specs.declared.vec.Vec.{Vec}
 use Rattle.std.specs.declared.alloc.Global.{Global}
-use Rattle.pram_syntax.specs.declared.token.Location.{Location}
+use Rattle.pram_tokens.specs.declared.token.Location.{Location}
 use Rattle.pram_syntax.specs.declared.tree.Expr.{Expr}
 use Rattle.pram_syntax.specs.declared.tree.Stmt.{Stmt}
 use Rattle.pram_syntax.specs.declared.tree.Stmt.TheVariants as s

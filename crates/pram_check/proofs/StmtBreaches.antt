@@ -1,8 +1,8 @@
 -- What is wrong with each form of statement.
 use Rattle.std.proofs.Common.{◌≡◌, List, [], ◌∷◌, ◌++◌, Option, Some, None, refl, sym, ap, ◌∙◌}
 use mathlib.Core.List.{map}
-use Rattle.pram_syntax.specs.declared.token.Location.{Location}
-use Rattle.pram_syntax.specs.declared.token.Name.{Name}
+use Rattle.pram_tokens.specs.declared.token.Location.{Location}
+use Rattle.pram_tokens.specs.declared.token.Name.{Name}
 use Rattle.pram_syntax.specs.declared.tree.Expr.{Expr}
 use Rattle.pram_syntax.specs.declared.tree.Stmt.{Stmt}
 use Rattle.pram_syntax.specs.declared.tree.Stmt.TheVariants as s

@@ -1,14 +1,14 @@
 -- What is wrong with the names of an expression, and what is told of it.
 use Rattle.std.proofs.Common.{ℕ, ◌+◌, List, [], ◌∷◌, ◌++◌, arith}
 use Rattle.std.specs.Prelude.{if◌then◌else◌}
-use Rattle.pram_syntax.specs.declared.token.Token.{Token}
+use Rattle.pram_tokens.specs.declared.token.Token.{Token}
 use Rattle.pram_syntax.specs.declared.tree.Expr.{Expr}
 use Rattle.pram_syntax.specs.Grammar.{tokens}
 use Rattle.pram_check.specs.Scope.{Scope, meaning_of}
 use Rattle.pram_check.specs.Breaches.{Use, uses, use_breaches, use_cause, ninth, or_else, is_read, at}
 use Rattle.pram_check.specs.Faults.{use_faults, use_causes, all_at}
 use Rattle.pram_check.proofs.Sublists.{Between, between_sub}
-use Rattle.pram_syntax.specs.InOrder.{places}
+use Rattle.pram_tokens.specs.InOrder.{places}
 use Rattle.pram_check.proofs.Places.{use_offsets, UsesIn, join_uses, behind_uses, expression_places}
 use Rattle.pram_check.proofs.Least.{Told, ToldIn, told_nothing, told_append, told_at}
 use Rattle.pram_check.proofs.Lowest.{use_lowest}

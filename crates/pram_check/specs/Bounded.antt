@@ -3,7 +3,7 @@ use Rattle.std.specs.Prelude.{◌≡◌, ℕ, ◌+◌, ◌≤◌, ◌<◌, max, 
 use Rattle.pram_model.specs.Declarations.{IsLayout}
 use Rattle.pram_model.specs.Layout.{SharedEntry}
 use Rattle.pram_syntax.specs.Program.{limit, program_tokens}
-use Rattle.pram_syntax.specs.Tokens.{IsNumber}
+use Rattle.pram_tokens.specs.Tokens.{IsNumber}
 use Rattle.pram_check.specs.declared.body.Expression.{Expression, Number, Uniform, Index, Local, Cell, Element', Prefix', Chain'}
 use Rattle.pram_check.specs.declared.body.Expression.{Row_of-Link, end_of-Link, more_of-Link}
 use Rattle.pram_check.specs.declared.body.Target.{Target}

@@ -3,8 +3,8 @@
 use Rattle.std.specs.Prelude.{◌≡◌, ℕ, ◌+◌, ◌<◌, ◌⊎◌, Bool, true, false, ◌&&◌, ◌||◌, not, if◌then◌else◌, nat_eq, nat_lt}
 use Rattle.std.specs.Prelude.{nat_le, int_lt, List, [], ◌∷◌, ◌++◌, map, Option, Some, None, ℤ, pos, length}
 use Rattle.std.specs.List.{list_any, All, Contains}
-use Rattle.pram_syntax.specs.declared.token.Location.{Location}
-use Rattle.pram_syntax.specs.declared.token.Name.{Name}
+use Rattle.pram_tokens.specs.declared.token.Location.{Location}
+use Rattle.pram_tokens.specs.declared.token.Name.{Name}
 use Rattle.pram_syntax.specs.declared.tree.Declaration.{Declaration}
 use Rattle.pram_syntax.specs.declared.tree.Declaration.TheVariants as declare
 use Rattle.pram_syntax.specs.declared.tree.Stmt.{Stmt}

@@ -6,13 +6,13 @@ use Rattle.std.specs.List.{AllByRecursion}
 use Rattle.std.proofs.lemmas.Int.{ints}
 use Rattle.pram_model.specs.declared.rule.Rule.{Rule}
 use Rattle.pram_model.specs.declared.rule.Rule.TheVariants.{Erew, Crew, Common, Priority, Sum}
-use Rattle.pram_syntax.specs.declared.token.Binary.{Binary}
-use Rattle.pram_syntax.specs.declared.token.Binary.TheVariants.{Or, And, Equal, Unequal, Less, AtMost, Greater, AtLeast, Add, Subtract}
-use Rattle.pram_syntax.specs.declared.token.Binary.TheVariants.{Multiply, Divide, Remainder}
+use Rattle.pram_tokens.specs.declared.token.Binary.{Binary}
+use Rattle.pram_tokens.specs.declared.token.Binary.TheVariants.{Or, And, Equal, Unequal, Less, AtMost, Greater, AtLeast, Add, Subtract}
+use Rattle.pram_tokens.specs.declared.token.Binary.TheVariants.{Multiply, Divide, Remainder}
 use Rattle.pram_syntax.specs.declared.tree.Prefix.{Prefix}
 use Rattle.pram_syntax.specs.declared.tree.Prefix.TheVariants.{Negate, Not}
 use Rattle.pram_model.specs.Layout.{width}
-use Rattle.pram_syntax.specs.Tokens.{IsNumber}
+use Rattle.pram_tokens.specs.Tokens.{IsNumber}
 use Rattle.pram_values.specs.Division.{IsRemainderFor, floor_quotient, floor_remainder, quotient, remainder_of}
 use Rattle.pram_values.specs.declared.kind.Kind.TheVariants as overflow
 use Rattle.pram_values.specs.Truth.{is_equal, is_nonzero, truth}

@@ -4,16 +4,16 @@ use Rattle.std.proofs.lemmas.List.{append-nil}
 use Rattle.pram_syntax.specs.declared.level.Level.{Level}
 use Rattle.pram_syntax.specs.declared.level.Level.TheVariants as level
 use Rattle.pram_model.specs.declared.rule.Rule.{Rule}
-use Rattle.pram_syntax.specs.declared.token.Binary.{Binary}
-use Rattle.pram_syntax.specs.declared.token.Binary.TheVariants as op
-use Rattle.pram_syntax.specs.declared.token.Location.{Location}
-use Rattle.pram_syntax.specs.declared.token.Mark.{Mark}
-use Rattle.pram_syntax.specs.declared.token.Mark.TheVariants as mark
-use Rattle.pram_syntax.specs.declared.token.Name.{Name}
-use Rattle.pram_syntax.specs.declared.token.Numeral.{Numeral}
-use Rattle.pram_syntax.specs.declared.token.Opening.TheVariants as opening
-use Rattle.pram_syntax.specs.declared.token.Token.{Token}
-use Rattle.pram_syntax.specs.declared.token.Token.TheVariants as token
+use Rattle.pram_tokens.specs.declared.token.Binary.{Binary}
+use Rattle.pram_tokens.specs.declared.token.Binary.TheVariants as op
+use Rattle.pram_tokens.specs.declared.token.Location.{Location}
+use Rattle.pram_tokens.specs.declared.token.Mark.{Mark}
+use Rattle.pram_tokens.specs.declared.token.Mark.TheVariants as mark
+use Rattle.pram_tokens.specs.declared.token.Name.{Name}
+use Rattle.pram_tokens.specs.declared.token.Numeral.{Numeral}
+use Rattle.pram_tokens.specs.declared.token.Opening.TheVariants as opening
+use Rattle.pram_tokens.specs.declared.token.Token.{Token}
+use Rattle.pram_tokens.specs.declared.token.Token.TheVariants as token
 use Rattle.pram_syntax.specs.declared.tree.Declaration.{Declaration}
 use Rattle.pram_syntax.specs.declared.tree.Prefix.TheVariants as prefix
 use Rattle.pram_syntax.specs.declared.tree.Expr.{Expr}

@@ -4,19 +4,19 @@ use Rattle.std.proofs.lemmas.List.{append-nil}
 use Rattle.pram_syntax.specs.declared.level.Level.{Level}
 use Rattle.pram_syntax.specs.declared.level.Level.TheVariants as level
 use Rattle.pram_model.specs.declared.rule.Rule.TheVariants as rule
-use Rattle.pram_syntax.specs.declared.token.Binary.TheVariants as op
-use Rattle.pram_syntax.specs.declared.token.Location.{Location}
-use Rattle.pram_syntax.specs.declared.token.Mark.TheVariants as mark
-use Rattle.pram_syntax.specs.declared.token.Name.{Name}
-use Rattle.pram_syntax.specs.declared.token.Numeral.{Numeral}
-use Rattle.pram_syntax.specs.declared.token.Token.{Token}
-use Rattle.pram_syntax.specs.declared.token.Token.TheVariants as token
+use Rattle.pram_tokens.specs.declared.token.Binary.TheVariants as op
+use Rattle.pram_tokens.specs.declared.token.Location.{Location}
+use Rattle.pram_tokens.specs.declared.token.Mark.TheVariants as mark
+use Rattle.pram_tokens.specs.declared.token.Name.{Name}
+use Rattle.pram_tokens.specs.declared.token.Numeral.{Numeral}
+use Rattle.pram_tokens.specs.declared.token.Token.{Token}
+use Rattle.pram_tokens.specs.declared.token.Token.TheVariants as token
 use Rattle.pram_syntax.specs.declared.tree.Declaration.TheVariants as declaration
 use Rattle.pram_syntax.specs.declared.tree.Expr.{Expr}
 use Rattle.pram_syntax.specs.declared.tree.Expr.TheVariants as e
 use Rattle.pram_syntax.specs.declared.tree.Stmt.TheVariants as s
 use Rattle.pram_model.specs.Names.{IsName}
-use Rattle.pram_syntax.specs.Tokens.{AreReal, IsNumber}
+use Rattle.pram_tokens.specs.Tokens.{AreReal, IsNumber}
 use Rattle.pram_syntax.specs.Grammar.{tokens, chained, compared, number, atom, IsTerm, IsSum, IsNegation, comparison, IsConjunction, IsAt, Further}
 use Rattle.pram_syntax.specs.Blocks.{statement_tokens, assign, for_to}
 use Rattle.pram_syntax.specs.Program.{rule_token}
@@ -24,7 +24,7 @@ use Rattle.pram_syntax.specs.Machine.{step, verdict, on_move, Verdict, Accepted,
 use Rattle.pram_syntax.specs.Symbols.{Stack, Symbol, Operand, Rest, Subscript, Want, WantRule, WantName, WantNumber, WantAtMost, Declarations, AfterShared, Statements, AfterName, ForHead, ForName, Else, Locals, Move, Next, Refused, TooDeep}
 use Rattle.pram_syntax.proofs.ExprTokens.{tokens-Number}
 use Rattle.pram_syntax.proofs.StmtTokens.{spell_assign, spell_for}
-use Rattle.pram_syntax.proofs.Real.{append_real}
+use Rattle.pram_tokens.proofs.Real.{append_real}
 use Rattle.pram_syntax.proofs.Covering.{Becomes, Covers, Covered, no_steps}
 use Rattle.pram_syntax.proofs.Stepping.{step_back}
 

@@ -6,9 +6,9 @@ use Rattle.std.specs.Borrow.{Bor}
 use Rattle.pram_syntax.specs.declared.tree.Declaration.{Declaration}
 use Rattle.pram_syntax.specs.declared.tree.Expr.{Expr}
 use Rattle.pram_syntax.specs.declared.tree.Stmt.{Stmt}
-use Rattle.pram_syntax.specs.declared.error.ParseError.{ParseError}
-use Rattle.pram_syntax.specs.declared.error.ParseError.TheVariants.{Memory, Syntax, TooDeep}
-use Rattle.pram_syntax.specs.declared.token.Token.{Token}
+use Rattle.pram_syntax.specs.declared.parse_error.ParseError.{ParseError}
+use Rattle.pram_syntax.specs.declared.parse_error.ParseError.TheVariants.{Memory, Syntax, TooDeep}
+use Rattle.pram_tokens.specs.declared.token.Token.{Token}
 use Rattle.pram_syntax.specs.Machine.{Verdict}
 use Rattle.pram_syntax.specs.Symbols.{Stack}
 use Rattle.pram_syntax.specs.Follows.{Follows}

@@ -1,10 +1,10 @@
 -- No list of tokens stands for two expressions.
 use Rattle.std.proofs.Common.{◌≡◌, ℕ, zero, suc, Bool, true, false, true≢false, List, [], ◌∷◌, ◌++◌, refl, sym, ap, ◌∙◌, append_assoc}
-use Rattle.pram_syntax.specs.declared.token.Binary.{Binary}
-use Rattle.pram_syntax.specs.declared.token.Mark.{Mark}
-use Rattle.pram_syntax.specs.declared.token.Mark.TheVariants as mark
-use Rattle.pram_syntax.specs.declared.token.Token.{Token}
-use Rattle.pram_syntax.specs.declared.token.Token.TheVariants as token
+use Rattle.pram_tokens.specs.declared.token.Binary.{Binary}
+use Rattle.pram_tokens.specs.declared.token.Mark.{Mark}
+use Rattle.pram_tokens.specs.declared.token.Mark.TheVariants as mark
+use Rattle.pram_tokens.specs.declared.token.Token.{Token}
+use Rattle.pram_tokens.specs.declared.token.Token.TheVariants as token
 use Rattle.pram_syntax.specs.declared.tree.Prefix.TheVariants as prefix
 use Rattle.pram_syntax.specs.declared.level.Level.{Level}
 use Rattle.pram_syntax.specs.declared.level.Level.TheVariants as level

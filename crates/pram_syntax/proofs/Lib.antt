@@ -6,7 +6,6 @@ pub mod Marks
 pub mod Covering
 pub mod StmtCovering
 pub mod Stepping
-pub mod Real
 pub mod Ending
 pub mod StmtReading
 pub mod StmtUnique
@@ -19,13 +18,4 @@ pub mod Exits
 pub mod ExprParts
 pub mod StmtParts
 pub mod DeclParts
-pub mod Values
-pub mod Lexing
-pub mod Scans
-pub mod Inputs
-pub mod Printed
-pub mod Moving
-pub mod StmtMoving
-pub mod RoundTrip
-pub mod Offsets
 pub mod OneTree

@@ -1,8 +1,8 @@
 -- No text is that of two trees.
 use Rattle.std.proofs.Common.{◌∙◌, List, [], Result, Ok, Err, ℕ, ap, sym}
-use Rattle.pram_syntax.specs.declared.token.Token.{Token}
+use Rattle.pram_tokens.specs.declared.token.Token.{Token}
 use Rattle.pram_syntax.specs.Program.{limit}
-use Rattle.pram_syntax.specs.Scanning.{Cut}
+use Rattle.pram_tokens.specs.Scanning.{Cut}
 use Rattle.pram_syntax.specs.Text.{HasOneTreeAtMost}
 use Rattle.pram_syntax.proofs.Programs.{same_tree}
 

@@ -3,25 +3,25 @@ use Rattle.std.proofs.Common.{◌≡◌, ℕ, zero, suc, ◌+◌, Err, true, fal
 use Rattle.std.proofs.lemmas.List.{append-nil}
 use Rattle.std.proofs.lemmas.Bool.{eqb-true}
 use Rattle.pram_model.specs.declared.rule.Rule.{Rule}
-use Rattle.pram_syntax.specs.declared.token.Location.{Location}
-use Rattle.pram_syntax.specs.declared.token.Mark.TheVariants as mark
-use Rattle.pram_syntax.specs.declared.token.Name.{Name}
-use Rattle.pram_syntax.specs.declared.token.Numeral.{Numeral}
-use Rattle.pram_syntax.specs.declared.token.Token.{Token}
-use Rattle.pram_syntax.specs.declared.token.Token.TheVariants as token
+use Rattle.pram_tokens.specs.declared.token.Location.{Location}
+use Rattle.pram_tokens.specs.declared.token.Mark.TheVariants as mark
+use Rattle.pram_tokens.specs.declared.token.Name.{Name}
+use Rattle.pram_tokens.specs.declared.token.Numeral.{Numeral}
+use Rattle.pram_tokens.specs.declared.token.Token.{Token}
+use Rattle.pram_tokens.specs.declared.token.Token.TheVariants as token
 use Rattle.pram_syntax.specs.declared.tree.Declaration.{Declaration}
 use Rattle.pram_syntax.specs.declared.tree.Stmt.{Stmt}
-use Rattle.pram_syntax.specs.Tokens.{AreReal}
+use Rattle.pram_tokens.specs.Tokens.{AreReal}
 use Rattle.pram_syntax.specs.Blocks.{block_tokens, IsBlock}
 use Rattle.pram_syntax.specs.Program.{ProgramTree, rule_token, declarations_tokens, header_tokens, program_tokens, IsTree, IsProgram, limit}
 use Rattle.pram_syntax.specs.Machine.{verdict, Verdict, Accepted, SyntaxAt, TooDeepAt, start, statements_and_end}
 use Rattle.pram_syntax.specs.Symbols.{Stack, Want, WantNumber, Declarations, program}
-use Rattle.pram_syntax.specs.declared.error.ParseError.{ParseError}
-use Rattle.pram_syntax.specs.declared.error.ParseError.TheVariants.{Memory, Syntax}
-use Rattle.pram_syntax.specs.declared.error.ParseError.TheVariants as error
+use Rattle.pram_syntax.specs.declared.parse_error.ParseError.{ParseError}
+use Rattle.pram_syntax.specs.declared.parse_error.ParseError.TheVariants.{Memory, Syntax}
+use Rattle.pram_syntax.specs.declared.parse_error.ParseError.TheVariants as error
 use Rattle.pram_syntax.specs.Faults.{Ends, IsSyntaxFault, IsDepthFault, IsRefusedRightly, Answers}
 use Rattle.pram_syntax.specs.Follows.{Follows}
-use Rattle.pram_syntax.proofs.Real.{append_real, front_real}
+use Rattle.pram_tokens.proofs.Real.{append_real, front_real}
 use Rattle.pram_syntax.proofs.Covering.{Covers}
 use Rattle.pram_syntax.proofs.StmtCovering.{body_back}
 use Rattle.pram_syntax.proofs.Ending.{RefusedAt, viable}

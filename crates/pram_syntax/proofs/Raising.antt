@@ -1,18 +1,18 @@
 -- What the machine refuses begins no sentence.
 use Rattle.std.proofs.Common.{◌≡◌, ℕ, zero, suc, ◌+◌, ◌≤◌, Bool, true, false, List, [], ◌∷◌, ◌++◌, length, refl, sym, ap, ◌∙◌, subst, arith, length-append, if◌then◌else◌}
-use Rattle.pram_syntax.specs.declared.token.Binary.TheVariants as op
-use Rattle.pram_syntax.specs.declared.token.Mark.{Mark}
-use Rattle.pram_syntax.specs.declared.token.Mark.TheVariants as mark
-use Rattle.pram_syntax.specs.declared.token.Opening.TheVariants as opening
-use Rattle.pram_syntax.specs.declared.token.Token.{Token}
-use Rattle.pram_syntax.specs.declared.token.Token.TheVariants as token
+use Rattle.pram_tokens.specs.declared.token.Binary.TheVariants as op
+use Rattle.pram_tokens.specs.declared.token.Mark.{Mark}
+use Rattle.pram_tokens.specs.declared.token.Mark.TheVariants as mark
+use Rattle.pram_tokens.specs.declared.token.Opening.TheVariants as opening
+use Rattle.pram_tokens.specs.declared.token.Token.{Token}
+use Rattle.pram_tokens.specs.declared.token.Token.TheVariants as token
 use Rattle.pram_syntax.specs.declared.level.Level.{Level}
 use Rattle.pram_syntax.specs.declared.level.Level.TheVariants as level
 use Rattle.pram_syntax.specs.Machine.{step, verdict, on_move, Accepted, SyntaxAt, TooDeepAt, may_end}
 use Rattle.pram_syntax.specs.Symbols.{Stack, Symbol, Operand, Rest, Subscript, Want, WantRule, WantName, WantNumber, WantAtMost, Declarations, AfterShared, Statements, AfterName, ForHead, ForName, Else, Locals, Move, Next, Refused, TooDeep, deeper, enter, enter_atom, enter_unary, enter_negation, tighter, again, same_mark, is_operator, is_subscript, is_mark, is_rule, bounds, at_mark, at_at_most, is_at_most, at_subscript, at_rest, assignment, range, turns}
 use Rattle.pram_syntax.proofs.Covering.{Covers, Covered}
 use Rattle.pram_syntax.proofs.Stepping.{step_back}
-use Rattle.pram_syntax.specs.Tokens.{AreReal}
+use Rattle.pram_tokens.specs.Tokens.{AreReal}
 use Rattle.pram_syntax.proofs.Ending.{RefusedAt, ending, viable}
 
 -- What stands behind a refused token does not matter.

@@ -2,13 +2,13 @@
 use Rattle.std.proofs.Common.{◌≡◌, ℕ, zero, suc, Bool, true, false, List, [], ◌∷◌, ◌++◌, inl, inr, Some, None, refl, sym, ap, ◌∙◌, append_assoc, if◌then◌else◌}
 use Rattle.std.proofs.lemmas.List.{append-nil}
 use Rattle.pram_syntax.specs.declared.level.Level.TheVariants as level
-use Rattle.pram_syntax.specs.declared.token.Binary.TheVariants as op
-use Rattle.pram_syntax.specs.declared.token.Mark.{Mark}
-use Rattle.pram_syntax.specs.declared.token.Mark.TheVariants as mark
-use Rattle.pram_syntax.specs.declared.token.Name.{Name}
-use Rattle.pram_syntax.specs.declared.token.Opening.TheVariants as opening
-use Rattle.pram_syntax.specs.declared.token.Token.{Token}
-use Rattle.pram_syntax.specs.declared.token.Token.TheVariants as token
+use Rattle.pram_tokens.specs.declared.token.Binary.TheVariants as op
+use Rattle.pram_tokens.specs.declared.token.Mark.{Mark}
+use Rattle.pram_tokens.specs.declared.token.Mark.TheVariants as mark
+use Rattle.pram_tokens.specs.declared.token.Name.{Name}
+use Rattle.pram_tokens.specs.declared.token.Opening.TheVariants as opening
+use Rattle.pram_tokens.specs.declared.token.Token.{Token}
+use Rattle.pram_tokens.specs.declared.token.Token.TheVariants as token
 use Rattle.pram_syntax.specs.declared.tree.Expr.{Expr}
 use Rattle.pram_syntax.specs.declared.tree.Stmt.{Stmt}
 use Rattle.pram_syntax.specs.declared.tree.Stmt.TheVariants as s

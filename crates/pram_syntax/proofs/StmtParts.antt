@@ -1,13 +1,13 @@
 -- How the parser of statements puts together what it found.
 use Rattle.std.proofs.Common.{◌≡◌, ◌≢◌, ℕ, zero, suc, ◌-◌, ◌<◌, ◌≤◌, true, false, List, [], ◌∷◌, ◌++◌, length, refl, sym, ap, ◌∙◌, subst, arith, append_assoc, length-append, Some, None}
-use Rattle.pram_syntax.specs.declared.token.Binary.TheVariants as op
-use Rattle.pram_syntax.specs.declared.token.Mark.TheVariants as mark
-use Rattle.pram_syntax.specs.declared.token.Name.{Name}
-use Rattle.pram_syntax.specs.declared.token.Opening.{Opening}
-use Rattle.pram_syntax.specs.declared.token.Opening.TheVariants as opening
-use Rattle.pram_syntax.specs.declared.token.Location.{Location}
-use Rattle.pram_syntax.specs.declared.token.Token.{Token}
-use Rattle.pram_syntax.specs.declared.token.Token.TheVariants as token
+use Rattle.pram_tokens.specs.declared.token.Binary.TheVariants as op
+use Rattle.pram_tokens.specs.declared.token.Mark.TheVariants as mark
+use Rattle.pram_tokens.specs.declared.token.Name.{Name}
+use Rattle.pram_tokens.specs.declared.token.Opening.{Opening}
+use Rattle.pram_tokens.specs.declared.token.Opening.TheVariants as opening
+use Rattle.pram_tokens.specs.declared.token.Location.{Location}
+use Rattle.pram_tokens.specs.declared.token.Token.{Token}
+use Rattle.pram_tokens.specs.declared.token.Token.TheVariants as token
 use Rattle.pram_syntax.specs.declared.level.Level.TheVariants as level
 use Rattle.pram_syntax.specs.declared.tree.Expr.{Expr}
 use Rattle.pram_syntax.specs.declared.tree.Stmt.{Stmt}

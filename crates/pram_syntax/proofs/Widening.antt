@@ -1,6 +1,6 @@
 -- What fits within a nesting fits within a greater one.
 use Rattle.std.proofs.Common.{◌≡◌, ℕ, zero, suc, ◌+◌, List, [], ◌∷◌, subst, arith}
-use Rattle.pram_syntax.specs.declared.token.Binary.{Binary}
+use Rattle.pram_tokens.specs.declared.token.Binary.{Binary}
 use Rattle.pram_syntax.specs.declared.level.Level.{Level}
 use Rattle.pram_syntax.specs.declared.level.Level.TheVariants as level
 use Rattle.pram_syntax.specs.declared.tree.Expr.{Expr}

@@ -1,8 +1,8 @@
 -- What is wrong with a list of tokens that is no program, said by the grammar alone.
 use Rattle.std.specs.Prelude.{◌≡◌, ℕ, List, [], ◌∷◌, ◌++◌, length, Result, Ok, Err}
-use Rattle.pram_syntax.specs.declared.error.ParseError.{ParseError}
-use Rattle.pram_syntax.specs.declared.error.ParseError.TheVariants.{Memory, Syntax, TooDeep}
-use Rattle.pram_syntax.specs.declared.token.Token.{Token}
+use Rattle.pram_syntax.specs.declared.parse_error.ParseError.{ParseError}
+use Rattle.pram_syntax.specs.declared.parse_error.ParseError.TheVariants.{Memory, Syntax, TooDeep}
+use Rattle.pram_tokens.specs.declared.token.Token.{Token}
 use Rattle.pram_syntax.specs.Program.{ProgramTree, IsProgram, Begins, limit}
 
 -- No program, whatever its nesting, begins with the tokens up to and with the first of these, or is those before them where there is none.

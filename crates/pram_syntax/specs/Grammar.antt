@@ -1,12 +1,12 @@
 -- The grammar: the tokens of a tree, and which trees stand on which line of the grammar.
 use Rattle.std.specs.Prelude.{◌≡◌, ℕ, zero, suc, Bool, true, false, List, [], ◌∷◌, ◌++◌}
-use Rattle.pram_syntax.specs.declared.token.Binary.{Binary}
-use Rattle.pram_syntax.specs.declared.token.Binary.TheVariants as op
-use Rattle.pram_syntax.specs.declared.token.Mark.TheVariants as mark
-use Rattle.pram_syntax.specs.declared.token.Name.{Name}
-use Rattle.pram_syntax.specs.declared.token.Numeral.{Numeral}
-use Rattle.pram_syntax.specs.declared.token.Token.{Token}
-use Rattle.pram_syntax.specs.declared.token.Token.TheVariants as token
+use Rattle.pram_tokens.specs.declared.token.Binary.{Binary}
+use Rattle.pram_tokens.specs.declared.token.Binary.TheVariants as op
+use Rattle.pram_tokens.specs.declared.token.Mark.TheVariants as mark
+use Rattle.pram_tokens.specs.declared.token.Name.{Name}
+use Rattle.pram_tokens.specs.declared.token.Numeral.{Numeral}
+use Rattle.pram_tokens.specs.declared.token.Token.{Token}
+use Rattle.pram_tokens.specs.declared.token.Token.TheVariants as token
 use Rattle.pram_syntax.specs.declared.tree.Prefix.{Prefix}
 use Rattle.pram_syntax.specs.declared.tree.Prefix.TheVariants as prefix
 use Rattle.pram_syntax.specs.declared.level.Level.{Level}

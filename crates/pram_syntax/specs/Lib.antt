@@ -1,4 +1,3 @@
-pub mod Tokens
 pub mod Grammar
 pub mod Blocks
 pub mod Program
@@ -6,10 +5,4 @@ pub mod Faults
 pub mod Symbols
 pub mod Machine
 pub mod Follows
-pub mod Lexemes
-pub mod Scanning
 pub mod Text
-pub mod Input
-pub mod Spelling
-pub mod Places
-pub mod InOrder

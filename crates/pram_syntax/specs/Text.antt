@@ -1,24 +1,16 @@
 -- Which text is that of a tree, and what is wrong with a text that is that of none.
-use Rattle.std.specs.Prelude.{◌≡◌, ℕ, ◌-◌, ◌≤◌, ◌<◌, List, length, slice_index, slice_index_or, Result, Ok, Err}
-use Rattle.pram_syntax.specs.declared.error.LexError.{LexError}
-use Rattle.pram_syntax.specs.declared.error.LexError.TheVariants as lex
-use Rattle.pram_syntax.specs.declared.error.ParseError.{ParseError}
-use Rattle.pram_syntax.specs.declared.error.ParseError.TheVariants as parse
-use Rattle.pram_syntax.specs.declared.error.TextFault.{TextFault}
-use Rattle.pram_syntax.specs.declared.error.TextFault.TheVariants.{NotAscii, TextTooLong, BadToken, Syntax, TooDeep, OutOfMemory}
-use Rattle.pram_syntax.specs.declared.token.Token.{Token}
+use Rattle.std.specs.Prelude.{◌≡◌, ℕ, ◌-◌, ◌<◌, List, length, slice_index_or, Result, Ok, Err}
+use Rattle.pram_tokens.specs.declared.error.LexError.{LexError}
+use Rattle.pram_tokens.specs.declared.error.LexError.TheVariants as lex
+use Rattle.pram_syntax.specs.declared.parse_error.ParseError.{ParseError}
+use Rattle.pram_syntax.specs.declared.parse_error.ParseError.TheVariants as parse
+use Rattle.pram_tokens.specs.declared.error.TextFault.{TextFault}
+use Rattle.pram_tokens.specs.declared.error.TextFault.TheVariants.{NotAscii, TextTooLong, BadToken, Syntax, TooDeep, OutOfMemory}
+use Rattle.pram_tokens.specs.declared.token.Token.{Token}
 use Rattle.pram_syntax.specs.Faults.{IsDepthFault, IsSyntaxFault}
 use Rattle.pram_syntax.specs.Program.{ProgramTree, IsTree, limit, program_tokens}
-use Rattle.pram_syntax.specs.Scanning.{cut, cut_of, longest}
-
--- the first so many bytes are below 128
-abbrev pub IsAsciiTo : List ℕ → ℕ → Type 0
-IsAsciiTo text count = (k : ℕ) → k < count → slice_index text k < 128
-
--- A text that may be cut into tokens: at most 1,048,576 bytes, all of them below 128.
-pub record IsPlain (text : List ℕ) : Type 0 where
-  pub fits : length text ≤ longest
-  pub ascii : IsAsciiTo text (length text)
+use Rattle.pram_tokens.specs.Plain.{IsFirstBad, IsFirstOther, IsPlain}
+use Rattle.pram_tokens.specs.Scanning.{cut, cut_of, longest}
 
 -- A text of a tree: one that is cut into the tree's tokens. The tree stands in the grammar, with blocks and expressions nested at most 64 deep.
 pub record IsTextOf (text : List ℕ) (tree : ProgramTree) : Type 0 where
@@ -36,18 +28,6 @@ abbrev pub IsAnswer : ProgramTree → Result ProgramTree TextFault → Type 0
 IsAnswer p (Ok q) = q ≡ p
 IsAnswer p (Err OutOfMemory) = Unit {0}
 IsAnswer p (Err _) = ⊥
-
--- The first byte of 128 or more stands at that offset, in a text that is not too long.
-pub record IsFirstOther (text : List ℕ) (at : ℕ) : Type 0 where
-  pub fits : length text ≤ longest
-  pub inside : at < length text
-  pub other : 128 ≤ slice_index text at
-  pub before : IsAsciiTo text at
-
--- the first thing that is no token stands at that offset
-pub record IsFirstBad (text : List ℕ) (at : ℕ) : Type 0 where
-  pub plain : IsPlain text
-  pub bad : cut_of text ≡ Err at
 
 -- the offset of the token that has `left` tokens from it on, and at 0 that of the text's end
 abbrev pub offset_of : (offsets : List ℕ) (left end : ℕ) → ℕ

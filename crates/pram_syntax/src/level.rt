@@ -2,7 +2,7 @@
 
 /// A line of the grammar of expressions, from the loosest to the tightest.
 #[derive(Clone, Copy, Debug, PartialEq, Eq)]
-pub(crate) enum Level {
+pub enum Level {
     /// Operands joined by `or`.
     Expression,
     /// Operands joined by `and`.

@@ -1,32 +1,18 @@
 //! From the bytes of a text to its tree.
 
-ghost use Rattle.std.specs.Prelude.{◌≡◌, ◌≤◌, ◌<◌, ◌↔◌, Err, length, IfOk, MatchOption};
-ghost use Rattle.pram_syntax.specs.declared.error.TextFault.TheVariants.{TextTooLong};
+ghost use Rattle.std.specs.Prelude.{◌≡◌, ◌<◌, ◌↔◌, Err, length, IfOk};
+ghost use Rattle.pram_tokens.specs.declared.error.TextFault.TheVariants.{TextTooLong};
 ghost use Rattle.pram_syntax.specs.Program.{ProgramTree};
-ghost use Rattle.pram_syntax.specs.Scanning.{longest};
+ghost use Rattle.pram_tokens.specs.Scanning.{longest};
 ghost use Rattle.pram_syntax.specs.Text as spec;
 
-use crate::error::{LexError, ParseError, TextFault};
-use crate::lexer::tokenize;
+use crate::parse_error::ParseError;
 use crate::parser::parse_tokens;
 use crate::tree::Tree;
+use pram_tokens::error::{LexError, TextFault};
+use pram_tokens::lexer::tokenize;
+use pram_tokens::plain::{LONGEST, first_other};
 use std::alloc::Global;
-
-/// The greatest length of a text, in bytes.
-pub const LONGEST: usize = 1_048_576;
-
-/// The offset of the first byte of 128 or more.
-pub(crate) fn first_other(text: &[u8]) -> Option<usize>
-    requires fits { length text.now ≤ longest }
-    ensures first { MatchOption result (spec.IsAsciiTo text.now (length text.now)) (λ at. spec.IsFirstOther text.now at) }
-{
-    for at in 0..text.len() {
-        if text[at] >= 128 {
-            return Some(at);
-        }
-    }
-    None
-}
 
 /// The offset of the token that has so many tokens from it on, and at 0 the end.
 fn offset_of(offsets: &[u32], left: usize, end: u32) -> u32

@@ -8,9 +8,9 @@ ghost use Rattle.pram_syntax.specs.Symbols as symbol;
 ghost use Rattle.pram_model.specs.Names.{is_one_of};
 ghost use Rattle.pram_syntax.specs.Follows.{Follows};
 
-use crate::error::ParseError;
+use crate::parse_error::ParseError;
 use crate::front::{a_name, a_number, behind_mark, copied, expect};
-use crate::token::{Location, Mark, Name, Numeral, Token};
+use pram_tokens::token::{Location, Mark, Name, Numeral, Token};
 use crate::tree::Declaration;
 use pram_model::rule::Rule;
 use sqlite_items::Items;

@@ -7,13 +7,13 @@ ghost use Rattle.pram_syntax.specs.Follows.{Follows};
 ghost use Rattle.pram_syntax.specs.Machine as machine;
 ghost use Rattle.pram_syntax.specs.Program.{ProgramTree, IsTree, declarations_tokens, header_tokens, limit, program_tokens};
 ghost use Rattle.pram_syntax.specs.Symbols as symbol;
-ghost use Rattle.pram_syntax.specs.Tokens.{AreReal};
+ghost use Rattle.pram_tokens.specs.Tokens.{AreReal};
 
-use crate::error::ParseError;
+use crate::parse_error::ParseError;
 use crate::front::expect;
 use crate::parse_decl::{Heading, declarations, header};
 use crate::parse_stmt::body;
-use crate::token::{Mark, Token};
+use pram_tokens::token::{Mark, Token};
 use crate::tree::{Declaration, Stmt, Tree};
 use sqlite_items::Items;
 use std::alloc::Global;

@@ -1,7 +1,7 @@
 //! Where the tokens of a text stand.
 
 ghost use Rattle.std.specs.Prelude.{ℕ, List, length};
-ghost use Rattle.pram_syntax.specs.InOrder.{StandInOrder};
+ghost use Rattle.pram_tokens.specs.InOrder.{StandInOrder};
 ghost use Rattle.pram_syntax.specs.Program.{ProgramTree, program_tokens};
 ghost use Rattle.pram_syntax.specs.Text.{IsTextOf};
 

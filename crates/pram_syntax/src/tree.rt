@@ -5,7 +5,7 @@ ghost use Rattle.std.specs.Coded.{codes};
 ghost use Rattle.pram_syntax.specs.contracts.tree.Stmt as stmt;
 ghost use Rattle.pram_syntax.specs.Program.{ProgramTree, IsTree, limit, program_tokens, tree_of};
 
-use crate::token::{Binary, Location, Name, Numeral};
+use pram_tokens::token::{Binary, Location, Name, Numeral};
 use pram_model::rule::Rule;
 use sqlite_items::{Boxed, Items};
 use std::marker::Model;

@@ -1,11 +1,12 @@
 -- What a run of a text is, and why a text is not run.
 use Rattle.std.specs.Prelude.{◌≡◌, ◌<◌, ◌≤◌, ℕ, List, length, ℤ, Some, Result, Ok, Err}
-use Rattle.pram_syntax.specs.declared.error.TextFault.{TextFault}
-use Rattle.pram_syntax.specs.declared.error.TextFault.TheVariants.{OutOfMemory}
-use Rattle.pram_syntax.specs.Input.{IsInputFault}
+use Rattle.pram_tokens.specs.declared.error.TextFault.{TextFault}
+use Rattle.pram_tokens.specs.declared.error.TextFault.TheVariants.{OutOfMemory}
+use Rattle.pram_tokens.specs.Input.{IsInputFault}
 use Rattle.pram_model.specs.Layout.{SharedEntry, total_size}
 use Rattle.pram_syntax.specs.Program.{ProgramTree}
-use Rattle.pram_syntax.specs.Text.{IsTextOf, IsFaultOf, IsPlain}
+use Rattle.pram_tokens.specs.Plain.{IsPlain}
+use Rattle.pram_syntax.specs.Text.{IsTextOf, IsFaultOf}
 use Rattle.pram_check.specs.declared.fault.Breach.{Breach}
 use Rattle.pram_check.specs.Breaches.{IsAccepted, breaches, first}
 use Rattle.pram_check.specs.Checked.{Checked, IsResolved}

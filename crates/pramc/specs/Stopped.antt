@@ -1,7 +1,7 @@
 -- What is written where the program stops without an outcome.
 use Rattle.std.specs.Prelude.{ℕ, List, ◌++◌, Option, Some, None, codes, decimal}
-use Rattle.pram_syntax.specs.declared.error.TextFault.{TextFault}
-use Rattle.pram_syntax.specs.declared.error.TextFault.TheVariants as text
+use Rattle.pram_tokens.specs.declared.error.TextFault.{TextFault}
+use Rattle.pram_tokens.specs.declared.error.TextFault.TheVariants as text
 use Rattle.pram_check.specs.declared.fault.Cause.{Cause}
 use Rattle.pram_check.specs.declared.fault.Cause.TheVariants as cause
 use Rattle.pram_check.specs.declared.fault.Limit.{Limit}

@@ -16,7 +16,7 @@ use pram_check::program::Program;
 use pram_meaning::reference::{RunRefusal, reference_run};
 use pram_syntax::input::read_input;
 use pram_syntax::layout::Layout;
-use pram_syntax::parse::LONGEST;
+use pram_tokens::plain::LONGEST;
 use pram_syntax::rule::Rule;
 use pram_syntax::writer::{Out, OutFailed, WriteFault};
 use pramc::run_text::{Refusal, Report, compile, run_program};

@@ -1,5 +1,5 @@
 use Rattle.std.proofs.Common.{◌∷◌}
-use Rattle.pram_syntax.specs.declared.token.Mark.TheVariants as mark
+use Rattle.pram_tokens.specs.declared.token.Mark.TheVariants as mark
 use Rattle.pram_syntax.specs.Symbols.{Want, WantName}
 use Rattle.pram_syntax.proofs.Exits.{exit, all_of, declaration_rest}
 use Rattle.pram_syntax.proofs.DeclParts.{no_shared}

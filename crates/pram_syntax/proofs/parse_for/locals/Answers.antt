@@ -1,5 +1,5 @@
 use Rattle.std.proofs.Common.{◌∙◌, ◌∷◌}
-use Rattle.pram_syntax.specs.declared.token.Mark.TheVariants as mark
+use Rattle.pram_tokens.specs.declared.token.Mark.TheVariants as mark
 use Rattle.pram_syntax.specs.Symbols.{Want, Locals}
 use Rattle.pram_syntax.proofs.StmtParts.{more_locals, at_local}
 use Rattle.pram_syntax.proofs.parse_for.locals.Goals as goal

@@ -1,5 +1,5 @@
 use Rattle.std.proofs.Common.{◌∙◌, ◌-◌, ◌∷◌, sym}
-use Rattle.pram_syntax.specs.declared.token.Mark.TheVariants as mark
+use Rattle.pram_tokens.specs.declared.token.Mark.TheVariants as mark
 use Rattle.pram_syntax.specs.Blocks.{IsFurtherBlock}
 use Rattle.pram_syntax.specs.Symbols.{Want, Statements, Else}
 use Rattle.pram_syntax.proofs.Exits.{exit, along, all_of, statement_rest, block_rest}

@@ -1,5 +1,5 @@
 use Rattle.std.proofs.Common.{◌∙◌, ◌∷◌}
-use Rattle.pram_syntax.specs.declared.token.Mark.TheVariants as mark
+use Rattle.pram_tokens.specs.declared.token.Mark.TheVariants as mark
 use Rattle.pram_syntax.specs.declared.level.Level.TheVariants as level
 use Rattle.pram_syntax.specs.Symbols.{Operand, Want, assignment}
 use Rattle.pram_syntax.proofs.Exits.{exit, rest_of, all_of, statement_rest}

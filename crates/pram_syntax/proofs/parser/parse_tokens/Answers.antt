@@ -2,7 +2,7 @@ use Rattle.std.proofs.Common.{List, [], ◌∙◌, length, Err, sym, ap, subst}
 use Rattle.std.proofs.lemmas.Result.{err_from_is_err_and}
 use Rattle.std.specs.Borrow.{Bor}
 use Rattle.pram_syntax.specs.declared.parser.Parts.{Parts}
-use Rattle.pram_syntax.specs.declared.token.Token.{Token}
+use Rattle.pram_tokens.specs.declared.token.Token.{Token}
 use Rattle.pram_syntax.specs.Faults.{Answers, IsRefusedRightly}
 use Rattle.pram_syntax.specs.Program.{ProgramTree}
 use Rattle.pram_syntax.proofs.Programs.{rightly, leftover, none_refused, no_syntax_fault, only, syntax_fault}

@@ -1,5 +1,5 @@
 use Rattle.pram_syntax.specs.Program.{program_tokens}
-use Rattle.pram_syntax.proofs.Offsets.{in_order}
+use Rattle.pram_tokens.proofs.Offsets.{in_order}
 use Rattle.pram_syntax.proofs.places.tokens_stand_in_order.Goals as goal
 
 pub returns : goal.returns

@@ -1,0 +1,4 @@
+pub mod Printed
+pub mod Moving
+pub mod StmtMoving
+pub mod RoundTrip

@@ -1,0 +1,93 @@
+//! The spelling of words and symbols.
+
+ghost use Rattle.std.specs.Prelude.{◌≡◌};
+ghost use Rattle.pram_model.specs.Rules as rules;
+ghost use Rattle.pram_printer.specs.Spelling as spec;
+
+use pram_tokens::token::{Binary, Mark, Opening};
+use pram_model::rule::Rule;
+
+pub(crate) fn rule_text(rule: Rule) -> &'static [u8]
+    ensures text { result.now ≡ rules.rule_word rule }
+{
+    match rule {
+        Rule::Erew => b"erew",
+        Rule::Crew => b"crew",
+        Rule::Common => b"common",
+        Rule::Priority => b"priority",
+        Rule::Sum => b"sum",
+    }
+}
+
+pub(crate) fn binary_text(op: Binary) -> &'static [u8]
+    ensures text { result.now ≡ spec.binary_text op }
+{
+    match op {
+        Binary::Or => b"or",
+        Binary::And => b"and",
+        Binary::Equal => b"=",
+        Binary::Unequal => b"<>",
+        Binary::Less => b"<",
+        Binary::AtMost => b"<=",
+        Binary::Greater => b">",
+        Binary::AtLeast => b">=",
+        Binary::Add => b"+",
+        Binary::Subtract => b"-",
+        Binary::Multiply => b"*",
+        Binary::Divide => b"div",
+        Binary::Remainder => b"mod",
+    }
+}
+
+pub(crate) fn opening_text(opening: Opening) -> &'static [u8]
+    ensures text { result.now ≡ spec.opening_text opening }
+{
+    match opening {
+        Opening::Print => b"print",
+        Opening::While => b"while",
+        Opening::If => b"if",
+        Opening::For => b"for",
+    }
+}
+
+pub(crate) fn mark_text(mark: Mark) -> &'static [u8]
+    ensures text { result.now ≡ spec.mark_text mark }
+{
+    match mark {
+        Mark::OpenParen => b"(",
+        Mark::CloseParen => b")",
+        Mark::OpenBracket => b"[",
+        Mark::CloseBracket => b"]",
+        Mark::Becomes => b":=",
+        Mark::Semicolon => b";",
+        Mark::Range => b"..",
+        Mark::Rule => b"rule",
+        Mark::Procs => b"procs",
+        Mark::Shared => b"shared",
+        Mark::Var => b"var",
+        Mark::Begin => b"begin",
+        Mark::Do => b"do",
+        Mark::End => b"end",
+        Mark::Then => b"then",
+        Mark::Else => b"else",
+        Mark::To => b"to",
+        Mark::Pardo => b"pardo",
+        Mark::Local => b"local",
+    }
+}
+
+/// The byte behind a mark: the end of a line or a space.
+pub(crate) fn mark_end(mark: Mark) -> u8
+    ensures end { result ≡ spec.mark_end mark }
+{
+    match mark {
+        Mark::Semicolon
+        | Mark::Begin
+        | Mark::Do
+        | Mark::Then
+        | Mark::Else
+        | Mark::Pardo
+        | Mark::End => b'\n',
+        _ => b' ',
+    }
+}

@@ -1,6 +1,0 @@
-use Rattle.std.proofs.Common.{◌≡◌, drop}
-use Rattle.pram_syntax.specs.Input.{are_digits}
-use Rattle.pram_syntax.proofs.input.are_digits.Given as goal
-
-abbrev pub invariant-loop-b : goal.invariant-loop-b
-invariant-loop-b l = are_digits (drop l.b-index l.text) ≡ are_digits l.text

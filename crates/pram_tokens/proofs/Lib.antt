@@ -1,0 +1,6 @@
+pub mod Real
+pub mod Values
+pub mod Lexing
+pub mod Scans
+pub mod Inputs
+pub mod Offsets

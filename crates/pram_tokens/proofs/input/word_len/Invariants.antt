@@ -1,0 +1,11 @@
+use Rattle.std.proofs.Common.{◌≡◌, ◌+◌, ◌-◌, ◌≤◌, not, length, drop}
+use Rattle.std.specs.List.{prefix_len}
+use Rattle.pram_tokens.specs.Lexemes.{is_blank}
+use Rattle.pram_tokens.proofs.input.word_len.Given as goal
+
+abbrev pub invariant-loop-end : goal.invariant-loop-end
+invariant-loop-end l =
+    (l.end + prefix_len (λ b. not (is_blank b)) (drop l.end l.text) ≡ prefix_len (λ b. not (is_blank b)) l.text) × (l.end ≤ length l.text)
+
+abbrev pub decreases-loop-end : goal.decreases-loop-end
+decreases-loop-end l = length l.text - l.end
