@@ -14,17 +14,20 @@ bin/pramc: $(sources)
 	cp crates/pramc_cli/out/pramc_cli bin/pramc
 
 # Runs every example and compares what it prints.
-examples: bin/pramc
-	bash examples/check.sh
+examples:
+	bash gate/examples.sh
 
 # Proves every crate over what earlier runs kept.
 check:
 	rt all check
 
-# The merge gate: the scripts of gate/, then every proof from nothing, every must-fail edit, every test and program.
+# The merge gate: the scripts of gate/, the examples, the callers that must not compile; then every proof from nothing, every
+# must-fail edit, every test and program.
 test:
 	python3 gate/crates_diagram.py
 	python3 gate/definitions.py
+	bash gate/examples.sh
+	set -e; for check in crates/*/refusals/check.sh; do bash $$check; done
 	rt ci
 
 # Prints figures, and asserts nothing.

@@ -9,7 +9,7 @@ work=$(mktemp -d)
 trap 'rm -rf "$work"' EXIT
 
 mkdir -p "$work/crates/caller/src"
-cp -r "$crate" "$work/crates/"
+cp -a "$crate" "$work/crates/"
 { grep '^exchange_arena:' "$top/crates.txt"; echo 'caller: exchange_arena'; } > "$work/crates.txt"
 
 failed=0
