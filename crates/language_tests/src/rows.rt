@@ -1,9 +1,8 @@
 // How a row of the tests is tried: what the program prints for it, and its exit status.
 
 use pram_syntax::buffer::Buffer;
-use pramc::sources::{SourceFault, Sources};
-use pramc::status::Status;
-use pramc_command::command::command;
+use pramc::{SourceFault, Sources, Status};
+use pramc_command::command;
 use std::alloc::{AllocError, Global};
 
 // A program with its input and bound, and what is written to standard output and standard error.

@@ -3,8 +3,8 @@
 use crate::rows::{Shelf, call, prints};
 use pram_syntax::buffer::Buffer;
 use pram_syntax::writer::{Out, OutFailed};
-use pramc::status::Status;
-use pramc_command::command::command;
+use pramc::Status;
+use pramc_command::command;
 use std::test::Fail;
 
 const SUM: &[u8] =

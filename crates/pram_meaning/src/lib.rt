@@ -1,21 +1,26 @@
 //! The meaning of a checked program, and its reference interpreter.
 #![tactic(auto)]
 
-pub mod access;
-pub mod alone;
-pub mod attempt;
-pub mod conflict;
-pub mod inside;
-pub mod key;
+mod access;
+mod alone;
+mod attempt;
+mod conflict;
+mod inside;
+mod key;
 pub mod law;
-pub mod operation;
-pub mod outside;
-pub mod part;
-pub mod read;
-pub mod reference;
-pub mod rule;
-pub mod run;
-pub mod slate;
-pub mod team;
-pub mod together;
-pub mod view;
+mod operation;
+mod outside;
+mod part;
+mod read;
+mod reference;
+mod rule;
+mod run;
+mod slate;
+mod team;
+mod together;
+mod view;
+
+// `Key` and `Read` are types of the definitions.
+pub use key::Key;
+pub use read::Read;
+pub use reference::{RunRefusal, reference_run};

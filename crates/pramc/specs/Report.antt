@@ -12,8 +12,8 @@ use Rattle.pram_check.specs.Breaches.{IsAccepted, breaches, first}
 use Rattle.pram_check.specs.Checked.{Checked, IsResolved}
 use Rattle.write_rules.specs.Verdict.{Verdict}
 use Rattle.pram_meaning.specs.Outcome.{IsOutcome}
-use Rattle.pramc.specs.declared.run_text.Refusal.{Refusal}
-use Rattle.pramc.specs.declared.run_text.Refusal.TheVariants as refusal
+use Rattle.pramc.specs.declared.from_text.Refusal.{Refusal}
+use Rattle.pramc.specs.declared.from_text.Refusal.TheVariants as refusal
 
 -- the text is that of this accepted program
 pub record IsProgramOf (text : List ℕ) (program : Checked) : Type 0 where

@@ -8,8 +8,8 @@ use Rattle.pram_check.specs.declared.fault.Limit.{Limit}
 use Rattle.pram_check.specs.declared.fault.Limit.TheVariants as limit
 use Rattle.pram_check.specs.declared.fault.Spot.{Spot}
 use Rattle.pram_check.specs.declared.fault.Spot.TheVariants as spot
-use Rattle.pramc.specs.declared.run_text.Refusal.{Refusal}
-use Rattle.pramc.specs.declared.run_text.Refusal.TheVariants as refusal
+use Rattle.pramc.specs.declared.from_text.Refusal.{Refusal}
+use Rattle.pramc.specs.declared.from_text.Refusal.TheVariants as refusal
 
 -- where something is wrong, if the refusal says so
 abbrev pub place_of : Spot → Option ℕ

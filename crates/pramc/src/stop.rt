@@ -5,9 +5,9 @@ ghost use Rattle.text_out.specs.Out.{Writes};
 ghost use Rattle.pramc.specs.Stopped as stopped;
 ghost use Rattle.pramc.specs.StoppedFields.{stop_text};
 ghost use Rattle.pramc.specs.declared.stop.Stop.TheVariants.{Refused, WriteFailed};
-ghost use Rattle.pramc.specs.declared.run_text.Refusal.TheVariants.{OutOfMemory};
+ghost use Rattle.pramc.specs.declared.from_text.Refusal.TheVariants.{OutOfMemory};
 
-use crate::run_text::Refusal;
+use crate::from_text::Refusal;
 use itoa::Buffer;
 use pram_check::fault::{Breach, Cause, Limit, Spot};
 use pram_syntax::error::TextFault;

@@ -1,8 +1,8 @@
 //! The program `pramc`, over the system's files and streams.
 #![tactic(auto)]
 
-use pramc::console::{Stream, SystemFiles};
-use pramc_command::command::command;
+use pramc::{Stream, SystemFiles};
+use pramc_command::command;
 use std::process::ExitCode;
 use std::{env, io};
 

@@ -1,8 +1,8 @@
 -- What is refused is refused for a true reason.
 use Rattle.std.proofs.Common.{ℕ, List, ℤ, Err, inl}
 use Rattle.pramc.specs.Report.{IsRefusedRightly}
-use Rattle.pramc.specs.declared.run_text.Refusal.{Refusal}
-use Rattle.pramc.specs.declared.run_text.Refusal.TheVariants as refusal
+use Rattle.pramc.specs.declared.from_text.Refusal.{Refusal}
+use Rattle.pramc.specs.declared.from_text.Refusal.TheVariants as refusal
 use Rattle.pramc_command.specs.Answered.{IsTrueOf}
 
 pub no_run_is_true : (X : Type 0) (text : List ℕ) (input : List ℤ) (r : Refusal) → IsRefusedRightly {X = X} text input (Err r) → IsTrueOf r

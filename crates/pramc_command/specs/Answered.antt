@@ -10,8 +10,8 @@ use Rattle.pramc.specs.Report.{HasBreach, HasTooFewCells, IsInputRefusal, IsProg
 use Rattle.pramc.specs.Shown.{line, shown}
 use Rattle.pramc.specs.Status.{status_of}
 use Rattle.pramc.specs.StoppedFields.{stop_text}
-use Rattle.pramc.specs.declared.run_text.Refusal.{Refusal}
-use Rattle.pramc.specs.declared.run_text.Refusal.TheVariants as refusal
+use Rattle.pramc.specs.declared.from_text.Refusal.{Refusal}
+use Rattle.pramc.specs.declared.from_text.Refusal.TheVariants as refusal
 use Rattle.pramc.specs.declared.status.Status.{Status}
 use Rattle.pramc.specs.declared.status.Status.TheVariants.{Done, Refused}
 use Rattle.pramc.specs.declared.stop.Stop.{Stop}

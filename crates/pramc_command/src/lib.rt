@@ -1,5 +1,7 @@
 //! The program `pramc`, but for the system's files and streams.
 #![tactic(auto)]
 
-pub mod command;
+mod commands;
 mod request;
+
+pub use commands::command;

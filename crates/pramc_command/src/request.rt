@@ -5,8 +5,7 @@ ghost use Rattle.pramc_command.specs.Answered.{IsNoFailure};
 
 use clap::error::ErrorKind;
 use clap::{Arg, ArgMatches, Command};
-use pramc::run_text::Refusal;
-use pramc::stop::Stop;
+use pramc::{Refusal, Stop};
 use std::alloc::{AllocError, Global};
 
 const FILE: &str = "FILE";
