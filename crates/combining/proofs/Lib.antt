@@ -14,3 +14,4 @@ pub mod AskPlaces
 pub mod MachineAsks
 pub mod Came
 pub mod ByTheRule
+pub mod AnswerWords

@@ -1,5 +1,5 @@
 -- What a module answers to the asks of one worker.
-use Rattle.std.specs.Prelude.{◌≡◌, ℕ, ℤ, List, map, Option, Some, None, slice_get}
+use Rattle.std.specs.Prelude.{◌≡◌, ℕ, ℤ, List, map, Some, slice_get}
 use Rattle.address_map.specs.Lawful.{Shape}
 use Rattle.superstep_machine.specs.declared.header.MessageHeader.{MessageHeader}
 use Rattle.superstep_machine.specs.Setting.{Setting}
@@ -10,11 +10,6 @@ use Rattle.superstep_machine.specs.Answering.{replied}
 use Rattle.superstep_machine.specs.WordReading.{asks_in, ask_part}
 use Rattle.superstep_machine.specs.WordLaws.{messages_read}
 use Rattle.combining.specs.Gathering.{value_at}
-
--- where the cell of an ask lies
-abbrev pub offset_of : Shape → Option CellAsk → Option ℕ
-offset_of m None = None
-offset_of m (Some x) = Some (m.offset x.cell)
 
 -- the words of the values of the cells that are asked for, in the order of the asks
 abbrev pub answers : Shape → ℕ → List ℤ → List ℕ → List ℕ

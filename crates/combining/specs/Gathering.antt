@@ -1,11 +1,9 @@
 -- A place for each offset of a module, in which what comes for a cell is collected, and is then taken out again.
-use Rattle.std.specs.Prelude.{◌≡◌, ℕ, ℤ, pos, ◌<◌, List, Bool, Option, Some, None, get_or, nat_lt, if◌then◌else◌}
+use Rattle.std.specs.Prelude.{◌≡◌, ℕ, ℤ, pos, ◌<◌, List, Option, Some, None, get_or, nat_lt, if◌then◌else◌}
 use Rattle.pram_values.specs.declared.kind.Kind.{Kind}
 use Rattle.pram_model.specs.declared.rule.Rule.{Rule}
 use Rattle.write_rules.specs.declared.entry.Entry.{Entry}
 use Rattle.address_map.specs.Lawful.{Shape, IsOf}
-use Rattle.std.proofs.Common.{eqb}
-use Rattle.superstep_machine.specs.Words.{CellPut, CellAsk}
 use Rattle.superstep_machine.specs.Sending.{verdict_on, settled}
 
 abbrev pub slot : {E : Type 0} → List (Option E) → ℕ → Option E
@@ -57,12 +55,3 @@ Owes m rule j due slots values = (c : ℕ) → IsOf m j c → settled (verdict_o
 -- cells that settle to what is due go on to do so
 abbrev pub Settles : Shape → Rule → ℕ → List (Option Entry) → List ℤ → List (Option Entry) → List ℤ → Type 0
 Settles m rule j old before new after = (due : ℕ → ℤ) → Owes m rule j due old before → Owes m rule j due new after
-
--- a put with its offset in the module, and an ask by read k
-abbrev pub placed : Shape → Option CellPut → Option (ℕ × ℕ × Entry)
-placed m None = None
-placed m (Some x) = Some (x.cell, m.offset x.cell, x.entry)
-
-abbrev pub placed_ask : Shape → ℕ → Option CellAsk → Option (ℕ × ℕ × Bool)
-placed_ask m k None = None
-placed_ask m k (Some x) = if eqb x.read k then Some (x.cell, m.offset x.cell, x.twice) else None

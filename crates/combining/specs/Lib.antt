@@ -8,3 +8,5 @@ pub mod Came
 pub mod ModuleLaws
 pub mod Answers
 pub mod ByTheRule
+pub mod Items
+pub mod ItemLaws

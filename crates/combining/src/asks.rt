@@ -8,6 +8,7 @@ ghost use Rattle.combining.specs.Held.{paired};
 ghost use Rattle.combining.specs.Asked.{ask, ask_at, asks_for, value_for, replied, IsAskBelow, place_held, value_held};
 
 use crate::index::Index;
+use crate::words::{ask_key, cell_of, write_ask};
 use address_map::AddressMap;
 use std::alloc::{AllocError, Global};
 use std::marker::Model;
@@ -19,25 +20,12 @@ pub(crate) struct Asked {
     pub(crate) value: i64,
 }
 
-// Writes the word of an ask at n.
-fn write_ask(out: &mut [u64], n: usize, key: u32, asked: Asked) -> usize
-    requires { n + 1 ≤ length out.old }
-    ensures done { take result out.new ≡ take n out.old ++ ask_word (ask_at key asked).ask ∷ [] }
-    ensures rest { drop result out.new ≡ drop result out.old }
-    ensures length { length out.new ≡ length out.old }
-    ensures count { result ≡ n + 1 }
-{
-    let mark = if asked.again { 8_388_608 } else { 0 };
-    out[n] = u64::from(key) + mark;
-    n + 1
-}
-
 // Whether the next word of a reply is for this ask.
 fn is_due<M: AddressMap>(map: &M, part: u32, key: u32, words: &[u64], n: usize) -> bool
     requires { key % 2 ^ 20 < (M.shape map.now).count }
     ensures { result ≡ (nat_lt n (length words.now) && eqb ((M.shape map.now).part (key % 2 ^ 20)) part) }
 {
-    n < words.len() && map.place(key % 1_048_576).0 == part
+    n < words.len() && map.place(cell_of(key)).0 == part
 }
 
 // Keeps a reply's words at the asks that they are for.
@@ -110,7 +98,7 @@ impl Asks {
         ensures place { result ≡ place_held ordinal cell self.old.held }
         ensures room { self.new.room ≡ self.old.room }
     {
-        let key = cell + 1_048_576 * ordinal;
+        let key = ask_key(ordinal, cell);
         let i = self.index.find(key);
         if i < self.asked.len() {
             self.asked[i] = Asked {
@@ -140,7 +128,7 @@ impl Asks {
         let mut n = 0;
         for i in 0..self.asked.len() {
             let key = keys[i];
-            if map.place(key % 1_048_576).0 == part {
+            if map.place(cell_of(key)).0 == part {
                 n = write_ask(out, n, key, self.asked[i]);
             }
         }
@@ -162,7 +150,7 @@ impl Asks {
         requires cell { cell < 2 ^ 20 }
         ensures value { result ≡ value_for ordinal cell self.now.held }
     {
-        let i = self.index.find(cell + 1_048_576 * ordinal);
+        let i = self.index.find(ask_key(ordinal, cell));
         if i < self.asked.len() {
             self.asked[i].value
         } else {

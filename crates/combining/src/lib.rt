@@ -10,3 +10,4 @@ pub mod machine_rule;
 pub mod merge;
 pub mod puts;
 pub mod readers;
+mod words;

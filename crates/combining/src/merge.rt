@@ -1,65 +1,17 @@
 //! What a module does with the puts of all workers.
 
 ghost use Rattle.std.specs.Prelude.{◌≡◌, ◌<◌, length, ℕ, Some, None, map as each, set};
-ghost use Rattle.superstep_machine.specs.WordReading.{put_length, read_value as value_of_words, put_in, entry_of_column, entry_read};
+ghost use Rattle.superstep_machine.specs.WordReading.{entry_of_column, entry_read};
 ghost use Rattle.superstep_machine.specs.Sending.{join, verdict_on, settled};
-ghost use Rattle.combining.specs.Gathering.{slot, value_at, note, placed, Collects, CollectsAll, TakesOut, TakesAllOut, Settles};
+ghost use Rattle.combining.specs.Gathering.{slot, value_at, note, Collects, CollectsAll, TakesOut, TakesAllOut, Settles};
 ghost use Rattle.combining.specs.Merged.{refusal, IsMerged};
 
 use crate::cells::Cells;
 use crate::machine_rule::MachineRule;
+use crate::words::{PutWords, next};
 use address_map::AddressMap;
 use pram_values::kind::Kind;
 use write_rules::entry::Entry;
-
-// How many words a put has.
-fn put_words<R: MachineRule>(rule: &R) -> usize
-    ensures { result ≡ put_length (R.WriteRule.rule rule.now) }
-{
-    if rule.sums() { 4 } else { 3 }
-}
-
-// The value of a put.
-fn read_value<R: MachineRule>(rule: &R, words: &[u64]) -> i128
-    requires { length words.now ≡ put_length (R.WriteRule.rule rule.now) }
-    ensures { result ≡ value_of_words (R.WriteRule.rule rule.now) words.now }
-{
-    if rule.sums() {
-        (u128::from(words[2]) + 18_446_744_073_709_551_616 * u128::from(words[3])).cast_signed()
-    } else {
-        i128::from(words[2].cast_signed())
-    }
-}
-
-// Words as a put for this module, with its offset there, if they can be one.
-fn read<R: MachineRule, M: AddressMap>(
-    rule: &R,
-    map: &M,
-    part: u32,
-    words: &[u64],
-) -> Option<(u32, u32, Entry)>
-    requires { length words.now ≡ put_length (R.WriteRule.rule rule.now) }
-    ensures { result ≡ placed (M.shape map.now) (put_in (R.WriteRule.rule rule.now) (M.shape map.now) part words.now) }
-{
-    let first = words[0];
-    if first >= 2_097_152 {
-        return None;
-    }
-    let cell = (first % 1_048_576) as u32;
-    if cell >= map.cells() {
-        return None;
-    }
-    let (home, offset) = map.place(cell);
-    if home != part {
-        return None;
-    }
-    let entry = Entry {
-        owner: words[1].cast_signed(),
-        value: read_value(rule, words),
-        clash: first / 1_048_576 == 1,
-    };
-    Some((cell, offset, entry))
-}
 
 // One more entry.
 fn joined<R: MachineRule>(rule: &R, before: Option<Entry>, entry: Entry) -> Entry
@@ -83,14 +35,12 @@ fn gather_column<R: MachineRule, M: AddressMap>(
     ensures gathered { Collects (M.shape map.now) part (join (R.WriteRule.rule rule.now)) (λ c. entry_of_column (R.WriteRule.rule rule.now) (M.shape map.now) part c words.now) entries.old entries.new }
     ensures length { length entries.new ≡ length entries.old }
 {
-    let size = put_words(rule);
-    let mut i = 0;
-    while words.len() - i >= size {
-        let came = read(rule, map, part, &words[i..i + size]);
-        if let Some((_cell, offset, entry)) = came {
-            entries[offset as usize] = Some(joined(rule, entries[offset as usize], entry));
-        }
-        i += size;
+    let format = PutWords { rule, map, part };
+    let mut rest = words;
+    while let Some((put, behind)) = next(&format, rest) {
+        let at = put.offset as usize;
+        entries[at] = Some(joined(rule, entries[at], put.entry));
+        rest = behind;
     }
 }
 
@@ -166,15 +116,12 @@ fn settle_column<R: MachineRule, M: AddressMap>(
     ensures entries { length entries.new ≡ length entries.old }
     ensures values { length values.new ≡ length values.old }
 {
-    let size = put_words(rule);
+    let format = PutWords { rule, map, part };
     let mut noted = before;
-    let mut i = 0;
-    while words.len() - i >= size {
-        let came = read(rule, map, part, &words[i..i + size]);
-        if let Some((cell, offset, _entry)) = came {
-            noted = settle_at(rule, cell, offset as usize, entries, values, noted);
-        }
-        i += size;
+    let mut rest = words;
+    while let Some((put, behind)) = next(&format, rest) {
+        noted = settle_at(rule, put.cell, put.offset as usize, entries, values, noted);
+        rest = behind;
     }
     noted
 }

@@ -10,77 +10,11 @@ ghost use Rattle.combining.specs.Held.{put, put_at, packed_puts, IsPutBelow};
 
 use crate::index::Index;
 use crate::machine_rule::MachineRule;
+use crate::words::write_put;
 use address_map::AddressMap;
 use std::alloc::{AllocError, Global};
 use std::marker::Model;
 use write_rules::entry::Entry;
-
-// The number of a mark.
-fn mark(clash: bool) -> u64
-    ensures { result ≡ bit clash }
-{
-    if clash { 1 } else { 0 }
-}
-
-// The low 64 bits of a sum.
-fn low(sum: i128) -> u64
-    ensures { result ≡ low_word sum }
-{
-    (sum.cast_unsigned() % 18_446_744_073_709_551_616) as u64
-}
-
-// The high 64 bits of a sum.
-fn high(sum: i128) -> u64
-    ensures { result ≡ high_word sum }
-{
-    (sum.cast_unsigned() / 18_446_744_073_709_551_616) as u64
-}
-
-// Writes a put whose value has one word, from n on.
-fn write_value(out: &mut [u64], n: usize, cell: u32, entry: Entry) -> usize
-    requires room { n + 3 ≤ length out.old }
-    requires fits { FitsSigned w64 entry.value }
-    ensures done { take result out.new ≡ take n out.old ++ (cell + 2 ^ 20 * bit entry.clash) ∷ word_of entry.owner ∷ word_of entry.value ∷ [] }
-    ensures rest { drop result out.new ≡ drop result out.old }
-    ensures length { length out.new ≡ length out.old }
-    ensures count { result ≡ n + 3 }
-{
-    out[n] = u64::from(cell) + 1_048_576 * mark(entry.clash);
-    out[n + 1] = entry.owner.cast_unsigned();
-    out[n + 2] = (entry.value as i64).cast_unsigned();
-    n + 3
-}
-
-// Writes a put whose value is a sum, from n on.
-fn write_sum(out: &mut [u64], n: usize, cell: u32, entry: Entry) -> usize
-    requires { n + 4 ≤ length out.old }
-    ensures done { take result out.new ≡ take n out.old ++ (cell + 2 ^ 20 * bit entry.clash) ∷ word_of entry.owner ∷ low_word entry.value ∷ high_word entry.value ∷ [] }
-    ensures rest { drop result out.new ≡ drop result out.old }
-    ensures length { length out.new ≡ length out.old }
-    ensures count { result ≡ n + 4 }
-{
-    out[n] = u64::from(cell) + 1_048_576 * mark(entry.clash);
-    out[n + 1] = entry.owner.cast_unsigned();
-    out[n + 2] = low(entry.value);
-    out[n + 3] = high(entry.value);
-    n + 4
-}
-
-// Writes the words of a put, from n on.
-fn write_put<R: MachineRule>(rule: &R, out: &mut [u64], n: usize, cell: u32, entry: Entry) -> usize
-    requires room { n + put_length (R.WriteRule.rule rule.now) ≤ length out.old }
-    requires fits { FitsValue (R.WriteRule.rule rule.now) entry.value }
-    ensures done { take result out.new ≡ take n out.old ++ put_words (R.WriteRule.rule rule.now) (put_at cell entry) }
-    ensures rest { drop result out.new ≡ drop result out.old }
-    ensures length { length out.new ≡ length out.old }
-    ensures count { result ≡ n + put_length (R.WriteRule.rule rule.now) }
-{
-    if rule.sums() {
-        write_sum(out, n, cell, entry)
-    } else {
-        write_value(out, n, cell, entry)
-    }
-}
 
 /// The puts that a worker holds: an entry for each cell, in the order in which the cells were first held.
 #[derive(Drop)]

@@ -2,32 +2,15 @@
 
 ghost use Rattle.std.specs.Prelude.{◌≡◌, ◌<◌, length, ℕ, Some, None, map as each, set};
 ghost use Rattle.superstep_machine.specs.Sending.{several};
-ghost use Rattle.superstep_machine.specs.WordReading.{ask_in, askers_of_column, askers_read};
-ghost use Rattle.combining.specs.Gathering.{slot, note, placed_ask, Collects, CollectsAll, TakesOut, TakesAllOut};
+ghost use Rattle.superstep_machine.specs.WordReading.{askers_of_column, askers_read};
+ghost use Rattle.combining.specs.Gathering.{slot, note, Collects, CollectsAll, TakesOut, TakesAllOut};
 ghost use Rattle.combining.specs.Merged.{shared, noted_cell, IsLeastShared};
 
 use crate::cells::Cells;
 use crate::merge::least;
+use crate::words::{AskWords, next};
 use address_map::AddressMap;
 use pram_values::kind::Kind;
-
-// A word as an ask of this module by read k, with its cell's offset there, if it can be one.
-fn read_ask<M: AddressMap>(map: &M, part: u32, k: u32, word: u64) -> Option<(u32, u32, bool)>
-    ensures { result ≡ placed_ask (M.shape map.now) k (ask_in (M.shape map.now) part word) }
-{
-    if word >= 16_777_216 {
-        return None;
-    }
-    let cell = (word % 1_048_576) as u32;
-    if cell >= map.cells() {
-        return None;
-    }
-    let (home, offset) = map.place(cell);
-    if home != part || word / 1_048_576 % 8 != u64::from(k) {
-        return None;
-    }
-    Some((cell, offset, word / 8_388_608 == 1))
-}
 
 // Whether two or more ask, with one column's more.
 fn counted(before: Option<bool>, twice: bool) -> bool
@@ -51,11 +34,14 @@ fn count_column<M: AddressMap>(
     ensures gathered { Collects (M.shape map.now) part several (λ c. askers_of_column (M.shape map.now) part k c words.now) askers.old askers.new }
     ensures length { length askers.new ≡ length askers.old }
 {
-    for i in 0..words.len() {
-        let came = read_ask(map, part, k, words[i]);
-        if let Some((_cell, offset, twice)) = came {
-            askers[offset as usize] = Some(counted(askers[offset as usize], twice));
+    let format = AskWords { map, part };
+    let mut rest = words;
+    while let Some((ask, behind)) = next(&format, rest) {
+        if ask.read == k {
+            let at = ask.offset as usize;
+            askers[at] = Some(counted(askers[at], ask.twice));
         }
+        rest = behind;
     }
 }
 
@@ -108,12 +94,14 @@ fn note_column<M: AddressMap>(
     ensures noted { TakesOut (M.shape map.now) part several shared (λ c. askers_of_column (M.shape map.now) part k c words.now) askers.old before askers.new result }
     ensures length { length askers.new ≡ length askers.old }
 {
+    let format = AskWords { map, part };
     let mut noted = before;
-    for i in 0..words.len() {
-        let came = read_ask(map, part, k, words[i]);
-        if let Some((cell, offset, _twice)) = came {
-            noted = note_at(cell, offset as usize, askers, noted);
+    let mut rest = words;
+    while let Some((ask, behind)) = next(&format, rest) {
+        if ask.read == k {
+            noted = note_at(ask.cell, ask.offset as usize, askers, noted);
         }
+        rest = behind;
     }
     noted
 }

@@ -13,7 +13,8 @@ pub push-requires-clause-new : goal.push-requires-clause-new
 push-requires-clause-new c =
     let inv = c.self.invariant in
     let b = place_bound (c.args.cell + 2 ^ 20 * c.args.ordinal) c.self.inside.index.keys in
-    let f = c.find-i.ensures.place in
+    let f = c.find-i.ensures.place ∙ ap (λ k. place_of k c.self.inside.index.keys) c.ask_key-key.ensures in
+    let same = ap (λ k. place_of k c.self.inside.index.keys) c.ask_key-key.ensures in
     omega arith
 
 pub push-requires-clause-room : goal.push-requires-clause-room
@@ -43,7 +44,7 @@ returns-then-i-len-clause-held c =
     let read = c.args.ordinal in
     let cell = c.args.cell in
     let key = ask_key read cell in
-    let f : c.find-i.result ≡ place_of key ks = c.find-i.ensures.place in
+    let f : c.find-i.result ≡ place_of key ks = c.find-i.ensures.place ∙ ap (λ k. place_of k ks) c.ask_key-key.ensures in
     let n : length xs ≡ length ks = c.self.invariant.1 in
     let l : place_of key ks < length xs = (let v = c.self.inside.asked.ok.0 in omega arith) in
     let x = c.index.result.now in
@@ -63,17 +64,17 @@ returns-else-i-len-clause-held c =
     let key = ask_key read cell in
     let n : length xs ≡ length ks = c.self.invariant.1 in
     let b = place_bound key ks in
-    let p : place_of key ks ≡ length ks = (let v = c.self.inside.asked.ok.0 in let f = c.find-i.ensures.place in omega arith) in
+    let p : place_of key ks ≡ length ks = (let v = c.self.inside.asked.ok.0 in let f = c.find-i.ensures.place ∙ ap (λ k. place_of k ks) c.ask_key-key.ensures in omega arith) in
     let small = c.requires.cell in
-    rw (c.push.ensures.keys, c.push_reserved.ensures.items, ← c.self.view_is)
+    rw (c.push.ensures.keys, c.ask_key-key.ensures, c.push_reserved.ensures.items, ← c.self.view_is)
     (hold_new ask_at (λ (x : HeldAsk). eqb (key_of x.ask) key) marked_twice again key none (meant_at read cell) (λ k x. refl) ks xs n p
     ∙ ap (λ (y : HeldAsk). hold (λ (x : HeldAsk). eqb (key_of x.ask) key) marked_twice y (paired ask_at ks xs)) (fresh_at read cell small))
 
 -- it is held where it was found, or last
 pub returns-then-i-len-clause-place : goal.returns-then-i-len-clause-place
 returns-then-i-len-clause-place c =
-    rw (← c.self.view_is) (c.find-i.ensures.place ∙ sym (place_paired c.args.ordinal c.args.cell c.self.inside.index.keys c.self.inside.asked.items c.self.invariant.1))
+    rw (← c.self.view_is) (c.find-i.ensures.place ∙ ap (λ k. place_of k c.self.inside.index.keys) c.ask_key-key.ensures ∙ sym (place_paired c.args.ordinal c.args.cell c.self.inside.index.keys c.self.inside.asked.items c.self.invariant.1))
 
 pub returns-else-i-len-clause-place : goal.returns-else-i-len-clause-place
 returns-else-i-len-clause-place c =
-    rw (← c.self.view_is) (c.find-i.ensures.place ∙ sym (place_paired c.args.ordinal c.args.cell c.self.inside.index.keys c.self.inside.asked.items c.self.invariant.1))
+    rw (← c.self.view_is) (c.find-i.ensures.place ∙ ap (λ k. place_of k c.self.inside.index.keys) c.ask_key-key.ensures ∙ sym (place_paired c.args.ordinal c.args.cell c.self.inside.index.keys c.self.inside.asked.items c.self.invariant.1))

@@ -1,4 +1,4 @@
-use Rattle.std.proofs.Common.{rules, ◌≡◌, ◌≤◌, ◌<◌, length, ◌∙◌, arith, FitsSigned, w64}
+use Rattle.std.proofs.Common.{rules, ◌≡◌, ◌≤◌, ◌<◌, length, ap, ◌∙◌, arith, FitsSigned, w64}
 use Rattle.std.proofs.lemmas.Int.{to_z-of_z}
 use Rattle.combining.specs.Places.{place_of}
 use Rattle.combining.specs.Asked.{ask_key}
@@ -10,7 +10,7 @@ returns-then-i-len c =
     let ks = c.self.inside.index.keys in
     let xs = c.self.inside.asked.items in
     let key = ask_key c.args.ordinal c.args.cell in
-    let f : c.find-i.result ≡ place_of key ks = c.find-i.ensures.place in
+    let f : c.find-i.result ≡ place_of key ks = c.find-i.ensures.place ∙ ap (λ k. place_of k ks) c.ask_key.ensures in
     let n : length xs ≡ length ks = c.self.invariant.1 in
     let l : place_of key ks < length xs = (let v = c.self.inside.asked.ok.0 in omega arith) in
     let x = c.index.result.now in
@@ -23,5 +23,5 @@ returns-else-i-len c =
     let xs = c.self.inside.asked.items in
     let key = ask_key c.args.ordinal c.args.cell in
     let n : length xs ≡ length ks = c.self.invariant.1 in
-    let l : length xs ≤ place_of key ks = (let f = c.find-i.ensures.place in let v = c.self.inside.asked.ok.0 in omega arith) in
+    let l : length xs ≤ place_of key ks = (let f = c.find-i.ensures.place ∙ ap (λ k. place_of k ks) c.ask_key.ensures in let v = c.self.inside.asked.ok.0 in omega arith) in
     record { value = rw (← c.self.view_is) (value_nowhere c.args.ordinal c.args.cell ks xs n l) }

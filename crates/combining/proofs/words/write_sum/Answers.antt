@@ -2,7 +2,7 @@ use Rattle.std.proofs.Common.{rules, ◌≡◌, ap, ◌∙◌, w64, to_z, of_z, 
 use Rattle.std.specs.Int.{w128}
 use Rattle.std.proofs.lemmas.Int.{to_z-of_z}
 use Rattle.combining.proofs.Packing.{take_four}
-use Rattle.combining.proofs.puts.write_sum.Goals as goal
+use Rattle.combining.proofs.words.write_sum.Goals as goal
 
 pub returns-clause-done : goal.returns-clause-done
 returns-clause-done c =
@@ -11,4 +11,4 @@ returns-clause-done c =
     let k : FitsSigned w128 e.value = search rules in
     let v : to_z w128 (of_z w128 e.value) ≡ e.value = to_z-of_z w128 e.value k in
     let o : c.cast_unsigned.result ≡ of_z w64 e.owner = c.cast_unsigned.ensures ∙ ap (of_z w64) (to_z-of_z w64 e.owner f) in
-    rw (c.from.ensures, c.mark.ensures, o, c.low.ensures, c.high.ensures, v) (take_four c.args.out.now c.args.n _ _ _ _ c.requires)
+    rw (c.first_word.ensures, o, c.low.ensures, c.high.ensures, v) (take_four c.args.out.now c.args.n _ _ _ _ c.requires)
