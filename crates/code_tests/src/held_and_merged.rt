@@ -49,6 +49,34 @@ fn asks_are_packed_once_with_a_mark(rt: HostRuntime) {
     assert_eq!(rt; (asks.value_at(0), asks.value_at(1)), (7, 8));
 }
 
+#[test]
+fn all_modules_are_packed_and_answered_at_once(rt: HostRuntime) {
+    let map = Identity::new(8, 2).expect(&rt, "eight cells");
+    let mut puts = Puts::with_room(rt.alloc(), 4).expect(&rt, "memory");
+    let mut asks = Asks::with_room(rt.alloc(), 4).expect(&rt, "memory");
+    puts.add(&Priority, 3, 5, 50);
+    puts.add(&Priority, 2, 6, 60);
+    puts.add(&Priority, 5, 7, 70);
+    asks.add(0, 1);
+    asks.add(0, 0);
+    asks.add(1, 3);
+    let even = Vec::with_capacity(rt.alloc(), 4).expect(&rt, "memory");
+    let odd = Vec::with_capacity(rt.alloc(), 8).expect(&rt, "memory");
+    let mut columns = [even, odd];
+    puts.pack_all(&Priority, &map, &mut columns);
+    asks.pack_all(&map, &mut columns);
+    assert_eq!(rt; columns[0].as_slice(), [2, 6, 60, 0].as_slice());
+    assert_eq!(rt;
+        columns[1].as_slice(),
+        [3, 5, 50, 5, 7, 70, 1, 1_048_579].as_slice()
+    );
+    asks.take_replies(&map, &[&[9], &[10, 11]]);
+    assert_eq!(rt;
+        (asks.value_at(0), asks.value_at(1), asks.value_at(2)),
+        (10, 9, 11)
+    );
+}
+
 // Cells 1, 3, 5 and 7 lie in module 1 of two.
 #[test]
 fn asks_of_the_module_are_answered(rt: HostRuntime) {

@@ -11,6 +11,7 @@ use Rattle.superstep_machine.specs.Sending.{asks_held, after_send}
 use Rattle.superstep_machine.specs.Answering.{look_up}
 use Rattle.combining.specs.Asked.{HeldAsk, IsAskBelow, ask_key, key_of, answered, replied, value_for}
 use Rattle.combining.specs.Adding.{unanswered, asked_by}
+use Rattle.combining.proofs.AllReplies.{nothing_replied}
 use Rattle.combining.proofs.MachineAsks.{added_fit, fits_small, stay_below, fitting_are_machines}
 use Rattle.combining.specs.Came.{HasWords, all_replied, reply_words, ValuesAreTheMachines, AddedAsksGetTheirValues}
 
@@ -34,10 +35,6 @@ asks_stay part j (w ∷ ws) (x ∷ rest) = go (eqb (part x.ask.cell) j) (asks_st
 small_stay : (part : ℕ → ℕ) (j : ℕ) (ws : List ℕ) (held : List HeldAsk) → AreSmall (asks_of held)
     → AreSmall (asks_of (replied part j ws held))
 small_stay part j ws held small = subst AreSmall (sym (asks_stay part j ws held)) small
-
-nothing_replied : (part : ℕ → ℕ) (j : ℕ) (held : List HeldAsk) → replied part j [] held ≡ held
-nothing_replied part j [] = refl
-nothing_replied part j (x ∷ rest) = refl
 
 nothing_there : (read cell : ℕ) (xs : List CellAsk) → look_up read cell (zip xs []) ≡ pos 0
 nothing_there read cell [] = refl

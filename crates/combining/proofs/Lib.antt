@@ -15,3 +15,5 @@ pub mod MachineAsks
 pub mod Came
 pub mod ByTheRule
 pub mod AnswerWords
+pub mod AllColumns
+pub mod AllReplies

@@ -10,3 +10,4 @@ pub mod Answers
 pub mod ByTheRule
 pub mod Items
 pub mod ItemLaws
+pub mod AllModules

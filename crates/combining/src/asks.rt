@@ -1,14 +1,17 @@
 //! Held asks.
 
-ghost use Rattle.std.specs.Prelude.{◌≡◌, ◌≤◌, ◌<◌, ◌+◌, ◌%◌, ◌++◌, ◌^◌, ◌&&◌, [], ◌∷◌, length, IfOk, take, drop, nat_lt};
+ghost use Rattle.std.specs.Prelude.{◌≡◌, ◌≤◌, ◌<◌, ◌+◌, ◌%◌, ◌++◌, ◌^◌, ◌&&◌, [], ◌∷◌, length, IfOk, IfSome, None, get_or, take, drop, nat_lt, vec_capacity, map as each};
+ghost use Rattle.std.specs.Int.{cast_signed, w64};
 ghost use Rattle.std.specs.List.{AllByRecursion};
 ghost use Rattle.std.proofs.Common.{eqb};
 ghost use Rattle.superstep_machine.specs.Words.{ask_word, ask_words};
+ghost use Rattle.combining.specs.AllModules.{HasRoomFor, HasGot};
+ghost use Rattle.combining.specs.Came.{all_replied};
 ghost use Rattle.combining.specs.Held.{paired};
 ghost use Rattle.combining.specs.Asked.{ask, ask_at, asks_for, value_for, replied, IsAskBelow, place_held, value_held};
 
 use crate::index::Index;
-use crate::words::{ask_key, cell_of, write_ask};
+use crate::words::{ask_key, cell_of, push_ask, write_ask};
 use address_map::AddressMap;
 use std::alloc::{AllocError, Global};
 use std::marker::Model;
@@ -40,6 +43,39 @@ fn keep<M: AddressMap>(map: &M, part: u32, words: &[u64], keys: &[u32], asked: &
         if is_due(map, part, keys[i], words, n) {
             asked[i].value = words[n].cast_signed();
             n += 1;
+        }
+    }
+}
+
+// The value of word n of a reply, if there are so many.
+fn value_of(words: &[u64], n: usize) -> Option<i64>
+    ensures some { IfSome result (λ v. (n < length words.now) × (v ≡ cast_signed w64 (get_or words.now n 0))) }
+    ensures none { result ≡ None → length words.now ≤ n }
+    ensures few { IfSome result (λ v. n + 1 < 2 ^ 64) }
+{
+    if n < words.len() {
+        Some(words[n].cast_signed())
+    } else {
+        None
+    }
+}
+
+// Keeps the words of all modules' replies at the asks that they are for.
+fn keep_all<M: AddressMap>(map: &M, replies: &[&[u64]], keys: &[u32], asked: &mut [Asked])
+    requires cells { AllByRecursion (IsAskBelow (M.shape map.now).count) (paired ask_at keys.now asked.old) }
+    requires long { length asked.old ≡ length keys.now }
+    requires modules { length replies.now ≡ (M.shape map.now).parts }
+    ensures held { paired ask_at keys.now asked.new ≡ all_replied (M.shape map.now).part 0 (each (λ x. x.now) replies.now) (paired ask_at keys.now asked.old) }
+    ensures length { length asked.new ≡ length asked.old }
+{
+    let mut taken = [0; 32];
+    for i in 0..asked.len() {
+        let (home, _offset) = map.place(cell_of(keys[i]));
+        let at = home as usize;
+        let came = value_of(replies[at], taken[at]);
+        if let Some(value) = came {
+            asked[i].value = value;
+            taken[at] += 1;
         }
     }
 }
@@ -135,6 +171,23 @@ impl Asks {
         n
     }
 
+    /// Adds the words of all asks to the columns of their modules, one for each module, behind what a column holds: in one pass, to each
+    /// what `pack` writes for its module.
+    pub fn pack_all<M: AddressMap>(&self, map: &M, columns: &mut [Vec<u64>])
+        requires cells { AllByRecursion (IsAskBelow (M.shape map.now).count) self.now.held }
+        requires modules { length columns.old ≡ (M.shape map.now).parts }
+        requires room { HasRoomFor (M.shape map.now).parts (λ j. ask_words (asks_for (M.shape map.now).part j self.now.held)) (each (λ v. v.items) columns.old) (each vec_capacity columns.old) }
+        ensures words { HasGot (M.shape map.now).parts (λ j. ask_words (asks_for (M.shape map.now).part j self.now.held)) (each (λ v. v.items) columns.old) (each (λ v. v.items) columns.new) }
+        ensures rooms { each vec_capacity columns.new ≡ each vec_capacity columns.old }
+    {
+        let keys = self.index.keys();
+        for i in 0..self.asked.len() {
+            let key = keys[i];
+            let (home, _offset) = map.place(cell_of(key));
+            push_ask(&mut columns[home as usize], key, self.asked[i]);
+        }
+    }
+
     /// Keeps the words of a module's reply at the asks for it, in the order of the asks and as far as the words reach.
     pub fn take_reply<M: AddressMap>(&mut self, map: &M, part: u32, words: &[u64])
         requires cells { AllByRecursion (IsAskBelow (M.shape map.now).count) self.old.held }
@@ -142,6 +195,16 @@ impl Asks {
         ensures room { self.new.room ≡ self.old.room }
     {
         keep(map, part, words, self.index.keys(), &mut self.asked);
+    }
+
+    /// Keeps the words of the replies of all modules, one from each, in one pass: as `take_reply` of one after the other.
+    pub fn take_replies<M: AddressMap>(&mut self, map: &M, replies: &[&[u64]])
+        requires cells { AllByRecursion (IsAskBelow (M.shape map.now).count) self.old.held }
+        requires modules { length replies.now ≡ (M.shape map.now).parts }
+        ensures held { self.new.held ≡ all_replied (M.shape map.now).part 0 (each (λ x. x.now) replies.now) self.old.held }
+        ensures room { self.new.room ≡ self.old.room }
+    {
+        keep_all(map, replies, self.index.keys(), &mut self.asked);
     }
 
     /// The value that came for a read and a cell, and 0 where none came.

@@ -1,16 +1,17 @@
 //! Held puts.
 
-ghost use Rattle.std.specs.Prelude.{◌≡◌, ◌≤◌, ◌<◌, ◌+◌, ◌*◌, ◌++◌, ◌^◌, [], ◌∷◌, length, IfOk, take, drop, FitsSigned};
+ghost use Rattle.std.specs.Prelude.{◌≡◌, ◌≤◌, ◌<◌, ◌+◌, ◌*◌, ◌++◌, ◌^◌, [], ◌∷◌, length, IfOk, take, drop, vec_capacity, map as each};
 ghost use Rattle.std.specs.Int.{w64};
 ghost use Rattle.std.specs.List.{AllByRecursion};
 ghost use Rattle.superstep_machine.specs.Words.{put_words, bit, word_of, low_word, high_word};
 ghost use Rattle.superstep_machine.specs.WordReading.{put_length};
 ghost use Rattle.superstep_machine.specs.Fitting.{FitsPut, FitsValue};
+ghost use Rattle.combining.specs.AllModules.{HasRoomFor, HasGot};
 ghost use Rattle.combining.specs.Held.{put, put_at, packed_puts, IsPutBelow};
 
 use crate::index::Index;
 use crate::machine_rule::MachineRule;
-use crate::words::write_put;
+use crate::words::{push_put, write_put};
 use address_map::AddressMap;
 use std::alloc::{AllocError, Global};
 use std::marker::Model;
@@ -100,6 +101,29 @@ impl Puts {
             }
         }
         n
+    }
+
+    /// Adds the words of all puts to the columns of their modules, one for each module, behind what a column holds: in one pass, to
+    /// each what `pack` writes for its module.
+    pub fn pack_all<R: MachineRule, M: AddressMap>(
+        &self,
+        rule: &R,
+        map: &M,
+        columns: &mut [Vec<u64>],
+    )
+        requires cells { AllByRecursion (IsPutBelow (M.shape map.now).count) self.now.held }
+        requires fit { AllByRecursion (FitsPut (R.WriteRule.rule rule.now)) self.now.held }
+        requires modules { length columns.old ≡ (M.shape map.now).parts }
+        requires room { HasRoomFor (M.shape map.now).parts (λ j. packed_puts (R.WriteRule.rule rule.now) (M.shape map.now).part j self.now.held) (each (λ v. v.items) columns.old) (each vec_capacity columns.old) }
+        ensures words { HasGot (M.shape map.now).parts (λ j. packed_puts (R.WriteRule.rule rule.now) (M.shape map.now).part j self.now.held) (each (λ v. v.items) columns.old) (each (λ v. v.items) columns.new) }
+        ensures rooms { each vec_capacity columns.new ≡ each vec_capacity columns.old }
+    {
+        let keys = self.index.keys();
+        for i in 0..self.entries.len() {
+            let cell = keys[i];
+            let (home, _offset) = map.place(cell);
+            push_put(rule, &mut columns[home as usize], cell, self.entries[i]);
+        }
     }
 
     /// Holds nothing any more.

@@ -1,6 +1,6 @@
 //! The words of puts and asks: how they are written, and how any words are read.
 
-ghost use Rattle.std.specs.Prelude.{◌≡◌, ◌≤◌, ◌<◌, ◌+◌, ◌*◌, ◌%◌, ◌++◌, ◌^◌, [], ◌∷◌, length, take, drop, FitsSigned, IfSome, None, Some};
+ghost use Rattle.std.specs.Prelude.{◌≡◌, ◌≤◌, ◌<◌, ◌+◌, ◌*◌, ◌%◌, ◌++◌, ◌^◌, [], ◌∷◌, length, take, drop, FitsSigned, IfSome, None, Some, vec_capacity};
 ghost use Rattle.std.specs.Int.{w64};
 ghost use Rattle.superstep_machine.specs.Words.{put_words, ask_word, bit, word_of, low_word, high_word};
 ghost use Rattle.superstep_machine.specs.WordReading.{put_length as length_of_put, read_value as value_of_words};
@@ -106,6 +106,23 @@ pub(crate) fn write_put<R: MachineRule>(
     }
 }
 
+/// Adds the words of a put behind others, where there is room.
+pub(crate) fn push_put<R: MachineRule>(rule: &R, out: &mut Vec<u64>, cell: u32, entry: Entry)
+    requires room { length out.old.items + length_of_put (R.WriteRule.rule rule.now) ≤ vec_capacity out.old }
+    requires fits { FitsValue (R.WriteRule.rule rule.now) entry.value }
+    ensures words { out.new.items ≡ out.old.items ++ put_words (R.WriteRule.rule rule.now) (put_at cell entry) }
+    ensures room { vec_capacity out.new ≡ vec_capacity out.old }
+{
+    out.push_reserved(first_word(cell, entry.clash));
+    out.push_reserved(entry.owner.cast_unsigned());
+    if rule.sums() {
+        out.push_reserved(low(entry.value));
+        out.push_reserved(high(entry.value));
+    } else {
+        out.push_reserved((entry.value as i64).cast_unsigned());
+    }
+}
+
 // How many words a put has.
 fn put_length<R: MachineRule>(rule: &R) -> usize
     ensures { result ≡ length_of_put (R.WriteRule.rule rule.now) }
@@ -154,6 +171,16 @@ pub(crate) fn write_ask(out: &mut [u64], n: usize, key: u32, asked: Asked) -> us
     let mark = if asked.again { TWICE } else { 0 };
     out[n] = u64::from(key) + mark;
     n + 1
+}
+
+/// Adds the word of an ask behind others, where there is room.
+pub(crate) fn push_ask(out: &mut Vec<u64>, key: u32, asked: Asked)
+    requires { length out.old.items + 1 ≤ vec_capacity out.old }
+    ensures word { out.new.items ≡ out.old.items ++ ask_word (ask_at key asked).ask ∷ [] }
+    ensures room { vec_capacity out.new ≡ vec_capacity out.old }
+{
+    let mark = if asked.again { TWICE } else { 0 };
+    out.push_reserved(u64::from(key) + mark);
 }
 
 // ---- any words
