@@ -104,3 +104,23 @@ pub(crate) fn checked(alloc: Global, text: &[u8], line: &str) -> bool {
     };
     prints(alloc, &["check", "program"], text, b"", expected)
 }
+
+// Whether every row holds.
+pub(crate) fn all_hold(alloc: Global, rows: &[Row]) -> bool {
+    for row in rows {
+        if !holds(alloc, row) {
+            return false;
+        }
+    }
+    true
+}
+
+// Whether `check` prints for each text the line beside it.
+pub(crate) fn all_checked(alloc: Global, rows: &[(&str, &str)]) -> bool {
+    for (text, line) in rows {
+        if !checked(alloc, text.as_bytes(), line) {
+            return false;
+        }
+    }
+    true
+}

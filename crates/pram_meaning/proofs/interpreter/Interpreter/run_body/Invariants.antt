@@ -1,0 +1,6 @@
+use Rattle.pram_meaning.specs.Runs.{state_of}
+use Rattle.pram_meaning.proofs.Loops.{InBlock}
+use Rattle.pram_meaning.proofs.interpreter.Interpreter.run_body.Given as goal
+
+abbrev pub invariant-loop-s : goal.invariant-loop-s
+invariant-loop-s l = InBlock l.self.program.now l.self.bound l.self.program.now.body l.s-index (state_of l.fn.run) (state_of l.run)
