@@ -25,7 +25,8 @@ odd_power a (suc i) odd =
     let s : suc i ≡ i + 1 = omega arith in
     let e : a ^ (2 ^ suc i) ≡ a ^ (2 ^ i) * a ^ (2 ^ i) = ap (λ k. a ^ (2 ^ k)) s ∙ squared a i in
     let w : 2 ^ (suc i + 1) ≡ 2 ^ (i + 1) + 2 ^ (i + 1) = ap (λ k. 2 ^ (k + 1)) s ∙ doubled (i + 1) in
-    (o.0 * o.0 * 2 ^ i + o.0, e ∙ ap (λ y. y * y) o.1 ∙ square_one o.0 (2 ^ i) (2 ^ (i + 1)) (doubled i) ∙ ap (λ y. (o.0 * o.0 * 2 ^ i + o.0) * y + 1) (sym w))
+    (o.0 * o.0 * 2 ^ i + o.0, e ∙ ap (λ y. y * y) o.1 ∙ square_one o.0 (2 ^ i) (2 ^ (i + 1)) (doubled i)
+        ∙ ap (λ y. (o.0 * o.0 * 2 ^ i + o.0) * y + 1) (sym w))
 
 -- an odd number to the power 2 ^ i leaves 1 below 2 ^ i
 pub odd_one : (a i : ℕ) → a % 2 ≡ 1 → a ^ (2 ^ i) % 2 ^ i ≡ 1 % 2 ^ i
@@ -45,7 +46,8 @@ pub next_square : (a k i s : ℕ) → s ≡ a ^ (2 ^ i) % k → (s * s) % k ≡ 
 next_square a k i s e = ap (λ y. (y * y) % k) e ∙ sym (mul-mod (a ^ (2 ^ i)) (a ^ (2 ^ i)) k) ∙ ap (λ y. y % k) (sym (squared a i))
 
 pub next_short : (a k s u : ℕ) → (a * u) % k ≡ s → (a * ((u * s) % k)) % k ≡ (s * s) % k
-next_short a k s u e = mul-mod_second a (u * s) k ∙ ap (λ y. y % k) (sym (mul_assoc a u s)) ∙ sym (mul-mod_first (a * u) s k) ∙ ap (λ y. (y * s) % k) e
+next_short a k s u e = mul-mod_second a (u * s) k ∙ ap (λ y. y % k) (sym (mul_assoc a u s)) ∙ sym (mul-mod_first (a * u) s k)
+    ∙ ap (λ y. (y * s) % k) e
 
 pub last_inverse : (a k i s u : ℕ) → a % 2 ≡ 1 → k ≡ 2 ^ i → s ≡ a ^ (2 ^ i) % k → (a * u) % k ≡ s → (a * u) % k ≡ 1 % k
 last_inverse a k i s u odd is e f = f ∙ e ∙ ap (λ y. a ^ (2 ^ i) % y) is ∙ odd_one a i odd ∙ ap (λ y. 1 % y) (sym is)

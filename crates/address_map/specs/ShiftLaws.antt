@@ -27,7 +27,8 @@ twice_shifted s t y = ap (bit_xor (shifted t y)) (xor_shr y (y / 2 ^ t) s ∙ ap
 turned : (s t y : ℕ) → shifted s (shifted t y) ≡ shifted t (shifted s y)
 turned s t y =
     let e : t + s ≡ s + t = omega arith in
-    twice_shifted s t y ∙ mixed y (y / 2 ^ t) (y / 2 ^ s) (y / 2 ^ (t + s)) ∙ ap (λ k. bit_xor (bit_xor y (y / 2 ^ s)) (bit_xor (y / 2 ^ t) (y / 2 ^ k))) e ∙ sym (twice_shifted t s y)
+    twice_shifted s t y ∙ mixed y (y / 2 ^ t) (y / 2 ^ s) (y / 2 ^ (t + s))
+        ∙ ap (λ k. bit_xor (bit_xor y (y / 2 ^ s)) (bit_xor (y / 2 ^ t) (y / 2 ^ k))) e ∙ sym (twice_shifted t s y)
 
 xor_gone : (a b c : ℕ) → bit_xor a a ≡ 0 → bit_xor (bit_xor b a) (bit_xor a c) ≡ bit_xor b c
 xor_gone a b c self = xor_assoc b a (bit_xor a c) ∙ ap (bit_xor b) (sym (xor_assoc a a c) ∙ ap (λ x. bit_xor x c) self ∙ xor_zero_l c)
@@ -103,5 +104,8 @@ times_inverse k a u unit pos = record {
   forth = λ y h. times_undone k a u unit y h;
 }
 
-pub round_inverse : (e a u s : ℕ) → e ≤ 20 → 1 ≤ s → 0 < 2 ^ e → (a * u) % 2 ^ e ≡ 1 % 2 ^ e → IsInverse (2 ^ e) (round (2 ^ e) a s) (round_back (2 ^ e) u s)
-round_inverse e a u s small least pos unit = inverse_after (2 ^ e) (λ x. (a * x) % 2 ^ e) (λ y. (u * y) % 2 ^ e) (shifted s) (unshifted 5 s) (times_inverse (2 ^ e) a u unit pos) (shift_inverse e s small least)
+pub round_inverse : (e a u s : ℕ) → e ≤ 20 → 1 ≤ s → 0 < 2 ^ e → (a * u) % 2 ^ e ≡ 1 % 2 ^ e → IsInverse (2 ^ e) (round (2 ^ e) a s)
+    (round_back (2 ^ e) u s)
+round_inverse e a u s small least pos unit =
+    inverse_after (2 ^ e) (λ x. (a * x) % 2 ^ e) (λ y. (u * y) % 2 ^ e) (shifted s) (unshifted 5 s) (times_inverse (2 ^ e) a u unit pos)
+    (shift_inverse e s small least)

@@ -27,7 +27,8 @@ spread_lawful k p f g small one few inv = record {
   one = one;
   few = few;
   part_below = λ c h. mod_below (f c) p one;
-  offset_below = λ c h. below_row k p (f c % p) (f c / p) (mod_below (f c) p one) (let s = div-add-mod' (f c) p in let b = inv.below c h in omega arith);
+  offset_below = λ c h. below_row k p (f c % p) (f c / p) (mod_below (f c) p one) (let s = div-add-mod' (f c) p in let b = inv.below c h in
+      omega arith);
   back = λ c h. ap g (div-add-mod' (f c) p) ∙ inv.back c h;
   forth = λ j o h w. record {
     below = inv.back_below (o * p + j) (row_below k p j o h w);

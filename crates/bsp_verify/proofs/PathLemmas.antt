@@ -1,5 +1,6 @@
 -- The states on a path are those that any way to meet the instructions gives.
-use Rattle.std.proofs.Common.{◌≡◌, ℕ, zero, suc, ◌+◌, ◌<◌, ◌≤◌, length, Bool, true, false, not, eqb, Some, refl, sym, ap, ◌∙◌, subst, arith, ⊎_elim, ◌⊎◌, inl, inr}
+use Rattle.std.proofs.Common.{◌≡◌, ℕ, zero, suc, ◌+◌, ◌<◌, ◌≤◌, length, Bool, true, false, not, eqb, Some, refl, sym, ap, ◌∙◌, subst, arith}
+use Rattle.std.proofs.Common.{⊎_elim, ◌⊎◌, inl, inr}
 use Rattle.std.specs.Prelude.{◌&&◌, nat_lt, slice_get}
 use Rattle.std.proofs.lemmas.Bool.Decides.{nat_tests}
 use Rattle.superstep_code.specs.declared.instr.Instr.{Instr}
@@ -12,15 +13,16 @@ use Rattle.bsp_verify.specs.Judging.{is_mark, is_target, has_target, IsAllowed}
 use Rattle.bsp_verify.specs.WellFormed.{IsMet, IsWellFormed}
 use Rattle.bsp_verify.specs.Paths.{Point, Comes, IsWithin, IsSound, PathsAreSound}
 use Rattle.bsp_verify.proofs.Ways.{leads_within}
-
-pub unsome : {A : Type 0} (i j : A) → Some i ≡ Some j → i ≡ j
-unsome i j h = cc
+use Rattle.pram_model.proofs.Truths.{both, unsome}
+use Rattle.std.proofs.lemmas.Bool.{not-true}
 
 -- a target isn't above the jump, or it is
-target_rises : (code : SuperstepCode) (place t : ℕ) → is_target code place t ≡ true → (place < t) ⊎ (is_mark (slice_get code.instructions t) ≡ true)
+target_rises : (code : SuperstepCode) (place t : ℕ) → is_target code place t ≡ true →
+    (place < t) ⊎ (is_mark (slice_get code.instructions t) ≡ true)
 target_rises code place t h = go (nat_lt place t) (is_mark (slice_get code.instructions t)) refl refl
   where
-    go : (a b : Bool) → nat_lt place t ≡ a → is_mark (slice_get code.instructions t) ≡ b → (place < t) ⊎ (is_mark (slice_get code.instructions t) ≡ true)
+    go : (a b : Bool) → nat_lt place t ≡ a → is_mark (slice_get code.instructions t) ≡ b →
+        (place < t) ⊎ (is_mark (slice_get code.instructions t) ≡ true)
     go true b x y = inl (grind (arith, nat_tests))
     go false true x y = inr y
     go false false x y = absurd (grind (arith, nat_tests))
@@ -28,10 +30,14 @@ target_rises code place t h = go (nat_lt place t) (is_mark (slice_get code.instr
 next_rises : (place t : ℕ) → t ≡ place + 1 → place < t
 next_rises place t h = omega (arith, h)
 
-pub step_rises : (code : SuperstepCode) (place : ℕ) (i : Instr) → has_target code place i ≡ true → (t : ℕ) → Leads i place t → (place < t) ⊎ (is_mark (slice_get code.instructions t) ≡ true)
+pub step_rises : (code : SuperstepCode) (place : ℕ) (i : Instr) → has_target code place i ≡ true → (t : ℕ) → Leads i place t →
+    (place < t) ⊎ (is_mark (slice_get code.instructions t) ≡ true)
 step_rises code place Halt a t l = absurd l
-step_rises code place (Jump target) a t l = subst (λ n. (place < n) ⊎ (is_mark (slice_get code.instructions n) ≡ true)) (sym l) (target_rises code place target a)
-step_rises code place (JumpIfZero r target) a t l = ⊎_elim (λ e. subst (λ n. (place < n) ⊎ (is_mark (slice_get code.instructions n) ≡ true)) (sym e) (target_rises code place target a)) (λ e. inl (next_rises place t e)) l
+step_rises code place (Jump target) a t l =
+    subst (λ n. (place < n) ⊎ (is_mark (slice_get code.instructions n) ≡ true)) (sym l) (target_rises code place target a)
+step_rises code place (JumpIfZero r target) a t l =
+    ⊎_elim (λ e. subst (λ n. (place < n) ⊎ (is_mark (slice_get code.instructions n) ≡ true)) (sym e) (target_rises code place target a))
+    (λ e. inl (next_rises place t e)) l
 step_rises code place i a t l = inl (next_rises place t l)
 
 -- ---- limits
@@ -39,16 +45,8 @@ step_rises code place i a t l = inl (next_rises place t l)
 opening_within : IsWithin opening
 opening_within = record { masks = omega arith; asks = omega arith; outside = λ h. refl; alone = λ h. cc }
 
-pub is_false : (b : Bool) → not b ≡ true → b ≡ false
-is_false false h = refl
-is_false true h = cc
-
-not_both : {A : Type 0} (b : Bool) → b ≡ false → b ≡ true → A
+pub not_both : {A : Type 0} (b : Bool) → b ≡ false → b ≡ true → A
 not_both b f h = cc
-
-pub both : (a b : Bool) → (a && b) ≡ true → (a ≡ true) × (b ≡ true)
-both true b h = (refl, h)
-both false b h = cc
 
 below : (n m : ℕ) → nat_lt n m ≡ true → n + 1 ≤ m
 below n m h = grind (arith, nat_tests)
@@ -77,14 +75,14 @@ within_after code place (Ask side d c r q) s h w =
       masks = w.masks;
       asks = below s.asks 8 b.1;
       outside = w.outside;
-      alone = λ e. not_both s.awaits (is_false s.awaits b.0) e;
+      alone = λ e. not_both s.awaits (not-true s.awaits b.0) e;
     }
 within_after code place (Put side c r v q) s h w =
     let b = both (not s.awaits) (eqb s.asks 0 && not s.put) h.exchange in record {
       masks = w.masks;
       asks = w.asks;
       outside = w.outside;
-      alone = λ e. not_both s.awaits (is_false s.awaits b.0) e;
+      alone = λ e. not_both s.awaits (not-true s.awaits b.0) e;
     }
 within_after code place Send s h w = record { masks = w.masks; asks = omega arith; outside = w.outside; alone = λ e. (refl, refl) }
 within_after code place Reply s h w = record { masks = w.masks; asks = w.asks; outside = w.outside; alone = λ e. cc }
@@ -121,7 +119,8 @@ module _ (code : SuperstepCode) (formed : IsWellFormed code) where
       let m = met p.place before.0 in
       let same = unsome s.0 m.instr (sym s.1 ∙ m.is) in
       subst IsWithin (sym (s.3 ∙ ap (λ (i : Instr). after i p.state) same))
-      (within_after code p.place m.instr p.state (subst (λ (x : State). IsAllowed code p.place m.instr x) (sym before.1) m.allowed) (comes_within n p h.1))
+      (within_after code p.place m.instr p.state (subst (λ (x : State). IsAllowed code p.place m.instr x) (sym before.1) m.allowed)
+          (comes_within n p h.1))
 
   sound : (n : ℕ) (q : Point) → Comes code n q → IsSound code q
   sound n q h =

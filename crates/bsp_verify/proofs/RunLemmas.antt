@@ -1,5 +1,6 @@
 -- A run goes along a path of control, and the state that the path gives describes what its workers hold and await.
-use Rattle.std.proofs.Common.{◌≡◌, ℕ, zero, suc, ◌+◌, List, [], ◌∷◌, length, Bool, true, false, not, eqb, Option, Some, None, ℤ, refl, sym, ap, ◌∙◌, subst, ⊎_elim, ◌⊎◌, inl, inr}
+use Rattle.std.proofs.Common.{◌≡◌, ℕ, zero, suc, ◌+◌, List, [], ◌∷◌, length, Bool, true, false, not, eqb, Option, Some, None, ℤ, refl, sym}
+use Rattle.std.proofs.Common.{ap, ◌∙◌, subst, ⊎_elim, ◌⊎◌, inl, inr}
 use Rattle.std.specs.Prelude.{if◌then◌else◌, ◌&&◌, nat_lt, slice_get}
 use Rattle.std.proofs.lemmas.List.{length-append}
 use Rattle.pram_values.specs.Truth.{is_nonzero}
@@ -28,8 +29,11 @@ use Rattle.bsp_verify.specs.Paths.{Point, Comes, IsWithin}
 use Rattle.bsp_verify.specs.Runs.{worker_after, IsOnPath, MayExchange, RunsAreSound}
 use Rattle.superstep_machine.specs.Sides.{HaveOneSide}
 use Rattle.bsp_verify.specs.Moments.{walked, DescribesWorker, IsDescribed, MomentsAreSound, ReadsHaveOneSide, SentReadsHaveOneSide}
-use Rattle.bsp_verify.proofs.PathLemmas.{both, is_false, is_zero, paths_sound}
-use Rattle.bsp_verify.proofs.WorkerLemmas.{one_side, none_of, none_came, Works, acts_worker, sent_worker, replied_worker, voted_worker, opening_worker}
+use Rattle.bsp_verify.proofs.PathLemmas.{is_zero, paths_sound, not_both}
+use Rattle.bsp_verify.proofs.WorkerLemmas.{one_side, none_of, none_came, Works, acts_worker, sent_worker, replied_worker, voted_worker}
+use Rattle.bsp_verify.proofs.WorkerLemmas.{opening_worker}
+use Rattle.pram_model.proofs.Truths.{both}
+use Rattle.std.proofs.lemmas.Bool.{not-true}
 
 -- the state says what is held and awaited; answers are awaited alone
 pub record Describes (s : State) (u : UniformPart) : Type 0 where
@@ -37,9 +41,6 @@ pub record Describes (s : State) (u : UniformPart) : Type 0 where
   pub put : machine.is_held u.put ≡ s.put
   pub awaited : nat_lt 0 (length u.awaited) ≡ s.awaits
   pub alone : s.awaits ≡ true → (s.asks ≡ 0) × (s.put ≡ false)
-
-pub not_both : {A : Type 0} (b : Bool) → b ≡ false → b ≡ true → A
-not_both b f h = cc
 
 -- ---- instructions
 
@@ -53,8 +54,10 @@ pub acts : (code : SuperstepCode) (i : Instr) (s : State) (u : UniformPart) → 
     Describes (after i s) (on_uniform code i u)
 acts code Send s u a f d = absurd a
 acts code Reply s u a f d = absurd a
-acts code (Ask Uniform x c r q) s u a f d = record { asks = length-append u.asks _ ∙ ap (λ n. n + 1) d.asks; put = d.put; awaited = d.awaited; alone = λ h. not_both s.awaits f h }
-acts code (Ask Private x c r q) s u a f d = record { asks = length-append u.asks _ ∙ ap (λ n. n + 1) d.asks; put = d.put; awaited = d.awaited; alone = λ h. not_both s.awaits f h }
+acts code (Ask Uniform x c r q) s u a f d = record { asks = length-append u.asks _ ∙ ap (λ n. n + 1) d.asks; put = d.put; awaited =
+    d.awaited; alone = λ h. not_both s.awaits f h }
+acts code (Ask Private x c r q) s u a f d = record { asks = length-append u.asks _ ∙ ap (λ n. n + 1) d.asks; put = d.put; awaited =
+    d.awaited; alone = λ h. not_both s.awaits f h }
 acts code (Put side c r v q) s u a f d = record { asks = d.asks; put = refl; awaited = d.awaited; alone = λ h. not_both s.awaits f h }
 acts code i s u a f d = record { asks = d.asks; put = d.put; awaited = d.awaited; alone = d.alone }
 
@@ -65,7 +68,7 @@ none_awaited true b h = cc
 -- with answers awaited there is nothing but a reply
 pub no_answers : (i : Instr) (s : State) → (i ≡ Reply → ⊥) → fits_exchange i s ≡ true → s.awaits ≡ false
 no_answers Reply s n h = absurd (n refl)
-no_answers Send s n h = is_false s.awaits h
+no_answers Send s n h = not-true s.awaits h
 no_answers i s n h = none_awaited s.awaits _ h
 
 -- ---- exchanges
@@ -112,10 +115,11 @@ module _ (s : State) (u : UniformPart) (d : Describes s u) where
   nothing_awaited h = none_came u.awaited (d.awaited ∙ h)
 
   no_reads : (i : Instr) → fits_exchange i s ≡ (not s.awaits && eqb s.asks 0) → fits_exchange i s ≡ true → (u.awaited ≡ []) × (u.asks ≡ [])
-  no_reads i e h = let b = both (not s.awaits) (eqb s.asks 0) (sym e ∙ h) in (nothing_awaited (is_false s.awaits b.0), none_of u.asks (d.asks ∙ is_zero s.asks b.1))
+  no_reads i e h = let b = both (not s.awaits) (eqb s.asks 0) (sym e ∙ h) in
+      (nothing_awaited (not-true s.awaits b.0), none_of u.asks (d.asks ∙ is_zero s.asks b.1))
 
   may : (stop : Stop) (i : Instr) → StopsBy stop i → fits_exchange i s ≡ true → MayExchange stop u
-  may ToSend i e h = nothing_awaited (is_false s.awaits (subst (λ (j : Instr). fits_exchange j s ≡ true) e h))
+  may ToSend i e h = nothing_awaited (not-true s.awaits (subst (λ (j : Instr). fits_exchange j s ≡ true) e h))
   may ToReply i e h =
       let a = subst (λ (j : Instr). fits_exchange j s ≡ true) e h in
       let b = d.alone a in
@@ -123,7 +127,7 @@ module _ (s : State) (u : UniformPart) (d : Describes s u) where
   may (ToVote x) i e h =
       let a = both (not s.awaits) (eqb s.asks 0 && not s.put) (subst (λ (j : Instr). fits_exchange j s ≡ true) e h) in
       let b = both (eqb s.asks 0) (not s.put) a.1 in
-      (nothing_awaited (is_false s.awaits a.0), none_of u.asks (d.asks ∙ is_zero s.asks b.0), no_put u.put (d.put ∙ is_false s.put b.1))
+      (nothing_awaited (not-true s.awaits a.0), none_of u.asks (d.asks ∙ is_zero s.asks b.0), no_put u.put (d.put ∙ not-true s.put b.1))
   may (ToClose ended) i e h =
       ⊎_elim (λ x. no_reads Halt refl (subst (λ (j : Instr). fits_exchange j s ≡ true) x h))
       (λ x. no_reads (Mark x.0) refl (subst (λ (j : Instr). fits_exchange j s ≡ true) x.1 h)) e
@@ -144,10 +148,12 @@ module _ (t : Setting) (formed : IsWellFormed t.code) (w : ℕ) where
     pub describes : DescribesWorker t w point.state x
 
   -- one more step
-  onward : (n : ℕ) (q : Point) (c : Comes t.code n q) (i : Instr) (is : slice_get t.code.instructions q.place ≡ Some i) (place : ℕ) (x : Worker) →
+  onward : (n : ℕ) (q : Point) (c : Comes t.code n q) (i : Instr) (is : slice_get t.code.instructions q.place ≡ Some i) (place : ℕ)
+      (x : Worker) →
       Leads i q.place place → DescribesWorker t w (after i q.state) x → IsThere place x
   onward n q c i is place x l d =
-      record { steps = suc n; point = record { place = place; state = after i q.state }; comes = (q, c, (i, is, l, refl)); here = refl; describes = d }
+      record { steps = suc n; point = record { place = place; state = after i q.state }; comes = (q, c, (i, is, l, refl)); here = refl;
+          describes = d }
 
   pub record Stops (stop : Stop) (place : ℕ) (x : Worker) : Type 0 where
     pub there : IsThere place x
@@ -165,10 +171,12 @@ module _ (t : Setting) (formed : IsWellFormed t.code) (w : ℕ) where
       abbrev at : Instr → R
       at i = advance t.bound (λ (y : Worker). y.uniform) (after_instr t w) nowhere stops next (Some i) q.place x
 
-      module _ (i : Instr) (is : slice_get t.code.instructions q.place ≡ Some i) (may : IsAllowed t.code q.place i q.state) (within : IsWithin q.state) where
+      module _ (i : Instr) (is : slice_get t.code.instructions q.place ≡ Some i) (may : IsAllowed t.code q.place i q.state)
+          (within : IsWithin q.state) where
         halts : (stop : Stop) → StopsBy stop i → Good (stops stop q.place x)
         halts stop by =
-            stopped stop q.place x (record { there = record { steps = m; point = q; comes = c; here = refl; describes = d }; instr = i; is = is; by = by; fits = may.exchange })
+            stopped stop q.place x (record { there = record { steps = m; point = q; comes = c; here = refl; describes = d }; instr = i;
+                is = is; by = by; fits = may.exchange })
 
         goes : (place : ℕ) (y : Worker) → Leads i q.place place → DescribesWorker t w (after i q.state) y → Good (next place y)
         goes place y l e = going place y (onward m q c i is place y l e)
@@ -196,12 +204,15 @@ module _ (t : Setting) (formed : IsWellFormed t.code) (w : ℕ) where
       step i is f l = works i is f l tt refl
 
     advances : (place : ℕ) (x : Worker) → IsThere place x →
-        Good (advance t.bound (λ (y : Worker). y.uniform) (after_instr t w) nowhere stops next (slice_get t.code.instructions place) place x)
+        Good (advance t.bound (λ (y : Worker). y.uniform) (after_instr t w) nowhere stops next (slice_get t.code.instructions place) place
+            x)
     advances place x h =
         let q = h.point in
         let s = paths_sound t.code formed h.steps q h.comes in
-        subst (λ k. Good (advance t.bound (λ (y : Worker). y.uniform) (after_instr t w) nowhere stops next (slice_get t.code.instructions k) k x)) h.here
-        (subst (λ (o : Option Instr). Good (advance t.bound (λ (y : Worker). y.uniform) (after_instr t w) nowhere stops next o q.place x)) (sym s.is)
+        subst (λ k. Good (advance t.bound (λ (y : Worker). y.uniform) (after_instr t w) nowhere stops next (slice_get t.code.instructions k)
+            k x)) h.here
+        (subst (λ (o : Option Instr). Good (advance t.bound (λ (y : Worker). y.uniform) (after_instr t w) nowhere stops next o q.place x))
+            (sym s.is)
         (step h.steps q h.comes x h.describes s.instr s.is s.allowed s.within))
 
   abbrev pub Arrives : Arrival Worker → Type 0
@@ -243,7 +254,8 @@ module _ (t : Setting) (formed : IsWellFormed t.code) (w : ℕ) where
         go : (mark : HeaderMark) → Agrees (machine.after_with t w r messages mark)
         go OutOfMemory = λ h. cc
         go OutOfReserve = λ h. cc
-        go Clear = λ h. next (decided_same machine.On (λ key ended e. cc) r.purpose r.state.worker.uniform (machine.key_of messages) r.state.way h)
+        go Clear = λ h. next (decided_same machine.On (λ key ended e. cc) r.purpose r.state.worker.uniform (machine.key_of messages)
+            r.state.way h)
 
     -- the place behind an exchange
     behind : (stop : Stop) (place : ℕ) (x : Worker) (i : Instr) (y : Worker) (h : Stops stop place x) → h.instr ≡ i → ((k : ℕ) →
@@ -252,17 +264,21 @@ module _ (t : Setting) (formed : IsWellFormed t.code) (w : ℕ) where
     behind stop place x i y h same leads described =
         let q = h.there.point in
         subst (λ k. IsThere (k + 1) y) h.there.here
-        (onward h.there.steps q h.there.comes i (ap (slice_get t.code.instructions) h.there.here ∙ h.is ∙ ap (λ j. Some j) same) (q.place + 1) y (leads q.place)
+        (onward h.there.steps q h.there.comes i (ap (slice_get t.code.instructions) h.there.here ∙ h.is
+            ∙ ap (λ j. Some j) same) (q.place + 1) y (leads q.place)
         (described q.state h.there.describes))
 
     arrived : (s : machine.State) (a : Arrival Worker) → Arrives a → Agrees (machine.after t w (machine.ready_at s a) messages)
     arrived s Nowhere h = exchanged (machine.ready_at s Nowhere) (λ e. cc)
     arrived s (At ToSend place x) h =
-        exchanged (machine.ready_at s (At ToSend place x)) (λ e. behind ToSend place x Send _ h h.by (λ k. refl) (λ z d. sent_worker t w z x d messages))
+        exchanged (machine.ready_at s (At ToSend place x))
+            (λ e. behind ToSend place x Send _ h h.by (λ k. refl) (λ z d. sent_worker t w z x d messages))
     arrived s (At ToReply place x) h =
-        exchanged (machine.ready_at s (At ToReply place x)) (λ e. behind ToReply place x Reply _ h h.by (λ k. refl) (λ z d. replied_worker t w z x d messages))
+        exchanged (machine.ready_at s (At ToReply place x))
+            (λ e. behind ToReply place x Reply _ h h.by (λ k. refl) (λ z d. replied_worker t w z x d messages))
     arrived s (At (ToVote v) place x) h =
-        exchanged (machine.ready_at s (At (ToVote v) place x)) (λ e. behind (ToVote v) place x (Vote v) _ h h.by (λ k. refl) (λ z d. voted_worker t w z x d v messages))
+        exchanged (machine.ready_at s (At (ToVote v) place x)) (λ e. behind (ToVote v) place x (Vote v) _ h h.by (λ k. refl)
+            (λ z d. voted_worker t w z x d v messages))
     arrived s (At (ToClose ended) place x) h = exchanged (machine.ready_at s (At (ToClose ended) place x)) (λ e. cc)
 
     pub next_agrees : (s : machine.State) → Agrees s → Agrees (machine.after t w (machine.ready t w s) messages)
@@ -285,7 +301,8 @@ module _ (t : Setting) (formed : IsWellFormed t.code) (w : ℕ) where
         marked OutOfReserve = exchanged (record { purpose = machine.Closes; state = machine.stopped OutOfReserve }) (λ h. cc)
 
   pub begins : (input : List ℤ) → Agrees (machine.opening t input w)
-  begins input h = record { steps = 0; point = record { place = 0; state = opening }; comes = (refl, refl); here = refl; describes = opening_worker t w input }
+  begins input h = record { steps = 0; point = record { place = 0; state = opening }; comes = (refl, refl); here = refl; describes =
+      opening_worker t w input }
 
   may_make : (s : machine.State) → Agrees s → s.way ≡ machine.On → (stop : Stop) (place : ℕ) (x : Worker) →
       machine.stretch t w s ≡ At stop place x →
@@ -294,7 +311,8 @@ module _ (t : Setting) (formed : IsWellFormed t.code) (w : ℕ) where
       let z = subst Arrives e (follow t.enough s.place s.worker (a h)) in
       let p = z.there in
       let sound = paths_sound t.code formed p.steps p.point p.comes in
-      ((p.steps, p.point, p.comes, p.here), may p.point.state x.uniform (describes_uniform t w p.point.state x sound.within p.describes) stop z.instr z.by z.fits)
+      ((p.steps, p.point, p.comes, p.here), may p.point.state x.uniform (describes_uniform t w p.point.state x sound.within p.describes)
+          stop z.instr z.by z.fits)
 
   one_side_at : (s : machine.State) → Agrees s → s.way ≡ machine.On → (stop : Stop) (place : ℕ) (x : Worker) →
       machine.stretch t w s ≡ At stop place x →
@@ -330,10 +348,12 @@ module _ (t : Setting) (formed : IsWellFormed t.code) where
   agree_after input n w = phases_agree (workers t) n (machine.opening t input) (λ v. begins t formed v input) w
 
 pub runs_sound : RunsAreSound
-runs_sound t formed input n w h stop place x e = may_make t formed w (worker_after t input n w) (agree_after t formed input n w) h stop place x e
+runs_sound t formed input n w h stop place x e =
+    may_make t formed w (worker_after t input n w) (agree_after t formed input n w) h stop place x e
 
 pub moments_sound : MomentsAreSound
-moments_sound t formed input n m w h place x e = at_moment t formed w (worker_after t input n w) (agree_after t formed input n w) h m place x e
+moments_sound t formed input n m w h place x e =
+    at_moment t formed w (worker_after t input n w) (agree_after t formed input n w) h m place x e
 
 pub reads_have_one_side : ReadsHaveOneSide
 reads_have_one_side t formed input n m w h place x e =

@@ -1,5 +1,6 @@
 -- Stretches that are judged one by one make code.
-use Rattle.std.proofs.Common.{◌≡◌, ℕ, zero, suc, ◌+◌, ◌-◌, ◌<◌, ◌≤◌, List, [], ◌∷◌, ◌++◌, length, take, Bool, true, false, not, ◌||◌, Some, refl, sym, ap, ◌∙◌, subst, arith, ⊎_elim, ◌⊎◌, inl, inr}
+use Rattle.std.proofs.Common.{◌≡◌, ℕ, zero, suc, ◌+◌, ◌-◌, ◌<◌, ◌≤◌, List, [], ◌∷◌, ◌++◌, length, take, Bool, true, false, not, ◌||◌, Some}
+use Rattle.std.proofs.Common.{refl, sym, ap, ◌∙◌, subst, arith, ⊎_elim, ◌⊎◌, inl, inr}
 use Rattle.std.specs.Prelude.{nat_lt, slice_get}
 use Rattle.std.proofs.lemmas.Bool.{cases_lt}
 use Rattle.std.proofs.lemmas.Bool.Decides.{nat_tests}
@@ -13,7 +14,8 @@ use Rattle.bsp_verify.specs.States.{opening, after}
 use Rattle.bsp_verify.specs.Control.{Leads, goes_on, IsReached}
 use Rattle.bsp_verify.specs.Judging.{stays_within, IsAllowed}
 use Rattle.bsp_verify.specs.WellFormed.{IsMet}
-use Rattle.bsp_verify.specs.Stretches.{behind, scan_of, Stands, JumpsTo, IsPlaced, IsStretch, StretchesCompose, StretchesLeave, IsClosed, AStretchIsCode, PartsStand, WhatStandsIsThere}
+use Rattle.bsp_verify.specs.Stretches.{behind, scan_of, Stands, JumpsTo, IsPlaced, IsStretch, StretchesCompose, StretchesLeave, IsClosed}
+use Rattle.bsp_verify.specs.Stretches.{AStretchIsCode, PartsStand, WhatStandsIsThere}
 
 -- ---- the state behind instructions
 
@@ -23,7 +25,8 @@ behind-append (x ∷ xs) ys s = behind-append xs ys (after x s)
 
 got-append-add : (xs ys : List Instr) (k : ℕ) → slice_get (xs ++ ys) (length xs + k) ≡ slice_get ys k
 got-append-add [] ys k = ap (slice_get ys) (let e : 0 + k ≡ k = omega arith in e)
-got-append-add (x ∷ xs) ys k = ap (slice_get (x ∷ (xs ++ ys))) (let e : suc (length xs) + k ≡ suc (length xs + k) = omega arith in e) ∙ got-append-add xs ys k
+got-append-add (x ∷ xs) ys k = ap (slice_get (x ∷ (xs ++ ys))) (let e : suc (length xs) + k ≡ suc (length xs + k) = omega arith in e)
+    ∙ got-append-add xs ys k
 
 got-append : (xs ys : List Instr) (k : ℕ) → k < length xs → slice_get (xs ++ ys) k ≡ slice_get xs k
 got-append [] ys k h = absurd (omega arith)
@@ -34,7 +37,8 @@ got-append (x ∷ xs) ys (suc k) h = got-append xs ys k (omega arith)
 
 pub stretches_compose : StretchesCompose
 stretches_compose code at s m e [] ys a b =
-    subst (λ (r : State). IsStretch code at r ys e) (sym a) (subst (λ k. IsStretch code k m ys e) (let h : at + 0 ≡ at = omega arith in h) b)
+    subst (λ (r : State). IsStretch code at r ys e) (sym a) (subst (λ k. IsStretch code k m ys e) (let h : at + 0 ≡ at = omega arith in
+        h) b)
 stretches_compose code at s m e (x ∷ xs) ys a b = (
   a.0,
   stretches_compose code (at + 1) (after x s) m e xs ys a.1
@@ -144,10 +148,12 @@ module _ (code : SuperstepCode) (closed : IsClosed code.instructions) where
         go true e q = ⊎_elim (λ l. below l) (λ l. last l) q
           where
             below : at + 1 < size → (not (goes_on i) || nat_lt (at + 1) size) ≡ true
-            below l = ap (λ c. not (goes_on i) || c) (let t : nat_lt (at + 1) size ≡ true = grind (arith, nat_tests) in t) ∙ or_true (goes_on i)
+            below l = ap (λ c. not (goes_on i) || c) (let t : nat_lt (at + 1) size ≡ true = grind (arith, nat_tests) in t)
+                ∙ or_true (goes_on i)
 
             last : size ≤ at + 1 → (not (goes_on i) || nat_lt (at + 1) size) ≡ true
-            last l = let f = closed i (ap (slice_get code.instructions) (let o = inside in let t : size - 1 ≡ at = omega (arith, l, o) in t) ∙ found) in cc
+            last l = let f = closed i (ap (slice_get code.instructions) (let o = inside in let t : size - 1 ≡ at = omega (arith, l, o) in t)
+                ∙ found) in cc
 
     met_here : IsReached code at → IsMet code (scan_of code) at
     met_here reached = record {
@@ -180,7 +186,8 @@ module _ (code : SuperstepCode) (closed : IsClosed code.instructions) where
       ⊎_elim
       (λ l. met m (after i s) (at + 1) is (second_stands code at s (i ∷ []) is h) (reached_next at s i is h p.0) p.1 k (omega (arith, l))
       (omega (arith, high)))
-      (λ l. subst (IsMet code (scan_of code)) (let e : at ≡ k = omega (arith, low, l) in e) (met_here at s i is h p.0 (reached (omega arith))))
+      (λ l. subst (IsMet code (scan_of code)) (let e : at ≡ k = omega (arith, low, l) in
+          e) (met_here at s i is h p.0 (reached (omega arith))))
       (cases_lt at k)
 
 pub a_stretch_is_code : AStretchIsCode

@@ -1,5 +1,6 @@
 -- What an instruction and an exchange do to a worker that a state describes.
-use Rattle.std.proofs.Common.{◌≡◌, ℕ, ◌+◌, ◌-◌, ◌≤◌, List, [], ◌∷◌, ◌++◌, map, length, Bool, true, false, not, eqb, None, Ok, Err, ℤ, refl, sym, ap, ◌∙◌, subst, arith}
+use Rattle.std.proofs.Common.{◌≡◌, ℕ, ◌+◌, ◌-◌, ◌≤◌, List, [], ◌∷◌, ◌++◌, map, length, Bool, true, false, not, eqb, None, Ok, Err, ℤ, refl}
+use Rattle.std.proofs.Common.{sym, ap, ◌∙◌, subst, arith}
 use Rattle.std.specs.Prelude.{if◌then◌else◌, ◌&&◌, nat_le, nat_lt}
 use Rattle.std.specs.List.{AllByRecursion, zip}
 use Rattle.std.proofs.lemmas.Bool.Decides.{nat_tests}
@@ -26,7 +27,9 @@ use Rattle.bsp_verify.specs.Judging.{IsAllowed}
 use Rattle.bsp_verify.specs.Paths.{IsWithin}
 use Rattle.bsp_verify.specs.Moments.{HasPlaces, side_of, DescribesWorker}
 use Rattle.superstep_machine.proofs.MachineWords.{all_map}
-use Rattle.bsp_verify.proofs.PathLemmas.{both, is_false, is_zero}
+use Rattle.bsp_verify.proofs.PathLemmas.{is_zero}
+use Rattle.pram_model.proofs.Truths.{both}
+use Rattle.std.proofs.lemmas.Bool.{not-true}
 
 -- ---- lists of processors
 
@@ -85,14 +88,18 @@ one_part code Send a s n u v y h = absurd a
 one_part code Reply a s n u v y h = absurd a
 one_part code (Mask r) a s n u v y h = record { masks = (let m = h.masks in omega (arith, m)); asks = h.asks; awaited = h.awaited }
 one_part code Flip a s n u v y h = record { masks = length-flipped y.masks ∙ h.masks; asks = h.asks; awaited = h.awaited }
-one_part code Unmask a s n u v y h = record { masks = length-unmasked y.masks ∙ ap (λ m. m - 1) h.masks; asks = h.asks; awaited = h.awaited }
-one_part code (Ask Uniform d c r q) a s n u v y h = record { masks = h.masks; asks = length-append y.asks _ ∙ ap (λ m. m + 1) h.asks; awaited = h.awaited }
+one_part code Unmask a s n u v y h = record { masks = length-unmasked y.masks ∙ ap (λ m. m - 1) h.masks; asks = h.asks; awaited =
+    h.awaited }
+one_part code (Ask Uniform d c r q) a s n u v y h = record { masks = h.masks; asks = length-append y.asks _ ∙ ap (λ m. m + 1) h.asks;
+    awaited = h.awaited }
 one_part code (Ask Private d c r q) a s n u v y h =
-    either_way (HasPlaces s.masks (s.asks + 1) n) (is_active y) (on_active code (Ask Private d c r q) u v y) (record y { asks = y.asks ++ None ∷ [] })
+    either_way (HasPlaces s.masks (s.asks + 1) n) (is_active y) (on_active code (Ask Private d c r q) u v y) (record y { asks =
+        y.asks ++ None ∷ [] })
     (record { masks = h.masks; asks = length-append y.asks _ ∙ ap (λ m. m + 1) h.asks; awaited = h.awaited })
     (record { masks = h.masks; asks = length-append y.asks _ ∙ ap (λ m. m + 1) h.asks; awaited = h.awaited })
 one_part code i a s n u v y h =
-    either_way (HasPlaces s.masks s.asks n) (is_active y) (on_active code i u v y) y (record { masks = h.masks; asks = h.asks; awaited = h.awaited }) h
+    either_way (HasPlaces s.masks s.asks n) (is_active y) (on_active code i u v y) y (record { masks = h.masks; asks = h.asks; awaited =
+        h.awaited }) h
 
 -- ---- the worker
 
@@ -108,14 +115,17 @@ module _ (t : Setting) (w : ℕ) (s : State) (x : Worker) (d : DescribesWorker t
   awaited_so_far = length x.uniform.awaited
 
   all_parts : (i : Instr) → Works i →
-      AllByRecursion (HasPlaces (after i s).masks (after i s).asks awaited_so_far) (map (λ (y : ℕ × PrivatePart). on_own t.code i x.uniform y.0 y.1) (numbered t w x))
+      AllByRecursion (HasPlaces (after i s).masks (after i s).asks awaited_so_far)
+          (map (λ (y : ℕ × PrivatePart). on_own t.code i x.uniform y.0 y.1) (numbered t w x))
   all_parts i a =
       all_numbered (HasPlaces s.masks s.asks awaited_so_far) (HasPlaces (after i s).masks (after i s).asks awaited_so_far)
       (λ (y : ℕ × PrivatePart). on_own t.code i x.uniform y.0 y.1) (λ v y h. one_part t.code i a s awaited_so_far x.uniform v y h)
       (processors t w x.uniform.width) x.own d.each
 
-  as_many : (i : Instr) → length (map (λ (y : ℕ × PrivatePart). on_own t.code i x.uniform y.0 y.1) (numbered t w x)) ≡ length (processors t w x.uniform.width)
-  as_many i = length-numbered (λ (y : ℕ × PrivatePart). on_own t.code i x.uniform y.0 y.1) (processors t w x.uniform.width) x.own d.processors
+  as_many : (i : Instr) → length (map (λ (y : ℕ × PrivatePart). on_own t.code i x.uniform y.0 y.1)
+      (numbered t w x)) ≡ length (processors t w x.uniform.width)
+  as_many i = length-numbered (λ (y : ℕ × PrivatePart). on_own t.code i x.uniform y.0 y.1) (processors t w x.uniform.width) x.own
+      d.processors
 
   module _ (quiet : (not s.awaits && eqb s.asks 0) ≡ true) where
     asks_zero : s.asks ≡ 0
@@ -125,7 +135,7 @@ module _ (t : Setting) (w : ℕ) (s : State) (x : Worker) (d : DescribesWorker t
     no_asks = none_of x.uniform.asks (d.asks ∙ asks_zero)
 
     none_awaited : x.uniform.awaited ≡ []
-    none_awaited = none_came x.uniform.awaited (d.awaited ∙ is_false s.awaits (both (not s.awaits) (eqb s.asks 0) quiet).0)
+    none_awaited = none_came x.uniform.awaited (d.awaited ∙ not-true s.awaits (both (not s.awaits) (eqb s.asks 0) quiet).0)
 
     -- the processors of a new range
     all_fresh : s.masks ≡ 0 → (vs : List ℕ) → AllByRecursion (HasPlaces s.masks s.asks awaited_so_far) (map (λ v. fresh) vs)
@@ -153,8 +163,10 @@ module _ (t : Setting) (w : ℕ) (s : State) (x : Worker) (d : DescribesWorker t
   acts_worker place (Enter r q k) a h l = record {
     outside = λ e. cc;
     narrow = width_at_most t.code.procs (x.uniform.registers r) (x.uniform.registers q);
-    processors = length-map (processors t w (or_empty (range_width t.code.procs (x.uniform.registers r) (x.uniform.registers q)))) (λ (v : ℕ). fresh);
-    each = all_fresh h.exchange (l.outside (is_false s.entered h.mode)) (processors t w (or_empty (range_width t.code.procs (x.uniform.registers r) (x.uniform.registers q))));
+    processors = length-map (processors t w (or_empty (range_width t.code.procs (x.uniform.registers r) (x.uniform.registers q))))
+        (λ (v : ℕ). fresh);
+    each = all_fresh h.exchange (l.outside (not-true s.entered h.mode))
+        (processors t w (or_empty (range_width t.code.procs (x.uniform.registers r) (x.uniform.registers q))));
     asks = d.asks;
     asks_side = asks_of h.exchange true;
     asks_own = none_own h.exchange;
@@ -180,7 +192,8 @@ module _ (t : Setting) (w : ℕ) (s : State) (x : Worker) (d : DescribesWorker t
     processors = as_many (Ask Uniform e c r q);
     each = all_parts (Ask Uniform e c r q) tt;
     asks = length-append x.uniform.asks _ ∙ ap (λ n. n + 1) d.asks;
-    asks_side = all_add (λ (z : Read). z.side ≡ side_of s.entered) x.uniform.asks _ d.asks_side (ap side_of (sym (is_false s.entered h.mode)));
+    asks_side = all_add (λ (z : Read). z.side ≡ side_of s.entered) x.uniform.asks _ d.asks_side
+        (ap side_of (sym (not-true s.entered h.mode)));
     asks_own = all_add IsBySide x.uniform.asks _ d.asks_own (λ e. cc);
     put = d.put;
     awaited = d.awaited;
@@ -245,7 +258,8 @@ module _ (t : Setting) (w : ℕ) (s : State) (x : Worker) (d : DescribesWorker t
     outside = d.outside;
     narrow = d.narrow;
     processors = length-map x.own (own_answered (value_came t x messages) x.uniform.awaited) ∙ d.processors;
-    each = all_map (HasPlaces s.masks s.asks awaited_so_far) (HasPlaces s.masks s.asks 0) (own_answered (value_came t x messages) x.uniform.awaited)
+    each = all_map (HasPlaces s.masks s.asks awaited_so_far) (HasPlaces s.masks s.asks 0)
+        (own_answered (value_came t x messages) x.uniform.awaited)
         (λ y h. record { masks = h.masks; asks = h.asks; awaited = refl }) x.own d.each;
     asks = d.asks;
     asks_side = d.asks_side;
@@ -299,8 +313,10 @@ pub one_side : (t : Setting) (w : ℕ) (s : State) (x : Worker) → DescribesWor
 one_side t w s x d = go s.entered refl
   where
     go : (b : Bool) → s.entered ≡ b → HaveOneSide x.own 0 x.uniform.asks
-    go true e = private_sides x.own 0 x.uniform.asks (subst (λ (b : Bool). AllByRecursion (λ (r : Read). r.side ≡ side_of b) x.uniform.asks) e d.asks_side) d.asks_own
+    go true e = private_sides x.own 0 x.uniform.asks (subst (λ (b : Bool). AllByRecursion (λ (r : Read). r.side ≡ side_of b) x.uniform.asks)
+        e d.asks_side) d.asks_own
     go false e =
         let none : x.own ≡ [] = none_of x.own (d.processors ∙ ap (λ n. length (processors t w n)) (d.outside e)) in
         subst (λ own. HaveOneSide own 0 x.uniform.asks) (sym none)
-        (uniform_sides 0 x.uniform.asks (subst (λ (b : Bool). AllByRecursion (λ (r : Read). r.side ≡ side_of b) x.uniform.asks) e d.asks_side))
+        (uniform_sides 0 x.uniform.asks (subst (λ (b : Bool). AllByRecursion (λ (r : Read). r.side ≡ side_of b) x.uniform.asks) e
+            d.asks_side))

@@ -28,7 +28,8 @@ pub record IsFirstFault (code : SuperstepCode) (k : ℕ) (why : Reason) : Type 0
   pub below : CanBeMet code k
   pub bad : CanBeMet code (k + 1) → ⊥
   pub no_state : (IsReached code k → ⊥) → why ≡ Why.State
-  pub reason : IsReached code k → (given : ℕ → State) → AreMet code k given → why ≡ reason_at code k (slice_get code.instructions k) (given k)
+  pub reason : IsReached code k → (given : ℕ → State) → AreMet code k given → why ≡ reason_at code k (slice_get code.instructions k)
+      (given k)
 
 -- of want of memory nothing is said
 abbrev pub IsRefusal : SuperstepCode → VerifyFault → Type 0

@@ -1,5 +1,6 @@
 -- The time of the verdict doesn't matter, and a key is for good.
-use Rattle.std.proofs.Common.{◌≡◌, ℕ, zero, suc, ◌+◌, ◌*◌, ◌<◌, ◌≤◌, List, [], length, Bool, true, false, eqb, Option, Some, None, ℤ, refl, sym, ap, ◌∙◌, subst, arith, ⊎_elim, ◌⊎◌, inl, inr}
+use Rattle.std.proofs.Common.{◌≡◌, ℕ, zero, suc, ◌+◌, ◌*◌, ◌<◌, ◌≤◌, List, [], length, Bool, true, false, eqb, Option, Some, None, ℤ, refl}
+use Rattle.std.proofs.Common.{sym, ap, ◌∙◌, subst, arith, ⊎_elim, ◌⊎◌, inl, inr}
 use Rattle.std.specs.Prelude.{if◌then◌else◌, nat_lt, slice_get}
 use Rattle.std.proofs.lemmas.Bool.Decides.{nat_tests}
 use Rattle.pram_values.proofs.Totals.{total_none}
@@ -9,19 +10,23 @@ use Rattle.superstep_code.specs.declared.instr.Instr.TheVariants.{Mark, Send, Re
 use Rattle.superstep_machine.specs.declared.key.Key.{Key}
 use Rattle.superstep_code.specs.Code.{SuperstepCode}
 use Rattle.superstep_machine.specs.Keys.{least}
-use Rattle.superstep_machine.specs.Run.{Purpose, Sends, Replies, Votes, Way, On, Ending, Past, Refused, Lost, is_held, due, unless, decided, items_below, fault_of}
+use Rattle.superstep_machine.specs.Run.{Purpose, Sends, Replies, Votes, Way, On, Ending, Past, Refused, Lost, is_held, due, unless, decided}
+use Rattle.superstep_machine.specs.Run.{items_below, fault_of}
 use Rattle.superstep_machine.specs.Steps.{own_key, is_active}
 use Rattle.superstep_machine.proofs.KeyOrder.{keys_are_monoid}
 use Rattle.bsp_verify.specs.WellFormed.{IsWellFormed}
 use Rattle.flat_machine.specs.Flat.{Flat, range, noted, after_instr, owed}
 use Rattle.flat_machine.specs.ByExchanges.{State, after_exchange, outcome_of, opening}
-use Rattle.flat_machine.specs.ByInstructions.{exchanged, closed, going, instructed, step, step_by, steps, everywhere, outcome_within, IsOutcomeBy}
+use Rattle.flat_machine.specs.ByInstructions.{exchanged, closed, going, instructed, step, step_by, steps, everywhere, outcome_within}
+use Rattle.flat_machine.specs.ByInstructions.{IsOutcomeBy}
 use Rattle.flat_machine.specs.Verdicts.{told, IsLate, ends_statement, AKeyIsForGood, AVerdictMayBeLate, AnyTimeOfVerdict}
-use Rattle.flat_machine.proofs.Stepping.{unsome, carried_out, steps_more, one_end}
+use Rattle.flat_machine.proofs.Stepping.{carried_out, steps_more, one_end}
 use Rattle.flat_machine.proofs.Counts.{IsKeyOf, least_of, owed_of}
-use Rattle.flat_machine.proofs.Paths.{IsAt, Agrees, Fits, found, states_describe, mark_asks_none, halt_asks_none, reply_holds_none, vote_holds_none}
+use Rattle.flat_machine.proofs.Paths.{IsAt, Agrees, Fits, found, states_describe, mark_asks_none, halt_asks_none, reply_holds_none}
+use Rattle.flat_machine.proofs.Paths.{vote_holds_none}
 use Rattle.flat_machine.proofs.Arrival.{arrives}
 use Rattle.flat_machine.proofs.Late.{faulted, none_least, told_noted, closed_told, late_verdict}
+use Rattle.pram_model.proofs.Truths.{unsome}
 
 -- ---- two runs, in which the exchanges of different places decide
 
@@ -85,8 +90,10 @@ module _ (code : SuperstepCode) (formed : IsWellFormed code) (bound : ℕ) (one 
   module _ (place : ℕ) (f : Flat) (a : IsAt code place f) where
     by_instr : (i : Instr) → Fits code place f a i → AreAlike f (from one (Some i) place f) (from two (Some i) place f)
     by_instr Send h = exchange_alike Sends place f (send_decides f)
-    by_instr Reply h = exchange_alike Replies place f (by_due (due f.key f.uniform.count) (is_held f.uniform.put) (reply_holds_none code place f a h))
-    by_instr (Vote d) h = exchange_alike (Votes d) place f (by_due (due f.key f.uniform.count) (is_held f.uniform.put) (vote_holds_none code place f a d h))
+    by_instr Reply h = exchange_alike Replies place f
+        (by_due (due f.key f.uniform.count) (is_held f.uniform.put) (reply_holds_none code place f a h))
+    by_instr (Vote d) h = exchange_alike (Votes d) place f
+        (by_due (due f.key f.uniform.count) (is_held f.uniform.put) (vote_holds_none code place f a d h))
     by_instr Halt h = inl refl
     by_instr (Mark line) h = inl refl
     by_instr (Jump target) h = inl refl
@@ -130,13 +137,15 @@ module _ (code : SuperstepCode) (formed : IsWellFormed code) (bound : ℕ) (one 
         (λ x. inl (last one n ∙ x ∙ ap (step code bound two) e ∙ sym (last two n)))
         (λ l. inr (late_verdict code formed bound one input n l.1 l.0 l.2
         ∙ ap (λ (s : State). faulted l.1 (items_below l.1.count s.flat.uniform.output)) e
-        ∙ sym (late_verdict code formed bound two input n l.1 (ap (λ (s : State). s.way) (sym e) ∙ l.0) (subst (λ (s : State). IsLate code l.1 s.flat) e l.2))))
+        ∙ sym (late_verdict code formed bound two input n l.1 (ap (λ (s : State). s.way) (sym e)
+            ∙ l.0) (subst (λ (s : State). IsLate code l.1 s.flat) e l.2))))
         (step_alike (after_one n) (states_describe code formed bound one input n))
       where
         last : (judges : ℕ → Bool) (n : ℕ) →
             steps code bound judges (suc n) (opening input) ≡ step code bound judges (steps code bound judges n (opening input))
         last judges n =
-            ap (λ k. steps code bound judges k (opening input)) (let h : suc n ≡ n + 1 = omega arith in h) ∙ steps_more code bound judges n 1 (opening input)
+            ap (λ k. steps code bound judges k (opening input)) (let h : suc n ≡ n + 1 = omega arith in h)
+                ∙ steps_more code bound judges n 1 (opening input)
 
     all_same : (n : ℕ) → AreSame n
     all_same zero = inl refl
@@ -156,13 +165,15 @@ module _ (code : SuperstepCode) (formed : IsWellFormed code) (bound : ℕ) (one 
 
 pub any_time_of_verdict : AnyTimeOfVerdict
 any_time_of_verdict code formed judges input bound verdict =
-    (λ o. other_outcome code formed bound judges everywhere input verdict o, λ o. other_outcome code formed bound everywhere judges input verdict o)
+    (λ o. other_outcome code formed bound judges everywhere input verdict o,
+        λ o. other_outcome code formed bound everywhere judges input verdict o)
 
 -- ---- a key is for good
 
 -- a mark notes nothing
 none_noted : (code : SuperstepCode) (line : ℕ) (f : Flat) → noted code (Mark line) f ≡ None
-none_noted code line f = total_none None least keys_are_monoid (λ v. own_key code (Mark line) f.uniform v (f.own v)) (λ v. go (is_active (f.own v))) (range f)
+none_noted code line f = total_none None least keys_are_monoid (λ v. own_key code (Mark line) f.uniform v (f.own v))
+    (λ v. go (is_active (f.own v))) (range f)
   where
     go : (b : Bool) → (let none : Option Key = None in if b then none else None) ≡ None
     go true = refl
@@ -221,7 +232,8 @@ module _ (code : SuperstepCode) (formed : IsWellFormed code) (bound : ℕ) (judg
         IsOutcomeBy judges code input bound verdict
     at_mark line is true e =
         closes false (mark_asks_none code here.place here.flat agrees line (fits (Mark line) is))
-        (goes (Mark line) is ∙ ap (λ c. if c then closed code false here.place here.flat else going (here.place + 1) (after_instr code (Mark line) here.flat)) e)
+        (goes (Mark line) is ∙ ap (λ c. if c then closed code false here.place here.flat else
+            going (here.place + 1) (after_instr code (Mark line) here.flat)) e)
     at_mark line is false e =
         let g = after_instr code (Mark line) here.flat in
         let s = one_more (going (here.place + 1) g)

@@ -1,5 +1,6 @@
 -- A flat run of well-formed code is over within (bound + 1) * N instructions, N those of the code.
-use Rattle.std.proofs.Common.{◌≡◌, ℕ, zero, suc, ◌+◌, ◌-◌, ◌*◌, ◌<◌, ◌≤◌, List, length, Bool, true, false, eqb, Option, Some, None, ℤ, refl, sym, ap, ◌∙◌, subst, arith, ⊎_elim, ◌⊎◌, inl, inr}
+use Rattle.std.proofs.Common.{◌≡◌, ℕ, zero, suc, ◌+◌, ◌-◌, ◌*◌, ◌<◌, ◌≤◌, List, length, Bool, true, false, eqb, Option, Some, None, ℤ, refl}
+use Rattle.std.proofs.Common.{sym, ap, ◌∙◌, subst, arith, ⊎_elim, ◌⊎◌, inl, inr}
 use Rattle.std.specs.Prelude.{if◌then◌else◌, slice_get}
 use Rattle.std.proofs.lemmas.Bool.{cases_lt}
 use Rattle.std.proofs.lemmas.Bool.Decides.{nat_tests}
@@ -23,6 +24,8 @@ use Rattle.flat_machine.specs.Flat.{Flat, after_instr}
 use Rattle.flat_machine.specs.ByExchanges.{State, after_exchange, opening}
 use Rattle.flat_machine.specs.ByInstructions.{exchanged, closed, stopped, going, steps, outcome_within}
 use Rattle.flat_machine.proofs.Stepping.{IsPast, carried_out, past_is_not_on, over_stays, past_has_outcome}
+use Rattle.bsp_verify.proofs.ArrivalLemmas.{same_count, laps_times, not_equal, no_mark, Counts, laps}
+use Rattle.superstep_machine.proofs.Numbers.{same_number}
 
 -- ---- exchanges
 
@@ -45,7 +48,8 @@ exchanged_by code purpose place f way = record { flat = after_exchange code purp
 
 -- after an exchange a run goes on, or it is over
 pub exchanged_on : (code : SuperstepCode) (judges : ℕ → Bool) (purpose : Purpose) (place : ℕ) (f : Flat) →
-    (exchanged code judges purpose place f ≡ going (place + 1) (after_exchange code purpose f)) ⊎ IsPast (exchanged code judges purpose place f).way
+    (exchanged code judges purpose place f ≡ going (place + 1) (after_exchange code purpose f))
+        ⊎ IsPast (exchanged code judges purpose place f).way
 exchanged_on code judges purpose place f = go (judges place)
   where
     go : (b : Bool) → let way = if b then decided purpose f.uniform f.key On else On in
@@ -54,38 +58,6 @@ exchanged_on code judges purpose place f = go (judges place)
     go false = inl refl
 
 -- ---- the measure
-
--- what isn't a mark
-abbrev Counts : Instr → Type 0
-Counts (Mark line) = ⊥
-Counts _ = Unit {0}
-
-same_count : (code : SuperstepCode) (i : Instr) (u : UniformPart) → Counts i → (on_uniform code i u).count ≡ u.count
-same_count code (Mark line) u h = absurd h
-same_count code (Ask Uniform d c s q) u h = refl
-same_count code (Ask Private d c s q) u h = refl
-same_count code i u h = refl
-
--- so many instructions for so many statements
-abbrev laps : ℕ → ℕ → ℕ
-laps n zero = 0
-laps n (suc b) = n + laps n b
-
-laps_times : (n b : ℕ) → laps n b ≡ b * n
-laps_times n zero = grind arith
-laps_times n (suc b) = let h = laps_times n b in grind (arith, h)
-
-not_equal : (n m : ℕ) → eqb n m ≡ false → n ≡ m → ⊥
-not_equal n m h e = grind (arith, nat_tests)
-
-is_equal : (n m : ℕ) → eqb n m ≡ true → n ≡ m
-is_equal n m h = grind (arith, nat_tests)
-
-no_mark : {A : Type 0} (o : Option Instr) (i : Instr) → o ≡ Some i → is_mark (Some i) ≡ false → is_mark o ≡ true → A
-no_mark o i e f h = absurd (clash (is_mark (Some i)) f (ap is_mark (sym e) ∙ h))
-  where
-    clash : (b : Bool) → b ≡ false → b ≡ true → ⊥
-    clash b f h = cc
 
 module _ (code : SuperstepCode) (formed : IsWellFormed code) (bound : ℕ) where
   abbrev size : ℕ
@@ -97,9 +69,11 @@ module _ (code : SuperstepCode) (formed : IsWellFormed code) (bound : ℕ) where
 
   -- enough from anywhere
   abbrev IsEnough : ℕ → ℕ → ℕ → ℕ → Type 0
-  IsEnough place left above n = ((is_mark (slice_get code.instructions place) ≡ true) × (laps size left + 1 ≤ n)) ⊎ (laps size left + above + 1 ≤ n)
+  IsEnough place left above n = ((is_mark (slice_get code.instructions place) ≡ true) × (laps size left + 1 ≤ n))
+      ⊎ (laps size left + above + 1 ≤ n)
 
-  -- Enough instructions to close from a place: what is above it, and all of them for each statement to come, and one for the mark that closes.
+  -- Enough instructions to close from a place: what is above it, and all of them for each statement to come, and one for the mark that
+  -- closes.
   -- At a mark what is above it isn't needed; where no mark stands below, the mark that closes is above.
   pub record IsFuel (place count n : ℕ) : Type 0 where
     pub left : ℕ
@@ -119,7 +93,8 @@ module _ (code : SuperstepCode) (formed : IsWellFormed code) (bound : ℕ) where
       above = size - to;
       up = omega (arith, inside);
       inside = inside;
-      enough = ⊎_elim (λ x. inl (⊎_elim (λ m. absurd (plain_here place refl m.0)) old x)) (λ x. fresh x.0 x.1 (eqb to (place + 1)) refl) fuel.enough;
+      enough = ⊎_elim (λ x. inl (⊎_elim (λ m. absurd (plain_here place refl m.0)) old x)) (λ x. fresh x.0 x.1 (eqb to (place + 1)) refl)
+          fuel.enough;
     }
       where
         inside : to < size
@@ -136,7 +111,8 @@ module _ (code : SuperstepCode) (formed : IsWellFormed code) (bound : ℕ) where
         none_up_to f p r m = ⊎_elim (λ b. f p b m) (λ b. plain_here p (omega (arith, r, b)) m) (cases_lt p place)
 
         old : laps size fuel.left + fuel.above + 1 ≤ suc n → IsEnough to fuel.left (size - to) n
-        old e = let u = fuel.up in let v = fuel.inside in ⊎_elim (λ r. inr (omega (arith, e, r, u, inside))) (λ r. inl (r, omega (arith, e, u, v))) rises
+        old e = let u = fuel.up in let v = fuel.inside in
+            ⊎_elim (λ r. inr (omega (arith, e, r, u, inside))) (λ r. inl (r, omega (arith, e, u, v))) rises
 
         higher : IsFresh place → place < to
         higher f = ⊎_elim (λ r. r) (λ m. ⊎_elim (λ r. r) (λ r. absurd (none_up_to f to r m)) (cases_lt place to)) rises
@@ -145,9 +121,10 @@ module _ (code : SuperstepCode) (formed : IsWellFormed code) (bound : ℕ) where
         fresh : IsFresh place → laps size fuel.left + fuel.above ≤ suc n → (b : Bool) → eqb to (place + 1) ≡ b →
             IsEnough to fuel.left (size - to) n ⊎ (IsFresh to × (laps size fuel.left + (size - to) ≤ n))
         fresh f e true h =
-            let u = fuel.up in let r = higher f in let q = is_equal to (place + 1) h in
+            let u = fuel.up in let r = higher f in let q = same_number to (place + 1) h in
             inr ((λ p low m. none_up_to f p (omega (arith, low, q)) m), omega (arith, e, u, r, inside))
-        fresh f e false h = let u = fuel.up in let r = higher f in let q = not_equal to (place + 1) h in inl (inr (omega (arith, e, u, r, q, inside)))
+        fresh f e false h = let u = fuel.up in let r = higher f in let q = not_equal to (place + 1) h in
+            inl (inr (omega (arith, e, u, r, q, inside)))
 
   module _ (n place count : ℕ) (fuel : IsFuel place count (suc n)) where
     -- so much is left for a statement more
@@ -187,7 +164,8 @@ module _ (code : SuperstepCode) (formed : IsWellFormed code) (bound : ℕ) where
   none_left place count fuel =
       let u = fuel.up in
       let v = fuel.inside in
-      ⊎_elim (λ x. ⊎_elim (λ m. let l = m.1 in omega (arith, l)) (λ l. omega (arith, l)) x) (λ x. let l = x.1 in omega (arith, l, u, v)) fuel.enough
+      ⊎_elim (λ x. ⊎_elim (λ m. let l = m.1 in omega (arith, l)) (λ l. omega (arith, l)) x) (λ x. let l = x.1 in
+          omega (arith, l, u, v)) fuel.enough
 
   -- ---- runs
 
@@ -202,7 +180,8 @@ module _ (code : SuperstepCode) (formed : IsWellFormed code) (bound : ℕ) where
     exchanged_ends : (n : ℕ) (purpose : Purpose) (place : ℕ) (f : Flat) → Ends n (going (place + 1) (after_exchange code purpose f)) →
         Ends n (exchanged code judges purpose place f)
     exchanged_ends n purpose place f h =
-        ⊎_elim (λ e. subst (Ends n) (sym e) h) (past_ends n (exchanged code judges purpose place f)) (exchanged_on code judges purpose place f)
+        ⊎_elim (λ e. subst (Ends n) (sym e) h) (past_ends n (exchanged code judges purpose place f))
+            (exchanged_on code judges purpose place f)
 
     closed_ends : (n : ℕ) (ended : Bool) (place : ℕ) (f : Flat) → Ends n (closed code ended place f)
     closed_ends n ended place f = past_ends n (closed code ended place f) tt
@@ -215,7 +194,8 @@ module _ (code : SuperstepCode) (formed : IsWellFormed code) (bound : ℕ) where
       -- by what is no mark
       goes : (i : Instr) → slice_get code.instructions place ≡ Some i → has_target code place i ≡ true → stays_within code place i ≡ true →
           is_mark (Some i) ≡ false → (to : ℕ) → Leads i place to → (g : Flat) → g.uniform.count ≡ f.uniform.count → Ends n (going to g)
-      goes i is a b plain to l g e = next to g (subst (λ c. IsFuel to c n) (sym e) (left_over n place f.uniform.count fuel i is a b plain to l))
+      goes i is a b plain to l g e =
+          next to g (subst (λ c. IsFuel to c n) (sym e) (left_over n place f.uniform.count fuel i is a b plain to l))
 
       by_mark : (line : ℕ) → (place + 1 < size) → (c : Bool) → eqb f.uniform.count bound ≡ c →
           Ends n (if c then stopped code judges (ToClose false) place f else going (place + 1) (after_instr code (Mark line) f))
@@ -224,11 +204,14 @@ module _ (code : SuperstepCode) (formed : IsWellFormed code) (bound : ℕ) where
           next (place + 1) (after_instr code (Mark line) f)
           (behind_mark n place f.uniform.count fuel (not_equal f.uniform.count bound e) inside)
 
-      by_instr : (i : Instr) → slice_get code.instructions place ≡ Some i → has_target code place i ≡ true → stays_within code place i ≡ true →
+      by_instr : (i : Instr) → slice_get code.instructions place ≡ Some i → has_target code place i ≡ true →
+          stays_within code place i ≡ true →
           Ends n (from (Some i))
       by_instr Send is a b = exchanged_ends n Sends place f (goes Send is a b refl (place + 1) refl (after_exchange code Sends f) refl)
-      by_instr Reply is a b = exchanged_ends n Replies place f (goes Reply is a b refl (place + 1) refl (after_exchange code Replies f) refl)
-      by_instr (Vote v) is a b = exchanged_ends n (Votes v) place f (goes (Vote v) is a b refl (place + 1) refl (after_exchange code (Votes v) f) refl)
+      by_instr Reply is a b = exchanged_ends n Replies place f (goes Reply is a b refl (place + 1) refl (after_exchange code Replies f)
+          refl)
+      by_instr (Vote v) is a b = exchanged_ends n (Votes v) place f
+          (goes (Vote v) is a b refl (place + 1) refl (after_exchange code (Votes v) f) refl)
       by_instr Halt is a b = closed_ends n true place f
       by_instr (Mark line) is a b = by_mark line (leads_within code place (Mark line) a b (place + 1) refl) (eqb f.uniform.count bound) refl
       by_instr (Jump target) is a b = goes (Jump target) is a b refl target refl f refl
@@ -264,4 +247,5 @@ pub arrives : (code : SuperstepCode) → IsWellFormed code → (bound : ℕ) (ju
     (v : Verdict) × (outcome_within code bound judges ((bound + 1) * length code.instructions) input ≡ Some v)
 arrives code formed bound judges input =
     let n = (bound + 1) * length code.instructions in
-    past_has_outcome code (steps code bound judges n (opening input)) (ends code formed bound judges n 0 (opening input).flat (begins code formed bound))
+    past_has_outcome code (steps code bound judges n (opening input))
+        (ends code formed bound judges n 0 (opening input).flat (begins code formed bound))

@@ -17,7 +17,8 @@ use Rattle.flat_machine.proofs.Relation.{Splits}
 module _ (t : Setting) where
   -- an instruction keeps the workers one flat state
   abbrev pub InstructionsSplit : Type 0
-  InstructionsSplit = (i : Instr) (f : Flat) (ws : ℕ → Worker) → Splits t f ws → Splits t (flat.after_instr t.code i f) (λ w. worker.after_instr t w i (ws w))
+  InstructionsSplit = (i : Instr) (f : Flat) (ws : ℕ → Worker) → Splits t f ws →
+      Splits t (flat.after_instr t.code i f) (λ w. worker.after_instr t w i (ws w))
 
   abbrev pub flat_uniform : Flat → UniformPart
   flat_uniform f = f.uniform
@@ -31,7 +32,8 @@ module _ (t : Setting) where
       (same : (a : R) (each other : ℕ → Q) → ((w : ℕ) → w < workers t → each w ≡ other w) → Rel a each → Rel a other)
       (nowhere : R) (nowheres : Q) (lost : Rel nowhere (λ w. nowheres))
       (stops : Stop → ℕ → Flat → R) (stopping : Stop → ℕ → Worker → Q)
-      (stopped : (stop : Stop) (place : ℕ) (f : Flat) (ws : ℕ → Worker) → Splits t f ws → Rel (stops stop place f) (λ w. stopping stop place (ws w)))
+      (stopped : (stop : Stop) (place : ℕ) (f : Flat) (ws : ℕ → Worker) → Splits t f ws →
+          Rel (stops stop place f) (λ w. stopping stop place (ws w)))
       (next : ℕ → Flat → R) (nexts : ℕ → ℕ → Worker → Q)
       (goes : (place : ℕ) (f : Flat) (ws : ℕ → Worker) → Splits t f ws → Rel (next place f) (λ w. nexts w place (ws w))) where
     module _ (place : ℕ) (f : Flat) (ws : ℕ → Worker) (s : Splits t f ws) where
@@ -44,7 +46,8 @@ module _ (t : Setting) where
       marked line true = stopped (ToClose false) place f ws s
       marked line false = acts (Mark line)
 
-      forked : (target : ℕ) (b : Bool) → Rel (if b then next (place + 1) f else next target f) (λ w. if b then nexts w (place + 1) (ws w) else nexts w target (ws w))
+      forked : (target : ℕ) (b : Bool) → Rel (if b then next (place + 1) f else next target f)
+          (λ w. if b then nexts w (place + 1) (ws w) else nexts w target (ws w))
       forked target true = goes (place + 1) f ws s
       forked target false = goes target f ws s
 
@@ -53,8 +56,10 @@ module _ (t : Setting) where
           (λ w. advance t.bound worker_uniform (worker.after_instr t w) nowheres stopping (nexts w) o place (ws w))
       advances None = lost
       advances (Some (Mark line)) =
-          same _ (λ w. if eqb f.uniform.count t.bound then stopping (ToClose false) place (ws w) else nexts w (place + 1) (worker.after_instr t w (Mark line) (ws w))) _
-          (λ w l. ap (λ (u : UniformPart). if eqb u.count t.bound then stopping (ToClose false) place (ws w) else nexts w (place + 1) (worker.after_instr t w (Mark line) (ws w))) (sym (s.uniform w l)))
+          same _ (λ w. if eqb f.uniform.count t.bound then stopping (ToClose false) place (ws w) else
+              nexts w (place + 1) (worker.after_instr t w (Mark line) (ws w))) _
+          (λ w l. ap (λ (u : UniformPart). if eqb u.count t.bound then stopping (ToClose false) place (ws w) else
+              nexts w (place + 1) (worker.after_instr t w (Mark line) (ws w))) (sym (s.uniform w l)))
           (marked line (eqb f.uniform.count t.bound))
       advances (Some Send) = stopped ToSend place f ws s
       advances (Some Reply) = stopped ToReply place f ws s
@@ -62,7 +67,8 @@ module _ (t : Setting) where
       advances (Some (Jump target)) = goes target f ws s
       advances (Some (JumpIfZero r target)) =
           same _ (λ w. if is_nonzero (f.uniform.registers r) then nexts w (place + 1) (ws w) else nexts w target (ws w)) _
-          (λ w l. ap (λ (u : UniformPart). if is_nonzero (u.registers r) then nexts w (place + 1) (ws w) else nexts w target (ws w)) (sym (s.uniform w l)))
+          (λ w l. ap (λ (u : UniformPart). if is_nonzero (u.registers r) then nexts w (place + 1) (ws w) else nexts w target (ws w))
+              (sym (s.uniform w l)))
           (forked target (is_nonzero (f.uniform.registers r)))
       advances (Some Halt) = stopped (ToClose true) place f ws s
       advances (Some i) = acts i
@@ -75,29 +81,36 @@ module _ (t : Setting) (instr : InstructionsSplit t) where
   ArrivedAs Nowhere each = (w : ℕ) → w < workers t → each w ≡ Nowhere
   ArrivedAs (At stop place f) each = (xs : ℕ → Worker) × ((w : ℕ) → w < workers t → each w ≡ At stop place (xs w)) × Splits t f xs
 
-  arrived_same : (a : Arrival Flat) (each other : ℕ → Arrival Worker) → ((w : ℕ) → w < workers t → each w ≡ other w) → ArrivedAs a each → ArrivedAs a other
+  arrived_same : (a : Arrival Flat) (each other : ℕ → Arrival Worker) → ((w : ℕ) → w < workers t → each w ≡ other w) → ArrivedAs a each →
+      ArrivedAs a other
   arrived_same Nowhere each other e h = λ w l. sym (e w l) ∙ h w l
   arrived_same (At stop place f) each other e h = (h.0, λ w l. sym (e w l) ∙ h.1 w l, h.2)
 
   pub until_splits : (code : List Instr) (n place : ℕ) (f : Flat) (ws : ℕ → Worker) → Splits t f ws →
-      ArrivedAs (until t.bound (flat_uniform t) (flat.after_instr t.code) code n place f) (λ w. until t.bound (worker_uniform t) (worker.after_instr t w) code n place (ws w))
+      ArrivedAs (until t.bound (flat_uniform t) (flat.after_instr t.code) code n place f)
+          (λ w. until t.bound (worker_uniform t) (worker.after_instr t w) code n place (ws w))
   until_splits code zero place f ws s = λ w l. refl
   until_splits code (suc n) place f ws s =
-      advances t instr ArrivedAs arrived_same Nowhere Nowhere (λ w l. refl) (λ stop k x. At stop k x) (λ stop k x. At stop k x) (λ stop k g xs r. (xs, λ w l. refl, r))
-      (until t.bound (flat_uniform t) (flat.after_instr t.code) code n) (λ w. until t.bound (worker_uniform t) (worker.after_instr t w) code n) (until_splits code n) place f ws s (slice_get code place)
+      advances t instr ArrivedAs arrived_same Nowhere Nowhere (λ w l. refl) (λ stop k x. At stop k x) (λ stop k x. At stop k x)
+          (λ stop k g xs r. (xs, λ w l. refl, r))
+      (until t.bound (flat_uniform t) (flat.after_instr t.code) code n) (λ w. until t.bound (worker_uniform t) (worker.after_instr t w) code
+          n) (until_splits code n) place f ws s (slice_get code place)
 
   -- and so at each moment
   abbrev pub WalkedAs : Option (ℕ × Flat) → (ℕ → Option (ℕ × Worker)) → Type 0
   WalkedAs None each = (w : ℕ) → w < workers t → each w ≡ None
   WalkedAs (Some (place, f)) each = (xs : ℕ → Worker) × ((w : ℕ) → w < workers t → each w ≡ Some (place, xs w)) × Splits t f xs
 
-  walked_same : (a : Option (ℕ × Flat)) (each other : ℕ → Option (ℕ × Worker)) → ((w : ℕ) → w < workers t → each w ≡ other w) → WalkedAs a each → WalkedAs a other
+  walked_same : (a : Option (ℕ × Flat)) (each other : ℕ → Option (ℕ × Worker)) → ((w : ℕ) → w < workers t → each w ≡ other w) →
+      WalkedAs a each → WalkedAs a other
   walked_same None each other e h = λ w l. sym (e w l) ∙ h w l
   walked_same (Some (place, f)) each other e h = (h.0, λ w l. sym (e w l) ∙ h.1 w l, h.2)
 
   pub walked_splits : (code : List Instr) (n place : ℕ) (f : Flat) (ws : ℕ → Worker) → Splits t f ws →
-      WalkedAs (walked t.bound (flat_uniform t) (flat.after_instr t.code) code n place f) (λ w. walked t.bound (worker_uniform t) (worker.after_instr t w) code n place (ws w))
+      WalkedAs (walked t.bound (flat_uniform t) (flat.after_instr t.code) code n place f)
+          (λ w. walked t.bound (worker_uniform t) (worker.after_instr t w) code n place (ws w))
   walked_splits code zero place f ws s = (ws, λ w l. refl, s)
   walked_splits code (suc n) place f ws s =
       advances t instr WalkedAs walked_same None None (λ w l. refl) (λ stop k x. None) (λ stop k x. None) (λ stop k g xs r. λ w l. refl)
-      (walked t.bound (flat_uniform t) (flat.after_instr t.code) code n) (λ w. walked t.bound (worker_uniform t) (worker.after_instr t w) code n) (walked_splits code n) place f ws s (slice_get code place)
+      (walked t.bound (flat_uniform t) (flat.after_instr t.code) code n) (λ w. walked t.bound (worker_uniform t) (worker.after_instr t w)
+          code n) (walked_splits code n) place f ws s (slice_get code place)

@@ -1,5 +1,6 @@
 -- Of which statements the keys are that are noted, the put and the reads that are held, and the items of the output.
-use Rattle.std.proofs.Common.{◌≡◌, ℕ, ◌+◌, ◌≤◌, List, [], ◌∷◌, ◌++◌, Bool, true, false, Option, Some, None, Err, Ok, ℤ, refl, sym, subst, arith}
+use Rattle.std.proofs.Common.{◌≡◌, ℕ, ◌+◌, ◌≤◌, List, [], ◌∷◌, ◌++◌, Bool, true, false, Option, Some, None, Err, Ok, ℤ, refl, sym, subst}
+use Rattle.std.proofs.Common.{arith}
 use Rattle.std.specs.Prelude.{if◌then◌else◌, ◌&&◌}
 use Rattle.std.specs.List.{AllByRecursion}
 use Rattle.pram_values.specs.declared.kind.Kind.{Kind}
@@ -20,7 +21,8 @@ use Rattle.superstep_machine.specs.Results.{position_of}
 use Rattle.superstep_machine.specs.Run.{is_held}
 use Rattle.superstep_machine.specs.Sending.{verdict_on, conflict_at, put_conflict, is_private, is_several}
 use Rattle.superstep_machine.specs.Steps.{fault_at, uniform_key, own_key, index_of, is_active, wrong_own}
-use Rattle.flat_machine.specs.Flat.{Flat, range, cells, noted, after_instr, owed, askers, read_conflict, read_conflicts, conflicts, after_send, after_reply, after_vote, opening}
+use Rattle.flat_machine.specs.Flat.{Flat, range, cells, noted, after_instr, owed, askers, read_conflict, read_conflicts, conflicts}
+use Rattle.flat_machine.specs.Flat.{after_send, after_reply, after_vote, opening}
 
 -- a key, if there is one, is of such a statement
 abbrev pub IsKeyOf : (ℕ → Type 0) → Option Key → Type 0
@@ -88,7 +90,8 @@ module _ (P : ℕ → Type 0) where
   -- what an instruction notes is of the present statement
   pub noted_of : (code : SuperstepCode) (i : Instr) (f : Flat) → P f.uniform.count → IsKeyOf P (noted code i f)
   noted_of code i f h =
-      least_of (uniform_key code i f.uniform) (total None least (λ v. own_key code i f.uniform v (f.own v)) (range f)) (fault_of_present f.uniform _ _ _ h)
+      least_of (uniform_key code i f.uniform) (total None least (λ v. own_key code i f.uniform v (f.own v)) (range f))
+          (fault_of_present f.uniform _ _ _ h)
       (total_of (λ v. own_key code i f.uniform v (f.own v)) (λ v. own_of code i f.uniform v (f.own v) h) (range f))
 
   put_conflict_of : (put : Option Moment) (c : ℕ) (v : Option Value) → IsPutOf P put → IsKeyOf P (put_conflict put c v)
@@ -112,10 +115,12 @@ module _ (P : ℕ → Type 0) where
       go c true = h
       go c false = tt
 
-  read_conflicts_of : (code : SuperstepCode) (f : Flat) (k : ℕ) (reads : List Read) → AreReadsOf P reads → IsKeyOf P (read_conflicts code f k reads)
+  read_conflicts_of : (code : SuperstepCode) (f : Flat) (k : ℕ) (reads : List Read) → AreReadsOf P reads →
+      IsKeyOf P (read_conflicts code f k reads)
   read_conflicts_of code f k [] h = tt
   read_conflicts_of code f k (x ∷ xs) h =
-      least_of (read_conflict code f k x) (read_conflicts code f (k + 1) xs) (read_conflict_of code f k x h.0) (read_conflicts_of code f (k + 1) xs h.1)
+      least_of (read_conflict code f k x) (read_conflicts code f (k + 1) xs) (read_conflict_of code f k x h.0)
+          (read_conflicts_of code f (k + 1) xs h.1)
 
   -- what a send notes of the reads
   pub reads_of : (code : SuperstepCode) (f : Flat) → AreReadsOf P f.uniform.asks →
@@ -152,11 +157,13 @@ at_most n = omega arith
 
 module _ (code : SuperstepCode) (f : Flat) (c : IsCounted f) where
   key_here : (i : Instr) → IsKeyOf (λ n. n ≤ f.uniform.count) (least f.key (noted code i f))
-  key_here i = least_of (λ n. n ≤ f.uniform.count) f.key (noted code i f) c.key (noted_of (λ n. n ≤ f.uniform.count) code i f (at_most f.uniform.count))
+  key_here i = least_of (λ n. n ≤ f.uniform.count) f.key (noted code i f) c.key
+      (noted_of (λ n. n ≤ f.uniform.count) code i f (at_most f.uniform.count))
 
   pub counted_instr : (i : Instr) → MayCount i f.uniform → IsCounted (after_instr code i f)
   counted_instr (Mark line) h = record {
-    key = key_also (λ n. n ≤ f.uniform.count) (λ n. n ≤ f.uniform.count + 1) (one_more f.uniform.count) (least f.key (noted code (Mark line) f))
+    key = key_also (λ n. n ≤ f.uniform.count) (λ n. n ≤ f.uniform.count + 1) (one_more f.uniform.count)
+        (least f.key (noted code (Mark line) f))
         (key_here (Mark line));
     put = put_also (λ n. n ≤ f.uniform.count) (λ n. n ≤ f.uniform.count + 1) (one_more f.uniform.count) f.uniform.put c.put;
     asks = subst (λ xs. AreReadsOf (λ n. n ≡ f.uniform.count + 1) xs) (sym h) tt;
@@ -198,7 +205,8 @@ module _ (code : SuperstepCode) (f : Flat) (c : IsCounted f) where
     key = least_of (λ n. n ≤ f.uniform.count) f.key (conflicts code f) c.key
         (least_of (λ n. n ≤ f.uniform.count) (owed code f) (if shares_reads code.rule then None else read_conflicts code f 0 f.uniform.asks)
         (owed_of (λ n. n ≤ f.uniform.count) code f c.put)
-        (reads_of (λ n. n ≤ f.uniform.count) code f (reads_also (λ n. n ≡ f.uniform.count) (λ n. n ≤ f.uniform.count) same f.uniform.asks c.asks)));
+        (reads_of (λ n. n ≤ f.uniform.count) code f (reads_also (λ n. n ≡ f.uniform.count) (λ n. n ≤ f.uniform.count) same f.uniform.asks
+            c.asks)));
     put = tt;
     asks = tt;
     output = c.output;

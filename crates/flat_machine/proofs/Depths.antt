@@ -19,7 +19,8 @@ either : (b : Bool) (x y : PrivatePart) (n : ℕ) → length x.masks ≡ n → l
 either true x y n p q = p
 either false x y n p q = q
 
-depth_after : (code : SuperstepCode) (i : Instr) (u : UniformPart) (v : ℕ) (x : PrivatePart) → length (on_own code i u v x).masks ≡ deeper i (length x.masks)
+depth_after : (code : SuperstepCode) (i : Instr) (u : UniformPart) (v : ℕ) (x : PrivatePart) →
+    length (on_own code i u v x).masks ≡ deeper i (length x.masks)
 depth_after code (Mask s) u v x = omega arith
 depth_after code Flip u v x = length-flipped x.masks
 depth_after code Unmask u v x = length-unmasked x.masks
@@ -31,6 +32,7 @@ pub level_after : (code : SuperstepCode) (i : Instr) (f : Flat) → ((u v : ℕ)
     (u v : ℕ) → length ((after_instr code i f).own u).masks ≡ length ((after_instr code i f).own v).masks
 level_after code i f h u v = go (renews i)
   where
-    go : (b : Bool) → length (if b then fresh else on_own code i f.uniform u (f.own u)).masks ≡ length (if b then fresh else on_own code i f.uniform v (f.own v)).masks
+    go : (b : Bool) → length (if b then fresh else on_own code i f.uniform u (f.own u)).masks ≡ length
+        (if b then fresh else on_own code i f.uniform v (f.own v)).masks
     go true = refl
     go false = depth_after code i f.uniform u (f.own u) ∙ ap (deeper i) (h u v) ∙ sym (depth_after code i f.uniform v (f.own v))

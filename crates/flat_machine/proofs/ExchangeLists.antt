@@ -1,5 +1,6 @@
 -- Lists of exchanges: by steps that add up, and without those that are empty.
-use Rattle.std.proofs.Common.{◌≡◌, ℕ, zero, suc, ◌+◌, ◌-◌, ◌≤◌, List, [], ◌∷◌, ◌++◌, append_assoc, Bool, true, false, refl, sym, ap, ◌∙◌, arith, ⊎_elim}
+use Rattle.std.proofs.Common.{◌≡◌, ℕ, zero, suc, ◌+◌, ◌-◌, ◌≤◌, List, [], ◌∷◌, ◌++◌, append_assoc, Bool, true, false, refl, sym, ap, ◌∙◌}
+use Rattle.std.proofs.Common.{arith, ⊎_elim}
 use Rattle.std.specs.Prelude.{if◌then◌else◌}
 use Rattle.std.proofs.lemmas.Bool.{cases_lt}
 use Rattle.std.proofs.lemmas.List.{append-nil}
@@ -38,7 +39,8 @@ module _ (code : SuperstepCode) (bound : ℕ) (judges : ℕ → Bool) where
       ∙ ap (exchanges_from code bound judges n) (step_stays code bound judges s h) ∙ none_from n s h
 
   pub sum_from : (m n k : ℕ) → m + n ≡ k → (s : State) →
-      exchanges_from code bound judges k s ≡ exchanges_from code bound judges m s ++ exchanges_from code bound judges n (steps code bound judges m s)
+      exchanges_from code bound judges k s ≡ exchanges_from code bound judges m s
+          ++ exchanges_from code bound judges n (steps code bound judges m s)
   sum_from zero n k e s = ap (λ j. exchanges_from code bound judges j s) (let h : k ≡ n = omega (arith, e) in h)
   sum_from (suc m) n zero e s = absurd (omega (arith, e))
   sum_from (suc m) n (suc k) e s =

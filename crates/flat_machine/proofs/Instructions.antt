@@ -1,11 +1,13 @@
 -- An instruction of the workers is that instruction of the flat machine.
-use Rattle.std.proofs.Common.{◌≡◌, ℕ, zero, suc, ◌<◌, ◌≤◌, ◌%◌, List, [], ◌∷◌, ◌++◌, map, length, Bool, true, false, Option, Some, None, ℤ, pos, cond, eqb, refl, sym, ap, ◌∙◌, subst, arith}
+use Rattle.std.proofs.Common.{◌≡◌, ℕ, zero, suc, ◌<◌, ◌≤◌, ◌%◌, List, [], ◌∷◌, ◌++◌, map, length, Bool, true, false, Option, Some, None, ℤ}
+use Rattle.std.proofs.Common.{pos, cond, eqb, refl, sym, ap, ◌∙◌, subst, arith}
 use Rattle.std.specs.Prelude.{if◌then◌else◌}
 use Rattle.std.specs.List.{filter_map, cons_option, range_with_len, zip}
 use Rattle.pram_model.specs.Layout.{total_size}
 use Rattle.pram_model.specs.declared.rule.Rule.{Rule}
 use Rattle.pram_values.specs.Total.{IsMonoid, total}
-use Rattle.pram_values.proofs.Totals.{total_same, total_map, total_within, neutral_right, total_both, total_joined, total_at, total_parts, total_again}
+use Rattle.pram_values.proofs.Totals.{total_same, total_map, total_within, neutral_right, total_both, total_joined, total_at, total_parts}
+use Rattle.pram_values.proofs.Totals.{total_again}
 use Rattle.write_rules.specs.declared.entry.Entry.{Entry}
 use Rattle.superstep_code.specs.declared.instr.Side.TheVariants.{Uniform, Private}
 use Rattle.superstep_code.specs.declared.instr.Instr.{Instr}
@@ -48,7 +50,8 @@ collected rule c index write (x ∷ xs) = go (collected rule c index write xs) (
   where
     go : total None (join rule) (entry_to rule c) (filter_map (λ y. by_processor (index y) (write y)) xs)
         ≡ total None (join rule) (λ y. single_to rule c (index y) (write y)) xs → (o : Option (ℕ × ℤ)) →
-        total None (join rule) (entry_to rule c) (cons_option (by_processor (index x) o) (filter_map (λ y. by_processor (index y) (write y)) xs))
+        total None (join rule) (entry_to rule c)
+            (cons_option (by_processor (index x) o) (filter_map (λ y. by_processor (index y) (write y)) xs))
         ≡ join rule (single_to rule c (index x) o) (total None (join rule) (λ y. single_to rule c (index y) (write y)) xs)
     go same None = same
     go same (Some (cell, value)) = ap (join rule (single_to rule c (index x) (Some (cell, value)))) same
@@ -103,21 +106,26 @@ module _ (t : Setting) (fits : IsMapFor t.code t.map) where
   keys_of i f s w same own =
       let key = λ (u : UniformPart) (x : ℕ × PrivatePart). own_key t.code i u x.0 x.1 in
       ap (λ (u : UniformPart). least (uniform_key t.code i u) (total None least (key u) (numbered t w s))) same
-      ∙ ap (λ (xs : List (ℕ × PrivatePart)). least (uniform_key t.code i f.uniform) (total None least (key f.uniform) xs)) (numbers f s w same own)
-      ∙ ap (least (uniform_key t.code i f.uniform)) (total_map None least (key f.uniform) (λ v. (v, f.own v)) (processors t w f.uniform.width))
+      ∙ ap (λ (xs : List (ℕ × PrivatePart)). least (uniform_key t.code i f.uniform) (total None least (key f.uniform) xs))
+          (numbers f s w same own)
+      ∙ ap (least (uniform_key t.code i f.uniform))
+          (total_map None least (key f.uniform) (λ v. (v, f.own v)) (processors t w f.uniform.width))
 
   after_key : (i : Instr) (f : Flat) (ws : ℕ → Worker) → Splits t f ws →
       total None least (λ w. least (ws w).key (worker.noted t w i (ws w))) all ≡ least f.key (flat.noted t.code i f)
   after_key i f ws s =
       let own = λ (w : ℕ). total None least (λ v. own_key t.code i f.uniform v (f.own v)) (processors t w f.uniform.width) in
       let every = uniform_key t.code i f.uniform in
-      total_within None least (λ w. least (ws w).key (worker.noted t w i (ws w))) (λ w. least (ws w).key (least every (own w))) (workers t) 0
-      (λ w h. let below : w < workers t = omega (arith, h) in ap (least (ws w).key) (keys_of i f (ws w) w (s.uniform w below) (s.own w below)))
+      total_within None least (λ w. least (ws w).key (worker.noted t w i (ws w))) (λ w. least (ws w).key (least every (own w))) (workers t)
+          0
+      (λ w h. let below : w < workers t = omega (arith, h) in
+          ap (least (ws w).key) (keys_of i f (ws w) w (s.uniform w below) (s.own w below)))
       ∙ total_both None least keys_are_monoid (λ w. (ws w).key) (λ w. least every (own w)) all
       ∙ ap (λ k. least k (total None least (λ w. least every (own w)) all)) s.key
       ∙ ap (least f.key) (total_both None least keys_are_monoid (λ w. every) own all)
       ∙ ap (λ k. least f.key (least k (total None least own all))) (noted_by_all every)
-      ∙ ap (λ k. least f.key (least every k)) (by_workers None least keys_are_monoid (λ v. own_key t.code i f.uniform v (f.own v)) f.uniform.width)
+      ∙ ap (λ k. least f.key (least every k)) (by_workers None least keys_are_monoid (λ v. own_key t.code i f.uniform v (f.own v))
+          f.uniform.width)
 
   -- ---- what is held
 
@@ -143,7 +151,8 @@ module _ (t : Setting) (fits : IsMapFor t.code t.map) where
       ∙ ap (λ (xs : List (ℕ × PrivatePart)). sum (uniform_writes t w i f.uniform ++ own_writes t i f.uniform xs)) (numbers f s w same own)
       ∙ total_joined None (join rule) (entries_are_monoid rule) to (uniform_writes t w i f.uniform) (own_writes t i f.uniform pairs)
       ∙ ap (λ e. join rule e (sum (own_writes t i f.uniform pairs)))
-      (collected rule c (λ (x : Option (ℕ × ℤ)). pos 0) (λ (x : Option (ℕ × ℤ)). x) one ∙ neutral_right None (join rule) (entries_are_monoid rule)
+      (collected rule c (λ (x : Option (ℕ × ℤ)). pos 0) (λ (x : Option (ℕ × ℤ)). x) one
+          ∙ neutral_right None (join rule) (entries_are_monoid rule)
       (single_to rule c (pos 0) (mine i f.uniform w)))
       ∙ ap (join rule (single_to rule c (pos 0) (mine i f.uniform w)))
       (collected rule c (λ (x : ℕ × PrivatePart). index_of f.uniform x.0) (λ (x : ℕ × PrivatePart). own_write t.code i x.1) pairs
@@ -151,13 +160,15 @@ module _ (t : Setting) (fits : IsMapFor t.code t.map) where
 
   -- the uniform write is held once
   written_once : (i : Instr) (u : UniformPart) (c : ℕ) →
-      total None (join t.code.rule) (λ w. single_to t.code.rule c (pos 0) (mine i u w)) all ≡ single_to t.code.rule c (pos 0) (uniform_write t.code i u)
+      total None (join t.code.rule) (λ w. single_to t.code.rule c (pos 0) (mine i u w)) all ≡ single_to t.code.rule c (pos 0)
+          (uniform_write t.code i u)
   written_once i u c =
       let rule = t.code.rule in
       let entry = single_to rule c (pos 0) (uniform_write t.code i u) in
       total_same None (join rule) (λ w. single_to rule c (pos 0) (mine i u w)) (λ w. cond (eqb 0 w) entry None)
       (λ w. go (eqb w 0) ∙ ap (λ b. cond b entry None) (turned w 0)) all
-      ∙ total_at None (join rule) (entries_are_monoid rule) entry 0 (workers t) 0 (omega arith) (let one = fits.lawful.one in omega (arith, one))
+      ∙ total_at None (join rule) (entries_are_monoid rule) entry 0 (workers t) 0 (omega arith) (let one = fits.lawful.one in
+          omega (arith, one))
     where
       go : (b : Bool) → single_to t.code.rule c (pos 0) (if b then uniform_write t.code i u else None)
           ≡ cond b (single_to t.code.rule c (pos 0) (uniform_write t.code i u)) None
@@ -165,7 +176,8 @@ module _ (t : Setting) (fits : IsMapFor t.code t.map) where
       go false = refl
 
   after_held : (i : Instr) (f : Flat) (ws : ℕ → Worker) → Splits t f ws → (c : ℕ) →
-      total None (join t.code.rule) (λ w. entry_held t.code.rule (worker.after_instr t w i (ws w)) c) all ≡ (flat.after_instr t.code i f).held c
+      total None (join t.code.rule) (λ w. entry_held t.code.rule (worker.after_instr t w i (ws w)) c)
+          all ≡ (flat.after_instr t.code i f).held c
   after_held i f ws s c = go (is_put i)
     where
       go : (b : Bool) →
@@ -177,7 +189,8 @@ module _ (t : Setting) (fits : IsMapFor t.code t.map) where
           let first = λ (w : ℕ). single_to t.code.rule c (pos 0) (mine i f.uniform w) in
           let own = λ (w : ℕ). total None join (own_to i f c) (processors t w f.uniform.width) in
           total_within None join (λ w. total None join (entry_to t.code.rule c)
-          (uniform_writes t w i (ws w).uniform ++ own_writes t i (ws w).uniform (numbered t w (ws w)))) (λ w. join (first w) (own w)) (workers t) 0
+          (uniform_writes t w i (ws w).uniform ++ own_writes t i (ws w).uniform (numbered t w (ws w)))) (λ w. join (first w) (own w))
+              (workers t) 0
           (λ w h. let below : w < workers t = omega (arith, h) in held_of i f (ws w) w c (s.uniform w below) (s.own w below))
           ∙ total_both None join (entries_are_monoid t.code.rule) first own all
           ∙ ap (λ e. join e (total None join own all)) (written_once i f.uniform c)
@@ -187,9 +200,11 @@ module _ (t : Setting) (fits : IsMapFor t.code t.map) where
 
   -- ---- what is asked for
 
-  after_wants : (i : Instr) (f : Flat) (ws : ℕ → Worker) → Splits t f ws → (w v : ℕ) → w < workers t → v < (on_uniform t.code i f.uniform).width →
+  after_wants : (i : Instr) (f : Flat) (ws : ℕ → Worker) → Splits t f ws → (w v : ℕ) → w < workers t →
+      v < (on_uniform t.code i f.uniform).width →
       v % workers t ≡ w → (k c : ℕ) →
-      k < length (on_uniform t.code i f.uniform).awaited → cell_at k ((flat.after_instr t.code i f).own v).awaited ≡ Some c → wants k c (ws w).wanted ≡ true
+      k < length (on_uniform t.code i f.uniform).awaited → cell_at k ((flat.after_instr t.code i f).own v).awaited ≡ Some c →
+          wants k c (ws w).wanted ≡ true
   after_wants i f ws s w v w_below v_below here k c few is = go (renews i) refl is
     where
       go : (b : Bool) → renews i ≡ b → cell_at k (if b then fresh else on_own t.code i f.uniform v (f.own v)).awaited ≡ Some c →
@@ -213,7 +228,8 @@ module _ (t : Setting) (fits : IsMapFor t.code t.map) where
     level = level_after t.code i f r.level;
   }
     where
-      own : (v k c : ℕ) (b : Bool) → cell_at k (if b then fresh else on_own t.code i f.uniform v (f.own v)).asks ≡ Some c → c < total_size t.code.layout
+      own : (v k c : ℕ) (b : Bool) → cell_at k (if b then fresh else on_own t.code i f.uniform v (f.own v)).asks ≡ Some c →
+          c < total_size t.code.layout
       own v k c true is = no_cell k c is
       own v k c false is = own_below t.code i f.uniform v (f.own v) (r.own v) k c is
 
@@ -226,7 +242,8 @@ module _ (t : Setting) (fits : IsMapFor t.code t.map) where
       held c above true = none_written t.code i f c above
       held c above false = r.held c above
 
-  pub splits_instr : (i : Instr) (f : Flat) (ws : ℕ → Worker) → Splits t f ws → Splits t (flat.after_instr t.code i f) (λ w. worker.after_instr t w i (ws w))
+  pub splits_instr : (i : Instr) (f : Flat) (ws : ℕ → Worker) → Splits t f ws → Splits t (flat.after_instr t.code i f)
+      (λ w. worker.after_instr t w i (ws w))
   splits_instr i f ws s = record {
     uniform = λ w h. ap (on_uniform t.code i) (s.uniform w h);
     own = λ w h. after_own i f (ws w) w (s.uniform w h) (s.own w h);

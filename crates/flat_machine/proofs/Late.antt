@@ -1,5 +1,6 @@
 -- A key of an earlier statement, which is noted or owed, is the verdict of a run of well-formed code, whichever exchanges decide.
-use Rattle.std.proofs.Common.{◌≡◌, ℕ, zero, suc, ◌+◌, ◌*◌, ◌<◌, List, [], ◌∷◌, ◌++◌, map, length, Bool, true, false, cond, eqb, Option, Some, None, ℤ, refl, sym, ap, ◌∙◌, subst, arith, ⊎_elim, ◌⊎◌, inl, inr}
+use Rattle.std.proofs.Common.{◌≡◌, ℕ, zero, suc, ◌+◌, ◌*◌, ◌<◌, List, [], ◌∷◌, ◌++◌, map, length, Bool, true, false, cond, eqb, Option}
+use Rattle.std.proofs.Common.{Some, None, ℤ, refl, sym, ap, ◌∙◌, subst, arith, ⊎_elim, ◌⊎◌, inl, inr}
 use Rattle.std.specs.Prelude.{if◌then◌else◌, nat_lt}
 use Rattle.std.specs.List.{filter}
 use Rattle.std.proofs.lemmas.Bool.Decides.{nat_tests}
@@ -26,7 +27,8 @@ use Rattle.flat_machine.specs.ByInstructions.{closed, stopped, going, instructed
 use Rattle.flat_machine.specs.Verdicts.{told, IsLate}
 use Rattle.flat_machine.proofs.Stepping.{carried_out, outcome_is_past, past_is_not_on, over_stays, steps_more, outcome_stays}
 use Rattle.flat_machine.proofs.Counts.{IsKeyOf, AreReadsOf, reads_also, noted_of, owed_of, reads_of}
-use Rattle.flat_machine.proofs.Paths.{IsAt, Agrees, Fits, found, step_agrees, states_describe, mark_asks_none, halt_asks_none, reply_holds_none, vote_holds_none, put_holds_none}
+use Rattle.flat_machine.proofs.Paths.{IsAt, Agrees, Fits, found, step_agrees, states_describe, mark_asks_none, halt_asks_none}
+use Rattle.flat_machine.proofs.Paths.{reply_holds_none, vote_holds_none, put_holds_none}
 use Rattle.flat_machine.proofs.Arrival.{arrives}
 
 -- the verdict of a key
@@ -43,7 +45,8 @@ none_least x = neutral_right None least keys_are_monoid x
 
 -- a and o, then y
 least_last : (a o y : Option Key) → least (least a y) o ≡ least (least a o) y
-least_last a o y = keys_are_monoid.associative a y o ∙ ap (least a) (keys_are_monoid.commutative y o) ∙ sym (keys_are_monoid.associative a o y)
+least_last a o y = keys_are_monoid.associative a y o ∙ ap (least a) (keys_are_monoid.commutative y o)
+    ∙ sym (keys_are_monoid.associative a o y)
 
 abbrev below : ℕ → List (ℕ × ℤ) → List (ℕ × ℤ)
 below n output = filter (λ (p : ℕ × ℤ). nat_lt p.0 n) output
@@ -67,8 +70,10 @@ module _ (code : SuperstepCode) where
   pub none_owed : (f : Flat) → is_held f.uniform.put ≡ false → owed code f ≡ None
   none_owed f h = go f.uniform.put h
     where
-      go : (put : Option Moment) → is_held put ≡ false → total None least (λ c. put_conflict put c (verdict_on code.rule (f.held c))) (cells code) ≡ None
-      go None e = total_none None least keys_are_monoid (λ c. put_conflict None c (verdict_on code.rule (f.held c))) (λ c. refl) (cells code)
+      go : (put : Option Moment) → is_held put ≡ false → total None least (λ c. put_conflict put c (verdict_on code.rule (f.held c)))
+          (cells code) ≡ None
+      go None e = total_none None least keys_are_monoid (λ c. put_conflict None c (verdict_on code.rule (f.held c))) (λ c. refl)
+          (cells code)
       go (Some at) e = cc
 
   -- then what is told is what is noted
@@ -96,13 +101,15 @@ module _ (code : SuperstepCode) where
   closed_told ended place f key h t = go (is_held f.uniform.put) refl
     where
       by_key : (g : Flat) → g.uniform.output ≡ f.uniform.output → g.key ≡ Some key →
-          outcome_of code (record { flat = g; place = place; way = Past g.key ended }) ≡ faulted key (items_below key.count f.uniform.output)
+          outcome_of code (record { flat = g; place = place; way = Past g.key ended }) ≡ faulted key
+              (items_below key.count f.uniform.output)
       by_key g o e =
           ap (λ (k : Option Key). outcome_of code (record { flat = g; place = place; way = Past k ended })) e
           ∙ ap (λ xs. faulted key (items_below key.count xs)) o
 
       go : (b : Bool) → is_held f.uniform.put ≡ b →
-          outcome_of code (let last = if b then after_send code f else f in record { flat = last; place = place; way = Past last.key ended })
+          outcome_of code (let last = if b then after_send code f else f in
+              record { flat = last; place = place; way = Past last.key ended })
           ≡ faulted key (items_below key.count f.uniform.output)
       go true e = by_key (after_send code f) refl (told_sent f ∙ ap (least (told code f)) (no_read_keys f h) ∙ none_least (told code f) ∙ t)
       go false e = by_key f refl (sym (told_noted f e) ∙ t)
@@ -112,7 +119,8 @@ module _ (code : SuperstepCode) where
     late_send : AreReadsOf (λ n. n ≡ f.uniform.count) f.uniform.asks → IsLate code key (after_send code f)
     late_send h = record {
       told = told_noted (after_send code f) refl ∙ told_sent f ∙ ap (λ x. least x (read_keys f)) l.told
-          ∙ stays key (read_keys f) (reads_of (λ n. key.count < n) code f (reads_also (λ n. n ≡ f.uniform.count) (λ n. key.count < n) later f.uniform.asks h));
+          ∙ stays key (read_keys f) (reads_of (λ n. key.count < n) code f (reads_also (λ n. n ≡ f.uniform.count) (λ n. key.count < n) later
+              f.uniform.asks h));
       over = l.over;
     }
       where
@@ -227,7 +235,8 @@ module _ (code : SuperstepCode) (formed : IsWellFormed code) (bound : ℕ) (judg
     by_instr Halt h = closed_fixed true (halt_asks_none code place f a h)
     by_instr (Mark line) h = marked (eqb f.uniform.count bound)
       where
-        marked : (b : Bool) → IsFixed (if b then stopped code judges (ToClose false) place f else going (place + 1) (after_instr code (Mark line) f))
+        marked : (b : Bool) → IsFixed (if b then stopped code judges (ToClose false) place f else going (place + 1)
+            (after_instr code (Mark line) f))
         marked true = closed_fixed false (mark_asks_none code place f a line h)
         marked false = works (Mark line) tt
     by_instr (Jump target) h = going_fixed target f l e
@@ -250,7 +259,8 @@ module _ (code : SuperstepCode) (formed : IsWellFormed code) (bound : ℕ) (judg
 
   step_fixed : (s : State) → Agrees code s → IsFixed s → IsFixed (step code bound judges s)
   step_fixed s a h =
-      ⊎_elim (λ l. subst (λ (w : Way). IsFixed (step_by code bound judges s w)) (sym l.on) (instructed_fixed s.place s.flat (a l.on) l.late l.same))
+      ⊎_elim (λ l. subst (λ (w : Way). IsFixed (step_by code bound judges s w)) (sym l.on)
+          (instructed_fixed s.place s.flat (a l.on) l.late l.same))
       (λ o. subst IsFixed (sym (over_stays code bound judges 1 s (told_not_on s o))) (inr o)) h
 
   steps_fixed : (n : ℕ) (s : State) → Agrees code s → IsFixed s → IsFixed (steps code bound judges n s)
@@ -261,7 +271,8 @@ module _ (code : SuperstepCode) (formed : IsWellFormed code) (bound : ℕ) (judg
 pub late_verdict : (code : SuperstepCode) → IsWellFormed code → (bound : ℕ) (judges : ℕ → Bool) (input : List ℤ) (n : ℕ) (key : Key) →
     let s = steps code bound judges n (opening input) in
     s.way ≡ On → IsLate code key s.flat →
-    outcome_within code bound judges ((bound + 1) * length code.instructions) input ≡ faulted key (items_below key.count s.flat.uniform.output)
+    outcome_within code bound judges ((bound + 1) * length code.instructions) input ≡ faulted key
+        (items_below key.count s.flat.uniform.output)
 late_verdict code formed bound judges input n key on l = go (arrives code formed bound judges input)
   where
     s : State
@@ -278,5 +289,6 @@ late_verdict code formed bound judges input n key on l = go (arrives code formed
         ⊎_elim
         (λ m. absurd (past_is_not_on _ (outcome_is_past code (steps code bound judges enough s) a.0 here) m.on))
         (λ e. a.1 ∙ sym here ∙ e)
-        (steps_fixed code formed bound judges key (items_below key.count s.flat.uniform.output) enough s (states_describe code formed bound judges input n)
+        (steps_fixed code formed bound judges key (items_below key.count s.flat.uniform.output) enough s
+            (states_describe code formed bound judges input n)
         (inl (record { on = on; late = l; same = refl })))

@@ -1,21 +1,26 @@
 -- What the flat machine's run exchange by exchange comes to, its run instruction by instruction does, by exchanges for the same.
-use Rattle.std.proofs.Common.{◌≡◌, ℕ, zero, suc, ◌+◌, List, [], ◌∷◌, ◌++◌, Bool, true, false, Option, Some, None, ℤ, refl, sym, ap, ◌∙◌, subst}
+use Rattle.std.proofs.Common.{◌≡◌, ℕ, zero, suc, ◌+◌, List, [], ◌∷◌, ◌++◌, Bool, true, false, Option, Some, None, ℤ, refl, sym, ap, ◌∙◌}
+use Rattle.std.proofs.Common.{subst}
 use Rattle.std.specs.Prelude.{if◌then◌else◌, slice_get}
 use Rattle.std.proofs.lemmas.List.{append-nil, map-append}
 use Rattle.write_rules.specs.Verdict.{Verdict}
 use Rattle.superstep_code.specs.declared.instr.Instr.{Instr}
 use Rattle.superstep_machine.specs.Stretch.{ToSend, ToReply, ToVote, ToClose, Arrival, Nowhere, At, advance, until}
-use Rattle.superstep_machine.specs.Run.{Purpose, Sends, Replies, Votes, Closes, Way, On, Ending, Past, Refused, Lost, is_held, is_over, decided}
+use Rattle.superstep_machine.specs.Run.{Purpose, Sends, Replies, Votes, Closes, Way, On, Ending, Past, Refused, Lost, is_held, is_over}
+use Rattle.superstep_machine.specs.Run.{decided}
 use Rattle.superstep_machine.specs.Sending.{uniform_sent}
 use Rattle.bsp_verify.proofs.RunLemmas.{decided_same}
 use Rattle.flat_machine.specs.Flat.{Flat, after_instr}
-use Rattle.flat_machine.specs.ByExchanges.{Plan, State, stretch, ready_at, ready, ready_by, after, after_exchange, run, purposes_from, purposes_by, outcome_of, outcome_by, opening}
+use Rattle.flat_machine.specs.ByExchanges.{Plan, State, stretch, ready_at, ready, ready_by, after, after_exchange, run, purposes_from}
+use Rattle.flat_machine.specs.ByExchanges.{purposes_by, outcome_of, outcome_by, opening}
 use Rattle.flat_machine.specs.ByInstructions.{stopped, exchanged, closed, going, everywhere}
 use Rattle.flat_machine.specs.Exchanges.{Exchange, exchange, exchanges_at, exchanges_from}
 use Rattle.flat_machine.specs.OneList.{purposes_of}
-use Rattle.flat_machine.proofs.Stepping.{unsome, steps_more}
+use Rattle.flat_machine.proofs.Stepping.{steps_more}
 use Rattle.flat_machine.proofs.ExchangeLists.{sum_from}
-use Rattle.flat_machine.proofs.Bridge.{uniform, advances, many, lost_at, no_outcome, on_is, run_on, run_past, went, closing, closed_if, unended, closes}
+use Rattle.flat_machine.proofs.Bridge.{uniform, advances, many, lost_at, no_outcome, on_is, run_on, run_past, went, closing, closed_if}
+use Rattle.flat_machine.proofs.Bridge.{unended, closes}
+use Rattle.pram_model.proofs.Truths.{unsome}
 
 module _ (t : Plan) where
   -- the exchanges of n instructions, and what they are for
@@ -30,7 +35,8 @@ module _ (t : Plan) where
   -- what a stretch arrives at is so many instructions on, where these exchanges are made
   abbrev Reached : State × List Exchange → Arrival Flat → Type 0
   Reached (z, es) Nowhere = Unit {0}
-  Reached (z, es) (At stop place f) = (n : ℕ) × (many t n z ≡ stopped t.code everywhere stop place f) × (es ++ made n z ≡ exchanges_at stop f.uniform)
+  Reached (z, es) (At stop place f) = (n : ℕ) × (many t n z ≡ stopped t.code everywhere stop place f)
+      × (es ++ made n z ≡ exchanges_at stop f.uniform)
 
   abbrev from : ℕ → ℕ → Flat → Arrival Flat
   from a place f = until t.bound uniform (after_instr t.code) t.code.instructions a place f
@@ -39,7 +45,8 @@ module _ (t : Plan) where
     -- an instruction's state and its exchanges at once
     abbrev both : Option Instr → State × List Exchange
     both o =
-        advance t.bound uniform (after_instr t.code) (lost_at t place f, []) (λ stop k g. (stopped t.code everywhere stop k g, exchanges_at stop g.uniform))
+        advance t.bound uniform (after_instr t.code) (lost_at t place f,
+            []) (λ stop k g. (stopped t.code everywhere stop k g, exchanges_at stop g.uniform))
         (λ k g. (going k g, [])) o place f
 
     abbrev exchanges_there : Option Instr → List Exchange
@@ -50,14 +57,16 @@ module _ (t : Plan) where
 
     states_are : (o : Option Instr) → (both o).0 ≡ led o
     states_are o =
-        advances t.code t.bound (λ (x : State × List Exchange) (z : State). x.0 ≡ z) place f (lost_at t place f, []) (lost_at t place f) refl
+        advances t.code t.bound (λ (x : State × List Exchange) (z : State). x.0 ≡ z) place f (lost_at t place f, []) (lost_at t place f)
+            refl
         (λ stop k g. (stopped t.code everywhere stop k g, exchanges_at stop g.uniform)) (stopped t.code everywhere) (λ stop. refl)
         (λ k g. (going k g, [])) going (λ k g. refl) o
 
     exchanges_are : (o : Option Instr) → (both o).1 ≡ exchanges_there o
     exchanges_are o =
         advances t.code t.bound (λ (x : State × List Exchange) (es : List Exchange). x.1 ≡ es) place f (lost_at t place f, []) [] refl
-        (λ stop k g. (stopped t.code everywhere stop k g, exchanges_at stop g.uniform)) (λ stop k g. exchanges_at stop g.uniform) (λ stop. refl)
+        (λ stop k g. (stopped t.code everywhere stop k g, exchanges_at stop g.uniform)) (λ stop k g. exchanges_at stop g.uniform)
+            (λ stop. refl)
         (λ k g. (going k g, [])) (λ k g. []) (λ k g. refl) o
 
     abbrev instr : Option Instr
@@ -111,7 +120,8 @@ module _ (t : Plan) where
       closes_back zero b e h = cc
       closes_back (suc zero) true e h =
           let w : (closing t s ended place f true).way ≡ Ending ended = ap (unended t s ended place f) e in
-          let z : None ≡ Some (Some v) = sym (ap (λ y. if is_over y then Some (outcome_of t.code (closing t s ended place f true)) else None) w) ∙ h in
+          let z : None ≡ Some (Some v) =
+              sym (ap (λ y. if is_over y then Some (outcome_of t.code (closing t s ended place f true)) else None) w) ∙ h in
           cc
       closes_back (suc zero) false e h = ap (λ c. outcome_of t.code (closed_if t s ended place f c)) e ∙ unsome _ (Some v) h
       closes_back (suc (suc x)) b e h = unsome _ (Some v) (sym (closes t s ended place f x b e) ∙ h)
@@ -122,10 +132,12 @@ module _ (t : Plan) where
 
       over_makes_none : (x : ℕ) (z : State) (key : Option _) (b : Bool) → z.way ≡ Past key b → purposes_from t x z ≡ []
       over_makes_none zero z key b e = refl
-      over_makes_none (suc x) z key b e = ap (λ way. if is_over way then [] else (ready t z).purpose ∷ purposes_from t x (after t.code (ready t z))) e
+      over_makes_none (suc x) z key b e =
+          ap (λ way. if is_over way then [] else (ready t z).purpose ∷ purposes_from t x (after t.code (ready t z))) e
 
       closes_for : (x : ℕ) (b : Bool) → is_held f.uniform.put ≡ b → run t x (closing t s ended place f b) ≡ Some (Some v) →
-          purposes_of (if b then exchange Sends f.uniform ∷ exchange Closes (uniform_sent f.uniform) ∷ [] else exchange Closes f.uniform ∷ [])
+          purposes_of (if b then exchange Sends f.uniform ∷ exchange Closes (uniform_sent f.uniform) ∷ [] else exchange Closes f.uniform
+              ∷ [])
           ≡ last b ∷ purposes_from t x (closing t s ended place f b)
       closes_for zero b e h = cc
       closes_for (suc x) true e h =
@@ -133,7 +145,9 @@ module _ (t : Plan) where
           ap (λ ps. Sends ∷ ps)
           (sym (ap (λ way. if is_over way then [] else (ready_by t (closing t s ended place f true) way).purpose
           ∷ purposes_from t x (after t.code (ready_by t (record (closing t s ended place f true) { way = way }) way))) w
-          ∙ ap (λ ps. Closes ∷ ps) (over_makes_none x (after t.code (record { purpose = Closes; state = record (closing t s ended place f true) { way = Ending ended } })) _ ended refl)))
+          ∙ ap (λ ps. Closes ∷ ps) (over_makes_none x
+              (after t.code (record { purpose = Closes; state = record (closing t s ended place f true) { way = Ending ended } })) _ ended
+              refl)))
       closes_for (suc x) false e h = ap (λ ps. Closes ∷ ps) (sym (over_makes_none (suc x) (closing t s ended place f false) _ ended refl))
 
     not_ending : (p : Purpose) (f : Flat) (ended : Bool) → decided p f.uniform f.key On ≡ Ending ended → ⊥
@@ -143,7 +157,8 @@ module _ (t : Plan) where
     lost_ends zero s e h = cc
     lost_ends (suc x) s e h = no_outcome t s Lost e (λ h. h) v (unsome _ (Some v) (sym (ap (went t x s) e) ∙ h))
 
-    module _ (x : ℕ) (rest : (s : State) → ((ended : Bool) → s.way ≡ Ending ended → ⊥) → run t x s ≡ Some (Some v) → Returns s (purposes_from t x s))
+    module _ (x : ℕ) (rest : (s : State) → ((ended : Bool) → s.way ≡ Ending ended → ⊥) → run t x s ≡ Some (Some v) →
+        Returns s (purposes_from t x s))
         (s : State) (on : s.way ≡ On) where
       -- an exchange that may decide
       abbrev arrived : Purpose → ℕ → Flat → State
@@ -154,7 +169,8 @@ module _ (t : Plan) where
 
       exchange_returns : (p : Purpose) (place : ℕ) (f : Flat) (n : ℕ) →
           many t n (going s.place s.flat) ≡ exchanged t.code everywhere p place f →
-          made n (going s.place s.flat) ≡ exchange p f.uniform ∷ [] → run t x (arrived p place f) ≡ Some (Some v) → Returns s (p ∷ purposes_from t x (arrived p place f))
+          made n (going s.place s.flat) ≡ exchange p f.uniform ∷ [] → run t x (arrived p place f) ≡ Some (Some v) →
+              Returns s (p ∷ purposes_from t x (arrived p place f))
       exchange_returns p place f n e m h =
           let z = exchanged t.code everywhere p place f in
           subst (λ (y : State). Returns s (p ∷ purposes_from t x y)) (sym (arrived_is p place f))

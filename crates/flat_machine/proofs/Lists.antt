@@ -1,5 +1,6 @@
 -- Lists beside functions of the items of other lists, and sums over parts of ranges.
-use Rattle.std.proofs.Common.{◌≡◌, ℕ, zero, suc, ◌+◌, ◌<◌, ◌≤◌, ◌%◌, List, [], ◌∷◌, ◌++◌, map, Bool, true, false, cond, eqb, refl, ap, ◌∙◌, arith}
+use Rattle.std.proofs.Common.{◌≡◌, ℕ, zero, suc, ◌+◌, ◌<◌, ◌≤◌, ◌%◌, List, [], ◌∷◌, ◌++◌, map, Bool, true, false, cond, eqb, refl, ap, ◌∙◌}
+use Rattle.std.proofs.Common.{arith}
 use Rattle.std.specs.Prelude.{slice_index_or}
 use Rattle.std.specs.List.{AllByRecursion, range_with_len, zip}
 use Rattle.std.proofs.lemmas.List.FromFn.{get_or-map-range_with_len}
@@ -58,6 +59,7 @@ pub item_at : {A : Type 0} (f : ℕ → A) (n i : ℕ) (d : A) → i < n → sli
 item_at f n i d l = get_or-map-range_with_len f 0 n i i d l (omega arith)
 
 -- sums of terms that are equal on a list
-pub total_each : {A M : Type 0} (e : M) (op : M → M → M) (f g : A → M) (xs : List A) → AllByRecursion (λ x. f x ≡ g x) xs → total e op f xs ≡ total e op g xs
+pub total_each : {A M : Type 0} (e : M) (op : M → M → M) (f g : A → M) (xs : List A) → AllByRecursion (λ x. f x ≡ g x) xs →
+    total e op f xs ≡ total e op g xs
 total_each e op f g [] h = refl
 total_each e op f g (x ∷ xs) h = ap (λ a. op a (total e op f xs)) h.0 ∙ ap (op (g x)) (total_each e op f g xs h.1)

@@ -1,5 +1,6 @@
 -- What a message asks of a cell is what its sender asks of it.
-use Rattle.std.proofs.Common.{◌≡◌, ℕ, zero, suc, ◌+◌, ◌<◌, List, [], ◌∷◌, ◌++◌, map, length, Bool, true, false, cond, Option, Some, None, eqb, refl, sym, ap, ◌∙◌, arith}
+use Rattle.std.proofs.Common.{◌≡◌, ℕ, zero, suc, ◌+◌, ◌<◌, List, [], ◌∷◌, ◌++◌, map, length, Bool, true, false, cond, Option, Some, None}
+use Rattle.std.proofs.Common.{eqb, refl, sym, ap, ◌∙◌, arith}
 use Rattle.std.specs.Prelude.{if◌then◌else◌, ◌&&◌, ◌||◌, slice_get}
 use Rattle.std.specs.List.{filter, cons_option, list_any}
 use Rattle.std.proofs.lemmas.Bool.Decides.{nat_tests}
@@ -9,14 +10,13 @@ use Rattle.pram_values.proofs.Totals.{neutral_right, total_joined}
 use Rattle.superstep_machine.specs.Parts.{Read, PrivatePart}
 use Rattle.superstep_machine.specs.Words.{CellAsk}
 use Rattle.superstep_machine.specs.Worker.{Worker}
-use Rattle.superstep_machine.specs.Sending.{firsts, cell_at, present, cells_asked, several, asks_for, is_several, asked_twice, asks_from, asked_in}
+use Rattle.superstep_machine.specs.Sending.{firsts, cell_at, present, cells_asked, several, asks_for, is_several, asked_twice, asks_from}
+use Rattle.superstep_machine.specs.Sending.{asked_in}
 use Rattle.superstep_machine.proofs.Numbers.{same_number, with_itself}
 use Rattle.superstep_machine.proofs.Collected.{askers_are_monoid}
 use Rattle.superstep_machine.proofs.CellPuts.{has, has_firsts, sum_firsts, same_either}
 use Rattle.flat_machine.proofs.Relation.{wants}
-
-unsome : {A : Type 0} (x y : A) → Some x ≡ Some y → x ≡ y
-unsome x y h = cc
+use Rattle.pram_model.proofs.Truths.{unsome, or_second}
 
 pub any_joined : {A : Type 0} (test : A → Bool) (xs ys : List A) → list_any test (xs ++ ys) ≡ (list_any test xs || list_any test ys)
 any_joined test [] ys = refl
@@ -34,7 +34,8 @@ is_there None = false
 is_there (Some b) = true
 
 listed_askers : (k c : ℕ) (own : List PrivatePart) →
-    has c (present (map (λ (x : PrivatePart). cell_at k x.asks) own)) ≡ is_there (total None several (λ (x : PrivatePart). asks_for c (cell_at k x.asks)) own)
+    has c (present (map (λ (x : PrivatePart). cell_at k x.asks) own)) ≡ is_there
+        (total None several (λ (x : PrivatePart). asks_for c (cell_at k x.asks)) own)
 listed_askers k c [] = refl
 listed_askers k c (x ∷ own) = go (listed_askers k c own) (cell_at k x.asks)
   where
@@ -48,7 +49,8 @@ listed_askers k c (x ∷ own) = go (listed_askers k c own) (cell_at k x.asks)
         has c (cons_option o (present (map (λ (y : PrivatePart). cell_at k y.asks) own)))
         ≡ is_there (several (asks_for c o) (total None several (λ (y : PrivatePart). asks_for c (cell_at k y.asks)) own))
     go same None = same
-    go same (Some d) = ap (λ z. eqb d c || z) same ∙ one (eqb d c) (total None several (λ (y : PrivatePart). asks_for c (cell_at k y.asks)) own)
+    go same (Some d) = ap (λ z. eqb d c || z) same
+        ∙ one (eqb d c) (total None several (λ (y : PrivatePart). asks_for c (cell_at k y.asks)) own)
 
 -- the asks of a read whose cells pass a test
 abbrev asks_passing : (ℕ → Bool) → ℕ → (ℕ → Bool) → List ℕ → List CellAsk
@@ -62,7 +64,8 @@ both_tests twice false false = refl
 
 -- where c passes, they come to what stands at c
 asks_sum : (n k c : ℕ) (twice : ℕ → Bool) (test : ℕ → Bool) → test c ≡ true → (ds : List ℕ) →
-    total None several (asked_in k c) (asks_passing test n twice ds) ≡ total None several (λ d. cond (eqb d c) (cond (eqb n k) (Some (twice d)) None) None) ds
+    total None several (asked_in k c) (asks_passing test n twice ds) ≡ total None several
+        (λ d. cond (eqb d c) (cond (eqb n k) (Some (twice d)) None) None) ds
 asks_sum n k c twice test h [] = refl
 asks_sum n k c twice test h (d ∷ ds) = go (test d) refl (eqb d c) refl
     ∙ ap (several (cond (eqb d c) (cond (eqb n k) (Some (twice d)) None) None)) (asks_sum n k c twice test h ds)
@@ -70,16 +73,20 @@ asks_sum n k c twice test h (d ∷ ds) = go (test d) refl (eqb d c) refl
     go : (b : Bool) → test d ≡ b → (a : Bool) → eqb d c ≡ a →
         total None several (asked_in k c)
         (cond b (record { read = n; cell = d; twice = twice d } ∷ asks_passing test n twice ds) (asks_passing test n twice ds))
-        ≡ several (cond (eqb d c) (cond (eqb n k) (Some (twice d)) None) None) (total None several (asked_in k c) (asks_passing test n twice ds))
-    go true e a is = ap (λ o. several o (total None several (asked_in k c) (asks_passing test n twice ds))) (both_tests (twice d) (eqb n k) (eqb d c))
+        ≡ several (cond (eqb d c) (cond (eqb n k) (Some (twice d)) None) None)
+            (total None several (asked_in k c) (asks_passing test n twice ds))
+    go true e a is = ap (λ o. several o (total None several (asked_in k c) (asks_passing test n twice ds)))
+        (both_tests (twice d) (eqb n k) (eqb d c))
     go false e true is = let no : true ≡ false = sym h ∙ ap test (sym (same_number d c is)) ∙ e in absurd (cc)
     go false e false is =
-        ap (λ a. several (cond a (cond (eqb n k) (Some (twice d)) None) None) (total None several (asked_in k c) (asks_passing test n twice ds))) (sym is)
+        ap (λ a. several (cond a (cond (eqb n k) (Some (twice d)) None) None)
+            (total None several (asked_in k c) (asks_passing test n twice ds))) (sym is)
 
 -- what the asks of one read come to, of whichever number
 block : (s : Worker) (n k c : ℕ) (read : Read) (test : ℕ → Bool) → test c ≡ true →
     total None several (asked_in k c) (asks_passing test n (asked_twice s n) (cells_asked s read n))
-    ≡ cond (has c (present (read.cell ∷ map (λ (x : PrivatePart). cell_at n x.asks) s.own))) (cond (eqb n k) (Some (asked_twice s n c)) None) None
+    ≡ cond (has c (present (read.cell ∷ map (λ (x : PrivatePart). cell_at n x.asks) s.own)))
+        (cond (eqb n k) (Some (asked_twice s n c)) None) None
 block s n k c read test h =
     let cells = present (read.cell ∷ map (λ (x : PrivatePart). cell_at n x.asks) s.own) in
     asks_sum n k c (asked_twice s n) test h (firsts cells)
@@ -91,7 +98,8 @@ askers_of s k c = total None several (λ (x : PrivatePart). asks_for c (cell_at 
 
 -- a read without a cell of its own is asked for by the processors alone
 block_here : (s : Worker) (k c : ℕ) (read : Read) → read.cell ≡ None →
-    cond (has c (present (read.cell ∷ map (λ (x : PrivatePart). cell_at k x.asks) s.own))) (cond (eqb k k) (Some (asked_twice s k c)) None) None
+    cond (has c (present (read.cell ∷ map (λ (x : PrivatePart). cell_at k x.asks) s.own))) (cond (eqb k k) (Some (asked_twice s k c)) None)
+        None
     ≡ askers_of s k c
 block_here s k c read own =
     let cells = map (λ (x : PrivatePart). cell_at k x.asks) s.own in
@@ -105,7 +113,8 @@ block_here s k c read own =
     go (Some b) = refl
 
 block_elsewhere : (s : Worker) (n k c : ℕ) (read : Read) → eqb n k ≡ false →
-    cond (has c (present (read.cell ∷ map (λ (x : PrivatePart). cell_at n x.asks) s.own))) (cond (eqb n k) (Some (asked_twice s n c)) None) None ≡ None
+    cond (has c (present (read.cell ∷ map (λ (x : PrivatePart). cell_at n x.asks) s.own))) (cond (eqb n k) (Some (asked_twice s n c)) None)
+        None ≡ None
 block_elsewhere s n k c read apart =
     let b = has c (present (read.cell ∷ map (λ (x : PrivatePart). cell_at n x.asks) s.own)) in
     ap (λ a. cond b (cond a (Some (asked_twice s n c)) None) None) apart ∙ sym (same_either b None)
@@ -113,7 +122,8 @@ block_elsewhere s n k c read apart =
 -- one read's asks, and those of the reads behind it
 parted : (s : Worker) (n k c : ℕ) (read : Read) (rest : List Read) (test : ℕ → Bool) → test c ≡ true →
     total None several (asked_in k c) (filter (λ (x : CellAsk). test x.cell) (asks_from s n (read ∷ rest)))
-    ≡ several (cond (has c (present (read.cell ∷ map (λ (x : PrivatePart). cell_at n x.asks) s.own))) (cond (eqb n k) (Some (asked_twice s n c)) None) None)
+    ≡ several (cond (has c (present (read.cell ∷ map (λ (x : PrivatePart). cell_at n x.asks) s.own)))
+        (cond (eqb n k) (Some (asked_twice s n c)) None) None)
     (total None several (asked_in k c) (filter (λ (x : CellAsk). test x.cell) (asks_from s (n + 1) rest)))
 parted s n k c read rest test h =
     let test_of = λ (x : CellAsk). test x.cell in
@@ -134,7 +144,8 @@ asks_before s (read ∷ rest) n k c test h before =
     ∙ asks_before s rest (n + 1) k c test h (omega (arith, before))
 
 -- one message, at a cell of its module: by a read without a cell of its own
-pub asks_message : (s : Worker) (reads : List Read) (n i c : ℕ) (read : Read) (test : ℕ → Bool) → test c ≡ true → slice_get reads i ≡ Some read →
+pub asks_message : (s : Worker) (reads : List Read) (n i c : ℕ) (read : Read) (test : ℕ → Bool) → test c ≡ true →
+    slice_get reads i ≡ Some read →
     read.cell ≡ None →
     total None several (asked_in (n + i) c) (filter (λ (x : CellAsk). test x.cell) (asks_from s n reads)) ≡ askers_of s (n + i) c
 asks_message s [] n i c read test h is own = absurd (cc)
@@ -160,18 +171,17 @@ asks_message s (first ∷ rest) n (suc i) c read test h is own =
 
 -- ---- what is wanted
 
-wants_block : (n c : ℕ) (twice : ℕ → Bool) (ds : List ℕ) → wants n c (map (λ d. record { read = n; cell = d; twice = twice d }) ds) ≡ has c ds
+wants_block : (n c : ℕ) (twice : ℕ → Bool) (ds : List ℕ) →
+    wants n c (map (λ d. record { read = n; cell = d; twice = twice d }) ds) ≡ has c ds
 wants_block n c twice [] = refl
-wants_block n c twice (d ∷ ds) = ap (λ b. (b && eqb d c) || wants n c (map (λ d. record { read = n; cell = d; twice = twice d }) ds)) (with_itself n)
+wants_block n c twice (d ∷ ds) =
+    ap (λ b. (b && eqb d c) || wants n c (map (λ d. record { read = n; cell = d; twice = twice d }) ds)) (with_itself n)
     ∙ ap (λ b. eqb d c || b) (wants_block n c twice ds)
-
-either_way : (a b : Bool) → b ≡ true → (a || b) ≡ true
-either_way true b h = refl
-either_way false b h = h
 
 -- a cell that a read asks for is among the asks
 pub wants_asked : (s : Worker) (reads : List Read) (n i c : ℕ) → i < length reads →
-    ((read : Read) → slice_get reads i ≡ Some read → has c (present (read.cell ∷ map (λ (x : PrivatePart). cell_at (n + i) x.asks) s.own)) ≡ true) →
+    ((read : Read) → slice_get reads i ≡ Some read →
+        has c (present (read.cell ∷ map (λ (x : PrivatePart). cell_at (n + i) x.asks) s.own)) ≡ true) →
     wants (n + i) c (asks_from s n reads) ≡ true
 wants_asked s [] n i c few h = absurd (omega (arith, few))
 wants_asked s (read ∷ rest) n zero c few h =
@@ -189,6 +199,6 @@ wants_asked s (read ∷ rest) n (suc i) c few h =
     let first = map (λ d. record { read = n; cell = d; twice = asked_twice s n d }) (cells_asked s read n) in
     ap (λ k. wants k c (asks_from s n (read ∷ rest))) on
     ∙ any_joined (λ (x : CellAsk). eqb x.read (n + 1 + i) && eqb x.cell c) first (asks_from s (n + 1) rest)
-    ∙ either_way (wants (n + 1 + i) c first) (wants (n + 1 + i) c (asks_from s (n + 1) rest))
+    ∙ or_second (wants (n + 1 + i) c first) (wants (n + 1 + i) c (asks_from s (n + 1) rest))
     (wants_asked s rest (n + 1) i c (omega (arith, few))
     (λ r is. ap (λ k. has c (present (r.cell ∷ map (λ (x : PrivatePart). cell_at k x.asks) s.own))) (sym on) ∙ h r is))

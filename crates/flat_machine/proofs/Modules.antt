@@ -14,7 +14,8 @@ module _ {M : Type 0} (e : M) (op : M → M → M) (m : IsMonoid M e op) where
   pub total_swapped : {A B : Type 0} (g : A → B → M) (xs : List A) (ys : List B) →
       total e op (λ x. total e op (g x) ys) xs ≡ total e op (λ y. total e op (λ x. g x y) xs) ys
   total_swapped g [] ys = sym (total_none e op m (λ y. e) (λ y. refl) ys)
-  total_swapped g (x ∷ xs) ys = ap (op (total e op (g x) ys)) (total_swapped g xs ys) ∙ sym (total_both e op m (g x) (λ y. total e op (λ z. g z y) xs) ys)
+  total_swapped g (x ∷ xs) ys = ap (op (total e op (g x) ys)) (total_swapped g xs ys)
+      ∙ sym (total_both e op m (g x) (λ y. total e op (λ z. g z y) xs) ys)
 
   -- nothing behind a place
   total_beyond : (f : ℕ → M) (n k : ℕ) → ((c : ℕ) → k ≤ c → f c ≡ e) → total e op f (range_with_len k n) ≡ e
@@ -28,7 +29,8 @@ module _ {M : Type 0} (e : M) (op : M → M → M) (m : IsMonoid M e op) where
       total e op f (range_with_len k count) ≡ total e op f (range_with_len k n)
   total_cut f zero count k within h = total_beyond f count k (λ c above. h c (omega (arith, above)))
   total_cut f (suc n) zero k within h = absurd (omega (arith, within))
-  total_cut f (suc n) (suc count) k within h = ap (op (f k)) (total_cut f n count (k + 1) (omega (arith, within)) (λ c above. h c (omega (arith, above))))
+  total_cut f (suc n) (suc count) k within h =
+      ap (op (f k)) (total_cut f n count (k + 1) (omega (arith, within)) (λ c above. h c (omega (arith, above))))
 
 module _ (t : Setting) (fits : IsMapFor t.code t.map) {M : Type 0} (e : M) (op : M → M → M) (m : IsMonoid M e op) (f : ℕ → M) where
   abbrev all : List ℕ
@@ -46,7 +48,8 @@ module _ (t : Setting) (fits : IsMapFor t.code t.map) {M : Type 0} (e : M) (op :
       given w o c ≡ cond (eqb (t.map.part c) w) (cond (eqb (t.map.offset c) o) (f c) e) e
   one_place c w o c_below w_below o_below = go (eqb (t.map.cell w o) c) refl
     where
-      elsewhere : eqb (t.map.cell w o) c ≡ false → (a b : Bool) → eqb (t.map.part c) w ≡ a → eqb (t.map.offset c) o ≡ b → e ≡ cond a (cond b (f c) e) e
+      elsewhere : eqb (t.map.cell w o) c ≡ false → (a b : Bool) → eqb (t.map.part c) w ≡ a → eqb (t.map.offset c) o ≡ b →
+          e ≡ cond a (cond b (f c) e) e
       elsewhere apart false b part_is offset_is = refl
       elsewhere apart true false part_is offset_is = refl
       elsewhere apart true true part_is offset_is =
@@ -56,7 +59,8 @@ module _ (t : Setting) (fits : IsMapFor t.code t.map) {M : Type 0} (e : M) (op :
           let no : true ≡ false = sym (with_itself c) ∙ ap (λ d. eqb d c) (sym place) ∙ apart in
           absurd (cc)
 
-      go : (b : Bool) → eqb (t.map.cell w o) c ≡ b → cond b (f (t.map.cell w o)) e ≡ cond (eqb (t.map.part c) w) (cond (eqb (t.map.offset c) o) (f c) e) e
+      go : (b : Bool) → eqb (t.map.cell w o) c ≡ b → cond b (f (t.map.cell w o)) e ≡ cond (eqb (t.map.part c) w)
+          (cond (eqb (t.map.offset c) o) (f c) e) e
       go true is =
           let same = same_number (t.map.cell w o) c is in
           let part_is : eqb (t.map.part c) w ≡ true = ap (λ d. eqb (t.map.part d) w) (sym same)
@@ -83,9 +87,11 @@ module _ (t : Setting) (fits : IsMapFor t.code t.map) {M : Type 0} (e : M) (op :
 
   given_once : (c : ℕ) → c < t.map.count → total e op (λ w. total e op (λ o. given w o c) (range_with_len 0 (t.map.width w))) all ≡ f c
   given_once c c_below =
-      total_within e op (λ w. total e op (λ o. given w o c) (range_with_len 0 (t.map.width w))) (λ w. cond (eqb (t.map.part c) w) (f c) e) (workers t) 0
+      total_within e op (λ w. total e op (λ o. given w o c) (range_with_len 0 (t.map.width w))) (λ w. cond (eqb (t.map.part c) w) (f c) e)
+          (workers t) 0
       (λ w l. given_by c w c_below (omega (arith, l)))
-      ∙ total_at e op m (f c) (t.map.part c) (workers t) 0 (omega arith) (let below = fits.lawful.part_below c c_below in omega (arith, below))
+      ∙ total_at e op m (f c) (t.map.part c) (workers t) 0 (omega arith) (let below = fits.lawful.part_below c c_below in
+          omega (arith, below))
 
   -- what one module has, by cells
   of_module : (w : ℕ) → w < workers t →
@@ -99,19 +105,23 @@ module _ (t : Setting) (fits : IsMapFor t.code t.map) {M : Type 0} (e : M) (op :
       ∙ total_swapped e op m (given w) offsets counted
 
   -- the sum over all modules, of what is nothing beyond the layout
-  pub of_modules : ((c : ℕ) → total_size t.code.layout ≤ c → f c ≡ e) → total e op (λ w. total e op f (module_cells t w)) all ≡ total e op f (cells t.code)
+  pub of_modules : ((c : ℕ) → total_size t.code.layout ≤ c → f c ≡ e) →
+      total e op (λ w. total e op f (module_cells t w)) all ≡ total e op f (cells t.code)
   of_modules beyond =
       let by_cell = λ (w c : ℕ). total e op (λ o. given w o c) (range_with_len 0 (t.map.width w)) in
-      total_within e op (λ w. total e op f (module_cells t w)) (λ w. total e op (by_cell w) counted) (workers t) 0 (λ w l. of_module w (omega (arith, l)))
+      total_within e op (λ w. total e op f (module_cells t w)) (λ w. total e op (by_cell w) counted) (workers t) 0
+          (λ w l. of_module w (omega (arith, l)))
       ∙ total_swapped e op m by_cell all counted
       ∙ total_within e op (λ c. total e op (λ w. by_cell w c) all) f t.map.count 0 (λ c l. given_once c (omega (arith, l)))
       ∙ total_cut e op m f (total_size t.code.layout) t.map.count 0 fits.room (λ c above. beyond c (omega (arith, above)))
 
   -- the same where each module has terms of its own, which are these for its cells
-  pub of_modules_each : (g : ℕ → ℕ → M) → ((w c : ℕ) → w < workers t → t.map.part c ≡ w → g w c ≡ f c) → ((c : ℕ) → total_size t.code.layout ≤ c → f c ≡ e) →
+  pub of_modules_each : (g : ℕ → ℕ → M) → ((w c : ℕ) → w < workers t → t.map.part c ≡ w → g w c ≡ f c) →
+      ((c : ℕ) → total_size t.code.layout ≤ c → f c ≡ e) →
       total e op (λ w. total e op (g w) (module_cells t w)) all ≡ total e op f (cells t.code)
   of_modules_each g same beyond =
-      total_within e op (λ w. total e op (g w) (module_cells t w)) (λ w. total e op f (module_cells t w)) (workers t) 0 (λ w l. go w (omega (arith, l)))
+      total_within e op (λ w. total e op (g w) (module_cells t w)) (λ w. total e op f (module_cells t w)) (workers t) 0
+          (λ w l. go w (omega (arith, l)))
       ∙ of_modules beyond
     where
       go : (w : ℕ) → w < workers t → total e op (g w) (module_cells t w) ≡ total e op f (module_cells t w)

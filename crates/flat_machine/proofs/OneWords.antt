@@ -1,5 +1,6 @@
 -- The exchanges of a run, with their words, are the same with any number of instructions that is enough for a stretch.
-use Rattle.std.proofs.Common.{◌≡◌, ℕ, zero, suc, ◌+◌, ◌<◌, ◌≤◌, List, [], ◌∷◌, map, length, Bool, true, false, eqb, Option, Some, None, ℤ, refl, sym, ap, ◌∙◌, arith, ⊎_elim, ◌⊎◌, inl, inr}
+use Rattle.std.proofs.Common.{◌≡◌, ℕ, zero, suc, ◌+◌, ◌<◌, ◌≤◌, List, [], ◌∷◌, map, length, Bool, true, false, eqb, Option, Some, None, ℤ}
+use Rattle.std.proofs.Common.{refl, sym, ap, ◌∙◌, arith, ⊎_elim, ◌⊎◌, inl, inr}
 use Rattle.std.specs.Prelude.{if◌then◌else◌, slice_get}
 use Rattle.std.specs.List.{range_with_len}
 use Rattle.std.proofs.lemmas.Bool.{cases_lt}
@@ -15,7 +16,9 @@ use Rattle.superstep_machine.specs.Words.{Message, words}
 use Rattle.superstep_machine.specs.Worker.{Worker, after_instr}
 use Rattle.superstep_machine.specs.Stretch.{ToSend, ToReply, ToVote, ToClose, Arrival, Nowhere, At, advance, until}
 use Rattle.superstep_machine.specs.Machine.{phase, column, run}
-use Rattle.superstep_machine.specs.Run.{Purpose, Sends, Replies, Votes, Closes, Way, On, Ending, Past, Refused, Lost, State, Ready, mark_now, mark_of, stretch, ready, ready_at, ready_by, ready_with, message_for, message_with, message_of, after_exchange, after_with, after, is_over, outcome_of, bsp, opening, setting}
+use Rattle.superstep_machine.specs.Run.{Purpose, Sends, Replies, Votes, Closes, Way, On, Ending, Past, Refused, Lost, State, Ready}
+use Rattle.superstep_machine.specs.Run.{mark_now, mark_of, stretch, ready, ready_at, ready_by, ready_with, message_for, message_with}
+use Rattle.superstep_machine.specs.Run.{message_of, after_exchange, after_with, after, is_over, outcome_of, bsp, opening, setting}
 use Rattle.superstep_machine.specs.Trace.{words_between, sum_over, exchange_of, exchanges_from, exchanges_by}
 use Rattle.flat_machine.specs.ByExchanges as flat
 use Rattle.flat_machine.specs.Flat.{Flat}
@@ -42,16 +45,19 @@ module _ (t : Setting) (m : ℕ) (more : t.enough ≤ m) where
     abbrev from : ℕ → ℕ → Worker → Arrival Worker
     from n place x = until t.bound (λ (y : Worker). y.uniform) (after_instr t w) t.code.instructions n place x
 
-    module _ (next other : ℕ → Worker → Arrival Worker) (same : (place : ℕ) (x : Worker) → Same (next place x) (other place x)) (place : ℕ) (x : Worker) where
+    module _ (next other : ℕ → Worker → Arrival Worker) (same : (place : ℕ) (x : Worker) → Same (next place x) (other place x)) (place : ℕ)
+        (x : Worker) where
       abbrev at : (ℕ → Worker → Arrival Worker) → Option Instr → Arrival Worker
       at go o = advance t.bound (λ (y : Worker). y.uniform) (after_instr t w) Nowhere (λ stop k y. At stop k y) go o place x
 
       marked : (line : ℕ) (b : Bool) →
-          Same (if b then At (ToClose false) place x else next (place + 1) (after_instr t w (Mark line) x)) (if b then At (ToClose false) place x else other (place + 1) (after_instr t w (Mark line) x))
+          Same (if b then At (ToClose false) place x else next (place + 1) (after_instr t w (Mark line) x))
+              (if b then At (ToClose false) place x else other (place + 1) (after_instr t w (Mark line) x))
       marked line true = refl
       marked line false = same (place + 1) (after_instr t w (Mark line) x)
 
-      forked : (target : ℕ) (b : Bool) → Same (if b then next (place + 1) x else next target x) (if b then other (place + 1) x else other target x)
+      forked : (target : ℕ) (b : Bool) → Same (if b then next (place + 1) x else next target x)
+          (if b then other (place + 1) x else other target x)
       forked target true = same (place + 1) x
       forked target false = same target x
 
@@ -69,7 +75,8 @@ module _ (t : Setting) (m : ℕ) (more : t.enough ≤ m) where
     longer : (n k : ℕ) → n ≤ k → (place : ℕ) (x : Worker) → Same (from n place x) (from k place x)
     longer zero k l place x = tt
     longer (suc n) zero l place x = absurd (omega (arith, l))
-    longer (suc n) (suc k) l place x = advances (from n) (from k) (longer n k (omega (arith, l))) place x (slice_get t.code.instructions place)
+    longer (suc n) (suc k) l place x =
+        advances (from n) (from k) (longer n k (omega (arith, l))) place x (slice_get t.code.instructions place)
 
   -- ---- one exchange
 
@@ -142,7 +149,8 @@ module _ (t : Setting) (m : ℕ) (more : t.enough ≤ m) where
         by_way On w =
             ap (λ (x : Way). next_way (flat.ready_by (plan t) s x)) w
             ∙ arrived (flat.stretch (plan t) s) w (ap (λ (x : Way). (flat.ready_by (plan t) s x).state.way) (sym w) ∙ e)
-        by_way (Ending ended) w = let h : Ending ended ≡ Lost = sym w ∙ ap (λ (x : Way). (flat.ready_by (plan t) s x).state.way) (sym w) ∙ e in cc
+        by_way (Ending ended) w = let h : Ending ended ≡ Lost = sym w ∙ ap (λ (x : Way). (flat.ready_by (plan t) s x).state.way) (sym w)
+            ∙ e in cc
         by_way (Past key ended) w = let h : true ≡ false = ap is_over (sym w) ∙ o in cc
         by_way (Refused mark) w = let h : true ≡ false = ap is_over (sym w) ∙ o in cc
         by_way Lost w = let h : true ≡ false = ap is_over (sym w) ∙ o in cc
@@ -171,9 +179,11 @@ module _ (t : Setting) (m : ℕ) (more : t.enough ≤ m) where
       exchange_same = λ i. record {
         purpose = (readies_same 0 (first t room) i).purpose;
         sent = map_within (λ k. sum_over t (λ j. words_between t ws k j)) (λ k. sum_over t (λ j. words_between u vs k j)) (workers t) 0
-            (λ k l. total_within 0 (λ x y. x + y) (λ j. words_between t ws k j) (λ j. words_between u vs k j) (workers t) 0 (λ j q. words_same k j (within k l))) i;
+            (λ k l. total_within 0 (λ x y. x + y) (λ j. words_between t ws k j) (λ j. words_between u vs k j) (workers t) 0
+                (λ j q. words_same k j (within k l))) i;
         received = map_within (λ j. sum_over t (λ k. words_between t ws k j)) (λ j. sum_over t (λ k. words_between u vs k j)) (workers t) 0
-            (λ j l. total_within 0 (λ x y. x + y) (λ k. words_between t ws k j) (λ k. words_between u vs k j) (workers t) 0 (λ k q. words_same k j (within k q))) i;
+            (λ j l. total_within 0 (λ x y. x + y) (λ k. words_between t ws k j) (λ k. words_between u vs k j) (workers t) 0
+                (λ k q. words_same k j (within k q))) i;
       }
 
       phase_same : (w : ℕ) → w < workers t → phase (bsp t) (workers t) ws w ≡ phase (bsp u) (workers t) vs w
@@ -184,12 +194,15 @@ module _ (t : Setting) (m : ℕ) (more : t.enough ≤ m) where
           ∙ after_same w (ready u w (vs w)) (column (bsp u) (workers t) vs w)
 
     lists_same : (n k : ℕ) (s : flat.State) (ws vs : ℕ → State) → Agree t room s ws → ((w : ℕ) → w < workers t → ws w ≡ vs w) →
-        flat.run (plan t) n s ≡ Some (Some v) → (x : Option Verdict) → run (bsp u) (workers t) k vs ≡ Some x → exchanges_from t n ws ≡ exchanges_from u k vs
+        flat.run (plan t) n s ≡ Some (Some v) → (x : Option Verdict) → run (bsp u) (workers t) k vs ≡ Some x →
+            exchanges_from t n ws ≡ exchanges_from u k vs
     lists_same zero k s ws vs a e h x g = cc
     lists_same (suc n) zero s ws vs a e h x g = cc
     lists_same (suc n) (suc k) s ws vs a e h x g =
-        ap (λ (b : Bool). if b then [] else exchange_of t ws ∷ exchanges_from t n (phase (bsp t) (workers t) ws)) (ap is_over (a.way 0 (first t room)))
-        ∙ go (λ e2 h2 g2. lists_same n k (flat.next (plan t) s) (phase (bsp t) (workers t) ws) (phase (bsp u) (workers t) vs) (phase_agrees t room s ws a) e2 h2 x g2)
+        ap (λ (b : Bool). if b then [] else exchange_of t ws ∷ exchanges_from t n (phase (bsp t) (workers t) ws))
+            (ap is_over (a.way 0 (first t room)))
+        ∙ go (λ e2 h2 g2. lists_same n k (flat.next (plan t) s) (phase (bsp t) (workers t) ws) (phase (bsp u) (workers t) vs)
+            (phase_agrees t room s ws a) e2 h2 x g2)
         (is_over s.way) refl
         ∙ ap (λ (b : Bool). if b then [] else exchange_of u vs ∷ exchanges_from u k (phase (bsp u) (workers t) vs)) (sym other)
       where
@@ -199,7 +212,8 @@ module _ (t : Setting) (m : ℕ) (more : t.enough ≤ m) where
         go : (((w : ℕ) → w < workers t → phase (bsp t) (workers t) ws w ≡ phase (bsp u) (workers t) vs w) →
             flat.run (plan t) n (flat.next (plan t) s) ≡ Some (Some v) →
             run (bsp u) (workers t) k (phase (bsp u) (workers t) vs) ≡ Some x →
-            exchanges_from t n (phase (bsp t) (workers t) ws) ≡ exchanges_from u k (phase (bsp u) (workers t) vs)) → (b : Bool) → is_over s.way ≡ b →
+            exchanges_from t n (phase (bsp t) (workers t) ws) ≡ exchanges_from u k (phase (bsp u) (workers t) vs)) → (b : Bool) →
+                is_over s.way ≡ b →
             (if is_over s.way then [] else exchange_of t ws ∷ exchanges_from t n (phase (bsp t) (workers t) ws))
             ≡ (if is_over s.way then [] else exchange_of u vs ∷ exchanges_from u k (phase (bsp u) (workers t) vs))
         go rest true q =
@@ -209,7 +223,8 @@ module _ (t : Setting) (m : ℕ) (more : t.enough ≤ m) where
             let h2 : flat.run (plan t) n (flat.next (plan t) s) ≡ Some (Some v) =
             ap (λ (b : Bool). if b then Some (flat.outcome_of t.code s) else flat.run (plan t) n (flat.next (plan t) s)) (sym q) ∙ h in
             let g2 : run (bsp u) (workers t) k (phase (bsp u) (workers t) vs) ≡ Some x =
-            ap (λ (b : Bool). if b then Some (outcome_of u (map vs (range_with_len 0 (workers t)))) else run (bsp u) (workers t) k (phase (bsp u) (workers t) vs)) (sym (other ∙ q)) ∙ g in
+            ap (λ (b : Bool). if b then Some (outcome_of u (map vs (range_with_len 0 (workers t)))) else run (bsp u) (workers t) k
+                (phase (bsp u) (workers t) vs)) (sym (other ∙ q)) ∙ g in
             ap (λ (b : Bool). if b then [] else exchange_of t ws ∷ exchanges_from t n (phase (bsp t) (workers t) ws)) q
             ∙ (λ i. exchange_same s ws vs a e n q h2 i
             ∷ rest (phase_same s ws vs a e n q h2) h2 g2 i)
@@ -224,6 +239,8 @@ module _ (t : Setting) (m : ℕ) (more : t.enough ≤ m) where
 pub exchanges_are_unique : ExchangesAreUnique
 exchanges_are_unique code map room input bound verdict other made more a b =
     ⊎_elim
-    (λ l. sym a.told ∙ unique_more (setting code map bound a.enough) b.enough (omega (arith, l)) room verdict input a.most b.most (Some other) a.ends b.ends ∙ b.told)
-    (λ l. sym a.told ∙ sym (unique_more (setting code map bound b.enough) a.enough l room other input b.most a.most (Some verdict) b.ends a.ends) ∙ b.told)
+    (λ l. sym a.told ∙ unique_more (setting code map bound a.enough) b.enough (omega (arith, l)) room verdict input a.most b.most
+        (Some other) a.ends b.ends ∙ b.told)
+    (λ l. sym a.told ∙ sym (unique_more (setting code map bound b.enough) a.enough l room other input b.most a.most (Some verdict) b.ends
+        a.ends) ∙ b.told)
     (cases_lt a.enough b.enough)

@@ -1,5 +1,6 @@
 -- A flat run of well-formed code goes along a path of control, and the state that the path gives describes what is held and awaited.
-use Rattle.std.proofs.Common.{◌≡◌, ℕ, zero, suc, ◌+◌, List, [], Bool, true, false, not, eqb, Option, Some, ℤ, refl, sym, ap, ◌∙◌, subst, ◌⊎◌, inl, inr}
+use Rattle.std.proofs.Common.{◌≡◌, ℕ, zero, suc, ◌+◌, List, [], Bool, true, false, not, eqb, Option, Some, ℤ, refl, sym, ap, ◌∙◌, subst}
+use Rattle.std.proofs.Common.{◌⊎◌, inl, inr}
 use Rattle.std.specs.Prelude.{if◌then◌else◌, ◌&&◌, slice_get}
 use Rattle.pram_values.specs.Truth.{is_nonzero}
 use Rattle.superstep_code.specs.declared.instr.Side.{Side}
@@ -13,7 +14,7 @@ use Rattle.bsp_verify.specs.Control.{Leads}
 use Rattle.bsp_verify.specs.Judging.{fits_exchange}
 use Rattle.bsp_verify.specs.WellFormed.{IsWellFormed}
 use Rattle.bsp_verify.specs.Paths.{Point, Comes}
-use Rattle.bsp_verify.proofs.PathLemmas.{both, is_false, is_zero, paths_sound}
+use Rattle.bsp_verify.proofs.PathLemmas.{is_zero, paths_sound}
 use Rattle.bsp_verify.proofs.WorkerLemmas.{none_of}
 use Rattle.bsp_verify.proofs.RunLemmas.{Describes, acts, no_answers, sent}
 use Rattle.flat_machine.specs.Flat.{Flat, after_instr, after_send, after_reply, after_vote}
@@ -21,6 +22,8 @@ use Rattle.flat_machine.specs.ByExchanges.{State, opening}
 use Rattle.flat_machine.specs.ByInstructions.{stopped, going, instructed, step, step_by, steps}
 use Rattle.flat_machine.proofs.Stepping.{carried_out}
 use Rattle.flat_machine.proofs.Counts.{IsCounted, MayCount, opening_counted, counted_instr, counted_send, counted_reply, counted_vote}
+use Rattle.pram_model.proofs.Truths.{both}
+use Rattle.std.proofs.lemmas.Bool.{not-true}
 
 -- A path of control comes to the place, with a state that describes what is held and awaited; and the counts are as they should be.
 pub record IsAt (code : SuperstepCode) (place : ℕ) (f : Flat) : Type 0 where
@@ -48,7 +51,8 @@ module _ (code : SuperstepCode) (place : ℕ) (f : Flat) (a : IsAt code place f)
   abbrev pub Fits : Instr → Type 0
   Fits i = fits_exchange i a.point.state ≡ true
 
-  asks_none : (i : Instr) → fits_exchange i a.point.state ≡ (not a.point.state.awaits && eqb a.point.state.asks 0) → Fits i → f.uniform.asks ≡ []
+  asks_none : (i : Instr) → fits_exchange i a.point.state ≡ (not a.point.state.awaits && eqb a.point.state.asks 0) → Fits i →
+      f.uniform.asks ≡ []
   asks_none i e h =
       let b = both (not a.point.state.awaits) (eqb a.point.state.asks 0) (sym e ∙ h) in
       none_of f.uniform.asks (a.describes.asks ∙ is_zero a.point.state.asks b.1)
@@ -62,11 +66,12 @@ module _ (code : SuperstepCode) (place : ℕ) (f : Flat) (a : IsAt code place f)
   pub reply_holds_none : Fits Reply → is_held f.uniform.put ≡ false
   reply_holds_none h = a.describes.put ∙ (a.describes.alone h).1
 
-  holds_none : (i : Instr) → fits_exchange i a.point.state ≡ (not a.point.state.awaits && (eqb a.point.state.asks 0 && not a.point.state.put)) → Fits i →
+  holds_none : (i : Instr) → fits_exchange i a.point.state ≡ (not a.point.state.awaits
+      && (eqb a.point.state.asks 0 && not a.point.state.put)) → Fits i →
       is_held f.uniform.put ≡ false
   holds_none i e h =
       let b = both (not a.point.state.awaits) (eqb a.point.state.asks 0 && not a.point.state.put) (sym e ∙ h) in
-      a.describes.put ∙ is_false a.point.state.put (both (eqb a.point.state.asks 0) (not a.point.state.put) b.1).1
+      a.describes.put ∙ not-true a.point.state.put (both (eqb a.point.state.asks 0) (not a.point.state.put) b.1).1
 
   pub vote_holds_none : (d : ℕ) → Fits (Vote d) → is_held f.uniform.put ≡ false
   vote_holds_none d h = holds_none (Vote d) refl h
@@ -110,11 +115,13 @@ module _ (code : SuperstepCode) (place : ℕ) (f : Flat) (a : IsAt code place f)
   at_works (JumpIfZero r target) w is h = absurd w
   at_works Halt w is h = absurd w
   at_works i w is h =
-      onward i is (place + 1) (after_instr code i f) refl (acts code i a.point.state f.uniform tt (no_answers i a.point.state (λ e. cc) h) a.describes)
+      onward i is (place + 1) (after_instr code i f) refl (acts code i a.point.state f.uniform tt (no_answers i a.point.state (λ e. cc) h)
+          a.describes)
       (counted_instr code f a.counted i (may_count i h))
 
   pub at_send : slice_get code.instructions place ≡ Some Send → IsAt code (place + 1) (after_send code f)
-  at_send is = onward Send is (place + 1) (after_send code f) refl (sent a.point.state f.uniform a.describes) (counted_send code f a.counted)
+  at_send is = onward Send is (place + 1) (after_send code f) refl (sent a.point.state f.uniform a.describes)
+      (counted_send code f a.counted)
 
   pub at_reply : slice_get code.instructions place ≡ Some Reply → IsAt code (place + 1) (after_reply f)
   at_reply is =
@@ -134,7 +141,8 @@ module _ (code : SuperstepCode) (place : ℕ) (f : Flat) (a : IsAt code place f)
   pub at_jump : (target : ℕ) → slice_get code.instructions place ≡ Some (Jump target) → IsAt code target f
   at_jump target is = onward (Jump target) is target f refl same a.counted
 
-  pub at_fork : (r target to : ℕ) → slice_get code.instructions place ≡ Some (JumpIfZero r target) → (to ≡ target) ⊎ (to ≡ place + 1) → IsAt code to f
+  pub at_fork : (r target to : ℕ) → slice_get code.instructions place ≡ Some (JumpIfZero r target) → (to ≡ target) ⊎ (to ≡ place + 1) →
+      IsAt code to f
   at_fork r target to is l = onward (JumpIfZero r target) is to f l same a.counted
 
 -- ---- runs
@@ -156,7 +164,8 @@ module _ (code : SuperstepCode) (formed : IsWellFormed code) where
       record { instr = s.instr; is = ap (slice_get code.instructions) (sym a.here) ∙ s.is; fits = s.allowed.exchange }
 
 module _ (code : SuperstepCode) (formed : IsWellFormed code) (bound : ℕ) (judges : ℕ → Bool) where
-  by_instr : (place : ℕ) (f : Flat) (a : IsAt code place f) (i : Instr) → slice_get code.instructions place ≡ Some i → Fits code place f a i →
+  by_instr : (place : ℕ) (f : Flat) (a : IsAt code place f) (i : Instr) → slice_get code.instructions place ≡ Some i →
+      Fits code place f a i →
       Agrees code (carried_out code bound judges (Some i) place f)
   by_instr place f a Send is h = λ e. at_send code place f a is
   by_instr place f a Reply is h = λ e. at_reply code place f a is
@@ -164,7 +173,8 @@ module _ (code : SuperstepCode) (formed : IsWellFormed code) (bound : ℕ) (judg
   by_instr place f a Halt is h = λ e. cc
   by_instr place f a (Mark line) is h = marked (eqb f.uniform.count bound)
     where
-      marked : (b : Bool) → Agrees code (if b then stopped code judges (ToClose false) place f else going (place + 1) (after_instr code (Mark line) f))
+      marked : (b : Bool) → Agrees code (if b then stopped code judges (ToClose false) place f else going (place + 1)
+          (after_instr code (Mark line) f))
       marked true = λ e. cc
       marked false = λ e. at_works code place f a (Mark line) tt is h
   by_instr place f a (Jump target) is h = λ e. at_jump code place f a target is
@@ -178,7 +188,8 @@ module _ (code : SuperstepCode) (formed : IsWellFormed code) (bound : ℕ) (judg
   instructed_agrees : (place : ℕ) (f : Flat) → IsAt code place f → Agrees code (instructed code bound judges place f)
   instructed_agrees place f a =
       let x = found code formed place f a in
-      subst (λ (o : Option Instr). Agrees code (carried_out code bound judges o place f)) (sym x.is) (by_instr place f a x.instr x.is x.fits)
+      subst (λ (o : Option Instr). Agrees code (carried_out code bound judges o place f)) (sym x.is)
+          (by_instr place f a x.instr x.is x.fits)
 
   pub step_agrees : (s : State) → Agrees code s → Agrees code (step code bound judges s)
   step_agrees s a = go s.way refl

@@ -1,5 +1,6 @@
 -- What instructions ask for and write to are cells of the layout.
-use Rattle.std.proofs.Common.{◌≡◌, ℕ, zero, suc, ◌+◌, ◌<◌, ◌≤◌, List, [], ◌∷◌, ◌++◌, map, Bool, true, false, Option, Some, None, ℤ, pos, ◌-ℤ◌, nat_abs, int_le, eqb, refl, sym, ap, ◌∙◌, subst, arith, ⊎_elim, ◌⊎◌, inl, inr}
+use Rattle.std.proofs.Common.{◌≡◌, ℕ, zero, suc, ◌+◌, ◌<◌, ◌≤◌, List, [], ◌∷◌, ◌++◌, map, Bool, true, false, Option, Some, None, ℤ, pos}
+use Rattle.std.proofs.Common.{◌-ℤ◌, nat_abs, int_le, eqb, refl, sym, ap, ◌∙◌, subst, arith, ⊎_elim, ◌⊎◌, inl, inr}
 use Rattle.std.specs.Prelude.{if◌then◌else◌, ◌&&◌}
 use Rattle.std.proofs.lemmas.Bool.Decides.{nat_tests}
 use Rattle.std.proofs.lemmas.Int.{ints}
@@ -18,6 +19,7 @@ use Rattle.superstep_machine.specs.Sending.{join, cell_at}
 use Rattle.superstep_machine.proofs.Collected.{entries_are_monoid}
 use Rattle.flat_machine.specs.Flat.{Flat, range, single_to, written}
 use Rattle.superstep_machine.specs.Sides.{IsBySide, AreBySide}
+use Rattle.pram_model.proofs.Truths.{unsome}
 
 -- what holds of both holds of the one that a test takes
 pub either : {A : Type 0} (P : A → Type 0) (b : Bool) (x y : A) → P x → P y → P (if b then x else y)
@@ -26,18 +28,17 @@ either P false x y p q = q
 
 -- ---- a declaration's cells
 
-unsome : {A : Type 0} (x y : A) → Some x ≡ Some y → x ≡ y
-unsome x y h = cc
-
 between : (low high z : ℤ) → int_le low z ≡ true → int_le z high ≡ true → nat_abs (z -ℤ low) < width low high
-between low high z above below = let ordered : int_le low high ≡ true = grind (arith, ints, above, below) in rw ordered (grind (arith, ints, above, below))
+between low high z above below = let ordered : int_le low high ≡ true = grind (arith, ints, above, below) in
+    rw ordered (grind (arith, ints, above, below))
 
 found_below : (first : ℕ) (low high z : ℤ) (c : ℕ) → layout.cell_at first low high z ≡ Some c → c < first + width low high
 found_below first low high z c h = go (int_le low z) (int_le z high) refl refl h
   where
     go : (a b : Bool) → int_le low z ≡ a → int_le z high ≡ b → (if a && b then Some (first + nat_abs (z -ℤ low)) else None) ≡ Some c →
         c < first + width low high
-    go true true above below e = let room = between low high z above below in let is = unsome (first + nat_abs (z -ℤ low)) c e in omega (arith, room, is)
+    go true true above below e = let room = between low high z above below in let is = unsome (first + nat_abs (z -ℤ low)) c e in
+        omega (arith, room, is)
     go true false above below e = absurd (cc)
     go false b above below e = absurd (cc)
 
@@ -45,7 +46,8 @@ found_in : (first : ℕ) (bounds : Option (ℤ × ℤ)) (z : ℤ) (c : ℕ) → 
 found_in first None z c h = found_below first (pos 0) (pos 0) z c h
 found_in first (Some (low, high)) z c h = found_below first low high z c h
 
-found_from : (first : ℕ) (es : List SharedEntry) (entry : ℕ) (z : ℤ) (c : ℕ) → cell_from first es entry z ≡ Some c → c < first + total_size es
+found_from : (first : ℕ) (es : List SharedEntry) (entry : ℕ) (z : ℤ) (c : ℕ) → cell_from first es entry z ≡ Some c →
+    c < first + total_size es
 found_from first [] entry z c h = absurd (cc)
 found_from first (e ∷ es) zero z c h = let below = found_in first e.bounds z c h in omega (arith, below)
 found_from first (e ∷ es) (suc entry) z c h = let below = found_from (first + size e.bounds) es entry z c h in omega (arith, below)
@@ -67,22 +69,26 @@ cell_pushed (suc k) (d ∷ cells) last c h = cell_pushed k cells last c h
 abbrev pub AreBelow : ℕ → List (Option ℕ) → Type 0
 AreBelow n cells = (k c : ℕ) → cell_at k cells ≡ Some c → c < n
 
-below_pushed : (n : ℕ) (cells : List (Option ℕ)) (last : Option ℕ) → AreBelow n cells → ((c : ℕ) → last ≡ Some c → c < n) → AreBelow n (cells ++ last ∷ [])
+below_pushed : (n : ℕ) (cells : List (Option ℕ)) (last : Option ℕ) → AreBelow n cells → ((c : ℕ) → last ≡ Some c → c < n) →
+    AreBelow n (cells ++ last ∷ [])
 below_pushed n cells last old new k c h = ⊎_elim (λ before. old k c before) (λ here. new c here) (cell_pushed k cells last c h)
 
 none_below : (n c : ℕ) → None ≡ Some c → c < n
 none_below n c h = absurd (cc)
 
-cells_pushed : (reads : List Read) (last : Read) → map (λ (r : Read). r.cell) (reads ++ last ∷ []) ≡ map (λ (r : Read). r.cell) reads ++ last.cell ∷ []
+cells_pushed : (reads : List Read) (last : Read) → map (λ (r : Read). r.cell) (reads ++ last ∷ []) ≡ map (λ (r : Read). r.cell) reads
+    ++ last.cell ∷ []
 cells_pushed [] last = refl
 cells_pushed (read ∷ reads) last = ap (λ cells. read.cell ∷ cells) (cells_pushed reads last)
 
-pub uniform_below : (code : SuperstepCode) (i : Instr) (u : UniformPart) → AreBelow (total_size code.layout) (map (λ (r : Read). r.cell) u.asks) →
+pub uniform_below : (code : SuperstepCode) (i : Instr) (u : UniformPart) → AreBelow (total_size code.layout)
+    (map (λ (r : Read). r.cell) u.asks) →
     AreBelow (total_size code.layout) (map (λ (r : Read). r.cell) (on_uniform code i u).asks)
 uniform_below code (Ask Uniform d c s q) u h =
     let n = total_size code.layout in
     subst (AreBelow n) (sym (cells_pushed u.asks _))
-    (below_pushed n (map (λ (r : Read). r.cell) u.asks) (cell_of code.layout c (u.registers s)) h (cell_below code.layout c (u.registers s)))
+    (below_pushed n (map (λ (r : Read). r.cell) u.asks) (cell_of code.layout c (u.registers s)) h
+        (cell_below code.layout c (u.registers s)))
 uniform_below code (Ask Private d c s q) u h =
     let n = total_size code.layout in
     subst (AreBelow n) (sym (cells_pushed u.asks _)) (below_pushed n (map (λ (r : Read). r.cell) u.asks) None h (none_below n))
@@ -96,10 +102,12 @@ own_below code Unmask u v x h = h
 own_below code (Ask Uniform d c s q) u v x h = let n = total_size code.layout in below_pushed n x.asks None h (none_below n)
 own_below code (Ask Private d c s q) u v x h =
     let n = total_size code.layout in
-    either (λ (y : PrivatePart). AreBelow n y.asks) (is_active x) (on_active code (Ask Private d c s q) u v x) (record x { asks = x.asks ++ None ∷ [] })
+    either (λ (y : PrivatePart). AreBelow n y.asks) (is_active x) (on_active code (Ask Private d c s q) u v x) (record x { asks =
+        x.asks ++ None ∷ [] })
     (below_pushed n x.asks (cell_for code c s x) h (cell_below code.layout c (x.registers s)))
     (below_pushed n x.asks None h (none_below n))
-own_below code i u v x h = either (λ (y : PrivatePart). AreBelow (total_size code.layout) y.asks) (is_active x) (on_active code i u v x) x h h
+own_below code i u v x h = either (λ (y : PrivatePart). AreBelow (total_size code.layout) y.asks) (is_active x) (on_active code i u v x) x h
+    h
 
 -- ---- what is awaited stays
 
@@ -108,7 +116,8 @@ uniform_awaited_stays code (Ask Uniform d c s q) u = refl
 uniform_awaited_stays code (Ask Private d c s q) u = refl
 uniform_awaited_stays code i u = refl
 
-pub own_awaited_stays : (code : SuperstepCode) (i : Instr) (u : UniformPart) (v : ℕ) (x : PrivatePart) → (on_own code i u v x).awaited ≡ x.awaited
+pub own_awaited_stays : (code : SuperstepCode) (i : Instr) (u : UniformPart) (v : ℕ) (x : PrivatePart) →
+    (on_own code i u v x).awaited ≡ x.awaited
 own_awaited_stays code (Mask s) u v x = refl
 own_awaited_stays code Flip u v x = refl
 own_awaited_stays code Unmask u v x = refl
@@ -143,7 +152,8 @@ own_write_below code (Put Private c s v q) x =
 own_write_below code (Put Uniform c s v q) x = tt
 own_write_below code i x = tt
 
-not_to : (rule : Rule) (n c : ℕ) (processor : ℤ) (write : Option (ℕ × ℤ)) → IsBelow n write → n ≤ c → single_to rule c processor write ≡ None
+not_to : (rule : Rule) (n c : ℕ) (processor : ℤ) (write : Option (ℕ × ℤ)) → IsBelow n write → n ≤ c →
+    single_to rule c processor write ≡ None
 not_to rule n c processor None h above = refl
 not_to rule n c processor (Some (d, value)) h above = let apart : eqb d c ≡ false = grind (arith, nat_tests, h, above) in rw apart refl
 

@@ -36,8 +36,11 @@ pub record Splits (t : Setting) (f : Flat) (ws : ℕ → Worker) : Type 0 where
   pub held : (c : ℕ) → total None (join t.code.rule) (λ w. entry_held t.code.rule (ws w) c) (range_with_len 0 (workers t)) ≡ f.held c
   pub key : total None least (λ w. (ws w).key) (range_with_len 0 (workers t)) ≡ f.key
   -- a module has taken what it was asked for
-  pub taken : (j w : ℕ) → j < workers t → w < workers t → slice_index_or (ws j).taken w [] ≡ map (λ (x : CellAsk). x.cell) (filter (λ (x : CellAsk). eqb (t.map.part x.cell) j) (ws w).wanted)
+  pub taken : (j w : ℕ) → j < workers t → w < workers t → slice_index_or (ws j).taken w [] ≡ map (λ (x : CellAsk). x.cell)
+      (filter (λ (x : CellAsk). eqb (t.map.part x.cell) j) (ws w).wanted)
   -- and a worker has asked for what is awaited
-  pub wants_uniform : (w : ℕ) → w < workers t → (k c : ℕ) → cell_at k (map (λ (r : Read). r.cell) f.uniform.awaited) ≡ Some c → wants k c (ws w).wanted ≡ true
-  pub wants_own : (w v : ℕ) → w < workers t → v < f.uniform.width → v % workers t ≡ w → (k c : ℕ) → k < length f.uniform.awaited → cell_at k (f.own v).awaited ≡ Some c → wants k c (ws w).wanted ≡ true
+  pub wants_uniform : (w : ℕ) → w < workers t → (k c : ℕ) → cell_at k (map (λ (r : Read). r.cell) f.uniform.awaited) ≡ Some c →
+      wants k c (ws w).wanted ≡ true
+  pub wants_own : (w v : ℕ) → w < workers t → v < f.uniform.width → v % workers t ≡ w → (k c : ℕ) → k < length f.uniform.awaited →
+      cell_at k (f.own v).awaited ≡ Some c → wants k c (ws w).wanted ≡ true
   pub ranged : IsRanged t.code f

@@ -1,5 +1,6 @@
 -- A vote and a reply of the workers are those of the flat machine.
-use Rattle.std.proofs.Common.{◌≡◌, ℕ, zero, suc, ◌+◌, ◌<◌, ◌%◌, List, [], ◌∷◌, map, length, Bool, true, false, cond, Option, Some, None, ℤ, pos, eqb, refl, sym, ap, ◌∙◌, subst, arith}
+use Rattle.std.proofs.Common.{◌≡◌, ℕ, zero, suc, ◌+◌, ◌<◌, ◌%◌, List, [], ◌∷◌, map, length, Bool, true, false, cond, Option, Some, None, ℤ}
+use Rattle.std.proofs.Common.{pos, eqb, refl, sym, ap, ◌∙◌, subst, arith}
 use Rattle.std.specs.Prelude.{if◌then◌else◌, ◌&&◌, ◌||◌, slice_index_or}
 use Rattle.std.specs.List.{filter, list_any, range_with_len, zip}
 use Rattle.pram_model.specs.Layout.{total_size}
@@ -12,7 +13,8 @@ use Rattle.superstep_machine.specs.Steps.{is_active}
 use Rattle.superstep_machine.specs.Words.{CellAsk, Message, blank}
 use Rattle.superstep_machine.specs.Worker.{Worker}
 use Rattle.superstep_machine.specs.Sending.{cell_at}
-use Rattle.superstep_machine.specs.Answering.{replied, look_up, value_came, answer, answers, destinations, uniform_answered, own_answered, voted}
+use Rattle.superstep_machine.specs.Answering.{replied, look_up, value_came, answer, answers, destinations, uniform_answered, own_answered}
+use Rattle.superstep_machine.specs.Answering.{voted}
 use Rattle.superstep_machine.specs.Answering as answering
 use Rattle.flat_machine.specs.Flat.{Flat, range, any_active}
 use Rattle.flat_machine.specs.Flat as flat
@@ -22,6 +24,7 @@ use Rattle.superstep_machine.proofs.Numbers.{same_number, with_itself}
 use Rattle.flat_machine.proofs.Lists.{all_below, map_twice, map_class, zip_map, item_at}
 use Rattle.flat_machine.proofs.Opening.{no_cell}
 use Rattle.flat_machine.proofs.Instructions.{by_workers}
+use Rattle.pram_model.proofs.Truths.{both}
 
 -- ---- whether any is active, as a sum
 
@@ -51,7 +54,8 @@ answers_same : (v w : ℕ → ℕ → ℤ) (k : ℕ) (asked : List (ℕ × Optio
 answers_same v w k [] same r = refl
 answers_same v w k ((d, cell) ∷ rest) same r =
     ap (answers v (k + 1) rest) (go cell (λ c is. let here : k + 0 ≡ k = omega arith in subst (λ n. v n c ≡ w n c) here (same 0 c is)))
-    ∙ answers_same v w (k + 1) rest (λ i c is. let on : k + suc i ≡ k + 1 + i = omega arith in subst (λ n. v n c ≡ w n c) on (same (suc i) c is))
+    ∙ answers_same v w (k + 1) rest (λ i c is. let on : k + suc i ≡ k + 1 + i = omega arith in
+        subst (λ n. v n c ≡ w n c) on (same (suc i) c is))
     (answer (w k) d cell r)
   where
     go : (o : Option ℕ) → ((c : ℕ) → o ≡ Some c → v k c ≡ w k c) → answer (v k) d o r ≡ answer (w k) d o r
@@ -72,10 +76,6 @@ as_many (read ∷ reads) = ap suc (as_many reads)
 
 -- ---- what comes for an ask
 
-passed_both : (a b : Bool) → (a && b) ≡ true → (a ≡ true) × (b ≡ true)
-passed_both true b h = (refl, h)
-passed_both false b h = absurd (cc)
-
 -- a test of the cell, which c passes, keeps what asks for it
 pub wants_filtered : (k c : ℕ) (test : ℕ → Bool) → test c ≡ true → (asks : List CellAsk) →
     wants k c (filter (λ (x : CellAsk). test x.cell) asks) ≡ wants k c asks
@@ -88,19 +88,20 @@ wants_filtered k c test h (x ∷ asks) = go (wants_filtered k c test h asks) (te
         ≡ ((eqb x.read k && eqb x.cell c) || wants k c asks)
     go rest true e a is = ap (λ z. (eqb x.read k && eqb x.cell c) || z) rest
     go rest false e true is =
-        absurd (let same = same_number x.cell c ((passed_both (eqb x.read k) (eqb x.cell c) is).1) in let no : true ≡ false = sym h ∙ ap test
+        absurd (let same = same_number x.cell c ((both (eqb x.read k) (eqb x.cell c) is).1) in let no : true ≡ false = sym h ∙ ap test
         (sym same) ∙ e in cc)
     go rest false e false is = rest ∙ ap (λ z. z || wants k c asks) (sym is)
 
 -- a value of each ask by its cell
-found : (k c : ℕ) (value : ℕ → ℤ) (asks : List CellAsk) → wants k c asks ≡ true → look_up k c (map (λ (x : CellAsk). (x, value x.cell)) asks) ≡ value c
+found : (k c : ℕ) (value : ℕ → ℤ) (asks : List CellAsk) → wants k c asks ≡ true →
+    look_up k c (map (λ (x : CellAsk). (x, value x.cell)) asks) ≡ value c
 found k c value [] h = absurd (cc)
 found k c value (x ∷ asks) h = go (eqb x.read k && eqb x.cell c) refl h (found k c value asks)
   where
     go : (a : Bool) → (eqb x.read k && eqb x.cell c) ≡ a → (a || wants k c asks) ≡ true →
         (wants k c asks ≡ true → look_up k c (map (λ (y : CellAsk). (y, value y.cell)) asks) ≡ value c) →
         (if a then value x.cell else look_up k c (map (λ (y : CellAsk). (y, value y.cell)) asks)) ≡ value c
-    go true is w rest = ap value (same_number x.cell c ((passed_both (eqb x.read k) (eqb x.cell c) is).1))
+    go true is w rest = ap value (same_number x.cell c ((both (eqb x.read k) (eqb x.cell c) is).1))
     go false is w rest = rest w
 
 module _ (t : Setting) (fits : IsMapFor t.code t.map) where
@@ -109,7 +110,8 @@ module _ (t : Setting) (fits : IsMapFor t.code t.map) where
 
   -- ---- a vote
 
-  any_voted : (f : Flat) (ws : ℕ → Worker) → Splits t f ws → list_any (λ (m : Message). m.active) (map (λ i. voted (ws i)) all) ≡ any_active f
+  any_voted : (f : Flat) (ws : ℕ → Worker) → Splits t f ws → list_any (λ (m : Message). m.active)
+      (map (λ i. voted (ws i)) all) ≡ any_active f
   any_voted f ws s =
       let active = λ (v : ℕ). is_active (f.own v) in
       let own = λ (w : ℕ). total false ◌||◌ active (processors t w f.uniform.width) in
@@ -136,7 +138,8 @@ module _ (t : Setting) (fits : IsMapFor t.code t.map) where
     taken = s.taken;
     wants_uniform = s.wants_uniform;
     wants_own = s.wants_own;
-    ranged = let r = s.ranged in record { own = r.own; own_awaited = r.own_awaited; uniform = r.uniform; uniform_awaited = r.uniform_awaited; sides = r.sides; held = r.held; level = r.level };
+    ranged = let r = s.ranged in record { own = r.own; own_awaited = r.own_awaited; uniform = r.uniform; uniform_awaited =
+        r.uniform_awaited; sides = r.sides; held = r.held; level = r.level };
   }
 
   -- ---- a reply
@@ -156,7 +159,8 @@ module _ (t : Setting) (fits : IsMapFor t.code t.map) where
       ∙ ap f.memory (fits.lawful.back c below)
 
   -- what worker w gets for a cell that it wanted
-  value_is : (f : Flat) (ws : ℕ → Worker) → Splits t f ws → (w k c : ℕ) → w < workers t → c < total_size t.code.layout → wants k c (ws w).wanted ≡ true →
+  value_is : (f : Flat) (ws : ℕ → Worker) → Splits t f ws → (w k c : ℕ) → w < workers t → c < total_size t.code.layout →
+      wants k c (ws w).wanted ≡ true →
       came ws w k c ≡ f.memory c
   value_is f ws s w k c w_below c_below wanted =
       let below : c < t.map.count = let room = fits.room in omega (arith, c_below, room) in
@@ -209,7 +213,8 @@ module _ (t : Setting) (fits : IsMapFor t.code t.map) where
       ap (λ (u : UniformPart). map (own_answered (came ws w) u.awaited) (ws w).own) (s.uniform w h)
       ∙ ap (map answered) (s.own w h)
       ∙ map_twice answered f.own vs
-      ∙ map_class (λ v. answered (f.own v)) (λ v. own_answered (now f) f.uniform.awaited (f.own v)) (λ v. v % workers t) w (range_with_len 0 f.uniform.width)
+      ∙ map_class (λ v. answered (f.own v)) (λ v. own_answered (now f) f.uniform.awaited (f.own v)) (λ v. v % workers t) w
+          (range_with_len 0 f.uniform.width)
       (all_below (λ v. v % workers t ≡ w → answered (f.own v) ≡ own_answered (now f) f.uniform.awaited (f.own v)) f.uniform.width 0
       (λ v l here. own_same f ws s w v h (omega (arith, l)) here))
 

@@ -10,7 +10,9 @@ use Rattle.superstep_machine.specs.Setting.{Setting, workers, all_cells}
 use Rattle.superstep_machine.specs.Parts.{UniformPart}
 use Rattle.superstep_machine.specs.Words.{Message}
 use Rattle.superstep_machine.specs.Machine.{phase, phases, column, run}
-use Rattle.superstep_machine.specs.Run.{Purpose, Sends, Replies, Votes, Closes, Way, State, Ready, ready, message_for, message_of, key_of, decided, mark_now, marks_later, message_with, after_with, after_exchange, after, is_over, verdict_by, state_of, cell_in, no_state, outcome_of, bsp, opening}
+use Rattle.superstep_machine.specs.Run.{Purpose, Sends, Replies, Votes, Closes, Way, State, Ready, ready, message_for, message_of, key_of}
+use Rattle.superstep_machine.specs.Run.{decided, mark_now, marks_later, message_with, after_with, after_exchange, after, is_over}
+use Rattle.superstep_machine.specs.Run.{verdict_by, state_of, cell_in, no_state, outcome_of, bsp, opening}
 use Rattle.superstep_machine.specs.Trace.{Exchange, exchange_of, exchanges_from}
 use Rattle.superstep_machine.proofs.Refused.{map_within, for_clear}
 use Rattle.flat_machine.specs.ByExchanges as flat_run
@@ -36,7 +38,8 @@ module _ (t : Setting) (room : IsMapFor t.code t.map) where
     keys_are : (w : ℕ) → key_of (column_to w) ≡ r.state.flat.key
     keys_are w =
         total_map None least (λ (m : Message). m.key) (λ i. message_for t r.purpose (rs i).state.worker w) (numbers t)
-        ∙ total_same None least (λ i. (message_for t r.purpose (rs i).state.worker w).key) (λ i. (rs i).state.worker.key) (λ i. own_key t r.purpose (rs i).state.worker w) (numbers t)
+        ∙ total_same None least (λ i. (message_for t r.purpose (rs i).state.worker w).key) (λ i. (rs i).state.worker.key)
+            (λ i. own_key t r.purpose (rs i).state.worker w) (numbers t)
         ∙ h.states.splits.key
 
     -- what a worker comes to
@@ -68,7 +71,8 @@ module _ (t : Setting) (room : IsMapFor t.code t.map) where
           refusals = marks_later (rs w).state.refusals;
         }
 
-    exchange_splits : (p : Purpose) → Splits t (flat_run.after_exchange t.code p r.state.flat) (λ w. after_exchange t w p (rs w).state.worker (map (λ i. message_for t p (rs i).state.worker w) (numbers t)))
+    exchange_splits : (p : Purpose) → Splits t (flat_run.after_exchange t.code p r.state.flat)
+        (λ w. after_exchange t w p (rs w).state.worker (map (λ i. message_for t p (rs i).state.worker w) (numbers t)))
     exchange_splits Sends = splits_send t room r.state.flat (λ w. (rs w).state.worker) h.states.splits
     exchange_splits Replies = splits_reply t room r.state.flat (λ w. (rs w).state.worker) h.states.splits
     exchange_splits (Votes d) = splits_vote t room d r.state.flat (λ w. (rs w).state.worker) h.states.splits
@@ -90,19 +94,23 @@ module _ (t : Setting) (room : IsMapFor t.code t.map) where
     at = readies t room s ws a
 
     -- the messages are those of one kind of exchange
-    message_is : (i w : ℕ) → i < workers t → message_of t i (ws i) w ≡ message_for t (flat_run.ready (plan t) s).purpose (ready t i (ws i)).state.worker w
+    message_is : (i w : ℕ) → i < workers t →
+        message_of t i (ws i) w ≡ message_for t (flat_run.ready (plan t) s).purpose (ready t i (ws i)).state.worker w
     message_is i w l =
         ap (λ marks. message_with t (ready t i (ws i)) w (mark_now marks)) (a.unrefused i l)
         ∙ ap (λ p. message_for t p (ready t i (ws i)).state.worker w) (at.purpose i l)
 
-    column_is : (w : ℕ) → column (bsp t) (workers t) ws w ≡ map (λ i. message_for t (flat_run.ready (plan t) s).purpose (ready t i (ws i)).state.worker w) (numbers t)
+    column_is : (w : ℕ) → column (bsp t)
+        (workers t) ws w ≡ map (λ i. message_for t (flat_run.ready (plan t) s).purpose (ready t i (ws i)).state.worker w) (numbers t)
     column_is w =
-        map_within (λ i. message_of t i (ws i) w) (λ i. message_for t (flat_run.ready (plan t) s).purpose (ready t i (ws i)).state.worker w) (workers t) 0
+        map_within (λ i. message_of t i (ws i) w) (λ i. message_for t (flat_run.ready (plan t) s).purpose (ready t i (ws i)).state.worker w)
+            (workers t) 0
         (λ i l. message_is i w (let k : i < workers t = omega (arith, l) in k))
 
     pub phase_agrees : Agree t room (flat_run.next (plan t) s) (phase (bsp t) (workers t) ws)
     phase_agrees =
-        agree_same (flat_run.next (plan t) s) (came_to (flat_run.ready (plan t) s) (λ w. ready t w (ws w)) at) (phase (bsp t) (workers t) ws)
+        agree_same (flat_run.next (plan t) s) (came_to (flat_run.ready (plan t) s) (λ w. ready t w (ws w)) at)
+            (phase (bsp t) (workers t) ws)
         (λ w l. sym (ap (after t w (ready t w (ws w))) (column_is w) ∙ after_is (flat_run.ready (plan t) s) (λ v. ready t v (ws v)) at w l))
         (exchanged (flat_run.ready (plan t) s) (λ w. ready t w (ws w)) at)
 
@@ -118,38 +126,52 @@ module _ (t : Setting) (room : IsMapFor t.code t.map) where
         let below = room.lawful.part_below c k in
         ap (λ (x : State). slice_index_or x.worker.cells (t.map.offset c) (pos 0)) (state_is j below)
         ∙ ap (λ (xs : List ℤ). slice_index_or xs (t.map.offset c) (pos 0)) (a.splits.cells j below)
-        ∙ ap (λ (xs : List ℤ). slice_index_or xs (t.map.offset c) (pos 0)) (map_twice s.flat.memory (t.map.cell j) (range_with_len 0 (t.map.width j)))
-        ∙ get_or-map-range_with_len (λ o. s.flat.memory (t.map.cell j o)) 0 (t.map.width j) (t.map.offset c) (t.map.offset c) (pos 0) (room.lawful.offset_below c k) (omega arith)
+        ∙ ap (λ (xs : List ℤ). slice_index_or xs (t.map.offset c) (pos 0))
+            (map_twice s.flat.memory (t.map.cell j) (range_with_len 0 (t.map.width j)))
+        ∙ get_or-map-range_with_len (λ o. s.flat.memory (t.map.cell j o)) 0 (t.map.width j) (t.map.offset c) (t.map.offset c) (pos 0)
+            (room.lawful.offset_below c k) (omega arith)
         ∙ ap s.flat.memory (room.lawful.back c k)
 
     pub outcome_is : outcome_of t (map ws (numbers t)) ≡ flat_run.outcome_of t.code s
     outcome_is =
         ap (λ (x : State). verdict_by x.way x.worker.uniform.output (map (cell_in t (map ws (numbers t))) (all_cells t))) (state_is 0 first)
-        ∙ ap (λ (way : Way). verdict_by way (ws 0).worker.uniform.output (map (cell_in t (map ws (numbers t))) (all_cells t))) (a.way 0 first)
-        ∙ ap (λ (u : UniformPart). verdict_by s.way u.output (map (cell_in t (map ws (numbers t))) (all_cells t))) (a.splits.uniform 0 first)
-        ∙ ap (verdict_by s.way s.flat.uniform.output) (map_within (cell_in t (map ws (numbers t))) s.flat.memory (total_size t.code.layout) 0 (λ c l. cell_is c (let k : c < total_size t.code.layout = omega (arith, l) in k)))
+        ∙ ap (λ (way : Way). verdict_by way (ws 0).worker.uniform.output (map (cell_in t (map ws (numbers t))) (all_cells t)))
+            (a.way 0 first)
+        ∙ ap (λ (u : UniformPart). verdict_by s.way u.output (map (cell_in t (map ws (numbers t))) (all_cells t)))
+            (a.splits.uniform 0 first)
+        ∙ ap (verdict_by s.way s.flat.uniform.output) (map_within (cell_in t (map ws (numbers t))) s.flat.memory (total_size t.code.layout)
+            0 (λ c l. cell_is c (let k : c < total_size t.code.layout = omega (arith, l) in k)))
 
   -- ---- whole runs
 
-  pub run_same : (n : ℕ) (s : flat_run.State) (ws : ℕ → State) → Agree t room s ws → run (bsp t) (workers t) n ws ≡ flat_run.run (plan t) n s
+  pub run_same : (n : ℕ) (s : flat_run.State) (ws : ℕ → State) → Agree t room s ws →
+      run (bsp t) (workers t) n ws ≡ flat_run.run (plan t) n s
   run_same zero s ws a = refl
   run_same (suc n) s ws a =
-      ap (λ (way : Way). if is_over way then Some (outcome_of t (map ws (numbers t))) else run (bsp t) (workers t) n (phase (bsp t) (workers t) ws)) (a.way 0 first)
+      ap (λ (way : Way). if is_over way then Some (outcome_of t (map ws (numbers t))) else run (bsp t) (workers t) n
+          (phase (bsp t) (workers t) ws)) (a.way 0 first)
       ∙ ap (λ o. if is_over s.way then Some o else run (bsp t) (workers t) n (phase (bsp t) (workers t) ws)) (outcome_is s ws a)
-      ∙ ap (λ o. if is_over s.way then Some (flat_run.outcome_of t.code s) else o) (run_same n (flat_run.next (plan t) s) (phase (bsp t) (workers t) ws) (phase_agrees s ws a))
+      ∙ ap (λ o. if is_over s.way then Some (flat_run.outcome_of t.code s) else o)
+          (run_same n (flat_run.next (plan t) s) (phase (bsp t) (workers t) ws) (phase_agrees s ws a))
 
-  pub purposes_same : (n : ℕ) (s : flat_run.State) (ws : ℕ → State) → Agree t room s ws → map (λ (e : Exchange). e.purpose) (exchanges_from t n ws) ≡ flat_run.purposes_from (plan t) n s
+  pub purposes_same : (n : ℕ) (s : flat_run.State) (ws : ℕ → State) → Agree t room s ws → map (λ (e : Exchange). e.purpose)
+      (exchanges_from t n ws) ≡ flat_run.purposes_from (plan t) n s
   purposes_same zero s ws a = refl
   purposes_same (suc n) s ws a =
-      ap (λ (way : Way). map (λ (e : Exchange). e.purpose) (if is_over way then [] else exchange_of t ws ∷ exchanges_from t n (phase (bsp t) (workers t) ws))) (a.way 0 first)
+      ap (λ (way : Way). map (λ (e : Exchange). e.purpose) (if is_over way then [] else exchange_of t ws
+          ∷ exchanges_from t n (phase (bsp t) (workers t) ws))) (a.way 0 first)
       ∙ go (is_over s.way) (purposes_same n (flat_run.next (plan t) s) (phase (bsp t) (workers t) ws) (phase_agrees s ws a))
     where
-      go : (b : Bool) → map (λ (e : Exchange). e.purpose) (exchanges_from t n (phase (bsp t) (workers t) ws)) ≡ flat_run.purposes_from (plan t) n (flat_run.next (plan t) s) →
-          map (λ (e : Exchange). e.purpose) (if b then [] else exchange_of t ws ∷ exchanges_from t n (phase (bsp t) (workers t) ws)) ≡ (if b then [] else (flat_run.ready (plan t) s).purpose ∷ flat_run.purposes_from (plan t) n (flat_run.next (plan t) s))
+      go : (b : Bool) → map (λ (e : Exchange). e.purpose)
+          (exchanges_from t n (phase (bsp t) (workers t) ws)) ≡ flat_run.purposes_from (plan t) n (flat_run.next (plan t) s) →
+          map (λ (e : Exchange). e.purpose) (if b then [] else exchange_of t ws
+              ∷ exchanges_from t n (phase (bsp t) (workers t) ws)) ≡ (if b then [] else (flat_run.ready (plan t) s).purpose
+              ∷ flat_run.purposes_from (plan t) n (flat_run.next (plan t) s))
       go true rest = refl
       go false rest = (λ i. ((at s ws a).purpose 0 first i) ∷ rest i)
 
-  pub phases_agree : (n : ℕ) (s : flat_run.State) (ws : ℕ → State) → Agree t room s ws → (x : flat_run.State) × Agree t room x (phases (bsp t) (workers t) n ws)
+  pub phases_agree : (n : ℕ) (s : flat_run.State) (ws : ℕ → State) → Agree t room s ws →
+      (x : flat_run.State) × Agree t room x (phases (bsp t) (workers t) n ws)
   phases_agree zero s ws a = (s, a)
   phases_agree (suc n) s ws a = phases_agree n (flat_run.next (plan t) s) (phase (bsp t) (workers t) ws) (phase_agrees s ws a)
 

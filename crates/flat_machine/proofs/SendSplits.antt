@@ -10,7 +10,8 @@ use Rattle.superstep_machine.specs.Setting.{Setting, workers, processors, module
 use Rattle.superstep_machine.specs.Parts.{Read, UniformPart}
 use Rattle.superstep_machine.specs.Words.{CellAsk, Message}
 use Rattle.superstep_machine.specs.Worker.{Worker}
-use Rattle.superstep_machine.specs.Sending.{join, is_several, sent, entry_came, verdict_on, put_conflict, askers_came, is_private, read_conflicts, conflicts, uniform_sent, own_sent}
+use Rattle.superstep_machine.specs.Sending.{join, is_several, sent, entry_came, verdict_on, put_conflict, askers_came, is_private}
+use Rattle.superstep_machine.specs.Sending.{read_conflicts, conflicts, uniform_sent, own_sent}
 use Rattle.superstep_machine.specs.Sending as sending
 use Rattle.superstep_machine.proofs.KeyOrder.{keys_are_monoid}
 use Rattle.superstep_machine.proofs.Collected.{entries_are_monoid}
@@ -21,7 +22,8 @@ use Rattle.superstep_machine.specs.Sides.{IsBySide, AreBySide}
 use Rattle.flat_machine.proofs.Relation.{Splits}
 use Rattle.flat_machine.proofs.Lists.{map_twice, item_at}
 use Rattle.flat_machine.proofs.Opening.{no_cell}
-use Rattle.flat_machine.proofs.Sends.{Finds, column, cells_sent, owed_by_modules, askers_are, reads_by_modules, wants_uniform_sent, wants_own_sent}
+use Rattle.flat_machine.proofs.Sends.{Finds, column, cells_sent, owed_by_modules, askers_are, reads_by_modules, wants_uniform_sent}
+use Rattle.flat_machine.proofs.Sends.{wants_own_sent}
 
 by_side_at : (reads : List Read) (i : ℕ) (read : Read) → AreBySide reads → slice_get reads i ≡ Some read → IsBySide read
 by_side_at [] i read h is = absurd (cc)
@@ -51,12 +53,16 @@ module _ (t : Setting) (fits : IsMapFor t.code t.map) where
   reads_found f ws s false = reads_by_modules t fits f ws s f.uniform.asks 0 (finds f ws s)
 
   key_sent : (f : Flat) (ws : ℕ → Worker) → Splits t f ws →
-      total None least (λ w. least (ws w).key (conflicts t w (ws w).uniform (column t fits ws w))) all ≡ least f.key (flat.conflicts t.code f)
+      total None least (λ w. least (ws w).key (conflicts t w (ws w).uniform (column t fits ws w))) all ≡ least f.key
+          (flat.conflicts t.code f)
   key_sent f ws s =
-      let puts = λ (w : ℕ). total None least (λ c. put_conflict f.uniform.put c (verdict_on t.code.rule (entry_came t.code.rule (column t fits ws w) c)))
+      let puts = λ (w : ℕ). total None least
+          (λ c. put_conflict f.uniform.put c (verdict_on t.code.rule (entry_came t.code.rule (column t fits ws w) c)))
       (module_cells t w) in
-      let reads = λ (w : ℕ). if shares_reads t.code.rule then None else read_conflicts (column t fits ws w) (module_cells t w) 0 f.uniform.asks in
-      total_within None least (λ w. least (ws w).key (conflicts t w (ws w).uniform (column t fits ws w))) (λ w. least (ws w).key (least (puts w) (reads w)))
+      let reads = λ (w : ℕ). if shares_reads t.code.rule then None else read_conflicts (column t fits ws w) (module_cells t w) 0
+          f.uniform.asks in
+      total_within None least (λ w. least (ws w).key (conflicts t w (ws w).uniform (column t fits ws w)))
+          (λ w. least (ws w).key (least (puts w) (reads w)))
       (workers t) 0
       (λ w h. ap (λ (u : UniformPart). least (ws w).key (conflicts t w u (column t fits ws w))) (s.uniform w (omega (arith, h))))
       ∙ total_both None least keys_are_monoid (λ w. (ws w).key) (λ w. least (puts w) (reads w)) all

@@ -1,5 +1,6 @@
 -- What a send of the workers does is what that of the flat machine does.
-use Rattle.std.proofs.Common.{◌≡◌, ℕ, zero, suc, ◌+◌, ◌<◌, ◌≤◌, ◌%◌, List, [], ◌∷◌, map, length, Bool, true, false, cond, Option, Some, None, ℤ, eqb, refl, sym, ap, ◌∙◌, subst, arith}
+use Rattle.std.proofs.Common.{◌≡◌, ℕ, zero, suc, ◌+◌, ◌<◌, ◌≤◌, ◌%◌, List, [], ◌∷◌, map, length, Bool, true, false, cond, Option, Some}
+use Rattle.std.proofs.Common.{None, ℤ, eqb, refl, sym, ap, ◌∙◌, subst, arith}
 use Rattle.std.specs.Prelude.{if◌then◌else◌, ◌&&◌, ◌||◌, slice_get}
 use Rattle.std.specs.List.{filter, cons_option, range_with_len, zip}
 use Rattle.std.proofs.lemmas.Bool.Decides.{nat_tests}
@@ -13,7 +14,9 @@ use Rattle.superstep_machine.specs.Setting.{Setting, workers, processors, module
 use Rattle.superstep_machine.specs.Parts.{Moment, Read, UniformPart, PrivatePart}
 use Rattle.superstep_machine.specs.Words.{CellAsk, Message}
 use Rattle.superstep_machine.specs.Worker.{Worker}
-use Rattle.superstep_machine.specs.Sending.{join, cell_at, present, several, asks_for, is_several, asks_from, asks_held, sent, entry_in, entry_came, entry_held, verdict_on, settled, conflict_at, put_conflict, asked_in, askers_came, is_private, read_conflict, read_conflicts}
+use Rattle.superstep_machine.specs.Sending.{join, cell_at, present, several, asks_for, is_several, asks_from, asks_held, sent, entry_in}
+use Rattle.superstep_machine.specs.Sending.{entry_came, entry_held, verdict_on, settled, conflict_at, put_conflict, asked_in, askers_came}
+use Rattle.superstep_machine.specs.Sending.{is_private, read_conflict, read_conflicts}
 use Rattle.superstep_machine.specs.Sending as sending
 use Rattle.superstep_machine.proofs.KeyOrder.{keys_are_monoid}
 use Rattle.superstep_machine.proofs.Collected.{askers_are_monoid}
@@ -46,14 +49,16 @@ has_first c o xs is = ap (λ (x : Option ℕ). has c (cons_option x xs)) is ∙ 
 has_own : (cell : ℕ → Option ℕ) (class : ℕ → ℕ) (c w v : ℕ) → class v ≡ w → cell v ≡ Some c → (n k : ℕ) → k ≤ v → v < k + n →
     has c (present (map cell (in_class class w (range_with_len k n)))) ≡ true
 has_own cell class c w v here is zero k low high = absurd (omega (arith, low, high))
-has_own cell class c w v here is (suc n) k low high = go (λ above. has_own cell class c w v here is n (k + 1) above (omega (arith, high))) (eqb k v) refl
+has_own cell class c w v here is (suc n) k low high =
+    go (λ above. has_own cell class c w v here is n (k + 1) above (omega (arith, high))) (eqb k v) refl
   where
     others : List ℕ
     others = in_class class w (range_with_len (k + 1) n)
 
     first : (b : Bool) → eqb k v ≡ true → eqb (class k) w ≡ b → has c (present (map cell (cond b (k ∷ others) others))) ≡ true
     first true at e = has_first c (cell k) (present (map cell others)) (ap cell (same_number k v at) ∙ is)
-    first false at e = let no : true ≡ false = sym (with_itself w) ∙ ap (λ j. eqb j w) (sym here ∙ ap class (sym (same_number k v at))) ∙ e in absurd (cc)
+    first false at e = let no : true ≡ false = sym (with_itself w) ∙ ap (λ j. eqb j w) (sym here ∙ ap class (sym (same_number k v at)))
+        ∙ e in absurd (cc)
 
     later : (b : Bool) → has c (present (map cell others)) ≡ true → has c (present (map cell (cond b (k ∷ others) others))) ≡ true
     later true h = has_behind c (cell k) (present (map cell others)) h
@@ -83,7 +88,8 @@ not_both false = refl
 
 not_asked : (n c : ℕ) (o : Option ℕ) → ((d : ℕ) → o ≡ Some d → d < n) → n ≤ c → asks_for c o ≡ None
 not_asked n c None h above = refl
-not_asked n c (Some d) h above = let below = h d refl in let apart : eqb d c ≡ false = grind (arith, nat_tests, below, above) in rw apart refl
+not_asked n c (Some d) h above = let below = h d refl in let apart : eqb d c ≡ false = grind (arith, nat_tests, below, above) in
+    rw apart refl
 
 module _ (t : Setting) (fits : IsMapFor t.code t.map) where
   abbrev all : List ℕ
@@ -98,7 +104,8 @@ module _ (t : Setting) (fits : IsMapFor t.code t.map) where
 
   -- ---- the puts
 
-  pub entries_came : (f : Flat) (ws : ℕ → Worker) → Splits t f ws → (w c : ℕ) → t.map.part c ≡ w → entry_came t.code.rule (column ws w) c ≡ f.held c
+  pub entries_came : (f : Flat) (ws : ℕ → Worker) → Splits t f ws → (w c : ℕ) → t.map.part c ≡ w →
+      entry_came t.code.rule (column ws w) c ≡ f.held c
   entries_came f ws s w c here =
       let rule = t.code.rule in
       total_map None (join rule) (λ (m : Message). total None (join rule) (entry_in c) m.puts) (λ i. sent t (ws i) w) all
@@ -119,23 +126,27 @@ module _ (t : Setting) (fits : IsMapFor t.code t.map) where
       ∙ map_twice step (λ o. (o, old o)) offsets
       ∙ map_each (λ o. step (o, old o)) (λ o. next (t.map.cell w o)) offsets
       (all_below (λ o. step (o, old o) ≡ next (t.map.cell w o)) (t.map.width w) 0
-      (λ o l. ap (λ e. settled (verdict_on rule e) (old o)) (entries_came f ws s w (t.map.cell w o) (fits.lawful.forth w o w_below (omega (arith, l))).here)))
+      (λ o l. ap (λ e. settled (verdict_on rule e) (old o))
+          (entries_came f ws s w (t.map.cell w o) (fits.lawful.forth w o w_below (omega (arith, l))).here)))
       ∙ sym (map_twice next (t.map.cell w) offsets)
 
   -- the conflicts of what was held
   pub owed_by_modules : (f : Flat) (ws : ℕ → Worker) → Splits t f ws →
-      total None least (λ w. total None least (λ c. put_conflict f.uniform.put c (verdict_on t.code.rule (entry_came t.code.rule (column ws w) c)))
+      total None least (λ w. total None least
+          (λ c. put_conflict f.uniform.put c (verdict_on t.code.rule (entry_came t.code.rule (column ws w) c)))
       (module_cells t w)) all ≡ flat.owed t.code f
   owed_by_modules f ws s =
       let conflict = λ (c : ℕ) (e : Option Entry). put_conflict f.uniform.put c (verdict_on t.code.rule e) in
-      of_modules_each t fits None least keys_are_monoid (λ c. conflict c (f.held c)) (λ w c. conflict c (entry_came t.code.rule (column ws w) c))
+      of_modules_each t fits None least keys_are_monoid (λ c. conflict c (f.held c))
+          (λ w c. conflict c (entry_came t.code.rule (column ws w) c))
       (λ w c below here. ap (conflict c) (entries_came f ws s w c here))
       (λ c above. ap (conflict c) (s.ranged.held c above) ∙ no_put f.uniform.put c)
 
   -- ---- the asks
 
   -- by a read without a cell of its own
-  pub askers_are : (f : Flat) (ws : ℕ → Worker) → Splits t f ws → (w k c : ℕ) (read : Read) → t.map.part c ≡ w → slice_get f.uniform.asks k ≡ Some read →
+  pub askers_are : (f : Flat) (ws : ℕ → Worker) → Splits t f ws → (w k c : ℕ) (read : Read) → t.map.part c ≡ w →
+      slice_get f.uniform.asks k ≡ Some read →
       read.cell ≡ None →
       askers_came (column ws w) k c ≡ flat.askers f k c
   askers_are f ws s w k c read here is own =
@@ -146,8 +157,10 @@ module _ (t : Setting) (fits : IsMapFor t.code t.map) where
       ∙ total_within None several (λ i. total None several (asked_in k c) (sent t (ws i) w).asks)
       (λ i. total None several asked (processors t i f.uniform.width)) (workers t) 0
       (λ i l. let below : i < workers t = omega (arith, l) in
-      ap (λ (u : UniformPart). total None several (asked_in k c) (filter (λ (x : CellAsk). test x.cell) (asks_from (ws i) 0 u.asks))) (s.uniform i below)
-      ∙ subst (λ n. total None several (asked_in n c) (filter (λ (x : CellAsk). test x.cell) (asks_from (ws i) 0 f.uniform.asks)) ≡ askers_of
+      ap (λ (u : UniformPart). total None several (asked_in k c) (filter (λ (x : CellAsk). test x.cell) (asks_from (ws i) 0 u.asks)))
+          (s.uniform i below)
+      ∙ subst (λ n. total None several (asked_in n c)
+          (filter (λ (x : CellAsk). test x.cell) (asks_from (ws i) 0 f.uniform.asks)) ≡ askers_of
       (ws i) n c) start
       (asks_message (ws i) f.uniform.asks 0 k c read test (in_it c w here) is own)
       ∙ ap (total None several (λ (x : PrivatePart). asks_for c (cell_at k x.asks))) (s.own i below)
@@ -162,7 +175,8 @@ module _ (t : Setting) (fits : IsMapFor t.code t.map) where
   -- whether module w finds as many askers by such reads as there are
   abbrev pub Finds : Flat → (ℕ → Worker) → ℕ → List Read → Type 0
   Finds f ws n reads = (i : ℕ) (read : Read) → slice_get reads i ≡ Some read → (w c : ℕ) → w < workers t → t.map.part c ≡ w →
-      (is_private read.side && is_several (askers_came (column ws w) (n + i) c)) ≡ (is_private read.side && is_several (flat.askers f (n + i) c))
+      (is_private read.side && is_several (askers_came (column ws w) (n + i) c)) ≡ (is_private read.side
+          && is_several (flat.askers f (n + i) c))
 
   pub reads_by_modules : (f : Flat) (ws : ℕ → Worker) → Splits t f ws → (reads : List Read) (n : ℕ) → Finds f ws n reads →
       total None least (λ w. read_conflicts (column ws w) (module_cells t w) n reads) all ≡ flat.read_conflicts t.code f n reads
@@ -178,12 +192,15 @@ module _ (t : Setting) (fits : IsMapFor t.code t.map) where
       ∙ ap (λ k. least k (total None least others all))
       (of_modules_each t fits None least keys_are_monoid (λ c. key c (found c)) (λ w c. key c (came w c))
       (λ w c below at. ap (key c)
-      (subst (λ k. (is_private read.side && is_several (askers_came (column ws w) k c)) ≡ (is_private read.side && is_several (flat.askers f k c))) here
+      (subst (λ k. (is_private read.side && is_several (askers_came (column ws w) k c)) ≡ (is_private read.side
+          && is_several (flat.askers f k c))) here
       (finds 0 read refl w c below at)))
-      (λ c above. ap (key c) (ap (λ o. is_private read.side && is_several o) (none_ask f ws s n c above) ∙ not_both (is_private read.side))))
+      (λ c above. ap (key c) (ap (λ o. is_private read.side && is_several o) (none_ask f ws s n c above)
+          ∙ not_both (is_private read.side))))
       ∙ ap (least (flat.read_conflict t.code f n read))
       (reads_by_modules f ws s rest (n + 1) (λ i r is w c below at. let on : n + suc i ≡ n + 1 + i = omega arith in
-      subst (λ k. (is_private r.side && is_several (askers_came (column ws w) k c)) ≡ (is_private r.side && is_several (flat.askers f k c))) on
+      subst (λ k. (is_private r.side && is_several (askers_came (column ws w) k c)) ≡ (is_private r.side && is_several (flat.askers f k c)))
+          on
       (finds (suc i) r is w c below at)))
 
   -- ---- what a worker awaits it has asked for
@@ -199,7 +216,8 @@ module _ (t : Setting) (fits : IsMapFor t.code t.map) where
       ∙ subst (λ n. wants n c (asks_from (ws w) 0 f.uniform.asks) ≡ true) start
       (wants_asked (ws w) f.uniform.asks 0 k c there.0 (λ read at. has_first c read.cell (own (0 + k)) (there.1 read at)))
 
-  pub wants_own_sent : (f : Flat) (ws : ℕ → Worker) → Splits t f ws → (w v : ℕ) → w < workers t → v < f.uniform.width → v % workers t ≡ w → (k c : ℕ) →
+  pub wants_own_sent : (f : Flat) (ws : ℕ → Worker) → Splits t f ws → (w v : ℕ) → w < workers t → v < f.uniform.width → v % workers t ≡ w →
+      (k c : ℕ) →
       k < length f.uniform.asks →
       cell_at k (f.own v).asks ≡ Some c → wants k c (asks_held (ws w)) ≡ true
   wants_own_sent f ws s w v w_below v_below here k c few is =
@@ -207,8 +225,11 @@ module _ (t : Setting) (fits : IsMapFor t.code t.map) where
       let own = λ (n : ℕ). present (map (λ (x : PrivatePart). cell_at n x.asks) (ws w).own) in
       let listed : has c (own k) ≡ true =
       ap (λ (xs : List PrivatePart). has c (present (map (λ (x : PrivatePart). cell_at k x.asks) xs))) (s.own w w_below)
-      ∙ ap (λ (cells : List (Option ℕ)). has c (present cells)) (map_twice (λ (x : PrivatePart). cell_at k x.asks) f.own (processors t w f.uniform.width))
-      ∙ has_own (λ u. cell_at k (f.own u).asks) (λ u. u % workers t) c w v here is f.uniform.width 0 (omega arith) (omega (arith, v_below)) in
+      ∙ ap (λ (cells : List (Option ℕ)). has c (present cells))
+          (map_twice (λ (x : PrivatePart). cell_at k x.asks) f.own (processors t w f.uniform.width))
+      ∙ has_own (λ u. cell_at k (f.own u).asks) (λ u. u % workers t) c w v here is f.uniform.width 0 (omega arith)
+          (omega (arith, v_below)) in
       ap (λ (u : UniformPart). wants k c (asks_from (ws w) 0 u.asks)) (s.uniform w w_below)
       ∙ subst (λ n. wants n c (asks_from (ws w) 0 f.uniform.asks) ≡ true) start
-      (wants_asked (ws w) f.uniform.asks 0 k c few (λ read at. has_behind c read.cell (own (0 + k)) (subst (λ n. has c (own n) ≡ true) (sym start) listed)))
+      (wants_asked (ws w) f.uniform.asks 0 k c few
+          (λ read at. has_behind c read.cell (own (0 + k)) (subst (λ n. has c (own n) ≡ true) (sym start) listed)))

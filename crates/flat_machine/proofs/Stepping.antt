@@ -1,5 +1,6 @@
 -- The run of the flat machine by instructions: steps add up, a run that is over stays so, and so it has one outcome.
-use Rattle.std.proofs.Common.{◌≡◌, ℕ, zero, suc, ◌+◌, ◌-◌, ◌≤◌, List, Bool, true, false, Option, Some, None, ℤ, refl, sym, ap, ◌∙◌, arith, ⊎_elim}
+use Rattle.std.proofs.Common.{◌≡◌, ℕ, zero, suc, ◌+◌, ◌-◌, ◌≤◌, List, Bool, true, false, Option, Some, None, ℤ, refl, sym, ap, ◌∙◌, arith}
+use Rattle.std.proofs.Common.{⊎_elim}
 use Rattle.std.proofs.lemmas.Bool.{cases_lt}
 use Rattle.write_rules.specs.Verdict.{Verdict}
 use Rattle.superstep_code.specs.declared.instr.Instr.{Instr}
@@ -9,6 +10,7 @@ use Rattle.superstep_machine.specs.Stretch.{advance}
 use Rattle.flat_machine.specs.Flat.{Flat, after_instr}
 use Rattle.flat_machine.specs.ByExchanges.{State, outcome_of, opening}
 use Rattle.flat_machine.specs.ByInstructions.{stopped, going, step_by, step, steps, outcome_within}
+use Rattle.pram_model.proofs.Truths.{unsome}
 
 -- it is over with a verdict
 abbrev pub IsPast : Way → Type 0
@@ -46,13 +48,11 @@ verdict_past Lost output memory h = absurd h
 pub past_has_outcome : (code : SuperstepCode) (s : State) → IsPast s.way → (v : Verdict) × (outcome_of code s ≡ Some v)
 past_has_outcome code s h = verdict_past s.way _ _ h
 
-pub unsome : {A : Type 0} (x y : A) → Some x ≡ Some y → x ≡ y
-unsome x y e = cc
-
 -- the state after what stands at a place
 abbrev pub carried_out : SuperstepCode → ℕ → (ℕ → Bool) → Option Instr → ℕ → Flat → State
 carried_out code bound judges o place f =
-    advance bound (λ (g : Flat). g.uniform) (after_instr code) (record { flat = f; place = place; way = Lost }) (stopped code judges) going o place f
+    advance bound (λ (g : Flat). g.uniform) (after_instr code) (record { flat = f; place = place; way = Lost }) (stopped code judges) going
+        o place f
 
 module _ (code : SuperstepCode) (bound : ℕ) (judges : ℕ → Bool) where
   pub step_stays : (s : State) → (s.way ≡ On → ⊥) → step code bound judges s ≡ s
@@ -83,7 +83,8 @@ module _ (code : SuperstepCode) (bound : ℕ) (judges : ℕ → Bool) where
       outcome_within code bound judges m input ≡ Some v → outcome_within code bound judges n input ≡ Some v
   outcome_stays input m n v l e =
       let s = steps code bound judges m (opening input) in
-      let h = steps_sum m (n - m) n (omega (arith, l)) (opening input) ∙ over_stays (n - m) s (past_is_not_on s.way (outcome_is_past code s v e)) in
+      let h = steps_sum m (n - m) n (omega (arith, l)) (opening input)
+          ∙ over_stays (n - m) s (past_is_not_on s.way (outcome_is_past code s v e)) in
       ap (λ (x : State). outcome_of code x) h ∙ e
 
 pub one_end : (code : SuperstepCode) (bound : ℕ) (judges : ℕ → Bool) (input : List ℤ) (m n : ℕ) (v w : Verdict) →

@@ -27,7 +27,8 @@ made_by f (v ∷ vs) (suc i) a h = made_by f vs i a h
 module _ (t : Setting) (room : IsMapFor t.code t.map) where
   module _ (f : Flat) (xs : ℕ → Worker) (s : Splits t f xs) (w v : ℕ) (lw : w < workers t) (lv : v < workers t) where
     own_of : (w : ℕ) → w < workers t → (i : ℕ) (a : PrivatePart) → slice_get (xs w).own i ≡ Some a → (k : ℕ) × (f.own k ≡ a)
-    own_of w l i a h = made_by f.own (processors t w f.uniform.width) i a (ap (λ (ys : List PrivatePart). slice_get ys i) (sym (s.own w l)) ∙ h)
+    own_of w l i a h = made_by f.own (processors t w f.uniform.width) i a (ap (λ (ys : List PrivatePart). slice_get ys i) (sym (s.own w l))
+        ∙ h)
 
     alike : AreAlike (xs w) (xs v)
     alike = record {
@@ -39,8 +40,10 @@ module _ (t : Setting) (room : IsMapFor t.code t.map) where
     }
 
   module _ (w v : ℕ) (lw : w < workers t) (lv : v < workers t) where
-    together : (a : Option (ℕ × Flat)) (each : ℕ → Option (ℕ × Worker)) → WalkedAs t (splits_instr t room) a each → AreTogether (each w) (each v)
-    together None each h = subst (λ (o : Option (ℕ × Worker)). AreTogether o (each v)) (sym (h w lw)) (subst (λ (o : Option (ℕ × Worker)). AreTogether None o) (sym (h v lv)) tt)
+    together : (a : Option (ℕ × Flat)) (each : ℕ → Option (ℕ × Worker)) → WalkedAs t (splits_instr t room) a each → AreTogether (each w)
+        (each v)
+    together None each h = subst (λ (o : Option (ℕ × Worker)). AreTogether o (each v)) (sym (h w lw))
+        (subst (λ (o : Option (ℕ × Worker)). AreTogether None o) (sym (h v lv)) tt)
     together (Some (place, f)) each h =
         subst (λ (o : Option (ℕ × Worker)). AreTogether o (each v)) (sym (h.1 w lw))
         (subst (λ (o : Option (ℕ × Worker)). AreTogether (Some (place, h.0 w)) o) (sym (h.1 v lv)) (refl, alike f h.0 h.2 w v lw lv))
@@ -69,10 +72,12 @@ module _ (t : Setting) (room : IsMapFor t.code t.map) where
           (together (walked t.bound (flat_uniform t) (flat.after_instr t.code) t.code.instructions m s.place s.flat) (λ k. walk k s.place)
           (walked_splits t (splits_instr t room) t.code.instructions m s.place s.flat (λ k. (states k).worker) a.splits)))
 
-      pub exchange : ((ready t w (states w)).purpose ≡ (ready t v (states v)).purpose) × AreAtOne (ready t w (states w)).state (ready t v (states v)).state
+      pub exchange : ((ready t w (states w)).purpose ≡ (ready t v (states v)).purpose)
+          × AreAtOne (ready t w (states w)).state (ready t v (states v)).state
       exchange =
           let r = readies t room agreed.0 states agreed.1 in
-          (r.purpose w lw ∙ sym (r.purpose v lv), at_one (flat_run.ready (plan t) agreed.0).state (λ k. (ready t k (states k)).state) r.states)
+          (r.purpose w lw ∙ sym (r.purpose v lv), at_one (flat_run.ready (plan t) agreed.0).state (λ k. (ready t k (states k)).state)
+              r.states)
 
       pub after : AreAtOne (states w) (states v)
       after = at_one agreed.0 states agreed.1

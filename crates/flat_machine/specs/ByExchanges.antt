@@ -3,7 +3,8 @@ use Rattle.std.specs.Prelude.{ℕ, zero, suc, ◌+◌, List, [], ◌∷◌, map,
 use Rattle.write_rules.specs.Verdict.{Verdict}
 use Rattle.superstep_code.specs.Code.{SuperstepCode}
 use Rattle.superstep_machine.specs.Stretch.{ToSend, ToReply, ToVote, ToClose, Arrival, Nowhere, At, until}
-use Rattle.superstep_machine.specs.Run.{Purpose, Sends, Replies, Votes, Closes, Way, On, Ending, Lost, is_held, decided, is_over, verdict_by}
+use Rattle.superstep_machine.specs.Run.{Purpose, Sends, Replies, Votes, Closes, Way, On, Ending, Lost, is_held, decided, is_over}
+use Rattle.superstep_machine.specs.Run.{verdict_by}
 use Rattle.flat_machine.specs.Flat.{Flat, cells, after_instr, after_send, after_reply, after_vote}
 use Rattle.flat_machine.specs.Flat as flat
 
@@ -31,7 +32,8 @@ ready_at s Nowhere = record { purpose = Closes; state = record s { way = Lost } 
 ready_at s (At ToSend place f) = record { purpose = Sends; state = record s { flat = f; place = place + 1 } }
 ready_at s (At ToReply place f) = record { purpose = Replies; state = record s { flat = f; place = place + 1 } }
 ready_at s (At (ToVote d) place f) = record { purpose = Votes d; state = record s { flat = f; place = place + 1 } }
-ready_at s (At (ToClose ended) place f) = record { purpose = if is_held f.uniform.put then Sends else Closes; state = record s { flat = f; place = place; way = Ending ended } }
+ready_at s (At (ToClose ended) place f) = record { purpose = if is_held f.uniform.put then Sends else Closes; state =
+    record s { flat = f; place = place; way = Ending ended } }
 
 abbrev pub ready_by : Plan → State → Way → Ready
 ready_by t s On = ready_at s (stretch t s)

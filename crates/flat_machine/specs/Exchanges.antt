@@ -1,5 +1,6 @@
 -- The exchanges of a flat run, each with what it is for, and whether anything was held there.
-use Rattle.std.specs.Prelude.{ℕ, zero, suc, ◌+◌, ◌*◌, List, [], ◌∷◌, ◌++◌, length, Bool, true, false, not, ◌&&◌, ◌||◌, ℤ, if◌then◌else◌, slice_get}
+use Rattle.std.specs.Prelude.{ℕ, zero, suc, ◌+◌, ◌*◌, List, [], ◌∷◌, ◌++◌, length, Bool, true, false, not, ◌&&◌, ◌||◌, ℤ, if◌then◌else◌}
+use Rattle.std.specs.Prelude.{slice_get}
 use Rattle.superstep_code.specs.Code.{SuperstepCode}
 use Rattle.superstep_machine.specs.Parts.{Read, UniformPart}
 use Rattle.superstep_machine.specs.Run.{Purpose, Sends, Replies, Votes, Closes, Way, On, is_held}
@@ -45,7 +46,8 @@ exchanges_by code bound s way = []
 -- and of n instructions, where the exchanges of some places decide
 abbrev pub exchanges_from : SuperstepCode → ℕ → (ℕ → Bool) → ℕ → State → List Exchange
 exchanges_from code bound judges zero s = []
-exchanges_from code bound judges (suc n) s = exchanges_by code bound s s.way ++ exchanges_from code bound judges n (step code bound judges s)
+exchanges_from code bound judges (suc n) s = exchanges_by code bound s s.way
+    ++ exchanges_from code bound judges n (step code bound judges s)
 
 -- The exchanges of the code's run from an input. It is over within so many instructions where the code is well formed.
 abbrev pub exchanges_of : SuperstepCode → ℕ → List ℤ → List Exchange

@@ -16,8 +16,10 @@ use Rattle.superstep_code.specs.Code.{SuperstepCode}
 use Rattle.superstep_machine.specs.Keys.{least}
 use Rattle.superstep_machine.specs.Setting.{combining}
 use Rattle.superstep_machine.specs.Parts.{set_register, Read, UniformPart, PrivatePart, opening_part, fresh}
-use Rattle.superstep_machine.specs.Steps.{on_uniform, uniform_key, uniform_write, index_of, is_active, on_own, own_key, own_write, is_put, renews}
-use Rattle.superstep_machine.specs.Sending.{join, cell_at, several, asks_for, is_several, verdict_on, settled, conflict_at, put_conflict, is_private, uniform_sent, own_sent}
+use Rattle.superstep_machine.specs.Steps.{on_uniform, uniform_key, uniform_write, index_of, is_active, on_own, own_key, own_write, is_put}
+use Rattle.superstep_machine.specs.Steps.{renews}
+use Rattle.superstep_machine.specs.Sending.{join, cell_at, several, asks_for, is_several, verdict_on, settled, conflict_at, put_conflict}
+use Rattle.superstep_machine.specs.Sending.{is_private, uniform_sent, own_sent}
 use Rattle.superstep_machine.specs.Answering.{uniform_answered, own_answered}
 
 -- The flat state: the uniform part, the part of the v-th processor of the range, the value of each cell, what the writers that are
@@ -77,7 +79,8 @@ askers f k c = total None several (λ v. asks_for c (cell_at k (f.own v).asks)) 
 -- the conflicts of one private read
 abbrev pub read_conflict : SuperstepCode → Flat → ℕ → Read → Option Key
 read_conflict code f k read =
-    total None least (λ c. if is_private read.side && is_several (askers f k c) then Some (conflict_at read.moment c ReadConflict) else None) (cells code)
+    total None least (λ c. if is_private read.side && is_several (askers f k c) then Some (conflict_at read.moment c ReadConflict) else
+        None) (cells code)
 
 -- read by read from number k on
 abbrev pub read_conflicts : SuperstepCode → Flat → ℕ → List Read → Option Key
@@ -116,4 +119,5 @@ after_vote d f = record f { uniform = record f.uniform { registers = set_registe
 -- ---- the beginning
 
 abbrev pub opening : List ℤ → Flat
-opening input = record { uniform = opening_part; own = λ v. fresh; memory = λ c. slice_index_or input c (pos 0); held = λ c. None; key = None }
+opening input = record { uniform = opening_part; own = λ v. fresh; memory = λ c. slice_index_or input c (pos 0); held = λ c. None;
+    key = None }

@@ -24,16 +24,19 @@ plan t = record { code = t.code; bound = t.bound; enough = t.enough }
 -- For every code, well formed or not, every number of workers and every lawful map: after so many exchanges both runs are over with one
 -- outcome, or neither is.
 abbrev pub OutcomesAreSame : Type 0
-OutcomesAreSame = (t : Setting) → IsMapFor t.code t.map → (n : ℕ) (input : List ℤ) → workers.outcome_by t n input ≡ flat.outcome_by (plan t) n input
+OutcomesAreSame = (t : Setting) → IsMapFor t.code t.map → (n : ℕ) (input : List ℤ) →
+    workers.outcome_by t n input ≡ flat.outcome_by (plan t) n input
 
 -- and their exchanges are for the same
 abbrev pub PurposesAreSame : Type 0
-PurposesAreSame = (t : Setting) → IsMapFor t.code t.map → (n : ℕ) (input : List ℤ) → map (λ (e : Exchange). e.purpose) (exchanges_by t n input) ≡ flat.purposes_by (plan t) n input
+PurposesAreSame = (t : Setting) → IsMapFor t.code t.map → (n : ℕ) (input : List ℤ) →
+    map (λ (e : Exchange). e.purpose) (exchanges_by t n input) ≡ flat.purposes_by (plan t) n input
 
 -- The outcomes on workers are those of the flat machine, instruction by instruction: no number of workers and no map is in them.
 abbrev pub WorkersAreFlat : Type 0
 WorkersAreFlat = (code : SuperstepCode) (map : Shape) → IsMapFor code map → (input : List ℤ) (bound : ℕ) (verdict : Verdict) →
-    (IsBspOutcome code map input bound verdict → IsFlatOutcome code input bound verdict) × (IsFlatOutcome code input bound verdict → IsBspOutcome code map input bound verdict)
+    (IsBspOutcome code map input bound verdict → IsFlatOutcome code input bound verdict) × (IsFlatOutcome code input bound verdict →
+        IsBspOutcome code map input bound verdict)
 
 -- the outcome of the flat machine's run exchange by exchange, with enough exchanges and enough instructions between them
 pub record IsOutcomeByExchanges (code : SuperstepCode) (input : List ℤ) (bound : ℕ) (verdict : Verdict) : Type 0 where
@@ -44,4 +47,5 @@ pub record IsOutcomeByExchanges (code : SuperstepCode) (input : List ℤ) (bound
 -- It is that of the run instruction by instruction, for every code.
 abbrev pub RunsAgree : Type 0
 RunsAgree = (code : SuperstepCode) (input : List ℤ) (bound : ℕ) (verdict : Verdict) →
-    (IsOutcomeByExchanges code input bound verdict → IsFlatOutcome code input bound verdict) × (IsFlatOutcome code input bound verdict → IsOutcomeByExchanges code input bound verdict)
+    (IsOutcomeByExchanges code input bound verdict → IsFlatOutcome code input bound verdict) × (IsFlatOutcome code input bound verdict →
+        IsOutcomeByExchanges code input bound verdict)

@@ -28,13 +28,16 @@ pub record AreAtOne (s r : State) : Type 0 where
 
 -- whatever the code: at every moment of a stretch ..
 abbrev pub OneControlBetween : Type 0
-OneControlBetween = (t : Setting) → IsMapFor t.code t.map → (input : List ℤ) (n m w v : ℕ) → w < workers t → v < workers t → AreTogether (moment t input n m w) (moment t input n m v)
+OneControlBetween = (t : Setting) → IsMapFor t.code t.map → (input : List ℤ) (n m w v : ℕ) → w < workers t → v < workers t →
+    AreTogether (moment t input n m w) (moment t input n m v)
 
 -- .. at the next exchange, which is for the same ..
 abbrev pub OneExchange : Type 0
 OneExchange = (t : Setting) → IsMapFor t.code t.map → (input : List ℤ) (n w v : ℕ) → w < workers t → v < workers t →
-    ((ready t w (worker_after t input n w)).purpose ≡ (ready t v (worker_after t input n v)).purpose) × AreAtOne (ready t w (worker_after t input n w)).state (ready t v (worker_after t input n v)).state
+    ((ready t w (worker_after t input n w)).purpose ≡ (ready t v (worker_after t input n v)).purpose)
+        × AreAtOne (ready t w (worker_after t input n w)).state (ready t v (worker_after t input n v)).state
 
 -- .. and behind it
 abbrev pub OneControlAfter : Type 0
-OneControlAfter = (t : Setting) → IsMapFor t.code t.map → (input : List ℤ) (n w v : ℕ) → w < workers t → v < workers t → AreAtOne (worker_after t input n w) (worker_after t input n v)
+OneControlAfter = (t : Setting) → IsMapFor t.code t.map → (input : List ℤ) (n w v : ℕ) → w < workers t → v < workers t →
+    AreAtOne (worker_after t input n w) (worker_after t input n v)

@@ -5,7 +5,8 @@ use Rattle.pram_values.specs.Truth.{is_nonzero}
 use Rattle.write_rules.specs.Rule.{shares_reads}
 use Rattle.superstep_code.specs.declared.instr.Side.TheVariants.{Uniform, Private}
 use Rattle.superstep_code.specs.declared.instr.Instr.{Instr}
-use Rattle.superstep_code.specs.declared.instr.Instr.TheVariants.{Mark, Enter, Leave, Mask, Flip, Unmask, Ask, Send, Reply, Vote, Jump, JumpIfZero, Halt}
+use Rattle.superstep_code.specs.declared.instr.Instr.TheVariants.{Mark, Enter, Leave, Mask, Flip, Unmask, Ask, Send, Reply, Vote, Jump}
+use Rattle.superstep_code.specs.declared.instr.Instr.TheVariants.{JumpIfZero, Halt}
 use Rattle.superstep_code.specs.Code.{SuperstepCode}
 use Rattle.superstep_machine.specs.Keys.{least}
 use Rattle.superstep_machine.specs.Parts.{PrivatePart, UniformPart}
@@ -52,7 +53,8 @@ module _ (code : SuperstepCode) (f : Flat) (c : IsClean f) where
   clean_instr Unmask = record { asks = c.asks; awaited = c.awaited }
   clean_instr i = record {
     asks = λ h v. either_asks (is_active (f.own v)) (on_active code i f.uniform v (f.own v)) (f.own v) (c.asks h v) (c.asks h v);
-    awaited = λ h v. either_awaited (is_active (f.own v)) (on_active code i f.uniform v (f.own v)) (f.own v) (c.awaited h v) (c.awaited h v);
+    awaited = λ h v. either_awaited (is_active (f.own v)) (on_active code i f.uniform v (f.own v)) (f.own v) (c.awaited h v)
+        (c.awaited h v);
   }
 
   clean_send : IsClean (after_send code f)
@@ -79,7 +81,8 @@ module _ (code : SuperstepCode) (bound : ℕ) (judges : ℕ → Bool) where
   by_instr (Some Halt) place f c = λ e. cc
   by_instr (Some (Mark line)) place f c = marked (eqb f.uniform.count bound)
     where
-      marked : (b : Bool) → StaysClean (if b then stopped code judges (ToClose false) place f else going (place + 1) (after_instr code (Mark line) f))
+      marked : (b : Bool) → StaysClean (if b then stopped code judges (ToClose false) place f else going (place + 1)
+          (after_instr code (Mark line) f))
       marked true = λ e. cc
       marked false = λ e. clean_instr code f c (Mark line)
   by_instr (Some (Jump target)) place f c = λ e. c

@@ -6,7 +6,8 @@ use Rattle.superstep_code.specs.declared.instr.Arithmetic.TheVariants.{Divide}
 use Rattle.superstep_code.specs.declared.instr.Truth.TheVariants.{Equal}
 use Rattle.superstep_code.specs.declared.instr.Side.TheVariants.{Uniform, Private}
 use Rattle.superstep_code.specs.declared.instr.Instr.{Instr}
-use Rattle.superstep_code.specs.declared.instr.Instr.TheVariants.{Mark, Set, Calculate, Decide, Enter, Leave, Mask, Unmask, Ask, Put, Send, Reply, Vote, Print, Halt}
+use Rattle.superstep_code.specs.declared.instr.Instr.TheVariants.{Mark, Set, Calculate, Decide, Enter, Leave, Mask, Unmask, Ask, Put, Send}
+use Rattle.superstep_code.specs.declared.instr.Instr.TheVariants.{Reply, Vote, Print, Halt}
 use Rattle.superstep_code.specs.Code.{SuperstepCode}
 use Rattle.machine_examples.specs.Examples.{cell, array}
 
@@ -29,7 +30,8 @@ vote_behind = short 1 [] (Mark 1 ∷ Enter 0 0 1 ∷ Leave ∷ Vote 1 ∷ Print 
 
 -- A range within a range, which no verified code has: a register that was 5 is written to a cell.
 abbrev pub second_range : SuperstepCode
-second_range = short 1 (cell (codes "s") ∷ []) (Mark 1 ∷ Enter 0 0 1 ∷ Set Private 1 (pos 5) ∷ Enter 0 0 2 ∷ Put Private 0 0 1 3 ∷ Leave ∷ Halt ∷ [])
+second_range = short 1 (cell (codes "s") ∷ []) (Mark 1 ∷ Enter 0 0 1 ∷ Set Private 1 (pos 5) ∷ Enter 0 0 2 ∷ Put Private 0 0 1 3 ∷ Leave
+    ∷ Halt ∷ [])
 
 -- A division by zero, and a send in the next statement.
 abbrev pub send_behind_fault : SuperstepCode

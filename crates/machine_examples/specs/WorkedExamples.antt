@@ -4,7 +4,9 @@ use Rattle.pram_model.specs.declared.rule.Rule.TheVariants.{Erew, Crew, Sum}
 use Rattle.superstep_code.specs.declared.instr.Arithmetic.TheVariants.{Add, Subtract, Multiply}
 use Rattle.superstep_code.specs.declared.instr.Truth.TheVariants.{Less}
 use Rattle.superstep_code.specs.declared.instr.Side.TheVariants.{Uniform, Private}
-use Rattle.superstep_code.specs.declared.instr.Instr.TheVariants.{Mark, Set, Copy, Calculate, Decide, CopyUniform, Index, Enter, Leave, Mask, Flip, Unmask, Ask, Put, Send, Reply, Vote, Print, Jump, JumpIfZero, Halt}
+use Rattle.superstep_code.specs.declared.instr.Instr.TheVariants.{Mark, Set, Copy, Calculate, Decide, CopyUniform, Index, Enter, Leave}
+use Rattle.superstep_code.specs.declared.instr.Instr.TheVariants.{Mask, Flip, Unmask, Ask, Put, Send, Reply, Vote, Print, Jump, JumpIfZero}
+use Rattle.superstep_code.specs.declared.instr.Instr.TheVariants.{Halt}
 use Rattle.superstep_code.specs.Code.{SuperstepCode}
 use Rattle.machine_examples.specs.Examples.{cell, array}
 

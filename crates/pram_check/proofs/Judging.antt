@@ -55,7 +55,8 @@ module _ (scope : Scope) where
   breaches_append n [] vs = ap (λ k. use_breaches scope k vs) (omega arith)
   breaches_append n (u ∷ us) vs =
       let one = if is_read (meaning_of scope u.name.text) u.subscripted then 1 else 0 in
-      let here = at u.name.location (or_else (use_cause (meaning_of scope u.name.text) u.subscripted) (ninth n (is_read (meaning_of scope u.name.text) u.subscripted))) in
+      let here = at u.name.location (or_else (use_cause (meaning_of scope u.name.text) u.subscripted)
+          (ninth n (is_read (meaning_of scope u.name.text) u.subscripted))) in
       let sum : (n + one) + read_count scope us ≡ n + (one + read_count scope us) = omega arith in
       ap (λ l. here ++ l) (breaches_append (n + one) us vs ∙ ap (λ k. use_breaches scope (n + one) us ++ use_breaches scope k vs) sum)
       ∙ sym (append_assoc here (use_breaches scope (n + one) us) (use_breaches scope (n + (one + read_count scope us)) vs))
@@ -71,11 +72,14 @@ module _ (scope : Scope) where
   fine_append n m k us vs a b =
       let c = count_append us vs in
       let joined = ap first (breaches_append n us vs) in
-      let moved : first (use_breaches scope (n + read_count scope us) vs) ≡ None = subst (λ j. first (use_breaches scope j vs) ≡ None) a.1 b.0 in
-      (joined ∙ (first_behind (use_breaches scope n us) (use_breaches scope (n + read_count scope us) vs) a.0 ∙ moved), omega (arith, a.1, b.1, c))
+      let moved : first (use_breaches scope (n + read_count scope us) vs) ≡ None =
+          subst (λ j. first (use_breaches scope j vs) ≡ None) a.1 b.0 in
+      (joined ∙ (first_behind (use_breaches scope n us) (use_breaches scope (n + read_count scope us) vs) a.0 ∙ moved),
+          omega (arith, a.1, b.1, c))
 
   pub leads_front : (n : ℕ) (us vs : List Use) → Leads (use_breaches scope n us) (use_breaches scope n (us ++ vs))
-  leads_front n us vs b h = ap first (breaches_append n us vs) ∙ first_front (use_breaches scope n us) (use_breaches scope (n + read_count scope us) vs) b h
+  leads_front n us vs b h = ap first (breaches_append n us vs)
+      ∙ first_front (use_breaches scope n us) (use_breaches scope (n + read_count scope us) vs) b h
 
   pub leads_behind : (n m : ℕ) (us vs : List Use) → Fine n us m → Leads (use_breaches scope m vs) (use_breaches scope n (us ++ vs))
   leads_behind n m us vs a b h =
@@ -84,12 +88,14 @@ module _ (scope : Scope) where
       ∙ subst (λ j. first (use_breaches scope j vs) ≡ Some b) a.1 h)
 
   -- the same for a whole whose names are those
-  pub leads_as : (n m : ℕ) (inner us vs : List Use) → us ≡ vs → Leads (use_breaches scope m inner) (use_breaches scope n us) → Leads (use_breaches scope m inner) (use_breaches scope n vs)
+  pub leads_as : (n m : ℕ) (inner us vs : List Use) → us ≡ vs → Leads (use_breaches scope m inner) (use_breaches scope n us) →
+      Leads (use_breaches scope m inner) (use_breaches scope n vs)
   leads_as n m inner us vs is leads b h = ap (λ l. first (use_breaches scope n l)) (sym is) ∙ leads b h
 
   pub fine_as : (n m : ℕ) (us vs : List Use) → us ≡ vs → Fine n us m → Fine n vs m
   fine_as n m us vs is h = subst (λ l. Fine n l m) is h
 
 -- the one breach of a token
-pub refused : (bs : List Breach) (l : Location) (k : Cause) (r : CheckFault) → bs ≡ at l (Some k) → r ≡ Refused (record { spot = Offset l.offset; cause = k }) → Tells bs r
+pub refused : (bs : List Breach) (l : Location) (k : Cause) (r : CheckFault) → bs ≡ at l (Some k) →
+    r ≡ Refused (record { spot = Offset l.offset; cause = k }) → Tells bs r
 refused bs l k r is same = subst (Tells bs) (sym same) (ap first is)

@@ -55,14 +55,16 @@ module _ (end : ℕ) where
   leads_append lo mid hi (x ∷ bs) cs fs gs a b =
       let below : offset_in end x.spot + 1 ≤ mid = most (offset_in end x.spot + 1) mid (offsets_in end bs) a.ascends.1 in
       let later : All (λ f. (f ≡ x) ⊎ IsBefore end x f) gs = λ k d h. let w = b.within k d h in inr (inl (omega (arith, below, w.0))) in
-      record { one = Contains-append_left fs gs x a.leads.one; least = All-append (λ f. (f ≡ x) ⊎ IsBefore end x f) fs gs a.leads.least later }
+      record { one = Contains-append_left fs gs x a.leads.one; least =
+          All-append (λ f. (f ≡ x) ⊎ IsBefore end x f) fs gs a.leads.least later }
 
   pub told_append : (lo mid hi : ℕ) (bs cs fs gs : List Breach) → Told lo mid bs fs → Told mid hi cs gs → Told lo hi (bs ++ cs) (fs ++ gs)
   told_append lo mid hi bs cs fs gs a b =
       let first = most lo mid (offsets_in end bs) a.ascends in
       let last = most mid hi (offsets_in end cs) b.ascends in
       record {
-        ascends = subst (λ l. Between lo l hi) (sym (offsets_append bs cs)) (joined lo mid hi (offsets_in end bs) (offsets_in end cs) a.ascends b.ascends);
+        ascends = subst (λ l. Between lo l hi) (sym (offsets_append bs cs))
+            (joined lo mid hi (offsets_in end bs) (offsets_in end cs) a.ascends b.ascends);
         within = All-append (Within lo hi) fs gs (told_higher lo mid hi bs fs last a).within (told_lower lo mid hi cs gs first b).within;
         leads = leads_append lo mid hi bs cs fs gs a b;
       }
@@ -72,29 +74,35 @@ module _ (end : ℕ) where
   pub record ToldIn (bs fs : List Breach) (ts : List Token) : Type 0 where
     pub told : (lo hi : ℕ) → Between lo (places ts) hi → Told lo hi bs fs
 
-  cut : (lo hi : ℕ) (ts us : List Token) → Between lo (places (ts ++ us)) hi → (mid : ℕ) × Between lo (places ts) mid × Between mid (places us) hi
+  cut : (lo hi : ℕ) (ts us : List Token) → Between lo (places (ts ++ us)) hi → (mid : ℕ) × Between lo (places ts) mid
+      × Between mid (places us) hi
   cut lo hi ts us h = split lo hi (places ts) (places us) (subst (λ l. Between lo l hi) (places_append ts us) h)
 
   pub join : {bs cs fs gs : List Breach} {ts us : List Token} → ToldIn bs fs ts → ToldIn cs gs us → ToldIn (bs ++ cs) (fs ++ gs) (ts ++ us)
-  join {bs} {cs} {fs} {gs} {ts} {us} a b = record { told = λ lo hi h. let s = cut lo hi ts us h in told_append lo s.0 hi bs cs fs gs (a.told lo s.0 s.1) (b.told s.0 hi s.2) }
+  join {bs} {cs} {fs} {gs} {ts} {us} a b = record { told = λ lo hi h. let s = cut lo hi ts us h in
+      told_append lo s.0 hi bs cs fs gs (a.told lo s.0 s.1) (b.told s.0 hi s.2) }
 
   pub front : {bs fs : List Breach} {ts : List Token} (us : List Token) → ToldIn bs fs ts → ToldIn bs fs (ts ++ us)
-  front {bs} {fs} {ts} us a = record { told = λ lo hi h. let s = cut lo hi ts us h in told_higher lo s.0 hi bs fs (most s.0 hi (places us) s.2) (a.told lo s.0 s.1) }
+  front {bs} {fs} {ts} us a = record { told = λ lo hi h. let s = cut lo hi ts us h in
+      told_higher lo s.0 hi bs fs (most s.0 hi (places us) s.2) (a.told lo s.0 s.1) }
 
   pub behind : {bs fs : List Breach} {us : List Token} (ts : List Token) → ToldIn bs fs us → ToldIn bs fs (ts ++ us)
-  behind {bs} {fs} {us} ts a = record { told = λ lo hi h. let s = cut lo hi ts us h in told_lower lo s.0 hi bs fs (most lo s.0 (places ts) s.1) (a.told s.0 hi s.2) }
+  behind {bs} {fs} {us} ts a = record { told = λ lo hi h. let s = cut lo hi ts us h in
+      told_lower lo s.0 hi bs fs (most lo s.0 (places ts) s.1) (a.told s.0 hi s.2) }
 
   pub nothing : (ts : List Token) → ToldIn [] [] ts
   nothing ts = record { told = λ lo hi h. told_nothing lo hi (most lo hi (places ts) h) }
 
   -- behind a breach nothing is told of the faults that follow
-  pub hidden : {b : Breach} {cs fs gs : List Breach} {ts us : List Token} → ToldIn (b ∷ []) fs ts → ToldIn cs gs us → ToldIn (b ∷ []) (fs ++ gs) (ts ++ us)
+  pub hidden : {b : Breach} {cs fs gs : List Breach} {ts us : List Token} → ToldIn (b ∷ []) fs ts → ToldIn cs gs us →
+      ToldIn (b ∷ []) (fs ++ gs) (ts ++ us)
   hidden {b} {cs} {fs} {gs} {ts} {us} x y = record {
     told = λ lo hi h.
         let s = cut lo hi ts us h in
         let one = x.told lo s.0 s.1 in
         let both = told_append lo s.0 hi (b ∷ []) cs fs gs one (y.told s.0 hi s.2) in
-        record { ascends = (told_higher lo s.0 hi (b ∷ []) fs (most s.0 hi (places us) s.2) one).ascends; within = both.within; leads = both.leads };
+        record { ascends = (told_higher lo s.0 hi (b ∷ []) fs (most s.0 hi (places us) s.2) one).ascends; within = both.within; leads =
+            both.leads };
   }
 
 -- the cause that is told at a place is the lowest of those that apply there
@@ -105,14 +113,16 @@ IsLowest (Some c) cs = Contains cs c × All (λ d. (d ≡ c) ⊎ (number c < num
 contains_map : (f : Cause → Breach) (cs : List Cause) (c : Cause) → Contains cs c → Contains (map f cs) (f c)
 contains_map f [] c h = absurd (omega (arith, h.1))
 contains_map f (d ∷ cs) c (zero, below, is) = (0, omega arith, ap f is)
-contains_map f (d ∷ cs) c (suc k, below, is) = Contains-append_right (f d ∷ []) (map f cs) (f c) (contains_map f cs c (k, omega (arith, below), is))
+contains_map f (d ∷ cs) c (suc k, below, is) =
+    Contains-append_right (f d ∷ []) (map f cs) (f c) (contains_map f cs c (k, omega (arith, below), is))
 
 module _ (end : ℕ) (l : Location) where
   abbrev here : Cause → Breach
   here c = record { spot = Offset l.offset; cause = c }
 
   -- what is told at one place
-  pub told_at : (k : Option Cause) (cs : List Cause) (lo hi : ℕ) → IsLowest k cs → lo ≤ l.offset → l.offset + 1 ≤ hi → Told end lo hi (at l k) (all_at l cs)
+  pub told_at : (k : Option Cause) (cs : List Cause) (lo hi : ℕ) → IsLowest k cs → lo ≤ l.offset → l.offset + 1 ≤ hi →
+      Told end lo hi (at l k) (all_at l cs)
   told_at None cs lo hi low first last =
       subst (λ fs. Told end lo hi [] (all_at l fs)) (sym low) (told_nothing end lo hi (omega (arith, first, last)))
   told_at (Some c) cs lo hi low first last = record {

@@ -1,5 +1,6 @@
 -- The locals of a pardo, taken in one after the other.
-use Rattle.std.proofs.Common.{◌≡◌, ◌+◌, ◌<◌, ℕ, List, [], ◌∷◌, ◌++◌, Some, None, sym, ap, ◌∙◌, arith, append_assoc, length, get_or, take, drop}
+use Rattle.std.proofs.Common.{◌≡◌, ◌+◌, ◌<◌, ℕ, List, [], ◌∷◌, ◌++◌, Some, None, sym, ap, ◌∙◌, arith, append_assoc, length, get_or, take}
+use Rattle.std.proofs.Common.{drop}
 use Rattle.std.proofs.lemmas.List.{append-nil, take-append-drop, take_more, length-take-le}
 use Rattle.pram_tokens.specs.declared.token.Name.{Name}
 use Rattle.pram_check.specs.declared.scope.Meaning.TheVariants.{Local}
@@ -22,11 +23,13 @@ breaches_append s k (x ∷ xs) ys =
     let sum : (k + 1) + length xs ≡ k + length (x ∷ xs) = omega arith in
     ap (λ l. here ++ l)
     (breaches_append (s ++ one) (k + 1) xs ys
-    ∙ ap (λ t. local_breaches (s ++ one) (k + 1) xs ++ local_breaches t ((k + 1) + length xs) ys) (append_assoc s one (locals_from (k + 1) xs))
+    ∙ ap (λ t. local_breaches (s ++ one) (k + 1) xs ++ local_breaches t ((k + 1) + length xs) ys)
+        (append_assoc s one (locals_from (k + 1) xs))
     ∙ ap (λ j. local_breaches (s ++ one) (k + 1) xs ++ local_breaches (s ++ locals_from k (x ∷ xs)) j ys) sum)
     ∙ sym (append_assoc here (local_breaches (s ++ one) (k + 1) xs) (local_breaches (s ++ locals_from k (x ∷ xs)) (k + length (x ∷ xs)) ys))
 
-module _ (s scope : Scope) (xs : List Name) (i k : ℕ) (d : Name) (below : i < length xs) (is : d ≡ get_or xs i d) (count : k ≡ i) (now : scope ≡ s ++ locals_from 0 (take i xs)) where
+module _ (s scope : Scope) (xs : List Name) (i k : ℕ) (d : Name) (below : i < length xs) (is : d ≡ get_or xs i d) (count : k ≡ i)
+    (now : scope ≡ s ++ locals_from 0 (take i xs)) where
   grown : take (i + 1) xs ≡ take i xs ++ d ∷ []
   grown = take_more xs i d below ∙ ap (λ y. take i xs ++ y ∷ []) (sym is)
 
@@ -49,6 +52,8 @@ module _ (s scope : Scope) (xs : List Name) (i k : ℕ) (d : Name) (below : i < 
   -- the breach of the next local is one of all
   pub leads_local : first (local_breaches s 0 (take i xs)) ≡ None → Leads (at d.location (new_cause scope d.text)) (local_breaches s 0 xs)
   leads_local none b h =
-      let here : first (local_breaches s 0 (take (i + 1) xs)) ≡ Some b = ap first breaches_more ∙ (first_behind (local_breaches s 0 (take i xs)) (at d.location (new_cause scope d.text)) none ∙ h) in
+      let here : first (local_breaches s 0 (take (i + 1) xs)) ≡ Some b = ap first breaches_more
+          ∙ (first_behind (local_breaches s 0 (take i xs)) (at d.location (new_cause scope d.text)) none ∙ h) in
       let split = breaches_append s 0 (take (i + 1) xs) (drop (i + 1) xs) in
-      ap (λ l. first (local_breaches s 0 l)) (sym (take-append-drop (i + 1) xs)) ∙ (ap first split ∙ first_front (local_breaches s 0 (take (i + 1) xs)) _ b here)
+      ap (λ l. first (local_breaches s 0 l)) (sym (take-append-drop (i + 1) xs))
+          ∙ (ap first split ∙ first_front (local_breaches s 0 (take (i + 1) xs)) _ b here)

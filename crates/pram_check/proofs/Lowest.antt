@@ -1,5 +1,6 @@
 -- The cause that is told at each kind of place is the lowest of those that apply there.
-use Rattle.std.proofs.Common.{◌≡◌, ℕ, ◌+◌, ◌<◌, Bool, true, false, ◌&&◌, not, nat_eq, nat_le, nat_lt, int_lt, List, [], ◌∷◌, ◌++◌, Option, Some, None, ℤ, pos, negsuc, refl, sym, subst, arith}
+use Rattle.std.proofs.Common.{◌≡◌, ℕ, ◌+◌, ◌<◌, Bool, true, false, ◌&&◌, not, nat_eq, nat_le, nat_lt, int_lt, List, [], ◌∷◌, ◌++◌, Option}
+use Rattle.std.proofs.Common.{Some, None, ℤ, pos, negsuc, refl, sym, subst, arith}
 use Rattle.std.specs.Prelude.{if◌then◌else◌, int_le}
 use Rattle.std.specs.List.{All, list_any}
 use mathlib.Core.Logic.{◌⊎◌, inl, inr}
@@ -12,8 +13,10 @@ use Rattle.pram_check.specs.declared.fault.Cause.{Cause}
 use Rattle.pram_check.specs.declared.fault.Cause.TheVariants.{UnknownName, DoubleName, WrongKind, AssignedLoopVariable, Limit}
 use Rattle.pram_check.specs.declared.fault.Limit.TheVariants as limit
 use Rattle.pram_check.specs.Scope.{Scope, meaning_of}
-use Rattle.pram_check.specs.Breaches.{use_cause, ninth, is_read, or_else, most_reads, target_cause, element_cause, variable_cause, new_cause, shared_cause, bounds_cause, cells_cause}
-use Rattle.pram_check.specs.Faults.{number, when, use_causes, target_causes, element_causes, variable_causes, new_causes, shared_causes, is_unknown, is_reversed}
+use Rattle.pram_check.specs.Breaches.{use_cause, ninth, is_read, or_else, most_reads, target_cause, element_cause, variable_cause}
+use Rattle.pram_check.specs.Breaches.{new_cause, shared_cause, bounds_cause, cells_cause}
+use Rattle.pram_check.specs.Faults.{number, when, use_causes, target_causes, element_causes, variable_causes, new_causes, shared_causes}
+use Rattle.pram_check.specs.Faults.{is_unknown, is_reversed}
 use Rattle.pram_check.proofs.Least.{IsLowest}
 
 abbrev Rank : Cause → Cause → Type 0
@@ -38,7 +41,8 @@ before_one false c d low = one c
 
 before_two : (a b : Bool) (c d e : Cause) → number c < number d → number c < number e → IsLowest (Some c) (c ∷ (when a d ++ when b e))
 before_two true true c d e low other =
-    ((0, omega arith, refl), All-cons (Rank c) c (d ∷ e ∷ []) (inl refl) (All-cons (Rank c) d (e ∷ []) (inr low) (All-cons (Rank c) e [] (inr other) (none_left c))))
+    ((0, omega arith, refl), All-cons (Rank c) c (d ∷ e
+        ∷ []) (inl refl) (All-cons (Rank c) d (e ∷ []) (inr low) (All-cons (Rank c) e [] (inr other) (none_left c))))
 before_two true false c d e low other = before c d low
 before_two false b c d e low other = before_one b c e other
 
@@ -118,17 +122,22 @@ bounds_lowest cells None = where_it_holds (passes cells None) (Limit limit.Cells
 bounds_lowest cells (Some (low, high)) = by (int_lt high low) refl
   where
     by : (b : Bool) → int_lt high low ≡ b →
-        IsLowest (or_else (if b then Some (Limit limit.Bounds) else None) (if passes cells (Some (low, high)) then Some (Limit limit.Cells) else None))
+        IsLowest (or_else (if b then Some (Limit limit.Bounds) else None) (if passes cells (Some (low, high)) then
+            Some (Limit limit.Cells) else None))
         (when b (Limit limit.Bounds) ++ when (passes cells (Some (low, high))) (Limit limit.Cells))
     by true is =
         subst (λ p. IsLowest (Some (Limit limit.Bounds)) (Limit limit.Bounds ∷ when p (Limit limit.Cells)))
         (sym (passes_none cells (size (Some (low, high))) (no_cells low high is))) (one (Limit limit.Bounds))
     by false is = where_it_holds (passes cells (Some (low, high))) (Limit limit.Cells)
 
-pub shared_lowest : (scope : Scope) (cells : ℕ) (text : List ℕ) (bounds : Option (ℤ × ℤ)) → IsLowest (shared_cause scope cells text bounds) (shared_causes scope cells text bounds)
+pub shared_lowest : (scope : Scope) (cells : ℕ) (text : List ℕ) (bounds : Option (ℤ × ℤ)) → IsLowest (shared_cause scope cells text bounds)
+    (shared_causes scope cells text bounds)
 shared_lowest scope cells text bounds = by (meaning_of scope text)
   where
-    by : (m : Option Meaning) → IsLowest (or_else (elim m [ None ↦ None | Some m ↦ Some DoubleName ]) (or_else (bounds_cause bounds) (cells_cause cells (size bounds))))
-        (when (not (is_unknown m)) DoubleName ++ (when (is_reversed bounds) (Limit limit.Bounds) ++ when (passes cells bounds) (Limit limit.Cells)))
+    by : (m : Option Meaning) → IsLowest (or_else (elim m [ None ↦ None | Some m ↦ Some DoubleName ])
+        (or_else (bounds_cause bounds) (cells_cause cells (size bounds))))
+        (when (not (is_unknown m)) DoubleName
+            ++ (when (is_reversed bounds) (Limit limit.Bounds) ++ when (passes cells bounds) (Limit limit.Cells)))
     by None = bounds_lowest cells bounds
-    by (Some m) = before_two (is_reversed bounds) (passes cells bounds) DoubleName (Limit limit.Bounds) (Limit limit.Cells) (omega arith) (omega arith)
+    by (Some m) = before_two (is_reversed bounds) (passes cells bounds) DoubleName (Limit limit.Bounds) (Limit limit.Cells) (omega arith)
+        (omega arith)

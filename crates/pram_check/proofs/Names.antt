@@ -14,7 +14,8 @@ use Rattle.pram_check.specs.Resolved as says
 
 -- what a name's answer has to be
 abbrev pub SaysName : Scope → ℕ → Name → Expression → ℕ → Type 0
-SaysName scope n x y m = (first (use_breaches scope n (plain x ∷ [])) ≡ None) × (Says scope (e.Name x) y × (m ≡ n + read_count scope (plain x ∷ [])))
+SaysName scope n x y m = (first (use_breaches scope n (plain x ∷ [])) ≡ None)
+    × (Says scope (e.Name x) y × (m ≡ n + read_count scope (plain x ∷ [])))
 
 module _ (scope : Scope) (n : ℕ) (x : Name) (t : List ℕ) (same : t ≡ x.text) where
   pub stands : {m o : Meaning} → Some o ≡ meaning_of scope t → o ≡ m → meaning_of scope x.text ≡ Some m
@@ -34,7 +35,8 @@ module _ (scope : Scope) (n : ℕ) (x : Name) (t : List ℕ) (same : t ≡ x.tex
   pub says_local : (k : ℕ) (o : Meaning) → Some o ≡ meaning_of scope t → o ≡ meaning.Local k → SaysName scope n x (value.Local k) n
   says_local k o h is = let p = apart (meaning.Local k) (stands h is) refl refl in (p.0, (says.local x k (stands h is), p.1))
 
-  pub says_cell : (k m : ℕ) (o : Meaning) → Some o ≡ meaning_of scope t → o ≡ meaning.Cell k → first (at x.location (ninth n true)) ≡ None → m ≡ n + 1 →
+  pub says_cell : (k m : ℕ) (o : Meaning) → Some o ≡ meaning_of scope t → o ≡ meaning.Cell k → first (at x.location (ninth n true)) ≡ None →
+      m ≡ n + 1 →
       SaysName scope n x (value.Cell k) m
   says_cell k m o h is room more =
       let found = stands {m = meaning.Cell k} h is in

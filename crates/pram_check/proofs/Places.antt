@@ -64,7 +64,8 @@ prefix_in : (us : List Use) (p : Prefix) (ts : List Token) → UsesIn us ts → 
 prefix_in us prefix.Not ts h = h
 prefix_in us prefix.Negate ts h = h
 
-layer : (y : Expr-F Held) → UsesIn (node_uses (map-Expr Expr (List Use) uses (exprs y))) (node_tokens (map-Expr Expr (List Token) tokens (exprs y)))
+layer : (y : Expr-F Held) → UsesIn (node_uses (map-Expr Expr (List Use) uses (exprs y)))
+    (node_tokens (map-Expr Expr (List Token) tokens (exprs y)))
 layer (Expr-F.Number n) = none (n.location.offset ∷ [])
 layer (Expr-F.Name x) = keep [] [] x.location.offset (none [])
 layer (Expr-F.Element x i) = keep (use_offsets (uses i.0)) _ x.location.offset (front (use_offsets (uses i.0)) (tokens i.0) _ i.1)
@@ -76,7 +77,8 @@ rolled : (y : Expr-F Held) → Placed (roll-Expr (exprs y))
 unfolding uses tokens
 rolled y =
     subst (λ us. UsesIn us (tokens (roll-Expr (exprs y)))) (sym (fold-roll-Expr (List Use) node_uses (exprs y)))
-    (subst (λ ts. UsesIn (node_uses (map-Expr Expr (List Use) uses (exprs y))) ts) (sym (fold-roll-Expr (List Token) node_tokens (exprs y))) (layer y))
+    (subst (λ ts. UsesIn (node_uses (map-Expr Expr (List Use) uses (exprs y))) ts) (sym (fold-roll-Expr (List Token) node_tokens (exprs y)))
+        (layer y))
 
 -- the names of an expression are tokens of it, in order
 pub expression_places : (e : Expr) → Placed e

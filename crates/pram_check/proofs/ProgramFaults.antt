@@ -1,5 +1,6 @@
 -- What is wrong with a program, and what is told of it.
-use Rattle.std.proofs.Common.{◌≡◌, ℕ, ◌+◌, ◌<◌, ◌≤◌, Bool, true, false, nat_lt, List, [], ◌∷◌, ◌++◌, length, Some, None, MatchOption, subst, ap, ◌∙◌, refl, arith, append_assoc}
+use Rattle.std.proofs.Common.{◌≡◌, ℕ, ◌+◌, ◌<◌, ◌≤◌, Bool, true, false, nat_lt, List, [], ◌∷◌, ◌++◌, length, Some, None, MatchOption, subst}
+use Rattle.std.proofs.Common.{ap, ◌∙◌, refl, arith, append_assoc}
 use Rattle.std.specs.Prelude.{if◌then◌else◌}
 use Rattle.std.specs.List.Sorted.{IsStrictlyIncreasing}
 use mathlib.Core.Logic.{◌⊎◌, inl}
@@ -19,8 +20,10 @@ use Rattle.pram_check.specs.declared.fault.Limit.TheVariants as limit
 use Rattle.pram_check.specs.declared.fault.Spot.TheVariants.{TextEnd}
 use Rattle.pram_check.specs.declared.scope.Meaning.TheVariants.{Uniform, Cell, Array}
 use Rattle.pram_check.specs.Scope.{Scope}
-use Rattle.pram_check.specs.Breaches.{at, first, breaches, procs_cause, block_breaches, body_context, outside_of, declaration_breaches, token_breaches, most_tokens}
-use Rattle.pram_check.specs.Faults.{all_at, procs_causes, block_faults, declaration_faults, faults, offset_in, offsets_in, IsBefore, IsLeast}
+use Rattle.pram_check.specs.Breaches.{at, first, breaches, procs_cause, block_breaches, body_context, outside_of, declaration_breaches}
+use Rattle.pram_check.specs.Breaches.{token_breaches, most_tokens}
+use Rattle.pram_check.specs.Faults.{all_at, procs_causes, block_faults, declaration_faults, faults, offset_in, offsets_in, IsBefore}
+use Rattle.pram_check.specs.Faults.{IsLeast}
 use Rattle.pram_syntax.specs.Text.{IsTextOf}
 use Rattle.pram_tokens.proofs.Offsets.{in_order}
 use Rattle.pram_check.proofs.Sublists.{Between, between, increasing}
@@ -30,7 +33,8 @@ use Rattle.pram_check.proofs.Lowest.{shared_lowest, new_lowest, where_it_holds}
 use Rattle.pram_check.proofs.StatementFaults.{named, told_statement}
 
 module _ (end : ℕ) where
-  declarations_in : (s : Scope) (e u c : ℕ) (ds : List Declaration) → ToldIn end (declaration_breaches s e u c ds) (declaration_faults s e u c ds) (declarations_tokens ds)
+  declarations_in : (s : Scope) (e u c : ℕ) (ds : List Declaration) → ToldIn end (declaration_breaches s e u c ds)
+      (declaration_faults s e u c ds) (declarations_tokens ds)
   declarations_in s e u c [] = nothing end []
   declarations_in s e u c (declare.Cell x ∷ ds) =
       behind end (token.Mark mark.Shared ∷ [])
@@ -39,26 +43,31 @@ module _ (end : ℕ) where
   declarations_in s e u c (declare.Array x low high ∷ ds) =
       behind end (token.Mark mark.Shared ∷ [])
       (join end (named end x _ _ (shared_lowest s c x.text (Some (low.value, high.value))))
-      (behind end (token.Mark mark.OpenBracket ∷ token.Number low ∷ token.Mark mark.Range ∷ token.Number high ∷ token.Mark mark.CloseBracket ∷ token.Mark mark.Semicolon ∷ [])
+      (behind end (token.Mark mark.OpenBracket ∷ token.Number low ∷ token.Mark mark.Range ∷ token.Number high ∷ token.Mark mark.CloseBracket
+          ∷ token.Mark mark.Semicolon ∷ [])
       (declarations_in (s ++ (x.text, Array e) ∷ []) (e + 1) u (c + size (Some (low.value, high.value))) ds)))
   declarations_in s e u c (declare.Uniform x ∷ ds) =
       behind end (token.Mark mark.Var ∷ [])
       (join end (named end x _ _ (new_lowest s x.text))
       (behind end (token.Mark mark.Semicolon ∷ []) (declarations_in (s ++ (x.text, Uniform u) ∷ []) e (u + 1) c ds)))
 
-  block_in : (scope : Scope) (body : List Stmt) → ToldIn end (block_breaches body (outside_of scope [])) (block_faults body (outside_of scope [])) (block_tokens body)
+  block_in : (scope : Scope) (body : List Stmt) → ToldIn end (block_breaches body (outside_of scope []))
+      (block_faults body (outside_of scope [])) (block_tokens body)
   block_in scope [] = nothing end []
   block_in scope (x ∷ body) = join end (told_statement end x false scope []) (block_in scope body)
 
-  number_in : (n : Numeral) → ToldIn end (at n.location (procs_cause n.value)) (all_at n.location (procs_causes n.value)) (token.Number n ∷ [])
+  number_in : (n : Numeral) → ToldIn end (at n.location (procs_cause n.value)) (all_at n.location (procs_causes n.value))
+      (token.Number n ∷ [])
   number_in n = record { told = λ lo hi h. told_at end n.location _ _ lo hi (where_it_holds _ (Limit limit.Procs)) h.0 h.1 }
 
   -- all but the number of tokens
   abbrev front_breaches : ProgramTree → List Breach
-  front_breaches t = at t.procs.location (procs_cause t.procs.value) ++ (declaration_breaches [] 0 0 0 t.declarations ++ block_breaches t.body (body_context t.declarations))
+  front_breaches t = at t.procs.location (procs_cause t.procs.value)
+      ++ (declaration_breaches [] 0 0 0 t.declarations ++ block_breaches t.body (body_context t.declarations))
 
   abbrev front_faults : ProgramTree → List Breach
-  front_faults t = all_at t.procs.location (procs_causes t.procs.value) ++ (declaration_faults [] 0 0 0 t.declarations ++ block_faults t.body (body_context t.declarations))
+  front_faults t = all_at t.procs.location (procs_causes t.procs.value)
+      ++ (declaration_faults [] 0 0 0 t.declarations ++ block_faults t.body (body_context t.declarations))
 
   program_in : (t : ProgramTree) → ToldIn end (front_breaches t) (front_faults t) (program_tokens t)
   program_in t =
@@ -78,7 +87,8 @@ module _ (end : ℕ) where
       by : (b : Bool) → Told end end (end + 1) (if b then last ∷ [] else []) (if b then last ∷ [] else [])
       by true = record {
         ascends = (omega arith, omega arith);
-        within = All-cons (λ f. (end ≤ offset_in end f.spot) × (offset_in end f.spot < end + 1)) last [] (omega arith, omega arith) (λ k d below. absurd (omega (arith, below)));
+        within = All-cons (λ f. (end ≤ offset_in end f.spot) × (offset_in end f.spot < end + 1)) last [] (omega arith, omega arith)
+            (λ k d below. absurd (omega (arith, below)));
         leads = record {
           one = (0, omega arith, refl);
           least = All-cons (λ f. (f ≡ last) ⊎ IsBefore end last f) last [] (inl refl) (λ k d below. absurd (omega (arith, below)));
@@ -95,10 +105,13 @@ module _ (end : ℕ) where
       let procs = at t.procs.location (procs_cause t.procs.value) in
       let all_procs = all_at t.procs.location (procs_causes t.procs.value) in
       subst (λ bs. Told end 0 (end + 1) bs (faults t))
-      (four procs (declaration_breaches [] 0 0 0 t.declarations) (block_breaches t.body (body_context t.declarations)) (token_breaches count))
+      (four procs (declaration_breaches [] 0 0 0 t.declarations) (block_breaches t.body (body_context t.declarations))
+          (token_breaches count))
       (subst (Told end 0 (end + 1) (front_breaches t ++ token_breaches count))
-      (four all_procs (declaration_faults [] 0 0 0 t.declarations) (block_faults t.body (body_context t.declarations)) (token_breaches count))
-      (told_append end 0 end (end + 1) (front_breaches t) (token_breaches count) (front_faults t) (token_breaches count) ((program_in t).told 0 end h) (end_in count)))
+      (four all_procs (declaration_faults [] 0 0 0 t.declarations) (block_faults t.body (body_context t.declarations))
+          (token_breaches count))
+      (told_append end 0 end (end + 1) (front_breaches t) (token_breaches count) (front_faults t) (token_breaches count)
+          ((program_in t).told 0 end h) (end_in count)))
 
 module _ (text : List ℕ) (tree : ProgramTree) (is : IsTextOf text tree) where
   abbrev end : ℕ

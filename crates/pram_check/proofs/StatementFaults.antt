@@ -18,10 +18,13 @@ use Rattle.pram_check.specs.declared.fault.Breach.{Breach}
 use Rattle.pram_check.specs.declared.fault.Cause.{Cause}
 use Rattle.pram_check.specs.declared.fault.Cause.TheVariants.{WrongKind}
 use Rattle.pram_check.specs.Scope.{Scope, meaning_of, inner_scope, locals_from}
-use Rattle.pram_check.specs.Breaches.{Context, Judged, at, uses, use_breaches, read_count, variable_cause, new_cause, local_breaches, judged_all, outside_of, inside_of, with_loop, node_breaches, statement_breaches}
-use Rattle.pram_check.specs.Faults.{use_faults, local_faults, keyword_faults, variable_causes, new_causes, all_at, node_faults, statement_faults}
+use Rattle.pram_check.specs.Breaches.{Context, Judged, at, uses, use_breaches, read_count, variable_cause, new_cause, local_breaches}
+use Rattle.pram_check.specs.Breaches.{judged_all, outside_of, inside_of, with_loop, node_breaches, statement_breaches}
+use Rattle.pram_check.specs.Faults.{use_faults, local_faults, keyword_faults, variable_causes, new_causes, all_at, node_faults}
+use Rattle.pram_check.specs.Faults.{statement_faults}
 use Rattle.pram_check.proofs.Least.{ToldIn, IsLowest, told_at, join, front, behind, nothing, hidden}
-use Rattle.pram_check.proofs.Lowest.{target_lowest_inside, target_lowest_outside, element_lowest, variable_lowest, new_lowest, where_it_holds}
+use Rattle.pram_check.proofs.Lowest.{target_lowest_inside, target_lowest_outside, element_lowest, variable_lowest, new_lowest}
+use Rattle.pram_check.proofs.Lowest.{where_it_holds}
 use Rattle.pram_check.proofs.UseFaults.{told_expression, told_two}
 
 -- a statement as the checker sees it: inside pardo it knows of no loops around it
@@ -45,7 +48,8 @@ module _ (end : ℕ) where
   stmts = map-Stmt Held Stmt (λ x. x.0)
 
   -- a name of which something is told
-  pub named : (x : Name) (k : Option Cause) (cs : List Cause) → IsLowest k cs → ToldIn end (at x.location k) (all_at x.location cs) (token.Name x ∷ [])
+  pub named : (x : Name) (k : Option Cause) (cs : List Cause) → IsLowest k cs → ToldIn end (at x.location k) (all_at x.location cs)
+      (token.Name x ∷ [])
   named x k cs low = record { told = λ lo hi h. told_at end x.location k cs lo hi low h.0 h.1 }
 
   -- a keyword that has no place there
@@ -57,7 +61,8 @@ module _ (end : ℕ) where
 
   all_in : (ys : List Held) (inside : Bool) (scope : Scope) (loops : List ℕ) →
       ToldIn end (judged_all (map statement_breaches (map (λ (x : Held). x.0) ys)) (seen inside scope loops))
-      (judged_all (map statement_faults (map (λ (x : Held). x.0) ys)) (stands inside scope loops)) (joined_all (map statement_tokens (map (λ (x : Held). x.0) ys)))
+      (judged_all (map statement_faults (map (λ (x : Held). x.0) ys)) (stands inside scope loops))
+          (joined_all (map statement_tokens (map (λ (x : Held). x.0) ys)))
   all_in [] inside scope loops = nothing end []
   all_in (y ∷ ys) inside scope loops = join end (y.1 inside scope loops) (all_in ys inside scope loops)
 
@@ -65,7 +70,8 @@ module _ (end : ℕ) where
   locals_in scope k [] = nothing end []
   locals_in scope k (x ∷ xs) =
       behind end (token.Mark mark.Local ∷ [])
-      (join end (named x _ _ (new_lowest scope x.text)) (behind end (token.Mark mark.Semicolon ∷ []) (locals_in (scope ++ locals_from k (x ∷ [])) (k + 1) xs)))
+      (join end (named x _ _ (new_lowest scope x.text)) (behind end (token.Mark mark.Semicolon
+          ∷ []) (locals_in (scope ++ locals_from k (x ∷ [])) (k + 1) xs)))
 
   -- the statements in a block, with the word behind them
   block_in : (ys : List Held) (inside : Bool) (scope : Scope) (loops : List ℕ) →
@@ -75,7 +81,8 @@ module _ (end : ℕ) where
   block_in ys inside scope loops = front end (token.Mark mark.End ∷ []) (all_in ys inside scope loops)
 
   -- `x := v`, `x[i] := v`
-  value_in : (scope : Scope) (v : Expr) → ToldIn end (use_breaches scope 0 (uses v)) (use_faults scope 0 (uses v)) (tokens v ++ token.Mark mark.Semicolon ∷ [])
+  value_in : (scope : Scope) (v : Expr) → ToldIn end (use_breaches scope 0 (uses v)) (use_faults scope 0 (uses v))
+      (tokens v ++ token.Mark mark.Semicolon ∷ [])
   value_in scope v = front end (token.Mark mark.Semicolon ∷ []) (told_expression end scope 0 v)
 
   pair_in : (scope : Scope) (i v : Expr) → ToldIn end (use_breaches scope 0 (uses i ++ uses v)) (use_faults scope 0 (uses i ++ uses v))
@@ -104,11 +111,16 @@ module _ (end : ℕ) where
   -- the part of a pardo behind its keyword
   pardo_in : (low : Expr) (x : Name) (high : Expr) (locals : List Name) (body : List Held) (scope : Scope) (loops : List ℕ) →
       ToldIn end
-      (use_breaches scope 0 (uses low) ++ (at x.location (new_cause scope x.text) ++ (use_breaches scope (read_count scope (uses low)) (uses high)
-      ++ (local_breaches (inner_scope scope x []) 0 locals ++ judged_all (map statement_breaches (map (λ (x : Held). x.0) body)) (inside_of (inner_scope scope x locals))))))
-      (use_faults scope 0 (uses low) ++ (all_at x.location (new_causes scope x.text) ++ (use_faults scope (read_count scope (uses low)) (uses high)
-      ++ (local_faults (inner_scope scope x []) 0 locals ++ judged_all (map statement_faults (map (λ (x : Held). x.0) body)) (stands true (inner_scope scope x locals) loops)))))
-      (tokens low ++ (token.Binary op.AtMost ∷ (token.Name x ∷ (token.Binary op.AtMost ∷ (tokens high ++ (token.Mark mark.Pardo ∷ (local_tokens locals
+      (use_breaches scope 0 (uses low)
+          ++ (at x.location (new_cause scope x.text) ++ (use_breaches scope (read_count scope (uses low)) (uses high)
+      ++ (local_breaches (inner_scope scope x []) 0 locals
+          ++ judged_all (map statement_breaches (map (λ (x : Held). x.0) body)) (inside_of (inner_scope scope x locals))))))
+      (use_faults scope 0 (uses low)
+          ++ (all_at x.location (new_causes scope x.text) ++ (use_faults scope (read_count scope (uses low)) (uses high)
+      ++ (local_faults (inner_scope scope x []) 0 locals
+          ++ judged_all (map statement_faults (map (λ (x : Held). x.0) body)) (stands true (inner_scope scope x locals) loops)))))
+      (tokens low ++ (token.Binary op.AtMost
+          ∷ (token.Name x ∷ (token.Binary op.AtMost ∷ (tokens high ++ (token.Mark mark.Pardo ∷ (local_tokens locals
       ++ (joined_all (map statement_tokens (map (λ (x : Held). x.0) body)) ++ token.Mark mark.End ∷ []))))))))
   pardo_in low x high locals body scope loops =
       join end (told_expression end scope 0 low)
@@ -121,14 +133,16 @@ module _ (end : ℕ) where
 
   -- the parts of `while` and `if` behind the keyword
   while_in : (e : Expr) (body : List Held) (inside : Bool) (scope : Scope) (loops : List ℕ) →
-      ToldIn end (use_breaches scope 0 (uses e) ++ judged_all (map statement_breaches (map (λ (x : Held). x.0) body)) (seen inside scope loops))
+      ToldIn end (use_breaches scope 0 (uses e)
+          ++ judged_all (map statement_breaches (map (λ (x : Held). x.0) body)) (seen inside scope loops))
       (use_faults scope 0 (uses e) ++ judged_all (map statement_faults (map (λ (x : Held). x.0) body)) (stands inside scope loops))
       (tokens e ++ (token.Mark mark.Do ∷ (joined_all (map statement_tokens (map (λ (x : Held). x.0) body)) ++ token.Mark mark.End ∷ [])))
   while_in e body inside scope loops =
       join end (told_expression end scope 0 e) (behind end (token.Mark mark.Do ∷ []) (block_in body inside scope loops))
 
   if_in : (e : Expr) (body : List Held) (inside : Bool) (scope : Scope) (loops : List ℕ) →
-      ToldIn end (use_breaches scope 0 (uses e) ++ (judged_all (map statement_breaches (map (λ (x : Held). x.0) body)) (seen inside scope loops) ++ []))
+      ToldIn end (use_breaches scope 0 (uses e)
+          ++ (judged_all (map statement_breaches (map (λ (x : Held). x.0) body)) (seen inside scope loops) ++ []))
       (use_faults scope 0 (uses e) ++ (judged_all (map statement_faults (map (λ (x : Held). x.0) body)) (stands inside scope loops) ++ []))
       (tokens e ++ (token.Mark mark.Then ∷ (joined_all (map statement_tokens (map (λ (x : Held). x.0) body)) ++ token.Mark mark.End ∷ [])))
   if_in e body inside scope loops =
@@ -150,37 +164,50 @@ module _ (end : ℕ) where
 
   layer : (y : Stmt-F Held) (inside : Bool) (scope : Scope) (loops : List ℕ) →
       ToldIn end (node_breaches (map-Stmt Stmt Judged statement_breaches (stmts y)) (seen inside scope loops))
-      (node_faults (map-Stmt Stmt Judged statement_faults (stmts y)) (stands inside scope loops)) (statement_step (map-Stmt Stmt (List Token) statement_tokens (stmts y)))
+      (node_faults (map-Stmt Stmt Judged statement_faults (stmts y)) (stands inside scope loops))
+          (statement_step (map-Stmt Stmt (List Token) statement_tokens (stmts y)))
   layer (Stmt-F.Assign x v) true scope loops =
-      join end (named x _ _ (target_lowest_inside [] loops (meaning_of scope x.text))) (behind end (token.Mark mark.Becomes ∷ []) (value_in scope v))
+      join end (named x _ _ (target_lowest_inside [] loops (meaning_of scope x.text))) (behind end (token.Mark mark.Becomes
+          ∷ []) (value_in scope v))
   layer (Stmt-F.Assign x v) false scope loops =
-      join end (named x _ _ (target_lowest_outside loops (meaning_of scope x.text))) (behind end (token.Mark mark.Becomes ∷ []) (value_in scope v))
+      join end (named x _ _ (target_lowest_outside loops (meaning_of scope x.text))) (behind end (token.Mark mark.Becomes
+          ∷ []) (value_in scope v))
   layer (Stmt-F.AssignElement x i v) true scope loops =
-      join end (named x _ _ (element_lowest loops (meaning_of scope x.text))) (behind end (token.Mark mark.OpenBracket ∷ []) (pair_in scope i v))
+      join end (named x _ _ (element_lowest loops (meaning_of scope x.text))) (behind end (token.Mark mark.OpenBracket
+          ∷ []) (pair_in scope i v))
   layer (Stmt-F.AssignElement x i v) false scope loops =
-      join end (named x _ _ (element_lowest loops (meaning_of scope x.text))) (behind end (token.Mark mark.OpenBracket ∷ []) (pair_in scope i v))
+      join end (named x _ _ (element_lowest loops (meaning_of scope x.text))) (behind end (token.Mark mark.OpenBracket
+          ∷ []) (pair_in scope i v))
   layer (Stmt-F.Print l v) true scope loops = hidden end (misplaced opening.Print l) (value_in scope v)
   layer (Stmt-F.Print l v) false scope loops = behind end (token.Opening opening.Print l ∷ []) (value_in scope v)
   layer (Stmt-F.While l e body) true scope loops = behind end (token.Opening opening.While l ∷ []) (while_in e body true scope loops)
   layer (Stmt-F.While l e body) false scope loops = behind end (token.Opening opening.While l ∷ []) (while_in e body false scope loops)
   layer (Stmt-F.If l e body None) true scope loops = behind end (token.Opening opening.If l ∷ []) (if_in e body true scope loops)
   layer (Stmt-F.If l e body None) false scope loops = behind end (token.Opening opening.If l ∷ []) (if_in e body false scope loops)
-  layer (Stmt-F.If l e body (Some other)) true scope loops = behind end (token.Opening opening.If l ∷ []) (if_else_in e body other true scope loops)
-  layer (Stmt-F.If l e body (Some other)) false scope loops = behind end (token.Opening opening.If l ∷ []) (if_else_in e body other false scope loops)
+  layer (Stmt-F.If l e body (Some other)) true scope loops =
+      behind end (token.Opening opening.If l ∷ []) (if_else_in e body other true scope loops)
+  layer (Stmt-F.If l e body (Some other)) false scope loops =
+      behind end (token.Opening opening.If l ∷ []) (if_else_in e body other false scope loops)
   layer (Stmt-F.For l x low high body) true scope loops = hidden end (misplaced opening.For l) (for_in x low high body true scope loops)
-  layer (Stmt-F.For l x low high body) false scope loops = behind end (token.Opening opening.For l ∷ []) (for_in x low high body false scope loops)
-  layer (Stmt-F.Pardo l low x high locals body) true scope loops = hidden end (misplaced opening.For l) (pardo_in low x high locals body scope loops)
-  layer (Stmt-F.Pardo l low x high locals body) false scope loops = behind end (token.Opening opening.For l ∷ []) (pardo_in low x high locals body scope loops)
+  layer (Stmt-F.For l x low high body) false scope loops =
+      behind end (token.Opening opening.For l ∷ []) (for_in x low high body false scope loops)
+  layer (Stmt-F.Pardo l low x high locals body) true scope loops =
+      hidden end (misplaced opening.For l) (pardo_in low x high locals body scope loops)
+  layer (Stmt-F.Pardo l low x high locals body) false scope loops =
+      behind end (token.Opening opening.For l ∷ []) (pardo_in low x high locals body scope loops)
 
   rolled : (y : Stmt-F Held) → IsTold (roll-Stmt (stmts y))
   unfolding statement_breaches statement_faults statement_tokens
   rolled y inside scope loops =
       let x = stmts y in
-      subst (λ f. ToldIn end (f (seen inside scope loops)) (statement_faults (roll-Stmt x) (stands inside scope loops)) (statement_tokens (roll-Stmt x)))
+      subst (λ f. ToldIn end (f (seen inside scope loops)) (statement_faults (roll-Stmt x) (stands inside scope loops))
+          (statement_tokens (roll-Stmt x)))
       (sym (fold-roll-Stmt Judged node_breaches x))
-      (subst (λ f. ToldIn end (node_breaches (map-Stmt Stmt Judged statement_breaches x) (seen inside scope loops)) (f (stands inside scope loops)) (statement_tokens (roll-Stmt x)))
+      (subst (λ f. ToldIn end (node_breaches (map-Stmt Stmt Judged statement_breaches x) (seen inside scope loops))
+          (f (stands inside scope loops)) (statement_tokens (roll-Stmt x)))
       (sym (fold-roll-Stmt Judged node_faults x))
-      (subst (ToldIn end (node_breaches (map-Stmt Stmt Judged statement_breaches x) (seen inside scope loops)) (node_faults (map-Stmt Stmt Judged statement_faults x) (stands inside scope loops)))
+      (subst (ToldIn end (node_breaches (map-Stmt Stmt Judged statement_breaches x) (seen inside scope loops))
+          (node_faults (map-Stmt Stmt Judged statement_faults x) (stands inside scope loops)))
       (sym (fold-roll-Stmt (List Token) statement_step x)) (layer y inside scope loops)))
 
   -- the first breach of a statement is the least of its faults

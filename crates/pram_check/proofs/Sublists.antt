@@ -75,13 +75,15 @@ increasing low high (x ∷ y ∷ xs) h (suc k) below =
     let next : suc k + 1 ≡ suc (k + 1) = omega arith in
     rw next (increasing (x + 1) high (y ∷ xs) h.1 k (omega (arith, below)))
 
-from_first : (low high x : ℕ) (xs : List ℕ) → low ≤ x → IsStrictlyIncreasing (x ∷ xs) → All (λ y. y < high) (x ∷ xs) → Between low (x ∷ xs) high
+from_first : (low high x : ℕ) (xs : List ℕ) → low ≤ x → IsStrictlyIncreasing (x ∷ xs) → All (λ y. y < high) (x ∷ xs) →
+    Between low (x ∷ xs) high
 from_first low high x [] least ascend inside = (least, let top : x < high = inside 0 0 (omega arith) in omega (arith, top))
 from_first low high x (y ∷ xs) least ascend inside =
     let next : x < y = ascend 0 (omega arith) in (
       least,
       from_first (x + 1) high y xs (omega (arith, next))
-          (λ k below. let later = ascend (suc k) (omega (arith, below)) in let is : suc k + 1 ≡ suc (k + 1) = omega arith in subst (λ j. slice_index (y ∷ xs) k < slice_index (x ∷ y ∷ xs) j) is later)
+          (λ k below. let later = ascend (suc k) (omega (arith, below)) in let is : suc k + 1 ≡ suc (k + 1) = omega arith in
+              subst (λ j. slice_index (y ∷ xs) k < slice_index (x ∷ y ∷ xs) j) is later)
           (λ k d below. inside (suc k) d (omega (arith, below))),
     )
 

@@ -14,18 +14,21 @@ use Rattle.pram_check.proofs.Least.{Told, ToldIn, told_nothing, told_append, tol
 use Rattle.pram_check.proofs.Lowest.{use_lowest}
 
 module _ (end : ℕ) (scope : Scope) where
-  told_uses : (n lo hi : ℕ) (us : List Use) → Between lo (use_offsets us) hi → Told end lo hi (use_breaches scope n us) (use_faults scope n us)
+  told_uses : (n lo hi : ℕ) (us : List Use) → Between lo (use_offsets us) hi → Told end lo hi (use_breaches scope n us)
+      (use_faults scope n us)
   told_uses n lo hi [] h = told_nothing end lo hi h
   told_uses n lo hi (u ∷ us) h =
       let m = meaning_of scope u.name.text in
       let l = u.name.location in
       let k = n + (if is_read m u.subscripted then 1 else 0) in
-      told_append end lo (l.offset + 1) hi (at l (or_else (use_cause m u.subscripted) (ninth n (is_read m u.subscripted)))) (use_breaches scope k us)
+      told_append end lo (l.offset + 1) hi (at l (or_else (use_cause m u.subscripted) (ninth n (is_read m u.subscripted))))
+          (use_breaches scope k us)
       (all_at l (use_causes m u.subscripted n)) (use_faults scope k us)
       (told_at end l _ (use_causes m u.subscripted n) lo (l.offset + 1) (use_lowest m u.subscripted n) h.0 (omega arith))
       (told_uses k (l.offset + 1) hi us h.1)
 
-  pub told_names : (n : ℕ) (us : List Use) (ts : List Token) → UsesIn us ts → ToldIn end (use_breaches scope n us) (use_faults scope n us) ts
+  pub told_names : (n : ℕ) (us : List Use) (ts : List Token) → UsesIn us ts → ToldIn end (use_breaches scope n us)
+      (use_faults scope n us) ts
   told_names n us ts a = record { told = λ lo hi h. told_uses n lo hi us (between_sub lo hi (use_offsets us) (places ts) a h) }
 
   pub told_expression : (n : ℕ) (e : Expr) → ToldIn end (use_breaches scope n (uses e)) (use_faults scope n (uses e)) (tokens e)
@@ -36,4 +39,5 @@ module _ (end : ℕ) (scope : Scope) where
       ToldIn end (use_breaches scope 0 (uses e ++ uses f)) (use_faults scope 0 (uses e ++ uses f)) (tokens e ++ (between ++ tokens f))
   told_two e f between =
       told_names 0 (uses e ++ uses f) (tokens e ++ (between ++ tokens f))
-      (join_uses (uses e) (uses f) (tokens e) (between ++ tokens f) (expression_places e) (behind_uses (uses f) between (tokens f) (expression_places f)))
+      (join_uses (uses e) (uses f) (tokens e) (between
+          ++ tokens f) (expression_places e) (behind_uses (uses f) between (tokens f) (expression_places f)))

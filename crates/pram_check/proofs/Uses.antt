@@ -33,7 +33,8 @@ uses-Prefix p i = ap uses (sym (e.rolls-Prefix p i)) ∙ fold-roll-Expr (List Us
 
 pub uses-Chain : (first : Expr) (rest : List (Binary × Expr)) → uses (e.Chain first rest) ≡ uses first ++ step_uses rest
 unfolding uses
-uses-Chain first rest = ap uses (sym (e.rolls-Chain first rest)) ∙ fold-roll-Expr (List Use) node_uses (Expr-F.Chain first rest) ∙ ap (λ l. uses first ++ l) (each rest)
+uses-Chain first rest = ap uses (sym (e.rolls-Chain first rest)) ∙ fold-roll-Expr (List Use) node_uses (Expr-F.Chain first rest)
+    ∙ ap (λ l. uses first ++ l) (each rest)
   where
     each : (rest : List (Binary × Expr)) → joined_uses (map (λ s. (s.0, uses s.1)) rest) ≡ step_uses rest
     each [] = refl

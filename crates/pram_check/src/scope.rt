@@ -91,6 +91,7 @@ fn empty_chains<'a>(alloc: Global) -> Result<Vec<Vec<Binding<'a>>>, AllocError>
 }
 
 impl<'a> Scope<'a> {
+    /// No names. Its chains are made at the first declaration.
     pub fn new(alloc: Global) -> Scope<'a>
         ensures { result ≡ [] }
     {
@@ -101,6 +102,7 @@ impl<'a> Scope<'a> {
         }
     }
 
+    /// How many names there are.
     pub fn len(&self) -> usize
         ensures { result ≡ length self.now }
     {

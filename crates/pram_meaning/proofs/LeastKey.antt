@@ -6,10 +6,7 @@ use Rattle.pram_meaning.specs.Conflict.{IsLeast, is_key_before, least, lesser}
 use Rattle.pram_meaning.specs.declared.key.Key.{Key}
 use Rattle.pram_values.specs.Place.{is_place_before}
 use Rattle.pram_values.specs.declared.place.Place.{Place}
-
-pub both_ways : (b : Bool) → (b ≡ true) ⊎ (b ≡ false)
-both_ways true = inl refl
-both_ways false = inr refl
+use Rattle.pram_model.proofs.Truths.{either}
 
 place_not_by : (p q r : Place) → is_place_before p q ≡ false → is_place_before q r ≡ false → (is_place_before p r ≡ true) ⊎ (is_place_before p r ≡ false) → (is_place_before q p ≡ true) ⊎ (is_place_before q p ≡ false) → is_place_before p r ≡ false
 place_not_by p q r a b (inr h) k = h
@@ -17,7 +14,7 @@ place_not_by p q r a b (inl h) (inl k) = let t : is_place_before q r ≡ true = 
 place_not_by p q r a b (inl h) (inr k) = let e : p ≡ q = one_is_before p q a k in ap (λ x. is_place_before x r) e ∙ b
 
 place_not : (p q r : Place) → is_place_before p q ≡ false → is_place_before q r ≡ false → is_place_before p r ≡ false
-place_not p q r a b = place_not_by p q r a b (both_ways (is_place_before p r)) (both_ways (is_place_before q p))
+place_not p q r a b = place_not_by p q r a b (either (is_place_before p r)) (either (is_place_before q p))
 
 pub key_irreflexive : (k : Key) → is_key_before k k ≡ false
 key_irreflexive k = let a = never_before_itself k.place in grind (arith, a)
@@ -84,14 +81,14 @@ Comes k ks = (m : Key) × (fold lesser (Some k) ks ≡ Some m) × IsLeastFrom k 
 comes_by : (k j : Key) (ks : List Key) → ((k : Key) → Comes k ks) → (is_key_before j k ≡ true) ⊎ (is_key_before j k ≡ false) → Comes k (j ∷ ks)
 comes_by k j ks rest (inl h) =
     let r = rest j in
-    (r.0, ap (λ c. fold lesser (if c then Some j else Some k) ks) h ∙ r.1, taken k j r.0 ks r.2 h (both_ways (is_key_before k r.0)))
+    (r.0, ap (λ c. fold lesser (if c then Some j else Some k) ks) h ∙ r.1, taken k j r.0 ks r.2 h (either (is_key_before k r.0)))
 comes_by k j ks rest (inr h) =
     let r = rest k in
     (r.0, ap (λ c. fold lesser (if c then Some j else Some k) ks) h ∙ r.1, left k j r.0 ks r.2 h)
 
 comes : (ks : List Key) (k : Key) → Comes k ks
 comes [] k = (k, refl, record { here = inl refl; start = key_irreflexive k; rest = All-nil (λ j. is_key_before j k ≡ false) })
-comes (j ∷ ks) k = comes_by k j ks (comes ks) (both_ways (is_key_before j k))
+comes (j ∷ ks) k = comes_by k j ks (comes ks) (either (is_key_before j k))
 
 whole : (k m : Key) (ks : List Key) → IsLeastFrom k ks m → IsLeast (k ∷ ks) (Some m)
 whole k m ks l = (elim l.here [ inl e ↦ subst (Contains (k ∷ ks)) (sym e) (contains_first k ks) | inr c ↦ contains_behind k ks m c ], All-cons (λ j. is_key_before j m ≡ false) k ks l.start l.rest)

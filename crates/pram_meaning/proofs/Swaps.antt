@@ -8,7 +8,8 @@ use Rattle.pram_values.specs.Place.{is_place_before}
 use Rattle.pram_meaning.specs.Conflict.{conflict_of, is_conflict, is_key_before, lesser, read_key}
 use Rattle.pram_meaning.specs.declared.key.Key.{Key}
 use Rattle.pram_meaning.specs.declared.read.Read.{Read}
-use Rattle.pram_meaning.proofs.LeastKey.{both_ways, key_irreflexive, key_passed_on}
+use Rattle.pram_meaning.proofs.LeastKey.{key_irreflexive, key_passed_on}
+use Rattle.pram_model.proofs.Truths.{either}
 
 -- ---- two keys of one kind
 
@@ -53,8 +54,8 @@ three_swap m j k same (inr a) (inr b) c d =
     ∙ sym (ap (λ c. lesser (if c then Some k else Some m) j) b ∙ ap (λ c. if c then Some j else Some m) a)
 
 swap_keys : (b : Option Key) (j k : Key) → j.kind ≡ k.kind → lesser (lesser b j) k ≡ lesser (lesser b k) j
-swap_keys None j k same = two_swap j k same (both_ways (is_key_before k j)) (both_ways (is_key_before j k))
-swap_keys (Some m) j k same = three_swap m j k same (both_ways (is_key_before j m)) (both_ways (is_key_before k m)) (both_ways (is_key_before k j)) (both_ways (is_key_before j k))
+swap_keys None j k same = two_swap j k same (either (is_key_before k j)) (either (is_key_before j k))
+swap_keys (Some m) j k same = three_swap m j k same (either (is_key_before j m)) (either (is_key_before k m)) (either (is_key_before k j)) (either (is_key_before j k))
 
 -- ---- two lists of reads
 

@@ -1,5 +1,6 @@
 -- The shared declarations of a program in order, and the numbers of their cells.
-use Rattle.std.specs.Prelude.{Bool, true, false, ◌≡◌, ℕ, zero, suc, ◌+◌, ◌^◌, List, [], ◌∷◌, Option, Some, None, ℤ, pos, ◌-ℤ◌, int_le, ◌&&◌, nat_abs, if◌then◌else◌}
+use Rattle.std.specs.Prelude.{Bool, true, false, ◌≡◌, ℕ, zero, suc, ◌+◌, ◌^◌, List, [], ◌∷◌, Option, Some, None, ℤ, pos, ◌-ℤ◌, int_le, ◌&&◌}
+use Rattle.std.specs.Prelude.{nat_abs, if◌then◌else◌}
 
 -- one shared declaration: its name, and its bounds where it is an array
 pub record SharedEntry : Type 0 where

@@ -18,7 +18,9 @@ use Rattle.pram_syntax.specs.declared.tree.Expr.{Expr}
 use Rattle.pram_syntax.specs.declared.tree.Expr.TheVariants as e
 use Rattle.pram_syntax.specs.declared.tree.Expr.TheOpen.{Expr-F}
 use Rattle.pram_syntax.specs.declared.tree.Expr.TheFolds.{fold-roll-Expr}
-use Rattle.pram_syntax.specs.Grammar.{tokens, step_tokens, chain, prefix_token, AreSteps, IsShort, Chained, chained, Compared, compared, IsAtom, number, name, element, paren, IsUnary, minus, atom, IsTerm, IsSum, IsComparison, IsNegation, not, comparison, IsConjunction, IsAt, Fits, Further}
+use Rattle.pram_syntax.specs.Grammar.{tokens, step_tokens, chain, prefix_token, AreSteps, IsShort, Chained, chained, Compared, compared}
+use Rattle.pram_syntax.specs.Grammar.{IsAtom, number, name, element, paren, IsUnary, minus, atom, IsTerm, IsSum, IsComparison, IsNegation}
+use Rattle.pram_syntax.specs.Grammar.{not, comparison, IsConjunction, IsAt, Fits, Further}
 use Rattle.pram_printer.specs.Places.{bare_expr, bare_name, bare_node, bare_number, start}
 use Rattle.pram_syntax.proofs.ExprTokens.{tokens-Number, tokens-Name, tokens-Element, tokens-Paren, tokens-Prefix, tokens-chain}
 
@@ -47,7 +49,8 @@ like_part (u ∷ us) vs (t ∷ ts) same =
     let a = same.all in
     let rest : Like ts (us ++ vs) = record { all = cc } in
     let p = like_part us vs ts rest in
-    (t ∷ p.0, p.1, ap (λ l. t ∷ l) p.2, record { all = let h : bare t ≡ bare u = cc in ap (λ x. x ∷ map bare p.0) h ∙ ap (λ l. bare u ∷ l) p.3.all }, p.4)
+    (t ∷ p.0, p.1, ap (λ l. t ∷ l) p.2, record { all = let h : bare t ≡ bare u = cc in ap (λ x. x ∷ map bare p.0) h
+        ∙ ap (λ l. bare u ∷ l) p.3.all }, p.4)
 
 -- a token that has no location
 abbrev pub IsFixed : Token → Type 0
@@ -79,16 +82,19 @@ fixed_not (token.Mark n) same = absurd (cc)
 
 pub like_fixed : (u : Token) → IsFixed u → (us ts : List Token) → Like ts (u ∷ us) → (rest : List Token) × (ts ≡ u ∷ rest) × Like rest us
 like_fixed u fixed us [] same = absurd (let a = same.all in cc)
-like_fixed u fixed us (t ∷ ts) same = let a = same.all in let h : bare t ≡ bare u = cc in (ts, ap (λ x. x ∷ ts) (fixed t h), record { all = cc })
+like_fixed u fixed us (t ∷ ts) same = let a = same.all in let h : bare t ≡ bare u = cc in
+    (ts, ap (λ x. x ∷ ts) (fixed t h), record { all = cc })
 
-pub like_name : (x : Name) (us ts : List Token) → Like ts (token.Name x ∷ us) → (y : Name) × (rest : List Token) × (ts ≡ token.Name y ∷ rest) × (bare_name y ≡ bare_name x) × Like rest us
+pub like_name : (x : Name) (us ts : List Token) → Like ts (token.Name x ∷ us) → (y : Name) × (rest : List Token)
+    × (ts ≡ token.Name y ∷ rest) × (bare_name y ≡ bare_name x) × Like rest us
 like_name x us [] same = absurd (let a = same.all in cc)
 like_name x us (t ∷ ts) same = by t (let a = same.all in cc)
   where
     rest : Like ts us
     rest = let a = same.all in record { all = cc }
 
-    by : (t : Token) → bare t ≡ token.Name (bare_name x) → (y : Name) × (rest : List Token) × (t ∷ ts ≡ token.Name y ∷ rest) × (bare_name y ≡ bare_name x) × Like rest us
+    by : (t : Token) → bare t ≡ token.Name (bare_name x) → (y : Name) × (rest : List Token) × (t ∷ ts ≡ token.Name y ∷ rest)
+        × (bare_name y ≡ bare_name x) × Like rest us
     by (token.Name y) h = (y, ts, refl, cc, rest)
     by (token.Number n) h = absurd (cc)
     by (token.Binary o) h = absurd (cc)
@@ -104,7 +110,8 @@ like_number x us (t ∷ ts) same = by t (let a = same.all in cc)
     rest : Like ts us
     rest = let a = same.all in record { all = cc }
 
-    by : (t : Token) → bare t ≡ token.Number (bare_number x) → (y : Numeral) × (rest : List Token) × (t ∷ ts ≡ token.Number y ∷ rest) × (bare_number y ≡ bare_number x) × Like rest us
+    by : (t : Token) → bare t ≡ token.Number (bare_number x) → (y : Numeral) × (rest : List Token) × (t ∷ ts ≡ token.Number y ∷ rest)
+        × (bare_number y ≡ bare_number x) × Like rest us
     by (token.Name y) h = absurd (cc)
     by (token.Number y) h = (y, ts, refl, cc, rest)
     by (token.Binary o) h = absurd (cc)
@@ -112,14 +119,16 @@ like_number x us (t ∷ ts) same = by t (let a = same.all in cc)
     by (token.Opening o at) h = absurd (cc)
     by (token.Mark n) h = absurd (cc)
 
-pub like_opening : (o : Opening) (at : Location) (us ts : List Token) → Like ts (token.Opening o at ∷ us) → (p : Location) × (rest : List Token) × (ts ≡ token.Opening o p ∷ rest) × Like rest us
+pub like_opening : (o : Opening) (at : Location) (us ts : List Token) → Like ts (token.Opening o at ∷ us) →
+    (p : Location) × (rest : List Token) × (ts ≡ token.Opening o p ∷ rest) × Like rest us
 like_opening o at us [] same = absurd (let a = same.all in cc)
 like_opening o at us (t ∷ ts) same = by t (let a = same.all in cc)
   where
     rest : Like ts us
     rest = let a = same.all in record { all = cc }
 
-    by : (t : Token) → bare t ≡ token.Opening o start → (p : Location) × (rest : List Token) × (t ∷ ts ≡ token.Opening o p ∷ rest) × Like rest us
+    by : (t : Token) → bare t ≡ token.Opening o start → (p : Location) × (rest : List Token) × (t ∷ ts ≡ token.Opening o p ∷ rest)
+        × Like rest us
     by (token.Name y) h = absurd (cc)
     by (token.Number y) h = absurd (cc)
     by (token.Binary o) h = absurd (cc)
@@ -197,12 +206,14 @@ module _ (l : Level) (P : Expr → Type 0) (moves : (x : Expr) → P x → Moves
         fits = (h.0, one.fits, more.fits);
         has = ap (λ v. token.Binary s.0 ∷ (v ++ step_tokens more.there)) one.has ∙ ap (λ v. token.Binary s.0 ∷ (q.0 ++ v)) more.has
             ∙ ap (λ v. token.Binary s.0 ∷ v) (sym q.2) ∙ sym p.1;
-        same = ap (λ x. let z : Binary × Expr = (s.0, x) in z ∷ bare_steps more.there) one.same ∙ ap (λ r. let z : Binary × Expr = (s.0, bare_expr s.1) in z ∷ r) more.same;
+        same = ap (λ x. let z : Binary × Expr = (s.0, x) in z ∷ bare_steps more.there) one.same
+            ∙ ap (λ r. let z : Binary × Expr = (s.0, bare_expr s.1) in z ∷ r) more.same;
       }
 
   -- the first operand and the rest, as they stand there
   chain_moves : (Q : Expr → Type 0) (first : Expr) (rest : List (Binary × Expr)) → P first → AreSteps l P rest →
-      ((f : Expr) (r : List (Binary × Expr)) → P f → AreSteps l P r → bare_steps r ≡ bare_steps rest → Q (chain f r)) → Moves Q (chain first rest)
+      ((f : Expr) (r : List (Binary × Expr)) → P f → AreSteps l P r → bare_steps r ≡ bare_steps rest → Q (chain f r)) →
+          Moves Q (chain first rest)
   chain_moves Q first rest one more put ts same =
       let q = like_part (tokens first) (step_tokens rest) ts (like_as (tokens-chain first rest) same) in
       let f = moves first one q.0 q.3 in
@@ -211,20 +222,23 @@ module _ (l : Level) (P : Expr → Type 0) (moves : (x : Expr) → P x → Moves
         there = chain f.there r.there;
         fits = put f.there r.there f.fits r.fits r.same;
         has = tokens-chain f.there r.there ∙ ap (λ v. v ++ step_tokens r.there) f.has ∙ ap (λ v. q.0 ++ v) r.has ∙ sym q.2;
-        same = bare-chain f.there r.there ∙ ap (λ z. chain z (bare_steps r.there)) f.same ∙ ap (chain (bare_expr first)) r.same ∙ sym (bare-chain first rest);
+        same = bare-chain f.there r.there ∙ ap (λ z. chain z (bare_steps r.there)) f.same ∙ ap (chain (bare_expr first)) r.same
+            ∙ sym (bare-chain first rest);
       }
 
   chained_moves : (x : Expr) → Chained l P x → Moves (Chained l P) x
   chained_moves _ (chained first rest one more) = chain_moves (Chained l P) first rest one more (λ f r hf hr same. chained f r hf hr)
 
   compared_moves : (x : Expr) → Compared l P x → Moves (Compared l P) x
-  compared_moves _ (compared first rest one more short) = chain_moves (Compared l P) first rest one more (λ f r hf hr same. compared f r hf hr (short_there r rest same short))
+  compared_moves _ (compared first rest one more short) =
+      chain_moves (Compared l P) first rest one more (λ f r hf hr same. compared f r hf hr (short_there r rest same short))
 
 widened : {P Q : Expr → Type 0} {x : Expr} {ts : List Token} → ((y : Expr) → P y → Q y) → Moved P x ts → Moved Q x ts
 widened up m = record { there = m.there; fits = up m.there m.fits; has = m.has; same = m.same }
 
 module _ (I : Level → Expr → Type 0) (inner : (l : Level) (x : Expr) → I l x → Moves (I l) x) where
-  prefix_moves : (l : Level) (Q : Expr → Type 0) (p : Prefix) (i : Expr) → IsFixed (prefix_token p) → I l i → ((j : Expr) → I l j → Q (e.Prefix p j)) → Moves Q (e.Prefix p i)
+  prefix_moves : (l : Level) (Q : Expr → Type 0) (p : Prefix) (i : Expr) → IsFixed (prefix_token p) → I l i →
+      ((j : Expr) → I l j → Q (e.Prefix p j)) → Moves Q (e.Prefix p i)
   prefix_moves l Q p i fixed h put ts same =
       let q = like_fixed (prefix_token p) fixed (tokens i) ts (like_as (tokens-Prefix p i) same) in
       let m = inner l i h q.0 q.2 in
@@ -255,8 +269,10 @@ module _ (I : Level → Expr → Type 0) (inner : (l : Level) (x : Expr) → I l
         same = bare-Name q.0 ∙ ap e.Name q.3 ∙ sym (bare-Name x);
       }
   atom_moves _ (element x i h) ts same =
-      let q = like_name x (token.Mark mark.OpenBracket ∷ (tokens i ++ token.Mark mark.CloseBracket ∷ [])) ts (like_as (tokens-Element x i) same) in
-      let o = like_fixed (token.Mark mark.OpenBracket) (fixed_mark mark.OpenBracket) (tokens i ++ token.Mark mark.CloseBracket ∷ []) q.1 q.4 in
+      let q = like_name x (token.Mark mark.OpenBracket ∷ (tokens i ++ token.Mark mark.CloseBracket ∷ [])) ts
+          (like_as (tokens-Element x i) same) in
+      let o = like_fixed (token.Mark mark.OpenBracket) (fixed_mark mark.OpenBracket) (tokens i ++ token.Mark mark.CloseBracket
+          ∷ []) q.1 q.4 in
       let p = like_part (tokens i) (token.Mark mark.CloseBracket ∷ []) o.0 o.2 in
       let m = inner level.Expression i h p.0 p.3 in
       let c = like_fixed (token.Mark mark.CloseBracket) (fixed_mark mark.CloseBracket) [] p.1 p.4 in
@@ -264,13 +280,17 @@ module _ (I : Level → Expr → Type 0) (inner : (l : Level) (x : Expr) → I l
       record {
         there = e.Element q.0 m.there;
         fits = element q.0 m.there m.fits;
-        has = tokens-Element q.0 m.there ∙ ap (λ v. token.Name q.0 ∷ (token.Mark mark.OpenBracket ∷ (v ++ token.Mark mark.CloseBracket ∷ []))) m.has
-            ∙ ap (λ v. token.Name q.0 ∷ (token.Mark mark.OpenBracket ∷ (p.0 ++ v))) (ap (λ v. token.Mark mark.CloseBracket ∷ v) (sym none) ∙ sym c.1)
+        has = tokens-Element q.0 m.there
+            ∙ ap (λ v. token.Name q.0 ∷ (token.Mark mark.OpenBracket ∷ (v ++ token.Mark mark.CloseBracket ∷ []))) m.has
+            ∙ ap (λ v. token.Name q.0 ∷ (token.Mark mark.OpenBracket ∷ (p.0 ++ v))) (ap (λ v. token.Mark mark.CloseBracket ∷ v) (sym none)
+                ∙ sym c.1)
             ∙ ap (λ v. token.Name q.0 ∷ (token.Mark mark.OpenBracket ∷ v)) (sym p.2) ∙ ap (λ v. token.Name q.0 ∷ v) (sym o.1) ∙ sym q.2;
-        same = bare-Element q.0 m.there ∙ ap (λ z. e.Element z (bare_expr m.there)) q.3 ∙ ap (e.Element (bare_name x)) m.same ∙ sym (bare-Element x i);
+        same = bare-Element q.0 m.there ∙ ap (λ z. e.Element z (bare_expr m.there)) q.3 ∙ ap (e.Element (bare_name x)) m.same
+            ∙ sym (bare-Element x i);
       }
   atom_moves _ (paren i h) ts same =
-      let o = like_fixed (token.Mark mark.OpenParen) (fixed_mark mark.OpenParen) (tokens i ++ token.Mark mark.CloseParen ∷ []) ts (like_as (tokens-Paren i) same) in
+      let o = like_fixed (token.Mark mark.OpenParen) (fixed_mark mark.OpenParen) (tokens i ++ token.Mark mark.CloseParen
+          ∷ []) ts (like_as (tokens-Paren i) same) in
       let p = like_part (tokens i) (token.Mark mark.CloseParen ∷ []) o.0 o.2 in
       let m = inner level.Expression i h p.0 p.3 in
       let c = like_fixed (token.Mark mark.CloseParen) (fixed_mark mark.CloseParen) [] p.1 p.4 in

@@ -1,5 +1,6 @@
 -- The spelling of each form of expression and statement, and printing one part behind the other.
-use Rattle.std.proofs.Common.{◌≡◌, ℕ, List, [], ◌∷◌, ◌++◌, Bool, true, false, refl, sym, ap, ◌∙◌, subst, append_assoc, suc, ◌+◌, ◌<◌, ◌≤◌, length, drop, drop-cons, get_or, add-one}
+use Rattle.std.proofs.Common.{◌≡◌, ℕ, List, [], ◌∷◌, ◌++◌, Bool, true, false, refl, sym, ap, ◌∙◌, subst, append_assoc, suc, ◌+◌, ◌<◌, ◌≤◌}
+use Rattle.std.proofs.Common.{length, drop, drop-cons, get_or, add-one}
 use Rattle.std.proofs.lemmas.List.{append-nil, drop_all}
 use Rattle.std.specs.Prelude.{Option, Some, None}
 use Rattle.pram_tokens.specs.declared.token.Binary.{Binary}
@@ -24,7 +25,8 @@ use Rattle.text_out.specs.Printing.{Printing, Prints, PrintsBy, printing}
 use Rattle.pram_syntax.specs.Program.{ProgramTree, declarations_tokens, header_tokens, program_tokens}
 use Rattle.pram_printer.specs.Spelling.{opening_text, spelled, spelling}
 use Rattle.pram_syntax.proofs.ExprTokens.{tokens-Number, tokens-Name, tokens-Element, tokens-Paren, tokens-Prefix, tokens-Chain}
-use Rattle.pram_syntax.proofs.StmtTokens.{spell_assign, spell_assign_element, spell_print, spell_while, spell_if_then, spell_if_else, spell_for, spell_pardo}
+use Rattle.pram_syntax.proofs.StmtTokens.{spell_assign, spell_assign_element, spell_print, spell_while, spell_if_then, spell_if_else}
+use Rattle.pram_syntax.proofs.StmtTokens.{spell_for, spell_pardo}
 
 pub spelling-append : (a b : List Token) → spelling (a ++ b) ≡ spelling a ++ spelling b
 spelling-append [] b = refl
@@ -36,18 +38,23 @@ spelling-Number n = ap spelling (tokens-Number n) ∙ append-nil (spelled (token
 pub spelling-Name : (x : Name) → spelling (tokens (e.Name x)) ≡ spelled (token.Name x)
 spelling-Name x = ap spelling (tokens-Name x) ∙ append-nil (spelled (token.Name x))
 
-pub spelling-Paren : (i : Expr) → spelling (tokens (e.Paren i)) ≡ spelled (token.Mark mark.OpenParen) ++ (spelling (tokens i) ++ spelled (token.Mark mark.CloseParen))
-spelling-Paren i = ap spelling (tokens-Paren i) ∙ ap (λ l. spelled (token.Mark mark.OpenParen) ++ l) (spelling-append (tokens i) (token.Mark mark.CloseParen ∷ []))
+pub spelling-Paren : (i : Expr) → spelling (tokens (e.Paren i)) ≡ spelled (token.Mark mark.OpenParen)
+    ++ (spelling (tokens i) ++ spelled (token.Mark mark.CloseParen))
+spelling-Paren i = ap spelling (tokens-Paren i)
+    ∙ ap (λ l. spelled (token.Mark mark.OpenParen) ++ l) (spelling-append (tokens i) (token.Mark mark.CloseParen ∷ []))
 
 pub spelling-Element : (x : Name) (i : Expr) → spelling (tokens (e.Element x i))
     ≡ spelled (token.Name x) ++ (spelled (token.Mark mark.OpenBracket) ++ (spelling (tokens i) ++ spelled (token.Mark mark.CloseBracket)))
 spelling-Element x i =
-    ap spelling (tokens-Element x i) ∙ ap (λ l. spelled (token.Name x) ++ (spelled (token.Mark mark.OpenBracket) ++ l)) (spelling-append (tokens i) (token.Mark mark.CloseBracket ∷ []))
+    ap spelling (tokens-Element x i)
+        ∙ ap (λ l. spelled (token.Name x) ++ (spelled (token.Mark mark.OpenBracket) ++ l))
+        (spelling-append (tokens i) (token.Mark mark.CloseBracket ∷ []))
 
 pub spelling-Prefix : (p : Prefix) (i : Expr) → spelling (tokens (e.Prefix p i)) ≡ spelled (prefix_token p) ++ spelling (tokens i)
 spelling-Prefix p i = ap spelling (tokens-Prefix p i)
 
-pub spelling-Chain : (first : Expr) (rest : List (Binary × Expr)) → spelling (tokens (e.Chain first rest)) ≡ spelling (tokens first) ++ spelling (step_tokens rest)
+pub spelling-Chain : (first : Expr) (rest : List (Binary × Expr)) → spelling (tokens (e.Chain first rest)) ≡ spelling (tokens first)
+    ++ spelling (step_tokens rest)
 spelling-Chain first rest = ap spelling (tokens-Chain first rest) ∙ spelling-append (tokens first) (step_tokens rest)
 
 -- an operator and the operand behind it
@@ -64,13 +71,16 @@ pub ruleset printed = (spelling-Number, spelling-Name, spelling-Paren, spelling-
 -- Each form of expression, by the parts that are printed.
 
 pub as_element : (x : Expr) (name : Name) (i j : Expr) → x ≡ e.Element name i → j ≡ i → spelling (tokens x)
-    ≡ spelled (token.Name name) ++ (spelled (token.Mark mark.OpenBracket) ++ (spelling (tokens j) ++ spelled (token.Mark mark.CloseBracket)))
+    ≡ spelled (token.Name name) ++ (spelled (token.Mark mark.OpenBracket)
+        ++ (spelling (tokens j) ++ spelled (token.Mark mark.CloseBracket)))
 as_element x name i j is same = ap (λ z. spelling (tokens z)) (is ∙ ap (e.Element name) (sym same)) ∙ spelling-Element name j
 
-pub as_paren : (x i j : Expr) → x ≡ e.Paren i → j ≡ i → spelling (tokens x) ≡ spelled (token.Mark mark.OpenParen) ++ (spelling (tokens j) ++ spelled (token.Mark mark.CloseParen))
+pub as_paren : (x i j : Expr) → x ≡ e.Paren i → j ≡ i → spelling (tokens x) ≡ spelled (token.Mark mark.OpenParen)
+    ++ (spelling (tokens j) ++ spelled (token.Mark mark.CloseParen))
 as_paren x i j is same = ap (λ z. spelling (tokens z)) (is ∙ ap e.Paren (sym same)) ∙ spelling-Paren j
 
-pub as_prefix : (x : Expr) (p : Prefix) (i j : Expr) → x ≡ e.Prefix p i → j ≡ i → spelling (tokens x) ≡ spelled (prefix_token p) ++ spelling (tokens j)
+pub as_prefix : (x : Expr) (p : Prefix) (i j : Expr) → x ≡ e.Prefix p i → j ≡ i → spelling (tokens x) ≡ spelled (prefix_token p)
+    ++ spelling (tokens j)
 as_prefix x p i j is same = ap (λ z. spelling (tokens z)) (is ∙ ap (e.Prefix p) (sym same)) ∙ spelling-Prefix p j
 
 pub as_chain : (x first one : Expr) (rest all : List (Binary × Expr)) → x ≡ e.Chain first rest → one ≡ first → all ≡ rest →
@@ -99,38 +109,47 @@ turns_text x low high = spelled (token.Name x) ++ (marked mark.Becomes ++ (shown
 
 abbrev pub range_text : Expr → Name → Expr → List ℕ
 range_text low x high =
-    shown low ++ (spelled (token.Binary op.AtMost) ++ (spelled (token.Name x) ++ (spelled (token.Binary op.AtMost) ++ (shown high ++ marked mark.Pardo))))
+    shown low ++ (spelled (token.Binary op.AtMost)
+        ++ (spelled (token.Name x) ++ (spelled (token.Binary op.AtMost) ++ (shown high ++ marked mark.Pardo))))
 
 -- Each form of statement.
 
 pub spelling-assign : (x : Name) (v : Expr) → spelling (statement_tokens (s.Assign x v)) ≡ spelled (token.Name x) ++ assigned_text v
 spelling-assign x v = ap spelling (sym (append-nil _) ∙ spell_assign [] x v) ∙ simp (spelling-append, append_assoc)
 
-pub spelling-assign_element : (x : Name) (i v : Expr) → spelling (statement_tokens (s.AssignElement x i v)) ≡ element_text x i ++ assigned_text v
+pub spelling-assign_element : (x : Name) (i v : Expr) → spelling (statement_tokens (s.AssignElement x i v)) ≡ element_text x i
+    ++ assigned_text v
 spelling-assign_element x i v = ap spelling (sym (append-nil _) ∙ spell_assign_element [] x i v) ∙ simp (spelling-append, append_assoc)
 
-pub spelling-print : (at : Location) (v : Expr) → spelling (statement_tokens (s.Print at v)) ≡ opened opening.Print ++ (shown v ++ marked mark.Semicolon)
+pub spelling-print : (at : Location) (v : Expr) → spelling (statement_tokens (s.Print at v)) ≡ opened opening.Print
+    ++ (shown v ++ marked mark.Semicolon)
 spelling-print at v = ap spelling (sym (append-nil _) ∙ spell_print [] at v) ∙ simp (spelling-append, append_assoc)
 
 pub spelling-while : (at : Location) (c : Expr) (body : List Stmt) → spelling (statement_tokens (s.While at c body))
     ≡ opened opening.While ++ (shown c ++ (marked mark.Do ++ (spelling (block_tokens body) ++ marked mark.End)))
 spelling-while at c body = ap spelling (sym (append-nil _) ∙ spell_while [] at c body) ∙ simp (spelling-append, append_assoc)
 
-pub spelling-if : (at : Location) (c : Expr) (body : List Stmt) (other : Option (List Stmt)) → spelling (statement_tokens (s.If at c body other))
-    ≡ opened opening.If ++ (shown c ++ (marked mark.Then ++ (spelling (block_tokens body) ++ (spelling (else_tokens other) ++ marked mark.End))))
+pub spelling-if : (at : Location) (c : Expr) (body : List Stmt) (other : Option (List Stmt)) →
+    spelling (statement_tokens (s.If at c body other))
+    ≡ opened opening.If ++ (shown c
+        ++ (marked mark.Then ++ (spelling (block_tokens body) ++ (spelling (else_tokens other) ++ marked mark.End))))
 spelling-if at c body None = ap spelling (sym (append-nil _) ∙ spell_if_then [] at c body) ∙ simp (spelling-append, append_assoc)
-spelling-if at c body (Some other) = ap spelling (sym (append-nil _) ∙ spell_if_else [] at c body other) ∙ simp (spelling-append, append_assoc)
+spelling-if at c body (Some other) = ap spelling (sym (append-nil _) ∙ spell_if_else [] at c body other)
+    ∙ simp (spelling-append, append_assoc)
 
 pub spelling-for : (at : Location) (x : Name) (low high : Expr) (body : List Stmt) → spelling (statement_tokens (s.For at x low high body))
     ≡ opened opening.For ++ (turns_text x low high ++ (spelling (block_tokens body) ++ marked mark.End))
 spelling-for at x low high body = ap spelling (sym (append-nil _) ∙ spell_for [] at x low high body) ∙ simp (spelling-append, append_assoc)
 
-pub spelling-pardo : (at : Location) (low : Expr) (x : Name) (high : Expr) (locals : List Name) (body : List Stmt) → spelling (statement_tokens (s.Pardo at low x high locals body))
+pub spelling-pardo : (at : Location) (low : Expr) (x : Name) (high : Expr) (locals : List Name) (body : List Stmt) →
+    spelling (statement_tokens (s.Pardo at low x high locals body))
     ≡ opened opening.For ++ (range_text low x high ++ (spelling (local_tokens locals) ++ (spelling (block_tokens body) ++ marked mark.End)))
-spelling-pardo at low x high locals body = ap spelling (sym (append-nil _) ∙ spell_pardo [] at low x high locals body) ∙ simp (spelling-append, append_assoc)
+spelling-pardo at low x high locals body = ap spelling (sym (append-nil _) ∙ spell_pardo [] at low x high locals body)
+    ∙ simp (spelling-append, append_assoc)
 
 pub spelling-program : (p : ProgramTree) → spelling (program_tokens p)
-    ≡ spelling (header_tokens p.rule p.rule_location p.procs []) ++ (spelling (declarations_tokens p.declarations) ++ (marked mark.Begin ++ (spelling (block_tokens p.body) ++ marked mark.End)))
+    ≡ spelling (header_tokens p.rule p.rule_location p.procs [])
+        ++ (spelling (declarations_tokens p.declarations) ++ (marked mark.Begin ++ (spelling (block_tokens p.body) ++ marked mark.End)))
 spelling-program p =
     let end = token.Mark mark.End ∷ [] in
     let rest = token.Mark mark.Begin ∷ (block_tokens p.body ++ end) in

@@ -1,5 +1,6 @@
 -- What was spelled is cut into the same tokens again.
-use Rattle.std.proofs.Common.{◌≡◌, ℕ, zero, suc, ◌+◌, ◌<◌, ◌≤◌, ℤ, pos, negsuc, Bool, true, false, List, [], ◌∷◌, ◌++◌, map, length, refl, sym, ap, ◌∙◌, subst, arith, rules, lit≤, append_assoc, length-append, take, drop, Some, None, nat_eq, Ok}
+use Rattle.std.proofs.Common.{◌≡◌, ℕ, zero, suc, ◌+◌, ◌<◌, ◌≤◌, ℤ, pos, negsuc, Bool, true, false, List, [], ◌∷◌, ◌++◌, map, length, refl}
+use Rattle.std.proofs.Common.{sym, ap, ◌∙◌, subst, arith, rules, lit≤, append_assoc, length-append, take, drop, Some, None, nat_eq, Ok}
 use Rattle.std.proofs.lemmas.Bool.Decides.{nat_tests}
 use Rattle.std.proofs.lemmas.Int.{ints}
 use Rattle.std.specs.List.{prefix_len}
@@ -21,7 +22,8 @@ use Rattle.pram_tokens.specs.declared.token.Opening.TheVariants as opening
 use Rattle.pram_tokens.specs.declared.token.Token.{Token}
 use Rattle.pram_tokens.specs.declared.token.Token.TheVariants as token
 use Rattle.pram_tokens.specs.declared.words.Fixed.{Fixed}
-use Rattle.pram_tokens.specs.Lexemes.{is_blank, keyword, largest, lexeme_at, lookup, number_lexeme, operator_words, program_words, statement_words, value_after, word_lexeme}
+use Rattle.pram_tokens.specs.Lexemes.{is_blank, keyword, largest, lexeme_at, lookup, number_lexeme, operator_words, program_words}
+use Rattle.pram_tokens.specs.Lexemes.{statement_words, value_after, word_lexeme}
 use Rattle.pram_printer.specs.Places.{IsReadBack, start}
 use Rattle.pram_syntax.specs.Program.{IsTree, ProgramTree, limit, program_tokens}
 use Rattle.pram_tokens.specs.Scanning.{cut, line_after, longest, next_line, place, scan, with_front}
@@ -33,24 +35,21 @@ use Rattle.pram_tokens.proofs.Lexing.{spellings}
 use Rattle.pram_printer.proofs.Moving.{bare}
 use Rattle.pram_tokens.proofs.Scans.{pass_blank, pass_token}
 use Rattle.pram_printer.proofs.StmtMoving.{program_moves}
+use Rattle.pram_model.proofs.Truths.{both}
 
 -- a list whose elements all pass
 abbrev pub AllIn : (ℕ → Bool) → List ℕ → Type 0
 AllIn p [] = Unit {0}
 AllIn p (b ∷ bs) = (p b ≡ true) × AllIn p bs
 
-both_true : (x y : Bool) → (x && y) ≡ true → (x ≡ true) × (y ≡ true)
-both_true true true h = (refl, refl)
-both_true true false h = absurd (cc)
-both_true false y h = absurd (cc)
-
 all_words : (bs : List ℕ) → are_words bs ≡ true → AllIn is_word bs
 all_words [] h = tt
-all_words (b ∷ bs) h = let p = both_true (is_word b) (are_words bs) h in (p.0, all_words bs p.1)
+all_words (b ∷ bs) h = let p = both (is_word b) (are_words bs) h in (p.0, all_words bs p.1)
 
 run : (p : ℕ → Bool) (bs : List ℕ) (e : ℕ) (rest : List ℕ) → AllIn p bs → p e ≡ false → prefix_len p (bs ++ e ∷ rest) ≡ length bs
 run p [] e rest h stops = rw stops refl
-run p (b ∷ bs) e rest h stops = rw h.0 (ap (λ n. 1 + n) (run p bs e rest h.1 stops) ∙ (let e : 1 + length bs ≡ suc (length bs) = omega arith in e))
+run p (b ∷ bs) e rest h stops =
+    rw h.0 (ap (λ n. 1 + n) (run p bs e rest h.1 stops) ∙ (let e : 1 + length bs ≡ suc (length bs) = omega arith in e))
 
 take_front : (bs rest : List ℕ) → take (length bs) (bs ++ rest) ≡ bs
 take_front [] rest = refl
@@ -62,7 +61,8 @@ drop_front (b ∷ bs) rest = drop_front bs rest
 
 -- A word that is no keyword is in none of the tables.
 
-listed-by : (b : Bool) (f : Fixed) (x : Option Fixed) (y : Bool) → (y ≡ false → x ≡ None) → (b || y) ≡ false → (if b then Some f else x) ≡ None
+listed-by : (b : Bool) (f : Fixed) (x : Option Fixed) (y : Bool) → (y ≡ false → x ≡ None) → (b || y) ≡ false →
+    (if b then Some f else x) ≡ None
 listed-by true f x y h is = absurd (cc)
 listed-by false f x y h is = h is
 
@@ -75,7 +75,8 @@ neither : (a b : List (List ℕ)) (word : List ℕ) → is_one_of (a ++ b) word 
 neither [] b word h = (refl, h)
 neither (x ∷ a) b word h = both (same_text x word) (is_one_of a word) (is_one_of (a ++ b) word) (neither a b word) h
   where
-    both : (p q r : Bool) → (r ≡ false → (q ≡ false) × (is_one_of b word ≡ false)) → (p || r) ≡ false → ((p || q) ≡ false) × (is_one_of b word ≡ false)
+    both : (p q r : Bool) → (r ≡ false → (q ≡ false) × (is_one_of b word ≡ false)) → (p || r) ≡ false →
+        ((p || q) ≡ false) × (is_one_of b word ≡ false)
     both true q r k is = absurd (cc)
     both false q r k is = k is
 
@@ -100,7 +101,8 @@ module _ (at : Location) (rest : List ℕ) where
   letter_only b h = (grind (arith, nat_tests), grind (arith, nat_tests), grind (arith, nat_tests))
 
   -- the tests are variables here, since a rewrite at the text itself would also reach into the span
-  pick : (a b c d : Bool) (v w x y z : Lexeme) → a ≡ false → b ≡ false → c ≡ false → d ≡ true → (if a then v else (if b then w else (if c then x else (if d then y else z)))) ≡ y
+  pick : (a b c d : Bool) (v w x y z : Lexeme) → a ≡ false → b ≡ false → c ≡ false → d ≡ true →
+      (if a then v else (if b then w else (if c then x else (if d then y else z)))) ≡ y
   pick a b c d v w x y z p q r s = rw (p, q, r, s) refl
 
   read_letter : (b : ℕ) (bs : List ℕ) → is_letter b ≡ true → AllIn is_word (b ∷ bs) → keyword (b ∷ bs) ≡ None →
@@ -112,9 +114,11 @@ module _ (at : Location) (rest : List ℕ) where
       let spanned : prefix_len is_word text ≡ length (b ∷ bs) = run is_word (b ∷ bs) 32 rest words refl in
       let taken : take (length (b ∷ bs)) text ≡ b ∷ bs = take_front (b ∷ bs) (32 ∷ rest) in
       pick (is_blank b) (nat_eq b 35) (is_digit b) (is_letter b) _ _ _ _ _ o.0 o.1 o.2 letter
-      ∙ (ap (λ n. word_lexeme at (take n text) (keyword (take n text))) spanned ∙ ap (λ l. word_lexeme at l (keyword l)) taken ∙ ap (word_lexeme at (b ∷ bs)) free)
+      ∙ (ap (λ n. word_lexeme at (take n text) (keyword (take n text))) spanned ∙ ap (λ l. word_lexeme at l (keyword l)) taken
+          ∙ ap (word_lexeme at (b ∷ bs)) free)
 
-  read_name : (bs : List ℕ) → IsName bs → lexeme_at at (bs ++ (32 ∷ rest)) ≡ lexeme.Token (token.Name (record { text = bs; location = at })) (length bs)
+  read_name : (bs : List ℕ) → IsName bs → lexeme_at at (bs ++ (32 ∷ rest)) ≡ lexeme.Token (token.Name (record { text = bs; location = at }))
+      (length bs)
   read_name [] n = absurd (let h = n.letter in cc)
   read_name (b ∷ bs) n = read_letter b bs n.letter (all_words (b ∷ bs) n.words) (no_keyword (b ∷ bs) n.no_keyword)
 
@@ -126,17 +130,20 @@ module _ (at : Location) (rest : List ℕ) where
 
   digits_model : IsNumeralModel (AllIn is_digit) (value_after 0)
   digits_model =
-      numerals_by_fold (AllIn is_digit) (record { empty = tt; parts = λ c cs h. (digit_range c h.0, h.1); more = λ c cs r h. (range_digit c r, h) }) value_after
+      numerals_by_fold (AllIn is_digit) (record { empty = tt; parts = λ c cs h. (digit_range c h.0, h.1);
+          more = λ c cs r h. (range_digit c r, h) }) value_after
       (record { empty = λ n. refl; more = λ n c cs r. refl })
 
   digit_only : (b : ℕ) → is_digit b ≡ true → (is_blank b ≡ false) × (nat_eq b 35 ≡ false)
   digit_only b h = (grind (arith, nat_tests), grind (arith, nat_tests))
 
-  pick_digit : (a b c : Bool) (v w x y : Lexeme) → a ≡ false → b ≡ false → c ≡ true → (if a then v else (if b then w else (if c then x else y))) ≡ x
+  pick_digit : (a b c : Bool) (v w x y : Lexeme) → a ≡ false → b ≡ false → c ≡ true →
+      (if a then v else (if b then w else (if c then x else y))) ≡ x
   pick_digit a b c v w x y p q r = rw (p, q, r) refl
 
   read_digits : (b : ℕ) (bs : List ℕ) → AllIn is_digit (b ∷ bs) → nat_lt largest (value_after 0 (b ∷ bs)) ≡ false →
-      lexeme_at at (b ∷ (bs ++ (32 ∷ rest))) ≡ lexeme.Token (token.Number (record { value = pos (value_after 0 (b ∷ bs)); location = at })) (length (b ∷ bs))
+      lexeme_at at (b ∷ (bs ++ (32 ∷ rest))) ≡ lexeme.Token (token.Number (record { value = pos (value_after 0 (b ∷ bs)); location = at }))
+          (length (b ∷ bs))
   unfolding lexeme_at
   read_digits b bs all fits =
       let o = digit_only b all.0 in
@@ -145,10 +152,13 @@ module _ (at : Location) (rest : List ℕ) where
       let taken : take (length (b ∷ bs)) text ≡ b ∷ bs = take_front (b ∷ bs) (32 ∷ rest) in
       let dropped : drop (length (b ∷ bs)) text ≡ 32 ∷ rest = drop_front (b ∷ bs) (32 ∷ rest) in
       pick_digit (is_blank b) (nat_eq b 35) (is_digit b) _ _ _ _ o.0 o.1 all.0
-      ∙ ap (λ n. number_lexeme at (take n text) (drop n text)) spanned ∙ ap (λ l. number_lexeme at l (drop (length (b ∷ bs)) text)) taken ∙ ap (number_lexeme at (b ∷ bs)) dropped
-      ∙ ap (λ c. if c || is_word 32 then lexeme.Bad else lexeme.Token (token.Number (record { value = pos (value_after 0 (b ∷ bs)); location = at })) (length (b ∷ bs))) fits
+      ∙ ap (λ n. number_lexeme at (take n text) (drop n text)) spanned ∙ ap (λ l. number_lexeme at l (drop (length (b ∷ bs)) text)) taken
+          ∙ ap (number_lexeme at (b ∷ bs)) dropped
+      ∙ ap (λ c. if c || is_word 32 then lexeme.Bad else
+          lexeme.Token (token.Number (record { value = pos (value_after 0 (b ∷ bs)); location = at })) (length (b ∷ bs))) fits
 
-  read_decimal : (n : ℕ) → n ≤ largest → lexeme_at at (decimal n ++ (32 ∷ rest)) ≡ lexeme.Token (token.Number (record { value = pos n; location = at })) (length (decimal n))
+  read_decimal : (n : ℕ) → n ≤ largest →
+      lexeme_at at (decimal n ++ (32 ∷ rest)) ≡ lexeme.Token (token.Number (record { value = pos n; location = at })) (length (decimal n))
   read_decimal n small =
       by (decimal n) refl (decimal_is_IsNumeral n (omega arith)).0.0
     where
@@ -158,14 +168,18 @@ module _ (at : Location) (rest : List ℕ) where
       all : AllIn is_digit (decimal n)
       all = digits_decimal digits_model n (omega arith)
 
-      by : (l : List ℕ) → decimal n ≡ l → 0 < length l → lexeme_at at (l ++ (32 ∷ rest)) ≡ lexeme.Token (token.Number (record { value = pos n; location = at })) (length l)
+      by : (l : List ℕ) → decimal n ≡ l → 0 < length l →
+          lexeme_at at (l ++ (32 ∷ rest)) ≡ lexeme.Token (token.Number (record { value = pos n; location = at })) (length l)
       by [] is some = absurd (omega arith)
       by (b ∷ bs) is some =
           let v : value_after 0 (b ∷ bs) ≡ n = ap (value_after 0) (sym is) ∙ value in
           let fits : nat_lt largest (value_after 0 (b ∷ bs)) ≡ false = rw v (grind (arith, nat_tests)) in
-          read_digits b bs (subst (AllIn is_digit) is all) fits ∙ ap (λ m. lexeme.Token (token.Number (record { value = pos m; location = at })) (length (b ∷ bs))) v
+          read_digits b bs (subst (AllIn is_digit) is all) fits
+              ∙ ap (λ m. lexeme.Token (token.Number (record { value = pos m; location = at })) (length (b ∷ bs))) v
 
-  read_number : (z : ℤ) → IsNumber z → lexeme_at at (signed_decimal z ++ (32 ∷ rest)) ≡ lexeme.Token (token.Number (record { value = z; location = at })) (length (signed_decimal z))
+  read_number : (z : ℤ) → IsNumber z →
+      lexeme_at at (signed_decimal z ++ (32 ∷ rest)) ≡ lexeme.Token (token.Number (record { value = z; location = at }))
+      (length (signed_decimal z))
   read_number (pos n) h = let b = h.bounded in read_decimal n (omega (arith, ints, b))
   read_number (negsuc n) h = absurd (let b = h.no_sign in grind (arith, ints))
 
@@ -184,7 +198,8 @@ module _ (at : Location) (rest : List ℕ) where
   read_opening opening.Print = refl
   read_opening o = refl
 
-  read_token : (t : Token) → IsReal t → lexeme_at at (token_text t ++ (token_end t ∷ rest)) ≡ lexeme.Token (put at t) (length (token_text t))
+  read_token : (t : Token) → IsReal t → lexeme_at at (token_text t ++ (token_end t ∷ rest)) ≡ lexeme.Token (put at t)
+      (length (token_text t))
   unfolding lexeme_at
   read_token (token.Name x) h = read_name x.text h
   read_token (token.Number n) h = read_number n.value h
@@ -236,7 +251,8 @@ abbrev pub offsets : ℕ → List Token → List ℕ
 offsets at [] = []
 offsets at (t ∷ ts) = at ∷ offsets (at + length (token_text t) + 1) ts
 
-pub scan_spelling : (ts : List Token) → AreReal ts → (at line : ℕ) → scan 0 at line (spelling ts) ≡ Ok (cut (placed at line ts) (offsets at ts))
+pub scan_spelling : (ts : List Token) → AreReal ts → (at line : ℕ) →
+    scan 0 at line (spelling ts) ≡ Ok (cut (placed at line ts) (offsets at ts))
 scan_spelling [] h at line = refl
 scan_spelling (t ∷ ts) h at line =
     let n = length (token_text t) in
@@ -244,7 +260,8 @@ scan_spelling (t ∷ ts) h at line =
     let all = token_text t ++ rest in
     let grouped : spelling (t ∷ ts) ≡ all = append_assoc (token_text t) (token_end t ∷ []) (spelling ts) in
     let room : n ≤ length all = omega (arith, length-append (token_text t) rest) in
-    let token' = pass_token at line n (put (place at line) t) all (some_text t h.0) room (sym (read_token (place at line) (spelling ts) t h.0)) in
+    let token' = pass_token at line n (put (place at line) t) all (some_text t h.0) room
+        (sym (read_token (place at line) (spelling ts) t h.0)) in
     let mid = line_after line (token_text t) in
     let blank = pass_blank (at + n) mid 1 rest (lit≤ tt) (omega arith) (blank_behind (place (at + n) mid) (spelling ts) t) in
     ap (scan 0 at line) grouped ∙ token'
@@ -301,7 +318,8 @@ low_digit : (b : ℕ) → is_digit b ≡ true → b < 128
 low_digit b h = grind (arith, nat_tests)
 
 ascii_number : (z : ℤ) → IsNumber z → AreAscii (signed_decimal z)
-ascii_number (pos n) h = let b = h.bounded in ascii_in is_digit low_digit (decimal n) (digits_decimal (digits_model start []) n (omega (arith, ints, b)))
+ascii_number (pos n) h = let b = h.bounded in
+    ascii_in is_digit low_digit (decimal n) (digits_decimal (digits_model start []) n (omega (arith, ints, b)))
 ascii_number (negsuc n) h = absurd (let b = h.no_sign in grind (arith, ints))
 
 ascii_mark : (m : Mark) → AreAscii (mark_text m ++ mark_end m ∷ [])

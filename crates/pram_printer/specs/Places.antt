@@ -48,7 +48,8 @@ bare_step (Stmt-F.Print at v) = s.Print start (bare_expr v)
 bare_step (Stmt-F.While at c body) = s.While start (bare_expr c) body
 bare_step (Stmt-F.If at c body other) = s.If start (bare_expr c) body other
 bare_step (Stmt-F.For at x low high body) = s.For start (bare_name x) (bare_expr low) (bare_expr high) body
-bare_step (Stmt-F.Pardo at low x high locals body) = s.Pardo start (bare_expr low) (bare_name x) (bare_expr high) (map bare_name locals) body
+bare_step (Stmt-F.Pardo at low x high locals body) =
+    s.Pardo start (bare_expr low) (bare_name x) (bare_expr high) (map bare_name locals) body
 
 unfoldable pub bare_statement : Stmt → Stmt
 bare_statement = fold-Stmt Stmt bare_step

@@ -1,5 +1,6 @@
 -- What may be expected covers the tokens that may fulfil it, and so does what the first of these tokens leaves of it: expressions.
-use Rattle.std.proofs.Common.{◌≡◌, ℕ, zero, suc, Bool, true, false, List, [], ◌∷◌, ◌++◌, ◌⊎◌, inl, inr, refl, sym, ap, ◌∙◌, subst, append_assoc, if◌then◌else◌}
+use Rattle.std.proofs.Common.{◌≡◌, ℕ, zero, suc, Bool, true, false, List, [], ◌∷◌, ◌++◌, ◌⊎◌, inl, inr, refl, sym, ap, ◌∙◌, subst}
+use Rattle.std.proofs.Common.{append_assoc, if◌then◌else◌}
 use Rattle.std.proofs.lemmas.List.{append-nil}
 use Rattle.pram_syntax.specs.declared.level.Level.{Level}
 use Rattle.pram_syntax.specs.declared.level.Level.TheVariants as level
@@ -19,10 +20,14 @@ use Rattle.pram_syntax.specs.declared.tree.Prefix.TheVariants as prefix
 use Rattle.pram_syntax.specs.declared.tree.Expr.{Expr}
 use Rattle.pram_syntax.specs.declared.tree.Expr.TheVariants as e
 use Rattle.pram_syntax.specs.declared.tree.Stmt.{Stmt}
-use Rattle.pram_syntax.specs.Grammar.{tokens, step_tokens, chain, joins, AreSteps, IsShort, chained, compared, number, name, element, paren, minus, atom, not, comparison, Fits, Further}
+use Rattle.pram_syntax.specs.Grammar.{tokens, step_tokens, chain, joins, AreSteps, IsShort, chained, compared, number, name, element, paren}
+use Rattle.pram_syntax.specs.Grammar.{minus, atom, not, comparison, Fits, Further}
 use Rattle.pram_syntax.specs.Blocks.{statement_tokens, block_tokens, local_tokens, IsStatement, IsFurtherBlock, IsBlock}
 use Rattle.pram_syntax.specs.Program.{rule_token, declaration_tokens, declarations_tokens}
-use Rattle.pram_syntax.specs.Symbols.{Stack, Symbol, Operand, Rest, Subscript, Want, WantRule, WantName, WantNumber, WantAtMost, Declarations, AfterShared, Statements, AfterName, ForHead, ForName, Else, Locals, Move, Next, Refused, TooDeep, enter, enter_atom, enter_unary, enter_term, enter_sum, enter_comparison, enter_negation, enter_conjunction, enter_expression, tighter, again, at_rest, at_subscript, at_at_most}
+use Rattle.pram_syntax.specs.Symbols.{Stack, Symbol, Operand, Rest, Subscript, Want, WantRule, WantName, WantNumber, WantAtMost}
+use Rattle.pram_syntax.specs.Symbols.{Declarations, AfterShared, Statements, AfterName, ForHead, ForName, Else, Locals, Move, Next, Refused}
+use Rattle.pram_syntax.specs.Symbols.{TooDeep, enter, enter_atom, enter_unary, enter_term, enter_sum, enter_comparison, enter_negation}
+use Rattle.pram_syntax.specs.Symbols.{enter_conjunction, enter_expression, tighter, again, at_rest, at_subscript, at_at_most}
 use Rattle.pram_syntax.proofs.ExprTokens.{tokens-Number, tokens-Name, tokens-Element, tokens-Paren, tokens-Prefix, tokens-chain}
 
 -- a comparison has one operator at most
@@ -34,7 +39,8 @@ HasRoom _ rest = Unit {0}
 abbrev pub Becomes : Symbol → List Token → Type 0
 Becomes (Operand l d) ts = (x : Expr) × Fits d l x × (ts ≡ tokens x)
 Becomes (Rest l d) ts = (rest : List (Binary × Expr)) × AreSteps l (Fits d (tighter l)) rest × HasRoom l rest × (ts ≡ step_tokens rest)
-Becomes (Subscript d) ts = (ts ≡ []) ⊎ ((i : Expr) × Further d level.Expression i × (ts ≡ token.Mark mark.OpenBracket ∷ (tokens i ++ token.Mark mark.CloseBracket ∷ [])))
+Becomes (Subscript d) ts = (ts ≡ [])
+    ⊎ ((i : Expr) × Further d level.Expression i × (ts ≡ token.Mark mark.OpenBracket ∷ (tokens i ++ token.Mark mark.CloseBracket ∷ [])))
 Becomes (Want m) ts = ts ≡ token.Mark m ∷ []
 Becomes WantRule ts = (r : Rule) × (at : Location) × (ts ≡ rule_token r at ∷ [])
 Becomes WantName ts = (x : Name) × (ts ≡ token.Name x ∷ [])
@@ -44,8 +50,10 @@ Becomes Declarations ts = (xs : List Declaration) × (ts ≡ declarations_tokens
 Becomes AfterShared ts = (x : Name) → (y : Declaration) × (token.Mark mark.Shared ∷ (token.Name x ∷ ts) ≡ declaration_tokens y)
 Becomes (Statements b d) ts = (body : List Stmt) × IsBlock b d body × (ts ≡ block_tokens body)
 Becomes (AfterName b d) ts = (x : Name) → (st : Stmt) × IsStatement d (IsFurtherBlock b d) st × (token.Name x ∷ ts ≡ statement_tokens st)
-Becomes (ForHead b d) ts = (at : Location) → (st : Stmt) × IsStatement d (IsBlock b d) st × (token.Opening opening.For at ∷ ts ≡ statement_tokens st)
-Becomes (ForName b d) ts = (at : Location) (x : Name) → (st : Stmt) × IsStatement d (IsBlock b d) st × (token.Opening opening.For at ∷ (token.Name x ∷ ts) ≡ statement_tokens st)
+Becomes (ForHead b d) ts = (at : Location) → (st : Stmt) × IsStatement d (IsBlock b d) st
+    × (token.Opening opening.For at ∷ ts ≡ statement_tokens st)
+Becomes (ForName b d) ts = (at : Location) (x : Name) → (st : Stmt) × IsStatement d (IsBlock b d) st
+    × (token.Opening opening.For at ∷ (token.Name x ∷ ts) ≡ statement_tokens st)
 Becomes (Else b d) ts = (ts ≡ []) ⊎ ((body : List Stmt) × IsBlock b d body × (ts ≡ token.Mark mark.Else ∷ block_tokens body))
 Becomes Locals ts = (xs : List Name) × (ts ≡ local_tokens xs)
 
@@ -62,14 +70,16 @@ Covered TooDeep ts = ⊥
 pub inside : (m : Mark) (d : ℕ) (k : Stack) (ts : List Token) → Covers (Operand level.Expression d ∷ (Want m ∷ k)) ts →
     (i : Expr) × (b : List Token) × Fits d level.Expression i × (ts ≡ (tokens i ++ token.Mark m ∷ []) ++ b) × Covers k b
 inside m d k ts (a, b, whole, (i, h, is), (c, r, tail, closes, rest)) =
-    (i, r, h, whole ∙ ap (λ l. l ++ b) is ∙ ap (λ l. tokens i ++ l) (tail ∙ ap (λ l. l ++ r) closes) ∙ sym (append_assoc (tokens i) (token.Mark m ∷ []) r), rest)
+    (i, r, h, whole ∙ ap (λ l. l ++ b) is ∙ ap (λ l. tokens i ++ l) (tail ∙ ap (λ l. l ++ r) closes)
+        ∙ sym (append_assoc (tokens i) (token.Mark m ∷ []) r), rest)
 
 atom_back : (d : ℕ) (t : Token) (k : Stack) (ts : List Token) → Covered (enter_atom d t k) ts → Covers (Operand level.Atom d ∷ k) (t ∷ ts)
 atom_back d (token.Number n) k ts h = (token.Number n ∷ [], ts, refl, (e.Number n, number n, sym (tokens-Number n)), h)
 atom_back d (token.Name x) k ts (a, b, whole, inl none, h) =
     (token.Name x ∷ [], ts, refl, (e.Name x, name x, sym (tokens-Name x)), subst (Covers k) (sym (whole ∙ ap (λ l. l ++ b) none)) h)
 atom_back d (token.Name x) k ts (a, b, whole, inr (i, hi, is), h) =
-    (token.Name x ∷ a, b, ap (λ l. token.Name x ∷ l) whole, (e.Element x i, element x i hi, ap (λ l. token.Name x ∷ l) is ∙ sym (tokens-Element x i)), h)
+    (token.Name x ∷ a, b, ap (λ l. token.Name x ∷ l) whole, (e.Element x i, element x i hi, ap (λ l. token.Name x ∷ l) is
+        ∙ sym (tokens-Element x i)), h)
 atom_back zero (token.Mark mark.OpenParen) k ts h = absurd h
 atom_back (suc d) (token.Mark mark.OpenParen) k ts h =
     let w = inside mark.CloseParen d k ts h in (
@@ -81,10 +91,12 @@ atom_back (suc d) (token.Mark mark.OpenParen) k ts h =
     )
 atom_back d t k ts h = absurd h
 
-loosen : (l m : Level) (d : ℕ) (k : Stack) (ts : List Token) → ((x : Expr) → Fits d l x → Fits d m x) → Covers (Operand l d ∷ k) ts → Covers (Operand m d ∷ k) ts
+loosen : (l m : Level) (d : ℕ) (k : Stack) (ts : List Token) → ((x : Expr) → Fits d l x → Fits d m x) → Covers (Operand l d ∷ k) ts →
+    Covers (Operand m d ∷ k) ts
 loosen l m d k ts f (a, b, whole, (x, h, is), rest) = (a, b, whole, (x, f x h, is), rest)
 
-unary_back : (d : ℕ) (t : Token) (k : Stack) (ts : List Token) → Covered (enter_unary d t k) ts → Covers (Operand level.Unary d ∷ k) (t ∷ ts)
+unary_back : (d : ℕ) (t : Token) (k : Stack) (ts : List Token) → Covered (enter_unary d t k) ts → Covers (Operand level.Unary d ∷ k)
+    (t ∷ ts)
 unary_back zero (token.Binary op.Subtract) k ts h = absurd h
 unary_back (suc d) (token.Binary op.Subtract) k ts (a, b, whole, (i, h, is), rest) = (
   token.Binary op.Subtract ∷ a,
@@ -97,7 +109,8 @@ unary_back d t k ts h = loosen level.Atom level.Unary d k (t ∷ ts) (λ x a. at
 
 -- an operand and the operators behind it are a chain
 merge : (l : Level) (d : ℕ) (k : Stack) (ts : List Token) →
-    ((first : Expr) (rest : List (Binary × Expr)) → Fits d (tighter l) first → AreSteps l (Fits d (tighter l)) rest → HasRoom l rest → Fits d l (chain first rest)) →
+    ((first : Expr) (rest : List (Binary × Expr)) → Fits d (tighter l) first → AreSteps l (Fits d (tighter l)) rest → HasRoom l rest →
+        Fits d l (chain first rest)) →
     Covers (Operand (tighter l) d ∷ (Rest l d ∷ k)) ts → Covers (Operand l d ∷ k) ts
 merge l d k ts fits (a, b, whole, (f, hf, is), (c, r, tail, (rest, steps, room, are), more)) = (
   tokens f ++ step_tokens rest,
@@ -113,22 +126,31 @@ term_back d t k ts h = merge level.Term d k (t ∷ ts) (λ f r hf hr room. chain
 pub sum_back : (d : ℕ) (t : Token) (k : Stack) (ts : List Token) → Covered (enter_sum d t k) ts → Covers (Operand level.Sum d ∷ k) (t ∷ ts)
 sum_back d t k ts h = merge level.Sum d k (t ∷ ts) (λ f r hf hr room. chained f r hf hr) (term_back d t (Rest level.Sum d ∷ k) ts h)
 
-comparison_back : (d : ℕ) (t : Token) (k : Stack) (ts : List Token) → Covered (enter_comparison d t k) ts → Covers (Operand level.Comparison d ∷ k) (t ∷ ts)
-comparison_back d t k ts h = merge level.Comparison d k (t ∷ ts) (λ f r hf hr room. compared f r hf hr room) (sum_back d t (Rest level.Comparison d ∷ k) ts h)
+comparison_back : (d : ℕ) (t : Token) (k : Stack) (ts : List Token) → Covered (enter_comparison d t k) ts →
+    Covers (Operand level.Comparison d ∷ k) (t ∷ ts)
+comparison_back d t k ts h = merge level.Comparison d k (t ∷ ts) (λ f r hf hr room. compared f r hf hr room)
+    (sum_back d t (Rest level.Comparison d ∷ k) ts h)
 
-negation_back : (d : ℕ) (t : Token) (k : Stack) (ts : List Token) → Covered (enter_negation d t k) ts → Covers (Operand level.Negation d ∷ k) (t ∷ ts)
+negation_back : (d : ℕ) (t : Token) (k : Stack) (ts : List Token) → Covered (enter_negation d t k) ts →
+    Covers (Operand level.Negation d ∷ k) (t ∷ ts)
 negation_back zero token.Not k ts h = absurd h
 negation_back (suc d) token.Not k ts (a, b, whole, (i, h, is), rest) =
-    (token.Not ∷ a, b, ap (λ l. token.Not ∷ l) whole, (e.Prefix prefix.Not i, not i h, ap (λ l. token.Not ∷ l) is ∙ sym (tokens-Prefix prefix.Not i)), rest)
+    (token.Not ∷ a, b, ap (λ l. token.Not ∷ l) whole, (e.Prefix prefix.Not i, not i h, ap (λ l. token.Not ∷ l) is
+        ∙ sym (tokens-Prefix prefix.Not i)), rest)
 negation_back d t k ts h = loosen level.Comparison level.Negation d k (t ∷ ts) (λ x c. comparison c) (comparison_back d t k ts h)
 
-conjunction_back : (d : ℕ) (t : Token) (k : Stack) (ts : List Token) → Covered (enter_conjunction d t k) ts → Covers (Operand level.Conjunction d ∷ k) (t ∷ ts)
-conjunction_back d t k ts h = merge level.Conjunction d k (t ∷ ts) (λ f r hf hr room. chained f r hf hr) (negation_back d t (Rest level.Conjunction d ∷ k) ts h)
+conjunction_back : (d : ℕ) (t : Token) (k : Stack) (ts : List Token) → Covered (enter_conjunction d t k) ts →
+    Covers (Operand level.Conjunction d ∷ k) (t ∷ ts)
+conjunction_back d t k ts h = merge level.Conjunction d k (t ∷ ts) (λ f r hf hr room. chained f r hf hr)
+    (negation_back d t (Rest level.Conjunction d ∷ k) ts h)
 
-expression_back : (d : ℕ) (t : Token) (k : Stack) (ts : List Token) → Covered (enter_expression d t k) ts → Covers (Operand level.Expression d ∷ k) (t ∷ ts)
-expression_back d t k ts h = merge level.Expression d k (t ∷ ts) (λ f r hf hr room. chained f r hf hr) (conjunction_back d t (Rest level.Expression d ∷ k) ts h)
+expression_back : (d : ℕ) (t : Token) (k : Stack) (ts : List Token) → Covered (enter_expression d t k) ts →
+    Covers (Operand level.Expression d ∷ k) (t ∷ ts)
+expression_back d t k ts h = merge level.Expression d k (t ∷ ts) (λ f r hf hr room. chained f r hf hr)
+    (conjunction_back d t (Rest level.Expression d ∷ k) ts h)
 
-pub enter_back : (l : Level) (d : ℕ) (t : Token) (k : Stack) (ts : List Token) → Covered (enter l d t k) ts → Covers (Operand l d ∷ k) (t ∷ ts)
+pub enter_back : (l : Level) (d : ℕ) (t : Token) (k : Stack) (ts : List Token) → Covered (enter l d t k) ts → Covers (Operand l d ∷ k)
+    (t ∷ ts)
 unfolding enter
 enter_back level.Expression = expression_back
 enter_back level.Conjunction = conjunction_back
@@ -140,7 +162,8 @@ enter_back level.Unary = unary_back
 enter_back level.Atom = atom_back
 
 -- an operator, its operand, and what follows
-pub operator_back : (l : Level) (d : ℕ) (o : Binary) (k : Stack) (ts : List Token) → joins l o ≡ true → Covers (Operand (tighter l) d ∷ again l d k) ts →
+pub operator_back : (l : Level) (d : ℕ) (o : Binary) (k : Stack) (ts : List Token) → joins l o ≡ true →
+    Covers (Operand (tighter l) d ∷ again l d k) ts →
     Covers (Rest l d ∷ k) (token.Binary o ∷ ts)
 operator_back level.Comparison d o k ts joined (a, b, whole, (x, h, is), rest) = (
   token.Binary o ∷ (a ++ []),
@@ -163,17 +186,21 @@ no_steps l = tt
 
 -- symbols of an expression, where the token may also belong to what comes behind
 
-pub subscript_back : (d : ℕ) (t : Token) (k : Stack) (other : Move) (ts : List Token) → (Covered other ts → Covers k (t ∷ ts)) → Covered (at_subscript d t k other) ts → Covers (Subscript d ∷ k) (t ∷ ts)
+pub subscript_back : (d : ℕ) (t : Token) (k : Stack) (other : Move) (ts : List Token) → (Covered other ts → Covers k (t ∷ ts)) →
+    Covered (at_subscript d t k other) ts → Covers (Subscript d ∷ k) (t ∷ ts)
 subscript_back zero (token.Mark mark.OpenBracket) k other ts pop h = absurd h
 subscript_back (suc d) (token.Mark mark.OpenBracket) k other ts pop h =
     let w = inside mark.CloseBracket d k ts h in
-    (token.Mark mark.OpenBracket ∷ (tokens w.0 ++ token.Mark mark.CloseBracket ∷ []), w.1, ap (λ l. token.Mark mark.OpenBracket ∷ l) w.3, inr (w.0, w.2, refl), w.4)
+    (token.Mark mark.OpenBracket ∷ (tokens w.0 ++ token.Mark mark.CloseBracket ∷ []), w.1, ap (λ l. token.Mark mark.OpenBracket ∷ l) w.3,
+        inr (w.0, w.2, refl), w.4)
 subscript_back d t k other ts pop h = ([], t ∷ ts, refl, inl refl, pop h)
 
-pub rest_back : (l : Level) (d : ℕ) (t : Token) (k : Stack) (other : Move) (ts : List Token) → (Covered other ts → Covers k (t ∷ ts)) → Covered (at_rest l d t k other) ts → Covers (Rest l d ∷ k) (t ∷ ts)
+pub rest_back : (l : Level) (d : ℕ) (t : Token) (k : Stack) (other : Move) (ts : List Token) → (Covered other ts → Covers k (t ∷ ts)) →
+    Covered (at_rest l d t k other) ts → Covers (Rest l d ∷ k) (t ∷ ts)
 rest_back l d (token.Binary o) k other ts pop h = by (joins l o) refl h
   where
-    by : (c : Bool) → joins l o ≡ c → Covered (if c then Next (Operand (tighter l) d ∷ again l d k) else other) ts → Covers (Rest l d ∷ k) (token.Binary o ∷ ts)
+    by : (c : Bool) → joins l o ≡ c → Covered (if c then Next (Operand (tighter l) d ∷ again l d k) else other) ts → Covers (Rest l d ∷ k)
+        (token.Binary o ∷ ts)
     by true joined h = operator_back l d o k ts joined h
     by false never h = ([], token.Binary o ∷ ts, refl, ([], tt, no_steps l, refl), pop h)
 rest_back l d t k other ts pop h = ([], t ∷ ts, refl, ([], tt, no_steps l, refl), pop h)

@@ -13,14 +13,17 @@ declarations_tokens-push : (xs : List Declaration) (y : Declaration) (ts : List 
     declarations_tokens (xs ++ y ∷ []) ++ ts ≡ declarations_tokens xs ++ (declaration_tokens y ++ ts)
 declarations_tokens-push [] y ts = append_assoc (declaration_tokens y) [] ts
 declarations_tokens-push (x ∷ rest) y ts =
-    append_assoc (declaration_tokens x) (declarations_tokens (rest ++ y ∷ [])) ts ∙ ap (λ l. declaration_tokens x ++ l) (declarations_tokens-push rest y ts)
+    append_assoc (declaration_tokens x) (declarations_tokens (rest ++ y ∷ [])) ts
+        ∙ ap (λ l. declaration_tokens x ++ l) (declarations_tokens-push rest y ts)
     ∙ sym (append_assoc (declaration_tokens x) (declarations_tokens rest) (declaration_tokens y ++ ts))
 
-pub declared_more : (xs : List Declaration) (y : Declaration) (ts mid after : List Token) → ts ≡ declarations_tokens xs ++ mid → mid ≡ declaration_tokens y ++ after →
+pub declared_more : (xs : List Declaration) (y : Declaration) (ts mid after : List Token) → ts ≡ declarations_tokens xs ++ mid →
+    mid ≡ declaration_tokens y ++ after →
     ts ≡ declarations_tokens (xs ++ y ∷ []) ++ after
 declared_more xs y ts mid after whole h = whole ∙ ap (λ l. declarations_tokens xs ++ l) h ∙ sym (declarations_tokens-push xs y after)
 
-pub declaration_first : (ts : List Token) → begins_declaration ts ≡ true → (k : Stack) → verdict ts (Declarations ∷ k) ≡ declaration_verdict ts (Declarations ∷ k)
+pub declaration_first : (ts : List Token) → begins_declaration ts ≡ true → (k : Stack) →
+    verdict ts (Declarations ∷ k) ≡ declaration_verdict ts (Declarations ∷ k)
 declaration_first [] h k = cc
 declaration_first (token.Mark mark.Shared ∷ ts) h k = refl
 declaration_first (token.Mark mark.Var ∷ ts) h k = refl
@@ -38,7 +41,8 @@ declaration_shorter (declaration.Cell x) ts rest is = omega (arith, ap length is
 declaration_shorter (declaration.Array x low high) ts rest is = omega (arith, ap length is)
 declaration_shorter (declaration.Uniform x) ts rest is = omega (arith, ap length is)
 
-pub no_semicolon : (ts : List Token) → begins_with mark.Semicolon ts ≡ false → (k : Stack) → verdict ts (AfterShared ∷ k) ≡ verdict ts (Want mark.OpenBracket ∷ bounds k)
+pub no_semicolon : (ts : List Token) → begins_with mark.Semicolon ts ≡ false → (k : Stack) →
+    verdict ts (AfterShared ∷ k) ≡ verdict ts (Want mark.OpenBracket ∷ bounds k)
 no_semicolon [] h k = refl
 no_semicolon (t ∷ ts) h k = rw h
 

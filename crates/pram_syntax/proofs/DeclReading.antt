@@ -30,7 +30,8 @@ read_declarations (declaration.Uniform x ∷ rest) ts k = read_declarations rest
 abbrev word_rule : List ℕ → Rule
 word_rule w =
     if same_text (rule_word rule.Erew) w then rule.Erew else (if same_text (rule_word rule.Crew) w then rule.Crew
-    else (if same_text (rule_word rule.Common) w then rule.Common else (if same_text (rule_word rule.Priority) w then rule.Priority else rule.Sum)))
+    else (if same_text (rule_word rule.Common) w then rule.Common else (if same_text (rule_word rule.Priority) w then rule.Priority else
+        rule.Sum)))
 
 word_rule_is : (r : Rule) → word_rule (rule_word r) ≡ r
 word_rule_is rule.Erew = refl
@@ -60,7 +61,8 @@ same_declarations (declaration.Array x low high ∷ xs) (declaration.Array y fro
     let low_is : low ≡ from = cc in
     let high_is : high ≡ upto = cc in
     let more = same_declarations xs ys ts us cc in (
-      ap (λ z. declaration.Array z low high ∷ xs) name_is ∙ ap (λ z. declaration.Array y z high ∷ xs) low_is ∙ ap (λ z. declaration.Array y from z ∷ xs) high_is
+      ap (λ z. declaration.Array z low high ∷ xs) name_is ∙ ap (λ z. declaration.Array y z high ∷ xs) low_is
+          ∙ ap (λ z. declaration.Array y from z ∷ xs) high_is
           ∙ ap (λ l. declaration.Array y from upto ∷ l) more.0,
       more.1,
     )

@@ -1,5 +1,6 @@
 -- Whatever is expected can be fulfilled, so a refused list of tokens has a front that begins a program.
-use Rattle.std.proofs.Common.{◌≡◌, ℕ, Bool, true, false, List, [], ◌∷◌, ◌++◌, length, inl, refl, sym, ap, ◌∙◌, subst, if◌then◌else◌, codes, pos, rules}
+use Rattle.std.proofs.Common.{◌≡◌, ℕ, Bool, true, false, List, [], ◌∷◌, ◌++◌, length, inl, refl, sym, ap, ◌∙◌, subst, if◌then◌else◌, codes}
+use Rattle.std.proofs.Common.{pos, rules}
 use Rattle.std.proofs.lemmas.List.{append-nil}
 use Rattle.pram_syntax.specs.declared.level.Level.{Level}
 use Rattle.pram_syntax.specs.declared.level.Level.TheVariants as level
@@ -17,11 +18,14 @@ use Rattle.pram_syntax.specs.declared.tree.Expr.TheVariants as e
 use Rattle.pram_syntax.specs.declared.tree.Stmt.TheVariants as s
 use Rattle.pram_model.specs.Names.{IsName}
 use Rattle.pram_tokens.specs.Tokens.{AreReal, IsNumber}
-use Rattle.pram_syntax.specs.Grammar.{tokens, chained, compared, number, atom, IsTerm, IsSum, IsNegation, comparison, IsConjunction, IsAt, Further}
+use Rattle.pram_syntax.specs.Grammar.{tokens, chained, compared, number, atom, IsTerm, IsSum, IsNegation, comparison, IsConjunction, IsAt}
+use Rattle.pram_syntax.specs.Grammar.{Further}
 use Rattle.pram_syntax.specs.Blocks.{statement_tokens, assign, for_to}
 use Rattle.pram_syntax.specs.Program.{rule_token}
 use Rattle.pram_syntax.specs.Machine.{step, verdict, on_move, Verdict, Accepted, SyntaxAt, TooDeepAt, may_end}
-use Rattle.pram_syntax.specs.Symbols.{Stack, Symbol, Operand, Rest, Subscript, Want, WantRule, WantName, WantNumber, WantAtMost, Declarations, AfterShared, Statements, AfterName, ForHead, ForName, Else, Locals, Move, Next, Refused, TooDeep}
+use Rattle.pram_syntax.specs.Symbols.{Stack, Symbol, Operand, Rest, Subscript, Want, WantRule, WantName, WantNumber, WantAtMost}
+use Rattle.pram_syntax.specs.Symbols.{Declarations, AfterShared, Statements, AfterName, ForHead, ForName, Else, Locals, Move, Next, Refused}
+use Rattle.pram_syntax.specs.Symbols.{TooDeep}
 use Rattle.pram_syntax.proofs.ExprTokens.{tokens-Number}
 use Rattle.pram_syntax.proofs.StmtTokens.{spell_assign, spell_for}
 use Rattle.pram_tokens.proofs.Real.{append_real}
@@ -74,7 +78,8 @@ module _ (Inner : Level → Expr → Type 0) where
 
 -- a loop behind its name
 abbrev for_end : List Token
-for_end = token.Mark mark.Becomes ∷ (tokens nought ++ (token.Mark mark.To ∷ (tokens nought ++ (token.Mark mark.Do ∷ (token.Mark mark.End ∷ [])))))
+for_end = token.Mark mark.Becomes
+    ∷ (tokens nought ++ (token.Mark mark.To ∷ (tokens nought ++ (token.Mark mark.Do ∷ (token.Mark mark.End ∷ [])))))
 
 for_end_is : (b d : ℕ) → Becomes (ForName b d) for_end
 for_end_is b d at x = (
@@ -93,7 +98,8 @@ shortest (Operand l d) = (tokens nought, (nought, nought_at (Further d) l, refl)
 shortest (Rest l d) = ([], ([], tt, no_steps l, refl), tt)
 shortest (Subscript d) = ([], inl refl, tt)
 shortest (Want m) = (token.Mark m ∷ [], refl, (tt, tt))
-shortest WantRule = (rule_token rule.Erew nowhere ∷ [], (rule.Erew, nowhere, refl), (record { letter = refl; words = refl; no_keyword = refl }, tt))
+shortest WantRule = (rule_token rule.Erew nowhere ∷ [], (rule.Erew, nowhere, refl),
+    (record { letter = refl; words = refl; no_keyword = refl }, tt))
 shortest WantName = (token.Name some_name ∷ [], (some_name, refl), (is_name, tt))
 shortest WantNumber = (token.Number no_numeral ∷ [], (no_numeral, refl), (is_number, tt))
 shortest WantAtMost = (token.Binary op.AtMost ∷ [], refl, (tt, tt))
@@ -124,7 +130,8 @@ ending [] = record { end = []; covers = refl; real = tt }
 ending (s ∷ k) =
     let front = shortest s in
     let back = ending k in
-    record { end = front.0 ++ back.end; covers = (front.0, back.end, refl, front.1, back.covers); real = append_real front.0 back.end front.2 back.real }
+    record { end = front.0 ++ back.end; covers = (front.0, back.end, refl, front.1, back.covers);
+        real = append_real front.0 back.end front.2 back.real }
 
 -- A list of tokens that is refused has a front that can be gone on with, and then the refused token.
 pub record Viable (k : Stack) (ts : List Token) (left : ℕ) : Type 0 where
@@ -137,7 +144,8 @@ pub record Viable (k : Stack) (ts : List Token) (left : ℕ) : Type 0 where
   pub goes_on : Covers k (front ++ more)
 
 abbrev here : (k : Stack) (ts : List Token) → Viable k ts (length ts)
-here k ts = record { front = []; back = ts; whole = refl; is_left = refl; more = (ending k).end; real = (ending k).real; goes_on = (ending k).covers }
+here k ts = record { front = []; back = ts; whole = refl; is_left = refl; more = (ending k).end; real = (ending k).real; goes_on =
+    (ending k).covers }
 
 abbrev pub RefusedAt : Verdict → ℕ → Type 0
 RefusedAt Accepted n = ⊥
@@ -156,6 +164,7 @@ viable (t ∷ ts) k n h = by (step k t) (step_back k t) (λ j. viable ts j n) h
         RefusedAt (on_move m (verdict ts) (length (t ∷ ts))) n → Viable k (t ∷ ts) n
     by (Next j) back inner h =
         let v = inner j h in
-        record { front = t ∷ v.front; back = v.back; whole = ap (λ l. t ∷ l) v.whole; is_left = v.is_left; more = v.more; real = v.real; goes_on = back (v.front ++ v.more) v.goes_on }
+        record { front = t ∷ v.front; back = v.back; whole = ap (λ l. t ∷ l) v.whole; is_left = v.is_left; more = v.more; real = v.real;
+            goes_on = back (v.front ++ v.more) v.goes_on }
     by Refused back inner is = subst (Viable k (t ∷ ts)) is (here k (t ∷ ts))
     by TooDeep back inner is = subst (Viable k (t ∷ ts)) is (here k (t ∷ ts))

@@ -42,7 +42,8 @@ err_along rest inner_rest (Syntax n) h along = λ k. (along k).1 ∙ h (along k)
 err_along rest inner_rest (TooDeep n) h along = λ k. (along k).1 ∙ h (along k).0
 
 -- the same at the exit of a `?`
-pub exit : {X Y : Type 0} {before inner : Stack → Verdict} (rest : X → List Token) (inner_rest : Y → List Token) (r : Result X ParseError) (x : ParseError) →
+pub exit : {X Y : Type 0} {before inner : Stack → Verdict} (rest : X → List Token) (inner_rest : Y → List Token) (r : Result X ParseError)
+    (x : ParseError) →
     IsErrAnd r (λ y. y ≡ x) → Follows inner inner_rest (Err x) → Leads before inner → Follows before rest r
 exit {before} rest inner_rest r x is h along =
     let p = err_from_is_err_and r is in

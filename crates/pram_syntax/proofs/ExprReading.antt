@@ -11,7 +11,9 @@ use Rattle.pram_syntax.specs.declared.tree.Prefix.TheVariants as prefix
 use Rattle.pram_syntax.specs.declared.level.Level.{Level}
 use Rattle.pram_syntax.specs.declared.level.Level.TheVariants as level
 use Rattle.pram_syntax.specs.declared.tree.Expr.{Expr}
-use Rattle.pram_syntax.specs.Grammar.{tokens, step_tokens, chain, joins, AreSteps, IsShort, Chained, chained, Compared, compared, IsAtom, number, name, element, paren, IsUnary, minus, atom, IsTerm, IsSum, IsComparison, IsNegation, not, comparison, IsConjunction, IsExpression, IsAt, Fits, Further}
+use Rattle.pram_syntax.specs.Grammar.{tokens, step_tokens, chain, joins, AreSteps, IsShort, Chained, chained, Compared, compared, IsAtom}
+use Rattle.pram_syntax.specs.Grammar.{number, name, element, paren, IsUnary, minus, atom, IsTerm, IsSum, IsComparison, IsNegation, not}
+use Rattle.pram_syntax.specs.Grammar.{comparison, IsConjunction, IsExpression, IsAt, Fits, Further}
 use Rattle.pram_syntax.specs.Machine.{verdict}
 use Rattle.pram_syntax.specs.Symbols.{Stack, Operand, Rest, Subscript, Want, enter, enter_atom, tighter, again, is_operator, is_subscript}
 use Rattle.pram_syntax.proofs.ExprTokens.{tokens-Number, tokens-Name, tokens-Element, tokens-Paren, tokens-Prefix, tokens-chain}
@@ -78,7 +80,8 @@ module _ (d : ℕ) (l : Level) (IsOperand : Expr → Type 0)
     (reads_operand : (x : Expr) → IsOperand x → Reads d (tighter l) x)
     (stops : (t : Token) → Stops l t → (is_operator l t ≡ false) × Stops (tighter l) t)
     (op_stops : (o : Binary) → joins l o ≡ true → Stops (tighter l) (token.Binary o)) where
-  widen : (xs ys : List Token) (k : Stack) → StopsAt l ys → verdict (xs ++ ys) (Operand l d ∷ k) ≡ verdict (xs ++ ys) (Operand (tighter l) d ∷ (Rest l d ∷ k))
+  widen : (xs ys : List Token) (k : Stack) → StopsAt l ys → verdict (xs ++ ys) (Operand l d ∷ k) ≡ verdict (xs ++ ys)
+      (Operand (tighter l) d ∷ (Rest l d ∷ k))
   widen [] [] k never = absurd never
   widen [] (y ∷ ys) k stop = rw (opens y k)
   widen (x ∷ xs) ys k stop = rw (opens x k)
@@ -87,12 +90,14 @@ module _ (d : ℕ) (l : Level) (IsOperand : Expr → Type 0)
   pass k [] never = absurd never
   pass k (t ∷ ts) stop = rw (stops t stop).0
 
-  steps_stop : (rest : List (Binary × Expr)) (ys : List Token) → AreSteps l IsOperand rest → StopsAt l ys → StopsAt (tighter l) (step_tokens rest ++ ys)
+  steps_stop : (rest : List (Binary × Expr)) (ys : List Token) → AreSteps l IsOperand rest → StopsAt l ys → StopsAt (tighter l)
+      (step_tokens rest ++ ys)
   steps_stop [] [] h never = never
   steps_stop [] (y ∷ ys) h stop = (stops y stop).1
   steps_stop (s ∷ rest) ys h stop = op_stops s.0 h.0
 
-  read_first : (first : Expr) (rest : List (Binary × Expr)) → IsOperand first → AreSteps l IsOperand rest → (k : Stack) (ys : List Token) → StopsAt l ys →
+  read_first : (first : Expr) (rest : List (Binary × Expr)) → IsOperand first → AreSteps l IsOperand rest → (k : Stack) (ys : List Token) →
+      StopsAt l ys →
       verdict (tokens (chain first rest) ++ ys) (Operand l d ∷ k) ≡ verdict (step_tokens rest ++ ys) (Rest l d ∷ k)
   read_first first rest one more k ys stop =
       ap (λ ts. verdict (ts ++ ys) (Operand l d ∷ k)) (tokens-chain first rest)
@@ -100,7 +105,8 @@ module _ (d : ℕ) (l : Level) (IsOperand : Expr → Type 0)
       ∙ ap (λ ts. verdict ts (Operand (tighter l) d ∷ (Rest l d ∷ k))) (append_assoc (tokens first) (step_tokens rest) ys)
       ∙ reads_operand first one (Rest l d ∷ k) (step_tokens rest ++ ys) (steps_stop rest ys more stop)
 
-  read_step : (s : Binary × Expr) (rest : List (Binary × Expr)) → AreSteps l IsOperand (s ∷ rest) → (k : Stack) (ys : List Token) → StopsAt l ys →
+  read_step : (s : Binary × Expr) (rest : List (Binary × Expr)) → AreSteps l IsOperand (s ∷ rest) → (k : Stack) (ys : List Token) →
+      StopsAt l ys →
       verdict (step_tokens (s ∷ rest) ++ ys) (Rest l d ∷ k) ≡ verdict (step_tokens rest ++ ys) (again l d k)
   read_step s rest h k ys stop =
       rw h.0 (ap (λ ts. verdict ts (Operand (tighter l) d ∷ again l d k)) (append_assoc (tokens s.1) (step_tokens rest) ys)
@@ -179,7 +185,8 @@ module _ (d : ℕ) (Inner : Level → Expr → Type 0) (reads_inner : (l : Level
       (on_number : (n : Numeral) (k : Stack) → enter l d (token.Number n) k ≡ enter_atom d (token.Number n) k)
       (on_name : (x : _) (k : Stack) → enter l d (token.Name x) k ≡ enter_atom d (token.Name x) k)
       (on_paren : (k : Stack) → enter l d (token.Mark mark.OpenParen) k ≡ enter_atom d (token.Mark mark.OpenParen) k) where
-    read_atom : (x : Expr) → IsAtom Inner x → (k : Stack) (ys : List Token) → StopsAt level.Atom ys → verdict (tokens x ++ ys) (Operand l d ∷ k) ≡ verdict ys k
+    read_atom : (x : Expr) → IsAtom Inner x → (k : Stack) (ys : List Token) → StopsAt level.Atom ys → verdict (tokens x ++ ys)
+        (Operand l d ∷ k) ≡ verdict ys k
     read_atom _ (number n) k ys stop = rw (tokens-Number n, on_number n k)
     read_atom _ (name x) k ys stop = rw (tokens-Name x, on_name x k) (pass_subscript d k ys stop)
     read_atom _ (element x i h) k ys stop =
@@ -222,17 +229,20 @@ module _ (d : ℕ) (Inner : Level → Expr → Type 0) (reads_inner : (l : Level
       ∙ sym (ap (λ ts. verdict (ts ++ ys) (Operand level.Comparison d ∷ k)) b.2)
       ∙ read_comparison x h k ys stop
     where
-      passes : (t : Token) → is_not t ≡ false → (ts : List Token) (k : Stack) → verdict (t ∷ ts) (Operand level.Negation d ∷ k) ≡ verdict (t ∷ ts) (Operand level.Comparison d ∷ k)
+      passes : (t : Token) → is_not t ≡ false → (ts : List Token) (k : Stack) →
+          verdict (t ∷ ts) (Operand level.Negation d ∷ k) ≡ verdict (t ∷ ts) (Operand level.Comparison d ∷ k)
       passes token.Not never ts k = cc
       passes t h ts k = refl
 
   read_conjunction : (x : Expr) → IsConjunction Inner x → Reads d level.Conjunction x
   unfolding enter
-  read_conjunction = read_chained d level.Conjunction (IsNegation Inner) (λ t k. refl) read_negation (λ t s. s) conjunction_operator (λ k. refl)
+  read_conjunction = read_chained d level.Conjunction (IsNegation Inner) (λ t k. refl) read_negation (λ t s. s) conjunction_operator
+      (λ k. refl)
 
   read_expression : (x : Expr) → IsExpression Inner x → Reads d level.Expression x
   unfolding enter
-  read_expression = read_chained d level.Expression (IsConjunction Inner) (λ t k. refl) read_conjunction (λ t s. s) expression_operator (λ k. refl)
+  read_expression = read_chained d level.Expression (IsConjunction Inner) (λ t k. refl) read_conjunction (λ t s. s) expression_operator
+      (λ k. refl)
 
   read_at : (l : Level) (x : Expr) → IsAt Inner l x → Reads d l x
   unfolding enter

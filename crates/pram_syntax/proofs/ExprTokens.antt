@@ -23,7 +23,8 @@ pub tokens-Name : (x : Name) → tokens (e.Name x) ≡ token.Name x ∷ []
 unfolding tokens
 tokens-Name x = ap tokens (sym (e.rolls-Name x)) ∙ fold-roll-Expr (List Token) node_tokens (Expr-F.Name x)
 
-pub tokens-Element : (x : Name) (i : Expr) → tokens (e.Element x i) ≡ token.Name x ∷ (token.Mark mark.OpenBracket ∷ (tokens i ++ token.Mark mark.CloseBracket ∷ []))
+pub tokens-Element : (x : Name) (i : Expr) → tokens (e.Element x i) ≡ token.Name x
+    ∷ (token.Mark mark.OpenBracket ∷ (tokens i ++ token.Mark mark.CloseBracket ∷ []))
 unfolding tokens
 tokens-Element x i = ap tokens (sym (e.rolls-Element x i)) ∙ fold-roll-Expr (List Token) node_tokens (Expr-F.Element x i)
 
@@ -37,7 +38,8 @@ tokens-Prefix p i = ap tokens (sym (e.rolls-Prefix p i)) ∙ fold-roll-Expr (Lis
 
 pub tokens-Chain : (first : Expr) (rest : List (Binary × Expr)) → tokens (e.Chain first rest) ≡ tokens first ++ step_tokens rest
 unfolding tokens
-tokens-Chain first rest = ap tokens (sym (e.rolls-Chain first rest)) ∙ fold-roll-Expr (List Token) node_tokens (Expr-F.Chain first rest) ∙ ap (λ l. tokens first ++ l) (each rest)
+tokens-Chain first rest = ap tokens (sym (e.rolls-Chain first rest)) ∙ fold-roll-Expr (List Token) node_tokens (Expr-F.Chain first rest)
+    ∙ ap (λ l. tokens first ++ l) (each rest)
   where
     each : (rest : List (Binary × Expr)) → joined (map (λ s. (s.0, tokens s.1)) rest) ≡ step_tokens rest
     each [] = refl

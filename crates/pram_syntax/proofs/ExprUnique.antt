@@ -10,10 +10,13 @@ use Rattle.pram_syntax.specs.declared.level.Level.{Level}
 use Rattle.pram_syntax.specs.declared.level.Level.TheVariants as level
 use Rattle.pram_syntax.specs.declared.tree.Expr.{Expr}
 use Rattle.pram_syntax.specs.declared.tree.Expr.TheVariants as e
-use Rattle.pram_syntax.specs.Grammar.{tokens, step_tokens, chain, joins, AreSteps, Chained, chained, Compared, compared, IsAtom, number, name, element, paren, IsUnary, minus, atom, IsTerm, IsSum, IsComparison, IsNegation, not, comparison, IsConjunction, IsExpression, IsAt, Fits, Further}
+use Rattle.pram_syntax.specs.Grammar.{tokens, step_tokens, chain, joins, AreSteps, Chained, chained, Compared, compared, IsAtom, number}
+use Rattle.pram_syntax.specs.Grammar.{name, element, paren, IsUnary, minus, atom, IsTerm, IsSum, IsComparison, IsNegation, not, comparison}
+use Rattle.pram_syntax.specs.Grammar.{IsConjunction, IsExpression, IsAt, Fits, Further}
 use Rattle.pram_syntax.specs.Symbols.{tighter, is_operator, is_subscript}
 use Rattle.pram_syntax.proofs.ExprTokens.{tokens-Number, tokens-Name, tokens-Element, tokens-Paren, tokens-Prefix, tokens-chain}
-use Rattle.pram_syntax.proofs.ExprReading.{Stops, StopsAt, mark_stops, is_not, comparison_begins, term_operator, sum_operator, comparison_operator, conjunction_operator, expression_operator}
+use Rattle.pram_syntax.proofs.ExprReading.{Stops, StopsAt, mark_stops, is_not, comparison_begins, term_operator, sum_operator}
+use Rattle.pram_syntax.proofs.ExprReading.{comparison_operator, conjunction_operator, expression_operator}
 
 -- two expressions with the same tokens before an end are one
 abbrev pub Same : Level → Expr → Expr → Type 0
@@ -32,7 +35,8 @@ module _ (l : Level) (P Q : Expr → Type 0)
     (operands : (x y : Expr) → P x → Q y → Same (tighter l) x y)
     (stops : (t : Token) → Stops l t → (is_operator l t ≡ false) × Stops (tighter l) t)
     (op_stops : (o : Binary) → joins l o ≡ true → Stops (tighter l) (token.Binary o)) where
-  steps_stop : (R : Expr → Type 0) (rest : List (Binary × Expr)) (ys : List Token) → AreSteps l R rest → StopsAt l ys → StopsAt (tighter l) (step_tokens rest ++ ys)
+  steps_stop : (R : Expr → Type 0) (rest : List (Binary × Expr)) (ys : List Token) → AreSteps l R rest → StopsAt l ys → StopsAt (tighter l)
+      (step_tokens rest ++ ys)
   steps_stop R [] [] h never = never
   steps_stop R [] (y ∷ ys) h stop = (stops y stop).1
   steps_stop R (s ∷ rest) ys h stop = op_stops s.0 h.0
@@ -52,7 +56,8 @@ module _ (l : Level) (P Q : Expr → Type 0)
       let operator : a.0 ≡ b.0 = cc in
       let behind : (tokens a.1 ++ step_tokens r) ++ xs ≡ (tokens b.1 ++ step_tokens s) ++ ys = cc in
       let regrouped = sym (append_assoc (tokens a.1) (step_tokens r) xs) ∙ behind ∙ append_assoc (tokens b.1) (step_tokens s) ys in
-      let one = operands a.1 b.1 hr.1 hs.1 (step_tokens r ++ xs) (step_tokens s ++ ys) (steps_stop P r xs hr.2 p) (steps_stop Q s ys hs.2 q) regrouped in
+      let one = operands a.1 b.1 hr.1 hs.1 (step_tokens r ++ xs) (step_tokens s ++ ys) (steps_stop P r xs hr.2 p) (steps_stop Q s ys hs.2 q)
+          regrouped in
       let more = same_steps r s hr.2 hs.2 xs ys p q one.1 in
       let step : a ≡ b = ap (λ o. let z : Binary × Expr = (o, a.1) in z) operator ∙ ap (λ x. let z : Binary × Expr = (b.0, x) in z) one.0 in
       (ap (λ z. z ∷ r) step ∙ ap (λ z. b ∷ z) more.0, more.1)
@@ -61,7 +66,8 @@ module _ (l : Level) (P Q : Expr → Type 0)
   same_chained _ _ (chained f r hf hr) (chained g s hg hs) xs ys p q same =
       let whole = fronts xs ys (tokens-chain f r) (tokens-chain g s) same in
       let regrouped = sym (append_assoc (tokens f) (step_tokens r) xs) ∙ whole ∙ append_assoc (tokens g) (step_tokens s) ys in
-      let one = operands f g hf hg (step_tokens r ++ xs) (step_tokens s ++ ys) (steps_stop P r xs hr p) (steps_stop Q s ys hs q) regrouped in
+      let one = operands f g hf hg (step_tokens r ++ xs) (step_tokens s ++ ys) (steps_stop P r xs hr p) (steps_stop Q s ys hs q)
+          regrouped in
       let more = same_steps r s hr hs xs ys p q one.1 in
       (ap (λ z. chain z r) one.0 ∙ ap (chain g) more.0, more.1)
 
@@ -74,7 +80,8 @@ abbrev is_minus : Token → Bool
 is_minus (token.Binary o) = true
 is_minus _ = false
 
-unsigned : {Inner : Level → Expr → Type 0} {x : Expr} → IsAtom Inner x → (h : Token) × (r : List Token) × (tokens x ≡ h ∷ r) × (is_minus h ≡ false)
+unsigned : {Inner : Level → Expr → Type 0} {x : Expr} → IsAtom Inner x → (h : Token) × (r : List Token) × (tokens x ≡ h ∷ r)
+    × (is_minus h ≡ false)
 unsigned (number n) = (_, _, tokens-Number n, refl)
 unsigned (name x) = (_, _, tokens-Name x, refl)
 unsigned (element x i h) = (_, _, tokens-Element x i, refl)
@@ -84,7 +91,8 @@ no_head : (test : Token → Bool) (h g : Token) (xs ys : List Token) → test h 
 no_head test h g xs ys holds fails same = let is : h ≡ g = cc in true≢false (sym holds ∙ ap test is ∙ fails)
 
 module _ (I J : Level → Expr → Type 0) (inner : (l : Level) (x y : Expr) → I l x → J l y → Same l x y) where
-  between : (m : Mark) → is_subscript (token.Mark m) ≡ false → (x y : Expr) → I level.Expression x → J level.Expression y → (xs ys : List Token) →
+  between : (m : Mark) → is_subscript (token.Mark m) ≡ false → (x y : Expr) → I level.Expression x → J level.Expression y →
+      (xs ys : List Token) →
       (tokens x ++ token.Mark m ∷ []) ++ xs ≡ (tokens y ++ token.Mark m ∷ []) ++ ys → (x ≡ y) × (xs ≡ ys)
   between m ends x y hx hy xs ys same =
       let stop = mark_stops m ends in
@@ -94,16 +102,20 @@ module _ (I J : Level → Expr → Type 0) (inner : (l : Level) (x y : Expr) →
       (both.0, cc)
 
   same_atom : (x y : Expr) → IsAtom I x → IsAtom J y → Same level.Atom x y
-  same_atom _ _ (number n) (number m) xs ys p q same = let s = fronts xs ys (tokens-Number n) (tokens-Number m) same in let v : n ≡ m = cc in (ap e.Number v, cc)
+  same_atom _ _ (number n) (number m) xs ys p q same = let s = fronts xs ys (tokens-Number n) (tokens-Number m) same in let v : n ≡ m =
+      cc in (ap e.Number v, cc)
   same_atom _ _ (number n) (name y) xs ys p q same = let s = fronts xs ys (tokens-Number n) (tokens-Name y) same in absurd cc
   same_atom _ _ (number n) (element y j h) xs ys p q same = let s = fronts xs ys (tokens-Number n) (tokens-Element y j) same in absurd cc
   same_atom _ _ (number n) (paren j h) xs ys p q same = let s = fronts xs ys (tokens-Number n) (tokens-Paren j) same in absurd cc
   same_atom _ _ (name x) (number m) xs ys p q same = let s = fronts xs ys (tokens-Name x) (tokens-Number m) same in absurd cc
-  same_atom _ _ (name x) (name y) xs ys p q same = let s = fronts xs ys (tokens-Name x) (tokens-Name y) same in let v : x ≡ y = cc in (ap e.Name v, cc)
-  same_atom _ _ (name x) (element y j h) xs ys p q same = let s = fronts xs ys (tokens-Name x) (tokens-Element y j) same in absurd (no_subscript xs ((tokens j ++ token.Mark mark.CloseBracket ∷ []) ++ ys) p cc)
+  same_atom _ _ (name x) (name y) xs ys p q same = let s = fronts xs ys (tokens-Name x) (tokens-Name y) same in let v : x ≡ y = cc in
+      (ap e.Name v, cc)
+  same_atom _ _ (name x) (element y j h) xs ys p q same = let s = fronts xs ys (tokens-Name x) (tokens-Element y j) same in
+      absurd (no_subscript xs ((tokens j ++ token.Mark mark.CloseBracket ∷ []) ++ ys) p cc)
   same_atom _ _ (name x) (paren j h) xs ys p q same = let s = fronts xs ys (tokens-Name x) (tokens-Paren j) same in absurd cc
   same_atom _ _ (element x i h) (number m) xs ys p q same = let s = fronts xs ys (tokens-Element x i) (tokens-Number m) same in absurd cc
-  same_atom _ _ (element x i h) (name y) xs ys p q same = let s = fronts xs ys (tokens-Element x i) (tokens-Name y) same in absurd (no_subscript ys ((tokens i ++ token.Mark mark.CloseBracket ∷ []) ++ xs) q cc)
+  same_atom _ _ (element x i h) (name y) xs ys p q same = let s = fronts xs ys (tokens-Element x i) (tokens-Name y) same in
+      absurd (no_subscript ys ((tokens i ++ token.Mark mark.CloseBracket ∷ []) ++ xs) q cc)
   same_atom _ _ (element x i h) (element y j g) xs ys p q same =
       let s = fronts xs ys (tokens-Element x i) (tokens-Element y j) same in
       let v : x ≡ y = cc in
@@ -136,7 +148,8 @@ module _ (I J : Level → Expr → Type 0) (inner : (l : Level) (x y : Expr) →
   same_sum = same_chained level.Sum (IsTerm I) (IsTerm J) same_term (λ t s. s) sum_operator
 
   same_comparison : (x y : Expr) → IsComparison I x → IsComparison J y → Same level.Comparison x y
-  same_comparison x y h g = same_chained level.Comparison (IsSum I) (IsSum J) same_sum (λ t s. s) comparison_operator x y (as_chain h) (as_chain g)
+  same_comparison x y h g = same_chained level.Comparison (IsSum I) (IsSum J) same_sum (λ t s. s) comparison_operator x y (as_chain h)
+      (as_chain g)
 
   same_negation : (x y : Expr) → IsNegation I x → IsNegation J y → Same level.Negation x y
   same_negation _ _ (not i h) (not j g) xs ys p q same =

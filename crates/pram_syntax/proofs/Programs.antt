@@ -1,5 +1,6 @@
 -- The machine's verdict of a whole program, in terms of the grammar.
-use Rattle.std.proofs.Common.{◌≡◌, ℕ, zero, suc, ◌+◌, Err, true, false, List, [], ◌∷◌, ◌++◌, length, refl, sym, ap, ◌∙◌, subst, arith, append_assoc, nat_eq}
+use Rattle.std.proofs.Common.{◌≡◌, ℕ, zero, suc, ◌+◌, Err, true, false, List, [], ◌∷◌, ◌++◌, length, refl, sym, ap, ◌∙◌, subst, arith}
+use Rattle.std.proofs.Common.{append_assoc, nat_eq}
 use Rattle.std.proofs.lemmas.List.{append-nil}
 use Rattle.std.proofs.lemmas.Bool.{eqb-true}
 use Rattle.pram_model.specs.declared.rule.Rule.{Rule}
@@ -38,7 +39,8 @@ body_tokens body = block_tokens body ++ token.Mark mark.End ∷ []
 -- what is expected behind the rule
 abbrev behind_rule : (b d : ℕ) → Stack
 behind_rule b d =
-    Want mark.Semicolon ∷ (Want mark.Procs ∷ (WantNumber ∷ (Want mark.Semicolon ∷ (Declarations ∷ (Want mark.Begin ∷ statements_and_end b d)))))
+    Want mark.Semicolon ∷ (Want mark.Procs
+        ∷ (WantNumber ∷ (Want mark.Semicolon ∷ (Declarations ∷ (Want mark.Begin ∷ statements_and_end b d)))))
 
 -- the tokens behind the rule
 abbrev behind_word : ProgramTree → List Token
@@ -57,12 +59,14 @@ accepted b d ts (p, h, is) = ap (λ l. verdict l (start b d)) is ∙ accepted_tr
 
 is_program : (b d : ℕ) (ts : List Token) → AreReal ts → Covers (start b d) ts → IsProgram b d ts
 is_program b d ts real
-    (a1, r1, w1, e1, (a2, r2, w2, (r, at, e2), (a3, r3, w3, e3, (a4, r4, w4, e4, (a5, r5, w5, (n, e5), (a6, r6, w6, e6, (a7, r7, w7, (xs, e7), (a8, r8, w8, e8, more)))))))) =
+    (a1, r1, w1, e1, (a2, r2, w2, (r, at, e2),
+        (a3, r3, w3, e3, (a4, r4, w4, e4, (a5, r5, w5, (n, e5), (a6, r6, w6, e6, (a7, r7, w7, (xs, e7), (a8, r8, w8, e8, more)))))))) =
     let w = body_back mark.End b d [] r8 more in
     let p : ProgramTree = record { rule = r; rule_location = at; procs = n; declarations = xs; body = w.0 } in
     let e : r8 ≡ body_tokens w.0 = w.3 ∙ ap (λ l. block_tokens w.0 ++ (token.Mark mark.End ∷ l)) w.4 in
     let whole : ts ≡ program_tokens p =
-    w1 ∙ ap (λ l. l ++ r1) e1 ∙ ap (λ l. token.Mark mark.Rule ∷ l) (w2 ∙ ap (λ l. l ++ r2) e2 ∙ ap (λ l. rule_token r at ∷ l) (w3 ∙ ap (λ l. l ++ r3) e3
+    w1 ∙ ap (λ l. l ++ r1) e1 ∙ ap (λ l. token.Mark mark.Rule ∷ l) (w2 ∙ ap (λ l. l ++ r2) e2
+        ∙ ap (λ l. rule_token r at ∷ l) (w3 ∙ ap (λ l. l ++ r3) e3
     ∙ ap (λ l. token.Mark mark.Semicolon ∷ l) (w4 ∙ ap (λ l. l ++ r4) e4 ∙ ap (λ l. token.Mark mark.Procs ∷ l) (w5 ∙ ap (λ l. l ++ r5) e5
     ∙ ap (λ l. token.Number n ∷ l) (w6 ∙ ap (λ l. l ++ r6) e6 ∙ ap (λ l. token.Mark mark.Semicolon ∷ l) (w7 ∙ ap (λ l. l ++ r7) e7
     ∙ ap (λ l. declarations_tokens xs ++ l) (w8 ∙ ap (λ l. l ++ r8) e8 ∙ ap (λ l. token.Mark mark.Begin ∷ l) e))))))) in
@@ -74,9 +78,11 @@ wide b d ts (p, h, is) =
     let up = more_levels (b + limit) (d + limit + b) d p.body (more_blocks (d + limit) b d p.body h.is_block) in
     let e : d + limit + b ≡ b + d + limit = omega arith in
     let f : b + limit + d ≡ b + d + limit = omega arith in
-    (b + d, (p, record { is_block = subst (λ n. IsBlock n (b + d + limit) p.body) e (subst (λ n. IsBlock (d + limit + b) n p.body) f up); are_real = h.are_real }, is))
+    (b + d, (p, record { is_block = subst (λ n. IsBlock n (b + d + limit) p.body) e (subst (λ n. IsBlock (d + limit + b) n p.body) f up);
+        are_real = h.are_real }, is))
 
-syntax_above : (c : ℕ) (ts : List Token) (n : ℕ) → verdict ts (start limit limit) ≡ SyntaxAt n → verdict ts (start (c + limit) (c + limit)) ≡ SyntaxAt n
+syntax_above : (c : ℕ) (ts : List Token) (n : ℕ) → verdict ts (start limit limit) ≡ SyntaxAt n →
+    verdict ts (start (c + limit) (c + limit)) ≡ SyntaxAt n
 syntax_above zero ts n h = let e : limit ≡ 0 + limit = omega arith in subst (λ m. verdict ts (start m m) ≡ SyntaxAt n) e h
 syntax_above (suc c) ts n h =
     let e : suc (c + limit) ≡ suc c + limit = omega arith in
@@ -104,14 +110,16 @@ syntax_fault ts n real h =
     by : (front back : List Token) → ts ≡ front ++ back → length back ≡ n → Ends front back
     by front [] whole left = λ b d p.
         let w = wide b d front p in
-        let e = accepted (w.0 + limit) (w.0 + limit) ts (subst (IsProgram (w.0 + limit) (w.0 + limit)) (sym (append-nil front) ∙ sym whole) w.1) in
+        let e = accepted (w.0 + limit) (w.0 + limit) ts (subst (IsProgram (w.0 + limit) (w.0 + limit)) (sym (append-nil front)
+            ∙ sym whole) w.1) in
         absurd (refused_only _ n e (subst (λ v. RefusedAt v n) (sym (syntax_above w.0 ts n h)) refl))
     by front (t ∷ back) whole left = λ b d p.
         let w = wide b d ((front ++ t ∷ []) ++ p.0) p.1 in
         let grouped : (front ++ t ∷ []) ++ p.0 ≡ front ++ (t ∷ p.0) = append_assoc front (t ∷ []) p.0 in
         let e = accepted (w.0 + limit) (w.0 + limit) (front ++ (t ∷ p.0)) (subst (IsProgram (w.0 + limit) (w.0 + limit)) grouped w.1) in
         let refused = subst (λ l. verdict l (start (w.0 + limit) (w.0 + limit)) ≡ SyntaxAt n) whole (syntax_above w.0 ts n h) in
-        let at = stuck front t back p.0 (start (w.0 + limit) (w.0 + limit)) (subst (λ v. RefusedAt v (length (t ∷ back))) (sym refused) (sym left)) in
+        let at = stuck front t back p.0 (start (w.0 + limit) (w.0 + limit))
+            (subst (λ v. RefusedAt v (length (t ∷ back))) (sym refused) (sym left)) in
         refused_only _ _ e at
 
 pub depth_fault : (ts : List Token) (n : ℕ) → AreReal ts → verdict ts (start limit limit) ≡ TooDeepAt n → IsDepthFault ts n
@@ -120,17 +128,20 @@ depth_fault ts n real h =
     let one = o.opener ∷ [] in
     let refused = subst (λ l. verdict l (start limit limit) ≡ TooDeepAt n) o.whole h in
     let opener_whole : ts ≡ (o.front ++ one) ++ o.back = o.whole ∙ sym (append_assoc o.front one o.back) in
-    let more_real = subst AreReal (append_assoc o.front one o.more) (real_with ts (o.front ++ one) o.back o.more opener_whole real o.more_real) in
+    let more_real = subst AreReal (append_assoc o.front one o.more) (real_with ts (o.front ++ one) o.back o.more opener_whole real
+        o.more_real) in
     record {
       front = o.front;
       opener = o.opener;
       back = o.back;
       whole = o.whole;
       is_left = o.is_left;
-      begins = (o.less, is_program limit limit (o.front ++ o.less) (real_with ts o.front (o.opener ∷ o.back) o.less o.whole real o.less_real) o.shallow);
+      begins = (o.less, is_program limit limit (o.front
+          ++ o.less) (real_with ts o.front (o.opener ∷ o.back) o.less o.whole real o.less_real) o.shallow);
       within = λ p. refused_only _ _
           (accepted limit limit (o.front ++ (o.opener ∷ p.0)) (subst (IsProgram limit limit) (append_assoc o.front one p.0) p.1))
-          (stuck o.front o.opener o.back p.0 (start limit limit) (subst (λ v. RefusedAt v (length (o.opener ∷ o.back))) (sym refused) (sym o.is_left)));
+          (stuck o.front o.opener o.back p.0 (start limit limit) (subst (λ v. RefusedAt v (length (o.opener ∷ o.back))) (sym refused)
+              (sym o.is_left)));
       deeper = (
         suc limit,
         suc limit,
@@ -166,7 +177,8 @@ same_tree b c d e p q h g eq =
 
 -- what the parser's promise says of a whole program
 
-pub rightly : {X : Type 0} (Y : Type 0) (rest : X → List Token) (ts : List Token) (x : ParseError) → AreReal ts → Follows (λ k. verdict ts (program limit limit k)) rest (Err x) →
+pub rightly : {X : Type 0} (Y : Type 0) (rest : X → List Token) (ts : List Token) (x : ParseError) → AreReal ts →
+    Follows (λ k. verdict ts (program limit limit k)) rest (Err x) →
     IsRefusedRightly {X = Y} ts (Err x)
 rightly Y rest ts Memory real h = tt
 rightly Y rest ts (Syntax n) real h = syntax_fault ts n real (h [])
@@ -176,25 +188,30 @@ pub leftover : (rest : List Token) → nat_eq (length rest) 0 ≡ false → verd
 leftover [] never = cc
 leftover (t ∷ rest) some = refl
 
-no_verdict : (ts : List Token) (n : ℕ) (p : ProgramTree) → IsTree limit limit p → ts ≡ program_tokens p → RefusedAt (verdict ts (start limit limit)) n → ⊥
+no_verdict : (ts : List Token) (n : ℕ) (p : ProgramTree) → IsTree limit limit p → ts ≡ program_tokens p →
+    RefusedAt (verdict ts (start limit limit)) n → ⊥
 no_verdict ts n p h is refused = refused_only _ n (accepted limit limit ts (p, h, is)) refused
 
-pub no_syntax_fault : (ts : List Token) (n : ℕ) (p : ProgramTree) → IsTree limit limit p → ts ≡ program_tokens p → verdict ts (start limit limit) ≡ SyntaxAt n → ⊥
+pub no_syntax_fault : (ts : List Token) (n : ℕ) (p : ProgramTree) → IsTree limit limit p → ts ≡ program_tokens p →
+    verdict ts (start limit limit) ≡ SyntaxAt n → ⊥
 no_syntax_fault ts n p h is at = no_verdict ts n p h is (subst (λ v. RefusedAt v n) (sym at) refl)
 
 -- the parser refuses nothing of the grammar
-pub none_refused : {X : Type 0} (rest : X → List Token) (ts : List Token) (x : ParseError) → Follows (λ k. verdict ts (program limit limit k)) rest (Err x) →
+pub none_refused : {X : Type 0} (rest : X → List Token) (ts : List Token) (x : ParseError) →
+    Follows (λ k. verdict ts (program limit limit k)) rest (Err x) →
     (p : ProgramTree) → IsTree limit limit p → ts ≡ program_tokens p → Answers p (Err x)
 none_refused rest ts Memory follows p h is = tt
 none_refused rest ts (Syntax n) follows p h is = no_syntax_fault ts n p h is (follows [])
 none_refused rest ts (error.TooDeep n) follows p h is = no_verdict ts n p h is (subst (λ v. RefusedAt v n) (sym (follows [])) refl)
 
 pub only : (ts rest : List Token) (p other : ProgramTree) → nat_eq (length rest) 0 ≡ true → IsBlock limit limit p.body →
-    ts ≡ header_tokens p.rule p.rule_location p.procs (declarations_tokens p.declarations ++ (token.Mark mark.Begin ∷ (block_tokens p.body ++ (token.Mark mark.End ∷ rest)))) →
+    ts ≡ header_tokens p.rule p.rule_location p.procs (declarations_tokens p.declarations
+        ++ (token.Mark mark.Begin ∷ (block_tokens p.body ++ (token.Mark mark.End ∷ rest)))) →
     IsTree limit limit other → ts ≡ program_tokens other → p ≡ other
 only ts rest p other none within found h is =
     same_tree limit limit limit limit p other within h.is_block
-    (ap (λ l. header_tokens p.rule p.rule_location p.procs (declarations_tokens p.declarations ++ (token.Mark mark.Begin ∷ (block_tokens p.body ++ (token.Mark mark.End ∷ l)))))
+    (ap (λ l. header_tokens p.rule p.rule_location p.procs (declarations_tokens p.declarations
+        ++ (token.Mark mark.Begin ∷ (block_tokens p.body ++ (token.Mark mark.End ∷ l)))))
     (sym (empty rest none)) ∙ sym found ∙ is)
   where
     empty : (l : List Token) → nat_eq (length l) 0 ≡ true → l ≡ []

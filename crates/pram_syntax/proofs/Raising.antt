@@ -1,5 +1,6 @@
 -- What the machine refuses begins no sentence.
-use Rattle.std.proofs.Common.{◌≡◌, ℕ, zero, suc, ◌+◌, ◌≤◌, Bool, true, false, List, [], ◌∷◌, ◌++◌, length, refl, sym, ap, ◌∙◌, subst, arith, length-append, if◌then◌else◌}
+use Rattle.std.proofs.Common.{◌≡◌, ℕ, zero, suc, ◌+◌, ◌≤◌, Bool, true, false, List, [], ◌∷◌, ◌++◌, length, refl, sym, ap, ◌∙◌, subst, arith}
+use Rattle.std.proofs.Common.{length-append, if◌then◌else◌}
 use Rattle.pram_tokens.specs.declared.token.Binary.TheVariants as op
 use Rattle.pram_tokens.specs.declared.token.Mark.{Mark}
 use Rattle.pram_tokens.specs.declared.token.Mark.TheVariants as mark
@@ -9,7 +10,11 @@ use Rattle.pram_tokens.specs.declared.token.Token.TheVariants as token
 use Rattle.pram_syntax.specs.declared.level.Level.{Level}
 use Rattle.pram_syntax.specs.declared.level.Level.TheVariants as level
 use Rattle.pram_syntax.specs.Machine.{step, verdict, on_move, Accepted, SyntaxAt, TooDeepAt, may_end}
-use Rattle.pram_syntax.specs.Symbols.{Stack, Symbol, Operand, Rest, Subscript, Want, WantRule, WantName, WantNumber, WantAtMost, Declarations, AfterShared, Statements, AfterName, ForHead, ForName, Else, Locals, Move, Next, Refused, TooDeep, deeper, enter, enter_atom, enter_unary, enter_negation, tighter, again, same_mark, is_operator, is_subscript, is_mark, is_rule, bounds, at_mark, at_at_most, is_at_most, at_subscript, at_rest, assignment, range, turns}
+use Rattle.pram_syntax.specs.Symbols.{Stack, Symbol, Operand, Rest, Subscript, Want, WantRule, WantName, WantNumber, WantAtMost}
+use Rattle.pram_syntax.specs.Symbols.{Declarations, AfterShared, Statements, AfterName, ForHead, ForName, Else, Locals, Move, Next, Refused}
+use Rattle.pram_syntax.specs.Symbols.{TooDeep, deeper, enter, enter_atom, enter_unary, enter_negation, tighter, again, same_mark}
+use Rattle.pram_syntax.specs.Symbols.{is_operator, is_subscript, is_mark, is_rule, bounds, at_mark, at_at_most, is_at_most, at_subscript}
+use Rattle.pram_syntax.specs.Symbols.{at_rest, assignment, range, turns}
 use Rattle.pram_syntax.proofs.Covering.{Covers, Covered}
 use Rattle.pram_syntax.proofs.Stepping.{step_back}
 use Rattle.pram_tokens.specs.Tokens.{AreReal}
@@ -24,17 +29,20 @@ bound ts k n h =
     let is = v.is_left in
     omega arith
 
-pub stuck : (front : List Token) (t : Token) (back more : List Token) (k : Stack) → RefusedAt (verdict (front ++ t ∷ back) k) (length (t ∷ back)) →
+pub stuck : (front : List Token) (t : Token) (back more : List Token) (k : Stack) → RefusedAt (verdict (front ++ t ∷ back) k)
+    (length (t ∷ back)) →
     RefusedAt (verdict (front ++ t ∷ more) k) (length (t ∷ more))
 stuck [] t back more k h = by (step k t) h
   where
-    by : (m : Move) → RefusedAt (on_move m (verdict back) (length (t ∷ back))) (length (t ∷ back)) → RefusedAt (on_move m (verdict more) (length (t ∷ more))) (length (t ∷ more))
+    by : (m : Move) → RefusedAt (on_move m (verdict back) (length (t ∷ back))) (length (t ∷ back)) →
+        RefusedAt (on_move m (verdict more) (length (t ∷ more))) (length (t ∷ more))
     by (Next j) h = let few = bound back j (length (t ∷ back)) h in absurd (omega arith)
     by Refused h = refl
     by TooDeep h = refl
 stuck (f ∷ front) t back more k h = by (step k f) (λ j. stuck front t back more j) h
   where
-    by : (m : Move) → ((j : Stack) → RefusedAt (verdict (front ++ t ∷ back) j) (length (t ∷ back)) → RefusedAt (verdict (front ++ t ∷ more) j) (length (t ∷ more))) →
+    by : (m : Move) → ((j : Stack) → RefusedAt (verdict (front ++ t ∷ back) j) (length (t ∷ back)) →
+        RefusedAt (verdict (front ++ t ∷ more) j) (length (t ∷ more))) →
         RefusedAt (on_move m (verdict (front ++ t ∷ back)) (length (f ∷ (front ++ t ∷ back)))) (length (t ∷ back)) →
         RefusedAt (on_move m (verdict (front ++ t ∷ more)) (length (f ∷ (front ++ t ∷ more)))) (length (t ∷ more))
     by (Next j) inner h = inner j h
@@ -72,12 +80,14 @@ raise_atom d (token.Mark m) k = by (same_mark mark.OpenParen m)
   where
     by : (b : Bool) → Raised (if b then deeper d (λ i. Operand level.Expression i ∷ (Want mark.CloseParen ∷ k)) else Refused)
         (if b then deeper (suc d) (λ i. Operand level.Expression i ∷ (Want mark.CloseParen ∷ raise k)) else Refused)
-    by true = raise_deeper d (λ i. Operand level.Expression i ∷ (Want mark.CloseParen ∷ k)) (λ i. Operand level.Expression i ∷ (Want mark.CloseParen ∷ raise k)) (λ i. refl)
+    by true = raise_deeper d (λ i. Operand level.Expression i ∷ (Want mark.CloseParen ∷ k)) (λ i. Operand level.Expression i
+        ∷ (Want mark.CloseParen ∷ raise k)) (λ i. refl)
     by false = refl
 raise_atom d t k = refl
 
 raise_unary : (d : ℕ) (t : Token) (k : Stack) → Raised (enter_unary d t k) (enter_unary (suc d) t (raise k))
-raise_unary d (token.Binary op.Subtract) k = raise_deeper d (λ i. Operand level.Unary i ∷ k) (λ i. Operand level.Unary i ∷ raise k) (λ i. refl)
+raise_unary d (token.Binary op.Subtract) k = raise_deeper d (λ i. Operand level.Unary i ∷ k) (λ i. Operand level.Unary i
+    ∷ raise k) (λ i. refl)
 raise_unary d t k = raise_atom d t k
 
 raise_negation : (d : ℕ) (t : Token) (k : Stack) → Raised (enter_negation d t k) (enter_negation (suc d) t (raise k))
@@ -99,25 +109,30 @@ raise_again : (l : Level) (d : ℕ) (k : Stack) → again l (suc d) (raise k) �
 raise_again level.Comparison d k = refl
 raise_again l d k = refl
 
-raise_mark : (m : Mark) (t : Token) (j : Stack) (other above : Move) → Raised other above → Raised (at_mark m t j other) (at_mark m t (raise j) above)
+raise_mark : (m : Mark) (t : Token) (j : Stack) (other above : Move) → Raised other above → Raised (at_mark m t j other)
+    (at_mark m t (raise j) above)
 raise_mark m t j other above h = by (is_mark m t)
   where
     by : (c : Bool) → Raised (if c then Next j else other) (if c then Next (raise j) else above)
     by true = refl
     by false = h
 
-raise_subscript : (d : ℕ) (t : Token) (k : Stack) (other above : Move) → Raised other above → Raised (at_subscript d t k other) (at_subscript (suc d) t (raise k) above)
+raise_subscript : (d : ℕ) (t : Token) (k : Stack) (other above : Move) → Raised other above → Raised (at_subscript d t k other)
+    (at_subscript (suc d) t (raise k) above)
 raise_subscript d t k other above h = by (is_subscript t)
   where
     by : (c : Bool) → Raised (if c then deeper d (λ i. Operand level.Expression i ∷ (Want mark.CloseBracket ∷ k)) else other)
         (if c then deeper (suc d) (λ i. Operand level.Expression i ∷ (Want mark.CloseBracket ∷ raise k)) else above)
-    by true = raise_deeper d (λ i. Operand level.Expression i ∷ (Want mark.CloseBracket ∷ k)) (λ i. Operand level.Expression i ∷ (Want mark.CloseBracket ∷ raise k)) (λ i. refl)
+    by true = raise_deeper d (λ i. Operand level.Expression i ∷ (Want mark.CloseBracket ∷ k)) (λ i. Operand level.Expression i
+        ∷ (Want mark.CloseBracket ∷ raise k)) (λ i. refl)
     by false = h
 
-raise_rest : (l : Level) (d : ℕ) (t : Token) (k : Stack) (other above : Move) → Raised other above → Raised (at_rest l d t k other) (at_rest l (suc d) t (raise k) above)
+raise_rest : (l : Level) (d : ℕ) (t : Token) (k : Stack) (other above : Move) → Raised other above → Raised (at_rest l d t k other)
+    (at_rest l (suc d) t (raise k) above)
 raise_rest l d t k other above h = by (is_operator l t)
   where
-    by : (c : Bool) → Raised (if c then Next (Operand (tighter l) d ∷ again l d k) else other) (if c then Next (Operand (tighter l) (suc d) ∷ again l (suc d) (raise k)) else above)
+    by : (c : Bool) → Raised (if c then Next (Operand (tighter l) d ∷ again l d k) else other)
+        (if c then Next (Operand (tighter l) (suc d) ∷ again l (suc d) (raise k)) else above)
     by true = ap (λ j. Next (Operand (tighter l) (suc d) ∷ j)) (raise_again l d k)
     by false = h
 
@@ -139,9 +154,11 @@ raise_step (Rest l d ∷ k) t = by (is_operator l t) (raise_step k t)
     by false h = h
 raise_step (Subscript d ∷ k) t = by (is_subscript t) (raise_step k t)
   where
-    by : (b : Bool) → Raised (step k t) (step (raise k) t) → Raised (if b then deeper d (λ i. Operand level.Expression i ∷ (Want mark.CloseBracket ∷ k)) else step k t)
+    by : (b : Bool) → Raised (step k t) (step (raise k) t) →
+        Raised (if b then deeper d (λ i. Operand level.Expression i ∷ (Want mark.CloseBracket ∷ k)) else step k t)
         (if b then deeper (suc d) (λ i. Operand level.Expression i ∷ (Want mark.CloseBracket ∷ raise k)) else step (raise k) t)
-    by true h = raise_deeper d (λ i. Operand level.Expression i ∷ (Want mark.CloseBracket ∷ k)) (λ i. Operand level.Expression i ∷ (Want mark.CloseBracket ∷ raise k)) (λ i. refl)
+    by true h = raise_deeper d (λ i. Operand level.Expression i ∷ (Want mark.CloseBracket ∷ k)) (λ i. Operand level.Expression i
+        ∷ (Want mark.CloseBracket ∷ raise k)) (λ i. refl)
     by false h = h
 raise_step (WantRule ∷ k) t = by (is_rule t)
   where
@@ -153,7 +170,8 @@ raise_step (WantName ∷ k) t = refl
 raise_step (WantNumber ∷ k) (token.Number n) = refl
 raise_step (WantNumber ∷ k) t = refl
 raise_step (Declarations ∷ k) t =
-    raise_mark mark.Shared t (WantName ∷ (AfterShared ∷ (Declarations ∷ k))) (at_mark mark.Var t (WantName ∷ (Want mark.Semicolon ∷ (Declarations ∷ k))) (step k t))
+    raise_mark mark.Shared t (WantName ∷ (AfterShared ∷ (Declarations ∷ k))) (at_mark mark.Var t (WantName
+        ∷ (Want mark.Semicolon ∷ (Declarations ∷ k))) (step k t))
     (at_mark mark.Var t (raise (WantName ∷ (Want mark.Semicolon ∷ (Declarations ∷ k)))) (step (raise k) t))
     (raise_mark mark.Var t (WantName ∷ (Want mark.Semicolon ∷ (Declarations ∷ k))) (step k t) (step (raise k) t) (raise_step k t))
 raise_step (AfterShared ∷ k) t =
@@ -165,10 +183,14 @@ raise_step (Statements b d ∷ k) (token.Name x) = refl
 raise_step (Statements b d ∷ k) (token.Opening opening.Print at) = refl
 raise_step (Statements b d ∷ k) (token.Opening opening.While at) =
     raise_deeper b (λ i. Operand level.Expression d ∷ (Want mark.Do ∷ (Statements i d ∷ (Want mark.End ∷ (Statements b d ∷ k)))))
-    (λ i. Operand level.Expression (suc d) ∷ (Want mark.Do ∷ (Statements i (suc d) ∷ (Want mark.End ∷ (Statements (suc b) (suc d) ∷ raise k))))) (λ i. refl)
+    (λ i. Operand level.Expression (suc d)
+        ∷ (Want mark.Do ∷ (Statements i (suc d) ∷ (Want mark.End ∷ (Statements (suc b) (suc d) ∷ raise k))))) (λ i. refl)
 raise_step (Statements b d ∷ k) (token.Opening opening.If at) =
-    raise_deeper b (λ i. Operand level.Expression d ∷ (Want mark.Then ∷ (Statements i d ∷ (Else i d ∷ (Want mark.End ∷ (Statements b d ∷ k))))))
-    (λ i. Operand level.Expression (suc d) ∷ (Want mark.Then ∷ (Statements i (suc d) ∷ (Else i (suc d) ∷ (Want mark.End ∷ (Statements (suc b) (suc d) ∷ raise k)))))) (λ i. refl)
+    raise_deeper b (λ i. Operand level.Expression d
+        ∷ (Want mark.Then ∷ (Statements i d ∷ (Else i d ∷ (Want mark.End ∷ (Statements b d ∷ k))))))
+    (λ i. Operand level.Expression (suc d)
+        ∷ (Want mark.Then ∷ (Statements i (suc d) ∷ (Else i (suc d) ∷ (Want mark.End ∷ (Statements (suc b) (suc d) ∷ raise k))))))
+        (λ i. refl)
 raise_step (Statements b d ∷ k) (token.Opening opening.For at) =
     raise_deeper b (λ i. ForHead i d ∷ (Statements b d ∷ k)) (λ i. ForHead i (suc d) ∷ (Statements (suc b) (suc d) ∷ raise k)) (λ i. refl)
 raise_step (Statements b d ∷ k) t = raise_step k t
@@ -187,9 +209,11 @@ raise_step (ForName b d ∷ k) t =
     (at_subscript (suc d) t (raise (Rest level.Term d ∷ (Rest level.Sum d ∷ bounds))) terms_above)
     (raise_subscript d t (Rest level.Term d ∷ (Rest level.Sum d ∷ bounds)) terms terms_above
     (raise_rest level.Term d t (Rest level.Sum d ∷ bounds) sums sums_above
-    (raise_rest level.Sum d t bounds (at_at_most t (range b d k) Refused) (at_at_most t (raise (range b d k)) Refused) (raise_at_most t (range b d k)))))
+    (raise_rest level.Sum d t bounds (at_at_most t (range b d k) Refused) (at_at_most t (raise (range b d k)) Refused)
+        (raise_at_most t (range b d k)))))
 raise_step (Else b d ∷ k) t = raise_mark mark.Else t (Statements b d ∷ k) (step k t) (step (raise k) t) (raise_step k t)
-raise_step (Locals ∷ k) t = raise_mark mark.Local t (WantName ∷ (Want mark.Semicolon ∷ (Locals ∷ k))) (step k t) (step (raise k) t) (raise_step k t)
+raise_step (Locals ∷ k) t = raise_mark mark.Local t (WantName ∷ (Want mark.Semicolon ∷ (Locals ∷ k))) (step k t) (step (raise k) t)
+    (raise_step k t)
 raise_step (Want m ∷ k) t = by (is_mark m t)
   where
     by : (b : Bool) → Raised (if b then Next k else Refused) (if b then Next (raise k) else Refused)
@@ -240,7 +264,8 @@ opens [] k n h = by (may_end k) h
     by false h = absurd cc
 opens (t ∷ ts) k n h = by (step k t) (step (raise k) t) (raise_step k t) (step_back (raise k) t) (step_back k t) (λ j. opens ts j n) h
   where
-    by : (m r : Move) → Raised m r → ((us : List Token) → Covered r us → Covers (raise k) (t ∷ us)) → ((us : List Token) → Covered m us → Covers k (t ∷ us)) →
+    by : (m r : Move) → Raised m r → ((us : List Token) → Covered r us → Covers (raise k) (t ∷ us)) →
+        ((us : List Token) → Covered m us → Covers k (t ∷ us)) →
         ((j : Stack) → verdict ts j ≡ TooDeepAt n → Opens j ts n) →
         on_move m (verdict ts) (length (t ∷ ts)) ≡ TooDeepAt n → Opens k (t ∷ ts) n
     by (Next j) r is back below inner h =

@@ -5,8 +5,10 @@ use Rattle.pram_syntax.specs.declared.level.Level.{Level}
 use Rattle.pram_syntax.specs.declared.level.Level.TheVariants as level
 use Rattle.pram_syntax.specs.declared.tree.Expr.{Expr}
 use Rattle.pram_syntax.specs.declared.tree.Stmt.{Stmt}
-use Rattle.pram_syntax.specs.Grammar.{AreSteps, Chained, chained, Compared, compared, IsAtom, number, name, element, paren, IsUnary, minus, atom, IsTerm, IsSum, IsComparison, IsNegation, not, comparison, IsConjunction, IsAt, Fits, Further}
-use Rattle.pram_syntax.specs.Blocks.{IsStatement, assign, assign_element, print, while, if_then, if_else, for_to, pardo, AreStatements, IsFurtherBlock, IsBlock}
+use Rattle.pram_syntax.specs.Grammar.{AreSteps, Chained, chained, Compared, compared, IsAtom, number, name, element, paren, IsUnary, minus}
+use Rattle.pram_syntax.specs.Grammar.{atom, IsTerm, IsSum, IsComparison, IsNegation, not, comparison, IsConjunction, IsAt, Fits, Further}
+use Rattle.pram_syntax.specs.Blocks.{IsStatement, assign, assign_element, print, while, if_then, if_else, for_to, pardo, AreStatements}
+use Rattle.pram_syntax.specs.Blocks.{IsFurtherBlock, IsBlock}
 
 module _ (l : Level) (P Q : Expr → Type 0) (up : (x : Expr) → P x → Q x) where
   steps_up : (rest : List (Binary × Expr)) → AreSteps l P rest → AreSteps l Q rest
@@ -63,7 +65,8 @@ further_up (suc d) l x h = at_up (Further d) (Further (suc d)) (further_up d) l 
 pub fits_up : (d : ℕ) (l : Level) (x : Expr) → Fits d l x → Fits (suc d) l x
 fits_up d = at_up (Further d) (Further (suc d)) (further_up d)
 
-module _ (d e : ℕ) (I J : List Stmt → Type 0) (fits : (l : Level) (x : Expr) → Fits d l x → Fits e l x) (further : (l : Level) (x : Expr) → Further d l x → Further e l x)
+module _ (d e : ℕ) (I J : List Stmt → Type 0) (fits : (l : Level) (x : Expr) → Fits d l x → Fits e l x)
+    (further : (l : Level) (x : Expr) → Further d l x → Further e l x)
     (up : (body : List Stmt) → I body → J body) where
   statement_up : (x : Stmt) → IsStatement d I x → IsStatement e J x
   statement_up _ (assign x v h) = assign x v (fits level.Expression v h)
@@ -72,8 +75,10 @@ module _ (d e : ℕ) (I J : List Stmt → Type 0) (fits : (l : Level) (x : Expr)
   statement_up _ (while at c body h g) = while at c body (fits level.Expression c h) (up body g)
   statement_up _ (if_then at c body h g) = if_then at c body (fits level.Expression c h) (up body g)
   statement_up _ (if_else at c body other h g f) = if_else at c body other (fits level.Expression c h) (up body g) (up other f)
-  statement_up _ (for_to at x low high body h g f) = for_to at x low high body (fits level.Expression low h) (fits level.Expression high g) (up body f)
-  statement_up _ (pardo at low x high names body h g f) = pardo at low x high names body (fits level.Sum low h) (fits level.Sum high g) (up body f)
+  statement_up _ (for_to at x low high body h g f) =
+      for_to at x low high body (fits level.Expression low h) (fits level.Expression high g) (up body f)
+  statement_up _ (pardo at low x high names body h g f) =
+      pardo at low x high names body (fits level.Sum low h) (fits level.Sum high g) (up body f)
 
   statements_up : (body : List Stmt) → AreStatements d I body → AreStatements e J body
   statements_up [] h = tt
@@ -81,22 +86,26 @@ module _ (d e : ℕ) (I J : List Stmt → Type 0) (fits : (l : Level) (x : Expr)
 
 blocks_up : (b d : ℕ) (body : List Stmt) → IsFurtherBlock b d body → IsFurtherBlock (suc b) d body
 blocks_up zero d body never = absurd never
-blocks_up (suc b) d body h = statements_up d d (IsFurtherBlock b d) (IsFurtherBlock (suc b) d) (λ l x f. f) (λ l x f. f) (blocks_up b d) body h
+blocks_up (suc b) d body h = statements_up d d (IsFurtherBlock b d) (IsFurtherBlock (suc b) d) (λ l x f. f) (λ l x f. f) (blocks_up b d)
+    body h
 
 levels_up : (b d : ℕ) (body : List Stmt) → IsFurtherBlock b d body → IsFurtherBlock b (suc d) body
 levels_up zero d body never = absurd never
-levels_up (suc b) d body h = statements_up d (suc d) (IsFurtherBlock b d) (IsFurtherBlock b (suc d)) (fits_up d) (further_up d) (levels_up b d) body h
+levels_up (suc b) d body h = statements_up d (suc d) (IsFurtherBlock b d) (IsFurtherBlock b (suc d)) (fits_up d) (further_up d)
+    (levels_up b d) body h
 
 pub more_blocks : (c b d : ℕ) (body : List Stmt) → IsBlock b d body → IsBlock (c + b) d body
 more_blocks zero b d body h = let e : b ≡ 0 + b = omega arith in subst (λ n. IsBlock n d body) e h
 more_blocks (suc c) b d body h =
     let e : suc (c + b) ≡ suc c + b = omega arith in
     subst (λ n. IsBlock n d body) e
-    (statements_up d d (IsFurtherBlock (c + b) d) (IsFurtherBlock (suc (c + b)) d) (λ l x f. f) (λ l x f. f) (blocks_up (c + b) d) body (more_blocks c b d body h))
+    (statements_up d d (IsFurtherBlock (c + b) d) (IsFurtherBlock (suc (c + b)) d) (λ l x f. f) (λ l x f. f) (blocks_up (c + b) d) body
+        (more_blocks c b d body h))
 
 pub more_levels : (c b d : ℕ) (body : List Stmt) → IsBlock b d body → IsBlock b (c + d) body
 more_levels zero b d body h = let e : d ≡ 0 + d = omega arith in subst (λ n. IsBlock b n body) e h
 more_levels (suc c) b d body h =
     let e : suc (c + d) ≡ suc c + d = omega arith in
     subst (λ n. IsBlock b n body) e
-    (statements_up (c + d) (suc (c + d)) (IsFurtherBlock b (c + d)) (IsFurtherBlock b (suc (c + d))) (fits_up (c + d)) (further_up (c + d)) (levels_up b (c + d)) body (more_levels c b d body h))
+    (statements_up (c + d) (suc (c + d)) (IsFurtherBlock b (c + d)) (IsFurtherBlock b (suc (c + d))) (fits_up (c + d)) (further_up (c + d))
+        (levels_up b (c + d)) body (more_levels c b d body h))

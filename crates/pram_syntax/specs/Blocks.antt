@@ -45,7 +45,8 @@ statement_step (Stmt-F.While at c body) =
     token.Opening opening.While at ∷ (tokens c ++ (token.Mark mark.Do ∷ (joined_all body ++ token.Mark mark.End ∷ [])))
 -- "if" expr "then" stmt* [ "else" stmt* ] "end"
 statement_step (Stmt-F.If at c body other) =
-    token.Opening opening.If at ∷ (tokens c ++ (token.Mark mark.Then ∷ (joined_all body ++ (joined_else other ++ token.Mark mark.End ∷ []))))
+    token.Opening opening.If at ∷ (tokens c
+        ++ (token.Mark mark.Then ∷ (joined_all body ++ (joined_else other ++ token.Mark mark.End ∷ []))))
 -- "for" NAME ":=" expr "to" expr "do" stmt* "end"
 statement_step (Stmt-F.For at x low high body) =
     token.Opening opening.For at ∷ (token.Name x ∷ (token.Mark mark.Becomes ∷ (tokens low ++ (token.Mark mark.To ∷ (tokens high
@@ -72,15 +73,19 @@ else_tokens (Some body) = token.Mark mark.Else ∷ block_tokens body
 -- A statement of the grammar. Inner are the statements one block further in, and d the levels of nesting of an expression.
 pub data IsStatement (d : ℕ) (Inner : List Stmt → Type 0) : Stmt → Type 0 where
   assign : (x : Name) (v : Expr) → Fits d level.Expression v → IsStatement d Inner (s.Assign x v)
-  assign_element : (x : Name) (i v : Expr) → Further d level.Expression i → Fits d level.Expression v → IsStatement d Inner (s.AssignElement x i v)
+  assign_element : (x : Name) (i v : Expr) → Further d level.Expression i → Fits d level.Expression v →
+      IsStatement d Inner (s.AssignElement x i v)
   print : (at : Location) (v : Expr) → Fits d level.Expression v → IsStatement d Inner (s.Print at v)
   while : (at : Location) (c : Expr) (body : List Stmt) → Fits d level.Expression c → Inner body → IsStatement d Inner (s.While at c body)
-  if_then : (at : Location) (c : Expr) (body : List Stmt) → Fits d level.Expression c → Inner body → IsStatement d Inner (s.If at c body None)
+  if_then : (at : Location) (c : Expr) (body : List Stmt) → Fits d level.Expression c → Inner body →
+      IsStatement d Inner (s.If at c body None)
   if_else : (at : Location) (c : Expr) (body other : List Stmt) → Fits d level.Expression c → Inner body → Inner other →
       IsStatement d Inner (s.If at c body (Some other))
-  for_to : (at : Location) (x : Name) (low high : Expr) (body : List Stmt) → Fits d level.Expression low → Fits d level.Expression high → Inner body →
+  for_to : (at : Location) (x : Name) (low high : Expr) (body : List Stmt) → Fits d level.Expression low → Fits d level.Expression high →
+      Inner body →
       IsStatement d Inner (s.For at x low high body)
-  pardo : (at : Location) (low : Expr) (x : Name) (high : Expr) (locals : List Name) (body : List Stmt) → Fits d level.Sum low → Fits d level.Sum high →
+  pardo : (at : Location) (low : Expr) (x : Name) (high : Expr) (locals : List Name) (body : List Stmt) → Fits d level.Sum low →
+      Fits d level.Sum high →
       Inner body → IsStatement d Inner (s.Pardo at low x high locals body)
 
 -- statements of the grammar, one after the other

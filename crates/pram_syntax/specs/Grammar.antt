@@ -83,7 +83,8 @@ pub data Chained (l : Level) (Operand : Expr → Type 0) : Expr → Type 0 where
 
 -- operand [ operator operand ]
 pub data Compared (l : Level) (Operand : Expr → Type 0) : Expr → Type 0 where
-  compared : (first : Expr) (rest : List (Binary × Expr)) → Operand first → AreSteps l Operand rest → IsShort rest → Compared l Operand (chain first rest)
+  compared : (first : Expr) (rest : List (Binary × Expr)) → Operand first → AreSteps l Operand rest → IsShort rest →
+      Compared l Operand (chain first rest)
 
 -- The lines of the grammar. Inner is the same one level of nesting further in.
 

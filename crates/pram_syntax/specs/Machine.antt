@@ -5,7 +5,10 @@ use Rattle.pram_tokens.specs.declared.token.Mark.TheVariants as mark
 use Rattle.pram_tokens.specs.declared.token.Opening.{Opening}
 use Rattle.pram_tokens.specs.declared.token.Token.{Token}
 use Rattle.pram_tokens.specs.declared.token.Token.TheVariants as token
-use Rattle.pram_syntax.specs.Symbols.{Operand, Rest, Subscript, Want, WantRule, WantName, WantNumber, WantAtMost, Declarations, AfterShared, Statements, AfterName, ForHead, ForName, Else, Locals, Stack, Move, Next, Refused, TooDeep, enter, at_rest, at_subscript, at_mark, at_name, at_number, at_rule, at_at_most, assignment, for_head, for_name, opened, at_statement, bounds, at_declaration, program}
+use Rattle.pram_syntax.specs.Symbols.{Operand, Rest, Subscript, Want, WantRule, WantName, WantNumber, WantAtMost, Declarations, AfterShared}
+use Rattle.pram_syntax.specs.Symbols.{Statements, AfterName, ForHead, ForName, Else, Locals, Stack, Move, Next, Refused, TooDeep, enter}
+use Rattle.pram_syntax.specs.Symbols.{at_rest, at_subscript, at_mark, at_name, at_number, at_rule, at_at_most, assignment, for_head}
+use Rattle.pram_syntax.specs.Symbols.{for_name, opened, at_statement, bounds, at_declaration, program}
 
 -- what the next token does to what is expected
 abbrev pub step : Stack → Token → Move

@@ -89,7 +89,8 @@ deeper (suc d) next = Next (next d)
 abbrev pub enter_atom : ℕ → Token → Stack → Move
 enter_atom d (token.Number n) k = Next k
 enter_atom d (token.Name x) k = Next (Subscript d ∷ k)
-enter_atom d (token.Mark m) k = if same_mark mark.OpenParen m then deeper d (λ i. Operand level.Expression i ∷ (Want mark.CloseParen ∷ k)) else Refused
+enter_atom d (token.Mark m) k = if same_mark mark.OpenParen m then deeper d (λ i. Operand level.Expression i
+    ∷ (Want mark.CloseParen ∷ k)) else Refused
 enter_atom d _ k = Refused
 
 -- unary
@@ -258,7 +259,8 @@ for_name b d t k =
 abbrev pub opened : ℕ → ℕ → Opening → Stack → Move
 opened b d opening.Print k = Next (Operand level.Expression d ∷ (Want mark.Semicolon ∷ k))
 opened b d opening.While k = deeper b (λ i. Operand level.Expression d ∷ (Want mark.Do ∷ (Statements i d ∷ (Want mark.End ∷ k))))
-opened b d opening.If k = deeper b (λ i. Operand level.Expression d ∷ (Want mark.Then ∷ (Statements i d ∷ (Else i d ∷ (Want mark.End ∷ k)))))
+opened b d opening.If k = deeper b (λ i. Operand level.Expression d
+    ∷ (Want mark.Then ∷ (Statements i d ∷ (Else i d ∷ (Want mark.End ∷ k)))))
 opened b d opening.For k = deeper b (λ i. ForHead i d ∷ k)
 
 -- the rest of a statement
@@ -281,4 +283,5 @@ bounds k = WantNumber ∷ (Want mark.Range ∷ (WantNumber ∷ (Want mark.CloseB
 
 -- the rest of a declaration
 abbrev pub at_declaration : Token → Stack → Move → Move
-at_declaration t k other = at_mark mark.Shared t (WantName ∷ (AfterShared ∷ k)) (at_mark mark.Var t (WantName ∷ (Want mark.Semicolon ∷ k)) other)
+at_declaration t k other = at_mark mark.Shared t (WantName
+    ∷ (AfterShared ∷ k)) (at_mark mark.Var t (WantName ∷ (Want mark.Semicolon ∷ k)) other)

@@ -1,5 +1,5 @@
 -- Which text is that of a tree, and what is wrong with a text that is that of none.
-use Rattle.std.specs.Prelude.{◌≡◌, ℕ, ◌-◌, ◌<◌, List, length, slice_index_or, Result, Ok, Err}
+use Rattle.std.specs.Prelude.{◌≡◌, ℕ, ◌<◌, List, length, Result, Ok, Err}
 use Rattle.pram_tokens.specs.declared.error.LexError.{LexError}
 use Rattle.pram_tokens.specs.declared.error.LexError.TheVariants as lex
 use Rattle.pram_syntax.specs.declared.parse_error.ParseError.{ParseError}
@@ -9,10 +9,12 @@ use Rattle.pram_tokens.specs.declared.error.TextFault.TheVariants.{NotAscii, Tex
 use Rattle.pram_tokens.specs.declared.token.Token.{Token}
 use Rattle.pram_syntax.specs.Faults.{IsDepthFault, IsSyntaxFault}
 use Rattle.pram_syntax.specs.Program.{ProgramTree, IsTree, limit, program_tokens}
+use Rattle.pram_tokens.specs.InOrder.{offset_of}
 use Rattle.pram_tokens.specs.Plain.{IsFirstBad, IsFirstOther, IsPlain}
 use Rattle.pram_tokens.specs.Scanning.{cut, cut_of, longest}
 
--- A text of a tree: one that is cut into the tree's tokens. The tree stands in the grammar, with blocks and expressions nested at most 64 deep.
+-- A text of a tree: one that is cut into the tree's tokens. The tree stands in the grammar, with blocks and expressions nested at most 64
+-- deep.
 pub record IsTextOf (text : List ℕ) (tree : ProgramTree) : Type 0 where
   pub plain : IsPlain text
   pub offsets : List ℕ
@@ -29,11 +31,8 @@ IsAnswer p (Ok q) = q ≡ p
 IsAnswer p (Err OutOfMemory) = Unit {0}
 IsAnswer p (Err _) = ⊥
 
--- the offset of the token that has `left` tokens from it on, and at 0 that of the text's end
-abbrev pub offset_of : (offsets : List ℕ) (left end : ℕ) → ℕ
-offset_of offsets left end = slice_index_or offsets (length offsets - left) end
-
--- Such a fault of the text's tokens stands at that offset. `IsFault ts left` says that it stands at the token that has `left` tokens from it on.
+-- Such a fault of the text's tokens stands at that offset. `IsFault ts left` says that it stands at the token that has `left` tokens from
+-- it on.
 pub record IsFaultAt (IsFault : List Token → ℕ → Type 0) (text : List ℕ) (at : ℕ) : Type 0 where
   pub plain : IsPlain text
   pub tokens : List Token
@@ -43,7 +42,8 @@ pub record IsFaultAt (IsFault : List Token → ℕ → Type 0) (text : List ℕ)
   pub fault : IsFault tokens left
   pub place : at ≡ offset_of offsets left (length text)
 
--- Each refusal says what is wrong with the text, in this order: its length, its bytes, its tokens, its syntax or nesting. Memory is asked for
+-- Each refusal says what is wrong with the text, in this order: its length, its bytes, its tokens, its syntax or nesting. Memory is asked
+-- for
 -- behind the first two.
 abbrev pub IsFaultOf : {X : Type 0} → List ℕ → Result X TextFault → Type 0
 IsFaultOf text (Ok x) = Unit {0}

@@ -11,16 +11,9 @@ use crate::parser::parse_tokens;
 use crate::tree::Tree;
 use pram_tokens::error::{LexError, TextFault};
 use pram_tokens::lexer::tokenize;
+use pram_tokens::offset::offset_of;
 use pram_tokens::plain::{LONGEST, first_other};
 use std::alloc::Global;
-
-/// The offset of the token that has so many tokens from it on, and at 0 the end.
-fn offset_of(offsets: &[u32], left: usize, end: u32) -> u32
-    ensures value { result ≡ spec.offset_of offsets.now left end }
-{
-    let at = offsets.len().saturating_sub(left);
-    if at < offsets.len() { offsets[at] } else { end }
-}
 
 /// What a refusal of the tokens says of the text that they were cut from.
 fn parse_fault(offsets: &[u32], end: u32, fault: ParseError) -> TextFault

@@ -1,5 +1,6 @@
 -- Reading the words of an input from a place on.
-use Rattle.std.proofs.Common.{◌≡◌, ℕ, zero, suc, ◌+◌, ◌<◌, ◌≤◌, ℤ, Bool, true, false, not, cond, List, [], ◌∷◌, ◌++◌, map, take, drop, length, Option, Some, None, refl, sym, ap, ◌∙◌, arith, append_assoc, length-drop, subst}
+use Rattle.std.proofs.Common.{◌≡◌, ℕ, zero, suc, ◌+◌, ◌<◌, ◌≤◌, ℤ, Bool, true, false, not, cond, List, [], ◌∷◌, ◌++◌, map, take, drop}
+use Rattle.std.proofs.Common.{length, Option, Some, None, refl, sym, ap, ◌∙◌, arith, append_assoc, length-drop, subst}
 use Rattle.std.specs.List.{prefix_len}
 use Rattle.std.proofs.lemmas.List.{drop-drop, map-append}
 use Rattle.pram_tokens.specs.Input.{AreNumbers, IsInputOf, IsFirstWrong, Word, begins_word, number_of, with_byte, words}
@@ -57,7 +58,8 @@ words-word at (b ∷ rest) n is = by (is_blank b) refl is (λ m e. words-word (a
     behind zero e inner = ap (λ x. with_byte at b x (words (at + 1) rest)) (stops rest e)
     behind (suc m) e inner =
         ap (λ x. with_byte at b x (words (at + 1) rest)) (goes_on rest m e) ∙ ap (with_byte at b true) (inner m e)
-        ∙ (let k : at + 1 + suc m ≡ at + suc (suc m) = omega arith in ap (λ i. word at (b ∷ take (suc m) rest) ∷ words i (drop (suc m) rest)) k)
+        ∙ (let k : at + 1 + suc m ≡ at + suc (suc m) = omega arith in
+            ap (λ i. word at (b ∷ take (suc m) rest) ∷ words i (drop (suc m) rest)) k)
 
     by : (x : Bool) → is_blank b ≡ x → front_len (b ∷ rest) ≡ suc n → ((m : ℕ) → front_len rest ≡ suc m → IsFront (at + 1) rest (suc m)) →
         words at (b ∷ rest) ≡ word at (b ∷ take n rest) ∷ words (at + suc n) (drop n rest)
@@ -75,14 +77,16 @@ pub record IsReadTo (text : List ℕ) (values : List ℤ) (at : ℕ) : Type 0 wh
   pub fits : at ≤ length text
 
 -- one turn of the loop, by the length of the word at the front of the rest
-module _ (text rest : List ℕ) (values : List ℤ) (at n : ℕ) (is_rest : rest ≡ drop at text) (before : IsReadTo text values at) (more : at < length text) (len : n ≡ front_len rest) where
+module _ (text rest : List ℕ) (values : List ℤ) (at n : ℕ) (is_rest : rest ≡ drop at text) (before : IsReadTo text values at)
+    (more : at < length text) (len : n ≡ front_len rest) where
   len_at : n ≡ front_len (drop at text)
   len_at = len ∙ ap front_len is_rest
 
   pub turn_blank : n ≡ 0 → IsReadTo text values (at + 1)
   turn_blank none = record {
     front = before.front;
-    whole = before.whole ∙ ap (λ l. before.front ++ l) (words-blank at (drop at text) (omega (arith, length-drop at text)) (sym len_at ∙ none)
+    whole = before.whole ∙ ap (λ l. before.front ++ l) (words-blank at (drop at text) (omega (arith, length-drop at text)) (sym len_at
+        ∙ none)
         ∙ ap (words (at + 1)) (drop-drop 1 at text));
     numbers = before.numbers;
     fits = omega arith;
@@ -99,7 +103,8 @@ module _ (text rest : List ℕ) (values : List ℤ) (at n : ℕ) (is_rest : rest
           ∙ ap (λ l. word at (take n l) ∷ words (at + n) (drop n (drop at text))) (sym is_rest)
           ∙ ap (λ l. word at (take n rest) ∷ words (at + n) l) (drop-drop n at text))
 
-  pub turn_word : 0 < n → n ≤ length rest → (w : List ℕ) (v : ℤ) → w ≡ take n rest → Some v ≡ number_of w → IsReadTo text (values ++ v ∷ []) (at + n)
+  pub turn_word : 0 < n → n ≤ length rest → (w : List ℕ) (v : ℤ) → w ≡ take n rest → Some v ≡ number_of w → IsReadTo text (values ++ v ∷ [])
+      (at + n)
   turn_word some within w v is number = record {
     front = before.front ++ word at (take n rest) ∷ [];
     whole = word_front some ∙ sym (append_assoc before.front (word at (take n rest) ∷ []) (words (at + n) (drop (at + n) text)));
@@ -127,7 +132,8 @@ one_list (u ∷ us) [] is = absurd (cc)
 one_list (u ∷ us) (v ∷ vs) is = let e : map Some us ≡ map Some vs = cc in let k : u ≡ v = cc in rw k (ap (λ l. v ∷ l) (one_list us vs e))
 
 -- a word that is no number is in no list of numbers
-pub none_wrong : (front : List Word) (w : Word) (back : List Word) (values : List ℤ) → number_of w.bytes ≡ None → AreNumbers (front ++ w ∷ back) values → ⊥
+pub none_wrong : (front : List Word) (w : Word) (back : List Word) (values : List ℤ) → number_of w.bytes ≡ None →
+    AreNumbers (front ++ w ∷ back) values → ⊥
 none_wrong [] w back [] none is = cc
 none_wrong [] w back (v ∷ values) none is = let e : number_of w.bytes ≡ Some v = cc in let k : None ≡ Some v = sym none ∙ e in cc
 none_wrong (x ∷ front) w back [] none is = cc

@@ -1,5 +1,6 @@
 -- Each lexeme that is a token is a real one: a name is no keyword, and a number is not too large.
-use Rattle.std.proofs.Common.{◌≡◌, ℕ, suc, ◌+◌, ◌==◌, ◌^◌, pos, ◌≤◌, Bool, true, false, ◌||◌, List, [], ◌∷◌, ◌++◌, take, drop, slice_index, length, Option, Some, None, refl, arith, rules, nat_lt, cond, ◌<ℤ◌}
+use Rattle.std.proofs.Common.{◌≡◌, ℕ, suc, ◌+◌, ◌==◌, ◌^◌, pos, ◌≤◌, Bool, true, false, ◌||◌, List, [], ◌∷◌, ◌++◌, take, drop, slice_index}
+use Rattle.std.proofs.Common.{length, Option, Some, None, refl, arith, rules, nat_lt, cond, ◌<ℤ◌}
 use Rattle.std.specs.Bool.{if◌then◌else◌}
 use Rattle.std.specs.Option.{option_or}
 use Rattle.std.proofs.lemmas.Bool.Decides.{nat_tests}
@@ -11,7 +12,9 @@ use Rattle.pram_tokens.specs.declared.token.Location.{Location}
 use Rattle.pram_tokens.specs.declared.token.Token.{Token}
 use Rattle.pram_tokens.specs.declared.words.Fixed.{Fixed}
 use Rattle.pram_tokens.specs.declared.words.Fixed.TheVariants as fixed
-use Rattle.pram_tokens.specs.Lexemes.{lookup, program_words, statement_words, operator_words, keyword, token_of, span, value_after, largest, number_lexeme, word_lexeme, narrow_lexeme, wide_lexeme, wide_symbol, narrow_symbol, is_blank, lexeme_at}
+use Rattle.pram_tokens.specs.Lexemes.{lookup, program_words, statement_words, operator_words, keyword, token_of, span, value_after, largest}
+use Rattle.pram_tokens.specs.Lexemes.{number_lexeme, word_lexeme, narrow_lexeme, wide_lexeme, wide_symbol, narrow_symbol, is_blank}
+use Rattle.pram_tokens.specs.Lexemes.{lexeme_at}
 use Rattle.pram_model.specs.Names.{is_one_of, is_keyword, same_text, are_words, begins_with_letter, is_word, is_letter, is_digit}
 use Rattle.pram_tokens.specs.Tokens.{IsNumber, IsReal}
 
@@ -31,7 +34,8 @@ fixed_real fixed.Not place = tt
 fixed_real (fixed.Opening o) place = tt
 fixed_real (fixed.Mark m) place = tt
 
-unlisted-by : (b : Bool) (f : Fixed) (x : Option Fixed) (y : Bool) → (x ≡ None → y ≡ false) → (if b then Some f else x) ≡ None → (b || y) ≡ false
+unlisted-by : (b : Bool) (f : Fixed) (x : Option Fixed) (y : Bool) → (x ≡ None → y ≡ false) → (if b then Some f else x) ≡ None →
+    (b || y) ≡ false
 unlisted-by true f x y h is = absurd (cc)
 unlisted-by false f x y h is = h is
 
@@ -57,9 +61,11 @@ no_keyword word is =
     let p = neither (option_or (lookup program_words word) (lookup statement_words word)) (lookup operator_words word) is in
     let q = neither (lookup program_words word) (lookup statement_words word) p.0 in
     none_of_two (spellings program_words) (spellings statement_words ++ spellings operator_words) word (unlisted program_words word q.0)
-    (none_of_two (spellings statement_words) (spellings operator_words) word (unlisted statement_words word q.1) (unlisted operator_words word p.1))
+    (none_of_two (spellings statement_words) (spellings operator_words) word (unlisted statement_words word q.1)
+        (unlisted operator_words word p.1))
 
-are_words-front : (b : Bool) (x n m : ℕ) (rest : List ℕ) → m ≡ suc n → is_word x ≡ b → are_words (take n rest) ≡ true → are_words (take (cond b m 0) (x ∷ rest)) ≡ true
+are_words-front : (b : Bool) (x n m : ℕ) (rest : List ℕ) → m ≡ suc n → is_word x ≡ b → are_words (take n rest) ≡ true →
+    are_words (take (cond b m 0) (x ∷ rest)) ≡ true
 are_words-front true x n m rest e is h = rw e (simp is h)
 are_words-front false x n m rest e is h = refl
 
@@ -67,7 +73,8 @@ run : (text : List ℕ) → are_words (take (span class.Word text) text) ≡ tru
 run [] = refl
 run (x ∷ rest) = are_words-front (is_word x) x (span class.Word rest) (1 + span class.Word rest) rest (omega arith) refl (run rest)
 
-begins-by : (b : Bool) (x n m : ℕ) (rest : List ℕ) → m ≡ suc n → b ≡ true → is_letter x ≡ true → begins_with_letter (take (cond b m 0) (x ∷ rest)) ≡ true
+begins-by : (b : Bool) (x n m : ℕ) (rest : List ℕ) → m ≡ suc n → b ≡ true → is_letter x ≡ true →
+    begins_with_letter (take (cond b m 0) (x ∷ rest)) ≡ true
 begins-by true x n m rest e is h = rw e h
 begins-by false x n m rest e is h = absurd (cc)
 
@@ -85,10 +92,13 @@ number_real : (place : Location) (digits rest : List ℕ) → IsRealLexeme (numb
 number_real place digits rest = by (nat_lt largest (value_after 0 digits)) refl
   where
     small : nat_lt largest (value_after 0 digits) ≡ false → IsNumber (pos (value_after 0 digits))
-    small is = let low : value_after 0 digits ≤ largest = grind (arith, nat_tests) in record { no_sign = search rules; bounded = below (value_after 0 digits) low }
+    small is = let low : value_after 0 digits ≤ largest = grind (arith, nat_tests) in
+        record { no_sign = search rules; bounded = below (value_after 0 digits) low }
 
     after : (b : Bool) → IsNumber (pos (value_after 0 digits))
-        → IsRealLexeme (if b then lexeme.Bad else lexeme.Token (Rattle.pram_tokens.specs.declared.token.Token.TheVariants.Number (record { value = pos (value_after 0 digits); location = place })) (length digits))
+        → IsRealLexeme (if b then lexeme.Bad else
+            lexeme.Token (Rattle.pram_tokens.specs.declared.token.Token.TheVariants.Number (record { value = pos (value_after 0 digits);
+            location = place })) (length digits))
     after true h = tt
     after false h = h
 
@@ -96,7 +106,8 @@ number_real place digits rest = by (nat_lt largest (value_after 0 digits)) refl
     by true is = rw is tt
     by false is = rw is (after (is_word (slice_index rest 0)) (small is))
 
-word_real : (place : Location) (word : List ℕ) (x : Option Fixed) → begins_with_letter word ≡ true → are_words word ≡ true → keyword word ≡ x → IsRealLexeme (word_lexeme place word x)
+word_real : (place : Location) (word : List ℕ) (x : Option Fixed) → begins_with_letter word ≡ true → are_words word ≡ true →
+    keyword word ≡ x → IsRealLexeme (word_lexeme place word x)
 word_real place word None h g is = record { letter = h; words = g; no_keyword = no_keyword word is }
 word_real place word (Some f) h g is = fixed_real f place
 
@@ -119,5 +130,6 @@ lexeme_real place text =
     choose (is_blank b) _ _ (λ _. tt)
     (λ _. choose (b == 35) _ _ (λ _. tt)
     (λ _. choose (is_digit b) _ _ (λ _. number_real place (take (span class.Digit text) text) (drop (span class.Digit text) text))
-    (λ _. choose (is_letter b) _ _ (λ is. word_real place (take (span class.Word text) text) (keyword (take (span class.Word text) text)) (begins text is) (run text) refl)
+    (λ _. choose (is_letter b) _ _ (λ is. word_real place (take (span class.Word text) text) (keyword (take (span class.Word text) text))
+        (begins text is) (run text) refl)
     (λ _. wide_real place (wide_symbol (b ∷ slice_index text 1 ∷ [])) (narrow_symbol (b ∷ []))))))

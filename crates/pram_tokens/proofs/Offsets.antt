@@ -1,5 +1,6 @@
 -- The tokens of a text stand in their order within it.
-use Rattle.std.proofs.Common.{◌≡◌, ℕ, zero, suc, ◌+◌, ◌-◌, ◌==◌, ◌<◌, ◌≤◌, ◌||◌, Bool, true, false, List, [], ◌∷◌, ◌++◌, take, drop, slice_index, length, Option, Some, None, Result, Ok, Err, subst, arith, nat_lt}
+use Rattle.std.proofs.Common.{◌≡◌, ℕ, zero, suc, ◌+◌, ◌-◌, ◌==◌, ◌<◌, ◌≤◌, ◌||◌, Bool, true, false, List, [], ◌∷◌, ◌++◌, take, drop}
+use Rattle.std.proofs.Common.{slice_index, length, Option, Some, None, Result, Ok, Err, subst, arith, nat_lt}
 use Rattle.std.specs.Bool.{if◌then◌else◌}
 use Rattle.std.specs.List.{All}
 use Rattle.std.specs.List.Sorted.{IsStrictlyIncreasing}
@@ -11,7 +12,8 @@ use Rattle.pram_tokens.specs.declared.token.Location.{Location}
 use Rattle.pram_tokens.specs.declared.token.Token.{Token}
 use Rattle.pram_tokens.specs.declared.words.Fixed.{Fixed}
 use Rattle.pram_tokens.specs.declared.words.Fixed.TheVariants as fixed
-use Rattle.pram_tokens.specs.Lexemes.{keyword, token_of, span, value_after, largest, number_lexeme, word_lexeme, narrow_lexeme, wide_lexeme, wide_symbol, narrow_symbol, is_blank, lexeme_at}
+use Rattle.pram_tokens.specs.Lexemes.{keyword, token_of, span, value_after, largest, number_lexeme, word_lexeme, narrow_lexeme, wide_lexeme}
+use Rattle.pram_tokens.specs.Lexemes.{wide_symbol, narrow_symbol, is_blank, lexeme_at}
 use Rattle.pram_tokens.specs.Scanning.{Cut, cut, cut_of, next_line, place, scan, scan_by, with_front}
 use Rattle.pram_model.specs.Names.{is_word, is_letter, is_digit}
 use Rattle.pram_tokens.specs.InOrder.{place_of, places, StandInOrder}
@@ -103,11 +105,13 @@ front : (xs ys : List ℕ) (at high : ℕ) → IsAt xs at → Between (at + 1) y
 front _ ys _ high (unplaced at) h = lower at (at + 1) high ys (omega arith) h
 front _ ys _ high (placed at) h = (omega arith, h)
 
-in_front : (at high : ℕ) (t : Token) (r : Result Cut ℕ) → IsAt (place_of t) at → AreThere (at + 1) high r → AreThere at high (with_front t at r)
+in_front : (at high : ℕ) (t : Token) (r : Result Cut ℕ) → IsAt (place_of t) at → AreThere (at + 1) high r →
+    AreThere at high (with_front t at r)
 in_front at high t (Ok c) is h = front (place_of t) (places c.tokens) at high is h
 in_front at high t (Err bad) is h = tt
 
-by_lexeme : (at line high : ℕ) (x : Lexeme) (rest : ℕ → Result Cut ℕ) → IsThere (place at line) x → ((n : ℕ) → AreThere (at + 1) high (rest n)) → AreThere at high (scan_by x at rest)
+by_lexeme : (at line high : ℕ) (x : Lexeme) (rest : ℕ → Result Cut ℕ) → IsThere (place at line) x →
+    ((n : ℕ) → AreThere (at + 1) high (rest n)) → AreThere at high (scan_by x at rest)
 by_lexeme at line high (lexeme.Blank n) rest there more = earlier at high (rest (n - 1)) (more (n - 1))
 by_lexeme at line high (lexeme.Token t n) rest there more = in_front at high t (rest (n - 1)) there (more (n - 1))
 by_lexeme at line high lexeme.Bad rest there more = tt
@@ -115,11 +119,14 @@ by_lexeme at line high lexeme.Bad rest there more = tt
 scanned : (skip at line high : ℕ) (text : List ℕ) → at + length text ≡ high → AreThere at high (scan skip at line text)
 scanned skip at line high [] is = omega (arith, is)
 scanned zero at line high (b ∷ bs) is =
-    by_lexeme at line high (lexeme_at (place at line) (b ∷ bs)) (λ n. scan n (at + 1) (next_line line b) bs) (lexeme_there (place at line) (b ∷ bs))
+    by_lexeme at line high (lexeme_at (place at line) (b ∷ bs)) (λ n. scan n (at + 1) (next_line line b) bs)
+        (lexeme_there (place at line) (b ∷ bs))
     (λ n. scanned n (at + 1) (next_line line b) high bs (omega (arith, is)))
-scanned (suc n) at line high (b ∷ bs) is = earlier at high (scan n (at + 1) (next_line line b) bs) (scanned n (at + 1) (next_line line b) high bs (omega (arith, is)))
+scanned (suc n) at line high (b ∷ bs) is =
+    earlier at high (scan n (at + 1) (next_line line b) bs) (scanned n (at + 1) (next_line line b) high bs (omega (arith, is)))
 
 pub in_order : (text : List ℕ) (ts : List Token) (os : List ℕ) → cut_of text ≡ Ok (cut ts os) → StandInOrder (length text) ts
 in_order text ts os is =
-    let there : AreThere 0 (length text) (Ok (cut ts os)) = subst (AreThere 0 (length text)) is (scanned 0 0 1 (length text) text (omega arith)) in
+    let there : AreThere 0 (length text) (Ok (cut ts os)) =
+        subst (AreThere 0 (length text)) is (scanned 0 0 1 (length text) text (omega arith)) in
     record { ascend = increasing 0 (length text) (places ts) there; inside = inside 0 (length text) (places ts) there }

@@ -1,5 +1,6 @@
 -- Cutting a text into tokens from a place on.
-use Rattle.std.proofs.Common.{◌≡◌, ℕ, zero, suc, ◌+◌, ◌-◌, ◌<◌, ◌≤◌, List, [], ◌∷◌, ◌++◌, take, drop, length, Result, Ok, Err, refl, sym, ap, ◌∙◌, arith, append_assoc, length-drop, length-append, subst}
+use Rattle.std.proofs.Common.{◌≡◌, ℕ, zero, suc, ◌+◌, ◌-◌, ◌<◌, ◌≤◌, List, [], ◌∷◌, ◌++◌, take, drop, length, Result, Ok, Err, refl, sym}
+use Rattle.std.proofs.Common.{ap, ◌∙◌, arith, append_assoc, length-drop, length-append, subst}
 use Rattle.std.proofs.lemmas.List.{drop-drop}
 use Rattle.pram_tokens.specs.declared.lexer.Lexeme.{Lexeme}
 use Rattle.pram_tokens.specs.declared.lexer.Lexeme.TheVariants as lexeme
@@ -22,7 +23,8 @@ scan-drop (suc n) at line (b ∷ bs) =
     scan-drop n (at + 1) (next_line line b) bs
     ∙ (let e : at + 1 + n ≡ at + suc n = omega arith in ap (λ i. scan 0 i (line_after (next_line line b) (take n bs)) (drop n bs)) e)
 
-behind_front : (at line n b : ℕ) (bs : List ℕ) → 1 ≤ n → scan (n - 1) (at + 1) (next_line line b) bs ≡ scan 0 (at + n) (line_after line (take n (b ∷ bs))) (drop n (b ∷ bs))
+behind_front : (at line n b : ℕ) (bs : List ℕ) → 1 ≤ n → scan (n - 1) (at + 1) (next_line line b) bs ≡ scan 0 (at + n)
+    (line_after line (take n (b ∷ bs))) (drop n (b ∷ bs))
 behind_front at line zero b bs some = absurd (omega arith)
 behind_front at line (suc n) b bs some =
     (let e : suc n - 1 ≡ n = omega arith in ap (λ i. scan i (at + 1) (next_line line b) bs) e) ∙ scan-drop n (at + 1) (next_line line b) bs
@@ -31,7 +33,8 @@ behind_front at line (suc n) b bs some =
 pub pass_blank : (at line n : ℕ) (us : List ℕ) → 1 ≤ n → n ≤ length us → lexeme.Blank n ≡ lexeme_at (place at line) us →
     scan 0 at line us ≡ scan 0 (at + n) (line_after line (take n us)) (drop n us)
 pass_blank at line n [] some within is = absurd (omega arith)
-pass_blank at line n (b ∷ bs) some within is = ap (λ x. scan_by x at (λ m. scan m (at + 1) (next_line line b) bs)) (sym is) ∙ behind_front at line n b bs some
+pass_blank at line n (b ∷ bs) some within is = ap (λ x. scan_by x at (λ m. scan m (at + 1) (next_line line b) bs)) (sym is)
+    ∙ behind_front at line n b bs some
 
 pub pass_token : (at line n : ℕ) (t : Token) (us : List ℕ) → 1 ≤ n → n ≤ length us → lexeme.Token t n ≡ lexeme_at (place at line) us →
     scan 0 at line us ≡ with_front t at (scan 0 (at + n) (line_after line (take n us)) (drop n us))
@@ -56,7 +59,8 @@ pub record IsScanned (text : List ℕ) (ts : List Token) (os : List ℕ) (at lin
   pub real : AreReal ts
 
 -- one turn of the loop, by what stands at the front of the rest
-module _ (at line : ℕ) (text rest : List ℕ) (x : Lexeme) (ts : List Token) (os : List ℕ) (value : x ≡ lexeme_at (place at line) rest) (is_rest : rest ≡ drop at text)
+module _ (at line : ℕ) (text rest : List ℕ) (x : Lexeme) (ts : List Token) (os : List ℕ) (value : x ≡ lexeme_at (place at line) rest)
+    (is_rest : rest ≡ drop at text)
     (before : IsScanned text ts os at line) (below : ℕ) where
   front : (y : Lexeme) → x ≡ y → y ≡ lexeme_at (place at line) (drop at text)
   front y is = sym is ∙ value ∙ ap (lexeme_at (place at line)) is_rest
@@ -64,7 +68,8 @@ module _ (at line : ℕ) (text rest : List ℕ) (x : Lexeme) (ts : List Token) (
   inside : (y : Lexeme) → x ≡ y → IsWithin x rest → IsWithin y (drop at text)
   inside y is h = subst (λ z. IsWithin z (drop at text)) is (subst (IsWithin x) is_rest h)
 
-  pub turn_blank : (n : ℕ) → x ≡ lexeme.Blank n → IsWithin x rest → below ≡ line_after line (take n rest) → below ≤ line + n → IsScanned text ts os (at + n) below
+  pub turn_blank : (n : ℕ) → x ≡ lexeme.Blank n → IsWithin x rest → below ≡ line_after line (take n rest) → below ≤ line + n →
+      IsScanned text ts os (at + n) below
   turn_blank n is within e low =
       let w = inside (lexeme.Blank n) is within in
       record {

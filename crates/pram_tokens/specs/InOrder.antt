@@ -1,5 +1,5 @@
 -- Where the tokens of a text stand.
-use Rattle.std.specs.Prelude.{ℕ, ◌<◌, List, [], ◌∷◌, ◌++◌}
+use Rattle.std.specs.Prelude.{ℕ, ◌-◌, ◌<◌, List, [], ◌∷◌, ◌++◌, length, slice_index_or}
 use Rattle.std.specs.List.{All}
 use Rattle.std.specs.List.Sorted.{IsStrictlyIncreasing}
 use Rattle.pram_tokens.specs.declared.token.Token.{Token}
@@ -23,3 +23,7 @@ places (t ∷ ts) = place_of t ++ places ts
 pub record StandInOrder (end : ℕ) (ts : List Token) : Type 0 where
   pub ascend : IsStrictlyIncreasing (places ts)
   pub inside : All (λ at. at < end) (places ts)
+
+-- the offset of the token that has `left` tokens from it on, and at 0 that of the text's end
+abbrev pub offset_of : (offsets : List ℕ) (left end : ℕ) → ℕ
+offset_of offsets left end = slice_index_or offsets (length offsets - left) end

@@ -1,5 +1,6 @@
 -- Input texts: whole numbers with white space between them.
-use Rattle.std.specs.Prelude.{◌≡◌, ℕ, suc, ◌+◌, ◌<◌, ℤ, pos, neg_ℤ, Bool, true, false, not, ◌&&◌, if◌then◌else◌, ◌==◌, nat_le, List, [], ◌∷◌, ◌++◌, map, length, Option, Some, None, Result, Ok, Err}
+use Rattle.std.specs.Prelude.{◌≡◌, ℕ, suc, ◌+◌, ◌<◌, ℤ, pos, neg_ℤ, Bool, true, false, not, ◌&&◌, if◌then◌else◌, ◌==◌, nat_le, List, []}
+use Rattle.std.specs.Prelude.{◌∷◌, ◌++◌, map, length, Option, Some, None, Result, Ok, Err}
 use Rattle.pram_tokens.specs.declared.error.TextFault.{TextFault}
 use Rattle.pram_tokens.specs.declared.error.TextFault.TheVariants.{NotAscii, TextTooLong, BadToken, Syntax, TooDeep, OutOfMemory}
 use Rattle.pram_tokens.specs.declared.error.LexError.{LexError}
@@ -83,7 +84,8 @@ AreAnswer view values (Ok found) = view found ≡ values
 AreAnswer view values (Err OutOfMemory) = Unit {0}
 AreAnswer view values (Err _) = ⊥
 
--- Each refusal says what is wrong with the input, in this order: its length, its bytes, its words. Memory is asked for behind the first two.
+-- Each refusal says what is wrong with the input, in this order: its length, its bytes, its words. Memory is asked for behind the first
+-- two.
 abbrev pub IsInputFault : {X : Type 0} → List ℕ → Result X TextFault → Type 0
 IsInputFault text (Ok x) = Unit {0}
 IsInputFault text (Err TextTooLong) = longest < length text

@@ -41,7 +41,8 @@ scan_by lexeme.Bad at rest = Err at
 abbrev pub place : ℕ → ℕ → Location
 place at line = record { offset = at; line = line }
 
--- The tokens behind the first `skip` bytes of a text that begins at that offset and line, or the offset of the first thing that is no token.
+-- The tokens behind the first `skip` bytes of a text that begins at that offset and line, or the offset of the first thing that is no
+-- token.
 abbrev pub scan : (skip at line : ℕ) → List ℕ → Result Cut ℕ
 scan skip at line [] = Ok (cut [] [])
 scan zero at line (b ∷ bs) = scan_by (lexeme_at (place at line) (b ∷ bs)) at (λ n. scan n (at + 1) (next_line line b) bs)

@@ -4,6 +4,7 @@
 pub mod error;
 pub mod input;
 pub mod lexer;
+pub mod offset;
 pub mod plain;
 pub mod token;
 pub mod words;

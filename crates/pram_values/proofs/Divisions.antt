@@ -1,5 +1,6 @@
 -- Quotients and remainders by the signs of their parts.
-use Rattle.std.proofs.Common.{◌≡◌, ◌≢◌, ℤ, ℕ, pos, negsuc, ◌<ℤ◌, ◌-ℤ◌, ◌+ℤ◌, ◌*ℤ◌, zero, suc, ◌+◌, ◌/◌, ◌%◌, ◌*◌, Err, ◌^◌, ◌<◌, ◌≤◌, arith, ap, ◌∙◌, subst, sym, refl, neg_ℤ, FitsSigned, int_div, int_rem}
+use Rattle.std.proofs.Common.{◌≡◌, ◌≢◌, ℤ, ℕ, pos, negsuc, ◌<ℤ◌, ◌-ℤ◌, ◌+ℤ◌, ◌*ℤ◌, zero, suc, ◌+◌, ◌/◌, ◌%◌, ◌*◌, Err, ◌^◌, ◌<◌, ◌≤◌, arith}
+use Rattle.std.proofs.Common.{ap, ◌∙◌, subst, sym, refl, neg_ℤ, FitsSigned, int_div, int_rem}
 use Rattle.std.specs.Int.{w64}
 use Rattle.std.proofs.lemmas.Int.{ints}
 use Rattle.std.proofs.Math.Nat.{div-add-mod, div-le_self, mod-lt}
@@ -97,8 +98,12 @@ splits x d = both_parts x (d *ℤ floor_quotient x d)
 pub remainder_is_within : (x d : ℤ) → d ≢ pos 0 → IsRemainderFor d (floor_remainder x d)
 remainder_is_within (pos x) (pos zero) h = absurd (h refl)
 remainder_is_within (negsuc x) (pos zero) h = absurd (h refl)
-remainder_is_within (pos x) (pos (suc d)) h = let m : x % suc d < suc d = mod-lt x (omega arith) in rw (left_above_above x (suc d) (x / suc d) (x % suc d) (div-add-mod x (suc d))) (omega (arith, ints), omega (arith, ints))
-remainder_is_within (negsuc x) (pos (suc d)) h = let m : x % suc d < suc d = mod-lt x (omega arith) in rw (left_below_above x d (x / suc d) (x % suc d) (div-add-mod x (suc d))) (omega (arith, ints), omega (arith, ints))
+remainder_is_within (pos x) (pos (suc d)) h = let m : x % suc d < suc d = mod-lt x (omega arith) in
+    rw (left_above_above x (suc d) (x / suc d) (x % suc d) (div-add-mod x (suc d))) (omega (arith, ints), omega (arith, ints))
+remainder_is_within (negsuc x) (pos (suc d)) h = let m : x % suc d < suc d = mod-lt x (omega arith) in
+    rw (left_below_above x d (x / suc d) (x % suc d) (div-add-mod x (suc d))) (omega (arith, ints), omega (arith, ints))
 remainder_is_within (pos zero) (negsuc d) h = (omega (arith, ints), omega (arith, ints))
-remainder_is_within (pos (suc x)) (negsuc d) h = let m : x % suc d < suc d = mod-lt x (omega arith) in rw (left_above_below x d (x / suc d) (x % suc d) (div-add-mod x (suc d))) (omega (arith, ints), omega (arith, ints))
-remainder_is_within (negsuc x) (negsuc d) h = let m : suc x % suc d < suc d = mod-lt (suc x) (omega arith) in rw (left_below_below x d (suc x / suc d) (suc x % suc d) (div-add-mod (suc x) (suc d))) (omega (arith, ints), omega (arith, ints))
+remainder_is_within (pos (suc x)) (negsuc d) h = let m : x % suc d < suc d = mod-lt x (omega arith) in
+    rw (left_above_below x d (x / suc d) (x % suc d) (div-add-mod x (suc d))) (omega (arith, ints), omega (arith, ints))
+remainder_is_within (negsuc x) (negsuc d) h = let m : suc x % suc d < suc d = mod-lt (suc x) (omega arith) in
+    rw (left_below_below x d (suc x / suc d) (suc x % suc d) (div-add-mod (suc x) (suc d))) (omega (arith, ints), omega (arith, ints))

@@ -1,5 +1,6 @@
 -- What an instruction keeps of a worker: values of 64 bits, cells of the map, and no more writes than it has processors.
-use Rattle.std.proofs.Common.{◌≡◌, ℕ, suc, ◌<◌, ◌≤◌, List, [], ◌∷◌, ◌++◌, map, length, Bool, true, false, eqb, Option, Some, None, ℤ, pos, refl, ap, ◌∙◌, subst, arith, FitsSigned}
+use Rattle.std.proofs.Common.{◌≡◌, ℕ, suc, ◌<◌, ◌≤◌, List, [], ◌∷◌, ◌++◌, map, length, Bool, true, false, eqb, Option, Some, None, ℤ, pos}
+use Rattle.std.proofs.Common.{refl, ap, ◌∙◌, subst, arith, FitsSigned}
 use Rattle.std.specs.Prelude.{if◌then◌else◌}
 use Rattle.std.specs.List.{AllByRecursion, filter_map, cons_option, zip}
 use Rattle.std.specs.Int.{w64}
@@ -7,23 +8,25 @@ use Rattle.std.proofs.lemmas.List.{length-append, length-map}
 use Rattle.pram_model.specs.Layout.{total_size, cell_of}
 use Rattle.superstep_code.specs.declared.instr.Side.TheVariants.{Uniform, Private}
 use Rattle.superstep_code.specs.declared.instr.Instr.{Instr}
-use Rattle.superstep_code.specs.declared.instr.Instr.TheVariants.{Mark, CopyUniform, Index, Enter, Leave, Mask, Flip, Unmask, Ask, Put, Print}
+use Rattle.superstep_code.specs.declared.instr.Instr.TheVariants.{Mark, CopyUniform, Index, Enter, Leave, Mask, Flip, Unmask, Ask, Put}
+use Rattle.superstep_code.specs.declared.instr.Instr.TheVariants.{Print}
 use Rattle.superstep_code.specs.Code.{SuperstepCode}
 use Rattle.superstep_code.specs.Limits.{IsCode, IsInstr}
 use Rattle.superstep_machine.specs.Setting.{Setting, workers, processors}
 use Rattle.superstep_machine.specs.Parts.{Read, UniformPart, PrivatePart, fresh}
 use Rattle.superstep_machine.specs.Results.{is_of, range_width, or_empty}
-use Rattle.superstep_machine.specs.Steps.{on_uniform, uniform_write, index_of, is_active, cell_for, write_to, on_active, on_own, own_write, is_put}
+use Rattle.superstep_machine.specs.Steps.{on_uniform, uniform_write, index_of, is_active, cell_for, write_to, on_active, on_own, own_write}
+use Rattle.superstep_machine.specs.Steps.{is_put}
 use Rattle.superstep_machine.specs.Worker.{HeldWrite, Worker, numbered, by_processor, uniform_writes, own_writes, after_instr}
 use Rattle.superstep_machine.specs.Fitting.{FitsWrite, IsCellBelow}
 use Rattle.superstep_machine.proofs.MachineWords.{all_map, all_joined, zero_fits}
-use Rattle.bsp_verify.proofs.PathLemmas.{unsome}
 use Rattle.bsp_verify.proofs.WorkerLemmas.{either_way, all_made, all_add, width_at_most}
 use Rattle.flat_machine.specs.Flatness.{IsMapFor}
 use Rattle.flat_machine.proofs.Ranges.{cell_below}
 use Rattle.run_limits.specs.Within.{AreValues, HaveValues, share}
 use Rattle.run_limits.proofs.Values.{result_if, zero_without_fits, set_fits, index_within}
 use Rattle.run_limits.proofs.Shares.{few_processors, some_share, numbers_below}
+use Rattle.pram_model.proofs.Truths.{unsome}
 
 -- a read is of a cell of the map, and a private one has no cell of its own
 pub record IsReadBelow (n : ℕ) (r : Read) : Type 0 where
@@ -128,7 +131,8 @@ module _ (code : SuperstepCode) (n : ℕ) (room : total_size code.layout ≤ n) 
     asks = h.asks;
     output = all_add (λ (item : ℕ × ℤ). FitsSigned w64 item.1) u.output _ h.output (h.values s);
   }
-  uniform_kept i a u h = record { values = result_if (is_of Uniform i) i u.registers u.registers a h.values h.values; indices = h.indices; asks = h.asks; output = h.output }
+  uniform_kept i a u h = record { values = result_if (is_of Uniform i) i u.registers u.registers a h.values h.values; indices = h.indices;
+      asks = h.asks; output = h.output }
 
   module _ (u : UniformPart) (k : IsUniformKept n u) (v : ℕ) (l : v < u.width) where
     active_kept : (i : Instr) → IsInstr i → (y : PrivatePart) → IsOwnKept n y → IsOwnKept n (on_active code i u v y)
@@ -186,12 +190,14 @@ module _ (t : Setting) (code : IsCode t.code) (room : IsMapFor t.code t.map) (w 
     -- its processors, with their numbers
     numbered_kept : AllByRecursion (λ (y : ℕ × PrivatePart). (y.0 < x.uniform.width) × IsOwnKept count y.1) (numbered t w x)
     numbered_kept =
-        all_zipped (λ v. v < x.uniform.width) (IsOwnKept count) (processors t w x.uniform.width) x.own (numbers_below t w x.uniform.width) h.own
+        all_zipped (λ v. v < x.uniform.width) (IsOwnKept count) (processors t w x.uniform.width) x.own (numbers_below t w x.uniform.width)
+            h.own
 
     uniform_writes_kept : (i : Instr) → AllByRecursion (IsWriteBelow count) (uniform_writes t w i x.uniform)
     uniform_writes_kept i = go (eqb w 0)
       where
-        go : (b : Bool) → AllByRecursion (IsWriteBelow count) (filter_map (λ (o : Option (ℕ × ℤ)). by_processor (pos 0) o) ((if b then uniform_write t.code i x.uniform else None) ∷ []))
+        go : (b : Bool) → AllByRecursion (IsWriteBelow count) (filter_map (λ (o : Option (ℕ × ℤ)). by_processor (pos 0) o)
+            ((if b then uniform_write t.code i x.uniform else None) ∷ []))
         go true = one (by_processor (pos 0) (uniform_write t.code i x.uniform)) (λ z e. uniform_write_kept i x.uniform h.uniform z e)
           where
             one : (o : Option HeldWrite) → ((z : HeldWrite) → o ≡ Some z → IsWriteBelow count z) →
@@ -209,7 +215,8 @@ module _ (t : Setting) (code : IsCode t.code) (room : IsMapFor t.code t.map) (w 
     parts_kept : (i : Instr) → IsInstr i →
         AllByRecursion (IsOwnKept count) (map (λ (y : ℕ × PrivatePart). on_own t.code i x.uniform y.0 y.1) (numbered t w x))
     parts_kept i a =
-        all_map (λ (y : ℕ × PrivatePart). (y.0 < x.uniform.width) × IsOwnKept count y.1) (IsOwnKept count) (λ (y : ℕ × PrivatePart). on_own t.code i x.uniform y.0 y.1)
+        all_map (λ (y : ℕ × PrivatePart). (y.0 < x.uniform.width) × IsOwnKept count y.1) (IsOwnKept count) (λ (y : ℕ × PrivatePart).
+            on_own t.code i x.uniform y.0 y.1)
         (λ y k. own_kept t.code count room.room x.uniform h.uniform y.0 k.0 i a y.1 k.1) (numbered t w x) numbered_kept
 
     fresh_kept : (vs : List ℕ) → AllByRecursion (IsOwnKept count) (map (λ v. fresh) vs)
@@ -236,8 +243,10 @@ module _ (t : Setting) (code : IsCode t.code) (room : IsMapFor t.code t.map) (w 
     put_few : (i : Instr) → is_put i ≡ true → w < workers t →
         length (uniform_writes t w i x.uniform ++ own_writes t i x.uniform (numbered t w x)) ≤ share t
     put_few (Put Uniform e s v q) p l =
-        few_writes (Put Uniform e s v q) (length-filter_map (λ (o : Option (ℕ × ℤ)). by_processor (pos 0) o) ((if eqb w 0 then uniform_write t.code (Put Uniform e s v q) x.uniform else None) ∷ []))
-        (none_filter_map (λ (y : ℕ × PrivatePart). by_processor (index_of x.uniform y.0) (own_write t.code (Put Uniform e s v q) y.1)) (λ y. refl) (numbered t w x)) l
+        few_writes (Put Uniform e s v q) (length-filter_map (λ (o : Option (ℕ × ℤ)). by_processor (pos 0) o)
+            ((if eqb w 0 then uniform_write t.code (Put Uniform e s v q) x.uniform else None) ∷ []))
+        (none_filter_map (λ (y : ℕ × PrivatePart). by_processor (index_of x.uniform y.0) (own_write t.code (Put Uniform e s v q) y.1))
+            (λ y. refl) (numbered t w x)) l
     put_few (Put Private e s v q) p l = go (eqb w 0)
       where
         own : List HeldWrite
@@ -245,10 +254,12 @@ module _ (t : Setting) (code : IsCode t.code) (room : IsMapFor t.code t.map) (w 
 
         short : length own ≤ share t
         short =
-            let a = length-filter_map (λ (y : ℕ × PrivatePart). by_processor (index_of x.uniform y.0) (own_write t.code (Put Private e s v q) y.1)) (numbered t w x) in
+            let a = length-filter_map (λ (y : ℕ × PrivatePart).
+                by_processor (index_of x.uniform y.0) (own_write t.code (Put Private e s v q) y.1)) (numbered t w x) in
             let b = numbered_few l in omega (arith, a, b)
 
-        go : (b : Bool) → length (filter_map (λ (o : Option (ℕ × ℤ)). by_processor (pos 0) o) ((if b then None else None) ∷ []) ++ own) ≤ share t
+        go : (b : Bool) → length (filter_map (λ (o : Option (ℕ × ℤ)). by_processor (pos 0) o) ((if b then None else None) ∷ [])
+            ++ own) ≤ share t
         go true = short
         go false = short
     put_few i p l = cc
@@ -262,7 +273,8 @@ module _ (t : Setting) (code : IsCode t.code) (room : IsMapFor t.code t.map) (w 
       few_own = λ l.
           let n = or_empty (range_width t.code.procs (x.uniform.registers r) (x.uniform.registers s)) in
           let e = length-map (processors t w n) (λ (v : ℕ). fresh) in
-          let f = few_processors t w n l (width_at_most t.code.procs (x.uniform.registers r) (x.uniform.registers s)) in omega (arith, e, f);
+          let f = few_processors t w n l (width_at_most t.code.procs (x.uniform.registers r) (x.uniform.registers s)) in
+              omega (arith, e, f);
       few_held = h.few_held;
     }
     instr_kept Leave a = record {
@@ -277,7 +289,8 @@ module _ (t : Setting) (code : IsCode t.code) (room : IsMapFor t.code t.map) (w 
       uniform = uniform_kept t.code count room.room (Put side e s v q) a x.uniform h.uniform;
       own = parts_kept (Put side e s v q) a;
       cells = h.cells;
-      writes = all_joined (IsWriteBelow count) (uniform_writes t w (Put side e s v q) x.uniform) (own_writes t (Put side e s v q) x.uniform (numbered t w x))
+      writes = all_joined (IsWriteBelow count) (uniform_writes t w (Put side e s v q) x.uniform)
+          (own_writes t (Put side e s v q) x.uniform (numbered t w x))
           (uniform_writes_kept (Put side e s v q)) (own_writes_kept (Put side e s v q));
       few_own = parts_few (λ (y : ℕ × PrivatePart). on_own t.code (Put side e s v q) x.uniform y.0 y.1);
       few_held = put_few (Put side e s v q) refl;

@@ -1,5 +1,6 @@
 -- Messages of runs of verified code can be sent, in few words.
-use Rattle.std.proofs.Common.{◌≡◌, ℕ, zero, suc, ◌+◌, ◌*◌, ◌<◌, ◌≤◌, List, [], ◌∷◌, ◌++◌, map, length, Bool, true, false, not, cond, eqb, Option, None, ℤ, pos, refl, sym, ap, ◌∙◌, subst, arith}
+use Rattle.std.proofs.Common.{◌≡◌, ℕ, zero, suc, ◌+◌, ◌*◌, ◌<◌, ◌≤◌, List, [], ◌∷◌, ◌++◌, map, length, Bool, true, false, not, cond, eqb}
+use Rattle.std.proofs.Common.{Option, None, ℤ, pos, refl, sym, ap, ◌∙◌, subst, arith}
 use Rattle.std.specs.Prelude.{if◌then◌else◌, slice_index_or}
 use Rattle.std.specs.List.{AllByRecursion, filter, flat_map, range_with_len}
 use Rattle.std.proofs.lemmas.List.{length-append, length-map}
@@ -17,11 +18,14 @@ use Rattle.superstep_machine.specs.WordReading.{put_length}
 use Rattle.superstep_machine.specs.Worker.{HeldWrite, Worker, after_instr}
 use Rattle.superstep_machine.specs.Stretch.{ToSend, ToReply, ToVote, ToClose, Arrival, Nowhere, At}
 use Rattle.superstep_machine.specs.Machine.{phase, phases, column}
-use Rattle.superstep_machine.specs.Sending.{firsts, present, cell_at, put_of, entry_held, puts_held, cells_asked, asked_twice, asks_from, asks_held, sent}
+use Rattle.superstep_machine.specs.Sending.{firsts, present, cell_at, put_of, entry_held, puts_held, cells_asked, asked_twice, asks_from}
+use Rattle.superstep_machine.specs.Sending.{asks_held, sent}
 use Rattle.superstep_machine.specs.Answering.{replied, voted, closing}
-use Rattle.superstep_machine.specs.Run.{Purpose, Sends, Replies, Votes, Closes, Way, On, Ending, Past, Refused, Lost, State, Ready, is_held, mark_now, no_worker, stretch, ready, ready_at, ready_by, ready_with, message_for, message_with, message_of, mark_of, after_exchange, after_with, after, bsp}
+use Rattle.superstep_machine.specs.Run.{Purpose, Sends, Replies, Votes, Closes, Way, On, Ending, Past, Refused, Lost, State, Ready, is_held}
+use Rattle.superstep_machine.specs.Run.{mark_now, no_worker, stretch, ready, ready_at, ready_by, ready_with, message_for, message_with}
+use Rattle.superstep_machine.specs.Run.{message_of, mark_of, after_exchange, after_with, after, bsp}
 use Rattle.superstep_machine.specs.Refusals.{opening_with}
-use Rattle.superstep_machine.proofs.ReadBack.{message_back}
+use Rattle.superstep_machine.proofs.ReadBack.{message_back, put_long}
 use Rattle.superstep_machine.specs.Fitting.{CanBeSent, FitsWrite, FitsWorker, IsCellBelow}
 use Rattle.superstep_machine.proofs.MachineWords.{all_map, sent_can, replied_can}
 use Rattle.bsp_verify.specs.declared.state.State as states
@@ -32,7 +36,8 @@ use Rattle.bsp_verify.proofs.PathLemmas.{paths_sound}
 use Rattle.bsp_verify.proofs.WorkerLemmas.{none_of}
 use Rattle.bsp_verify.proofs.RunLemmas.{Arrives, Agrees, follow, next_agrees, begins}
 use Rattle.flat_machine.specs.Flatness.{IsMapFor}
-use Rattle.run_limits.specs.Within.{AreValues, share, words_for_each, marked_after, MessagesCanBeSent, MessagesAreReadBack, MessagesAreShort}
+use Rattle.run_limits.specs.Within.{AreValues, share, words_for_each, marked_after, MessagesCanBeSent, MessagesAreReadBack}
+use Rattle.run_limits.specs.Within.{MessagesAreShort}
 use Rattle.run_limits.proofs.Shares.{some_share}
 use Rattle.run_limits.proofs.Keeping.{IsReadBelow, IsWriteBelow, IsOwnKept, IsKept, length-filter_map}
 use Rattle.run_limits.proofs.Runs.{KeptAt, until_kept, ready_kept, all_also, none_kept, keeps, exchange_kept, column_values, opening_kept}
@@ -51,18 +56,12 @@ length-firsts : (xs : List ℕ) → length (firsts xs) ≤ length xs
 length-firsts [] = omega arith
 length-firsts (x ∷ xs) = let h = length-firsts xs in let k = length-kept (λ y. not (eqb x y)) (firsts xs) in omega (arith, h, k)
 
-length-put_words : (rule : Rule) (x : CellPut) → length (put_words rule x) ≡ put_length rule
-length-put_words Erew x = refl
-length-put_words Crew x = refl
-length-put_words Common x = refl
-length-put_words Priority x = refl
-length-put_words Sum x = refl
-
 length-puts : (rule : Rule) (xs : List CellPut) → length (flat_map (put_words rule) xs) ≡ put_length rule * length xs
 length-puts rule [] = let z : 0 ≡ put_length rule * 0 = grind arith in z
 length-puts rule (x ∷ xs) =
     let z : put_length rule + put_length rule * length xs ≡ put_length rule * suc (length xs) = grind arith in
-    length-append (put_words rule x) (flat_map (put_words rule) xs) ∙ ap (λ n. n + length (flat_map (put_words rule) xs)) (length-put_words rule x)
+    length-append (put_words rule x) (flat_map (put_words rule) xs)
+        ∙ ap (λ n. n + length (flat_map (put_words rule) xs)) (put_long rule x)
     ∙ ap (λ n. put_length rule + n) (length-puts rule xs) ∙ z
 
 length-ask_words : (xs : List CellAsk) → length (ask_words xs) ≡ length xs
@@ -90,7 +89,9 @@ few_words rule m n p a =
     let h = length-ask_words m.asks in
     let k = length-values_words m.values in
     let l = mul-le-mul_left (put_length rule) p in
-    let z : words_for_each rule * n ≡ 8 * n + put_length rule * n = (let y = for_each rule in ap (λ q. q * n) y ∙ (let x : (8 + put_length rule) * n ≡ 8 * n + put_length rule * n = grind arith in x)) in
+    let z : words_for_each rule * n ≡ 8 * n + put_length rule * n =
+        (let y = for_each rule in ap (λ q. q * n) y ∙ (let x : (8 + put_length rule) * n ≡ 8 * n + put_length rule * n = grind arith in
+        x)) in
     omega (arith, e, f, g, h, k, l, z, a)
 
 -- ---- one worker
@@ -134,8 +135,10 @@ module _ (t : Setting) where
       writes = all_also (IsWriteBelow t.map.count) FitsWrite (λ h b. b.fits) x.held k.writes;
       written = all_also (IsWriteBelow t.map.count) (λ (h : HeldWrite). h.cell < t.map.count) (λ h b. b.cell) x.held k.writes;
       few = omega (arith, few);
-      asks = all_also (IsReadBelow t.map.count) (λ (r : Read). IsCellBelow t.map.count r.cell) (λ r b. b.cell) x.uniform.asks k.uniform.asks;
-      own_asks = all_also (IsOwnKept t.map.count) (λ (y : PrivatePart). AllByRecursion (IsCellBelow t.map.count) y.asks) (λ y b. b.asks) x.own k.own;
+      asks = all_also (IsReadBelow t.map.count) (λ (r : Read). IsCellBelow t.map.count r.cell) (λ r b. b.cell) x.uniform.asks
+          k.uniform.asks;
+      own_asks = all_also (IsOwnKept t.map.count) (λ (y : PrivatePart). AllByRecursion (IsCellBelow t.map.count) y.asks) (λ y b. b.asks)
+          x.own k.own;
       cells = k.cells;
     }
 
@@ -144,7 +147,8 @@ module _ (t : Setting) where
     by_own read n e =
         let ys = map (λ (y : PrivatePart). cell_at n y.asks) x.own in
         let f = length-firsts (present (read.cell ∷ ys)) in
-        let p : length (present (read.cell ∷ ys)) ≤ length ys = subst (λ (o : Option ℕ). length (present (o ∷ ys)) ≤ length ys) (sym e) (length-filter_map (λ (c : Option ℕ). c) ys) in
+        let p : length (present (read.cell ∷ ys)) ≤ length ys =
+            subst (λ (o : Option ℕ). length (present (o ∷ ys)) ≤ length ys) (sym e) (length-filter_map (λ (c : Option ℕ). c) ys) in
         let m = length-map x.own (λ (y : PrivatePart). cell_at n y.asks) in
         omega (arith, f, p, m)
 
@@ -152,7 +156,8 @@ module _ (t : Setting) where
     by_one read n e =
         let f = length-firsts (present (read.cell ∷ map (λ (y : PrivatePart). cell_at n y.asks) x.own)) in
         let p : length (present (read.cell ∷ map (λ (y : PrivatePart). cell_at n y.asks) x.own)) ≤ 1 =
-        subst (λ (own : List PrivatePart). length (present (read.cell ∷ map (λ (y : PrivatePart). cell_at n y.asks) own)) ≤ 1) (sym e) (length-filter_map (λ (c : Option ℕ). c) (read.cell ∷ [])) in
+        subst (λ (own : List PrivatePart). length (present (read.cell ∷ map (λ (y : PrivatePart). cell_at n y.asks) own)) ≤ 1) (sym e)
+            (length-filter_map (λ (c : Option ℕ). c) (read.cell ∷ [])) in
         omega (arith, f, p)
 
     abbrev ask_of : ℕ → ℕ → CellAsk
@@ -183,7 +188,8 @@ module _ (t : Setting) where
             (all_two (λ (r : Read). r.side ≡ side_of s.entered) (IsReadBelow t.map.count) x.uniform.asks d.asks_side k.uniform.asks)
         go false e =
             let none : x.own ≡ [] = none_of x.own (d.processors ∙ ap (λ n. length (processors t w n)) (d.outside e)) in
-            asks_few (IsReadBelow t.map.count) (λ r n h. let a = by_one r n none in let b = one in omega (arith, a, b)) 0 x.uniform.asks k.uniform.asks
+            asks_few (IsReadBelow t.map.count) (λ r n h. let a = by_one r n none in let b = one in
+                omega (arith, a, b)) 0 x.uniform.asks k.uniform.asks
 
     puts_few : length (puts_held t.code.rule x) ≤ share t
     puts_few =
@@ -269,7 +275,8 @@ module _ (t : Setting) (code : IsCode t.code) (room : IsMapFor t.code t.map) (fo
         by_way : (way : Way) → s.way ≡ way →
             Fits j (ready_by t w s way) (message_for t (ready_by t w s way).purpose (ready_by t w s way).state.worker j)
         by_way On e =
-            at_arrival s (stretch t w s) (follow t formed w t.enough s.place s.worker (a e)) (until_kept t code w (Holds w) (holds_instr w) t.enough s.place s.worker h)
+            at_arrival s (stretch t w s) (follow t formed w t.enough s.place s.worker (a e))
+                (until_kept t code w (Holds w) (holds_instr w) t.enough s.place s.worker h)
         by_way (Ending ended) e = closes s.worker
         by_way (Past key ended) e = closes s.worker
         by_way (Refused mark) e = closes s.worker
@@ -288,7 +295,8 @@ module _ (t : Setting) (code : IsCode t.code) (room : IsMapFor t.code t.map) (fo
   taken_few : (w : ℕ) (p : Purpose) (x : Worker) (messages : List Message) → FewAsks messages → TakenFew t x →
       TakenFew t (after_exchange t w p x messages)
   taken_few w Sends x messages f h =
-      all_map (λ (m : Message). length m.asks ≤ 8 * share t) (λ (cells : List ℕ). length cells ≤ 8 * share t) (λ (m : Message). map (λ (y : CellAsk). y.cell) m.asks)
+      all_map (λ (m : Message). length m.asks ≤ 8 * share t) (λ (cells : List ℕ). length cells ≤ 8 * share t) (λ (m : Message).
+          map (λ (y : CellAsk). y.cell) m.asks)
       (λ m k. let e = length-map m.asks (λ (y : CellAsk). y.cell) in omega (arith, e, k)) messages f
   taken_few w Replies x messages f h = tt
   taken_few w (Votes d) x messages f h = h
@@ -309,7 +317,8 @@ module _ (t : Setting) (code : IsCode t.code) (room : IsMapFor t.code t.map) (fo
   after_holds w r messages h v f = marks (mark_of messages)
     where
       marks : (mark : HeaderMark) → Holds w (after_with t w r messages mark).worker
-      marks Clear = (exchange_kept t w r.state.worker h.0 messages v r.purpose, λ l. taken_few w r.purpose r.state.worker messages f (h.1 l))
+      marks Clear = (exchange_kept t w r.state.worker h.0 messages v r.purpose,
+          λ l. taken_few w r.purpose r.state.worker messages f (h.1 l))
       marks OutOfMemory = none_holds w
       marks OutOfReserve = none_holds w
 

@@ -7,14 +7,15 @@ use Rattle.write_rules.specs.Verdict.{Verdict}
 use Rattle.superstep_code.specs.Limits.{IsCode}
 use Rattle.superstep_machine.specs.Setting.{Setting, workers, all_cells}
 use Rattle.superstep_machine.specs.Machine.{phase, run}
-use Rattle.superstep_machine.specs.Run.{Way, On, Ending, Past, Refused, Lost, State, is_over, items, items_below, verdict_by, state_of, cell_in, outcome_of, bsp, opening, setting}
+use Rattle.superstep_machine.specs.Run.{Way, On, Ending, Past, Refused, Lost, State, is_over, items, items_below, verdict_by, state_of}
+use Rattle.superstep_machine.specs.Run.{cell_in, outcome_of, bsp, opening, setting}
 use Rattle.superstep_machine.proofs.MachineWords.{all_map, all_kept, value_fits, values_fit}
 use Rattle.bsp_verify.proofs.WorkerLemmas.{all_made}
-use Rattle.bsp_verify.proofs.PathLemmas.{unsome}
 use Rattle.flat_machine.specs.Flatness.{IsMapFor}
 use Rattle.run_limits.specs.Within.{AreValues, IsVerdictOfValues, OutcomesFit}
 use Rattle.run_limits.proofs.Keeping.{IsKept}
 use Rattle.run_limits.proofs.Runs.{phase_kept, opening_kept}
+use Rattle.pram_model.proofs.Truths.{unsome}
 
 -- ---- one outcome
 
@@ -56,8 +57,10 @@ state_at (s ∷ states) (suc w) h = state_at states w h.1
 
 outcome_fits : (t : Setting) (states : List State) → AllByRecursion IsStateOfValues states → IsMaybeOfValues (outcome_of t states)
 outcome_fits t states h =
-    verdict_fits (state_of states 0).way (state_of states 0).worker.uniform.output (map (cell_in t states) (all_cells t)) (state_at states 0 h).output
-    (values_fit (cell_in t states) (λ c. value_fits (state_of states (t.map.part c)).worker.cells (t.map.offset c) (state_at states (t.map.part c) h).cells) (all_cells t))
+    verdict_fits (state_of states 0).way (state_of states 0).worker.uniform.output (map (cell_in t states) (all_cells t))
+        (state_at states 0 h).output
+    (values_fit (cell_in t states) (λ c. value_fits (state_of states (t.map.part c)).worker.cells (t.map.offset c)
+        (state_at states (t.map.part c) h).cells) (all_cells t))
 
 -- ---- whole runs
 
@@ -71,10 +74,12 @@ module _ (t : Setting) (code : IsCode t.code) (room : IsMapFor t.code t.map) (v 
       states = map ws (range_with_len 0 (workers t))
 
       all : AllByRecursion IsStateOfValues states
-      all = all_made IsStateOfValues ws (λ w. let k = h w in record { cells = k.cells; output = k.uniform.output }) (range_with_len 0 (workers t))
+      all = all_made IsStateOfValues ws (λ w. let k = h w in
+          record { cells = k.cells; output = k.uniform.output }) (range_with_len 0 (workers t))
 
       go : (run (bsp t) (workers t) n (phase (bsp t) (workers t) ws) ≡ Some (Some v) → IsVerdictOfValues v) → (b : Bool) →
-          (if b then Some (outcome_of t states) else run (bsp t) (workers t) n (phase (bsp t) (workers t) ws)) ≡ Some (Some v) → IsVerdictOfValues v
+          (if b then Some (outcome_of t states) else run (bsp t) (workers t) n (phase (bsp t) (workers t) ws)) ≡ Some (Some v) →
+              IsVerdictOfValues v
       go rest true f = subst IsMaybeOfValues (unsome (outcome_of t states) (Some v) f) (outcome_fits t states all)
       go rest false f = rest f
 

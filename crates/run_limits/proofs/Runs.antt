@@ -1,5 +1,6 @@
 -- Stretches and exchanges keep the values of all workers.
-use Rattle.std.proofs.Common.{◌≡◌, ℕ, zero, suc, ◌+◌, List, [], ◌∷◌, map, Bool, true, false, eqb, Option, Some, None, Ok, Err, ℤ, pos, refl, subst, arith, FitsSigned}
+use Rattle.std.proofs.Common.{◌≡◌, ℕ, zero, suc, ◌+◌, List, [], ◌∷◌, map, Bool, true, false, eqb, Option, Some, None, Ok, Err, ℤ, pos, refl}
+use Rattle.std.proofs.Common.{subst, arith, FitsSigned}
 use Rattle.std.specs.Prelude.{if◌then◌else◌, ◌&&◌, slice_get, slice_index_or}
 use Rattle.std.specs.List.{AllByRecursion, filter, zip, range_with_len, list_any}
 use Rattle.std.specs.Int.{w64}
@@ -23,7 +24,9 @@ use Rattle.superstep_machine.specs.Stretch.{Stop, ToSend, ToReply, ToVote, ToClo
 use Rattle.superstep_machine.specs.Machine.{phase, phases, column}
 use Rattle.superstep_machine.specs.Sending.{verdict_on, settled, own_sent, entry_came, after_send}
 use Rattle.superstep_machine.specs.Answering.{look_up, value_came, destinations, own_answered, after_reply, after_vote}
-use Rattle.superstep_machine.specs.Run.{Purpose, Sends, Replies, Votes, Closes, Way, On, Ending, Past, Refused, Lost, State, Ready, mark_now, no_worker, stretch, ready, ready_at, ready_by, ready_with, message_for, message_with, message_of, mark_of, after_exchange, after_with, after, bsp, opening}
+use Rattle.superstep_machine.specs.Run.{Purpose, Sends, Replies, Votes, Closes, Way, On, Ending, Past, Refused, Lost, State, Ready}
+use Rattle.superstep_machine.specs.Run.{mark_now, no_worker, stretch, ready, ready_at, ready_by, ready_with, message_for, message_with}
+use Rattle.superstep_machine.specs.Run.{message_of, mark_of, after_exchange, after_with, after, bsp, opening}
 use Rattle.superstep_machine.proofs.MachineWords.{all_map, zero_fits, value_fits, values_fit}
 use Rattle.bsp_verify.specs.Runs.{worker_after}
 use Rattle.bsp_verify.specs.Moments.{walked}
@@ -45,8 +48,10 @@ all_also P Q f [] h = tt
 all_also P Q f (x ∷ xs) h = (f x h.0, all_also P Q f xs h.1)
 
 -- Whatever instructions keep, stretches keep.
-module _ (t : Setting) (code : IsCode t.code) (w : ℕ) (K : Worker → Type 0) (keeps : (i : Instr) → IsInstr i → (x : Worker) → K x → K (after_instr t w i x)) where
-  module _ {R : Type 0} (Good : R → Type 0) (nowhere : R) (lost : Good nowhere) (stops : Stop → ℕ → Worker → R) (stopping : (stop : Stop) (place : ℕ) (x : Worker) → K x → Good (stops stop place x))
+module _ (t : Setting) (code : IsCode t.code) (w : ℕ) (K : Worker → Type 0) (keeps : (i : Instr) → IsInstr i → (x : Worker) → K x →
+    K (after_instr t w i x)) where
+  module _ {R : Type 0} (Good : R → Type 0) (nowhere : R) (lost : Good nowhere) (stops : Stop → ℕ → Worker → R)
+      (stopping : (stop : Stop) (place : ℕ) (x : Worker) → K x → Good (stops stop place x))
       (next : ℕ → Worker → R) (going : (place : ℕ) (x : Worker) → K x → Good (next place x)) (place : ℕ) (x : Worker) (h : K x) where
     marked : (line : ℕ) → IsInstr (Mark line) → (b : Bool) →
         Good (if b then stops (ToClose false) place x else next (place + 1) (after_instr t w (Mark line) x))
@@ -57,7 +62,8 @@ module _ (t : Setting) (code : IsCode t.code) (w : ℕ) (K : Worker → Type 0) 
     forked target true = going (place + 1) x h
     forked target false = going target x h
 
-    by_instr : (i : Instr) → IsInstr i → Good (advance t.bound (λ (y : Worker). y.uniform) (after_instr t w) nowhere stops next (Some i) place x)
+    by_instr : (i : Instr) → IsInstr i →
+        Good (advance t.bound (λ (y : Worker). y.uniform) (after_instr t w) nowhere stops next (Some i) place x)
     by_instr (Mark line) a = marked line a (eqb x.uniform.count t.bound)
     by_instr Send a = stopping ToSend place x h
     by_instr Reply a = stopping ToReply place x h
@@ -80,7 +86,8 @@ module _ (t : Setting) (code : IsCode t.code) (w : ℕ) (K : Worker → Type 0) 
       KeptAt (until t.bound (λ (y : Worker). y.uniform) (after_instr t w) t.code.instructions n place x)
   until_kept zero place x h = tt
   until_kept (suc n) place x h =
-      goes KeptAt Nowhere tt (λ stop k y. At stop k y) (λ stop k y g. g) (until t.bound (λ (y : Worker). y.uniform) (after_instr t w) t.code.instructions n) (until_kept n) place x h
+      goes KeptAt Nowhere tt (λ stop k y. At stop k y) (λ stop k y g. g) (until t.bound (λ (y : Worker). y.uniform) (after_instr t w)
+          t.code.instructions n) (until_kept n) place x h
       (slice_get t.code.instructions place) refl
 
   abbrev pub KeptThen : Option (ℕ × Worker) → Type 0
@@ -91,7 +98,8 @@ module _ (t : Setting) (code : IsCode t.code) (w : ℕ) (K : Worker → Type 0) 
       KeptThen (walked t.bound (λ (y : Worker). y.uniform) (after_instr t w) t.code.instructions n place x)
   walked_kept zero place x h = h
   walked_kept (suc n) place x h =
-      goes KeptThen None tt (λ stop k y. None) (λ stop k y g. tt) (walked t.bound (λ (y : Worker). y.uniform) (after_instr t w) t.code.instructions n) (walked_kept n) place x h
+      goes KeptThen None tt (λ stop k y. None) (λ stop k y g. tt) (walked t.bound (λ (y : Worker). y.uniform) (after_instr t w)
+          t.code.instructions n) (walked_kept n) place x h
       (slice_get t.code.instructions place) refl
 
   -- up to an exchange
@@ -171,7 +179,8 @@ module _ (t : Setting) (w : ℕ) where
   module _ (x : Worker) (h : IsKept t w x) (messages : List Message) (m : AreOfValues messages) where
     came_fits : (k c : ℕ) → FitsSigned w64 (value_came t x messages k c)
     came_fits k c =
-        look_up_fits k c _ (all_second (filter (λ (y : CellAsk). eqb (t.map.part y.cell) (t.map.part c)) x.wanted) _ (message_at messages (t.map.part c) m))
+        look_up_fits k c _ (all_second (filter (λ (y : CellAsk). eqb (t.map.part y.cell) (t.map.part c)) x.wanted) _
+            (message_at messages (t.map.part c) m))
 
     sent_kept : IsKept t w (after_send t w x messages)
     sent_kept = record {
@@ -190,16 +199,19 @@ module _ (t : Setting) (w : ℕ) where
     replied_kept : IsKept t w (after_reply t x messages)
     replied_kept = record {
       uniform = record {
-        values = answers_fit (value_came t x messages) came_fits 0 (map (λ (r : Read). (r.destination, r.cell)) x.uniform.awaited) x.uniform.registers h.uniform.values;
+        values = answers_fit (value_came t x messages) came_fits 0 (map (λ (r : Read). (r.destination, r.cell)) x.uniform.awaited)
+            x.uniform.registers h.uniform.values;
         indices = h.uniform.indices;
         asks = h.uniform.asks;
         output = h.uniform.output;
       };
       own = all_map (IsOwnKept count) (IsOwnKept count) (own_answered (value_came t x messages) x.uniform.awaited)
-          (λ y k. record { values = answers_fit (value_came t x messages) came_fits 0 (zip (destinations x.uniform.awaited) y.awaited) y.registers k.values; asks = k.asks }) x.own h.own;
+          (λ y k. record { values = answers_fit (value_came t x messages) came_fits 0 (zip (destinations x.uniform.awaited) y.awaited)
+              y.registers k.values; asks = k.asks }) x.own h.own;
       cells = h.cells;
       writes = h.writes;
-      few_own = λ l. let a = length-map x.own (own_answered (value_came t x messages) x.uniform.awaited) in let b = h.few_own l in omega (arith, a, b);
+      few_own = λ l. let a = length-map x.own (own_answered (value_came t x messages) x.uniform.awaited) in let b = h.few_own l in
+          omega (arith, a, b);
       few_held = h.few_held;
     }
 
@@ -273,7 +285,8 @@ module _ (t : Setting) (code : IsCode t.code) (room : IsMapFor t.code t.map) whe
   -- a column of messages of such workers
   pub column_values : (ws : ℕ → State) → ((w : ℕ) → IsKept t w (ws w).worker) → (w : ℕ) → AreOfValues (column (bsp t) (workers t) ws w)
   column_values ws h w =
-      all_made (λ (m : Message). AreValues m.values) (λ (i : ℕ). message_of t i (ws i) w) (λ i. message_values t i (ws i) w (readies_kept i (ws i) (h i)))
+      all_made (λ (m : Message). AreValues m.values) (λ (i : ℕ). message_of t i (ws i) w)
+          (λ i. message_values t i (ws i) w (readies_kept i (ws i) (h i)))
       (range_with_len 0 (workers t))
 
   pub phase_kept : (ws : ℕ → State) → ((w : ℕ) → IsKept t w (ws w).worker) → (w : ℕ) → IsKept t w (phase (bsp t) (workers t) ws w).worker
@@ -305,4 +318,5 @@ values_fit_in_runs t input g n m w place x e =
     let s = worker_after t input n w in
     let k : IsKept t w x = subst (λ (o : Option (ℕ × Worker)). KeptThen t g.code w (IsKept t w) (keeps t g.code g.room w) o) e
     (walked_kept t g.code w (IsKept t w) (keeps t g.code g.room w) m s.place s.worker (kept_after t g.code g.room input g.values n w)) in
-    record { uniform = k.uniform.values; own = all_also (IsOwnKept t.map.count) (λ (y : PrivatePart). HaveValues y.registers) (λ y h. h.values) x.own k.own; cells = k.cells; output = k.uniform.output }
+    record { uniform = k.uniform.values; own = all_also (IsOwnKept t.map.count) (λ (y : PrivatePart). HaveValues y.registers)
+        (λ y h. h.values) x.own k.own; cells = k.cells; output = k.uniform.output }

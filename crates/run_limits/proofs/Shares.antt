@@ -1,5 +1,6 @@
 -- How many processors a worker has.
-use Rattle.std.proofs.Common.{◌≡◌, ℕ, zero, suc, ◌+◌, ◌-◌, ◌*◌, ◌/◌, ◌%◌, ◌<◌, ◌≤◌, List, ◌∷◌, length, Bool, true, false, cond, eqb, refl, sym, ap, ◌∙◌, subst, arith, ⊎_elim}
+use Rattle.std.proofs.Common.{◌≡◌, ℕ, zero, suc, ◌+◌, ◌-◌, ◌*◌, ◌/◌, ◌%◌, ◌<◌, ◌≤◌, List, ◌∷◌, length, Bool, true, false, cond, eqb, refl}
+use Rattle.std.proofs.Common.{sym, ap, ◌∙◌, subst, arith, ⊎_elim}
 use Rattle.std.specs.List.{AllByRecursion, range_with_len}
 use Rattle.std.proofs.lemmas.Bool.{cases_lt}
 use Rattle.std.proofs.lemmas.Bool.Decides.{nat_tests}
@@ -29,11 +30,13 @@ module _ (p : ℕ) (some : 0 < p) (w : ℕ) where
   few zero a d l h = let z : p * 0 ≡ 0 = grind arith in omega (arith, l, z)
   few (suc n) a zero l h =
       let here : a % p ≡ w = ap (λ k. k % p) (let z : a ≡ a + 0 = omega arith in z) ∙ h in
-      let next : (a + 1 + (p - 1)) % p ≡ w = ap (λ k. k % p) (let z : a + 1 + (p - 1) ≡ a + p = omega (arith, some) in z) ∙ add-mod_right a p ∙ here in
+      let next : (a + 1 + (p - 1)) % p ≡ w = ap (λ k. k % p) (let z : a + 1 + (p - 1) ≡ a + p = omega (arith, some) in z)
+          ∙ add-mod_right a p ∙ here in
       let rest = few n (a + 1) (p - 1) (omega (arith, some)) next in
       let is : eqb (a % p) w ≡ true = grind (arith, nat_tests) in
       let x : p * suc (length (members (a + 1) n)) ≡ p + p * length (members (a + 1) n) = grind arith in
-      subst (λ (b : Bool). p * length (cond b (a ∷ members (a + 1) n) (members (a + 1) n)) + 0 ≤ suc n + (p - 1)) (sym is) (omega (arith, rest, x, some))
+      subst (λ (b : Bool). p * length (cond b (a ∷ members (a + 1) n) (members (a + 1) n)) + 0 ≤ suc n + (p - 1)) (sym is)
+          (omega (arith, rest, x, some))
   few (suc n) a (suc e) l h =
       let next : (a + 1 + e) % p ≡ w = ap (λ k. k % p) (let z : a + 1 + e ≡ a + suc e = omega arith in z) ∙ h in
       let rest = few n (a + 1) e (omega (arith, l)) next in
@@ -64,4 +67,5 @@ range_below k zero m h = tt
 range_below k (suc n) m h = (omega (arith, h), range_below (k + 1) n m (omega (arith, h)))
 
 pub numbers_below : (t : Setting) (w width : ℕ) → AllByRecursion (λ v. v < width) (processors t w width)
-numbers_below t w width = all_kept (λ v. v < width) (λ v. eqb (v % workers t) w) (range_with_len 0 width) (range_below 0 width width (omega arith))
+numbers_below t w width = all_kept (λ v. v < width) (λ v. eqb (v % workers t) w) (range_with_len 0 width)
+    (range_below 0 width width (omega arith))

@@ -1,5 +1,6 @@
 -- What instructions compute from values of 64 bits has 64 bits.
-use Rattle.std.proofs.Common.{◌≡◌, ◌≢◌, ℕ, ◌+◌, ◌^◌, ◌<◌, List, [], ◌∷◌, Bool, true, false, Option, Some, None, Ok, Err, ℤ, pos, negsuc, neg_ℤ, ◌+ℤ◌, ◌-ℤ◌, ◌*ℤ◌, ◌≤ℤ◌, ◌<ℤ◌, nat_abs, eqb, refl, ap, arith, FitsSigned}
+use Rattle.std.proofs.Common.{◌≡◌, ◌≢◌, ℕ, ◌+◌, ◌^◌, ◌<◌, List, [], ◌∷◌, Bool, true, false, Option, Some, None, Ok, Err, ℤ, pos, negsuc}
+use Rattle.std.proofs.Common.{neg_ℤ, ◌+ℤ◌, ◌-ℤ◌, ◌*ℤ◌, ◌≤ℤ◌, ◌<ℤ◌, nat_abs, eqb, refl, ap, arith, FitsSigned}
 use Rattle.std.specs.Prelude.{if◌then◌else◌, int_le, nat_le}
 use Rattle.std.specs.Int.{w64}
 use Rattle.std.proofs.lemmas.Int.{ints}
@@ -133,7 +134,8 @@ pub answers_fit : (value : ℕ → ℕ → ℤ) → ((k c : ℕ) → FitsSigned 
     HaveValues (answers value k reads r)
 answers_fit value f k [] r h = h
 answers_fit value f k ((d, None) ∷ rest) r h = answers_fit value f (k + 1) rest r h
-answers_fit value f k ((d, Some c) ∷ rest) r h = answers_fit value f (k + 1) rest (set_register d (value k c) r) (set_fits d (value k c) r (f k c) h)
+answers_fit value f k ((d, Some c) ∷ rest) r h =
+    answers_fit value f (k + 1) rest (set_register d (value k c) r) (set_fits d (value k c) r (f k c) h)
 
 -- ---- the indices of a range
 

@@ -1,5 +1,6 @@
 -- A text is cut at a byte in one way.
-use Rattle.std.proofs.Common.{◌≡◌, ℕ, zero, suc, List, [], ◌∷◌, ◌++◌, refl, sym, ap, ◌∙◌, ◌+◌, ◌<◌, length, get_or, take, drop, arith, subst, ◌-◌, drop-cons, add-one, length-drop}
+use Rattle.std.proofs.Common.{◌≡◌, ℕ, zero, suc, List, [], ◌∷◌, ◌++◌, refl, sym, ap, ◌∙◌, ◌+◌, ◌<◌, length, get_or, take, drop, arith}
+use Rattle.std.proofs.Common.{subst, ◌-◌, drop-cons, add-one, length-drop}
 use Rattle.std.proofs.lemmas.List.{take-append-drop, take_all}
 use Rattle.superstep_listing.specs.Cutting.{Lacks, IsCut}
 
@@ -21,7 +22,8 @@ abbrev pub Follows : ℕ → List ℕ → Type 0
 Follows byte [] = Unit {0}
 Follows byte (b ∷ rest) = b ≡ byte
 
-pub one_cut : (byte : ℕ) (a b x y : List ℕ) → Lacks byte a → Lacks byte b → Follows byte x → Follows byte y → a ++ x ≡ b ++ y → (a ≡ b) × (x ≡ y)
+pub one_cut : (byte : ℕ) (a b x y : List ℕ) → Lacks byte a → Lacks byte b → Follows byte x → Follows byte y → a ++ x ≡ b ++ y →
+    (a ≡ b) × (x ≡ y)
 one_cut byte [] [] x y la lb fx fy e = (refl, e)
 one_cut byte [] (c ∷ b) [] y la lb fx fy e = absurd (cc)
 one_cut byte [] (c ∷ b) (d ∷ x) y la lb fx fy e = absurd (lb.0 (let same : d ≡ c = cc in sym same ∙ fx))
@@ -42,7 +44,8 @@ pub not_cut : (byte : ℕ) (text front back : List ℕ) → Lacks byte text → 
 not_cut byte text front back l e = has_none byte front back (subst (Lacks byte) e l)
 
 -- whatever text without the byte stands before it, that is the front
-pub cut_as : {byte : ℕ} {text front back : List ℕ} (f b : List ℕ) → IsCut byte text front back → Lacks byte f → text ≡ f ++ byte ∷ b → (front ≡ f) × (back ≡ b)
+pub cut_as : {byte : ℕ} {text front back : List ℕ} (f b : List ℕ) → IsCut byte text front back → Lacks byte f → text ≡ f ++ byte ∷ b →
+    (front ≡ f) × (back ≡ b)
 cut_as {byte} {text} {front} {back} f b c l e =
     let both = one_cut byte front f (byte ∷ back) (byte ∷ b) c.lacks l refl refl (sym c.whole ∙ e) in
     (both.0, let rest : byte ∷ back ≡ byte ∷ b = both.1 in cc)
@@ -55,6 +58,7 @@ rest_at text i = take_all (length text - (i + 1)) (drop (i + 1) text) (simp leng
 pub cut_at : (byte : ℕ) (text : List ℕ) (i : ℕ) → ((k : ℕ) → k < i → get_or text k 0 ≡ byte → ⊥) → i < length text → get_or text i 0 ≡ byte
     → IsCut byte text (take i text) (take (length text - (i + 1)) (drop (i + 1) text))
 cut_at byte text i before within here = record {
-  whole = sym (take-append-drop i text) ∙ ap (λ l. take i text ++ l) (drop-cons text i 0 within ∙ ap (λ b. b ∷ drop (suc i) text) here ∙ ap (λ l. byte ∷ l) (sym (rest_at text i)));
+  whole = sym (take-append-drop i text) ∙ ap (λ l. take i text ++ l) (drop-cons text i 0 within ∙ ap (λ b. b ∷ drop (suc i) text) here
+      ∙ ap (λ l. byte ∷ l) (sym (rest_at text i)));
   lacks = lacks_below byte text i before;
 }

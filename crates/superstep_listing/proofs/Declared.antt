@@ -17,20 +17,14 @@ use Rattle.superstep_listing.specs.Names.{is_name}
 use lib.Signed.{lt_z}
 use mir.Syntax.{w64}
 use mir.Val.{to_z, of_z}
-
-both : (s t : Bool) → (s && t) ≡ true → (s ≡ true) × (t ≡ true)
-both true t h = (refl, h)
-both false t h = absurd (cc)
-
-negated : (s : Bool) → not s ≡ true → s ≡ false
-negated false h = refl
-negated true h = absurd (cc)
+use Rattle.pram_model.proofs.Truths.{both}
+use Rattle.std.proofs.lemmas.Bool.{not-true}
 
 pub is_name_yes : (text : List ℕ) → is_name text ≡ true → IsName text
 is_name_yes text h =
     let first = both (begins_with_letter text) (are_words text && not (is_keyword text)) h in
     let rest = both (are_words text) (not (is_keyword text)) first.1 in
-    record { letter = first.0; words = rest.0; no_keyword = negated (is_keyword text) rest.1 }
+    record { letter = first.0; words = rest.0; no_keyword = not-true (is_keyword text) rest.1 }
 
 pub is_name_no : (text : List ℕ) (b : Bool) → b ≡ is_name text → b ≡ false → IsName text → ⊥
 is_name_no text b told is n =
@@ -59,15 +53,18 @@ high_fits low high h = (omega (arith, ints), omega (arith, ints))
 pub low_below : (v low high : ℤ) → v ≡ low → AreBounds (Some (low, high)) → lt_z (to_z w64 (of_z w64 v)) (pos 0) ≡ true → ⊥
 low_below v low high same h lt = grind (arith, ints)
 
-pub high_below : (v w low high : ℤ) → v ≡ low → w ≡ high → AreBounds (Some (low, high)) → lt_z (to_z w64 (of_z w64 w)) (to_z w64 (of_z w64 v)) ≡ true → ⊥
+pub high_below : (v w low high : ℤ) → v ≡ low → w ≡ high → AreBounds (Some (low, high)) → lt_z (to_z w64 (of_z w64 w))
+    (to_z w64 (of_z w64 v)) ≡ true → ⊥
 high_below v w low high same_low same_high h lt = grind (arith, ints)
 
 -- a line that is no declaration's, by its first word and what stands behind that
 module _ (bytes word rest : List ℕ) (parts : IsCut 32 bytes word rest) where
   none_by : ((name : List ℕ) → IsName name → word ≡ codes "cell" → rest ≡ name → ⊥)
-      → ((name : List ℕ) (low high : ℤ) → IsName name → AreBounds (Some (low, high)) → word ≡ codes "array" → rest ≡ name ++ 32 ∷ (signed_decimal low ++ 32 ∷ signed_decimal high) → ⊥)
+      → ((name : List ℕ) (low high : ℤ) → IsName name → AreBounds (Some (low, high)) → word ≡ codes "array" →
+          rest ≡ name ++ 32 ∷ (signed_decimal low ++ 32 ∷ signed_decimal high) → ⊥)
       → (name : List ℕ) (bounds : Option (ℤ × ℤ)) → IsName name → AreBounds bounds → bytes ≡ line (entry_words name bounds) → ⊥
-  none_by no_cell no_array name None n h e = let is = cut_as (codes "cell") name parts (lacks_visible 32 (codes "cell") (lit≤ tt) refl) e in no_cell name n is.0 is.1
+  none_by no_cell no_array name None n h e = let is = cut_as (codes "cell") name parts (lacks_visible 32 (codes "cell") (lit≤ tt) refl) e in
+      no_cell name n is.0 is.1
   none_by no_cell no_array name (Some (low, high)) n h e =
       let is = cut_as (codes "array") _ parts (lacks_visible 32 (codes "array") (lit≤ tt) refl) e in no_array name low high n h is.0 is.1
 
@@ -75,9 +72,12 @@ module _ (bytes word rest : List ℕ) (parts : IsCut 32 bytes word rest) where
   no_kind neither e is = none_by (λ name n w r. neither.0 w) (λ name low high n h w r. neither.1 w) e.name e.bounds is.is_name is.are_bounds
 
   pub no_cell : word ≡ codes "cell" → (IsName rest → ⊥) → (e : SharedEntry) → IsEntry e → bytes ≡ entry_line e → ⊥
-  no_cell is_cell none e is = none_by (λ name n w r. none (subst IsName (sym r) n)) (λ name low high n h w r. absurd (let both : codes "cell" ≡ codes "array" = sym is_cell ∙ w in cc)) e.name e.bounds is.is_name is.are_bounds
+  no_cell is_cell none e is = none_by (λ name n w r. none (subst IsName (sym r) n)) (λ name low high n h w r.
+      absurd (let both : codes "cell" ≡ codes "array" = sym is_cell ∙ w in cc)) e.name e.bounds is.is_name is.are_bounds
 
   pub no_array : word ≡ codes "array"
-      → ((name : List ℕ) (low high : ℤ) → IsName name → AreBounds (Some (low, high)) → rest ≡ name ++ 32 ∷ (signed_decimal low ++ 32 ∷ signed_decimal high) → ⊥)
+      → ((name : List ℕ) (low high : ℤ) → IsName name → AreBounds (Some (low, high)) →
+          rest ≡ name ++ 32 ∷ (signed_decimal low ++ 32 ∷ signed_decimal high) → ⊥)
       → (e : SharedEntry) → IsEntry e → bytes ≡ entry_line e → ⊥
-  no_array is_array none e is = none_by (λ name n w r. absurd (let both : codes "cell" ≡ codes "array" = sym w ∙ is_array in cc)) (λ name low high n h w r. none name low high n h r) e.name e.bounds is.is_name is.are_bounds
+  no_array is_array none e is = none_by (λ name n w r. absurd (let both : codes "cell" ≡ codes "array" = sym w ∙ is_array in cc))
+      (λ name low high n h w r. none name low high n h r) e.name e.bounds is.is_name is.are_bounds

@@ -1,12 +1,15 @@
 -- An instruction is found again from its word and its numbers.
-use Rattle.std.proofs.Common.{◌≡◌, ℕ, List, [], ◌∷◌, ◌++◌, refl, sym, ◌∙◌, ◌<◌, ◌≤◌, ◌^◌, length, arith, Bool, true, false, map, lit≤, append_assoc}
+use Rattle.std.proofs.Common.{◌≡◌, ℕ, List, [], ◌∷◌, ◌++◌, refl, sym, ◌∙◌, ◌<◌, ◌≤◌, ◌^◌, length, arith, Bool, true, false, map, lit≤}
+use Rattle.std.proofs.Common.{append_assoc}
 use Rattle.std.proofs.lemmas.Bool.Decides.{nat_tests}
 use Rattle.std.proofs.lemmas.Int.{ints}
 use Rattle.std.specs.List.{AllByRecursion}
 use Rattle.std.specs.Prelude.{pos, Some, ◌&&◌, nat_lt}
 use Rattle.superstep_code.specs.declared.instr.Arithmetic.TheVariants as arithmetic
 use Rattle.superstep_code.specs.declared.instr.Instr.{Instr}
-use Rattle.superstep_code.specs.declared.instr.Instr.TheVariants.{Mark, Set, Copy, Negate, Calculate, Decide, Not, CopyUniform, Index, Enter, Leave, Mask, Flip, Unmask, Ask, Put, Send, Reply, Vote, Print, Jump, JumpIfZero, Halt}
+use Rattle.superstep_code.specs.declared.instr.Instr.TheVariants.{Mark, Set, Copy, Negate, Calculate, Decide, Not, CopyUniform, Index}
+use Rattle.superstep_code.specs.declared.instr.Instr.TheVariants.{Enter, Leave, Mask, Flip, Unmask, Ask, Put, Send, Reply, Vote, Print}
+use Rattle.superstep_code.specs.declared.instr.Instr.TheVariants.{Jump, JumpIfZero, Halt}
 use Rattle.superstep_code.specs.declared.instr.Side.TheVariants.{Uniform, Private}
 use Rattle.superstep_code.specs.declared.instr.Truth.TheVariants as truth
 use Rattle.superstep_code.specs.Code.{Operand, Short, Long, Wide, operands_of}
@@ -16,6 +19,7 @@ use Rattle.superstep_code.specs.Limits.{Fits, IsInstr}
 use Rattle.superstep_listing.specs.Listing.{number_of, numbers_of, side_of, stem_of}
 use Rattle.superstep_listing.proofs.Cuts.{Follows, one_cut}
 use Rattle.superstep_listing.proofs.Spaces.{AllFit, follows_spaced}
+use Rattle.pram_model.proofs.Truths.{both}
 
 -- with all operands 0
 abbrev pub blank : Instr → Instr
@@ -124,10 +128,6 @@ visible_word (Jump t) = refl
 visible_word (JumpIfZero s t) = refl
 visible_word Halt = refl
 
-both : (s t : Bool) → (s && t) ≡ true → (s ≡ true) × (t ≡ true)
-both true t h = (refl, h)
-both false t h = absurd (cc)
-
 not_byte : (b byte : ℕ) → byte ≤ 32 → nat_lt 32 b ≡ true → b ≡ byte → ⊥
 not_byte b byte low h e = grind (arith, nat_tests)
 
@@ -154,7 +154,8 @@ candidate_same (Mark l) h = λ j. Mark (long l h.0 j)
 candidate_same (Set side d n) h = λ j. Set side (short d h.0 j) n
 candidate_same (Copy side d s) h = λ j. Copy side (short d h.0 j) (short s h.1.0 j)
 candidate_same (Negate side d s p) h = λ j. Negate side (short d h.0 j) (short s h.1.0 j) (long p h.1.1.0 j)
-candidate_same (Calculate side o d a b p) h = λ j. Calculate side o (short d h.0 j) (short a h.1.0 j) (short b h.1.1.0 j) (long p h.1.1.1.0 j)
+candidate_same (Calculate side o d a b p) h =
+    λ j. Calculate side o (short d h.0 j) (short a h.1.0 j) (short b h.1.1.0 j) (long p h.1.1.1.0 j)
 candidate_same (Decide side o d a b) h = λ j. Decide side o (short d h.0 j) (short a h.1.0 j) (short b h.1.1.0 j)
 candidate_same (Not side d s) h = λ j. Not side (short d h.0 j) (short s h.1.0 j)
 candidate_same (CopyUniform d s) h = λ j. CopyUniform (short d h.0 j) (short s h.1.0 j)
@@ -212,8 +213,10 @@ few_numbers (JumpIfZero s t) = lit≤ tt
 few_numbers Halt = lit≤ tt
 
 -- a text that is an instruction's is parted as it was put together
-pub split_body : (text word behind : List ℕ) (i : Instr) → text ≡ word ++ behind → Lacks 32 word → Follows 32 behind → text ≡ side_of i ++ (stem_of i ++ spaced (numbers_of i))
+pub split_body : (text word behind : List ℕ) (i : Instr) → text ≡ word ++ behind → Lacks 32 word → Follows 32 behind →
+    text ≡ side_of i ++ (stem_of i ++ spaced (numbers_of i))
     → (word ≡ side_of i ++ stem_of i) × (behind ≡ spaced (numbers_of i))
 split_body text word behind i whole lacks follows e =
-    one_cut 32 word (side_of i ++ stem_of i) behind (spaced (numbers_of i)) lacks (lacks_word 32 i (lit≤ tt)) follows (follows_spaced (numbers_of i))
+    one_cut 32 word (side_of i ++ stem_of i) behind (spaced (numbers_of i)) lacks (lacks_word 32 i (lit≤ tt)) follows
+        (follows_spaced (numbers_of i))
     (sym whole ∙ e ∙ sym (append_assoc (side_of i) (stem_of i) (spaced (numbers_of i))))

@@ -12,7 +12,8 @@ new_behind (x ∷ xs) name other new differ = (new.0, new_behind xs name other n
 
 different_more : (names : List (List ℕ)) (name : List ℕ) → AreDifferent names → IsNew names name → AreDifferent (names ++ name ∷ [])
 different_more [] name different new = (tt, tt)
-different_more (x ∷ xs) name different new = (new_behind xs x name different.0 (λ e. new.0 (sym e)), different_more xs name different.1 new.1)
+different_more (x ∷ xs) name different new =
+    (new_behind xs x name different.0 (λ e. new.0 (sym e)), different_more xs name different.1 new.1)
 
 last_new : (names : List (List ℕ)) (other name : List ℕ) → IsNew (names ++ name ∷ []) other → other ≡ name → ⊥
 last_new [] other name new same = new.0 same
@@ -38,7 +39,8 @@ all_last : (es : List SharedEntry) (e : SharedEntry) → AllByRecursion IsEntry 
 all_last [] e h = h.0
 all_last (x ∷ xs) e h = all_last xs e h.1
 
-pub layout_more : (es : List SharedEntry) (e : SharedEntry) → IsLayout es → IsEntry e → IsNew (names_of es) e.name → total_size es + size e.bounds ≤ most_cells → IsLayout (es ++ e ∷ [])
+pub layout_more : (es : List SharedEntry) (e : SharedEntry) → IsLayout es → IsEntry e → IsNew (names_of es) e.name →
+    total_size es + size e.bounds ≤ most_cells → IsLayout (es ++ e ∷ [])
 layout_more es e l is new room = record {
   entries = all_more es e l.entries is;
   different = subst AreDifferent (sym (names-more es e)) (different_more (names_of es) e.name l.different new);

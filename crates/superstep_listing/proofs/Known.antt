@@ -8,6 +8,7 @@ use Rattle.superstep_code.specs.Limits.{IsNew, names_of}
 use Rattle.superstep_listing.specs.Names.{AreKnown}
 use Rattle.superstep_listing.proofs.Entries.{names-more}
 use lib.Pointwise.{bytes_decides}
+use Rattle.std.proofs.lemmas.Bool.{not-true, not-false}
 
 pub cond_or : (b c : Bool) → cond b true c ≡ (b || c)
 cond_or true c = refl
@@ -16,7 +17,8 @@ cond_or false c = refl
 -- the test of two texts doesn't depend on their order
 turned_by : (a b : List ℕ) (x y : Bool) → bytes_eq a b ≡ x → bytes_eq b a ≡ y → bytes_eq a b ≡ bytes_eq b a
 turned_by a b true y x_is y_is = x_is ∙ sym ((bytes_decides b a).1 (sym ((bytes_decides a b).0 x_is)))
-turned_by a b false true x_is y_is = absurd (let h : false ≡ true = sym x_is ∙ (bytes_decides a b).1 (sym ((bytes_decides b a).0 y_is)) in cc)
+turned_by a b false true x_is y_is = absurd (let h : false ≡ true = sym x_is ∙ (bytes_decides a b).1 (sym ((bytes_decides b a).0 y_is)) in
+    cc)
 turned_by a b false false x_is y_is = x_is ∙ sym y_is
 
 bytes_turned : (a b : List ℕ) → bytes_eq a b ≡ bytes_eq b a
@@ -45,31 +47,29 @@ apart_from (x ∷ names) name h =
     let neither = none_of (bytes_eq name x) (list_any (λ other. bytes_eq name other) names) h in
     (λ same. absurd (let k : true ≡ false = sym ((bytes_decides name x).1 same) ∙ neither.0 in cc), apart_from names name neither.1)
 
-negated : (s : Bool) → not s ≡ false → s ≡ true
-negated true h = refl
-negated false h = absurd (cc)
-
-denied : (s : Bool) → not s ≡ true → s ≡ false
-denied false h = refl
-denied true h = absurd (cc)
-
 turned : (a b c : Bool) → (a || (b || c)) ≡ (b || (a || c))
 turned true true c = refl
 turned true false c = refl
 turned false true c = refl
 turned false false c = refl
 
-pub known_taken : (has : List ℕ → Bool) (es : List SharedEntry) (name : List ℕ) (r : Bool) → AreKnown has es → r ≡ not (has name) → r ≡ false → IsNew (names_of es) name → ⊥
-known_taken has es name r known told is = among (names_of es) name (sym (known name) ∙ negated (has name) (sym told ∙ is))
+pub known_taken : (has : List ℕ → Bool) (es : List SharedEntry) (name : List ℕ) (r : Bool) → AreKnown has es → r ≡ not (has name) →
+    r ≡ false → IsNew (names_of es) name → ⊥
+known_taken has es name r known told is = among (names_of es) name (sym (known name) ∙ not-false (has name) (sym told ∙ is))
 
-pub known_new : (has : List ℕ → Bool) (es : List SharedEntry) (name : List ℕ) (r : Bool) → AreKnown has es → r ≡ not (has name) → r ≡ true → IsNew (names_of es) name
-known_new has es name r known told is = apart_from (names_of es) name (sym (known name) ∙ denied (has name) (sym told ∙ is))
+pub known_new : (has : List ℕ → Bool) (es : List SharedEntry) (name : List ℕ) (r : Bool) → AreKnown has es → r ≡ not (has name) → r ≡ true →
+    IsNew (names_of es) name
+known_new has es name r known told is = apart_from (names_of es) name (sym (known name) ∙ not-true (has name) (sym told ∙ is))
 
-any_more : (names : List (List ℕ)) (q name : List ℕ) → list_any (λ other. bytes_eq q other) (names ++ name ∷ []) ≡ (bytes_eq q name || list_any (λ other. bytes_eq q other) names)
+any_more : (names : List (List ℕ)) (q name : List ℕ) → list_any (λ other. bytes_eq q other)
+    (names ++ name ∷ []) ≡ (bytes_eq q name || list_any (λ other. bytes_eq q other) names)
 any_more [] q name = refl
-any_more (x ∷ names) q name = ap (λ b. bytes_eq q x || b) (any_more names q name) ∙ turned (bytes_eq q x) (bytes_eq q name) (list_any (λ other. bytes_eq q other) names)
+any_more (x ∷ names) q name = ap (λ b. bytes_eq q x || b) (any_more names q name)
+    ∙ turned (bytes_eq q x) (bytes_eq q name) (list_any (λ other. bytes_eq q other) names)
 
-pub known_more : (has now : List ℕ → Bool) (es all : List SharedEntry) (e : SharedEntry) → AreKnown has es → all ≡ es ++ e ∷ [] → ((q : List ℕ) → now q ≡ (bytes_eq e.name q || has q)) → AreKnown now all
+pub known_more : (has now : List ℕ → Bool) (es all : List SharedEntry) (e : SharedEntry) → AreKnown has es → all ≡ es ++ e ∷ [] →
+    ((q : List ℕ) → now q ≡ (bytes_eq e.name q || has q)) → AreKnown now all
 known_more has now es all e known same told q =
-    told q ∙ ap (λ b. b || has q) (bytes_turned e.name q) ∙ ap (λ b. bytes_eq q e.name || b) (known q) ∙ sym (any_more (names_of es) q e.name)
+    told q ∙ ap (λ b. b || has q) (bytes_turned e.name q) ∙ ap (λ b. bytes_eq q e.name || b) (known q)
+        ∙ sym (any_more (names_of es) q e.name)
     ∙ ap (list_any (λ other. bytes_eq q other)) (sym (ap names_of same ∙ names-more es e))

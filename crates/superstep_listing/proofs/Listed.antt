@@ -1,5 +1,6 @@
 -- A text is the listing of one code at most, and where it is none.
-use Rattle.std.proofs.Common.{◌≡◌, ℕ, List, [], ◌∷◌, ◌++◌, refl, sym, ap, ◌∙◌, ◌+◌, ◌-◌, ◌<◌, ◌≤◌, ◌^◌, length, map, arith, subst, append_assoc, length-append, lit≤}
+use Rattle.std.proofs.Common.{◌≡◌, ℕ, List, [], ◌∷◌, ◌++◌, refl, sym, ap, ◌∙◌, ◌+◌, ◌-◌, ◌<◌, ◌≤◌, ◌^◌, length, map, arith, subst}
+use Rattle.std.proofs.Common.{append_assoc, length-append, lit≤}
 use Rattle.std.proofs.lemmas.List.{append-nil}
 use Rattle.std.specs.List.{AllByRecursion}
 use Rattle.std.specs.Prelude.{codes}
@@ -46,11 +47,14 @@ plain_lines c s = (
     (
       plain_field (codes "procs") c.procs (lacks_visible 10 (codes "procs") (lit≤ tt) refl) (let f = s.few_procs in omega arith),
       plain-append (map entry_line c.layout) _ (plain_entries c.layout s.layout.entries) (
-        plain_field (codes "uniform") c.uniform_registers (lacks_visible 10 (codes "uniform") (lit≤ tt) refl) (let f = s.few_uniform in omega arith),
+        plain_field (codes "uniform") c.uniform_registers (lacks_visible 10 (codes "uniform") (lit≤ tt) refl) (let f = s.few_uniform in
+            omega arith),
         (
-          plain_field (codes "private") c.private_registers (lacks_visible 10 (codes "private") (lit≤ tt) refl) (let f = s.few_private in omega arith),
+          plain_field (codes "private") c.private_registers (lacks_visible 10 (codes "private") (lit≤ tt) refl) (let f = s.few_private in
+              omega arith),
           (
-            plain_field (codes "code") (length c.instructions) (lacks_visible 10 (codes "code") (lit≤ tt) refl) (let f = s.few_instructions in omega arith),
+            plain_field (codes "code") (length c.instructions) (lacks_visible 10 (codes "code") (lit≤ tt) refl) (let f =
+                s.few_instructions in omega arith),
             plain_instrs 0 c.instructions (let f = s.few_instructions in omega arith) s.instructions,
           ),
         ),
@@ -73,7 +77,8 @@ go_on : (all front : List (List ℕ)) (back : List ℕ) → ArePlain all → Are
 go_on all [] back pa pf e = record { rest = all; whole = refl; left = sym e }
 go_on [] (f ∷ front) back pa pf e = absurd (no_end f (ended front) back e)
 go_on (a ∷ all) (f ∷ front) back pa pf e =
-    let regroup = sym (append_assoc a (10 ∷ []) (ended all)) ∙ e ∙ append_assoc (f ++ 10 ∷ []) (ended front) back ∙ append_assoc f (10 ∷ []) (ended front ++ back) in
+    let regroup = sym (append_assoc a (10 ∷ []) (ended all)) ∙ e ∙ append_assoc (f ++ 10 ∷ []) (ended front) back
+        ∙ append_assoc f (10 ∷ []) (ended front ++ back) in
     let both = one_cut 10 a f (10 ∷ ended all) (10 ∷ (ended front ++ back)) pa.0 pf.0 refl refl regroup in
     let rest : ended all ≡ ended front ++ back = (let h : 10 ∷ ended all ≡ 10 ∷ (ended front ++ back) = both.1 in cc) in
     let more = go_on all front back pa.1 pf.1 rest in
@@ -99,9 +104,11 @@ first_bad text left fits s = record {
   front = s.front;
   back = s.back;
   whole = s.whole;
-  place = (let size : length text ≡ length (ended s.front) + length s.back = ap length s.whole ∙ length-append (ended s.front) s.back in let p = s.place in omega arith);
+  place = (let size : length text ≡ length (ended s.front) + length s.back = ap length s.whole ∙ length-append (ended s.front) s.back in
+      let p = s.place in omega arith);
   begins = (let b = s.begins in record { code = b.code; stands = b.stands; more = s.more; same = b.same });
-  stops = λ bytes more e b. s.stuck (bytes ∷ b.more) (record { code = b.code; stands = b.stands; same = b.same ∙ append_assoc s.front (bytes ∷ []) b.more }) more e;
+  stops = λ bytes more e b. s.stuck (bytes ∷ b.more) (record { code = b.code; stands = b.stands;
+      same = b.same ∙ append_assoc s.front (bytes ∷ []) b.more }) more e;
 }
 
 entries_once : (es ds : List SharedEntry) (u v : ℕ) (xs ys : List (List ℕ)) → AllByRecursion IsEntry es → AllByRecursion IsEntry ds
@@ -115,7 +122,8 @@ entries_once (x ∷ es) (d ∷ ds) u v xs ys fe fd e =
     let rest = entries_once es ds u v xs ys fe.1 fd.1 (tails (entry_line x) (entry_line d) _ _ e) in
     (ap (λ l. x ∷ l) rest.0 ∙ ap (λ y. y ∷ ds) same, rest.1)
 
-instrs_once : (k : ℕ) (is js : List Instr) → k + length is < 2 ^ 64 → AllByRecursion IsInstr is → AllByRecursion IsInstr js → instr_lines k is ≡ instr_lines k js → is ≡ js
+instrs_once : (k : ℕ) (is js : List Instr) → k + length is < 2 ^ 64 → AllByRecursion IsInstr is → AllByRecursion IsInstr js →
+    instr_lines k is ≡ instr_lines k js → is ≡ js
 instrs_once k [] [] fits fi fj e = refl
 instrs_once k [] (j ∷ js) fits fi fj e = absurd (cc)
 instrs_once k (i ∷ is) [] fits fi fj e = absurd (cc)
@@ -131,7 +139,8 @@ none_behind (x ∷ rest) e = absurd (no_end x (ended rest) [] (e ∙ sym (append
 -- no text is the listing of two codes
 pub listing_once : (text : List ℕ) (c d : SuperstepCode) → IsListing text c → IsListing text d → c ≡ d
 listing_once text c d lc ld =
-    let g = go_on (lines_of c) (lines_of d) [] (plain_lines c lc.stands) (plain_lines d ld.stands) (sym lc.spelled ∙ ld.spelled ∙ sym (append-nil (spelling d))) in
+    let g = go_on (lines_of c) (lines_of d) [] (plain_lines c lc.stands) (plain_lines d ld.stands) (sym lc.spelled ∙ ld.spelled
+        ∙ sym (append-nil (spelling d))) in
     let lines : lines_of c ≡ lines_of d = g.whole ∙ ap (λ l. lines_of d ++ l) (none_behind g.rest g.left) ∙ append-nil (lines_of d) in
     let one = tails (codes "bsp 1") (codes "bsp 1") _ _ lines in
     let two = tails (rule_line c.rule) (rule_line d.rule) _ _ one in
@@ -139,16 +148,23 @@ listing_once text c d lc ld =
     let rules = rule_once c.rule d.rule (heads (rule_line c.rule) (rule_line d.rule) _ _ one) in
     let sc = lc.stands in
     let sd = ld.stands in
-    let procs = field_once (codes "procs") c.procs d.procs (lacks_visible 32 (codes "procs") (lit≤ tt) refl) (let f = sc.few_procs in omega arith) (let f = sd.few_procs in omega arith) (heads _ _ _ _ two) in
+    let procs = field_once (codes "procs") c.procs d.procs (lacks_visible 32 (codes "procs") (lit≤ tt) refl) (let f = sc.few_procs in
+        omega arith) (let f = sd.few_procs in omega arith) (heads _ _ _ _ two) in
     let parts = entries_once c.layout d.layout c.uniform_registers d.uniform_registers _ _ sc.layout.entries sd.layout.entries three in
-    let four = tails (line (field_words (codes "uniform") c.uniform_registers)) (line (field_words (codes "uniform") d.uniform_registers)) _ _ parts.1 in
-    let five = tails (line (field_words (codes "private") c.private_registers)) (line (field_words (codes "private") d.private_registers)) _ _ four in
-    let six = tails (line (field_words (codes "code") (length c.instructions))) (line (field_words (codes "code") (length d.instructions))) _ _ five in
-    let uniform = field_once (codes "uniform") c.uniform_registers d.uniform_registers (lacks_visible 32 (codes "uniform") (lit≤ tt) refl) (let f = sc.few_uniform in omega arith) (let f = sd.few_uniform in omega arith)
+    let four = tails (line (field_words (codes "uniform") c.uniform_registers)) (line (field_words (codes "uniform") d.uniform_registers)) _
+        _ parts.1 in
+    let five = tails (line (field_words (codes "private") c.private_registers)) (line (field_words (codes "private") d.private_registers)) _
+        _ four in
+    let six = tails (line (field_words (codes "code") (length c.instructions))) (line (field_words (codes "code") (length d.instructions)))
+        _ _ five in
+    let uniform = field_once (codes "uniform") c.uniform_registers d.uniform_registers (lacks_visible 32 (codes "uniform") (lit≤ tt) refl)
+        (let f = sc.few_uniform in omega arith) (let f = sd.few_uniform in omega arith)
     (heads _ _ _ _ parts.1) in
-    let private = field_once (codes "private") c.private_registers d.private_registers (lacks_visible 32 (codes "private") (lit≤ tt) refl) (let f = sc.few_private in omega arith) (let f = sd.few_private in omega arith)
+    let private = field_once (codes "private") c.private_registers d.private_registers (lacks_visible 32 (codes "private") (lit≤ tt) refl)
+        (let f = sc.few_private in omega arith) (let f = sd.few_private in omega arith)
     (heads _ _ _ _ four) in
-    let instrs = instrs_once 0 c.instructions d.instructions (let f = sc.few_instructions in omega arith) sc.instructions sd.instructions six in
+    let instrs = instrs_once 0 c.instructions d.instructions (let f = sc.few_instructions in
+        omega arith) sc.instructions sd.instructions six in
     λ i. record {
       rule = rules i;
       procs = procs i;

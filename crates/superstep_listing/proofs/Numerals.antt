@@ -12,7 +12,7 @@ use Rattle.superstep_code.specs.Limits.{Fits}
 use Rattle.std.proofs.Math.Facts.{to_z-of_z}
 use Rattle.std.proofs.Common.{Bool, true, false, [], not, int_eq}
 use Rattle.std.specs.Cmp.Rules.{signed_items}
-use Rattle.std.proofs.lemmas.Bool.{eq-eqb}
+use Rattle.std.proofs.lemmas.Bool.{eq-eqb, not-false}
 use lib.Dec.{eqb}
 use lib.Pointwise.{bytes_decides, pointwise}
 use lib.Signed.{mag, lt_z}
@@ -31,7 +31,8 @@ pub not_text : (word : List ℕ) → (IsUtf8 word → ⊥) → (z : ℤ) → Fit
 not_text word none z fits e = none (IsUtf8-from_ascii word (subst IsAscii (sym e) (ascii_number z fits)))
 
 -- what parses as something spells nothing else
-pub parsed_as : {E : Type 0} (word : List ℕ) (r : Result ℤ E) → ParsesSigned w64 10 word r → (z : ℤ) → Fits (Wide z) → word ≡ signed_decimal z → r ≡ Ok z
+pub parsed_as : {E : Type 0} (word : List ℕ) (r : Result ℤ E) → ParsesSigned w64 10 word r → (z : ℤ) → Fits (Wide z) →
+    word ≡ signed_decimal z → r ≡ Ok z
 parsed_as word r parses z fits e = parse-signed_decimal w64 z word r (record { sfits = small z fits }) (small z fits) e parses
 
 -- a value that is written and read back
@@ -55,13 +56,16 @@ one_number y z fy fz e = signed_decimal_injective y z (small y fy) (small z fz) 
 
 -- texts that the test of inequality tells apart
 pub unequal : (r : Bool) (a b : List ℕ) → r ≡ not (pointwise eqb a b) → r ≡ true → a ≡ b → ⊥
-unequal r a b told true_is e = let same = same_bytes a b e in let h : not (pointwise eqb a b) ≡ true = sym told ∙ true_is in absurd (let k : not true ≡ true = ap not (sym same) ∙ h in cc)
+unequal r a b told true_is e = let same = same_bytes a b e in let h : not (pointwise eqb a b) ≡ true = sym told ∙ true_is in
+    absurd (let k : not true ≡ true = ap not (sym same) ∙ h in cc)
 
 -- a number of 32 bits that is tested against its bounds
-pub below_least : (v : ℤ) (n least : ℕ) → v ≡ pos n → n < 2 ^ 32 → least < 2 ^ 32 → least ≤ n → lt_z (to_z w64 (of_z w64 v)) (to_z w64 least) ≡ true → ⊥
+pub below_least : (v : ℤ) (n least : ℕ) → v ≡ pos n → n < 2 ^ 32 → least < 2 ^ 32 → least ≤ n → lt_z (to_z w64 (of_z w64 v))
+    (to_z w64 least) ≡ true → ⊥
 below_least v n least same small_n small_least low lt = grind (arith, ints)
 
-pub above_most : (v : ℤ) (n most : ℕ) → v ≡ pos n → n < 2 ^ 32 → most < 2 ^ 32 → n ≤ most → lt_z (to_z w64 most) (to_z w64 (of_z w64 v)) ≡ true → ⊥
+pub above_most : (v : ℤ) (n most : ℕ) → v ≡ pos n → n < 2 ^ 32 → most < 2 ^ 32 → n ≤ most → lt_z (to_z w64 most)
+    (to_z w64 (of_z w64 v)) ≡ true → ⊥
 above_most v n most same small_n small_most high lt = grind (arith, ints)
 
 -- numbers that the test of inequality tells apart, and others
@@ -69,15 +73,13 @@ pub other_numbers : (r : Bool) (a b : List ℤ) → r ≡ not (pointwise int_eq 
 other_numbers r a b told true_is e =
     let k : not true ≡ true = ap not (sym ((signed_items a b).1 e)) ∙ sym told ∙ true_is in cc
 
-negated : (s : Bool) → not s ≡ false → s ≡ true
-negated true h = refl
-negated false h = absurd (cc)
-
 pub same_numbers : (r : Bool) (a b : List ℤ) → r ≡ not (pointwise int_eq a b) → r ≡ false → a ≡ b
-same_numbers r a b told false_is = (signed_items a b).0 (negated (pointwise int_eq a b) (sym told ∙ false_is))
+same_numbers r a b told false_is = (signed_items a b).0 (not-false (pointwise int_eq a b) (sym told ∙ false_is))
 
-pub shown_again : (P : ℤ → ℤ → Type 0) (low high : ℤ) → Fits (Wide low) → Fits (Wide high) → P low high → P (to_z w64 (of_z w64 low)) (to_z w64 (of_z w64 high))
-shown_again P low high fl fh p = subst (λ l. P l (to_z w64 (of_z w64 high))) (sym (read_back low fl)) (subst (λ h. P low h) (sym (read_back high fh)) p)
+pub shown_again : (P : ℤ → ℤ → Type 0) (low high : ℤ) → Fits (Wide low) → Fits (Wide high) → P low high → P (to_z w64 (of_z w64 low))
+    (to_z w64 (of_z w64 high))
+shown_again P low high fl fh p =
+    subst (λ l. P l (to_z w64 (of_z w64 high))) (sym (read_back low fl)) (subst (λ h. P low h) (sym (read_back high fh)) p)
 
 pub told_same : (r : Bool) (a b : List ℕ) → r ≡ pointwise eqb a b → r ≡ true → a ≡ b
 told_same r a b told is = (bytes_decides a b).0 (sym told ∙ is)

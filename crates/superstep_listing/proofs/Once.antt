@@ -11,7 +11,8 @@ use Rattle.superstep_code.specs.declared.instr.Instr.{Instr}
 use Rattle.superstep_listing.specs.Cutting.{Lacks, spaced}
 use Rattle.superstep_listing.specs.Decoding.{candidate_of, template_of}
 use Rattle.superstep_code.specs.Limits.{AreBounds, IsEntry, IsInstr}
-use Rattle.superstep_listing.specs.Listing.{entry_line, entry_words, field_words, instr_words, line, numbers_of, rule_line, side_of, stem_of}
+use Rattle.superstep_listing.specs.Listing.{entry_line, entry_words, field_words, instr_words, line, numbers_of, rule_line, side_of}
+use Rattle.superstep_listing.specs.Listing.{stem_of}
 use Rattle.superstep_listing.proofs.Cuts.{one_cut}
 use Rattle.superstep_listing.proofs.Declared.{high_fits, lacks_name, low_fits}
 use Rattle.superstep_listing.proofs.Decoded.{blank, candidate_same, lacks_word, numbers_fit, split_body, template_word}
@@ -46,12 +47,14 @@ rule_once rule.Sum rule.Common e = absurd (apart (rule_line rule.Sum) (rule_line
 rule_once rule.Sum rule.Priority e = absurd (apart (rule_line rule.Sum) (rule_line rule.Priority) refl e)
 rule_once rule.Sum rule.Sum e = refl
 
-pub field_once : (name : List ℕ) (n m : ℕ) → Lacks 32 name → n < 2 ^ 64 → m < 2 ^ 64 → line (field_words name n) ≡ line (field_words name m) → n ≡ m
+pub field_once : (name : List ℕ) (n m : ℕ) → Lacks 32 name → n < 2 ^ 64 → m < 2 ^ 64 →
+    line (field_words name n) ≡ line (field_words name m) → n ≡ m
 field_once name n m l fn fm e =
     let both = one_cut 32 name name (32 ∷ decimal n) (32 ∷ decimal m) l l refl refl e in
     decimal_injective n m fn fm (let tails : 32 ∷ decimal n ≡ 32 ∷ decimal m = both.1 in cc)
 
-bounds_once : (n m : List ℕ) (b d : Option (ℤ × ℤ)) → IsName n → IsName m → AreBounds b → AreBounds d → line (entry_words n b) ≡ line (entry_words m d) → (n ≡ m) × (b ≡ d)
+bounds_once : (n m : List ℕ) (b d : Option (ℤ × ℤ)) → IsName n → IsName m → AreBounds b → AreBounds d →
+    line (entry_words n b) ≡ line (entry_words m d) → (n ≡ m) × (b ≡ d)
 bounds_once n m None None isn ism hb hd e = (let tails : n ≡ m = cc in tails, refl)
 bounds_once n m None (Some b) isn ism hb hd e = absurd (apart (line (entry_words n None)) (line (entry_words m (Some b))) refl e)
 bounds_once n m (Some b) None isn ism hb hd e = absurd (apart (line (entry_words n (Some b))) (line (entry_words m None)) refl e)
@@ -61,7 +64,9 @@ bounds_once n m (Some (a, b)) (Some (x, y)) isn ism hb hd e =
     let tails : n ++ 32 ∷ lows ≡ m ++ 32 ∷ others = cc in
     let names = one_cut 32 n m (32 ∷ lows) (32 ∷ others) (lacks_name 32 n (lit≤ tt) isn) (lacks_name 32 m (lit≤ tt) ism) refl refl tails in
     let bounds : lows ≡ others = (let h : 32 ∷ lows ≡ 32 ∷ others = names.1 in cc) in
-    let parts = one_cut 32 (signed_decimal a) (signed_decimal x) (32 ∷ signed_decimal b) (32 ∷ signed_decimal y) (lacks_number 32 a (lit< tt) (low_fits a b hb)) (lacks_number 32 x (lit< tt) (low_fits x y hd)) refl refl bounds in
+    let parts = one_cut 32 (signed_decimal a) (signed_decimal x) (32 ∷ signed_decimal b) (32
+        ∷ signed_decimal y) (lacks_number 32 a (lit< tt) (low_fits a b hb)) (lacks_number 32 x (lit< tt) (low_fits x y hd)) refl refl
+        bounds in
     let high : signed_decimal b ≡ signed_decimal y = (let h : 32 ∷ signed_decimal b ≡ 32 ∷ signed_decimal y = parts.1 in cc) in
     let one = one_number a x (low_fits a b hb) (low_fits x y hd) parts.0 in
     let two = one_number b y (high_fits a b hb) (high_fits x y hd) high in
@@ -74,11 +79,14 @@ entry_once d e isd ise same =
 
 pub instr_once : (k : ℕ) (i j : Instr) → k < 2 ^ 64 → IsInstr i → IsInstr j → line (instr_words k i) ≡ line (instr_words k j) → i ≡ j
 instr_once k i j fits isi isj same =
-    let bodies = one_cut 32 (decimal k) (decimal k) _ _ (lacks_decimal 32 k (lit< tt) fits) (lacks_decimal 32 k (lit< tt) fits) refl refl (sym (line-instr k i) ∙ same ∙ line-instr k j) in
+    let bodies = one_cut 32 (decimal k) (decimal k) _ _ (lacks_decimal 32 k (lit< tt) fits) (lacks_decimal 32 k (lit< tt) fits) refl refl
+        (sym (line-instr k i) ∙ same ∙ line-instr k j) in
     let text = side_of i ++ (stem_of i ++ spaced (numbers_of i)) in
     let other = side_of j ++ (stem_of j ++ spaced (numbers_of j)) in
     let e : text ≡ other = (let h : 32 ∷ text ≡ 32 ∷ other = bodies.1 in cc) in
-    let parts = split_body text (side_of i ++ stem_of i) (spaced (numbers_of i)) j (sym (append_assoc (side_of i) (stem_of i) (spaced (numbers_of i)))) (lacks_word 32 i (lit≤ tt)) (follows_spaced (numbers_of i)) e in
+    let parts = split_body text (side_of i ++ stem_of i) (spaced (numbers_of i)) j
+        (sym (append_assoc (side_of i) (stem_of i) (spaced (numbers_of i)))) (lacks_word 32 i (lit≤ tt)) (follows_spaced (numbers_of i))
+        e in
     let found = sym (template_word i) ∙ ap template_of parts.0 ∙ template_word j in
     let start : blank i ≡ blank j = cc in
     let ns = spaced_once (numbers_of i) (numbers_of j) (numbers_fit i isi) (numbers_fit j isj) parts.1 in

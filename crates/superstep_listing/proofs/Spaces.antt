@@ -1,5 +1,6 @@
 -- Numbers behind spaces are read in one way.
-use Rattle.std.proofs.Common.{◌≡◌, ℕ, suc, List, [], ◌∷◌, ◌++◌, refl, sym, ap, ◌∙◌, ◌+◌, ◌<◌, ◌^◌, ◌%◌, length, arith, length-append, lit<, append_assoc}
+use Rattle.std.proofs.Common.{◌≡◌, ℕ, suc, List, [], ◌∷◌, ◌++◌, refl, sym, ap, ◌∙◌, ◌+◌, ◌<◌, ◌^◌, ◌%◌, length, arith, length-append, lit<}
+use Rattle.std.proofs.Common.{append_assoc}
 use Rattle.std.proofs.lemmas.Fmt.{decimal_by_steps}
 use Rattle.std.proofs.lemmas.List.{append-nil}
 use Rattle.std.specs.Fmt.{decimal, signed_decimal}
@@ -20,7 +21,8 @@ lacks_decimal byte n low fits =
 
 pub lacks_number : (byte : ℕ) (z : ℤ) → byte < 45 → Fits (Wide z) → Lacks byte (signed_decimal z)
 lacks_number byte (pos n) low fits = lacks_decimal byte n low (let s = small (pos n) fits in omega arith)
-lacks_number byte (negsuc n) low fits = (λ e. absurd (omega arith), lacks_decimal byte (suc n) low (let s = small (negsuc n) fits in omega arith))
+lacks_number byte (negsuc n) low fits =
+    (λ e. absurd (omega arith), lacks_decimal byte (suc n) low (let s = small (negsuc n) fits in omega arith))
 
 abbrev pub AllFit : List ℤ → Type 0
 AllFit = AllByRecursion (λ z. Fits (Wide z))
@@ -45,21 +47,25 @@ goes_on [] zs rest fx fz f e = record { more = zs; whole = refl; fit = fz; left 
 goes_on (x ∷ xs) [] rest fx fz f e = absurd (cc)
 goes_on (x ∷ xs) (z ∷ zs) rest fx fz f e =
     let tails : signed_decimal x ++ spaced xs ++ rest ≡ signed_decimal z ++ spaced zs = cc in
-    let both = one_cut 32 (signed_decimal x) (signed_decimal z) (spaced xs ++ rest) (spaced zs) (lacks_number 32 x (lit< tt) fx.0) (lacks_number 32 z (lit< tt) fz.0)
+    let both = one_cut 32 (signed_decimal x) (signed_decimal z) (spaced xs ++ rest) (spaced zs) (lacks_number 32 x (lit< tt) fx.0)
+        (lacks_number 32 z (lit< tt) fz.0)
     (follows_joined xs rest f) (follows_spaced zs) (sym (append_assoc (signed_decimal x) (spaced xs) rest) ∙ tails) in
     let same : x ≡ z = one_number x z fx.0 fz.0 both.0 in
     let next = goes_on xs zs rest fx.1 fz.1 f both.1 in
     record { more = next.more; whole = ap (λ y. y ∷ zs) (sym same) ∙ ap (λ l. x ∷ l) next.whole; fit = next.fit; left = next.left }
 
-first_of_them : (text word next : List ℕ) (more : List ℤ) → AllFit more → 32 ∷ text ≡ spaced more → text ≡ word ++ next → Lacks 32 word → Follows 32 next
+first_of_them : (text word next : List ℕ) (more : List ℤ) → AllFit more → 32 ∷ text ≡ spaced more → text ≡ word ++ next → Lacks 32 word →
+    Follows 32 next
     → (z : ℤ) × Fits (Wide z) × (word ≡ signed_decimal z)
 first_of_them text word next [] fit left whole lacks follows = absurd (cc)
 first_of_them text word next (z ∷ zs) fit left whole lacks follows =
     let e : text ≡ signed_decimal z ++ spaced zs = cc in
-    (z, fit.0, (one_cut 32 word (signed_decimal z) next (spaced zs) lacks (lacks_number 32 z (lit< tt) fit.0) follows (follows_spaced zs) (sym whole ∙ e)).0)
+    (z, fit.0, (one_cut 32 word (signed_decimal z) next (spaced zs) lacks (lacks_number 32 z (lit< tt) fit.0) follows (follows_spaced zs)
+        (sym whole ∙ e)).0)
 
 -- the next word is the next number
-pub next_number : (behind text word next : List ℕ) (xs zs : List ℤ) → behind ≡ spaced xs ++ 32 ∷ text → AllFit xs → text ≡ word ++ next → Lacks 32 word → Follows 32 next
+pub next_number : (behind text word next : List ℕ) (xs zs : List ℤ) → behind ≡ spaced xs ++ 32 ∷ text → AllFit xs → text ≡ word ++ next →
+    Lacks 32 word → Follows 32 next
     → AllFit zs → behind ≡ spaced zs → (z : ℤ) × Fits (Wide z) × (word ≡ signed_decimal z)
 next_number behind text word next xs zs read fx whole lacks follows fz e =
     let g = goes_on xs zs (32 ∷ text) fx fz refl (sym read ∙ e) in
@@ -70,7 +76,8 @@ some_more text [] e = absurd (cc)
 some_more text (z ∷ zs) e = omega arith
 
 -- a fifth number is one too many
-pub too_many : (behind text : List ℕ) (xs zs : List ℤ) → behind ≡ spaced xs ++ 32 ∷ text → AllFit xs → AllFit zs → behind ≡ spaced zs → length xs < length zs
+pub too_many : (behind text : List ℕ) (xs zs : List ℤ) → behind ≡ spaced xs ++ 32 ∷ text → AllFit xs → AllFit zs → behind ≡ spaced zs →
+    length xs < length zs
 too_many behind text xs zs read fx fz e =
     let g = goes_on xs zs (32 ∷ text) fx fz refl (sym read ∙ e) in
     let some = some_more text g.more g.left in

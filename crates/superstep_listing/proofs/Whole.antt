@@ -1,5 +1,6 @@
 -- Where the reading of a whole listing stops.
-use Rattle.std.proofs.Common.{◌≡◌, ℕ, List, [], ◌∷◌, ◌++◌, refl, sym, ap, ◌∙◌, ◌<◌, ◌≤◌, length, map, arith, subst, append_assoc, lit<, lit≤, ◌⊎◌, inl, inr}
+use Rattle.std.proofs.Common.{◌≡◌, ℕ, List, [], ◌∷◌, ◌++◌, refl, sym, ap, ◌∙◌, ◌<◌, ◌≤◌, length, map, arith, subst, append_assoc, lit<}
+use Rattle.std.proofs.Common.{lit≤, ◌⊎◌, inl, inr}
 use Rattle.std.specs.List.{AllByRecursion}
 use Rattle.std.specs.Prelude.{codes, ℤ, Option, Some, None}
 use Rattle.pram_model.specs.declared.rule.Rule.{Rule}
@@ -7,7 +8,8 @@ use Rattle.pram_model.specs.declared.rule.Rule.TheVariants as rule
 use Rattle.pram_model.specs.Layout.{SharedEntry, total_size}
 use Rattle.superstep_code.specs.Code.{SuperstepCode}
 use Rattle.superstep_code.specs.Limits.{AreDifferent, IsCode, IsEntry, IsLayout, IsNew, most_procs, names_of}
-use Rattle.superstep_listing.specs.Listing.{ended, entry_line, entry_words, field_words, head_lines, instr_lines, line, lines_of, rule_line, size_lines}
+use Rattle.superstep_listing.specs.Listing.{ended, entry_line, entry_words, field_words, head_lines, instr_lines, line, lines_of, rule_line}
+use Rattle.superstep_listing.specs.Listing.{size_lines}
 use Rattle.superstep_listing.specs.Reading.{AreCode, AreRest, CannotBe, IsStuck}
 use Rattle.superstep_listing.proofs.Numerals.{apart}
 use Rattle.superstep_listing.proofs.Once.{entry_once}
@@ -48,7 +50,8 @@ stuck_version text none = record {
   stuck = λ lines a. subst (λ ls. CannotBe ls text) a.same none;
 }
 
-pub stuck_rule : (text rest : List ℕ) → text ≡ version_line ++ 10 ∷ rest → ((r : Rule) (more : List ℕ) → rest ≡ rule_line r ++ 10 ∷ more → ⊥) → IsStuck AreCode text (length rest)
+pub stuck_rule : (text rest : List ℕ) → text ≡ version_line ++ 10 ∷ rest → ((r : Rule) (more : List ℕ) → rest ≡ rule_line r ++ 10 ∷ more →
+    ⊥) → IsStuck AreCode text (length rest)
 stuck_rule text rest first none = record {
   front = version_line ∷ [];
   back = rest;
@@ -70,7 +73,8 @@ stuck_procs r text mid rest first second none = record {
   begins = record { code = bare r 1; stands = bare_stands r 1 (lit< tt) (lit≤ tt); same = refl };
   stuck = λ lines a.
       let same = tails (rule_line a.code.rule) (rule_line r) _ lines (tails version_line version_line _ (rule_line r ∷ lines) a.same) in
-      subst (λ ls. CannotBe ls rest) same (λ more e. none a.code.procs more (let s = a.stands.some_procs in omega arith) a.stands.few_procs e);
+      subst (λ ls. CannotBe ls rest) same (λ more e. none a.code.procs more (let s = a.stands.some_procs in
+          omega arith) a.stands.few_procs e);
 }
 
 -- A front of a layout is one.
@@ -118,21 +122,26 @@ record OneMore (es all : List SharedEntry) (lines : List (List ℕ)) : Type 0 wh
 split_entries : (es all : List SharedEntry) (u : ℕ) (others lines : List (List ℕ)) → AllByRecursion IsEntry es → AllByRecursion IsEntry all
     → map entry_line all ++ uniform_line u ∷ others ≡ map entry_line es ++ lines → (lines ≡ uniform_line u ∷ others) ⊎ OneMore es all lines
 split_entries [] [] u others lines fe fa e = inl (sym e)
-split_entries [] (x ∷ all) u others lines fe fa e = inr (record { entry = x; after = all; whole = refl; others = map entry_line all ++ uniform_line u ∷ others; first = sym e })
-split_entries (d ∷ es) [] u others lines fe fa e = absurd (no_field d.name d.bounds u (sym (heads (uniform_line u) (entry_line d) others (map entry_line es ++ lines) e)))
+split_entries [] (x ∷ all) u others lines fe fa e =
+    inr (record { entry = x; after = all; whole = refl; others = map entry_line all ++ uniform_line u ∷ others; first = sym e })
+split_entries (d ∷ es) [] u others lines fe fa e =
+    absurd (no_field d.name d.bounds u (sym (heads (uniform_line u) (entry_line d) others (map entry_line es ++ lines) e)))
 split_entries (d ∷ es) (x ∷ all) u others lines fe fa e =
-    let same = entry_once x d fa.0 fe.0 (heads (entry_line x) (entry_line d) (map entry_line all ++ uniform_line u ∷ others) (map entry_line es ++ lines) e) in
+    let same = entry_once x d fa.0 fe.0 (heads (entry_line x) (entry_line d) (map entry_line all ++ uniform_line u
+        ∷ others) (map entry_line es ++ lines) e) in
     let rest = tails (entry_line x) (entry_line d) (map entry_line all ++ uniform_line u ∷ others) (map entry_line es ++ lines) e in
     elim (split_entries es all u others lines fe.1 fa.1 rest) [
       | inl h ↦ inl h
-      | inr h ↦ inr (record { entry = h.entry; after = h.after; whole = ap (λ l. x ∷ l) h.whole ∙ ap (λ y. y ∷ (es ++ h.entry ∷ h.after)) same; others = h.others; first = h.first })
+      | inr h ↦ inr (record { entry = h.entry; after = h.after; whole = ap (λ l. x ∷ l) h.whole
+          ∙ ap (λ y. y ∷ (es ++ h.entry ∷ h.after)) same; others = h.others; first = h.first })
     ]
 
 -- lines that begin with a declaration's are no rest of code
 no_rest : (e : SharedEntry) (others : List (List ℕ)) → AreRest (entry_line e ∷ others) → ⊥
 no_rest e others a = no_field e.name e.bounds a.uniform (sym (heads (uniform_line a.uniform) (entry_line e) _ others a.same))
 
-first_differs : (front lines others more : List (List ℕ)) (e : SharedEntry) (back : List ℕ) → AreRest (front ++ more) → front ++ lines ≡ entry_line e ∷ others
+first_differs : (front lines others more : List (List ℕ)) (e : SharedEntry) (back : List ℕ) → AreRest (front ++ more) →
+    front ++ lines ≡ entry_line e ∷ others
     → ((rest : List ℕ) → front ≡ [] → back ≡ entry_line e ++ 10 ∷ rest → ⊥) → CannotBe lines back
 first_differs [] lines others more e back a same none = subst (λ ls. CannotBe ls back) (sym same) (λ rest r. none rest refl r)
 first_differs (f ∷ front) lines others more e back a same none =
@@ -146,7 +155,8 @@ module _ (r : Rule) (m : ℕ) (es : List SharedEntry) (some : 0 < m) (few : m �
 
   code_with : (lines : List (List ℕ)) → AreRest lines → AreCode (before lines)
   code_with lines a = record {
-    code = record { rule = r; procs = m; layout = es; uniform_registers = a.uniform; private_registers = a.private; instructions = a.instructions };
+    code = record { rule = r; procs = m; layout = es; uniform_registers = a.uniform; private_registers = a.private; instructions =
+        a.instructions };
     stands = record {
       some_procs = some;
       few_procs = few;
@@ -160,7 +170,8 @@ module _ (r : Rule) (m : ℕ) (es : List SharedEntry) (some : 0 < m) (few : m �
   }
 
   rest_with : (code : SuperstepCode) (lines : List (List ℕ)) → IsCode code
-      → size_lines code.uniform_registers code.private_registers (length code.instructions) ++ instr_lines 0 code.instructions ≡ lines → AreRest lines
+      → size_lines code.uniform_registers code.private_registers (length code.instructions) ++ instr_lines 0 code.instructions ≡ lines →
+          AreRest lines
   rest_with code lines stands same = record {
     uniform = code.uniform_registers;
     private = code.private_registers;
@@ -172,30 +183,39 @@ module _ (r : Rule) (m : ℕ) (es : List SharedEntry) (some : 0 < m) (few : m �
     same = same;
   }
 
-  pub stuck_code : (text one two three lines : List ℕ) (left : ℕ) → text ≡ version_line ++ 10 ∷ one → one ≡ rule_line r ++ 10 ∷ two → two ≡ procs_line m ++ 10 ∷ three
-      → three ≡ ended (map entry_line es) ++ lines → ((e : SharedEntry) (more : List ℕ) → IsLayout (es ++ e ∷ []) → lines ≡ entry_line e ++ 10 ∷ more → ⊥)
+  pub stuck_code : (text one two three lines : List ℕ) (left : ℕ) → text ≡ version_line ++ 10 ∷ one → one ≡ rule_line r ++ 10 ∷ two →
+      two ≡ procs_line m ++ 10 ∷ three
+      → three ≡ ended (map entry_line es) ++ lines → ((e : SharedEntry) (more : List ℕ) → IsLayout (es ++ e ∷ []) →
+          lines ≡ entry_line e ++ 10 ∷ more → ⊥)
       → IsStuck AreRest lines left → IsStuck AreCode text left
   stuck_code text one two three lines left first second third fourth most s =
       let entries = map entry_line es in
       let whole : three ≡ ended (entries ++ s.front) ++ s.back =
-      fourth ∙ ap (λ l. ended entries ++ l) s.whole ∙ sym (append_assoc (ended entries) (ended s.front) s.back) ∙ ap (λ l. l ++ s.back) (sym (ended-append entries s.front)) in
+      fourth ∙ ap (λ l. ended entries ++ l) s.whole ∙ sym (append_assoc (ended entries) (ended s.front) s.back)
+          ∙ ap (λ l. l ++ s.back) (sym (ended-append entries s.front)) in
       record {
         front = before s.front;
         back = s.back;
         whole = line_then version_line text one (rule_line r ∷ procs_line m ∷ (entries ++ s.front)) s.back first
-            (line_then (rule_line r) one two (procs_line m ∷ (entries ++ s.front)) s.back second (line_then (procs_line m) two three (entries ++ s.front) s.back third whole));
+            (line_then (rule_line r) one two (procs_line m ∷ (entries ++ s.front)) s.back second
+                (line_then (procs_line m) two three (entries ++ s.front) s.back third whole));
         place = s.place;
         more = s.more;
-        begins = subst AreCode (ap (λ l. head_lines r m ++ l) (sym (append_assoc entries s.front s.more))) (code_with (s.front ++ s.more) s.begins);
+        begins = subst AreCode (ap (λ l. head_lines r m ++ l) (sym (append_assoc entries s.front s.more)))
+            (code_with (s.front ++ s.more) s.begins);
         stuck = λ ls a.
             let c = a.code in
             let past = tails (procs_line c.procs) (procs_line m) _ ((entries ++ s.front) ++ ls)
-            (tails (rule_line c.rule) (rule_line r) _ (procs_line m ∷ ((entries ++ s.front) ++ ls)) (tails version_line version_line _ (rule_line r ∷ procs_line m ∷ ((entries ++ s.front) ++ ls)) a.same)) in
-            elim (split_entries es c.layout c.uniform_registers _ (s.front ++ ls) layout.entries a.stands.layout.entries (past ∙ append_assoc entries s.front ls)) [
+            (tails (rule_line c.rule) (rule_line r) _ (procs_line m
+                ∷ ((entries ++ s.front) ++ ls)) (tails version_line version_line _ (rule_line r ∷ procs_line m
+                ∷ ((entries ++ s.front) ++ ls)) a.same)) in
+            elim (split_entries es c.layout c.uniform_registers _ (s.front ++ ls) layout.entries a.stands.layout.entries (past
+                ∙ append_assoc entries s.front ls)) [
               | inl h ↦ s.stuck ls (rest_with c (s.front ++ ls) a.stands (sym h))
               | inr h ↦ first_differs s.front ls h.others s.more h.entry s.back s.begins h.first
                   (λ rest none_before e.
-                  let stands = layout_front (es ++ h.entry ∷ []) h.after (subst IsLayout (h.whole ∙ sym (append_assoc es (h.entry ∷ []) h.after)) a.stands.layout) in
+                  let stands = layout_front (es ++ h.entry
+                      ∷ []) h.after (subst IsLayout (h.whole ∙ sym (append_assoc es (h.entry ∷ []) h.after)) a.stands.layout) in
                   most h.entry rest stands (s.whole ∙ ap (λ f. ended f ++ s.back) none_before ∙ e))
             ];
       }

@@ -3,7 +3,9 @@ use Rattle.std.specs.Prelude.{ℕ, List, [], ◌∷◌, codes, ℤ, pos, negsuc,
 use Rattle.pram_model.specs.Names.{same_text}
 use Rattle.superstep_code.specs.declared.instr.Arithmetic.TheVariants as arithmetic
 use Rattle.superstep_code.specs.declared.instr.Instr.{Instr}
-use Rattle.superstep_code.specs.declared.instr.Instr.TheVariants.{Mark, Set, Copy, Negate, Calculate, Decide, Not, CopyUniform, Index, Enter, Leave, Mask, Flip, Unmask, Ask, Put, Send, Reply, Vote, Print, Jump, JumpIfZero, Halt}
+use Rattle.superstep_code.specs.declared.instr.Instr.TheVariants.{Mark, Set, Copy, Negate, Calculate, Decide, Not, CopyUniform, Index}
+use Rattle.superstep_code.specs.declared.instr.Instr.TheVariants.{Enter, Leave, Mask, Flip, Unmask, Ask, Put, Send, Reply, Vote, Print}
+use Rattle.superstep_code.specs.declared.instr.Instr.TheVariants.{Jump, JumpIfZero, Halt}
 use Rattle.superstep_code.specs.declared.instr.Side.{Side}
 use Rattle.superstep_code.specs.declared.instr.Side.TheVariants.{Uniform, Private}
 use Rattle.superstep_code.specs.declared.instr.Truth.TheVariants as truth
@@ -16,25 +18,31 @@ lookup (entry ∷ rest) word = if same_text entry.0 word then Some entry.1 else 
 -- the words of instructions without a side, with the instructions whose operands are 0
 abbrev pub plain_words : List (List ℕ × Instr)
 plain_words =
-    (codes "mark", Mark 0) ∷ (codes "pfrom", CopyUniform 0 0) ∷ (codes "pindex", Index 0) ∷ (codes "enter", Enter 0 0 0) ∷ (codes "leave", Leave)
+    (codes "mark", Mark 0) ∷ (codes "pfrom", CopyUniform 0 0) ∷ (codes "pindex", Index 0) ∷ (codes "enter", Enter 0 0 0)
+        ∷ (codes "leave", Leave)
     ∷ (codes "mask", Mask 0) ∷ (codes "flip", Flip) ∷ (codes "unmask", Unmask) ∷ []
 
 abbrev pub control_words : List (List ℕ × Instr)
 control_words =
-    (codes "send", Send) ∷ (codes "reply", Reply) ∷ (codes "vote", Vote 0) ∷ (codes "print", Print 0) ∷ (codes "jump", Jump 0) ∷ (codes "jzero", JumpIfZero 0 0)
+    (codes "send", Send) ∷ (codes "reply", Reply) ∷ (codes "vote", Vote 0) ∷ (codes "print", Print 0) ∷ (codes "jump", Jump 0)
+        ∷ (codes "jzero", JumpIfZero 0 0)
     ∷ (codes "halt", Halt) ∷ []
 
 -- the words of those with a side, without its letter
 abbrev pub move_words : Side → List (List ℕ × Instr)
 move_words side =
-    (codes "set", Set side 0 (pos 0)) ∷ (codes "copy", Copy side 0 0) ∷ (codes "neg", Negate side 0 0 0) ∷ (codes "not", Not side 0 0) ∷ (codes "ask", Ask side 0 0 0 0)
+    (codes "set", Set side 0 (pos 0)) ∷ (codes "copy", Copy side 0 0) ∷ (codes "neg", Negate side 0 0 0) ∷ (codes "not", Not side 0 0)
+        ∷ (codes "ask", Ask side 0 0 0 0)
     ∷ (codes "put", Put side 0 0 0 0) ∷ []
 
 abbrev pub operation_words : Side → List (List ℕ × Instr)
 operation_words side =
-    (codes "add", Calculate side arithmetic.Add 0 0 0 0) ∷ (codes "sub", Calculate side arithmetic.Subtract 0 0 0 0) ∷ (codes "mul", Calculate side arithmetic.Multiply 0 0 0 0)
-    ∷ (codes "div", Calculate side arithmetic.Divide 0 0 0 0) ∷ (codes "mod", Calculate side arithmetic.Remainder 0 0 0 0) ∷ (codes "eq", Decide side truth.Equal 0 0 0)
-    ∷ (codes "lt", Decide side truth.Less 0 0 0) ∷ (codes "le", Decide side truth.AtMost 0 0 0) ∷ (codes "and", Decide side truth.And 0 0 0) ∷ (codes "or", Decide side truth.Or 0 0 0) ∷ []
+    (codes "add", Calculate side arithmetic.Add 0 0 0 0) ∷ (codes "sub", Calculate side arithmetic.Subtract 0 0 0 0)
+        ∷ (codes "mul", Calculate side arithmetic.Multiply 0 0 0 0)
+    ∷ (codes "div", Calculate side arithmetic.Divide 0 0 0 0) ∷ (codes "mod", Calculate side arithmetic.Remainder 0 0 0 0)
+        ∷ (codes "eq", Decide side truth.Equal 0 0 0)
+    ∷ (codes "lt", Decide side truth.Less 0 0 0) ∷ (codes "le", Decide side truth.AtMost 0 0 0) ∷ (codes "and", Decide side truth.And 0 0 0)
+        ∷ (codes "or", Decide side truth.Or 0 0 0) ∷ []
 
 -- the first of two that is there
 abbrev pub either : Option Instr → Option Instr → Option Instr

@@ -8,7 +8,9 @@ use Rattle.pram_model.specs.Rules.{rule_word}
 use Rattle.superstep_code.specs.declared.instr.Arithmetic.{Arithmetic}
 use Rattle.superstep_code.specs.declared.instr.Arithmetic.TheVariants as arithmetic
 use Rattle.superstep_code.specs.declared.instr.Instr.{Instr}
-use Rattle.superstep_code.specs.declared.instr.Instr.TheVariants.{Mark, Set, Copy, Negate, Calculate, Decide, Not, CopyUniform, Index, Enter, Leave, Mask, Flip, Unmask, Ask, Put, Send, Reply, Vote, Print, Jump, JumpIfZero, Halt}
+use Rattle.superstep_code.specs.declared.instr.Instr.TheVariants.{Mark, Set, Copy, Negate, Calculate, Decide, Not, CopyUniform, Index}
+use Rattle.superstep_code.specs.declared.instr.Instr.TheVariants.{Enter, Leave, Mask, Flip, Unmask, Ask, Put, Send, Reply, Vote, Print}
+use Rattle.superstep_code.specs.declared.instr.Instr.TheVariants.{Jump, JumpIfZero, Halt}
 use Rattle.superstep_code.specs.declared.instr.Side.{Side}
 use Rattle.superstep_code.specs.declared.instr.Side.TheVariants.{Uniform, Private}
 use Rattle.superstep_code.specs.declared.instr.Truth.{Truth}
@@ -117,7 +119,8 @@ head_lines rule procs = codes "bsp 1" ∷ rule_line rule ∷ line (field_words (
 
 -- the lines behind them
 abbrev pub size_lines : (uniform private count : ℕ) → List (List ℕ)
-size_lines uniform private count = line (field_words (codes "uniform") uniform) ∷ line (field_words (codes "private") private) ∷ line (field_words (codes "code") count) ∷ []
+size_lines uniform private count = line (field_words (codes "uniform") uniform) ∷ line (field_words (codes "private") private)
+    ∷ line (field_words (codes "code") count) ∷ []
 
 -- the lines of code
 abbrev pub lines_of : SuperstepCode → List (List ℕ)

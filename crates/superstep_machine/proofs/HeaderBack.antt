@@ -13,7 +13,8 @@ use Rattle.superstep_machine.specs.declared.mark.HeaderMark.{HeaderMark}
 use Rattle.superstep_machine.specs.declared.mark.HeaderMark.TheVariants.{Clear, OutOfMemory, OutOfReserve}
 use Rattle.superstep_machine.specs.Keys.{rank}
 use Rattle.superstep_machine.specs.Words.{bit}
-use Rattle.superstep_machine.specs.HeaderWords.{kind_numbered, place_class, place_number, place_numbered, mark_number, mark_numbered, header_words, is_odd, read_key, read_header, FitsPlace, FitsKey, HeadersAreGivenBack}
+use Rattle.superstep_machine.specs.HeaderWords.{kind_numbered, place_class, place_number, place_numbered, mark_number, mark_numbered}
+use Rattle.superstep_machine.specs.HeaderWords.{header_words, is_odd, read_key, read_header, FitsPlace, FitsKey, HeadersAreGivenBack}
 
 -- ---- numbers
 
@@ -109,9 +110,11 @@ module _ (h : MessageHeader) where
       let even : (0 + 128 * m + 512 * a) % 2 ≡ 0 = omega arith in
       let puts : (0 + 2 ^ 32 * h.puts) / 2 ^ 32 ≡ h.puts = omega arith in
       λ i. record {
-        key = ap (λ b. if b then Some (read_key (header_words (record h { key = None }))) else None) (odd_bit (0 + 128 * m + 512 * a) false even) i;
+        key = ap (λ b. if b then Some (read_key (header_words (record h { key = None }))) else None)
+            (odd_bit (0 + 128 * m + 512 * a) false even) i;
         mark = (ap mark_numbered (mark_part 0 m a (omega arith) (mark_small h.mark) (bit_small h.active)) ∙ mark_back h.mark) i;
-        active = odd_bit ((0 + 128 * m + 512 * a) / 512) h.active (active_part 0 m a (omega arith) (mark_small h.mark) (bit_small h.active)) i;
+        active = odd_bit ((0 + 128 * m + 512 * a) / 512) h.active (active_part 0 m a (omega arith) (mark_small h.mark) (bit_small h.active))
+            i;
         puts = puts i;
       }
 
@@ -142,7 +145,8 @@ module _ (h : MessageHeader) where
     there = ap (λ x. x % 2) rest_is ∙ there_part c n p (m + 4 * a) (bit_small k.conflict) (kind_small k.kind) (class_small k.place)
 
     conflict_is : all / 2 % 2 ≡ c
-    conflict_is = ap (λ x. x / 2 % 2) rest_is ∙ conflict_part c n p (m + 4 * a) (bit_small k.conflict) (kind_small k.kind) (class_small k.place)
+    conflict_is = ap (λ x. x / 2 % 2) rest_is
+        ∙ conflict_part c n p (m + 4 * a) (bit_small k.conflict) (kind_small k.kind) (class_small k.place)
 
     kind_is : all / 4 % 8 ≡ n
     kind_is = ap (λ x. x / 4 % 8) rest_is ∙ kind_part c n p (m + 4 * a) (bit_small k.conflict) (kind_small k.kind) (class_small k.place)
@@ -183,6 +187,7 @@ module _ (h : MessageHeader) where
 pub given_back : HeadersAreGivenBack
 given_back h fits = go h.key fits
   where
-    go : (o : Option Key) → ((key : Key) → o ≡ Some key → FitsKey key) → read_header (header_words (record h { key = o })) ≡ record h { key = o }
+    go : (o : Option Key) → ((key : Key) → o ≡ Some key → FitsKey key) →
+        read_header (header_words (record h { key = o })) ≡ record h { key = o }
     go None f = without_key h
     go (Some k) f = with_key h k (f k refl)

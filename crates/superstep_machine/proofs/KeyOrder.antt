@@ -1,5 +1,6 @@
 -- Keys are in a linear order, and what may be missing is collected in any order.
-use Rattle.std.proofs.Common.{◌≡◌, ◌⊎◌, inl, inr, ℕ, zero, suc, ◌<◌, Bool, true, false, Option, Some, None, nat_le, if◌then◌else◌, refl, sym, ap, ◌∙◌, arith}
+use Rattle.std.proofs.Common.{◌≡◌, ◌⊎◌, inl, inr, ℕ, zero, suc, ◌<◌, Bool, true, false, Option, Some, None, nat_le, if◌then◌else◌, refl}
+use Rattle.std.proofs.Common.{sym, ap, ◌∙◌, arith}
 use Rattle.std.proofs.lemmas.Bool.Decides.{nat_tests}
 use Rattle.pram_values.specs.declared.kind.Kind.{Kind}
 use Rattle.pram_values.specs.declared.kind.Kind.TheVariants.{Overflow, DivideByZero, OutOfRange, TooWide, ReadConflict, WriteConflict}
@@ -9,10 +10,7 @@ use Rattle.pram_values.specs.Total.{IsMonoid}
 use Rattle.pram_values.proofs.PlaceOrder.{never_before_itself, before_is_passed_on, one_is_before}
 use Rattle.superstep_machine.specs.declared.key.Key.{Key}
 use Rattle.superstep_machine.specs.Keys.{rank, class_of, by_number, by_place, is_first, first_key, together, least}
-
-either : (b : Bool) → (b ≡ true) ⊎ (b ≡ false)
-either true = inl refl
-either false = inr refl
+use Rattle.pram_model.proofs.Truths.{either}
 
 -- ---- by a number, then by the rest
 
@@ -21,7 +19,8 @@ number_total x y true s h e = grind (arith, nat_tests)
 number_total x y false true h e = grind (arith, nat_tests)
 number_total x y false false h e = absurd (cc (h refl))
 
-number_passed : (x y z : ℕ) (r s t : Bool) → (r ≡ true → s ≡ true → t ≡ true) → by_number x y r ≡ true → by_number y z s ≡ true → by_number x z t ≡ true
+number_passed : (x y z : ℕ) (r s t : Bool) → (r ≡ true → s ≡ true → t ≡ true) → by_number x y r ≡ true → by_number y z s ≡ true →
+    by_number x z t ≡ true
 number_passed x y z r s true h e f = grind (arith, nat_tests)
 number_passed x y z true true false h e f = absurd (cc (h refl refl))
 number_passed x y z true false false h e f = grind (arith, nat_tests)
@@ -36,7 +35,8 @@ number_rest x y false s e f = grind (arith, nat_tests)
 
 -- ---- by a place, then by the rest
 
-place_by : (p q : Place) (b c : Bool) (r : Bool) → is_place_before p q ≡ b → is_place_before q p ≡ c → by_place p q r ≡ (if b then true else if c then false else r)
+place_by : (p q : Place) (b c : Bool) (r : Bool) → is_place_before p q ≡ b → is_place_before q p ≡ c →
+    by_place p q r ≡ (if b then true else if c then false else r)
 place_by p q b c r e f = λ i. if e i then true else if f i then false else r
 
 never_both : (p q : Place) → is_place_before p q ≡ true → is_place_before q p ≡ false
@@ -69,10 +69,12 @@ place_first p q r e = ap (λ b. if b then true else if is_place_before q p then 
 place_here : (p : Place) (r : Bool) → by_place p p r ≡ r
 place_here p r = place_by p p false false r (never_before_itself p) (never_before_itself p)
 
-place_passed : (p q z : Place) (r s t : Bool) → (r ≡ true → s ≡ true → t ≡ true) → by_place p q r ≡ true → by_place q z s ≡ true → by_place p z t ≡ true
+place_passed : (p q z : Place) (r s t : Bool) → (r ≡ true → s ≡ true → t ≡ true) → by_place p q r ≡ true → by_place q z s ≡ true →
+    by_place p z t ≡ true
 place_passed p q z r s t h e f = go (place_cases p q r e) (place_cases q z s f)
   where
-    go : (is_place_before p q ≡ true) ⊎ ((p ≡ q) × (r ≡ true)) → (is_place_before q z ≡ true) ⊎ ((q ≡ z) × (s ≡ true)) → by_place p z t ≡ true
+    go : (is_place_before p q ≡ true) ⊎ ((p ≡ q) × (r ≡ true)) → (is_place_before q z ≡ true) ⊎ ((q ≡ z) × (s ≡ true)) →
+        by_place p z t ≡ true
     go (inl a) (inl b) = place_first p z t (before_is_passed_on p q z a b)
     go (inl a) (inr b) = place_first p z t (sym (ap (is_place_before p) b.0) ∙ a)
     go (inr a) (inl b) = place_first p z t (ap (λ x. is_place_before x z) a.0 ∙ b)
@@ -81,7 +83,8 @@ place_passed p q z r s t h e f = go (place_cases p q r e) (place_cases q z s f)
 place_same : (p q : Place) (r s : Bool) → by_place p q r ≡ true → by_place q p s ≡ true → (p ≡ q) × (r ≡ true)
 place_same p q r s e f = go (place_cases p q r e) (place_cases q p s f)
   where
-    go : (is_place_before p q ≡ true) ⊎ ((p ≡ q) × (r ≡ true)) → (is_place_before q p ≡ true) ⊎ ((q ≡ p) × (s ≡ true)) → (p ≡ q) × (r ≡ true)
+    go : (is_place_before p q ≡ true) ⊎ ((p ≡ q) × (r ≡ true)) → (is_place_before q p ≡ true) ⊎ ((q ≡ p) × (s ≡ true)) →
+        (p ≡ q) × (r ≡ true)
     go (inr a) b = a
     go (inl a) (inl b) = absurd (cc (b, never_both p q a))
     go (inl a) (inr b) = absurd (cc (a, ap (λ x. is_place_before p x) b.0, never_before_itself p))
@@ -153,7 +156,8 @@ first_passed a b c =
     (number_passed a.position b.position c.position (by_class a b) (by_class b c) (by_class a c)
     (number_passed (class_of a.conflict) (class_of b.conflict) (class_of c.conflict) (by_places a b) (by_places b c) (by_places a c)
     (place_passed a.place b.place c.place (by_kind a b) (by_kind b c) (by_kind a c)
-    (number_passed (rank a.kind) (rank b.kind) (rank c.kind) (by_line a b) (by_line b c) (by_line a c) (line_passed a.line b.line c.line)))))
+    (number_passed (rank a.kind) (rank b.kind) (rank c.kind) (by_line a b) (by_line b c) (by_line a c)
+        (line_passed a.line b.line c.line)))))
 
 pub first_same : (a b : Key) → is_first a b ≡ true → is_first b a ≡ true → a ≡ b
 first_same a b e f =
@@ -170,7 +174,8 @@ first_same a b e f =
     λ i. record {
       count = number_same a.count b.count (by_position a b) (by_position b a) e f i;
       position = number_same a.position b.position (by_class a b) (by_class b a) e1 f1 i;
-      conflict = same_class a.conflict b.conflict (number_same (class_of a.conflict) (class_of b.conflict) (by_places a b) (by_places b a) e2 f2) i;
+      conflict = same_class a.conflict b.conflict (number_same (class_of a.conflict) (class_of b.conflict) (by_places a b) (by_places b a)
+          e2 f2) i;
       place = p.0 i;
       kind = same_kind a.kind b.kind (number_same (rank a.kind) (rank b.kind) (by_line a b) (by_line b a) p.1 q.1) i;
       line = line_same a.line b.line e4 f4 i;
@@ -196,11 +201,14 @@ class_first false true r e f = refl
 class_first true c r e f = absurd (cc e)
 class_first false false r e f = absurd (cc f)
 
-pub by_lesser_class : (a b : Key) → a.count ≡ b.count → a.position ≡ b.position → a.conflict ≡ false → b.conflict ≡ true → is_first a b ≡ true
+pub by_lesser_class : (a b : Key) → a.count ≡ b.count → a.position ≡ b.position → a.conflict ≡ false → b.conflict ≡ true →
+    is_first a b ≡ true
 by_lesser_class a b e f g h =
-    number_here a.count b.count (by_position a b) e ∙ number_here a.position b.position (by_class a b) f ∙ class_first a.conflict b.conflict (by_places a b) g h
+    number_here a.count b.count (by_position a b) e ∙ number_here a.position b.position (by_class a b) f
+        ∙ class_first a.conflict b.conflict (by_places a b) g h
 
-pub by_earlier_place : (a b : Key) → a.count ≡ b.count → a.position ≡ b.position → a.conflict ≡ b.conflict → is_place_before a.place b.place ≡ true → is_first a b ≡ true
+pub by_earlier_place : (a b : Key) → a.count ≡ b.count → a.position ≡ b.position → a.conflict ≡ b.conflict →
+    is_place_before a.place b.place ≡ true → is_first a b ≡ true
 by_earlier_place a b e f g h =
     number_here a.count b.count (by_position a b) e ∙ number_here a.position b.position (by_class a b) f
     ∙ number_here (class_of a.conflict) (class_of b.conflict) (by_places a b) (ap class_of g) ∙ place_first a.place b.place (by_kind a b) h
@@ -233,11 +241,15 @@ last_passed a b c h g = go (either (is_first a c))
 first_associates : (a b c : Key) → first_key (first_key a b) c ≡ first_key a (first_key b c)
 first_associates a b c = go (either (is_first a b)) (either (is_first b c))
   where
-    go : (is_first a b ≡ true) ⊎ (is_first a b ≡ false) → (is_first b c ≡ true) ⊎ (is_first b c ≡ false) → first_key (first_key a b) c ≡ first_key a (first_key b c)
-    go (inl h) (inl g) = ap (λ x. first_key x c) (pick_first a b h) ∙ pick_first a c (first_passed a b c h g) ∙ sym (ap (first_key a) (pick_first b c g) ∙ pick_first a b h)
+    go : (is_first a b ≡ true) ⊎ (is_first a b ≡ false) → (is_first b c ≡ true) ⊎ (is_first b c ≡ false) →
+        first_key (first_key a b) c ≡ first_key a (first_key b c)
+    go (inl h) (inl g) = ap (λ x. first_key x c) (pick_first a b h) ∙ pick_first a c (first_passed a b c h g)
+        ∙ sym (ap (first_key a) (pick_first b c g) ∙ pick_first a b h)
     go (inl h) (inr g) = ap (λ x. first_key x c) (pick_first a b h) ∙ sym (ap (first_key a) (pick_last b c g))
-    go (inr h) (inl g) = ap (λ x. first_key x c) (pick_last a b h) ∙ pick_first b c g ∙ sym (ap (first_key a) (pick_first b c g) ∙ pick_last a b h)
-    go (inr h) (inr g) = ap (λ x. first_key x c) (pick_last a b h) ∙ pick_last b c g ∙ sym (ap (first_key a) (pick_last b c g) ∙ last_passed a b c h g)
+    go (inr h) (inl g) = ap (λ x. first_key x c) (pick_last a b h) ∙ pick_first b c g
+        ∙ sym (ap (first_key a) (pick_first b c g) ∙ pick_last a b h)
+    go (inr h) (inr g) = ap (λ x. first_key x c) (pick_last a b h) ∙ pick_last b c g
+        ∙ sym (ap (first_key a) (pick_last b c g) ∙ last_passed a b c h g)
 
 -- ---- what may be missing
 

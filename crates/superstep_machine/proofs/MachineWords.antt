@@ -1,5 +1,6 @@
 -- The messages of a worker whose values fit are read back.
-use Rattle.std.proofs.Common.{◌≡◌, ℕ, zero, suc, ◌+◌, ◌^◌, ◌<◌, ◌≤◌, List, [], ◌∷◌, ◌++◌, map, length, Bool, true, false, not, cond, eqb, Option, Some, None, ℤ, pos, ◌+ℤ◌, refl, sym, subst, arith, ⊎_elim, FitsSigned}
+use Rattle.std.proofs.Common.{◌≡◌, ℕ, zero, suc, ◌+◌, ◌^◌, ◌<◌, ◌≤◌, List, [], ◌∷◌, ◌++◌, map, length, Bool, true, false, not, cond, eqb}
+use Rattle.std.proofs.Common.{Option, Some, None, ℤ, pos, ◌+ℤ◌, refl, sym, subst, arith, ⊎_elim, FitsSigned}
 use Rattle.std.specs.Prelude.{if◌then◌else◌, int_le, slice_index_or}
 use Rattle.std.specs.List.{AllByRecursion, filter, filter_map, cons_option}
 use Rattle.std.specs.Int.{w64, w128}
@@ -14,7 +15,8 @@ use Rattle.superstep_machine.specs.Setting.{Setting, combining}
 use Rattle.superstep_machine.specs.Parts.{Read, PrivatePart}
 use Rattle.superstep_machine.specs.Words.{CellPut, CellAsk}
 use Rattle.superstep_machine.specs.Worker.{HeldWrite, Worker}
-use Rattle.superstep_machine.specs.Sending.{firsts, join, entry_to, entry_held, put_of, puts_held, cell_at, present, cells_asked, asked_twice, asks_from, asks_held, sent}
+use Rattle.superstep_machine.specs.Sending.{firsts, join, entry_to, entry_held, put_of, puts_held, cell_at, present, cells_asked}
+use Rattle.superstep_machine.specs.Sending.{asked_twice, asks_from, asks_held, sent}
 use Rattle.superstep_machine.specs.Answering.{replied}
 use Rattle.superstep_machine.specs.Run.{Sends, Replies, Votes, Closes}
 use Rattle.superstep_machine.specs.Fitting.{FitsValue, FitsPut, FitsAsk, FitsWrite, IsPutFor, IsAskFor, IsCellBelow, CanBeSent, FitsWorker}
@@ -27,7 +29,8 @@ pub record FitsEntry (V : ℤ → Type 0) (e : Entry) : Type 0 where
   pub owner : FitsSigned w64 e.owner
   pub value : V e.value
 
-either : (V : ℤ → Type 0) (clash first : Bool) (a b : Entry) → FitsEntry V a → FitsEntry V b → FitsEntry V (if first then marked clash a else marked clash b)
+either : (V : ℤ → Type 0) (clash first : Bool) (a b : Entry) → FitsEntry V a → FitsEntry V b →
+    FitsEntry V (if first then marked clash a else marked clash b)
 either V clash true a b f g = record { owner = f.owner; value = f.value }
 either V clash false a b f g = record { owner = g.owner; value = g.value }
 
@@ -35,12 +38,14 @@ least_fits : (b : Bool) (x y : ℤ) → FitsSigned w64 x → FitsSigned w64 y �
 least_fits true x y f g = f
 least_fits false x y f g = g
 
-pub join_fits : (rule : Rule) (a b : Entry) → FitsEntry (FitsValue rule) a → FitsEntry (FitsValue rule) b → FitsEntry (FitsValue rule) ((combining rule).join a b)
+pub join_fits : (rule : Rule) (a b : Entry) → FitsEntry (FitsValue rule) a → FitsEntry (FitsValue rule) b → FitsEntry (FitsValue rule)
+    ((combining rule).join a b)
 join_fits Erew a b f g = either (FitsSigned w64) true (is_first a b) a b f g
 join_fits Crew a b f g = either (FitsSigned w64) true (is_first a b) a b f g
 join_fits Common a b f g = either (FitsSigned w64) (differ a b) (is_first a b) a b f g
 join_fits Priority a b f g = either (FitsSigned w64) false (is_first a b) a b f g
-join_fits Sum a b f g = record { owner = least_fits (int_le a.owner b.owner) a.owner b.owner f.owner g.owner; value = SFits-int_wrap w128 (a.value +ℤ b.value) }
+join_fits Sum a b f g = record { owner = least_fits (int_le a.owner b.owner) a.owner b.owner f.owner g.owner; value =
+    SFits-int_wrap w128 (a.value +ℤ b.value) }
 
 pub single_fits : (rule : Rule) (w : HeldWrite) → FitsWrite w → FitsEntry (FitsValue rule) ((combining rule).single w.processor w.value)
 single_fits Erew w f = record { owner = f.processor; value = f.value }
@@ -60,7 +65,8 @@ all_kept P test (x ∷ xs) h = go (test x) (all_kept P test xs h.1)
     go false rest = rest
 
 -- those that pass a test have what it tells
-all_passed : {A : Type 0} (P Q : A → Type 0) (part : A → ℕ) (j : ℕ) → ((x : A) → P x → part x ≡ j → Q x) → (xs : List A) → AllByRecursion P xs → AllByRecursion Q (filter (λ x. eqb (part x) j) xs)
+all_passed : {A : Type 0} (P Q : A → Type 0) (part : A → ℕ) (j : ℕ) → ((x : A) → P x → part x ≡ j → Q x) → (xs : List A) →
+    AllByRecursion P xs → AllByRecursion Q (filter (λ x. eqb (part x) j) xs)
 all_passed P Q part j told [] h = tt
 all_passed P Q part j told (x ∷ xs) h =
     let inner = filter (λ y. eqb (part y) j) xs in
@@ -78,7 +84,8 @@ pub all_joined : {A : Type 0} (P : A → Type 0) (xs ys : List A) → AllByRecur
 all_joined P [] ys f g = g
 all_joined P (x ∷ xs) ys f g = (f.0, all_joined P xs ys f.1 g)
 
-pub all_map : {A B : Type 0} (P : A → Type 0) (Q : B → Type 0) (f : A → B) → ((x : A) → P x → Q (f x)) → (xs : List A) → AllByRecursion P xs → AllByRecursion Q (map f xs)
+pub all_map : {A B : Type 0} (P : A → Type 0) (Q : B → Type 0) (f : A → B) → ((x : A) → P x → Q (f x)) → (xs : List A) →
+    AllByRecursion P xs → AllByRecursion Q (map f xs)
 all_map P Q f h [] all = tt
 all_map P Q f h (x ∷ xs) all = (h x all.0, all_map P Q f h xs all.1)
 
@@ -104,20 +111,23 @@ module _ (rule : Rule) where
 
   held_fits : (c : ℕ) (ws : List HeldWrite) → AllByRecursion FitsWrite ws → FitsSome (total None (join rule) (entry_to rule c) ws)
   held_fits c [] f = tt
-  held_fits c (w ∷ ws) f = both_fit (entry_to rule c w) (total None (join rule) (entry_to rule c) ws) (one_fits c w f.0) (held_fits c ws f.1)
+  held_fits c (w ∷ ws) f = both_fit (entry_to rule c w) (total None (join rule) (entry_to rule c) ws) (one_fits c w f.0)
+      (held_fits c ws f.1)
 
   -- a put that fits, to a cell below n
   abbrev IsPutBelow : ℕ → CellPut → Type 0
   IsPutBelow n x = FitsPut rule x × (x.cell < n)
 
-  puts_fit : (n : ℕ) → n ≤ 2 ^ 20 → (f : ℕ → Option Entry) → ((c : ℕ) → FitsSome (f c)) → (cs : List ℕ) → AllByRecursion (λ c. c < n) cs → AllByRecursion (IsPutBelow n) (filter_map (λ c. put_of c (f c)) cs)
+  puts_fit : (n : ℕ) → n ≤ 2 ^ 20 → (f : ℕ → Option Entry) → ((c : ℕ) → FitsSome (f c)) → (cs : List ℕ) → AllByRecursion (λ c. c < n) cs →
+      AllByRecursion (IsPutBelow n) (filter_map (λ c. put_of c (f c)) cs)
   puts_fit n small f h [] l = tt
   puts_fit n small f h (c ∷ cs) l = go (f c) (h c) (puts_fit n small f h cs l.1)
     where
       inside : c < 2 ^ 20
       inside = let k = l.0 in omega (arith, k, small)
 
-      go : (e : Option Entry) → FitsSome e → AllByRecursion (IsPutBelow n) (filter_map (λ d. put_of d (f d)) cs) → AllByRecursion (IsPutBelow n) (cons_option (put_of c e) (filter_map (λ d. put_of d (f d)) cs))
+      go : (e : Option Entry) → FitsSome e → AllByRecursion (IsPutBelow n) (filter_map (λ d. put_of d (f d)) cs) →
+          AllByRecursion (IsPutBelow n) (cons_option (put_of c e) (filter_map (λ d. put_of d (f d)) cs))
       go None g rest = rest
       go (Some e) g rest = ((record { cell = inside; owner = g.owner; value = g.value }, l.0), rest)
 
@@ -133,21 +143,26 @@ cell_at_below n k [] h = tt
 cell_at_below n zero (o ∷ os) h = h.0
 cell_at_below n (suc k) (o ∷ os) h = cell_at_below n k os h.1
 
-module _ (n : ℕ) (small : n ≤ 2 ^ 20) (s : Worker) (own : AllByRecursion (λ (x : PrivatePart). AllByRecursion (IsCellBelow n) x.asks) s.own) where
+module _ (n : ℕ) (small : n ≤ 2 ^ 20) (s : Worker)
+    (own : AllByRecursion (λ (x : PrivatePart). AllByRecursion (IsCellBelow n) x.asks) s.own) where
   -- an ask that fits, for a cell below n
   abbrev IsAskBelow : CellAsk → Type 0
   IsAskBelow x = FitsAsk x × (x.cell < n)
 
   cells_below : (read : Read) (k : ℕ) → IsCellBelow n read.cell → AllByRecursion (λ c. c < n) (cells_asked s read k)
   cells_below read k h =
-      let each = all_map (λ (x : PrivatePart). AllByRecursion (IsCellBelow n) x.asks) (IsCellBelow n) (λ (x : PrivatePart). cell_at k x.asks) (λ x f. cell_at_below n k x.asks f) s.own own in
+      let each = all_map (λ (x : PrivatePart). AllByRecursion (IsCellBelow n) x.asks) (IsCellBelow n) (λ (x : PrivatePart).
+          cell_at k x.asks) (λ x f. cell_at_below n k x.asks f) s.own own in
       all_firsts (λ c. c < n) _ (all_present n (read.cell ∷ map (λ (x : PrivatePart). cell_at k x.asks) s.own) (h, each))
 
-  asks_fit : (k : ℕ) (reads : List Read) → AllByRecursion (λ (read : Read). IsCellBelow n read.cell) reads → k + length reads ≤ 2 ^ 3 → AllByRecursion IsAskBelow (asks_from s k reads)
+  asks_fit : (k : ℕ) (reads : List Read) → AllByRecursion (λ (read : Read). IsCellBelow n read.cell) reads → k + length reads ≤ 2 ^ 3 →
+      AllByRecursion IsAskBelow (asks_from s k reads)
   asks_fit k [] h l = tt
   asks_fit k (read ∷ rest) h l =
-      all_joined IsAskBelow (map (λ c. record { read = k; cell = c; twice = asked_twice s k c }) (cells_asked s read k)) (asks_from s (k + 1) rest)
-      (all_map (λ c. c < n) IsAskBelow (λ c. record { read = k; cell = c; twice = asked_twice s k c }) (λ c b. (record { cell = omega (arith, b, small); read = omega (arith, l) }, b)) (cells_asked s read k) (cells_below read k h.0))
+      all_joined IsAskBelow (map (λ c. record { read = k; cell = c; twice = asked_twice s k c }) (cells_asked s read k))
+          (asks_from s (k + 1) rest)
+      (all_map (λ c. c < n) IsAskBelow (λ c. record { read = k; cell = c; twice = asked_twice s k c })
+          (λ c b. (record { cell = omega (arith, b, small); read = omega (arith, l) }, b)) (cells_asked s read k) (cells_below read k h.0))
       (asks_fit (k + 1) rest h.1 (omega (arith, l)))
 
 -- ---- values
@@ -174,8 +189,10 @@ sent_can t s j fits = (puts, asks, refl)
     puts =
         all_passed (IsPutBelow t.code.rule t.map.count) (IsPutFor t.code.rule t.map j) (λ (x : CellPut). t.map.part x.cell) j
         (λ x f e. record { fits = f.0; of = record { below = f.1; here = e } }) (puts_held t.code.rule s)
-        (puts_fit t.code.rule t.map.count fits.small (entry_held t.code.rule s) (λ c. held_fits t.code.rule c s.held fits.writes) (firsts (map (λ (x : HeldWrite). x.cell) s.held))
-        (all_firsts (λ c. c < t.map.count) _ (all_map (λ (x : HeldWrite). x.cell < t.map.count) (λ c. c < t.map.count) (λ (x : HeldWrite). x.cell) (λ x l. l) s.held fits.written)))
+        (puts_fit t.code.rule t.map.count fits.small (entry_held t.code.rule s) (λ c. held_fits t.code.rule c s.held fits.writes)
+            (firsts (map (λ (x : HeldWrite). x.cell) s.held))
+        (all_firsts (λ c. c < t.map.count) _ (all_map (λ (x : HeldWrite). x.cell < t.map.count) (λ c. c < t.map.count) (λ (x : HeldWrite).
+            x.cell) (λ x l. l) s.held fits.written)))
 
     asks : AllByRecursion (IsAskFor t.map j) (filter (λ (x : CellAsk). eqb (t.map.part x.cell) j) (asks_held s))
     asks =
@@ -185,7 +202,8 @@ sent_can t s j fits = (puts, asks, refl)
 
 pub replied_can : (t : Setting) (s : Worker) (j : ℕ) → FitsWorker t s → CanBeSent t.code.rule t.map j Replies (replied t s j)
 replied_can t s j fits =
-    (refl, refl, values_fit (λ c. slice_index_or s.cells (t.map.offset c) (pos 0)) (λ c. value_fits s.cells (t.map.offset c) fits.cells) (slice_index_or s.taken j []))
+    (refl, refl, values_fit (λ c. slice_index_or s.cells (t.map.offset c) (pos 0)) (λ c. value_fits s.cells (t.map.offset c) fits.cells)
+        (slice_index_or s.taken j []))
 
 pub sent_back : SentIsReadBack
 sent_back t s j fits = message_back t.code.rule t.map j Sends _ (sent_can t s j fits)

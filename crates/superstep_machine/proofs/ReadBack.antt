@@ -1,5 +1,6 @@
 -- The words of a message give it back.
-use Rattle.std.proofs.Common.{◌≡◌, ℕ, ◌+◌, ◌*◌, ◌^◌, ◌/◌, ◌%◌, ◌<◌, List, [], ◌∷◌, ◌++◌, map, length, take, drop, Bool, true, false, Some, None, ℤ, refl, sym, ap, ◌∙◌, arith, FitsSigned, eqb}
+use Rattle.std.proofs.Common.{◌≡◌, ℕ, ◌+◌, ◌*◌, ◌^◌, ◌/◌, ◌%◌, ◌<◌, List, [], ◌∷◌, ◌++◌, map, length, take, drop, Bool, true, false, Some}
+use Rattle.std.proofs.Common.{None, ℤ, refl, sym, ap, ◌∙◌, arith, FitsSigned, eqb}
 use Rattle.std.specs.Prelude.{if◌then◌else◌, nat_lt, ◌&&◌}
 use Rattle.std.specs.List.{AllByRecursion, filter_map, cons_option, flat_map}
 use Rattle.std.specs.Int.{w64, w128, cast_signed, cast_unsigned}
@@ -14,10 +15,13 @@ use Rattle.pram_model.specs.declared.rule.Rule.{Rule}
 use Rattle.pram_model.specs.declared.rule.Rule.TheVariants.{Erew, Crew, Common, Priority, Sum}
 use Rattle.address_map.specs.Lawful.{Shape}
 use Rattle.superstep_machine.specs.declared.header.MessageHeader.{MessageHeader}
-use Rattle.superstep_machine.specs.Words.{CellPut, CellAsk, Message, bit, word_of, low_word, high_word, value_words, put_words, ask_word, ask_words, values_words, words}
+use Rattle.superstep_machine.specs.Words.{CellPut, CellAsk, Message, bit, word_of, low_word, high_word, value_words, put_words, ask_word}
+use Rattle.superstep_machine.specs.Words.{ask_words, values_words, words}
 use Rattle.superstep_machine.specs.Sending.{join, entry_in, several, asked_in}
 use Rattle.superstep_machine.specs.Run.{Purpose, Sends, Replies, Votes, Closes}
-use Rattle.superstep_machine.specs.WordReading.{header_of, word, is_set, read_value, put_length, read_put, read_ask, groups, put_in, puts_in, ask_in, asks_in, put_part, ask_part, read_message, entry_of_column, askers_of_column}
+use Rattle.superstep_machine.specs.WordReading.{header_of, word, is_set, read_value, put_length, read_put, read_ask, groups, put_in}
+use Rattle.superstep_machine.specs.WordReading.{puts_in, ask_in, asks_in, put_part, ask_part, read_message, entry_of_column}
+use Rattle.superstep_machine.specs.WordReading.{askers_of_column}
 use Rattle.superstep_machine.specs.Fitting.{FitsValue, FitsPut, FitsAsk, IsPutFor, IsAskFor, CanBeSent}
 use Rattle.superstep_machine.specs.WordLaws.{EntriesOfWords, AskersOfWords}
 
@@ -32,7 +36,8 @@ bit_small false = omega arith
 -- ---- puts
 
 sum_back : (z : ℤ) → FitsSigned w128 z → cast_signed w128 (low_word z + 2 ^ 64 * high_word z) ≡ z
-sum_back z f = let n = cast_unsigned w128 z in let e : n % 2 ^ 64 + 2 ^ 64 * (n / 2 ^ 64) ≡ n = omega arith in ap (cast_signed w128) e ∙ to_z-of_z w128 z f
+sum_back z f = let n = cast_unsigned w128 z in let e : n % 2 ^ 64 + 2 ^ 64 * (n / 2 ^ 64) ≡ n = omega arith in ap (cast_signed w128) e
+    ∙ to_z-of_z w128 z f
 
 value_back : (rule : Rule) (a b : ℕ) (z : ℤ) (rest : List ℕ) → FitsValue rule z → read_value rule (a ∷ b ∷ value_words rule z ++ rest) ≡ z
 value_back Erew a b z rest f = to_z-of_z w64 z f
@@ -84,13 +89,16 @@ first_word Sum x = refl
 put_in_back : (rule : Rule) (m : Shape) (j : ℕ) (x : CellPut) → IsPutFor rule m j x → put_in rule m j (put_words rule x) ≡ Some x
 put_in_back rule m j x is =
     let back = put_alone rule x is.fits in
-    let small : word (put_words rule x) 0 < 2 ^ 21 = (let f = first_word rule x in let b = bit_small x.entry.clash in let l = is.fits.cell in omega arith) in
-    ap (λ (y : CellPut). if nat_lt (word (put_words rule x) 0) (2 ^ 21) && nat_lt y.cell m.count && eqb (m.part y.cell) j then Some y else None) back
+    let small : word (put_words rule x) 0 < 2 ^ 21 = (let f = first_word rule x in let b = bit_small x.entry.clash in let l =
+        is.fits.cell in omega arith) in
+    ap (λ (y : CellPut). if nat_lt (word (put_words rule x) 0) (2 ^ 21) && nat_lt y.cell m.count
+        && eqb (m.part y.cell) j then Some y else None) back
     ∙ ap (λ (b : Bool). if b && nat_lt x.cell m.count && eqb (m.part x.cell) j then Some x else None) (lt-ltb _ _ small)
     ∙ ap (λ (b : Bool). if b && eqb (m.part x.cell) j then Some x else None) (lt-ltb _ _ is.of.below)
     ∙ ap (λ (b : Bool). if b then Some x else None) (eq-eqb _ _ is.of.here)
 
-pub puts_back : (rule : Rule) (m : Shape) (j : ℕ) (xs : List CellPut) → AllByRecursion (IsPutFor rule m j) xs → puts_in rule m j (flat_map (put_words rule) xs) ≡ xs
+pub puts_back : (rule : Rule) (m : Shape) (j : ℕ) (xs : List CellPut) → AllByRecursion (IsPutFor rule m j) xs →
+    puts_in rule m j (flat_map (put_words rule) xs) ≡ xs
 puts_back rule m j [] is = none rule
   where
     none : (rule : Rule) → puts_in rule m j [] ≡ []
@@ -150,20 +158,25 @@ module _ (rule : Rule) (m : Shape) (j : ℕ) where
   abbrev Back : Purpose → Message → Type 0
   Back purpose x = read_message rule m j purpose (header_of x) (words rule x) ≡ x
 
-  empty_back : (x : Message) → (x.puts ≡ []) × (x.asks ≡ []) × (x.values ≡ []) → record { key = x.key; mark = x.mark; active = x.active; puts = []; asks = []; values = [] } ≡ x
+  empty_back : (x : Message) → (x.puts ≡ []) × (x.asks ≡ []) × (x.values ≡ []) →
+      record { key = x.key; mark = x.mark; active = x.active; puts = []; asks = []; values = [] } ≡ x
   empty_back x e = λ i. record { key = x.key; mark = x.mark; active = x.active; puts = sym e.0 i; asks = sym e.1 i; values = sym e.2 i }
 
   -- the words of the puts end where the header says
-  put_part_is : (x : Message) (rest : List ℕ) → put_part rule (header_of x) (flat_map (put_words rule) x.puts ++ rest) ≡ flat_map (put_words rule) x.puts
-  put_part_is x rest = ap (λ n. take n (flat_map (put_words rule) x.puts ++ rest)) (sym (puts_long rule x.puts)) ∙ take-append_seam (flat_map (put_words rule) x.puts) rest
+  put_part_is : (x : Message) (rest : List ℕ) → put_part rule (header_of x)
+      (flat_map (put_words rule) x.puts ++ rest) ≡ flat_map (put_words rule) x.puts
+  put_part_is x rest = ap (λ n. take n (flat_map (put_words rule) x.puts ++ rest)) (sym (puts_long rule x.puts))
+      ∙ take-append_seam (flat_map (put_words rule) x.puts) rest
 
   ask_part_is : (x : Message) (rest : List ℕ) → ask_part rule (header_of x) (flat_map (put_words rule) x.puts ++ rest) ≡ rest
-  ask_part_is x rest = ap (λ n. drop n (flat_map (put_words rule) x.puts ++ rest)) (sym (puts_long rule x.puts)) ∙ drop-append_seam (flat_map (put_words rule) x.puts) rest
+  ask_part_is x rest = ap (λ n. drop n (flat_map (put_words rule) x.puts ++ rest)) (sym (puts_long rule x.puts))
+      ∙ drop-append_seam (flat_map (put_words rule) x.puts) rest
 
   pub message_back : (purpose : Purpose) (x : Message) → CanBeSent rule m j purpose x → Back purpose x
   message_back Sends x h =
       let rest : List ℕ = ask_words x.asks ++ [] in
-      let e : words rule x ≡ flat_map (put_words rule) x.puts ++ rest = ap (λ zs. flat_map (put_words rule) x.puts ++ (ask_words x.asks ++ values_words zs)) h.2 in
+      let e : words rule x ≡ flat_map (put_words rule) x.puts ++ rest =
+          ap (λ zs. flat_map (put_words rule) x.puts ++ (ask_words x.asks ++ values_words zs)) h.2 in
       ap (read_message rule m j Sends (header_of x)) e
       ∙ (λ i. record {
         key = x.key;
@@ -174,19 +187,23 @@ module _ (rule : Rule) (m : Shape) (j : ℕ) where
         values = sym h.2 i;
       })
   message_back Replies x h =
-      let e : words rule x ≡ values_words x.values = (λ i. flat_map (put_words rule) (h.0 i) ++ (ask_words (h.1 i) ++ values_words x.values)) in
+      let e : words rule x ≡ values_words x.values =
+          (λ i. flat_map (put_words rule) (h.0 i) ++ (ask_words (h.1 i) ++ values_words x.values)) in
       ap (read_message rule m j Replies (header_of x)) e
-      ∙ (λ i. record { key = x.key; mark = x.mark; active = x.active; puts = sym h.0 i; asks = sym h.1 i; values = values_back x.values h.2 i })
+      ∙ (λ i. record { key = x.key; mark = x.mark; active = x.active; puts = sym h.0 i; asks = sym h.1 i; values =
+          values_back x.values h.2 i })
   message_back (Votes d) x h = empty_back x h
   message_back Closes x h = empty_back x h
 
 -- what came from all workers comes to what the words say
 pub entries_of_words : EntriesOfWords
 entries_of_words rule m j received c =
-    total_map None (join rule) (λ (x : Message). total None (join rule) (entry_in c) x.puts) (λ (r : MessageHeader × List ℕ). read_message rule m j Sends r.0 r.1) received
+    total_map None (join rule) (λ (x : Message). total None (join rule) (entry_in c) x.puts) (λ (r : MessageHeader × List ℕ).
+        read_message rule m j Sends r.0 r.1) received
     ∙ sym (total_map None (join rule) (entry_of_column rule m j c) (λ (r : MessageHeader × List ℕ). put_part rule r.0 r.1) received)
 
 pub askers_of_words : AskersOfWords
 askers_of_words rule m j received k c =
-    total_map None several (λ (x : Message). total None several (asked_in k c) x.asks) (λ (r : MessageHeader × List ℕ). read_message rule m j Sends r.0 r.1) received
+    total_map None several (λ (x : Message). total None several (asked_in k c) x.asks) (λ (r : MessageHeader × List ℕ).
+        read_message rule m j Sends r.0 r.1) received
     ∙ sym (total_map None several (askers_of_column m j k c) (λ (r : MessageHeader × List ℕ). ask_part rule r.0 r.1) received)

@@ -1,5 +1,6 @@
 -- Marks stop all workers, and up to the first one nothing is changed.
-use Rattle.std.proofs.Common.{◌≡◌, ℕ, zero, suc, ◌+◌, ◌<◌, List, [], ◌∷◌, map, drop, Bool, true, false, Option, Some, None, ℤ, refl, sym, ap, ◌∙◌, arith, ◌≤◌, ◌⊎◌, inl, inr, ⊎_elim, pos}
+use Rattle.std.proofs.Common.{◌≡◌, ℕ, zero, suc, ◌+◌, ◌<◌, List, [], ◌∷◌, map, drop, Bool, true, false, Option, Some, None, ℤ, refl, sym}
+use Rattle.std.proofs.Common.{ap, ◌∙◌, arith, ◌≤◌, ◌⊎◌, inl, inr, ⊎_elim, pos}
 use Rattle.std.specs.Prelude.{if◌then◌else◌, slice_index_or}
 use Rattle.std.specs.List.{range_with_len}
 use Rattle.std.proofs.Math.Nat.{eq-or-lt_of_le}
@@ -12,12 +13,19 @@ use Rattle.superstep_machine.specs.Words.{Message}
 use Rattle.superstep_machine.specs.Worker.{Worker}
 use Rattle.superstep_machine.specs.Stretch.{ToSend, ToReply, ToVote, ToClose, Arrival, Nowhere, At}
 use Rattle.superstep_machine.specs.Machine.{column, phase, phases, run}
-use Rattle.superstep_machine.specs.Run.{Purpose, Sends, Replies, Votes, Closes, Way, On, Ending, Past, Refused, Lost, State, Ready, mark_now, marks_later, stopped, stretch, ready_at, ready_by, ready_with, ready, message_for, message_with, message_of, mark_of, after_with, after, is_over, state_of, verdict_by, bsp, opening, outcome_of}
-use Rattle.superstep_machine.specs.Refusals.{with_marks, FirstIsSent, RestIsLeft, mark_of_all, AnyMarkCounts, MemoryGoesFirst, MarkIsAWorkers, MarksStopAll, MarkedRunsEnd, opening_with, mark_at, SameBeforeMarks, SameOutcomeBefore, AllStopAtAMark, NoOutcomeAtAMark}
+use Rattle.superstep_machine.specs.Run.{Purpose, Sends, Replies, Votes, Closes, Way, On, Ending, Past, Refused, Lost, State, Ready}
+use Rattle.superstep_machine.specs.Run.{mark_now, marks_later, stopped, stretch, ready_at, ready_by, ready_with, ready, message_for}
+use Rattle.superstep_machine.specs.Run.{message_with, message_of, mark_of, after_with, after, is_over, state_of, verdict_by, bsp, opening}
+use Rattle.superstep_machine.specs.Run.{outcome_of}
+use Rattle.superstep_machine.specs.Refusals.{with_marks, FirstIsSent, RestIsLeft, mark_of_all, AnyMarkCounts, MemoryGoesFirst}
+use Rattle.superstep_machine.specs.Refusals.{MarkIsAWorkers, MarksStopAll, MarkedRunsEnd, opening_with, mark_at, SameBeforeMarks}
+use Rattle.superstep_machine.specs.Refusals.{SameOutcomeBefore, AllStopAtAMark, NoOutcomeAtAMark}
 
-pub map_within : {A : Type 0} (f g : ℕ → A) (n k : ℕ) → ((o : ℕ) → o < k + n → f o ≡ g o) → map f (range_with_len k n) ≡ map g (range_with_len k n)
+pub map_within : {A : Type 0} (f g : ℕ → A) (n k : ℕ) → ((o : ℕ) → o < k + n → f o ≡ g o) →
+    map f (range_with_len k n) ≡ map g (range_with_len k n)
 map_within f g zero k h = refl
-map_within f g (suc n) k h = ap (λ y. y ∷ map f (range_with_len (k + 1) n)) (h k (omega arith)) ∙ ap (λ t. g k ∷ t) (map_within f g n (k + 1) (λ o l. h o (omega arith)))
+map_within f g (suc n) k h = ap (λ y. y ∷ map f (range_with_len (k + 1) n)) (h k (omega arith))
+    ∙ ap (λ t. g k ∷ t) (map_within f g n (k + 1) (λ o l. h o (omega arith)))
 
 here_or_on : (k w : ℕ) → k ≤ w → (k ≡ w) ⊎ (k + 1 ≤ w)
 here_or_on k w low = ⊎_elim (λ here. inl here) (λ on. inr (omega (arith, on))) (eq-or-lt_of_le low)
@@ -88,7 +96,8 @@ pub memory_goes_first : MemoryGoesFirst
 memory_goes_first t ws w l h = memory_counts (λ v. mark_now (ws v).refusals) w (workers t) 0 (omega arith) (omega (arith, l)) h
 
 pub mark_is_a_workers : MarkIsAWorkers
-mark_is_a_workers t ws h = let r = of_a_worker (λ v. mark_now (ws v).refusals) (workers t) 0 h in let l = r.1 in (r.0, omega (arith, l), r.2)
+mark_is_a_workers t ws h = let r = of_a_worker (λ v. mark_now (ws v).refusals) (workers t) 0 h in let l = r.1 in
+    (r.0, omega (arith, l), r.2)
 
 -- ---- one worker, with other marks to come
 
@@ -103,7 +112,8 @@ module _ (t : Setting) where
   arrives_same marks s (At (ToVote d) place x) = refl
   arrives_same marks s (At (ToClose ended) place x) = refl
 
-  by_same : (w : ℕ) (marks : List HeaderMark) (s : State) (way : Way) → ready_by t w (with_marks marks s) way ≡ to marks (ready_by t w s way)
+  by_same : (w : ℕ) (marks : List HeaderMark) (s : State) (way : Way) →
+      ready_by t w (with_marks marks s) way ≡ to marks (ready_by t w s way)
   by_same w marks s On = arrives_same marks s (stretch t w s)
   by_same w marks s (Ending ended) = refl
   by_same w marks s (Past key ended) = refl
@@ -112,7 +122,8 @@ module _ (t : Setting) where
 
   module _ (w : ℕ) (marks : List HeaderMark) (s : State) (clear : mark_now marks ≡ Clear) (none : s.refusals ≡ []) where
     ready_same : ready t w (with_marks marks s) ≡ to marks (ready t w s)
-    ready_same = ap (ready_with t w (with_marks marks s)) clear ∙ by_same w marks s s.way ∙ ap (λ ms. to marks (ready_with t w s (mark_now ms))) (sym none)
+    ready_same = ap (ready_with t w (with_marks marks s)) clear ∙ by_same w marks s s.way
+        ∙ ap (λ ms. to marks (ready_with t w s (mark_now ms))) (sym none)
 
     pub message_same : (j : ℕ) → message_of t w (with_marks marks s) j ≡ message_of t w s j
     message_same j =
@@ -120,7 +131,8 @@ module _ (t : Setting) where
         ∙ ap (message_with t (to marks (ready t w s)) j) clear
         ∙ ap (λ ms. message_with t (ready t w s) j (mark_now ms)) (sym none)
 
-    pub after_same : (messages : List Message) → mark_of messages ≡ Clear → after t w (ready t w (with_marks marks s)) messages ≡ with_marks (marks_later marks) (after t w (ready t w s) messages)
+    pub after_same : (messages : List Message) → mark_of messages ≡ Clear →
+        after t w (ready t w (with_marks marks s)) messages ≡ with_marks (marks_later marks) (after t w (ready t w s) messages)
     after_same messages h =
         ap (λ r. after t w r messages) ready_same
         ∙ ap (after_with t w (to marks (ready t w s)) messages) h
@@ -159,26 +171,31 @@ module _ (t : Setting) where
     pub marks_are : (w : ℕ) → mark_of (to_worker w) ≡ mark_of_all t ws
     marks_are w =
         total_map Clear worse (λ (m : Message). m.mark) (λ i. message_of t i (ws i) w) (range_with_len 0 (workers t))
-        ∙ total_same Clear worse (λ i. (message_of t i (ws i) w).mark) (λ i. mark_now (ws i).refusals) (λ i. with_mark (ready t i (ws i)) w (mark_now (ws i).refusals)) (range_with_len 0 (workers t))
+        ∙ total_same Clear worse (λ i. (message_of t i (ws i) w).mark) (λ i. mark_now (ws i).refusals)
+            (λ i. with_mark (ready t i (ws i)) w (mark_now (ws i).refusals)) (range_with_len 0 (workers t))
 
     -- a mark stops, whatever came
-    by_a_mark : (w : ℕ) (r : Ready) (messages : List Message) (mark : HeaderMark) → (mark ≡ Clear → ⊥) → after_with t w r messages mark ≡ stopped mark
+    by_a_mark : (w : ℕ) (r : Ready) (messages : List Message) (mark : HeaderMark) → (mark ≡ Clear → ⊥) →
+        after_with t w r messages mark ≡ stopped mark
     by_a_mark w r messages Clear h = absurd (h refl)
     by_a_mark w r messages OutOfMemory h = refl
     by_a_mark w r messages OutOfReserve h = refl
 
     pub all_stop : (mark_of_all t ws ≡ Clear → ⊥) → (w : ℕ) → phase (bsp t) (workers t) ws w ≡ stopped (mark_of_all t ws)
-    all_stop h w = ap (after_with t w (ready t w (ws w)) (to_worker w)) (marks_are w) ∙ by_a_mark w (ready t w (ws w)) (to_worker w) (mark_of_all t ws) h
+    all_stop h w = ap (after_with t w (ready t w (ws w)) (to_worker w)) (marks_are w)
+        ∙ by_a_mark w (ready t w (ws w)) (to_worker w) (mark_of_all t ws) h
 
   -- where all have stopped there is no outcome
-  no_outcome : (p : ℕ) (us : ℕ → State) (mark : HeaderMark) → ((w : ℕ) → us w ≡ stopped mark) → outcome_of t (map us (range_with_len 0 p)) ≡ None
+  no_outcome : (p : ℕ) (us : ℕ → State) (mark : HeaderMark) → ((w : ℕ) → us w ≡ stopped mark) →
+      outcome_of t (map us (range_with_len 0 p)) ≡ None
   no_outcome zero us mark h = refl
   no_outcome (suc p) us mark h = ap (λ s. outcome_of t (s ∷ map us (range_with_len 1 p))) (h 0)
 
   -- and the run is over
   ends : (us : ℕ → State) (mark : HeaderMark) → ((w : ℕ) → us w ≡ stopped mark) → (n : ℕ) → run (bsp t) (workers t) (suc n) us ≡ Some None
   ends us mark h n =
-      ap (λ (s : State). if is_over s.way then Some (outcome_of t (map us (range_with_len 0 (workers t)))) else run (bsp t) (workers t) n (phase (bsp t) (workers t) us)) (h 0)
+      ap (λ (s : State). if is_over s.way then Some (outcome_of t (map us (range_with_len 0 (workers t)))) else run (bsp t) (workers t) n
+          (phase (bsp t) (workers t) us)) (h 0)
       ∙ ap (λ o. Some o) (no_outcome (workers t) us mark h)
 
 pub marks_stop_all : MarksStopAll
@@ -186,7 +203,8 @@ marks_stop_all t ws h = all_stop t ws h
 
 pub marked_runs_end : MarkedRunsEnd
 marked_runs_end t ws h going n =
-    ap (λ b. if b then Some (outcome_of t (map ws (range_with_len 0 (workers t)))) else run (bsp t) (workers t) (suc n) (phase (bsp t) (workers t) ws)) going
+    ap (λ b. if b then Some (outcome_of t (map ws (range_with_len 0 (workers t)))) else run (bsp t) (workers t) (suc n)
+        (phase (bsp t) (workers t) ws)) going
     ∙ ends t (phase (bsp t) (workers t) ws) (mark_of_all t ws) (all_stop t ws h) n
 
 -- ---- whole runs
@@ -210,15 +228,19 @@ module _ (t : Setting) where
       total_within Clear worse (λ w. mark_now (ws w).refusals) (λ w. Clear) (workers t) 0 (λ w l. ap mark_now (h w (omega (arith, l))))
       ∙ nothing (range_with_len 0 (workers t))
 
-  marks_then : (marks : ℕ → List HeaderMark) (us ws : ℕ → State) → AreSame marks us ws → mark_of_all t us ≡ mark_among (λ w. mark_now (marks w)) (range_with_len 0 (workers t))
+  marks_then : (marks : ℕ → List HeaderMark) (us ws : ℕ → State) → AreSame marks us ws →
+      mark_of_all t us ≡ mark_among (λ w. mark_now (marks w)) (range_with_len 0 (workers t))
   marks_then marks us ws h =
-      total_within Clear worse (λ w. mark_now (us w).refusals) (λ w. mark_now (marks w)) (workers t) 0 (λ w l. ap (λ (s : State). mark_now s.refusals) (h w (omega (arith, l))).0)
+      total_within Clear worse (λ w. mark_now (us w).refusals) (λ w. mark_now (marks w)) (workers t) 0
+          (λ w l. ap (λ (s : State). mark_now s.refusals) (h w (omega (arith, l))).0)
 
-  module _ (marks : ℕ → List HeaderMark) (us ws : ℕ → State) (h : AreSame marks us ws) (clear : (w : ℕ) → w < workers t → mark_now (marks w) ≡ Clear) where
+  module _ (marks : ℕ → List HeaderMark) (us ws : ℕ → State) (h : AreSame marks us ws)
+      (clear : (w : ℕ) → w < workers t → mark_now (marks w) ≡ Clear) where
     columns_same : (w : ℕ) → column (bsp t) (workers t) us w ≡ column (bsp t) (workers t) ws w
     columns_same w =
         map_within (λ i. message_of t i (us i) w) (λ i. message_of t i (ws i) w) (workers t) 0
-        (λ i l. let k : i < workers t = omega (arith, l) in ap (λ s. message_of t i s w) (h i k).0 ∙ message_same t i (marks i) (ws i) (clear i k) (h i k).1 w)
+        (λ i l. let k : i < workers t = omega (arith, l) in ap (λ s. message_of t i s w) (h i k).0
+            ∙ message_same t i (marks i) (ws i) (clear i k) (h i k).1 w)
 
     column_clear : (w : ℕ) → mark_of (column (bsp t) (workers t) ws w) ≡ Clear
     column_clear w = marks_are t ws w ∙ all_clear ws (λ v l. (h v l).1)
@@ -240,13 +262,17 @@ module _ (t : Setting) where
   later_clear : (marks : ℕ → List HeaderMark) (n : ℕ) → IsClear marks (suc n) → IsClear (λ w. marks_later (marks w)) n
   later_clear marks n c k w l m = ap mark_now (drop_later k (marks w)) ∙ c (suc k) w (omega (arith, l)) m
 
-  phases_same : (n : ℕ) (marks : ℕ → List HeaderMark) (us ws : ℕ → State) → AreSame marks us ws → IsClear marks n → AreSame (λ w. drop n (marks w)) (phases (bsp t) (workers t) n us) (phases (bsp t) (workers t) n ws)
+  phases_same : (n : ℕ) (marks : ℕ → List HeaderMark) (us ws : ℕ → State) → AreSame marks us ws → IsClear marks n →
+      AreSame (λ w. drop n (marks w)) (phases (bsp t) (workers t) n us) (phases (bsp t) (workers t) n ws)
   phases_same zero marks us ws h c = h
   phases_same (suc n) marks us ws h c =
-      let r = phases_same n (λ w. marks_later (marks w)) (phase (bsp t) (workers t) us) (phase (bsp t) (workers t) ws) (step_same marks us ws h (λ w. c 0 w (omega arith))) (later_clear marks n c) in
-      λ w l. ((r w l).0 ∙ ap (λ ms. with_marks ms (phases (bsp t) (workers t) n (phase (bsp t) (workers t) ws) w)) (drop_later n (marks w)), (r w l).1)
+      let r = phases_same n (λ w. marks_later (marks w)) (phase (bsp t) (workers t) us) (phase (bsp t) (workers t) ws)
+          (step_same marks us ws h (λ w. c 0 w (omega arith))) (later_clear marks n c) in
+      λ w l. ((r w l).0 ∙ ap (λ ms. with_marks ms (phases (bsp t) (workers t) n (phase (bsp t) (workers t) ws) w)) (drop_later n (marks w)),
+          (r w l).1)
 
-  phases_last : (n : ℕ) (us : ℕ → State) → phases (bsp t) (workers t) (suc n) us ≡ phase (bsp t) (workers t) (phases (bsp t) (workers t) n us)
+  phases_last : (n : ℕ) (us : ℕ → State) → phases (bsp t) (workers t) (suc n) us ≡ phase (bsp t) (workers t)
+      (phases (bsp t) (workers t) n us)
   phases_last zero us = refl
   phases_last (suc n) us = phases_last n (phase (bsp t) (workers t) us)
 
@@ -255,57 +281,71 @@ module _ (t : Setting) where
   abbrev bare : State → State
   bare s = with_marks [] s
 
-  bare_same : (f g : ℕ → State) (n k w : ℕ) → ((v : ℕ) → v < k + n → bare (f v) ≡ bare (g v)) → bare (state_of (map f (range_with_len k n)) w) ≡ bare (state_of (map g (range_with_len k n)) w)
+  bare_same : (f g : ℕ → State) (n k w : ℕ) → ((v : ℕ) → v < k + n → bare (f v) ≡ bare (g v)) →
+      bare (state_of (map f (range_with_len k n)) w) ≡ bare (state_of (map g (range_with_len k n)) w)
   bare_same f g zero k w h = refl
   bare_same f g (suc n) k zero h = h k (omega arith)
   bare_same f g (suc n) k (suc w) h = bare_same f g n (k + 1) w (λ v l. h v (omega (arith, l)))
 
-  outcome_same : (marks : ℕ → List HeaderMark) (us ws : ℕ → State) → AreSame marks us ws → outcome_of t (map us (range_with_len 0 (workers t))) ≡ outcome_of t (map ws (range_with_len 0 (workers t)))
+  outcome_same : (marks : ℕ → List HeaderMark) (us ws : ℕ → State) → AreSame marks us ws →
+      outcome_of t (map us (range_with_len 0 (workers t))) ≡ outcome_of t (map ws (range_with_len 0 (workers t)))
   outcome_same marks us ws h =
-      let e : (w : ℕ) → bare (state_of (map us (range_with_len 0 (workers t))) w) ≡ bare (state_of (map ws (range_with_len 0 (workers t))) w) =
+      let e : (w : ℕ) → bare (state_of (map us (range_with_len 0 (workers t))) w) ≡ bare
+          (state_of (map ws (range_with_len 0 (workers t))) w) =
       λ w. bare_same us ws (workers t) 0 w (λ v l. ap bare (h v (omega (arith, l))).0) in
-      ap (λ (at : ℕ → State). verdict_by (at 0).way (at 0).worker.uniform.output (map (λ c. slice_index_or (at (t.map.part c)).worker.cells (t.map.offset c) (pos 0)) (all_cells t))) (λ i w. e w i)
+      ap (λ (at : ℕ → State). verdict_by (at 0).way (at 0).worker.uniform.output
+          (map (λ c. slice_index_or (at (t.map.part c)).worker.cells (t.map.offset c) (pos 0)) (all_cells t))) (λ i w. e w i)
 
   module _ (some : 0 < workers t) where
     over_same : (marks : ℕ → List HeaderMark) (us ws : ℕ → State) → AreSame marks us ws → is_over (us 0).way ≡ is_over (ws 0).way
     over_same marks us ws h = ap (λ (s : State). is_over s.way) (h 0 some).0
 
-    run_same : (n : ℕ) (marks : ℕ → List HeaderMark) (us ws : ℕ → State) → AreSame marks us ws → IsClear marks n → run (bsp t) (workers t) (suc n) us ≡ run (bsp t) (workers t) (suc n) ws
+    run_same : (n : ℕ) (marks : ℕ → List HeaderMark) (us ws : ℕ → State) → AreSame marks us ws → IsClear marks n → run (bsp t) (workers t)
+        (suc n) us ≡ run (bsp t) (workers t) (suc n) ws
     run_same zero marks us ws h c = λ i. if over_same marks us ws h i then Some (outcome_same marks us ws h i) else None
     run_same (suc n) marks us ws h c =
         λ i. if over_same marks us ws h i then Some (outcome_same marks us ws h i)
-        else run_same n (λ w. marks_later (marks w)) (phase (bsp t) (workers t) us) (phase (bsp t) (workers t) ws) (step_same marks us ws h (λ w. c 0 w (omega arith))) (later_clear marks n c) i
+        else run_same n (λ w. marks_later (marks w)) (phase (bsp t) (workers t) us) (phase (bsp t) (workers t) ws)
+            (step_same marks us ws h (λ w. c 0 w (omega arith))) (later_clear marks n c) i
 
     -- what isn't over goes on
     going : {A : Type 0} (b : Bool) (x : A) (y : Option A) → (if b then Some x else y) ≡ None → (b ≡ false) × (y ≡ None)
     going true x y e = absurd (cc e)
     going false x y e = (refl, e)
 
-    no_end : (n m : ℕ) → n + 2 ≤ m → (marks : ℕ → List HeaderMark) (us ws : ℕ → State) → AreSame marks us ws → IsClear marks n → (mark_at t marks n ≡ Clear → ⊥) → run (bsp t) (workers t) (suc n) ws ≡ None → run (bsp t) (workers t) m us ≡ Some None
+    no_end : (n m : ℕ) → n + 2 ≤ m → (marks : ℕ → List HeaderMark) (us ws : ℕ → State) → AreSame marks us ws → IsClear marks n →
+        (mark_at t marks n ≡ Clear → ⊥) → run (bsp t) (workers t) (suc n) ws ≡ None → run (bsp t) (workers t) m us ≡ Some None
     no_end n zero l marks us ws h c bad e = absurd (omega arith)
     no_end zero (suc zero) l marks us ws h c bad e = absurd (omega arith)
     no_end zero (suc (suc m)) l marks us ws h c bad e =
-        marked_runs_end t us (λ k. bad (sym (marks_then marks us ws h) ∙ k)) (over_same marks us ws h ∙ (going (is_over (ws 0).way) _ None e).0) m
+        marked_runs_end t us (λ k. bad (sym (marks_then marks us ws h) ∙ k)) (over_same marks us ws h
+            ∙ (going (is_over (ws 0).way) _ None e).0) m
     no_end (suc n) (suc m) l marks us ws h c bad e =
         let g = going (is_over (ws 0).way) _ (run (bsp t) (workers t) (suc n) (phase (bsp t) (workers t) ws)) e in
-        ap (λ b. if b then Some (outcome_of t (map us (range_with_len 0 (workers t)))) else run (bsp t) (workers t) m (phase (bsp t) (workers t) us)) (over_same marks us ws h ∙ g.0)
-        ∙ no_end n m (omega (arith, l)) (λ w. marks_later (marks w)) (phase (bsp t) (workers t) us) (phase (bsp t) (workers t) ws) (step_same marks us ws h (λ w. c 0 w (omega arith))) (later_clear marks n c)
-        (λ k. bad (ap (λ (f : ℕ → List HeaderMark). mark_among (λ w. mark_now (f w)) (range_with_len 0 (workers t))) (sym (λ i w. drop_later n (marks w) i)) ∙ k)) g.1
+        ap (λ b. if b then Some (outcome_of t (map us (range_with_len 0 (workers t)))) else run (bsp t) (workers t) m
+            (phase (bsp t) (workers t) us)) (over_same marks us ws h ∙ g.0)
+        ∙ no_end n m (omega (arith, l)) (λ w. marks_later (marks w)) (phase (bsp t) (workers t) us) (phase (bsp t) (workers t) ws)
+            (step_same marks us ws h (λ w. c 0 w (omega arith))) (later_clear marks n c)
+        (λ k. bad (ap (λ (f : ℕ → List HeaderMark). mark_among (λ w. mark_now (f w)) (range_with_len 0 (workers t)))
+            (sym (λ i w. drop_later n (marks w) i)) ∙ k)) g.1
 
   opens : (input : List ℤ) (marks : ℕ → List HeaderMark) → AreSame marks (opening_with t input marks) (opening t input)
   opens input marks w l = (refl, refl)
 
 pub same_before_marks : SameBeforeMarks
-same_before_marks t input marks n c w l = (phases_same t n marks (opening_with t input marks) (opening t input) (opens t input marks) c w l).0
+same_before_marks t input marks n c w l =
+    (phases_same t n marks (opening_with t input marks) (opening t input) (opens t input marks) c w l).0
 
 pub same_outcome_before : SameOutcomeBefore
-same_outcome_before t input marks n some c outcome e = run_same t some n marks (opening_with t input marks) (opening t input) (opens t input marks) c ∙ e
+same_outcome_before t input marks n some c outcome e =
+    run_same t some n marks (opening_with t input marks) (opening t input) (opens t input marks) c ∙ e
 
 pub all_stop_at_a_mark : AllStopAtAMark
 all_stop_at_a_mark t input marks n c bad w =
     let us = opening_with t input marks in
     let e : mark_of_all t (phases (bsp t) (workers t) n us) ≡ mark_at t marks n =
-    marks_then t (λ v. drop n (marks v)) (phases (bsp t) (workers t) n us) (phases (bsp t) (workers t) n (opening t input)) (phases_same t n marks us (opening t input) (opens t input marks) c) in
+    marks_then t (λ v. drop n (marks v)) (phases (bsp t) (workers t) n us) (phases (bsp t) (workers t) n (opening t input))
+        (phases_same t n marks us (opening t input) (opens t input marks) c) in
     ap (λ (f : ℕ → State). f w) (phases_last t n us) ∙ all_stop t (phases (bsp t) (workers t) n us) (λ k. bad (sym e ∙ k)) w ∙ ap stopped e
 
 pub no_outcome_at_a_mark : NoOutcomeAtAMark

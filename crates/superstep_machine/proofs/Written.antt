@@ -26,15 +26,18 @@ module _ (rule : Rule) where
   sum_is c (x ∷ writes) = go (eqb x.cell c) (sum_is c writes)
     where
       go : (b : Bool) → total None (join rule) (entry_to rule c) writes ≡ sum (writers_of c writes)
-          → join rule (if b then Some ((combining rule).single x.processor x.value) else None) (total None (join rule) (entry_to rule c) writes)
-          ≡ sum (map (λ (y : HeldWrite). record { processor = y.processor; value = y.value }) (cond b (x ∷ filter (λ (y : HeldWrite). eqb y.cell c) writes) (filter (λ (y : HeldWrite). eqb y.cell c) writes)))
+          → join rule (if b then Some ((combining rule).single x.processor x.value) else None)
+              (total None (join rule) (entry_to rule c) writes)
+          ≡ sum (map (λ (y : HeldWrite). record { processor = y.processor; value = y.value })
+              (cond b (x ∷ filter (λ (y : HeldWrite). eqb y.cell c) writes) (filter (λ (y : HeldWrite). eqb y.cell c) writes)))
       go true e = ap (join rule (Some ((combining rule).single x.processor x.value))) e
       go false e = e
 
   -- one by one, from the first on
   joined_is : (a : Entry) (ws : List Write) → join rule (Some a) (sum ws) ≡ Some (fold (combining rule).join a (map one ws))
   joined_is a [] = refl
-  joined_is a (v ∷ ws) = sym ((entries_are_monoid rule).associative (Some a) (Some (one v)) (sum ws)) ∙ joined_is ((combining rule).join a (one v)) ws
+  joined_is a (v ∷ ws) = sym ((entries_are_monoid rule).associative (Some a) (Some (one v)) (sum ws))
+      ∙ joined_is ((combining rule).join a (one v)) ws
 
 pub entries_of_all : EntriesOfAll
 entries_of_all rule c [] = refl
@@ -44,7 +47,8 @@ entries_of_all rule c (s ∷ ss) =
 
 pub writers_get_the_rule : WritersGetTheRule
 writers_get_the_rule rule c writes w ws is apart =
-    ap (verdict_on rule) (sum_is rule c writes ∙ ap (sum rule) is ∙ joined_is rule (one rule w) ws) ∙ ap (λ v. Some v) ((combining_carries rule).meets w ws apart)
+    ap (verdict_on rule) (sum_is rule c writes ∙ ap (sum rule) is ∙ joined_is rule (one rule w) ws)
+        ∙ ap (λ v. Some v) ((combining_carries rule).meets w ws apart)
 
 pub no_writers_no_verdict : NoWritersNoVerdict
 no_writers_no_verdict rule c writes is = ap (verdict_on rule) (sum_is rule c writes ∙ ap (sum rule) is)

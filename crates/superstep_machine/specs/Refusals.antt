@@ -68,7 +68,8 @@ mark_at t marks n = mark_among (λ w. mark_now (drop n (marks w))) (range_with_l
 abbrev pub SameBeforeMarks : Type 0
 SameBeforeMarks = (t : Setting) (input : List ℤ) (marks : ℕ → List HeaderMark) (n : ℕ) → AreClearBefore t marks n → (w : ℕ) →
     w < workers t →
-    phases (bsp t) (workers t) n (opening_with t input marks) w ≡ with_marks (drop n (marks w)) (phases (bsp t) (workers t) n (opening t input) w)
+    phases (bsp t) (workers t) n (opening_with t input marks) w ≡ with_marks (drop n (marks w))
+        (phases (bsp t) (workers t) n (opening t input) w)
 
 -- .. with the outcome of that where it is over by then; ..
 abbrev pub SameOutcomeBefore : Type 0

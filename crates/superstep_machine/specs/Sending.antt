@@ -1,5 +1,6 @@
 -- The message of a send, and what a module does with a column of them.
-use Rattle.std.specs.Prelude.{ℕ, zero, suc, ◌+◌, List, [], ◌∷◌, ◌++◌, map, Bool, true, false, not, ◌&&◌, Option, Some, None, Ok, Err, ℤ, if◌then◌else◌}
+use Rattle.std.specs.Prelude.{ℕ, zero, suc, ◌+◌, List, [], ◌∷◌, ◌++◌, map, Bool, true, false, not, ◌&&◌, Option, Some, None, Ok, Err, ℤ}
+use Rattle.std.specs.Prelude.{if◌then◌else◌}
 use Rattle.std.specs.List.{filter, filter_map, zip, range_with_len}
 use Rattle.std.proofs.Common.{eqb}
 use Rattle.pram_values.specs.declared.kind.Kind.{Kind}
@@ -81,7 +82,8 @@ asked_twice s k c = is_several (total None several (λ (x : PrivatePart). asks_f
 -- read by read from number k on, what the worker asks for
 abbrev pub asks_from : Worker → ℕ → List Read → List CellAsk
 asks_from s k [] = []
-asks_from s k (read ∷ rest) = map (λ c. record { read = k; cell = c; twice = asked_twice s k c }) (cells_asked s read k) ++ asks_from s (k + 1) rest
+asks_from s k (read ∷ rest) = map (λ c. record { read = k; cell = c; twice = asked_twice s k c }) (cells_asked s read k)
+    ++ asks_from s (k + 1) rest
 
 abbrev pub asks_held : Worker → List CellAsk
 asks_held s = asks_from s 0 s.uniform.asks
@@ -141,7 +143,8 @@ is_private Uniform = false
 -- the conflicts of one private read; all workers ask by a uniform one, and that is none
 abbrev pub read_conflict : List Message → List ℕ → ℕ → Read → Option Key
 read_conflict column cells k read =
-    total None least (λ c. if is_private read.side && is_several (askers_came column k c) then Some (conflict_at read.moment c ReadConflict) else None) cells
+    total None least (λ c. if is_private read.side
+        && is_several (askers_came column k c) then Some (conflict_at read.moment c ReadConflict) else None) cells
 
 -- read by read from number k on
 abbrev pub read_conflicts : List Message → List ℕ → ℕ → List Read → Option Key
@@ -168,7 +171,8 @@ abbrev pub after_send : Setting → ℕ → Worker → List Message → Worker
 after_send t w s column = record {
   uniform = uniform_sent s.uniform;
   own = map own_sent s.own;
-  cells = map (λ x. settled (verdict_on t.code.rule (entry_came t.code.rule column (t.map.cell w x.0))) x.1) (zip (range_with_len 0 (t.map.width w)) s.cells);
+  cells = map (λ x. settled (verdict_on t.code.rule (entry_came t.code.rule column (t.map.cell w x.0))) x.1)
+      (zip (range_with_len 0 (t.map.width w)) s.cells);
   held = [];
   key = least s.key (conflicts t w s.uniform column);
   wanted = asks_held s;

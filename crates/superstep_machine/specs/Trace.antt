@@ -48,7 +48,8 @@ abbrev pub relation_of : Exchange → ℕ
 relation_of e = if nat_le (greatest e.sent) (greatest e.received) then greatest e.received else greatest e.sent
 
 -- the exchanges of the run that ends by the verdict
-pub record AreBspExchanges (code : SuperstepCode) (map : Shape) (input : List ℤ) (bound : ℕ) (verdict : Verdict) (exchanges : List Exchange) : Type 0 where
+pub record AreBspExchanges (code : SuperstepCode) (map : Shape) (input : List ℤ) (bound : ℕ) (verdict : Verdict)
+    (exchanges : List Exchange) : Type 0 where
   pub enough : ℕ
   pub most : ℕ
   pub ends : outcome_by (setting code map bound enough) most input ≡ Some (Some verdict)

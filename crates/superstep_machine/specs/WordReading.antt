@@ -1,6 +1,7 @@
 -- Reading words back: from a header and the words behind it the message to a module. It takes any words, and passes over those that
 -- no worker writes for the module.
-use Rattle.std.specs.Prelude.{ℕ, ◌+◌, ◌*◌, ◌^◌, ◌/◌, ◌%◌, List, [], ◌∷◌, map, length, take, drop, Bool, ◌&&◌, Option, Some, None, ℤ, nat_lt, slice_index_or, if◌then◌else◌}
+use Rattle.std.specs.Prelude.{ℕ, ◌+◌, ◌*◌, ◌^◌, ◌/◌, ◌%◌, List, [], ◌∷◌, map, length, take, drop, Bool, ◌&&◌, Option, Some, None, ℤ, nat_lt}
+use Rattle.std.specs.Prelude.{slice_index_or, if◌then◌else◌}
 use Rattle.std.specs.List.{filter_map}
 use Rattle.std.specs.Int.{w64, w128, cast_signed}
 use Rattle.std.proofs.Common.{eqb}
@@ -94,7 +95,8 @@ read_message rule m j Sends h words = record {
   asks = asks_in m j (ask_part rule h words);
   values = [];
 }
-read_message rule m j Replies h words = record { key = h.key; mark = h.mark; active = h.active; puts = []; asks = []; values = map (cast_signed w64) words }
+read_message rule m j Replies h words = record { key = h.key; mark = h.mark; active = h.active; puts = []; asks = []; values =
+    map (cast_signed w64) words }
 read_message rule m j purpose h words = record { key = h.key; mark = h.mark; active = h.active; puts = []; asks = []; values = [] }
 
 -- ---- what the words of some columns come to

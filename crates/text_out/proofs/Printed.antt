@@ -1,5 +1,6 @@
 -- Printing one part behind the other, and the elements of a list.
-use Rattle.std.proofs.Common.{◌≡◌, ℕ, List, [], ◌∷◌, ◌++◌, Bool, true, false, refl, sym, ap, ◌∙◌, subst, append_assoc, suc, ◌+◌, ◌<◌, ◌≤◌, length, drop, drop-cons, get_or, add-one}
+use Rattle.std.proofs.Common.{◌≡◌, ℕ, List, [], ◌∷◌, ◌++◌, Bool, true, false, refl, sym, ap, ◌∙◌, subst, append_assoc, suc, ◌+◌, ◌<◌, ◌≤◌}
+use Rattle.std.proofs.Common.{length, drop, drop-cons, get_or, add-one}
 use Rattle.std.proofs.lemmas.List.{append-nil, drop_all}
 use Rattle.text_out.specs.Out.{OutState, StopsIn, with_bytes}
 use Rattle.text_out.specs.Printing.{Printing, Prints, PrintsBy, printing}
@@ -39,7 +40,8 @@ module _ {A : Type 0} (all : List A → List ℕ) where
   printed_none s xs = record { front = []; prints = prints_nothing s; whole = refl }
 
   -- one turn of a loop over them
-  pub printed_more : (text : A → List ℕ) → ((y : A) (ys : List A) → all (y ∷ ys) ≡ text y ++ all ys) → (start now next : Printing) (xs : List A) (i : ℕ) (x : A) → PrintedTo all start now xs i →
+  pub printed_more : (text : A → List ℕ) → ((y : A) (ys : List A) → all (y ∷ ys) ≡ text y ++ all ys) → (start now next : Printing)
+      (xs : List A) (i : ℕ) (x : A) → PrintedTo all start now xs i →
       i < length xs → x ≡ get_or xs i x → Prints now next (text x) → PrintedTo all start next xs (i + 1)
   printed_more text more start now next xs i x before within is prints =
       let rest = drop (suc i) xs in
@@ -52,9 +54,11 @@ module _ {A : Type 0} (all : List A → List ℕ) where
             ∙ ap (λ l. before.front ++ l) (sym (more x rest) ∙ ap all (sym cons)) ∙ before.whole;
       }
 
-  pub printed_all : (start now : Printing) (xs : List A) (i : ℕ) → all [] ≡ [] → length xs ≤ i → PrintedTo all start now xs i → Prints start now (all xs)
+  pub printed_all : (start now : Printing) (xs : List A) (i : ℕ) → all [] ≡ [] → length xs ≤ i → PrintedTo all start now xs i →
+      Prints start now (all xs)
   printed_all start now xs i none past before =
-      printed_as (sym before.whole ∙ ap (λ l. before.front ++ all l) (drop_all i xs past) ∙ ap (λ l. before.front ++ l) none ∙ append-nil before.front) before.prints
+      printed_as (sym before.whole ∙ ap (λ l. before.front ++ all l) (drop_all i xs past) ∙ ap (λ l. before.front ++ l) none
+          ∙ append-nil before.front) before.prints
 
 -- what is known at the end of a printing that began with a writer that had not failed
 

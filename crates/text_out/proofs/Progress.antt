@@ -27,20 +27,24 @@ goes_on old now new all left piece rest p next more = record {
 pub stops : (old now new : OutState) (all left piece rest : List ℕ)
     → Progress old now all left → left ≡ piece ++ rest → StopsIn now new piece → StopsIn old new all
 stops old now new all left piece rest p next s =
-    subst (StopsIn old new) (sym (p.whole ∙ ap (λ l. p.front ++ l) next)) (stops_behind old now new p.front (piece ++ rest) p.taken (stops_before rest s))
+    subst (StopsIn old new) (sym (p.whole ∙ ap (λ l. p.front ++ l) next)) (stops_behind old now new p.front (piece
+        ++ rest) p.taken (stops_before rest s))
 
 pub ends : (old new : OutState) (all left : List ℕ) → Progress old new all left → left ≡ [] → new ≡ with_bytes old all
 ends old new all left p over = p.taken ∙ ap (with_bytes old) (sym (p.whole ∙ ap (λ l. p.front ++ l) over ∙ append-nil p.front))
 
 -- the last piece, whatever comes of it
-pub closes : {E : Type 0} (old now new : OutState) (all left : List ℕ) (r : Result Unit E) → Progress old now all left → Writes now new left r → Writes old new all r
-closes old now new all left (Ok u) p written = ends old new all [] (goes_on old now new all left left [] p (sym (append-nil left)) written) refl
+pub closes : {E : Type 0} (old now new : OutState) (all left : List ℕ) (r : Result Unit E) → Progress old now all left →
+    Writes now new left r → Writes old new all r
+closes old now new all left (Ok u) p written =
+    ends old new all [] (goes_on old now new all left left [] p (sym (append-nil left)) written) refl
 closes old now new all left (Err e) p stopped = stops old now new all left left [] p (sym (append-nil left)) stopped
 
 -- a piece at which the writer stopped, by an error that is handed on
 pub breaks_off : {E : Type 0} (old now new : OutState) (all left piece rest : List ℕ) (r : Result Unit E) (P : E → Type 0)
     → IsErrAnd r P → Progress old now all left → left ≡ piece ++ rest → StopsIn now new piece → Writes old new all r
-breaks_off old now new all left piece rest r P is p next s = writes_stopped old new all r P is (stops old now new all left piece rest p next s)
+breaks_off old now new all left piece rest r P is p next s =
+    writes_stopped old new all r P is (stops old now new all left piece rest p next s)
 
 -- a writer that took a beginning of what is left
 pub takes : (old now new : OutState) (all left rest : List ℕ) (n : ℕ)
@@ -51,4 +55,5 @@ takes old now new all left rest n p next more =
 -- a writer that failed, and took nothing
 pub fails : (old now new : OutState) (all left : List ℕ) → Progress old now all left → new ≡ with_failure now → StopsIn old new all
 fails old now new all left p failed =
-    stops old now new all left [] left p refl (record { front = []; rest = []; whole = refl; stopped = failed ∙ ap with_failure (with_bytes-nothing now) })
+    stops old now new all left [] left p refl (record { front = []; rest = []; whole = refl; stopped =
+        failed ∙ ap with_failure (with_bytes-nothing now) })

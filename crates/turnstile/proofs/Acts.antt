@@ -1,5 +1,6 @@
 -- What a seat carries after a step tells what is at home then, so the steps of the table are those of the law.
-use Rattle.std.proofs.Common.{◌≡◌, ℕ, zero, suc, ◌+◌, ◌<◌, ◌≤◌, Bool, true, false, Option, Some, [], ◌∷◌, map, get_or, set, length, nat_le, sym, refl, ap, ◌∙◌, subst, length-set, eq-eqb, ne_eqb, leb-true, leb-false, arith}
+use Rattle.std.proofs.Common.{◌≡◌, ℕ, zero, suc, ◌+◌, ◌<◌, ◌≤◌, Bool, true, false, Option, Some, [], ◌∷◌, map, get_or, set, length, nat_le}
+use Rattle.std.proofs.Common.{sym, refl, ap, ◌∙◌, subst, length-set, eq-eqb, ne_eqb, leb-true, leb-false, arith}
 use mathlib.Core.Logic.{dite}
 use mathlib.Core.Option.{none, some}
 use native.Mathlib.Decide.{ℕ_discrete}
@@ -15,7 +16,8 @@ use Rattle.turnstile.specs.declared.views.View.{View}
 use Rattle.turnstile.specs.Blocks.{TwoBlocks}
 use Rattle.turnstile.specs.Turns.{message, slot, saw, phase, Homes, Carried, seated, looked, finished, looks_at}
 use Rattle.turnstile.specs.Loads.{loaded, homes_with}
-use Rattle.turnstile.specs.Interleavings.{Core, changed, piece_in, seen_by, if_new, IsElsewhere, AreOut, core_of, FinishesAreTheTables, LooksAreTheTables}
+use Rattle.turnstile.specs.Interleavings.{Core, changed, piece_in, seen_by, if_new, IsElsewhere, AreOut, core_of, FinishesAreTheTables}
+use Rattle.turnstile.specs.Interleavings.{LooksAreTheTables}
 use Rattle.turnstile.proofs.Gives.{letters_of}
 
 abbrev A : Type 0
@@ -28,14 +30,17 @@ out_below (x ∷ xs) zero e = omega arith
 out_below (x ∷ xs) (suc k) e = let h = out_below xs k e in omega (arith, h)
 
 -- what isn't touched stays out
-still_out : (hs : Homes) (k : ℕ) (x : maybe.Option (Option PieceState)) (c : Carried) → IsElsewhere k c → AreOut hs c → AreOut (set hs k x) c
+still_out : (hs : Homes) (k : ℕ) (x : maybe.Option (Option PieceState)) (c : Carried) → IsElsewhere k c → AreOut hs c →
+    AreOut (set hs k x) c
 still_out hs k x [] apart out = tt
 still_out hs k x (y ∷ ys) apart out = (set_else hs k y.0 x (λ e. apart.0 (sym e)) ∙ out.0, out.1, still_out hs k x ys apart.1 out.2)
 
 -- a slot at home isn't carried
-home_is_elsewhere : (hs : Homes) (k : ℕ) (y : Option PieceState) (c : Carried) → get_elem? hs k ≡ some (some y) → AreOut hs c → IsElsewhere k c
+home_is_elsewhere : (hs : Homes) (k : ℕ) (y : Option PieceState) (c : Carried) → get_elem? hs k ≡ some (some y) → AreOut hs c →
+    IsElsewhere k c
 home_is_elsewhere hs k y [] e out = tt
-home_is_elsewhere hs k y (x ∷ xs) e out = ((λ same. let f = sym e ∙ ap (get_elem? hs) same ∙ out.0 in cc), home_is_elsewhere hs k y xs e out.2)
+home_is_elsewhere hs k y (x ∷ xs) e out =
+    ((λ same. let f = sym e ∙ ap (get_elem? hs) same ∙ out.0 in cc), home_is_elsewhere hs k y xs e out.2)
 
 acts_leave_out : (hs : Homes) (c : Carried) (a : A) → AreOut hs c → Valid hs c a → AreOut (homes_after hs c a) (carried_after c a)
 acts_leave_out hs c keeps out valid = out
@@ -49,7 +54,8 @@ acts_leave_out hs c (takes k y) out valid =
     home_below (x ∷ xs) (suc k) y e = let h = home_below xs k y e in omega (arith, h)
 acts_leave_out hs [] gives out valid = tt
 acts_leave_out hs (x ∷ xs) gives out valid = still_out hs x.0 (some x.1) xs out.1 out.2
-acts_leave_out hs c (chain a b) out valid = acts_leave_out (homes_after hs c a) (carried_after c a) b (acts_leave_out hs c a out valid.0) valid.1
+acts_leave_out hs c (chain a b) out valid =
+    acts_leave_out (homes_after hs c a) (carried_after c a) b (acts_leave_out hs c a out valid.0) valid.1
 
 -- with all that is carried put back, the table is the same before and after an act
 all_back : (hs : Homes) (c : Carried) (a : A) → Valid hs c a → homes_with (homes_after hs c a) (carried_after c a) ≡ homes_with hs c
@@ -71,7 +77,8 @@ taken_out hs (x ∷ xs) out =
     ∙ set-set hs x.0 (some x.1) none ∙ set_again hs x.0 none out.0
 
 -- so what is at home after an act is told by what is carried then
-homes_are : (hs : Homes) (c : Carried) (a : A) → AreOut hs c → Valid hs c a → homes_after hs c a ≡ without (homes_with hs c) (carried_after c a)
+homes_are : (hs : Homes) (c : Carried) (a : A) → AreOut hs c → Valid hs c a → homes_after hs c a ≡ without (homes_with hs c)
+    (carried_after c a)
 homes_are hs c a out valid =
     sym (taken_out (homes_after hs c a) (carried_after c a) (acts_leave_out hs c a out valid))
     ∙ ap (λ (z : Homes). without z (carried_after c a)) (all_back hs c a valid)
@@ -82,7 +89,8 @@ back_elsewhere hs k [] apart = refl
 back_elsewhere hs k (x ∷ xs) apart = back_elsewhere (set hs x.0 (some x.1)) k xs apart.1 ∙ set_else hs x.0 k (some x.1) apart.0
 
 -- what an act took first was at home
-was_home : (hs : Homes) (c : Carried) (a : A) (k k' : ℕ) (y y' : Option PieceState) → AreOut hs c → Valid hs c a → carried_after c a ≡ (k', y') ∷ (k, y) ∷ c →
+was_home : (hs : Homes) (c : Carried) (a : A) (k k' : ℕ) (y y' : Option PieceState) → AreOut hs c → Valid hs c a →
+    carried_after c a ≡ (k', y') ∷ (k, y) ∷ c →
     get_elem? hs k ≡ some (some y)
 was_home hs c a k k' y y' out valid e =
     let now : Homes = homes_after hs c a in
@@ -107,8 +115,10 @@ pub finishes_are_the_tables : FinishesAreTheTables
 finishes_are_the_tables b s team slots w id row back v a long out valid leaves =
     let carried : Carried = loaded b.side w (phase (team w) + 1) 0 row back in
     let x : Worker = finished (team w) (map message row) in
-    let seen : v ≡ seated x = ap (λ m. m.0) leaves ∙ ap (λ ms. seated (finished (team w) ms)) (letters_of b.side w (phase (team w) + 1) 0 row back long) in
-    let home : homes_after s.homes carried a ≡ homes_with s.homes carried = homes_are s.homes carried a out valid ∙ ap (without (homes_with s.homes carried)) (ap (λ m. m.1) leaves) in
+    let seen : v ≡ seated x = ap (λ m. m.0) leaves
+        ∙ ap (λ ms. seated (finished (team w) ms)) (letters_of b.side w (phase (team w) + 1) 0 row back long) in
+    let home : homes_after s.homes carried a ≡ homes_with s.homes carried = homes_are s.homes carried a out valid
+        ∙ ap (without (homes_with s.homes carried)) (ap (λ m. m.1) leaves) in
     λ q. record {
       words = set s.words w (get_or s.words w 0 + 1);
       homes = home q;
@@ -116,7 +126,8 @@ finishes_are_the_tables b s team slots w id row back v a long out valid leaves =
     }
 
 module _ (b : TwoBlocks) (s : State (Option PieceState) View) (team : ℕ → Worker) (slots w i id : ℕ) (carried : Carried) (v : View) (a : A)
-    (at : (team w).at ≡ w) (of : (team w).workers ≡ b.side) (new : saw (team w) i ≡ false) (out : AreOut s.homes carried) (valid : Valid s.homes carried a)
+    (at : (team w).at ≡ w) (of : (team w).workers ≡ b.side) (new : saw (team w) i ≡ false) (out : AreOut s.homes carried)
+        (valid : Valid s.homes carried a)
     (looks : looks_at (step slots i 0 0 none) (seated (team w), carried) (get_or s.words i 0) (v, carried_after carried a)) where
   abbrev x : Worker
   x = team w
@@ -131,7 +142,8 @@ module _ (b : TwoBlocks) (s : State (Option PieceState) View) (team : ℕ → Wo
   found_none : get_or s.words i 0 < phase x → later ≡ c
   found_none early =
       let same = looks.0 early in
-      let home : homes_after s.homes carried a ≡ s.homes = homes_are s.homes carried a out valid ∙ ap (without (homes_with s.homes carried)) (ap (λ m. m.1) same) ∙ taken_out s.homes carried out in
+      let home : homes_after s.homes carried a ≡ s.homes = homes_are s.homes carried a out valid
+          ∙ ap (without (homes_with s.homes carried)) (ap (λ m. m.1) same) ∙ taken_out s.homes carried out in
       let members : changed team w v.mine ≡ team = same_worker team w v.mine (ap (λ m. m.0.mine) same) in
       λ q. record { words = set-get_or s.words i 0 q; homes = home q; team = members q }
 
@@ -143,16 +155,19 @@ module _ (b : TwoBlocks) (s : State (Option PieceState) View) (team : ℕ → Wo
       let second : slot x.workers (phase x + 1) x.at i ≡ slot b.side (phase x + 1) w i = λ q. slot (of q) (phase x + 1) (at q) i in
       let left : carried_after carried a ≡ (slot b.side (phase x + 1) w i, Some got.1) ∷ (slot b.side (phase x) i w, Some got.0) ∷ carried =
       ap (λ m. m.1) got.2 ∙ (λ q. (second q, Some got.1) ∷ (first q, Some got.0) ∷ carried) in
-      let was = was_home s.homes carried a (slot b.side (phase x) i w) (slot b.side (phase x + 1) w i) (Some got.0) (Some got.1) out valid left in
+      let was = was_home s.homes carried a (slot b.side (phase x) i w) (slot b.side (phase x + 1) w i) (Some got.0) (Some got.1) out valid
+          left in
       let home : homes_after s.homes carried a ≡ set (set s.homes (slot b.side (phase x) i w) none) (slot b.side (phase x + 1) w i) none =
       homes_are s.homes carried a out valid ∙ ap (without (homes_with s.homes carried)) left
-      ∙ ap (λ (z : Homes). set (set z (slot b.side (phase x) i w) none) (slot b.side (phase x + 1) w i) none) (taken_out s.homes carried out) in
+      ∙ ap (λ (z : Homes). set (set z (slot b.side (phase x) i w) none) (slot b.side (phase x + 1) w i) none)
+          (taken_out s.homes carried out) in
       let member : v.mine ≡ looked x i (piece_in (get_elem? s.homes (slot b.side (phase x) i w))) =
       ap (λ m. m.0.mine) got.2 ∙ ap (looked x i) (ap piece_in (sym was)) in
       λ q. record { words = set-get_or s.words i 0 q; homes = home q; team = changed team w (member q) }
 
   by_word : (r : Bool) → nat_le (phase x) (get_or s.words i 0) ≡ r → later ≡ if_new b r (saw x i) (seen_by b c w i) c
-  by_word true e = subst (λ (z : Bool). later ≡ if_new b true z (seen_by b c w i) c) (sym new) (found_one (leb-true (phase x) (get_or s.words i 0) e))
+  by_word true e = subst (λ (z : Bool). later ≡ if_new b true z (seen_by b c w i) c) (sym new)
+      (found_one (leb-true (phase x) (get_or s.words i 0) e))
   by_word false e = found_none (leb-false (phase x) (get_or s.words i 0) e)
 
 pub looks_are_the_tables : LooksAreTheTables

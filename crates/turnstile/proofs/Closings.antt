@@ -1,5 +1,6 @@
 -- What is known once all seats were taken in.
-use Rattle.std.proofs.Common.{◌≡◌, ℕ, zero, suc, ◌*◌, ◌<◌, ◌≤◌, ◌≢◌, true, List, [], ◌∷◌, map, length, Option, Some, slice_get, sym, refl, ap, ◌∙◌, subst, arith}
+use Rattle.std.proofs.Common.{◌≡◌, ℕ, zero, suc, ◌*◌, ◌<◌, ◌≤◌, ◌≢◌, true, List, [], ◌∷◌, map, length, Option, Some, slice_get, sym, refl}
+use Rattle.std.proofs.Common.{ap, ◌∙◌, subst, arith}
 use mathlib.Core.Logic.{dite}
 use mathlib.Core.Option.{none, some, some-injective, some-ne-none}
 use mathlib.Core.Option as maybe
@@ -47,7 +48,9 @@ entry_there p [] s i wide ls li = absurd (omega arith)
 entry_there p (r ∷ rs) zero i wide ls li = got_some r i (subst (λ (z : ℕ). i < z) (sym (wide zero [] (omega arith))) li)
 entry_there p (r ∷ rs) (suc s) i wide ls li = entry_there p rs s i (λ k d lt. wide (suc k) d (omega arith)) (omega arith) li
 
-module _ (blocks : TwoBlocks) (p : ℕ) (ws : List ℕ) (ys : List (Option PieceState)) (id : ℕ) (v : View) (seats : List RowState) (works : List Work) (of : AreWorksOf seats works) (v_is : v ≡ keeper blocks p p (map gone works)) (len : length seats ≡ p) (end : Final (Seen (Holds blocks p) id v) ws ys) where
+module _ (blocks : TwoBlocks) (p : ℕ) (ws : List ℕ) (ys : List (Option PieceState)) (id : ℕ) (v : View) (seats : List RowState)
+    (works : List Work) (of : AreWorksOf seats works) (v_is : v ≡ keeper blocks p p (map gone works)) (len : length seats ≡ p)
+    (end : Final (Seen (Holds blocks p) id v) ws ys) where
   all : length v.team ≡ p
   all = ap (λ (z : View). length z.team) v_is ∙ length-map works gone ∙ works_count seats works of ∙ len
 
@@ -55,7 +58,8 @@ module _ (blocks : TwoBlocks) (p : ℕ) (ws : List ℕ) (ys : List (Option Piece
   team_of k w e = ap (λ (z : View). get_elem? z.team k) v_is ∙ at_map gone works k w (elem_of_get works k w e)
 
   left : (k : ℕ) (x : Worker) → get_elem? v.team k ≡ some x → x.left ≡ true
-  left k x e = let q = from_map gone works k x (ap (λ (z : View). get_elem? z.team k) (sym v_is) ∙ e) in ap (λ (z : Worker). z.left) (sym q.1)
+  left k x e = let q = from_map gone works k x (ap (λ (z : View). get_elem? z.team k) (sym v_is) ∙ e) in
+      ap (λ (z : Worker). z.left) (sym q.1)
 
   behind : (k : ℕ) (r : RowState) → slice_get seats k ≡ Some r → (w : Work) × (slice_get works k ≡ Some w) × (row_state w ≡ r)
   behind k r e = work_of works k r (ap (λ (l : List RowState). slice_get l k) of.shown ∙ e)
@@ -64,41 +68,52 @@ module _ (blocks : TwoBlocks) (p : ℕ) (ws : List ℕ) (ys : List (Option Piece
   laid_out = all_laid blocks p ws ys id v (ap (λ (z : View). z.kind) v_is) all (ap (λ (z : View). z.mine.at) v_is) end left
 
   phases_of : (i j : ℕ) (a b : Work) → slice_get works i ≡ Some a → slice_get works j ≡ Some b → length (rows_of a) ≡ length (rows_of b)
-  phases_of i j a b ea eb = same_phases blocks p ws ys id v (ap (λ (z : View). z.kind) v_is) all (ap (λ (z : View). z.mine.at) v_is) end left i j (gone a) (gone b) (team_of i a ea) (team_of j b eb)
+  phases_of i j a b ea eb = same_phases blocks p ws ys id v (ap (λ (z : View). z.kind) v_is) all (ap (λ (z : View). z.mine.at) v_is) end
+      left i j (gone a) (gone b) (team_of i a ea) (team_of j b eb)
 
   pub phases_same : SamePhases seats
   phases_same i j a b ea eb = let x = behind i a ea in let y = behind j b eb in
       ap (λ (r : RowState). length r.sent) (sym x.2) ∙ phases_of i j x.0 y.0 x.1 y.1 ∙ ap (λ (r : RowState). length r.sent) y.2
 
-  exchanged : ((k : ℕ) (w : Work) → slice_get works k ≡ Some w → w.workers ≡ p) → (i j : ℕ) (a b : Work) → slice_get works i ≡ Some a → slice_get works j ≡ Some b → (s : ℕ) → entry (columns_of b) s i ≡ entry (rows_of a) s j
+  exchanged : ((k : ℕ) (w : Work) → slice_get works k ≡ Some w → w.workers ≡ p) → (i j : ℕ) (a b : Work) → slice_get works i ≡ Some a →
+      slice_get works j ≡ Some b → (s : ℕ) → entry (columns_of b) s i ≡ entry (rows_of a) s j
   exchanged wide i j a b ea eb s =
       let same = phases_of i j a b ea eb in let h : Rested b = of.rested j b eb in
       dite (dec_le (suc s) b.round)
       (λ near. by_cases h near (entry (columns_of b) s i) refl)
-      (λ far. let f : ℕ = b.round in let c : ℕ = length (columns_of b) in let l : ℕ = length (rows_of a) in let l' : ℕ = length (rows_of b) in
+      (λ far. let f : ℕ = b.round in let c : ℕ = length (columns_of b) in let l : ℕ = length (rows_of a) in let l' : ℕ =
+          length (rows_of b) in
       let c' : c ≡ f = length-map _ (map value) ∙ h.long in let m : l' ≡ f = h.made in let e : l ≡ l' = same in
-      entry_beyond (columns_of b) s i (let r : c ≤ s = omega arith in r) ∙ sym (entry_beyond (rows_of a) s j (let r : l ≤ s = omega arith in r)))
+      entry_beyond (columns_of b) s i (let r : c ≤ s = omega arith in r)
+          ∙ sym (entry_beyond (rows_of a) s j (let r : l ≤ s = omega arith in r)))
     where
       i_below : i < p
       i_below = let lt = get_below works i a ea in let c = works_count seats works of ∙ len in subst (λ (z : ℕ). i < z) c lt
 
-      by_cases : Rested b → s < b.round → (o : maybe.Option Message) → entry (columns_of b) s i ≡ o → entry (columns_of b) s i ≡ entry (rows_of a) s j
+      by_cases : Rested b → s < b.round → (o : maybe.Option Message) → entry (columns_of b) s i ≡ o →
+          entry (columns_of b) s i ≡ entry (rows_of a) s j
       by_cases h near none e = absurd (entry_there b.workers (columns_of b) s i h.columns
           (let c = length-map _ (map value) ∙ h.long in subst (λ (z : ℕ). s < z) (sym c) near)
           (subst (λ (z : ℕ). i < z) (sym (wide j b eb)) i_below) e)
-      by_cases h near (some m) e = e ∙ sym (received_is_sent blocks p ws ys id v (ap (λ (z : View). z.kind) v_is) all (ap (λ (z : View). z.mine.at) v_is) end i j s (gone a) (gone b) m (team_of i a ea) (team_of j b eb)
+      by_cases h near (some m) e = e
+          ∙ sym (received_is_sent blocks p ws ys id v (ap (λ (z : View). z.kind) v_is) all (ap (λ (z : View). z.mine.at) v_is) end i j s
+          (gone a) (gone b) m (team_of i a ea) (team_of j b eb)
           (ap (λ z. entry z s i) h.whole ∙ entry_told (columns_of b) s i m e))
 
   pub received_as_sent : ((k : ℕ) (w : Work) → slice_get works k ≡ Some w → w.workers ≡ p) → ReceivedAsSent seats
   received_as_sent wide i j a b ea eb s = let x = behind i a ea in let y = behind j b eb in
-      ap (λ (r : RowState). entry r.received s i) (sym y.2) ∙ exchanged wide i j x.0 y.0 x.1 y.1 s ∙ ap (λ (r : RowState). entry r.sent s j) x.2
+      ap (λ (r : RowState). entry r.received s i) (sym y.2) ∙ exchanged wide i j x.0 y.0 x.1 y.1 s
+          ∙ ap (λ (r : RowState). entry r.sent s j) x.2
 
   pub all_whole : AreWhole seats
   all_whole k r e = let x = behind k r e in let h : Rested x.0 = of.rested k x.0 x.1 in
-      subst Rattle.turnstile.specs.Seats.IsWhole x.2 (record { phases = length-map _ (map value) ∙ h.long ∙ sym h.made; rows = h.rows; columns = h.columns })
+      subst Rattle.turnstile.specs.Seats.IsWhole x.2 (record { phases = length-map _ (map value) ∙ h.long ∙ sym h.made; rows = h.rows;
+          columns = h.columns })
 
   -- each work has the table's number of workers
-  pub workers_of : (id' : Rattle.atomic_table.specs.Seated.TableId) → id'.words ≡ p → ((k : ℕ) (r : RowState) → slice_get seats k ≡ Some r → r.table ≡ id') → (k : ℕ) (w : Work) → slice_get works k ≡ Some w → w.workers ≡ p
+  pub workers_of : (id' : Rattle.atomic_table.specs.Seated.TableId) → id'.words ≡ p →
+      ((k : ℕ) (r : RowState) → slice_get seats k ≡ Some r → r.table ≡ id') → (k : ℕ) (w : Work) → slice_get works k ≡ Some w →
+      w.workers ≡ p
   workers_of id' words tables k w e = let h : Rested w = of.rested k w e in
       sym h.words ∙ ap (λ z. z.words) (tables k (row_state w) (seat_of works k w e)) ∙ words
     where

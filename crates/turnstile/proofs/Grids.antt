@@ -1,5 +1,6 @@
 -- Lists of lists, functions changed at one place, and lists that grow by one.
-use Rattle.std.proofs.Common.{length-set, subst, set, ◌∙◌, ◌≡◌, ℕ, zero, suc, ◌<◌, ◌≢◌, ◌⊎◌, List, [], ◌∷◌, ◌++◌, length, replicate, sym, refl, ap, inl, inr, ⊎_elim, arith}
+use Rattle.std.proofs.Common.{length-set, subst, set, ◌∙◌, ◌≡◌, ℕ, zero, suc, ◌<◌, ◌≢◌, ◌⊎◌, List, [], ◌∷◌, ◌++◌, length, replicate, sym}
+use Rattle.std.proofs.Common.{refl, ap, inl, inr, ⊎_elim, arith}
 use mathlib.Core.Option.{some, some-injective, some-ne-none}
 use native.Mathlib.Decide.{ℕ_discrete}
 use lib.ListN.{get_elem?}
@@ -47,19 +48,22 @@ module _ {A : Type 0} where
   at_replicate (suc n) a b zero e = some-injective a b e
   at_replicate (suc n) a b (suc j) e = at_replicate n a b j e
 
-  pub entry-with_entry : (l : List (List A)) (s i : ℕ) (a : A) (t j : ℕ) (b : A) → entry (with_entry l s i a) t j ≡ some b → ((t ≡ s) × (j ≡ i) × (a ≡ b) × (s < length l)) ⊎ (entry l t j ≡ some b)
+  pub entry-with_entry : (l : List (List A)) (s i : ℕ) (a : A) (t j : ℕ) (b : A) → entry (with_entry l s i a) t j ≡ some b →
+      ((t ≡ s) × (j ≡ i) × (a ≡ b) × (s < length l)) ⊎ (entry l t j ≡ some b)
   entry-with_entry [] s i a t j b e = inr e
   entry-with_entry (r ∷ rs) zero i a zero j b e = ⊎_elim (λ h. inl (refl, h.0, h.1, omega arith)) (λ h. inr h.1) (at_set r i j a b e)
   entry-with_entry (r ∷ rs) zero i a (suc t) j b e = inr e
   entry-with_entry (r ∷ rs) (suc s) i a zero j b e = inr e
-  entry-with_entry (r ∷ rs) (suc s) i a (suc t) j b e = ⊎_elim (λ h. inl (ap suc h.0, h.1, h.2, (let lt = h.3 in omega arith))) (λ h. inr h) (entry-with_entry rs s i a t j b e)
+  entry-with_entry (r ∷ rs) (suc s) i a (suc t) j b e =
+      ⊎_elim (λ h. inl (ap suc h.0, h.1, h.2, (let lt = h.3 in omega arith))) (λ h. inr h) (entry-with_entry rs s i a t j b e)
 
   pub length-with_entry : (l : List (List A)) (s i : ℕ) (a : A) → length (with_entry l s i a) ≡ length l
   length-with_entry [] s i a = refl
   length-with_entry (r ∷ rs) zero i a = refl
   length-with_entry (r ∷ rs) (suc s) i a = ap suc (length-with_entry rs s i a)
 
-  pub entry_end : (l : List (List A)) (r : List A) (s i : ℕ) (b : A) → entry (l ++ r ∷ []) s i ≡ some b → (entry l s i ≡ some b) ⊎ (get_elem? r i ≡ some b)
+  pub entry_end : (l : List (List A)) (r : List A) (s i : ℕ) (b : A) → entry (l ++ r ∷ []) s i ≡ some b →
+      (entry l s i ≡ some b) ⊎ (get_elem? r i ≡ some b)
   entry_end [] r zero i b e = inr e
   entry_end [] r (suc s) i b e = inl e
   entry_end (x ∷ xs) r zero i b e = inl e
@@ -75,25 +79,31 @@ module _ {A : Type 0} where
   entry_last (x ∷ xs) r i b e = entry_last xs r i b e
 
   -- where each row has n entries, each has still n
-  pub wide-with_entry : (n : ℕ) (l : List (List A)) (s i : ℕ) (a : A) → All (λ r. length r ≡ n) l → All (λ r. length r ≡ n) (with_entry l s i a)
+  pub wide-with_entry : (n : ℕ) (l : List (List A)) (s i : ℕ) (a : A) → All (λ r. length r ≡ n) l → All (λ r. length r ≡ n)
+      (with_entry l s i a)
   wide-with_entry n [] s i a h k d lt = absurd (omega arith)
   wide-with_entry n (r ∷ rs) zero i a h zero d lt = length-set r i a ∙ h zero d (omega arith)
   wide-with_entry n (r ∷ rs) zero i a h (suc k) d lt = h (suc k) d lt
   wide-with_entry n (r ∷ rs) (suc s) i a h zero d lt = h zero d (omega arith)
-  wide-with_entry n (r ∷ rs) (suc s) i a h (suc k) d lt = wide-with_entry n rs s i a (λ j e below. h (suc j) e (omega arith)) k d (omega arith)
+  wide-with_entry n (r ∷ rs) (suc s) i a h (suc k) d lt =
+      wide-with_entry n rs s i a (λ j e below. h (suc j) e (omega arith)) k d (omega arith)
 
-  pub entry_here : (n : ℕ) (l : List (List A)) (s i : ℕ) (a : A) → All (λ r. length r ≡ n) l → s < length l → i < n → entry (with_entry l s i a) s i ≡ some a
+  pub entry_here : (n : ℕ) (l : List (List A)) (s i : ℕ) (a : A) → All (λ r. length r ≡ n) l → s < length l → i < n →
+      entry (with_entry l s i a) s i ≡ some a
   entry_here n [] s i a h ls li = absurd (omega arith)
   entry_here n (r ∷ rs) zero i a h ls li = set_here r i a (subst (λ (z : ℕ). i < z) (sym (h zero r (omega arith))) li)
   entry_here n (r ∷ rs) (suc s) i a h ls li = entry_here n rs s i a (λ j e below. h (suc j) e (omega arith)) (omega arith) li
 
-  set_keeps : (P : A → Type 0) (r : List A) (i j : ℕ) (a b : A) → get_elem? r j ≡ some b → P a → P b → (c : A) × (get_elem? (set r i a) j ≡ some c) × P c
+  set_keeps : (P : A → Type 0) (r : List A) (i j : ℕ) (a b : A) → get_elem? r j ≡ some b → P a → P b →
+      (c : A) × (get_elem? (set r i a) j ≡ some c) × P c
   set_keeps P r i j a b e pa pb = dite (ℕ_discrete j i)
-      (λ (same : j ≡ i). (a, subst (λ (z : ℕ). get_elem? (set r i a) z ≡ some a) (sym same) (set_here r i a (subst (λ (z : ℕ). z < length r) same (at_below r j b e))), pa))
+      (λ (same : j ≡ i). (a, subst (λ (z : ℕ). get_elem? (set r i a) z ≡ some a) (sym same)
+          (set_here r i a (subst (λ (z : ℕ). z < length r) same (at_below r j b e))), pa))
       (λ other. (b, set_else r i j a other ∙ e, pb))
 
   -- an entry that has P has it still where another that has P is written
-  pub entry_keeps : (P : A → Type 0) (l : List (List A)) (s i : ℕ) (a : A) (t j : ℕ) (b : A) → entry l t j ≡ some b → P a → P b → (c : A) × (entry (with_entry l s i a) t j ≡ some c) × P c
+  pub entry_keeps : (P : A → Type 0) (l : List (List A)) (s i : ℕ) (a : A) (t j : ℕ) (b : A) → entry l t j ≡ some b → P a → P b →
+      (c : A) × (entry (with_entry l s i a) t j ≡ some c) × P c
   entry_keeps P [] s i a t j b e pa pb = (b, e, pb)
   entry_keeps P (r ∷ rs) zero i a zero j b e pa pb = set_keeps P r i j a b e pa pb
   entry_keeps P (r ∷ rs) zero i a (suc t) j b e pa pb = (b, e, pb)

@@ -1,5 +1,6 @@
 -- Lists of seats, and of what they were made of.
-use Rattle.std.proofs.Common.{◌≡◌, ℕ, zero, suc, ◌+◌, ◌<◌, List, [], ◌∷◌, ◌++◌, map, length, Option, Some, slice_get, sym, refl, ap, ◌∙◌, subst, ⊎_elim, length-append, arith}
+use Rattle.std.proofs.Common.{◌≡◌, ℕ, zero, suc, ◌+◌, ◌<◌, List, [], ◌∷◌, ◌++◌, map, length, Option, Some, slice_get, sym, refl, ap, ◌∙◌}
+use Rattle.std.proofs.Common.{subst, ⊎_elim, length-append, arith}
 use mathlib.Core.Option.{some}
 use lib.ListN.{get_elem?, length-map}
 use Rattle.atomic_table.specs.Seated.{TableId}
@@ -25,7 +26,8 @@ module _ {A : Type 0} where
   elem_of_get (x ∷ xs) zero b e = ap some (let h : Option.Some x ≡ Some b = e in let r : x ≡ b = cc in r)
   elem_of_get (x ∷ xs) (suc j) b e = elem_of_get xs j b e
 
-pub seated_end : (id : TableId) (workers room n : ℕ) (seats : List RowState) (r : RowState) → AreSeated id workers room n seats → IsSeated id workers room n r → AreSeated id workers room (n + 1) (seats ++ r ∷ [])
+pub seated_end : (id : TableId) (workers room n : ℕ) (seats : List RowState) (r : RowState) → AreSeated id workers room n seats →
+    IsSeated id workers room n r → AreSeated id workers room (n + 1) (seats ++ r ∷ [])
 seated_end id workers room n seats r h new = (
   length-append seats (r ∷ []) ∙ ap (λ (z : ℕ). z + 1) h.0,
   λ k q e. ⊎_elim (λ old. h.1 k q old)
@@ -35,7 +37,8 @@ seated_end id workers room n seats r h new = (
 pub works_count : (seats : List RowState) (works : List Work) → AreWorksOf seats works → length works ≡ length seats
 works_count seats works h = sym (length-map works row_state) ∙ ap length h.shown
 
-pub one_more_work : (seats : List RowState) (works : List Work) (r : RowState) (w : Work) → AreWorksOf seats works → row_state w ≡ r → Rested w → AreWorksOf (r ∷ seats) (w ∷ works)
+pub one_more_work : (seats : List RowState) (works : List Work) (r : RowState) (w : Work) → AreWorksOf seats works → row_state w ≡ r →
+    Rested w → AreWorksOf (r ∷ seats) (w ∷ works)
 one_more_work seats works r w h same rested = record {
   shown = λ q. same q ∷ h.shown q;
   rested = rests;
@@ -46,7 +49,8 @@ one_more_work seats works r w h same rested = record {
     rests (suc k) v e = h.rested k v e
 
 -- the work behind a seat
-pub work_of : (works : List Work) (k : ℕ) (r : RowState) → slice_get (map row_state works) k ≡ Some r → (w : Work) × (slice_get works k ≡ Some w) × (row_state w ≡ r)
+pub work_of : (works : List Work) (k : ℕ) (r : RowState) → slice_get (map row_state works) k ≡ Some r →
+    (w : Work) × (slice_get works k ≡ Some w) × (row_state w ≡ r)
 work_of [] k r e = absurd (cc)
 work_of (w ∷ ws) zero r e = (w, refl, (let h : Option.Some (row_state w) ≡ Some r = e in let s : row_state w ≡ r = cc in s))
 work_of (w ∷ ws) (suc k) r e = work_of ws k r e

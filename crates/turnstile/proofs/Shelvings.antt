@@ -1,5 +1,7 @@
 -- How the pieces of a block come back, one after the other.
-use Rattle.std.proofs.Common.{◌≡◌, ℕ, zero, suc, ◌+◌, ◌*◌, ◌<◌, ◌≢◌, ◌⊎◌, Bool, false, List, [], ◌∷◌, ◌++◌, map, length, get_or, set, Option, Some, None, slice_get, sym, refl, ap, ◌∙◌, subst, inl, inr, ⊎_elim, length-append, get_or-set_other, arith}
+use Rattle.std.proofs.Common.{◌≡◌, ℕ, zero, suc, ◌+◌, ◌*◌, ◌<◌, ◌≢◌, ◌⊎◌, Bool, false, List, [], ◌∷◌, ◌++◌, map, length, get_or, set}
+use Rattle.std.proofs.Common.{Option, Some, None, slice_get, sym, refl, ap, ◌∙◌, subst, inl, inr, ⊎_elim, length-append, get_or-set_other}
+use Rattle.std.proofs.Common.{arith}
 use mathlib.Core.Logic.{dite}
 use mathlib.Core.Option.{some, some-injective}
 use native.Mathlib.Decide.{ℕ_discrete}
@@ -22,12 +24,14 @@ module _ {A : Type 0} where
   get_end (x ∷ xs) a b (suc j) e = ⊎_elim inl (λ t. inr (ap suc t.0, t.1)) (get_end xs a b j e)
 
   -- what is left in front, where fewer were moved than there were
-  pub some_left : (xs ps : List A) (zs ys : List (Option A)) → map Some xs ++ zs ≡ map Some ps ++ ys → length xs < length ps → (p : A) × (t : List (Option A)) × (zs ≡ Some p ∷ t)
+  pub some_left : (xs ps : List A) (zs ys : List (Option A)) → map Some xs ++ zs ≡ map Some ps ++ ys → length xs < length ps →
+      (p : A) × (t : List (Option A)) × (zs ≡ Some p ∷ t)
   some_left xs [] zs ys e lt = absurd (omega arith)
   some_left [] (p ∷ ps) zs ys e lt = (p, map Some ps ++ ys, e)
   some_left (x ∷ xs) (p ∷ ps) zs ys e lt = some_left xs ps zs ys (let h : map Some xs ++ zs ≡ map Some ps ++ ys = cc in h) (omega arith)
 
-  pub all_moved : (xs ps : List A) (zs ys : List (Option A)) → map Some xs ++ zs ≡ map Some ps ++ ys → length xs ≡ length ps → (xs ≡ ps) × (zs ≡ ys)
+  pub all_moved : (xs ps : List A) (zs ys : List (Option A)) → map Some xs ++ zs ≡ map Some ps ++ ys → length xs ≡ length ps →
+      (xs ≡ ps) × (zs ≡ ys)
   all_moved [] [] zs ys e len = (refl, e)
   all_moved [] (p ∷ ps) zs ys e len = absurd (omega arith)
   all_moved (x ∷ xs) [] zs ys e len = absurd (omega arith)
@@ -42,7 +46,8 @@ is_some_of None x e = absurd (cc)
 pub cover_themselves : (b : BlockShape) (xs : List PieceState) → xs ≡ pieces_of b → Covers b xs
 cover_themselves b xs e = ap (map emptied_piece) e ∙ still_empty b (b.side * b.side)
 
-pub one_more_stands : (b : BlockShape) (n : ℕ) (xs : List PieceState) (x : PieceState) → StandFirst b n xs → emptied_piece x ≡ piece_at b n → StandFirst b (n + 1) (xs ++ x ∷ [])
+pub one_more_stands : (b : BlockShape) (n : ℕ) (xs : List PieceState) (x : PieceState) → StandFirst b n xs →
+    emptied_piece x ≡ piece_at b n → StandFirst b (n + 1) (xs ++ x ∷ [])
 one_more_stands b n xs x h e = (
   length-append xs (x ∷ []) ∙ ap (λ (z : ℕ). z + 1) h.0,
   λ k y got. ⊎_elim (λ old. h.1 k y old) (λ t. ap emptied_piece (sym t.1) ∙ e ∙ ap (piece_at b) (sym (t.0 ∙ h.0))) (get_end xs x y k got),
@@ -52,11 +57,13 @@ pub all_stand : (b : BlockShape) (n : ℕ) (xs : List PieceState) → n ≡ b.si
 all_stand b n xs all h = in_order_cover b xs (record { count = h.0 ∙ all; places = h.1 })
 
 -- what was taken out of the slot is the piece that belongs there
-pub offered : (b : BlockShape) (first k : ℕ) (xs : List (Option PieceState)) (o : Option PieceState) → Offers b first xs → k < b.side * b.side → get_elem? xs (first + k) ≡ some o → (x : PieceState) × (o ≡ Some x) × (emptied_piece x ≡ piece_at b k)
+pub offered : (b : BlockShape) (first k : ℕ) (xs : List (Option PieceState)) (o : Option PieceState) → Offers b first xs →
+    k < b.side * b.side → get_elem? xs (first + k) ≡ some o → (x : PieceState) × (o ≡ Some x) × (emptied_piece x ≡ piece_at b k)
 offered b first k xs o h lk e = let q = h k lk in (q.0, some-injective o (Some q.0) (sym e ∙ q.1), q.2)
 
 pub still_full : (fs fs' : List Bool) (k n : ℕ) → fs' ≡ set fs k false → FullBetween k n fs → FullBetween (k + 1) n fs'
-still_full fs fs' k n e h j lo hi = ap (λ (l : List Bool). get_or l j false) e ∙ get_or-set_other fs k j false false (λ q. omega arith) ∙ h j (omega arith) hi
+still_full fs fs' k n e h j lo hi = ap (λ (l : List Bool). get_or l j false) e ∙ get_or-set_other fs k j false false (λ q. omega arith)
+    ∙ h j (omega arith) hi
 
 pub one_more_empty : (fs fs' : List Bool) (k : ℕ) → fs' ≡ set fs k false → EmptyBelow k fs → EmptyBelow (k + 1) fs'
 one_more_empty fs fs' k e h j lt = ap (λ (l : List Bool). get_or l j false) e ∙ dite (ℕ_discrete j k)

@@ -1,6 +1,7 @@
 -- Every order in which the workers can make their steps, by the definitions of the table's rule.
 -- A list has the newest event first.
-use Rattle.std.specs.Prelude.{◌≡◌, ℕ, All, ◌+◌, ◌*◌, ◌<◌, Bool, true, false, List, [], ◌∷◌, map, length, replicate, Option, Some, slice_index, slice_set, nat_eq, nat_le, cond}
+use Rattle.std.specs.Prelude.{◌≡◌, ℕ, All, ◌+◌, ◌*◌, ◌<◌, Bool, true, false, List, [], ◌∷◌, map, length, replicate, Option, Some}
+use Rattle.std.specs.Prelude.{slice_index, slice_set, nat_eq, nat_le, cond}
 use mathlib.Core.Option.{none, some}
 use mathlib.Core.Option as maybe
 use lib.ListN.{get_elem?}
@@ -10,7 +11,8 @@ use Rattle.turnstile.specs.declared.views.Message.{Message}
 use Rattle.turnstile.specs.declared.views.Worker.{Worker}
 use Rattle.turnstile.specs.declared.views.View.{View}
 use Rattle.turnstile.specs.Blocks.{TwoBlocks}
-use Rattle.turnstile.specs.Turns.{message, message_of, blank, entry, slot, saw, phase, HasTaken, Homes, Carried, seated, looked, finished, looks_at, finishes}
+use Rattle.turnstile.specs.Turns.{message, message_of, blank, entry, slot, saw, phase, HasTaken, Homes, Carried, seated, looked, finished}
+use Rattle.turnstile.specs.Turns.{looks_at, finishes}
 use Rattle.turnstile.specs.Loads.{RowPlaced, ColumnPlaced, loaded, homes_with}
 
 -- a worker adds 1 to its own word, hands over a row and gives back a column; or it loads a worker's word
@@ -108,7 +110,8 @@ core_of s team = record { words = s.words; homes = s.homes; team = team }
 -- Whatever a seat gives and takes at the table when it adds 1 to its word, if it leaves as the table's rule says of a Finish,
 -- then the table that it leaves is the one after the Finish above.
 abbrev pub FinishesAreTheTables : Type 0
-FinishesAreTheTables = (b : TwoBlocks) (s : State (Option PieceState) View) (team : ℕ → Worker) (slots w id : ℕ) (row back : List PieceState) (v : View)
+FinishesAreTheTables = (b : TwoBlocks) (s : State (Option PieceState) View) (team : ℕ →
+    Worker) (slots w id : ℕ) (row back : List PieceState) (v : View)
     (a : Act (Option PieceState)) → let carried = loaded b.side w (phase (team w) + 1) 0 row back in let n = slice_index s.words w in
     length row ≡ length back → AreOut s.homes carried → Valid s.homes carried a
     → finishes (step slots w 1 0 none) (seated (team w), carried) n (v, carried_after carried a)
@@ -116,7 +119,8 @@ FinishesAreTheTables = (b : TwoBlocks) (s : State (Option PieceState) View) (tea
 
 -- The same of a Look at a worker that wasn't seen in the phase.
 abbrev pub LooksAreTheTables : Type 0
-LooksAreTheTables = (b : TwoBlocks) (s : State (Option PieceState) View) (team : ℕ → Worker) (slots w i id : ℕ) (carried : Carried) (v : View)
+LooksAreTheTables = (b : TwoBlocks) (s : State (Option PieceState) View) (team : ℕ →
+    Worker) (slots w i id : ℕ) (carried : Carried) (v : View)
     (a : Act (Option PieceState)) → let n = slice_index s.words i in
     (team w).at ≡ w → (team w).workers ≡ b.side → saw (team w) i ≡ false → AreOut s.homes carried → Valid s.homes carried a
     → looks_at (step slots i 0 0 none) (seated (team w), carried) n (v, carried_after carried a)

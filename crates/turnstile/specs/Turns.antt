@@ -2,7 +2,8 @@
 -- Phase s uses block s % 2, and `slot` says where its piece (i, j) lies. A parcel (i, j, s) is what i gives to j by its
 -- Finish of phase s: its piece (i, j) of phase s, and j's piece (j, i) of the other block.
 -- Phase 0 stands for the start: each worker finds the pieces of its first row, and an empty column, as parcels of phase 0.
-use Rattle.std.specs.Prelude.{◌≡◌, ℕ, All, zero, suc, ◌+◌, ◌-◌, ◌*◌, ◌%◌, ◌<◌, ◌≤◌, Bool, true, false, List, [], ◌∷◌, ◌++◌, length, replicate, Option, Some, None, slice_index, slice_index_or, slice_set}
+use Rattle.std.specs.Prelude.{◌≡◌, ℕ, All, zero, suc, ◌+◌, ◌-◌, ◌*◌, ◌%◌, ◌<◌, ◌≤◌, Bool, true, false, List, [], ◌∷◌, ◌++◌, length}
+use Rattle.std.specs.Prelude.{replicate, Option, Some, None, slice_index, slice_index_or, slice_set}
 use mathlib.Core.Option.{none, some}
 use mathlib.Core.Option as maybe
 use lib.ListN.{get_elem?}

@@ -1,5 +1,6 @@
 -- What holds of a worker between two steps.
-use Rattle.std.specs.Prelude.{◌≡◌, ℕ, All, ◌+◌, ◌-◌, ◌^◌, ◌<◌, ◌≤◌, true, false, List, ◌++◌, map, length, replicate, take, Option, Some, None}
+use Rattle.std.specs.Prelude.{◌≡◌, ℕ, All, ◌+◌, ◌-◌, ◌^◌, ◌<◌, ◌≤◌, true, false, List, ◌++◌, map, length, replicate, take, Option, Some}
+use Rattle.std.specs.Prelude.{None}
 use Rattle.std.specs.VecDeque.{deque_capacity}
 use Rattle.turnstile.specs.declared.views.Message.{Message}
 use Rattle.turnstile.specs.declared.views.Worker.{Worker}

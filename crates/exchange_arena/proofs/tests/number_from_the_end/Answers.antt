@@ -7,6 +7,7 @@ pub loop-k-preserved : goal.loop-k-preserved
 loop-k-preserved c =
     let now = c.loop-k.invariant in let pieces = c.loop-k.pieces.items in record {
       count = now.count ∙ sym (length-set pieces c.loop-k.k c.fill-filled.new.self);
-      same = map-slice_set_same emptied_piece pieces c.loop-k.k c.index_mut.result.now c.fill-filled.new.self c.index_mut.ensures.value c.fill-filled.ensures.same ∙ now.same;
+      same = map-slice_set_same emptied_piece pieces c.loop-k.k c.index_mut.result.now c.fill-filled.new.self c.index_mut.ensures.value
+          c.fill-filled.ensures.same ∙ now.same;
       capacity = now.capacity;
     }

@@ -13,12 +13,14 @@ returns-in_err-array c =
 pub returns-in_err-subscript : goal.returns-in_err-subscript
 returns-in_err-subscript c =
     exit _ _ _ c.from_residual-in_err-subscript.result _ c.from_residual-in_err-subscript.ensures.1 c.in_err-subscript.ensures
-    (to_back _ _ _ (element_parts (outside_of c.args.scope.now c.args.loops.now) _ c.args.x.now c.args.subscript.now c.args.e.now refl) c.in_ok-array.ensures.0)
+    (to_back _ _ _ (element_parts (outside_of c.args.scope.now c.args.loops.now) _ c.args.x.now c.args.subscript.now c.args.e.now refl)
+        c.in_ok-array.ensures.0)
 
 pub returns : goal.returns
 returns c =
     let one = c.in_ok-array.ensures in
     let two = c.in_ok-subscript.ensures in (
-      none_in _ _ _ (element_parts (outside_of c.args.scope.now c.args.loops.now) _ c.args.x.now c.args.subscript.now c.args.e.now refl) one.0 two.0,
+      none_in _ _ _ (element_parts (outside_of c.args.scope.now c.args.loops.now) _ c.args.x.now c.args.subscript.now c.args.e.now refl)
+          one.0 two.0,
       says.assign_element c.args.x.now c.args.subscript.now c.args.e.now _ _ _ one.1 two.1.0 two.1.1,
     )

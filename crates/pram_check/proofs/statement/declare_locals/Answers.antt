@@ -9,7 +9,8 @@ pub returns-in_err-new_name : goal.returns-in_err-new_name
 returns-in_err-new_name c =
     let l = c.loop-x.invariant in
     exit _ _ _ c.from_residual.result _ c.from_residual.ensures.1 c.in_err-new_name.ensures
-    (leads_local c.args.scope.now c.loop-x.scope c.args.locals.now c.loop-x.x-index c.loop-x.count c.x-item.result c.loop-x-test.true c.x-item.is l.count l.scope l.none)
+    (leads_local c.args.scope.now c.loop-x.scope c.args.locals.now c.loop-x.x-index c.loop-x.count c.x-item.result c.loop-x-test.true
+        c.x-item.is l.count l.scope l.none)
 
 pub loop-x-preserved : goal.loop-x-preserved
 loop-x-preserved c =
@@ -22,5 +23,6 @@ loop-x-preserved c =
       count = omega (arith, l.count);
       scope = c.in_ok-declare.ensures.ok ∙ (ap (λ t. c.loop-x.scope ++ (t, Local c.loop-x.count) ∷ []) c.as_slice.ensures
           ∙ sym (locals_more s c.loop-x.scope xs i c.loop-x.count d c.loop-x-test.true c.x-item.is l.count l.scope));
-      none = none_in _ _ _ (breaches_more s c.loop-x.scope xs i c.loop-x.count d c.loop-x-test.true c.x-item.is l.count l.scope) l.none c.in_ok-new_name.ensures.0;
+      none = none_in _ _ _ (breaches_more s c.loop-x.scope xs i c.loop-x.count d c.loop-x-test.true c.x-item.is l.count l.scope) l.none
+          c.in_ok-new_name.ensures.0;
     }

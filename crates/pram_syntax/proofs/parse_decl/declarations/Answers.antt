@@ -7,8 +7,10 @@ use Rattle.pram_syntax.proofs.parse_decl.declarations.Goals as goal
 pub more-preserved : goal.more-preserved
 more-preserved c =
     record {
-      spelt = rw c.in_ok-push.ensures.ok (declared_more c.more.declared c.in_ok-found.found c.args.tokens.now c.more.rest.now c.in_ok-found.after.now c.more.invariant.spelt c.in_ok-found.ensures.found);
-      moves = λ k. c.more.invariant.moves k ∙ declaration_first c.more.rest.now (sym c.more-test.ensures.value) k ∙ c.in_ok-found.ensures.follows (Declarations ∷ k);
+      spelt = rw c.in_ok-push.ensures.ok (declared_more c.more.declared c.in_ok-found.found c.args.tokens.now c.more.rest.now
+          c.in_ok-found.after.now c.more.invariant.spelt c.in_ok-found.ensures.found);
+      moves = λ k. c.more.invariant.moves k ∙ declaration_first c.more.rest.now (sym c.more-test.ensures.value) k
+          ∙ c.in_ok-found.ensures.follows (Declarations ∷ k);
     }
 
 pub more-smaller : goal.more-smaller

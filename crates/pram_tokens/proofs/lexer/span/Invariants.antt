@@ -4,7 +4,8 @@ use Rattle.pram_tokens.specs.Lexemes.{is_in}
 use Rattle.pram_tokens.proofs.lexer.span.Given as goal
 
 abbrev pub invariant-loop-end : goal.invariant-loop-end
-invariant-loop-end l = (l.end + prefix_len (is_in l.class) (drop l.end l.text) ≡ prefix_len (is_in l.class) l.text) × (l.end ≤ length l.text)
+invariant-loop-end l = (l.end + prefix_len (is_in l.class) (drop l.end l.text) ≡ prefix_len (is_in l.class) l.text)
+    × (l.end ≤ length l.text)
 
 abbrev pub decreases-loop-end : goal.decreases-loop-end
 decreases-loop-end l = length l.text - l.end

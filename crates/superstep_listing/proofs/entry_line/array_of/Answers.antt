@@ -33,7 +33,8 @@ returns-in-Some-bounds_of c = record {
       let high = c.in-Some-bounds_of.high in
       let name = c.in-Some.name.now in (
         is_name_yes name (sym c.is_name.ensures.value ∙ c.if-not-is_name.false),
-        shown_again (λ x y. AreBounds (Some (x, y)) × (c.args.bytes.now ≡ name ++ 32 ∷ (signed_decimal x ++ 32 ∷ signed_decimal y))) low high (low_fits low high b.0) (high_fits low high b.0)
+        shown_again (λ x y. AreBounds (Some (x, y)) × (c.args.bytes.now ≡ name ++ 32 ∷ (signed_decimal x ++ 32 ∷ signed_decimal y))) low
+            high (low_fits low high b.0) (high_fits low high b.0)
             (b.0, c.in-Some.ensures.parts.whole ∙ ap (λ l. name ++ 32 ∷ l) b.1),
       );
 }

@@ -5,7 +5,8 @@ use Rattle.superstep_listing.proofs.Declared.{high_below, high_fits, low_below, 
 use Rattle.superstep_listing.proofs.Numerals.{one_number}
 use Rattle.superstep_listing.proofs.Spaces.{lacks_number}
 use Rattle.superstep_listing.proofs.entry_line.bounds_of.Goals as goal
-use Rattle.superstep_listing.proofs.entry_line.bounds_of.Goals.{then-low-lt-LEAST-via-then-low-lt-LEAST, then-low-lt-LEAST-via-else-low-lt-LEAST+then-high-low}
+use Rattle.superstep_listing.proofs.entry_line.bounds_of.Goals.{then-low-lt-LEAST-via-then-low-lt-LEAST}
+use Rattle.superstep_listing.proofs.entry_line.bounds_of.Goals.{then-low-lt-LEAST-via-else-low-lt-LEAST+then-high-low}
 
 pub returns-in_default : goal.returns-in_default
 returns-in_default c = record { value = λ low high h e. not_cut 32 _ (signed_decimal low) _ c.in_default.ensures.parts e }

@@ -6,5 +6,6 @@ use Rattle.superstep_listing.proofs.layout_read.take_name.Goals as goal
 
 pub returns : goal.returns
 returns c = record {
-  ok = λ q. c.in_ok-_added.ensures.updates.0 (record { ref_ptr = (0, 0); now = q }) ∙ cond_or (bytes_eq c.args.name.now q) (contains_by (λ k. bytes_eq q k.now) c.args.names.now);
+  ok = λ q. c.in_ok-_added.ensures.updates.0 (record { ref_ptr = (0, 0); now = q })
+      ∙ cond_or (bytes_eq c.args.name.now q) (contains_by (λ k. bytes_eq q k.now) c.args.names.now);
 }

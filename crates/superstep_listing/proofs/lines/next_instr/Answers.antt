@@ -9,5 +9,6 @@ returns-in_default c = record { value = λ i more is e. not_cut 10 _ (line (inst
 
 pub returns-in_default-instr_of : goal.returns-in_default-instr_of
 returns-in_default-instr_of c = record {
-  value = λ i more is e. c.in_default-instr_of.ensures.value i is (cut_as (line (instr_words c.args.place i)) more c.in-Some.ensures.parts (plain_instr c.args.place i (omega arith) is) e).0;
+  value = λ i more is e. c.in_default-instr_of.ensures.value i is (cut_as (line (instr_words c.args.place i)) more c.in-Some.ensures.parts
+      (plain_instr c.args.place i (omega arith) is) e).0;
 }

@@ -4,7 +4,8 @@ use Rattle.std.specs.Fmt.{decimal}
 use Rattle.superstep_listing.proofs.Cuts.{cut_as, not_cut}
 use Rattle.superstep_listing.proofs.Numerals.{above_most, below_least, fits_long, one_number, unequal}
 use Rattle.superstep_listing.proofs.numeral.field.Goals as goal
-use Rattle.superstep_listing.proofs.numeral.field.Goals.{then-value-least-via-then-value-least, then-value-least-via-else-value-least+then-most-value}
+use Rattle.superstep_listing.proofs.numeral.field.Goals.{then-value-least-via-then-value-least}
+use Rattle.superstep_listing.proofs.numeral.field.Goals.{then-value-least-via-else-value-least+then-most-value}
 
 pub returns-in_default : goal.returns-in_default
 returns-in_default c = record { value = λ n low high e. not_cut 32 _ c.args.name.now (decimal n) c.in_default.ensures.parts e }
@@ -31,6 +32,7 @@ returns-then-value-least c = record {
       let same : c.in-Some-number.value ≡ pos n = one_number _ (pos n) v.0 (fits_long n (omega arith)) (sym v.1 ∙ is.1) in
       elim c.then-value-least.branch [
         | then-value-least-via-then-value-least w ↦ below_least _ n c.args.least same (omega arith) (omega arith) low w.if-value-least.true
-        | then-value-least-via-else-value-least+then-most-value w ↦ above_most _ n c.args.most same (omega arith) (omega arith) high w.if-most-value.true
+        | then-value-least-via-else-value-least+then-most-value w ↦ above_most _ n c.args.most same (omega arith) (omega arith) high
+            w.if-most-value.true
       ];
 }

@@ -9,5 +9,6 @@ split_seat-chair-requires c =
     let at = ap (λ (z : View). z.mine.at) e in let own = c.requires.own in (
       own.0,
       omega arith,
-      splits b.key b.key.side c.args.root.now.id v (ap (λ (z : View). z.kind) e) (ap (λ (z : View). z.team) e) (let n : ℕ = v.mine.at in let k : ℕ = b.key.side in omega arith),
+      splits b.key b.key.side c.args.root.now.id v (ap (λ (z : View). z.kind) e) (ap (λ (z : View). z.team) e) (let n : ℕ = v.mine.at in
+          let k : ℕ = b.key.side in omega arith),
     )

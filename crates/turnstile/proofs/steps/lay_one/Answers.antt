@@ -5,7 +5,8 @@ use Rattle.turnstile.specs.Turns.{slot}
 use Rattle.turnstile.proofs.steps.lay_one.Goals as goal
 
 pub returns-clause-laid : goal.returns-clause-laid
-returns-clause-laid c = let k = c.args.work.now in let x = c.unwrap-x.result in let y = c.unwrap-y.result in let n : ℕ = k.round in let z : n + 2 ≡ n + 1 + 1 = omega arith in
+returns-clause-laid c = let k = c.args.work.now in let x = c.unwrap-x.result in let y = c.unwrap-y.result in let n : ℕ = k.round in
+    let z : n + 2 ≡ n + 1 + 1 = omega arith in
     let a = c.slot_at-first.ensures in let b = c.slot_at-second.ensures ∙ ap (λ (q : ℕ). slot k.workers q c.args.j k.worker) z in
     let row = c.pop_front.new.self.items in let column = c.pop_front-2.new.self.items in (
       x,

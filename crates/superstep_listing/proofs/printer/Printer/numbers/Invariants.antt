@@ -7,4 +7,5 @@ use Rattle.superstep_listing.proofs.printer.Printer.numbers.Given as goal
 abbrev pub invariant-loop-number : goal.invariant-loop-number
 invariant-loop-number g l =
     (l.self.out.ghost_name ≡ l.fn.self.out.ghost_name)
-    × PrintedTo spaced (printing (g.W.Out.state l.fn.self.out.now) l.fn.self.failed) (printing (g.W.Out.state l.self.out.now) l.self.failed) l.numbers l.number-index
+    × PrintedTo spaced (printing (g.W.Out.state l.fn.self.out.now) l.fn.self.failed) (printing (g.W.Out.state l.self.out.now) l.self.failed)
+        l.numbers l.number-index

@@ -13,7 +13,8 @@ store-requires g c = let b = c.args.board.now in let same = c.requires.own.2 in 
 )
 
 pub store-requires-in-Some : goal.store-requires-in-Some
-store-requires-in-Some g c = let b = c.args.board.now in let same = c.requires.own.2 in let n : ℕ = c.args.runners in let xs = c.in-Some.items.items in
+store-requires-in-Some g c = let b = c.args.board.now in let same = c.requires.own.2 in let n : ℕ = c.args.runners in let xs =
+    c.in-Some.items.items in
     let count : length xs ≡ n = c.requires.items c.in-Some.items c.in-Some.is in (
       c.lay.ensures.own.0 ∙ c.requires.own.0,
       c.requires.own.1,
@@ -22,7 +23,8 @@ store-requires-in-Some g c = let b = c.args.board.now in let same = c.requires.o
     )
 
 pub returns-in-Some-clause-said : goal.returns-in-Some-clause-said
-returns-in-Some-clause-said g c = let n : ℕ = c.args.runners in let xs = c.in-Some.items.items in let e = c.store-in-Some.ensures.2 in let laid = c.lay.ensures.laid in
+returns-in-Some-clause-said g c = let n : ℕ = c.args.runners in let xs = c.in-Some.items.items in let e = c.store-in-Some.ensures.2 in
+    let laid = c.lay.ensures.laid in
     let items : items_of c.lay.new.chair.me.1 ≡ xs = ap (λ z. items_of z.1) laid ∙ items_are 0 _ ∙ c.from.ensures.0 in
     let view = ap (λ z. z.0) laid ∙ ap (λ z. z.0) c.requires.fresh in
     rw c.in-Some.is (e ∙ (λ q. (starter ((view q).at) false (Go (items q)) ((view q).taken), [])))
