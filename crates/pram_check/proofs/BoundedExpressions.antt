@@ -18,22 +18,22 @@ use Rattle.pram_model.specs.Names.{same_text}
 use Rattle.pram_tokens.specs.Tokens.{AreReal}
 use Rattle.pram_syntax.proofs.ExprTokens.{tokens-Number, tokens-Name, tokens-Element, tokens-Paren, tokens-Prefix, tokens-Chain}
 use Rattle.pram_tokens.proofs.Real.{front_real}
-use Rattle.pram_check.specs.declared.body.Expression.{Expression, Row_of-Link, end_of-Link, items-the_row-Link, items_hidden-the_row-Link-0}
-use Rattle.pram_check.specs.declared.body.Expression.{more_of-Link}
-use Rattle.pram_check.specs.declared.body.Expression as value
-use Rattle.pram_check.specs.declared.body.Expression.TheBlock.{hidden-the_row-Link-0}
-use Rattle.pram_check.specs.declared.body.Link.{Link}
-use Rattle.pram_check.specs.declared.fault.Cause.{Cause}
-use Rattle.pram_check.specs.declared.scope.Meaning.{Meaning}
-use Rattle.pram_check.specs.declared.scope.Meaning.TheVariants as meaning
+use Rattle.pram_names.specs.declared.body.Expression.{Expression, Row_of-Link, end_of-Link, items-the_row-Link, items_hidden-the_row-Link-0}
+use Rattle.pram_names.specs.declared.body.Expression.{more_of-Link}
+use Rattle.pram_names.specs.declared.body.Expression as value
+use Rattle.pram_names.specs.declared.body.Expression.TheBlock.{hidden-the_row-Link-0}
+use Rattle.pram_names.specs.declared.body.Link.{Link}
+use Rattle.pram_names.specs.declared.fault.Cause.{Cause}
+use Rattle.pram_names.specs.declared.scope.Meaning.{Meaning}
+use Rattle.pram_names.specs.declared.scope.Meaning.TheVariants as meaning
 use Rattle.pram_check.specs.Bounded.{Names, IsNamed, AreNamed, IsSingleCell, IsArray, IsInside, IsLocal, reads, link_reads, nodes}
 use Rattle.pram_check.specs.Bounded.{link_nodes}
-use Rattle.pram_check.specs.Breaches.{Use, uses, step_uses, use_breaches, use_cause, read_count, is_read, ninth, or_else, at, most_reads}
-use Rattle.pram_check.specs.Resolved.{Says, SayLinks}
-use Rattle.pram_check.specs.Resolved as says
-use Rattle.pram_check.specs.Scope.{Scope, meaning_of}
-use Rattle.pram_check.proofs.Judging.{count_append}
-use Rattle.pram_check.proofs.Uses.{uses-Number, uses-Name, uses-Element, uses-Paren, uses-Prefix, uses-Chain}
+use Rattle.pram_names.specs.Breaches.{Use, uses, step_uses, use_breaches, use_cause, read_count, is_read, ninth, or_else, at, most_reads}
+use Rattle.pram_names.specs.Resolved.{Says, SayLinks}
+use Rattle.pram_names.specs.Resolved as says
+use Rattle.pram_names.specs.Scope.{Scope, meaning_of}
+use Rattle.pram_names.proofs.Judging.{count_append}
+use Rattle.pram_names.proofs.Uses.{uses-Number, uses-Name, uses-Element, uses-Paren, uses-Prefix, uses-Chain}
 
 pub back_real : (a b : List Token) → AreReal (a ++ b) → AreReal b
 back_real [] b h = h

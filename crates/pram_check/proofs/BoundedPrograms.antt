@@ -16,18 +16,18 @@ use Rattle.pram_syntax.specs.Program.{IsTree, limit, declarations_tokens, progra
 use Rattle.pram_model.specs.Names.{same_text}
 use Rattle.pram_tokens.specs.Tokens.{AreReal, IsNumber}
 use Rattle.pram_tokens.proofs.Real.{front_real}
-use Rattle.pram_check.specs.declared.fault.Breach.{Breach}
-use Rattle.pram_check.specs.declared.fault.Cause.{Cause}
-use Rattle.pram_check.specs.declared.fault.Cause.TheVariants as cause
-use Rattle.pram_check.specs.declared.fault.Limit.TheVariants as limits
-use Rattle.pram_check.specs.declared.fault.Spot.TheVariants.{TextEnd}
-use Rattle.pram_check.specs.declared.scope.Meaning.{Meaning}
-use Rattle.pram_check.specs.declared.scope.Meaning.TheVariants.{Uniform, Cell, Array}
+use Rattle.pram_names.specs.declared.fault.Breach.{Breach}
+use Rattle.pram_names.specs.declared.fault.Cause.{Cause}
+use Rattle.pram_names.specs.declared.fault.Cause.TheVariants as cause
+use Rattle.pram_names.specs.declared.fault.Limit.TheVariants as limits
+use Rattle.pram_names.specs.declared.fault.Spot.TheVariants.{TextEnd}
+use Rattle.pram_names.specs.declared.scope.Meaning.{Meaning}
+use Rattle.pram_names.specs.declared.scope.Meaning.TheVariants.{Uniform, Cell, Array}
 use Rattle.pram_check.specs.Bounded.{IsBounded}
-use Rattle.pram_check.specs.Breaches.{at, new_cause, bounds_cause, cells_cause, shared_cause, or_else, declaration_breaches, block_breaches}
-use Rattle.pram_check.specs.Breaches.{body_context, procs_cause, token_breaches, most_procs, most_tokens, IsAccepted}
+use Rattle.pram_names.specs.Breaches.{at, new_cause, bounds_cause, cells_cause, shared_cause, or_else, declaration_breaches, block_breaches}
+use Rattle.pram_names.specs.Breaches.{body_context, procs_cause, token_breaches, most_procs, most_tokens, IsAccepted}
 use Rattle.pram_check.specs.Checked.{Checked, IsResolved}
-use Rattle.pram_check.specs.Scope.{Scope, meaning_of, declared_from, globals, shared_entries, uniform_count}
+use Rattle.pram_names.specs.Scope.{Scope, meaning_of, declared_from, globals, shared_entries, uniform_count}
 use Rattle.pram_check.proofs.BoundedExpressions.{AreThere, back_real, front_none, back_none}
 use Rattle.pram_check.proofs.BoundedStatements.{outer, statements_within}
 use Rattle.pram_check.proofs.Depths.{depth_within}

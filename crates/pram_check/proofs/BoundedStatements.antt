@@ -19,24 +19,24 @@ use Rattle.pram_syntax.specs.Blocks.{statement_tokens, block_tokens, else_tokens
 use Rattle.pram_tokens.specs.Tokens.{AreReal}
 use Rattle.pram_tokens.proofs.Real.{front_real}
 use Rattle.pram_syntax.proofs.StmtTokens.{spell_print, spell_for, spell_pardo}
-use Rattle.pram_check.specs.declared.body.Expression.{Expression}
-use Rattle.pram_check.specs.declared.body.Statement.{Statement, Row_of-Statement, end_of-Statement, items-the_row-Statement}
-use Rattle.pram_check.specs.declared.body.Statement.{items_hidden-the_row-Statement-0, more_of-Statement}
-use Rattle.pram_check.specs.declared.body.Statement as statement
-use Rattle.pram_check.specs.declared.body.Statement.TheBlock.{hidden-the_row-Statement-0}
-use Rattle.pram_check.specs.declared.body.Step.{Step}
-use Rattle.pram_check.specs.declared.body.Target.{Target}
-use Rattle.pram_check.specs.declared.body.Target.TheVariants as target
-use Rattle.pram_check.specs.declared.scope.Meaning.{Meaning}
-use Rattle.pram_check.specs.declared.scope.Meaning.TheVariants as meaning
+use Rattle.pram_names.specs.declared.body.Expression.{Expression}
+use Rattle.pram_names.specs.declared.body.Statement.{Statement, Row_of-Statement, end_of-Statement, items-the_row-Statement}
+use Rattle.pram_names.specs.declared.body.Statement.{items_hidden-the_row-Statement-0, more_of-Statement}
+use Rattle.pram_names.specs.declared.body.Statement as statement
+use Rattle.pram_names.specs.declared.body.Statement.TheBlock.{hidden-the_row-Statement-0}
+use Rattle.pram_names.specs.declared.body.Step.{Step}
+use Rattle.pram_names.specs.declared.body.Target.{Target}
+use Rattle.pram_names.specs.declared.body.Target.TheVariants as target
+use Rattle.pram_names.specs.declared.scope.Meaning.{Meaning}
+use Rattle.pram_names.specs.declared.scope.Meaning.TheVariants as meaning
 use Rattle.pram_check.specs.Bounded.{Names, IsArray, IsSole, IsAssign, IsStatement, ArePartStatements, AreStatements, with_locals, depth}
 use Rattle.pram_check.specs.Bounded.{part_depth, body_depth, target_nodes, size, part_size, body_size}
-use Rattle.pram_check.specs.Breaches.{Context, uses, use_breaches, read_count, at, target_cause, element_cause, variable_cause, new_cause}
-use Rattle.pram_check.specs.Breaches.{local_breaches, statement_breaches, block_breaches, else_breaches, outside_of, for_context}
-use Rattle.pram_check.specs.Breaches.{pardo_context, with_loop}
-use Rattle.pram_check.specs.Resolved.{Says, SaysTarget, SaysStatement, SayStatements, SayOther, SaySteps}
-use Rattle.pram_check.specs.Resolved as says
-use Rattle.pram_check.specs.Scope.{Scope, meaning_of, inner_scope, locals_from}
+use Rattle.pram_names.specs.Breaches.{Context, uses, use_breaches, read_count, at, target_cause, element_cause, variable_cause, new_cause}
+use Rattle.pram_names.specs.Breaches.{local_breaches, statement_breaches, block_breaches, else_breaches, outside_of, for_context}
+use Rattle.pram_names.specs.Breaches.{pardo_context, with_loop}
+use Rattle.pram_names.specs.Resolved.{Says, SaysTarget, SaysStatement, SayStatements, SayOther, SaySteps}
+use Rattle.pram_names.specs.Resolved as says
+use Rattle.pram_names.specs.Scope.{Scope, meaning_of, inner_scope, locals_from}
 use Rattle.pram_check.proofs.StmtBreaches.{breaches-Assign, breaches-AssignElement, breaches-Print, breaches-While, breaches-If}
 use Rattle.pram_check.proofs.StmtBreaches.{breaches-For, breaches-Pardo}
 use Rattle.pram_check.proofs.Depths.{tree_depth, block_depth, else_depth, depth-Assign, depth-AssignElement, depth-Print, depth-While}

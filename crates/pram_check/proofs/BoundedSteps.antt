@@ -18,22 +18,22 @@ use Rattle.pram_syntax.specs.Blocks.{statement_tokens, block_tokens, else_tokens
 use Rattle.pram_tokens.specs.Tokens.{AreReal}
 use Rattle.pram_tokens.proofs.Real.{front_real}
 use Rattle.pram_syntax.proofs.StmtTokens.{spell_assign, spell_assign_element, spell_while, spell_if_then, spell_if_else}
-use Rattle.pram_check.specs.declared.body.Expression.{Expression}
-use Rattle.pram_check.specs.declared.body.Step.{Step, Row_of-Step, end_of-Step, items-the_row-Step, items_hidden-the_row-Step-0}
-use Rattle.pram_check.specs.declared.body.Step.{more_of-Step}
-use Rattle.pram_check.specs.declared.body.Step as step
-use Rattle.pram_check.specs.declared.body.Step.TheBlock.{hidden-the_row-Step-0}
-use Rattle.pram_check.specs.declared.body.StepTarget.{StepTarget}
-use Rattle.pram_check.specs.declared.body.StepTarget.TheVariants as inner
-use Rattle.pram_check.specs.declared.scope.Meaning.TheVariants as meaning
+use Rattle.pram_names.specs.declared.body.Expression.{Expression}
+use Rattle.pram_names.specs.declared.body.Step.{Step, Row_of-Step, end_of-Step, items-the_row-Step, items_hidden-the_row-Step-0}
+use Rattle.pram_names.specs.declared.body.Step.{more_of-Step}
+use Rattle.pram_names.specs.declared.body.Step as step
+use Rattle.pram_names.specs.declared.body.Step.TheBlock.{hidden-the_row-Step-0}
+use Rattle.pram_names.specs.declared.body.StepTarget.{StepTarget}
+use Rattle.pram_names.specs.declared.body.StepTarget.TheVariants as inner
+use Rattle.pram_names.specs.declared.scope.Meaning.TheVariants as meaning
 use Rattle.pram_check.specs.Bounded.{Names, IsArray, IsSole, ArePair, IsInnerAssign, IsStep, ArePartSteps, AreSteps, step_depth}
 use Rattle.pram_check.specs.Bounded.{part_step_depth, steps_depth, inner_target_nodes, step_size, part_step_size, steps_size}
-use Rattle.pram_check.specs.Breaches.{Context, uses, use_breaches, at, target_cause, element_cause, statement_breaches, block_breaches}
-use Rattle.pram_check.specs.Breaches.{else_breaches, inside_of}
-use Rattle.pram_check.specs.Resolved.{Says, SaysInner, SaysStep, SaySteps, SayElse}
-use Rattle.pram_check.specs.Resolved as says
-use Rattle.pram_check.specs.Scope.{Scope, meaning_of}
-use Rattle.pram_check.proofs.Judging.{count_append}
+use Rattle.pram_names.specs.Breaches.{Context, uses, use_breaches, at, target_cause, element_cause, statement_breaches, block_breaches}
+use Rattle.pram_names.specs.Breaches.{else_breaches, inside_of}
+use Rattle.pram_names.specs.Resolved.{Says, SaysInner, SaysStep, SaySteps, SayElse}
+use Rattle.pram_names.specs.Resolved as says
+use Rattle.pram_names.specs.Scope.{Scope, meaning_of}
+use Rattle.pram_names.proofs.Judging.{count_append}
 use Rattle.pram_check.proofs.StmtBreaches.{breaches-Assign, breaches-AssignElement, breaches-While, breaches-If}
 use Rattle.pram_check.proofs.Depths.{tree_depth, block_depth, else_depth, depth-Assign, depth-AssignElement, depth-While, depth-If}
 use Rattle.pram_check.proofs.BoundedExpressions.{AreThere, Within, within, found_there, few_reads, back_real, front_none, back_none}

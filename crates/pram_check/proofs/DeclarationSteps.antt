@@ -5,10 +5,10 @@ use Rattle.std.proofs.lemmas.List.{append-nil, drop_more}
 use Rattle.pram_syntax.specs.declared.tree.Declaration.{Declaration}
 use Rattle.pram_syntax.specs.declared.tree.Declaration.TheVariants as declare
 use Rattle.pram_model.specs.Layout.{SharedEntry, size, total_size}
-use Rattle.pram_check.specs.declared.scope.Meaning.TheVariants.{Uniform, Cell, Array}
-use Rattle.pram_check.specs.Scope.{Scope, declared_from, shared_entries, uniform_count}
-use Rattle.pram_check.specs.Breaches.{at, shared_cause, new_cause, declaration_breaches, first}
-use Rattle.pram_check.proofs.Judging.{Leads, first_front, first_behind}
+use Rattle.pram_names.specs.declared.scope.Meaning.TheVariants.{Uniform, Cell, Array}
+use Rattle.pram_names.specs.Scope.{Scope, declared_from, shared_entries, uniform_count}
+use Rattle.pram_names.specs.Breaches.{at, shared_cause, new_cause, declaration_breaches, first}
+use Rattle.pram_names.proofs.Judging.{Leads, first_front, first_behind}
 
 pub total_append : (xs ys : List SharedEntry) → total_size (xs ++ ys) ≡ total_size xs + total_size ys
 total_append [] ys = omega arith

@@ -5,10 +5,10 @@ use mathlib.Core.Logic.{◌⊎◌, inl, inr}
 use Rattle.std.proofs.lemmas.List.Elements.{All-append, All-map, Contains-append_left, Contains-append_right}
 use Rattle.pram_tokens.specs.declared.token.Location.{Location}
 use Rattle.pram_tokens.specs.declared.token.Token.{Token}
-use Rattle.pram_check.specs.declared.fault.Breach.{Breach}
-use Rattle.pram_check.specs.declared.fault.Cause.{Cause}
-use Rattle.pram_check.specs.declared.fault.Spot.TheVariants.{Offset}
-use Rattle.pram_check.specs.Breaches.{at}
+use Rattle.pram_names.specs.declared.fault.Breach.{Breach}
+use Rattle.pram_names.specs.declared.fault.Cause.{Cause}
+use Rattle.pram_names.specs.declared.fault.Spot.TheVariants.{Offset}
+use Rattle.pram_names.specs.Breaches.{at}
 use Rattle.pram_check.specs.Faults.{all_at, offset_in, offsets_in, number, IsBefore, IsLeast}
 use Rattle.pram_check.proofs.Sublists.{Between, lower, higher, most, split, joined}
 use Rattle.pram_tokens.specs.InOrder.{places}

@@ -1,11 +1,6 @@
-pub mod Judging
-pub mod Uses
-pub mod Names
-pub mod Expressions
 pub mod StmtBreaches
 pub mod Parts
 pub mod Steps
-pub mod Locals
 pub mod PardoParts
 pub mod Statements
 pub mod DeclarationSteps
@@ -16,7 +11,6 @@ pub mod Lowest
 pub mod UseFaults
 pub mod StatementFaults
 pub mod ProgramFaults
-pub mod Chains
 pub mod BoundedExpressions
 pub mod Depths
 pub mod BoundedSteps

@@ -7,14 +7,14 @@ use mathlib.Core.Logic.{◌⊎◌, inl, inr}
 use Rattle.std.proofs.lemmas.Bool.Decides.{nat_tests}
 use Rattle.std.proofs.lemmas.List.Elements.{All-cons}
 use Rattle.pram_model.specs.Layout.{size, most_cells}
-use Rattle.pram_check.specs.declared.scope.Meaning.{Meaning}
-use Rattle.pram_check.specs.declared.scope.Meaning.TheVariants.{Uniform, Cell, Array, Index, Local}
-use Rattle.pram_check.specs.declared.fault.Cause.{Cause}
-use Rattle.pram_check.specs.declared.fault.Cause.TheVariants.{UnknownName, DoubleName, WrongKind, AssignedLoopVariable, Limit}
-use Rattle.pram_check.specs.declared.fault.Limit.TheVariants as limit
-use Rattle.pram_check.specs.Scope.{Scope, meaning_of}
-use Rattle.pram_check.specs.Breaches.{use_cause, ninth, is_read, or_else, most_reads, target_cause, element_cause, variable_cause}
-use Rattle.pram_check.specs.Breaches.{new_cause, shared_cause, bounds_cause, cells_cause}
+use Rattle.pram_names.specs.declared.scope.Meaning.{Meaning}
+use Rattle.pram_names.specs.declared.scope.Meaning.TheVariants.{Uniform, Cell, Array, Index, Local}
+use Rattle.pram_names.specs.declared.fault.Cause.{Cause}
+use Rattle.pram_names.specs.declared.fault.Cause.TheVariants.{UnknownName, DoubleName, WrongKind, AssignedLoopVariable, Limit}
+use Rattle.pram_names.specs.declared.fault.Limit.TheVariants as limit
+use Rattle.pram_names.specs.Scope.{Scope, meaning_of}
+use Rattle.pram_names.specs.Breaches.{use_cause, ninth, is_read, or_else, most_reads, target_cause, element_cause, variable_cause}
+use Rattle.pram_names.specs.Breaches.{new_cause, shared_cause, bounds_cause, cells_cause}
 use Rattle.pram_check.specs.Faults.{number, when, use_causes, target_causes, element_causes, variable_causes, new_causes, shared_causes}
 use Rattle.pram_check.specs.Faults.{is_unknown, is_reversed}
 use Rattle.pram_check.proofs.Least.{IsLowest}

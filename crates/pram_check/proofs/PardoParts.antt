@@ -7,17 +7,17 @@ use Rattle.pram_tokens.specs.declared.token.Name.{Name}
 use Rattle.pram_syntax.specs.declared.tree.Expr.{Expr}
 use Rattle.pram_syntax.specs.declared.tree.Stmt.{Stmt}
 use Rattle.pram_syntax.specs.declared.tree.Stmt.TheVariants as s
-use Rattle.pram_check.specs.declared.body.Expression.{Expression}
-use Rattle.pram_check.specs.declared.body.Step.{Step}
-use Rattle.pram_check.specs.declared.body.Statement as statement
-use Rattle.pram_check.specs.declared.fault.Breach.{Breach}
-use Rattle.pram_check.specs.declared.scope.Meaning.TheVariants.{Index}
-use Rattle.pram_check.specs.Scope.{Scope, inner_scope, locals_from}
-use Rattle.pram_check.specs.Breaches.{at, uses, use_breaches, read_count, new_cause, local_breaches, statement_breaches, block_breaches}
-use Rattle.pram_check.specs.Breaches.{outside_of, inside_of, first}
-use Rattle.pram_check.specs.Resolved.{Says, SaySteps, SaysStatement}
-use Rattle.pram_check.specs.Resolved as says
-use Rattle.pram_check.proofs.Judging.{Leads, first_front, first_behind}
+use Rattle.pram_names.specs.declared.body.Expression.{Expression}
+use Rattle.pram_names.specs.declared.body.Step.{Step}
+use Rattle.pram_names.specs.declared.body.Statement as statement
+use Rattle.pram_names.specs.declared.fault.Breach.{Breach}
+use Rattle.pram_names.specs.declared.scope.Meaning.TheVariants.{Index}
+use Rattle.pram_names.specs.Scope.{Scope, inner_scope, locals_from}
+use Rattle.pram_names.specs.Breaches.{at, uses, use_breaches, read_count, new_cause, local_breaches, statement_breaches, block_breaches}
+use Rattle.pram_names.specs.Breaches.{outside_of, inside_of, first}
+use Rattle.pram_names.specs.Resolved.{Says, SaySteps, SaysStatement}
+use Rattle.pram_names.specs.Resolved as says
+use Rattle.pram_names.proofs.Judging.{Leads, first_front, first_behind}
 use Rattle.pram_check.proofs.StmtBreaches.{breaches-Pardo}
 
 module _ (scope : Scope) (loops : List ℕ) (l : Location) (low : Expr) (t : Name) (high : Expr) (locals : List Name) (body : List Stmt) where

@@ -7,25 +7,14 @@ use Rattle.pram_tokens.specs.declared.token.Name.{Name}
 use Rattle.pram_syntax.specs.declared.tree.Expr.{Expr}
 use Rattle.pram_syntax.specs.declared.tree.Stmt.{Stmt}
 use Rattle.pram_syntax.specs.declared.tree.Stmt.TheVariants as s
-use Rattle.pram_check.specs.declared.fault.Breach.{Breach}
-use Rattle.pram_check.specs.Scope.{meaning_of, inner_scope}
-use Rattle.pram_check.specs.Breaches.{Context, at, uses, use_breaches, read_count, target_cause, element_cause, variable_cause, new_cause}
-use Rattle.pram_check.specs.Breaches.{local_breaches, outside_only, for_context, pardo_context, statement_breaches, block_breaches}
-use Rattle.pram_check.specs.Breaches.{else_breaches, first}
-use Rattle.pram_check.proofs.Judging.{Leads, first_front, first_behind}
+use Rattle.pram_names.specs.declared.fault.Breach.{Breach}
+use Rattle.pram_names.specs.Scope.{meaning_of, inner_scope}
+use Rattle.pram_names.specs.Breaches.{Context, at, uses, use_breaches, read_count, target_cause, element_cause, variable_cause, new_cause}
+use Rattle.pram_names.specs.Breaches.{local_breaches, outside_only, for_context, pardo_context, statement_breaches, block_breaches}
+use Rattle.pram_names.specs.Breaches.{else_breaches, first}
+use Rattle.pram_names.proofs.Judging.{Leads, first_front, first_behind}
 use Rattle.pram_check.proofs.StmtBreaches.{breaches-Assign, breaches-AssignElement, breaches-Print, breaches-While, breaches-If}
 use Rattle.pram_check.proofs.StmtBreaches.{breaches-For, breaches-Pardo}
-
--- a whole of two parts
-module _ (whole xs ys : List Breach) (is : whole ≡ xs ++ ys) where
-  pub to_front : Leads xs whole
-  to_front b h = ap first is ∙ first_front xs ys b h
-
-  pub to_back : first xs ≡ None → Leads ys whole
-  to_back none b h = ap first is ∙ (first_behind xs ys none ∙ h)
-
-  pub none_in : first xs ≡ None → first ys ≡ None → first whole ≡ None
-  none_in a b = ap first is ∙ (first_behind xs ys a ∙ b)
 
 module _ (c : Context) (x : Stmt) where
   parts_of : (y : Stmt) (bs : List Breach) → x ≡ y → statement_breaches y c ≡ bs → statement_breaches x c ≡ bs

@@ -8,7 +8,7 @@ use Rattle.pram_syntax.specs.declared.tree.Expr.TheFolds.{ind-Expr, fold-roll-Ex
 use Rattle.pram_syntax.specs.Grammar.{tokens, node_tokens, joined, prefix_token}
 use Rattle.pram_syntax.specs.declared.tree.Prefix.{Prefix}
 use Rattle.pram_syntax.specs.declared.tree.Prefix.TheVariants as prefix
-use Rattle.pram_check.specs.Breaches.{Use, uses, node_uses, joined_uses}
+use Rattle.pram_names.specs.Breaches.{Use, uses, node_uses, joined_uses}
 use Rattle.pram_tokens.specs.InOrder.{place_of, places}
 use Rattle.pram_check.proofs.Sublists.{Sub, none, keep, sub_append, sub_behind, sub_front}
 

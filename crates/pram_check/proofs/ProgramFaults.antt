@@ -14,14 +14,14 @@ use Rattle.pram_syntax.specs.declared.tree.Stmt.{Stmt}
 use Rattle.pram_syntax.specs.Blocks.{block_tokens}
 use Rattle.pram_model.specs.Layout.{size}
 use Rattle.pram_syntax.specs.Program.{ProgramTree, program_tokens, declarations_tokens, rule_token}
-use Rattle.pram_check.specs.declared.fault.Breach.{Breach}
-use Rattle.pram_check.specs.declared.fault.Cause.TheVariants.{Limit}
-use Rattle.pram_check.specs.declared.fault.Limit.TheVariants as limit
-use Rattle.pram_check.specs.declared.fault.Spot.TheVariants.{TextEnd}
-use Rattle.pram_check.specs.declared.scope.Meaning.TheVariants.{Uniform, Cell, Array}
-use Rattle.pram_check.specs.Scope.{Scope}
-use Rattle.pram_check.specs.Breaches.{at, first, breaches, procs_cause, block_breaches, body_context, outside_of, declaration_breaches}
-use Rattle.pram_check.specs.Breaches.{token_breaches, most_tokens}
+use Rattle.pram_names.specs.declared.fault.Breach.{Breach}
+use Rattle.pram_names.specs.declared.fault.Cause.TheVariants.{Limit}
+use Rattle.pram_names.specs.declared.fault.Limit.TheVariants as limit
+use Rattle.pram_names.specs.declared.fault.Spot.TheVariants.{TextEnd}
+use Rattle.pram_names.specs.declared.scope.Meaning.TheVariants.{Uniform, Cell, Array}
+use Rattle.pram_names.specs.Scope.{Scope}
+use Rattle.pram_names.specs.Breaches.{at, first, breaches, procs_cause, block_breaches, body_context, outside_of, declaration_breaches}
+use Rattle.pram_names.specs.Breaches.{token_breaches, most_tokens}
 use Rattle.pram_check.specs.Faults.{all_at, procs_causes, block_faults, declaration_faults, faults, offset_in, offsets_in, IsBefore}
 use Rattle.pram_check.specs.Faults.{IsLeast}
 use Rattle.pram_syntax.specs.Text.{IsTextOf}

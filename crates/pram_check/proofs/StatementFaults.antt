@@ -14,12 +14,12 @@ use Rattle.pram_syntax.specs.declared.tree.Stmt.TheOpen.{Stmt-F}
 use Rattle.pram_syntax.specs.declared.tree.Stmt.TheFolds.{ind-Stmt, fold-roll-Stmt}
 use Rattle.pram_syntax.specs.Grammar.{tokens}
 use Rattle.pram_syntax.specs.Blocks.{statement_tokens, statement_step, joined_all, local_tokens}
-use Rattle.pram_check.specs.declared.fault.Breach.{Breach}
-use Rattle.pram_check.specs.declared.fault.Cause.{Cause}
-use Rattle.pram_check.specs.declared.fault.Cause.TheVariants.{WrongKind}
-use Rattle.pram_check.specs.Scope.{Scope, meaning_of, inner_scope, locals_from}
-use Rattle.pram_check.specs.Breaches.{Context, Judged, at, uses, use_breaches, read_count, variable_cause, new_cause, local_breaches}
-use Rattle.pram_check.specs.Breaches.{judged_all, outside_of, inside_of, with_loop, node_breaches, statement_breaches}
+use Rattle.pram_names.specs.declared.fault.Breach.{Breach}
+use Rattle.pram_names.specs.declared.fault.Cause.{Cause}
+use Rattle.pram_names.specs.declared.fault.Cause.TheVariants.{WrongKind}
+use Rattle.pram_names.specs.Scope.{Scope, meaning_of, inner_scope, locals_from}
+use Rattle.pram_names.specs.Breaches.{Context, Judged, at, uses, use_breaches, read_count, variable_cause, new_cause, local_breaches}
+use Rattle.pram_names.specs.Breaches.{judged_all, outside_of, inside_of, with_loop, node_breaches, statement_breaches}
 use Rattle.pram_check.specs.Faults.{use_faults, local_faults, keyword_faults, variable_causes, new_causes, all_at, node_faults}
 use Rattle.pram_check.specs.Faults.{statement_faults}
 use Rattle.pram_check.proofs.Least.{ToldIn, IsLowest, told_at, join, front, behind, nothing, hidden}

@@ -8,16 +8,16 @@ use Rattle.pram_tokens.specs.declared.token.Name.{Name}
 use Rattle.pram_syntax.specs.declared.tree.Expr.{Expr}
 use Rattle.pram_syntax.specs.declared.tree.Stmt.{Stmt}
 use Rattle.pram_syntax.specs.declared.tree.Stmt.TheVariants as s
-use Rattle.pram_check.specs.declared.body.Expression.{Expression}
-use Rattle.pram_check.specs.declared.body.Statement.{Statement}
-use Rattle.pram_check.specs.declared.body.Statement as statement
-use Rattle.pram_check.specs.declared.scope.Meaning.TheVariants as meaning
-use Rattle.pram_check.specs.Scope.{Scope, meaning_of}
-use Rattle.pram_check.specs.Breaches.{at, uses, use_breaches, variable_cause, with_loop, for_context, outside_of, statement_breaches}
-use Rattle.pram_check.specs.Breaches.{block_breaches, first}
-use Rattle.pram_check.specs.Resolved.{Says, SaysStatement, SayStatements, SayOther}
-use Rattle.pram_check.specs.Resolved as says
-use Rattle.pram_check.proofs.Judging.{Leads, first_front, first_behind}
+use Rattle.pram_names.specs.declared.body.Expression.{Expression}
+use Rattle.pram_names.specs.declared.body.Statement.{Statement}
+use Rattle.pram_names.specs.declared.body.Statement as statement
+use Rattle.pram_names.specs.declared.scope.Meaning.TheVariants as meaning
+use Rattle.pram_names.specs.Scope.{Scope, meaning_of}
+use Rattle.pram_names.specs.Breaches.{at, uses, use_breaches, variable_cause, with_loop, for_context, outside_of, statement_breaches}
+use Rattle.pram_names.specs.Breaches.{block_breaches, first}
+use Rattle.pram_names.specs.Resolved.{Says, SaysStatement, SayStatements, SayOther}
+use Rattle.pram_names.specs.Resolved as says
+use Rattle.pram_names.proofs.Judging.{Leads, first_front, first_behind}
 use Rattle.pram_check.proofs.Parts.{for_parts}
 
 module _ (scope : Scope) where

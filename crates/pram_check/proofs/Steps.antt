@@ -7,12 +7,12 @@ use Rattle.pram_tokens.specs.declared.token.Location.{Location}
 use Rattle.pram_syntax.specs.declared.tree.Expr.{Expr}
 use Rattle.pram_syntax.specs.declared.tree.Stmt.{Stmt}
 use Rattle.pram_syntax.specs.declared.tree.Stmt.TheVariants as s
-use Rattle.pram_check.specs.declared.body.Expression.{Expression}
-use Rattle.pram_check.specs.declared.body.Step.{Step}
-use Rattle.pram_check.specs.declared.body.Step as step
-use Rattle.pram_check.specs.Scope.{Scope}
-use Rattle.pram_check.specs.Resolved.{Says, SaysStep, SaySteps, SayElse}
-use Rattle.pram_check.specs.Resolved as says
+use Rattle.pram_names.specs.declared.body.Expression.{Expression}
+use Rattle.pram_names.specs.declared.body.Step.{Step}
+use Rattle.pram_names.specs.declared.body.Step as step
+use Rattle.pram_names.specs.Scope.{Scope}
+use Rattle.pram_names.specs.Resolved.{Says, SaysStep, SaySteps, SayElse}
+use Rattle.pram_names.specs.Resolved as says
 
 module _ (scope : Scope) where
   pub said_while : (x : Stmt) (l : Location) (v : Expr) (body given : List Stmt) (y : Expression) (steps : Vec Step Global) →

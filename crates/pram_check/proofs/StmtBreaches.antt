@@ -8,10 +8,10 @@ use Rattle.pram_syntax.specs.declared.tree.Stmt.{Stmt}
 use Rattle.pram_syntax.specs.declared.tree.Stmt.TheVariants as s
 use Rattle.pram_syntax.specs.declared.tree.Stmt.TheOpen.{Stmt-F}
 use Rattle.pram_syntax.specs.declared.tree.Stmt.TheFolds.{fold-roll-Stmt}
-use Rattle.pram_check.specs.Scope.{meaning_of, inner_scope}
-use Rattle.pram_check.specs.Breaches.{Context, Judged, at, uses, use_breaches, read_count, target_cause, element_cause, variable_cause}
-use Rattle.pram_check.specs.Breaches.{new_cause, local_breaches, outside_only, judged_all, for_context, pardo_context, node_breaches}
-use Rattle.pram_check.specs.Breaches.{statement_breaches, block_breaches, else_breaches}
+use Rattle.pram_names.specs.Scope.{meaning_of, inner_scope}
+use Rattle.pram_names.specs.Breaches.{Context, Judged, at, uses, use_breaches, read_count, target_cause, element_cause, variable_cause}
+use Rattle.pram_names.specs.Breaches.{new_cause, local_breaches, outside_only, judged_all, for_context, pardo_context, node_breaches}
+use Rattle.pram_names.specs.Breaches.{statement_breaches, block_breaches, else_breaches}
 
 each : (body : List Stmt) (c : Context) → judged_all (map statement_breaches body) c ≡ block_breaches body c
 each [] c = refl

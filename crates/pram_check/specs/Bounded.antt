@@ -4,17 +4,17 @@ use Rattle.pram_model.specs.Declarations.{IsLayout}
 use Rattle.pram_model.specs.Layout.{SharedEntry}
 use Rattle.pram_syntax.specs.Program.{limit, program_tokens}
 use Rattle.pram_tokens.specs.Tokens.{IsNumber}
-use Rattle.pram_check.specs.declared.body.Expression.{Expression, Number, Uniform, Index, Local, Cell, Element', Prefix', Chain'}
-use Rattle.pram_check.specs.declared.body.Expression.{Row_of-Link, end_of-Link, more_of-Link}
-use Rattle.pram_check.specs.declared.body.Target.{Target}
-use Rattle.pram_check.specs.declared.body.Target.TheVariants as target
-use Rattle.pram_check.specs.declared.body.StepTarget.{StepTarget}
-use Rattle.pram_check.specs.declared.body.StepTarget.TheVariants as inner
-use Rattle.pram_check.specs.declared.body.Step as step
-use Rattle.pram_check.specs.declared.body.Step.{Step, Row_of-Step, end_of-Step, more_of-Step}
-use Rattle.pram_check.specs.declared.body.Statement.{Statement, Assign, Print, While', If', For', Pardo, Row_of-Statement, end_of-Statement}
-use Rattle.pram_check.specs.declared.body.Statement.{more_of-Statement}
-use Rattle.pram_check.specs.Breaches.{most_reads, most_procs, most_tokens}
+use Rattle.pram_names.specs.declared.body.Expression.{Expression, Number, Uniform, Index, Local, Cell, Element', Prefix', Chain'}
+use Rattle.pram_names.specs.declared.body.Expression.{Row_of-Link, end_of-Link, more_of-Link}
+use Rattle.pram_names.specs.declared.body.Target.{Target}
+use Rattle.pram_names.specs.declared.body.Target.TheVariants as target
+use Rattle.pram_names.specs.declared.body.StepTarget.{StepTarget}
+use Rattle.pram_names.specs.declared.body.StepTarget.TheVariants as inner
+use Rattle.pram_names.specs.declared.body.Step as step
+use Rattle.pram_names.specs.declared.body.Step.{Step, Row_of-Step, end_of-Step, more_of-Step}
+use Rattle.pram_names.specs.declared.body.Statement.{Statement, Assign, Print, While', If', For', Pardo, Row_of-Statement, end_of-Statement}
+use Rattle.pram_names.specs.declared.body.Statement.{more_of-Statement}
+use Rattle.pram_names.specs.Breaches.{most_reads, most_procs, most_tokens}
 use Rattle.pram_check.specs.Checked.{Checked}
 
 -- ---- names

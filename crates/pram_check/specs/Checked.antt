@@ -3,9 +3,9 @@ use Rattle.std.specs.Prelude.{◌≡◌, ℕ, List, pos}
 use Rattle.pram_model.specs.declared.rule.Rule.{Rule}
 use Rattle.pram_model.specs.Layout.{SharedEntry}
 use Rattle.pram_syntax.specs.Program.{ProgramTree}
-use Rattle.pram_check.specs.declared.body.Statement.{Statement}
-use Rattle.pram_check.specs.Scope.{globals, shared_entries, uniform_count}
-use Rattle.pram_check.specs.Resolved.{SayStatements}
+use Rattle.pram_names.specs.declared.body.Statement.{Statement}
+use Rattle.pram_names.specs.Scope.{globals, shared_entries, uniform_count}
+use Rattle.pram_names.specs.Resolved.{SayStatements}
 
 -- a program whose names are resolved: its tree, its rule, its most processors, its shared declarations, the number of
 -- its uniform variables, and its body

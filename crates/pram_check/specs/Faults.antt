@@ -12,18 +12,18 @@ use Rattle.pram_syntax.specs.declared.tree.Stmt.TheOpen.{Stmt-F}
 use Rattle.pram_syntax.specs.declared.tree.Stmt.TheFolds.{fold-Stmt}
 use Rattle.pram_model.specs.Layout.{size, most_cells}
 use Rattle.pram_syntax.specs.Program.{ProgramTree, program_tokens}
-use Rattle.pram_check.specs.declared.scope.Meaning.{Meaning}
-use Rattle.pram_check.specs.declared.scope.Meaning.TheVariants.{Uniform, Cell, Array, Index, Local}
-use Rattle.pram_check.specs.declared.fault.Cause.{Cause}
-use Rattle.pram_check.specs.declared.fault.Cause.TheVariants.{UnknownName, DoubleName, WrongKind, AssignedLoopVariable}
-use Rattle.pram_check.specs.declared.fault.Cause.TheVariants.{Limit}
-use Rattle.pram_check.specs.declared.fault.Limit.TheVariants as limit
-use Rattle.pram_check.specs.declared.fault.Spot.{Spot}
-use Rattle.pram_check.specs.declared.fault.Spot.TheVariants.{Offset, TextEnd}
-use Rattle.pram_check.specs.declared.fault.Breach.{Breach}
-use Rattle.pram_check.specs.Scope.{Scope, meaning_of, inner_scope, locals_from}
-use Rattle.pram_check.specs.Breaches.{Context, Judged, Use, uses, is_read, most_reads, read_count, judged_all}
-use Rattle.pram_check.specs.Breaches.{judged_else, for_context, most_procs, token_breaches, body_context}
+use Rattle.pram_names.specs.declared.scope.Meaning.{Meaning}
+use Rattle.pram_names.specs.declared.scope.Meaning.TheVariants.{Uniform, Cell, Array, Index, Local}
+use Rattle.pram_names.specs.declared.fault.Cause.{Cause}
+use Rattle.pram_names.specs.declared.fault.Cause.TheVariants.{UnknownName, DoubleName, WrongKind, AssignedLoopVariable}
+use Rattle.pram_names.specs.declared.fault.Cause.TheVariants.{Limit}
+use Rattle.pram_names.specs.declared.fault.Limit.TheVariants as limit
+use Rattle.pram_names.specs.declared.fault.Spot.{Spot}
+use Rattle.pram_names.specs.declared.fault.Spot.TheVariants.{Offset, TextEnd}
+use Rattle.pram_names.specs.declared.fault.Breach.{Breach}
+use Rattle.pram_names.specs.Scope.{Scope, meaning_of, inner_scope, locals_from}
+use Rattle.pram_names.specs.Breaches.{Context, Judged, Use, uses, is_read, most_reads, read_count, judged_all}
+use Rattle.pram_names.specs.Breaches.{judged_else, for_context, most_procs, token_breaches, body_context}
 
 -- ---- what a name stands for
 

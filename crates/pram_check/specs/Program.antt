@@ -2,8 +2,8 @@
 use Rattle.std.specs.Prelude.{◌≡◌, pos}
 use Rattle.pram_syntax.specs.Program.{ProgramTree}
 use Rattle.pram_check.specs.declared.resolve.Parts.{Parts}
-use Rattle.pram_check.specs.Scope.{globals, shared_entries, uniform_count}
-use Rattle.pram_check.specs.Resolved.{SayStatements}
+use Rattle.pram_names.specs.Scope.{globals, shared_entries, uniform_count}
+use Rattle.pram_names.specs.Resolved.{SayStatements}
 
 -- the parts of a program that says what its tree says
 pub record ArePartsOf (t : ProgramTree) (p : Parts) : Type 0 where

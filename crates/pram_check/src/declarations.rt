@@ -3,15 +3,15 @@
 ghost use Rattle.std.specs.Prelude.{◌≡◌, ◌+◌, ◌≤◌, ◌<◌, ◌++◌, [], ◌∷◌, ◌≤ℤ◌, ◌^◌, ◌↔◌, IsTrue, length, Some, None};
 ghost use Rattle.std.specs.Prelude.{MatchOption};
 ghost use Rattle.pram_model.specs.Layout.{size, width, total_size, most_cells};
-ghost use Rattle.pram_check.specs.Scope as names;
-ghost use Rattle.pram_check.specs.Breaches.{at, new_cause, bounds_cause, cells_cause, shared_cause};
-ghost use Rattle.pram_check.specs.Breaches.{declaration_breaches};
-ghost use Rattle.pram_check.specs.Walk.{Judges};
+ghost use Rattle.pram_names.specs.Scope as names;
+ghost use Rattle.pram_names.specs.Breaches.{at, new_cause, bounds_cause, cells_cause, shared_cause};
+ghost use Rattle.pram_names.specs.Breaches.{declaration_breaches};
+ghost use Rattle.pram_names.specs.Walk.{Judges};
 
-use crate::expression::breach;
-use crate::fault::{Cause, CheckFault, Limit};
-use crate::scope::{Meaning, Scope};
-use crate::statement::new_name;
+use pram_names::expression::breach;
+use pram_names::fault::{Cause, CheckFault, Limit};
+use pram_names::scope::{Meaning, Scope};
+use pram_names::range::new_name;
 use pram_syntax::layout::Layout;
 use pram_syntax::token::{Name, Numeral};
 use pram_syntax::tree::Declaration;

@@ -4,7 +4,7 @@ ghost use Rattle.std.specs.Prelude.{◌≡◌, ℕ, List, [], length, MatchOptio
 ghost use Rattle.std.specs.List.Sorted.{IsStrictlyIncreasing};
 ghost use Rattle.pram_syntax.specs.Program.{ProgramTree};
 ghost use Rattle.pram_syntax.specs.Text.{IsTextOf};
-ghost use Rattle.pram_check.specs.Breaches.{breaches, first};
+ghost use Rattle.pram_names.specs.Breaches.{breaches, first};
 ghost use Rattle.pram_check.specs.Faults.{faults, offsets_in, IsLeast};
 
 /// A refusal stands at the first place of the text where anything is wrong, and tells what has the

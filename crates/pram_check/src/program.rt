@@ -1,12 +1,12 @@
 //! Checked programs.
 
 ghost use Rattle.std.specs.Prelude.{◌≡◌, IfOk, IfErr};
-ghost use Rattle.pram_check.specs.Breaches.{breaches, IsAccepted, Tells};
+ghost use Rattle.pram_names.specs.Breaches.{breaches, IsAccepted, Tells};
 ghost use Rattle.pram_check.specs.Bounded.{IsBounded};
 ghost use Rattle.pram_check.specs.Checked.{IsResolved};
 
-use crate::body::Statement;
-use crate::fault::CheckFault;
+use pram_names::body::Statement;
+use pram_names::fault::CheckFault;
 use crate::resolve::{Parts, resolve};
 use pram_syntax::layout::Layout;
 use pram_syntax::rule::Rule;
@@ -23,9 +23,9 @@ pub struct Program {
 
 impl Model for Program {
     ghost use Rattle.std.specs.Coded.{codes};
-    ghost use Rattle.pram_check.specs.Breaches.{IsAccepted};
+    ghost use Rattle.pram_names.specs.Breaches.{IsAccepted};
     ghost use Rattle.pram_check.specs.Checked.{Checked, IsResolved, checked};
-    ghost use Rattle.pram_check.specs.contracts.body.Statement as statement;
+    ghost use Rattle.pram_names.specs.contracts.body.Statement as statement;
     ghost use Rattle.pram_syntax.specs.contracts.tree.Stmt as stmt;
 
     ghost Value = { Checked };

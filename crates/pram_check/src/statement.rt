@@ -1,97 +1,22 @@
 //! Statements outside pardo: their names resolved.
 
-ghost use Rattle.std.specs.Prelude.{◌≡◌, ◌++◌, [], ◌∷◌, false, nat_eq, length, OnOk};
-ghost use Rattle.std.specs.List.{list_any};
-ghost use Rattle.pram_check.specs.Scope as names;
-ghost use Rattle.pram_check.specs.Breaches.{uses, use_breaches, at, read_count, target_cause, variable_cause};
-ghost use Rattle.pram_check.specs.Breaches.{new_cause, local_breaches, statement_breaches, block_breaches, outside_of};
-ghost use Rattle.pram_check.specs.Resolved.{Says, SaysTarget, SaysStatement, SayStatements};
-ghost use Rattle.pram_check.specs.Walk.{Judges};
+ghost use Rattle.std.specs.Prelude.{◌≡◌, ◌++◌, [], ◌∷◌, false, length, OnOk};
+ghost use Rattle.pram_names.specs.Scope as names;
+ghost use Rattle.pram_names.specs.Breaches.{uses, statement_breaches, block_breaches, outside_of};
+ghost use Rattle.pram_names.specs.Resolved.{Says, SaysStatement, SayStatements};
+ghost use Rattle.pram_names.specs.Walk.{Judges};
 
-use crate::body::{Expression, Statement, Target};
-use crate::expression::{breach, expression};
-use crate::fault::{Cause, CheckFault};
-use crate::scope::{Meaning, Scope};
-use crate::step::{element_target, steps, value, values};
+use crate::step::steps;
+use pram_names::body::{Expression, Statement, Target};
+use pram_names::expression::breach;
+use pram_names::fault::{Cause, CheckFault};
+use pram_names::range::{declare_locals, new_name, pardo_range};
+use pram_names::scope::{Meaning, Scope};
+use pram_names::target::{element_target, target, variable};
+use pram_names::value::{value, values};
 use pram_syntax::token::{Location, Name};
 use pram_syntax::tree::{Expr, Stmt};
 use std::alloc::Global;
-
-// Whether a uniform variable is the variable of one of the loops.
-fn is_loop(loops: &[usize], k: usize) -> bool
-    ensures { result ≡ list_any (nat_eq k) loops.now }
-{
-    for variable in loops {
-        if k == *variable {
-            return true;
-        }
-    }
-    false
-}
-
-// What is assigned without subscript.
-fn target(scope: &Scope, loops: &[usize], x: &Name) -> Result<Target, CheckFault>
-    ensures { Judges (SaysTarget scope.now x.now)
-        (at x.now.location (target_cause false loops.now (names.meaning_of scope.now x.now.text))) result }
-{
-    match scope.meaning_of(x.text.as_slice()) {
-        None => Err(breach(x.location, Cause::UnknownName)),
-        Some(Meaning::Array(_)) => Err(breach(x.location, Cause::WrongKind)),
-        Some(Meaning::Index) => Err(breach(x.location, Cause::AssignedLoopVariable)),
-        Some(Meaning::Local(_)) => Err(breach(x.location, Cause::WrongKind)),
-        Some(Meaning::Cell(k)) => Ok(Target::Cell(k)),
-        Some(Meaning::Uniform(k)) => {
-            if is_loop(loops, k) {
-                return Err(breach(x.location, Cause::AssignedLoopVariable));
-            }
-            Ok(Target::Uniform(k))
-        }
-    }
-}
-
-// The variable of a `for`.
-fn variable(scope: &Scope, loops: &[usize], x: &Name) -> Result<usize, CheckFault>
-    ensures { Judges (λ k. names.meaning_of scope.now x.now.text ≡ Some (Meaning.Uniform k))
-        (at x.now.location (variable_cause loops.now (names.meaning_of scope.now x.now.text))) result }
-{
-    match scope.meaning_of(x.text.as_slice()) {
-        None => Err(breach(x.location, Cause::UnknownName)),
-        Some(Meaning::Array(_)) => Err(breach(x.location, Cause::WrongKind)),
-        Some(Meaning::Index) => Err(breach(x.location, Cause::WrongKind)),
-        Some(Meaning::Local(_)) => Err(breach(x.location, Cause::WrongKind)),
-        Some(Meaning::Cell(_)) => Err(breach(x.location, Cause::WrongKind)),
-        Some(Meaning::Uniform(k)) => {
-            if is_loop(loops, k) {
-                return Err(breach(x.location, Cause::AssignedLoopVariable));
-            }
-            Ok(k)
-        }
-    }
-}
-
-/// A new name differs from all names in scope.
-pub fn new_name(scope: &Scope, x: &Name) -> Result<(), CheckFault>
-    ensures { Judges (λ _. Unit {0}) (at x.now.location (new_cause scope.now x.now.text)) result }
-{
-    match scope.meaning_of(x.text.as_slice()) {
-        None => Ok(()),
-        Some(_) => Err(breach(x.location, Cause::DoubleName)),
-    }
-}
-
-// Takes the locals of a pardo in.
-fn declare_locals<'a>(scope: &mut Scope<'a>, locals: &'a [Name]) -> Result<(), CheckFault>
-    ensures { Judges (λ _. scope.new ≡ scope.old ++ names.locals_from 0 locals.now)
-        (local_breaches scope.old 0 locals.now) result }
-{
-    let mut count = 0;
-    for x in locals {
-        new_name(scope, x)?;
-        scope.declare(x.text.as_slice(), Meaning::Local(count))?;
-        count += 1;
-    }
-    Ok(())
-}
 
 // An assignment without subscript.
 fn assign(
@@ -132,28 +57,6 @@ fn assign_element(
         target: Target::Element(array, subscript),
         value,
     })
-}
-
-// The bounds of a pardo with its index between them, which is in scope behind them.
-fn pardo_range<'a>(
-    alloc: Global,
-    scope: &mut Scope<'a>,
-    low: &Expr,
-    index: &'a Name,
-    high: &Expr,
-) -> Result<(Expression, Expression), CheckFault>
-    ensures is { Judges (λ p. Says scope.old low.now p.0 × Says scope.old high.now p.1)
-        (use_breaches scope.old 0 (uses low.now)
-        ++ (at index.now.location (new_cause scope.old index.now.text)
-        ++ use_breaches scope.old (read_count scope.old (uses low.now)) (uses high.now))) result }
-    ensures scope { OnOk result (scope.new ≡ names.inner_scope scope.old index.now []) }
-{
-    let mut reads = 0;
-    let first = expression(alloc, scope, &mut reads, low)?;
-    new_name(scope, index)?;
-    let second = expression(alloc, scope, &mut reads, high)?;
-    scope.declare(index.text.as_slice(), Meaning::Index)?;
-    Ok((first, second))
 }
 
 // A pardo.

@@ -1,73 +1,20 @@
 //! Statements inside pardo: their names resolved.
 
 ghost use Rattle.std.specs.Prelude.{◌≡◌, ◌++◌, [], ◌∷◌, true};
-ghost use Rattle.pram_check.specs.Scope as names;
-ghost use Rattle.pram_check.specs.Breaches.{uses, use_breaches, at, target_cause, element_cause, statement_breaches};
-ghost use Rattle.pram_check.specs.Breaches.{block_breaches, else_breaches, inside_of};
-ghost use Rattle.pram_check.specs.Resolved.{Says, SaysInner, SaysStep, SaySteps, SayElse};
-ghost use Rattle.pram_check.specs.Walk.{Judges};
+ghost use Rattle.pram_names.specs.Breaches.{statement_breaches, block_breaches, else_breaches, inside_of};
+ghost use Rattle.pram_names.specs.Resolved.{SaysStep, SaySteps, SayElse};
+ghost use Rattle.pram_names.specs.Walk.{Judges};
 
-use crate::body::{Expression, Step, StepTarget};
-use crate::expression::{breach, expression};
-use crate::fault::{Cause, CheckFault};
-use crate::scope::{Meaning, Scope};
+use pram_names::body::{Step, StepTarget};
+use pram_names::expression::breach;
+use pram_names::fault::{Cause, CheckFault};
+use pram_names::scope::Scope;
+use pram_names::step_target::inner_target;
+use pram_names::target::element_target;
+use pram_names::value::{value, values};
 use pram_syntax::token::Name;
 use pram_syntax::tree::{Expr, Stmt};
 use std::alloc::Global;
-
-/// The one expression of a statement.
-pub fn value(alloc: Global, scope: &Scope, e: &Expr) -> Result<Expression, CheckFault>
-    ensures { Judges (Says scope.now e.now) (use_breaches scope.now 0 (uses e.now)) result }
-{
-    let mut reads = 0;
-    expression(alloc, scope, &mut reads, e)
-}
-
-/// The two expressions of a statement.
-pub fn values(
-    alloc: Global,
-    scope: &Scope,
-    e: &Expr,
-    f: &Expr,
-) -> Result<(Expression, Expression), CheckFault>
-    ensures { Judges (λ p. Says scope.now e.now p.0 × Says scope.now f.now p.1)
-        (use_breaches scope.now 0 (uses e.now ++ uses f.now)) result }
-{
-    let mut reads = 0;
-    let first = expression(alloc, scope, &mut reads, e)?;
-    let second = expression(alloc, scope, &mut reads, f)?;
-    Ok((first, second))
-}
-
-/// The array that is assigned at a subscript.
-pub fn element_target(scope: &Scope, x: &Name) -> Result<usize, CheckFault>
-    ensures { Judges (λ k. names.meaning_of scope.now x.now.text ≡ Some (Meaning.Array k))
-        (at x.now.location (element_cause (names.meaning_of scope.now x.now.text))) result }
-{
-    match scope.meaning_of(x.text.as_slice()) {
-        None => Err(breach(x.location, Cause::UnknownName)),
-        Some(Meaning::Array(k)) => Ok(k),
-        Some(Meaning::Cell(_)) => Err(breach(x.location, Cause::WrongKind)),
-        Some(Meaning::Uniform(_)) => Err(breach(x.location, Cause::WrongKind)),
-        Some(Meaning::Local(_)) => Err(breach(x.location, Cause::WrongKind)),
-        Some(Meaning::Index) => Err(breach(x.location, Cause::WrongKind)),
-    }
-}
-
-// What is assigned without subscript.
-fn inner_target(scope: &Scope, x: &Name) -> Result<StepTarget, CheckFault>
-    ensures { Judges (SaysInner scope.now x.now)
-        (at x.now.location (target_cause true [] (names.meaning_of scope.now x.now.text))) result }
-{
-    match scope.meaning_of(x.text.as_slice()) {
-        None => Err(breach(x.location, Cause::UnknownName)),
-        Some(Meaning::Array(_)) => Err(breach(x.location, Cause::WrongKind)),
-        Some(Meaning::Uniform(_)) => Err(breach(x.location, Cause::WrongKind)),
-        Some(Meaning::Index) => Err(breach(x.location, Cause::AssignedLoopVariable)),
-        Some(Meaning::Cell(k)) => Ok(StepTarget::Cell(k)),
-        Some(Meaning::Local(k)) => Ok(StepTarget::Local(k)),
-    }
-}
 
 // An assignment without subscript.
 fn assign(alloc: Global, scope: &Scope, target: &Name, e: &Expr) -> Result<Step, CheckFault>

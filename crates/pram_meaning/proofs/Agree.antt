@@ -4,7 +4,7 @@ use Rattle.std.proofs.lemmas.Bool.{cases_lt}
 use Rattle.std.proofs.lemmas.Bool.{lt-ltb, le-ltb}
 use Rattle.pram_meaning.specs.Meaning as relation
 use Rattle.pram_check.specs.Checked.{Checked}
-use Rattle.pram_check.specs.declared.body.Expression.{Expression}
+use Rattle.pram_names.specs.declared.body.Expression.{Expression}
 use Rattle.pram_meaning.specs.Attempt.{Attempt, attempt}
 use Rattle.pram_meaning.specs.Bounded.{Behaviour, Done, Goes, Reaches, Stops, counted, evaluated, found, tested, then_do, turns, valued}
 use Rattle.pram_meaning.specs.Meaning.{Begins, Does, Either, Ends, Evaluated, Fate, Fates, IsEnd, Tested, Then, Turns, Yields, at_fault, at_start, begins, faults, on, waits, yields}

@@ -1,15 +1,15 @@
 -- Every statement's bounded meaning agrees with the relation.
 use Rattle.std.proofs.Common.{◌≡◌, ℕ, zero, suc, ◌+◌, ◌≤◌, ◌<◌, List, [], ◌∷◌, Bool, true, false, Result, ℤ, pos, ◌+ℤ◌, if◌then◌else◌, refl, arith, Option, Some, None}
 use Rattle.pram_meaning.specs.Meaning as relation
-use Rattle.pram_check.specs.declared.body.Step as step
-use Rattle.pram_check.specs.declared.body.StepTarget.TheVariants as step_target
-use Rattle.pram_check.specs.declared.body.Target.TheVariants as target
+use Rattle.pram_names.specs.declared.body.Step as step
+use Rattle.pram_names.specs.declared.body.StepTarget.TheVariants as step_target
+use Rattle.pram_names.specs.declared.body.Target.TheVariants as target
 use Rattle.pram_check.specs.Checked.{Checked}
-use Rattle.pram_check.specs.declared.body.Expression.{Expression}
-use Rattle.pram_check.specs.declared.body.Statement.{Assign, For', If', Pardo, Print, Row_of-Statement, Statement, While', end_of-Statement, more_of-Statement}
-use Rattle.pram_check.specs.declared.body.Step.{Row_of-Step, Step, end_of-Step, more_of-Step}
-use Rattle.pram_check.specs.declared.body.StepTarget.{StepTarget}
-use Rattle.pram_check.specs.declared.body.Target.{Target}
+use Rattle.pram_names.specs.declared.body.Expression.{Expression}
+use Rattle.pram_names.specs.declared.body.Statement.{Assign, For', If', Pardo, Print, Row_of-Statement, Statement, While', end_of-Statement, more_of-Statement}
+use Rattle.pram_names.specs.declared.body.Step.{Row_of-Step, Step, end_of-Step, more_of-Step}
+use Rattle.pram_names.specs.declared.body.StepTarget.{StepTarget}
+use Rattle.pram_names.specs.declared.body.Target.{Target}
 use Rattle.pram_meaning.specs.Attempt.{Attempt, Effect, attempt, attempt_assign, attempt_bounds, attempt_range, attempt_step, attempt_value}
 use Rattle.pram_meaning.specs.Bounded.{Behaviour, Done, Goes, attempted_on, counted, evaluated, for_turns, found, pardo_done, perform, perform_list, perform_list_on, perform_on, perform_row, perform_row_on, tested, then_do, turns_on, unless_none, valued}
 use Rattle.pram_meaning.specs.Conflict.{Part}

@@ -1,11 +1,11 @@
 -- A block's statements as a list.
 use Rattle.std.proofs.Common.{if◌then◌else◌, Bool, ◌≡◌, ℕ, ◌+◌, refl, ap, sym, ◌∙◌, Global, Vec, Result, Err, subst, true, false}
 use Rattle.pram_check.specs.Checked.{Checked}
-use Rattle.pram_check.specs.declared.body.Expression.{Expression}
-use Rattle.pram_check.specs.declared.body.Statement.{Assign, For, If, Pardo, Print, Row_of-Statement, Statement, While, end_of-Statement, items-the_row-Statement, items_hidden-the_row-Statement-0, more_of-Statement}
-use Rattle.pram_check.specs.declared.body.Statement.TheBlock.{hidden-the_row-Statement-0}
-use Rattle.pram_check.specs.declared.body.Step.{Step}
-use Rattle.pram_check.specs.declared.body.Target.{Target}
+use Rattle.pram_names.specs.declared.body.Expression.{Expression}
+use Rattle.pram_names.specs.declared.body.Statement.{Assign, For, If, Pardo, Print, Row_of-Statement, Statement, While, end_of-Statement, items-the_row-Statement, items_hidden-the_row-Statement-0, more_of-Statement}
+use Rattle.pram_names.specs.declared.body.Statement.TheBlock.{hidden-the_row-Statement-0}
+use Rattle.pram_names.specs.declared.body.Step.{Step}
+use Rattle.pram_names.specs.declared.body.Target.{Target}
 use Rattle.pram_meaning.specs.Attempt.{attempt_assign, attempt_bounds, attempt_range}
 use Rattle.pram_meaning.specs.Bounded.{Done, Goes, evaluated, for_turns, found, pardo_done, perform, perform_list, perform_row, tested, then_do, turns}
 use Rattle.pram_meaning.specs.Runs.{IsBehaviour}

@@ -12,13 +12,13 @@ use Rattle.pram_syntax.specs.declared.tree.Expr.TheVariants as e
 use Rattle.pram_syntax.specs.declared.tree.Expr.TheOpen.{Expr-F}
 use Rattle.pram_syntax.specs.declared.tree.Expr.TheFolds.{fold-Expr, fold-roll-Expr}
 use Rattle.pram_values.specs.declared.kind.Kind.TheVariants.{OutOfRange}
-use Rattle.pram_check.specs.declared.body.Expression.{Expression}
-use Rattle.pram_check.specs.declared.body.Link.{Link}
-use Rattle.pram_check.specs.declared.scope.Meaning.{Meaning}
-use Rattle.pram_check.specs.declared.scope.Meaning.TheVariants.{Uniform, Cell, Array, Index, Local}
-use Rattle.pram_check.specs.Resolved.{Says, SayLinks}
-use Rattle.pram_check.specs.Resolved as says
-use Rattle.pram_check.specs.Scope.{Scope, meaning_of}
+use Rattle.pram_names.specs.declared.body.Expression.{Expression}
+use Rattle.pram_names.specs.declared.body.Link.{Link}
+use Rattle.pram_names.specs.declared.scope.Meaning.{Meaning}
+use Rattle.pram_names.specs.declared.scope.Meaning.TheVariants.{Uniform, Cell, Array, Index, Local}
+use Rattle.pram_names.specs.Resolved.{Says, SayLinks}
+use Rattle.pram_names.specs.Resolved as says
+use Rattle.pram_names.specs.Scope.{Scope, meaning_of}
 use Rattle.pram_meaning.specs.Attempt.{Attempt, Fails, Gives, Trail, and_then, attempt, operation, read}
 use Rattle.pram_meaning.specs.Operation.{operate, operate_before}
 use Rattle.pram_meaning.specs.Store.{View}

@@ -12,19 +12,19 @@ use Rattle.pram_syntax.specs.declared.tree.Stmt.TheOpen.{Stmt-F}
 use Rattle.pram_syntax.specs.declared.tree.Stmt.TheFolds.{fold-Stmt, fold-roll-Stmt}
 use Rattle.pram_values.specs.Truth.{is_nonzero}
 use Rattle.pram_check.specs.Checked.{Checked}
-use Rattle.pram_check.specs.declared.body.Expression.{Expression}
-use Rattle.pram_check.specs.declared.body.Statement.{Statement}
-use Rattle.pram_check.specs.declared.body.Statement as statement
-use Rattle.pram_check.specs.declared.body.Step.{Step}
-use Rattle.pram_check.specs.declared.body.Step as step
-use Rattle.pram_check.specs.declared.body.Step.TheBlock.{hidden-the_row-Step-0}
-use Rattle.pram_check.specs.declared.body.StepTarget.{StepTarget}
-use Rattle.pram_check.specs.declared.body.Target.{Target}
-use Rattle.pram_check.specs.declared.scope.Meaning.{Meaning}
-use Rattle.pram_check.specs.declared.scope.Meaning.TheVariants.{Uniform, Cell, Array, Index, Local}
-use Rattle.pram_check.specs.Resolved.{Says, SayElse, SayOther, SayStatements, SaySteps, SaysInner, SaysStatement, SaysStep, SaysTarget}
-use Rattle.pram_check.specs.Resolved as says
-use Rattle.pram_check.specs.Scope.{Scope, inner_scope, meaning_of}
+use Rattle.pram_names.specs.declared.body.Expression.{Expression}
+use Rattle.pram_names.specs.declared.body.Statement.{Statement}
+use Rattle.pram_names.specs.declared.body.Statement as statement
+use Rattle.pram_names.specs.declared.body.Step.{Step}
+use Rattle.pram_names.specs.declared.body.Step as step
+use Rattle.pram_names.specs.declared.body.Step.TheBlock.{hidden-the_row-Step-0}
+use Rattle.pram_names.specs.declared.body.StepTarget.{StepTarget}
+use Rattle.pram_names.specs.declared.body.Target.{Target}
+use Rattle.pram_names.specs.declared.scope.Meaning.{Meaning}
+use Rattle.pram_names.specs.declared.scope.Meaning.TheVariants.{Uniform, Cell, Array, Index, Local}
+use Rattle.pram_names.specs.Resolved.{Says, SayElse, SayOther, SayStatements, SaySteps, SaysInner, SaysStatement, SaysStep, SaysTarget}
+use Rattle.pram_names.specs.Resolved as says
+use Rattle.pram_names.specs.Scope.{Scope, inner_scope, meaning_of}
 use Rattle.pram_meaning.specs.Attempt.{Attempt, Effect, Gives, and_then, attempt, attempt_bounds, attempt_range, ranged, unwritten, write}
 use Rattle.pram_meaning.specs.Bounded.{Behaviour, Done, Goes, attempted_on, evaluated, for_turns, perform, perform_list, perform_list_on}
 use Rattle.pram_meaning.specs.Bounded.{perform_on, perform_row_on, tested, then_do, turns, turns_on}

@@ -2,7 +2,7 @@
 use Rattle.std.proofs.Common.{◌≡◌, ◌⊎◌, inl, inr, ℕ, ℤ, pos, ◌+ℤ◌, ◌≤ℤ◌, ◌<ℤ◌, suc, ◌≤◌, List, true, false, int_le, refl, ap, sym, ◌∙◌, arith, Err}
 use Rattle.std.proofs.lemmas.Int.{ints, by_lt_z}
 use Rattle.pram_check.specs.Checked.{Checked}
-use Rattle.pram_check.specs.declared.body.Statement.{Statement}
+use Rattle.pram_names.specs.declared.body.Statement.{Statement}
 use Rattle.pram_meaning.specs.Attempt.{next}
 use Rattle.pram_meaning.specs.Bounded.{Goes, counted, for_turns, perform_list, then_do}
 use Rattle.pram_meaning.specs.Runs.{IsBehaviour}

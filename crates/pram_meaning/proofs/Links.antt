@@ -1,9 +1,9 @@
 -- A chain's operands as a list.
 use Rattle.std.proofs.Common.{◌≡◌, ℕ, ℤ, List, [], ◌∷◌, ◌+◌, ◌<◌, refl, ap, sym, ◌∙◌, Global, Box, Vec, drop, length, get_or, ◌≤◌}
 use Rattle.std.proofs.lemmas.List.{drop_more, drop_all}
-use Rattle.pram_check.specs.declared.body.Expression.{Chain, Expression, Row_of-Link, end_of-Link, items-the_row-Link, items_hidden-the_row-Link-0, more_of-Link}
-use Rattle.pram_check.specs.declared.body.Expression.TheBlock.{hidden-the_row-Link-0}
-use Rattle.pram_check.specs.declared.body.Link.{Link}
+use Rattle.pram_names.specs.declared.body.Expression.{Chain, Expression, Row_of-Link, end_of-Link, items-the_row-Link, items_hidden-the_row-Link-0, more_of-Link}
+use Rattle.pram_names.specs.declared.body.Expression.TheBlock.{hidden-the_row-Link-0}
+use Rattle.pram_names.specs.declared.body.Link.{Link}
 use Rattle.pram_meaning.specs.Attempt.{Attempt, Fails, Gives, Trail, and_then, attempt, attempt_links, operation}
 use Rattle.pram_meaning.specs.Operation.{operate}
 use Rattle.pram_meaning.specs.Store.{View}

@@ -4,8 +4,8 @@ use Rattle.std.proofs.lemmas.List.{drop_more, drop_all}
 use Rattle.std.proofs.lemmas.Bool.{le-ltb}
 use Rattle.pram_meaning.specs.declared.run.Halt.TheVariants as halt
 use Rattle.pram_check.specs.Checked.{Checked}
-use Rattle.pram_check.specs.declared.body.Expression.{Expression}
-use Rattle.pram_check.specs.declared.body.Statement.{Statement}
+use Rattle.pram_names.specs.declared.body.Expression.{Expression}
+use Rattle.pram_names.specs.declared.body.Statement.{Statement}
 use Rattle.pram_meaning.specs.Bounded.{Behaviour, Done, Goes, Reaches, perform, perform_list, tested, then_do, turns}
 use Rattle.pram_meaning.specs.Runs.{IsBehaviour}
 use Rattle.pram_meaning.specs.Store.{State}

@@ -2,8 +2,8 @@
 use Rattle.std.proofs.Common.{◌≡◌, ℕ, List, ℤ, pos, ap, sym, ◌∙◌, subst}
 use Rattle.pram_syntax.specs.Program.{ProgramTree}
 use Rattle.pram_check.specs.Checked.{Checked, IsResolved}
-use Rattle.pram_check.specs.Resolved.{SayStatements}
-use Rattle.pram_check.specs.Scope.{globals, shared_entries, uniform_count}
+use Rattle.pram_names.specs.Resolved.{SayStatements}
+use Rattle.pram_names.specs.Scope.{globals, shared_entries, uniform_count}
 use Rattle.pram_meaning.specs.Computed.{TreeHasOneOutcome, body_done, verdict_at}
 use Rattle.pram_meaning.specs.Outcome.{opening}
 use Rattle.pram_meaning.proofs.DenotedStatements.{same_block, statements_said}

@@ -2,12 +2,12 @@
 use Rattle.std.proofs.Common.{◌≡◌, ℕ, true, false, List, ◌∷◌, ◌+◌, ◌<◌, ◌≤◌, refl, ap, sym, ◌∙◌, Global, Vec, drop, length, get_or, Result, Err, subst, arith}
 use Rattle.std.proofs.lemmas.List.{drop_more, drop_all}
 use Rattle.pram_meaning.specs.declared.run.Halt.TheVariants as halt
-use Rattle.pram_check.specs.declared.body.Step as step
+use Rattle.pram_names.specs.declared.body.Step as step
 use Rattle.pram_check.specs.Checked.{Checked}
-use Rattle.pram_check.specs.declared.body.Expression.{Expression}
-use Rattle.pram_check.specs.declared.body.Step.{Row_of-Step, Step, end_of-Step, items-the_row-Step, items_hidden-the_row-Step-0, more_of-Step}
-use Rattle.pram_check.specs.declared.body.Step.TheBlock.{hidden-the_row-Step-0}
-use Rattle.pram_check.specs.declared.body.StepTarget.{StepTarget}
+use Rattle.pram_names.specs.declared.body.Expression.{Expression}
+use Rattle.pram_names.specs.declared.body.Step.{Row_of-Step, Step, end_of-Step, items-the_row-Step, items_hidden-the_row-Step-0, more_of-Step}
+use Rattle.pram_names.specs.declared.body.Step.TheBlock.{hidden-the_row-Step-0}
+use Rattle.pram_names.specs.declared.body.StepTarget.{StepTarget}
 use Rattle.pram_meaning.specs.Attempt.{attempt_step}
 use Rattle.pram_meaning.specs.Bounded.{Behaviour, Done, Goes, attempted_on, perform_list_on, perform_on, perform_row_on, tested_on, then_do, turns_on}
 use Rattle.pram_meaning.specs.Conflict.{Part}

@@ -3,8 +3,8 @@ use Rattle.std.proofs.Common.{◌≡◌, ℕ, ℤ, true, List, [], ◌∷◌, ze
 use Rattle.std.proofs.lemmas.Bool.{le-ltb}
 use Rattle.pram_meaning.specs.declared.run.Halt.TheVariants as halt
 use Rattle.pram_check.specs.Checked.{Checked}
-use Rattle.pram_check.specs.declared.body.Expression.{Expression}
-use Rattle.pram_check.specs.declared.body.Step.{Step}
+use Rattle.pram_names.specs.declared.body.Expression.{Expression}
+use Rattle.pram_names.specs.declared.body.Step.{Step}
 use Rattle.pram_meaning.specs.Bounded.{Behaviour, Done, Goes, Reaches, perform_list_on, tested_on, then_do, turns_on, unless_none}
 use Rattle.pram_meaning.specs.Conflict.{Part}
 use Rattle.pram_meaning.specs.Runs.{IsBehaviour}

@@ -8,16 +8,16 @@ use Rattle.pram_check.specs.Bounded as bounded
 use Rattle.pram_check.specs.Bounded.{AreNamed, ArePair, ArePartStatements, ArePartSteps, AreStatements, AreSteps, IsAssign, IsBounded}
 use Rattle.pram_check.specs.Bounded.{IsInnerAssign, IsNamed, IsSole, IsStatement, IsStep, Names, with_locals}
 use Rattle.pram_check.specs.Checked.{Checked}
-use Rattle.pram_check.specs.declared.body.Expression.{Expression, Number, Uniform, Index, Local, Cell, Element', Prefix', Chain'}
-use Rattle.pram_check.specs.declared.body.Expression.{Row_of-Link, end_of-Link, more_of-Link}
-use Rattle.pram_check.specs.declared.body.Statement.{Assign, For', If', Pardo, Print, Row_of-Statement, Statement, While', end_of-Statement}
-use Rattle.pram_check.specs.declared.body.Statement.{more_of-Statement}
-use Rattle.pram_check.specs.declared.body.Step.{Row_of-Step, Step, end_of-Step, more_of-Step}
-use Rattle.pram_check.specs.declared.body.Step as step
-use Rattle.pram_check.specs.declared.body.StepTarget.{StepTarget}
-use Rattle.pram_check.specs.declared.body.StepTarget.TheVariants as inner
-use Rattle.pram_check.specs.declared.body.Target.{Target}
-use Rattle.pram_check.specs.declared.body.Target.TheVariants as target
+use Rattle.pram_names.specs.declared.body.Expression.{Expression, Number, Uniform, Index, Local, Cell, Element', Prefix', Chain'}
+use Rattle.pram_names.specs.declared.body.Expression.{Row_of-Link, end_of-Link, more_of-Link}
+use Rattle.pram_names.specs.declared.body.Statement.{Assign, For', If', Pardo, Print, Row_of-Statement, Statement, While', end_of-Statement}
+use Rattle.pram_names.specs.declared.body.Statement.{more_of-Statement}
+use Rattle.pram_names.specs.declared.body.Step.{Row_of-Step, Step, end_of-Step, more_of-Step}
+use Rattle.pram_names.specs.declared.body.Step as step
+use Rattle.pram_names.specs.declared.body.StepTarget.{StepTarget}
+use Rattle.pram_names.specs.declared.body.StepTarget.TheVariants as inner
+use Rattle.pram_names.specs.declared.body.Target.{Target}
+use Rattle.pram_names.specs.declared.body.Target.TheVariants as target
 use Rattle.pram_values.specs.declared.kind.Kind.TheVariants as toowide
 use Rattle.pram_values.specs.Truth.{is_nonzero}
 use Rattle.pram_values.specs.Value.{Value}

@@ -4,11 +4,11 @@ use Rattle.pram_model.specs.Layout.{cell_of, width}
 use Rattle.pram_values.specs.declared.kind.Kind.{Kind}
 use Rattle.pram_values.specs.declared.kind.Kind.TheVariants.{OutOfRange, TooWide}
 use Rattle.pram_values.specs.Value.{Value}
-use Rattle.pram_check.specs.declared.body.Expression.{Expression, Number, Uniform, Index, Local, Cell, Element', Prefix', Chain', Row_of-Link, end_of-Link, more_of-Link}
-use Rattle.pram_check.specs.declared.body.Target.{Target}
-use Rattle.pram_check.specs.declared.body.Target.TheVariants as target
-use Rattle.pram_check.specs.declared.body.StepTarget.{StepTarget}
-use Rattle.pram_check.specs.declared.body.StepTarget.TheVariants as step
+use Rattle.pram_names.specs.declared.body.Expression.{Expression, Number, Uniform, Index, Local, Cell, Element', Prefix', Chain', Row_of-Link, end_of-Link, more_of-Link}
+use Rattle.pram_names.specs.declared.body.Target.{Target}
+use Rattle.pram_names.specs.declared.body.Target.TheVariants as target
+use Rattle.pram_names.specs.declared.body.StepTarget.{StepTarget}
+use Rattle.pram_names.specs.declared.body.StepTarget.TheVariants as step
 use Rattle.pram_meaning.specs.Operation.{operate, operate_before}
 use Rattle.pram_meaning.specs.Store.{View}
 

@@ -4,10 +4,10 @@ use Rattle.std.specs.Prelude.{Result, Ok, Err, ℕ, ◌+◌, List, [], ◌∷◌
 use Rattle.std.specs.List.{fold, flat_map}
 use Rattle.pram_model.specs.declared.rule.Rule.{Rule}
 use Rattle.pram_check.specs.Checked.{Checked}
-use Rattle.pram_check.specs.declared.body.Target.{Target}
-use Rattle.pram_check.specs.declared.body.Target.TheVariants as target
-use Rattle.pram_check.specs.declared.body.StepTarget.{StepTarget}
-use Rattle.pram_check.specs.declared.body.StepTarget.TheVariants as step
+use Rattle.pram_names.specs.declared.body.Target.{Target}
+use Rattle.pram_names.specs.declared.body.Target.TheVariants as target
+use Rattle.pram_names.specs.declared.body.StepTarget.{StepTarget}
+use Rattle.pram_names.specs.declared.body.StepTarget.TheVariants as step
 use Rattle.pram_values.specs.declared.place.Place.TheVariants.{All}
 use Rattle.pram_values.specs.Truth.{is_nonzero}
 use Rattle.pram_values.specs.Value.{Value}

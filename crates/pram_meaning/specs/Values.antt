@@ -3,8 +3,8 @@ use Rattle.std.specs.Prelude.{ℕ, ◌^◌, List, ℤ, pos, neg_ℤ, ◌≤ℤ�
 use Rattle.std.specs.List.{AllByRecursion}
 use Rattle.pram_check.specs.Bounded.{Names, IsBounded, IsStep, IsStatement}
 use Rattle.pram_check.specs.Checked.{Checked}
-use Rattle.pram_check.specs.declared.body.Statement.{Statement}
-use Rattle.pram_check.specs.declared.body.Step.{Step}
+use Rattle.pram_names.specs.declared.body.Statement.{Statement}
+use Rattle.pram_names.specs.declared.body.Step.{Step}
 use Rattle.write_rules.specs.Verdict.{Verdict, Ended, Faulted, GoesOn}
 use Rattle.pram_meaning.specs.Bounded.{Done, Goes, Stops, Reaches, perform, perform_on}
 use Rattle.pram_meaning.specs.Outcome.{IsOutcome}

@@ -7,8 +7,8 @@ use Rattle.pram_model.specs.Layout.{SharedEntry, total_size}
 use Rattle.pram_syntax.specs.Program.{ProgramTree}
 use Rattle.pram_tokens.specs.Plain.{IsPlain}
 use Rattle.pram_syntax.specs.Text.{IsTextOf, IsFaultOf}
-use Rattle.pram_check.specs.declared.fault.Breach.{Breach}
-use Rattle.pram_check.specs.Breaches.{IsAccepted, breaches, first}
+use Rattle.pram_names.specs.declared.fault.Breach.{Breach}
+use Rattle.pram_names.specs.Breaches.{IsAccepted, breaches, first}
 use Rattle.pram_check.specs.Checked.{Checked, IsResolved}
 use Rattle.write_rules.specs.Verdict.{Verdict}
 use Rattle.pram_meaning.specs.Outcome.{IsOutcome}

@@ -2,12 +2,12 @@
 use Rattle.std.specs.Prelude.{ℕ, List, ◌++◌, Option, Some, None, codes, decimal}
 use Rattle.pram_tokens.specs.declared.error.TextFault.{TextFault}
 use Rattle.pram_tokens.specs.declared.error.TextFault.TheVariants as text
-use Rattle.pram_check.specs.declared.fault.Cause.{Cause}
-use Rattle.pram_check.specs.declared.fault.Cause.TheVariants as cause
-use Rattle.pram_check.specs.declared.fault.Limit.{Limit}
-use Rattle.pram_check.specs.declared.fault.Limit.TheVariants as limit
-use Rattle.pram_check.specs.declared.fault.Spot.{Spot}
-use Rattle.pram_check.specs.declared.fault.Spot.TheVariants as spot
+use Rattle.pram_names.specs.declared.fault.Cause.{Cause}
+use Rattle.pram_names.specs.declared.fault.Cause.TheVariants as cause
+use Rattle.pram_names.specs.declared.fault.Limit.{Limit}
+use Rattle.pram_names.specs.declared.fault.Limit.TheVariants as limit
+use Rattle.pram_names.specs.declared.fault.Spot.{Spot}
+use Rattle.pram_names.specs.declared.fault.Spot.TheVariants as spot
 use Rattle.pramc.specs.declared.from_text.Refusal.{Refusal}
 use Rattle.pramc.specs.declared.from_text.Refusal.TheVariants as refusal
 

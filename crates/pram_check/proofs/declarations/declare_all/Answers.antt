@@ -1,8 +1,8 @@
 use Rattle.std.proofs.Common.{◌+◌, ◌++◌, ap, ◌∙◌, arith, length, drop}
 use Rattle.pram_model.specs.Layout.{total_size}
-use Rattle.pram_check.specs.Scope.{declared_from, shared_entries, uniform_count}
-use Rattle.pram_check.specs.Breaches.{declaration_breaches, first}
-use Rattle.pram_check.proofs.Judging.{exit}
+use Rattle.pram_names.specs.Scope.{declared_from, shared_entries, uniform_count}
+use Rattle.pram_names.specs.Breaches.{declaration_breaches, first}
+use Rattle.pram_names.proofs.Judging.{exit}
 use Rattle.pram_check.proofs.DeclarationSteps.{step_scope, step_entries, step_uniforms, step_first, leads_declaration, rest_is}
 use Rattle.pram_check.proofs.DeclarationSteps.{few_uniforms}
 use Rattle.pram_check.proofs.declarations.declare_all.Goals as goal

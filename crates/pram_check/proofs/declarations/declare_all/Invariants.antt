@@ -1,7 +1,7 @@
 use Rattle.std.proofs.Common.{◌≡◌, ◌+◌, ◌++◌, ◌≤◌, [], drop, length}
 use Rattle.pram_model.specs.Layout.{total_size}
-use Rattle.pram_check.specs.Scope.{globals, declared_from, shared_entries, uniform_count}
-use Rattle.pram_check.specs.Breaches.{declaration_breaches, first}
+use Rattle.pram_names.specs.Scope.{globals, declared_from, shared_entries, uniform_count}
+use Rattle.pram_names.specs.Breaches.{declaration_breaches, first}
 use Rattle.pram_check.proofs.declarations.declare_all.Given as goal
 
 -- what is taken in, with what the rest will add, is what the whole gives

@@ -1,8 +1,9 @@
 use Rattle.std.proofs.Common.{◌+◌, ◌++◌, ◌∷◌, Some, None, [], refl, sym, ap, ◌∙◌, subst, drop}
-use Rattle.pram_check.specs.Breaches.{outside_of, statement_breaches, block_breaches, else_breaches, first}
-use Rattle.pram_check.specs.Resolved as says
-use Rattle.pram_check.proofs.Judging.{exit, first_front, first_behind}
-use Rattle.pram_check.proofs.Parts.{to_front, to_back, none_in, print_parts, while_parts, if_parts, for_parts, block_more, block_at}
+use Rattle.pram_names.specs.Breaches.{outside_of, statement_breaches, block_breaches, else_breaches, first}
+use Rattle.pram_names.specs.Resolved as says
+use Rattle.pram_names.proofs.Judging.{exit, first_front, first_behind}
+use Rattle.pram_names.proofs.Judging.{to_front, to_back, none_in}
+use Rattle.pram_check.proofs.Parts.{print_parts, while_parts, if_parts, for_parts, block_more, block_at}
 use Rattle.pram_check.proofs.Statements.{said_print, said_while, said_if, said_for, statements_more, leads_bounds, leads_inner, none_for}
 use Rattle.pram_check.proofs.statement.+statement.Goals as goal
 

@@ -1,6 +1,6 @@
 use Rattle.std.proofs.Common.{◌≡◌, None, take}
-use Rattle.pram_check.specs.Breaches.{block_breaches, outside_of, first}
-use Rattle.pram_check.specs.Resolved.{SayStatements}
+use Rattle.pram_names.specs.Breaches.{block_breaches, outside_of, first}
+use Rattle.pram_names.specs.Resolved.{SayStatements}
 use Rattle.pram_check.proofs.statement.+statement.Given as goal
 
 -- the statements so far are said, in which nothing is wrong

@@ -1,5 +1,5 @@
-use Rattle.pram_check.proofs.Judging.{exit}
-use Rattle.pram_check.proofs.Parts.{to_front}
+use Rattle.pram_names.proofs.Judging.{exit}
+use Rattle.pram_names.proofs.Judging.{to_front}
 use Rattle.pram_check.proofs.PardoParts.{pardo_whole, leads_names, leads_body, good_pardo}
 use Rattle.pram_check.proofs.statement.pardo.Goals as goal
 

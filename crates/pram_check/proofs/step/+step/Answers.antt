@@ -1,9 +1,10 @@
 use Rattle.std.proofs.Common.{◌+◌, Some, None, [], refl, sym, ap, ◌∙◌, subst, drop}
-use Rattle.pram_check.specs.Breaches.{inside_of, statement_breaches, block_breaches, else_breaches}
-use Rattle.pram_check.specs.Resolved.{SaySteps}
-use Rattle.pram_check.specs.Resolved as says
-use Rattle.pram_check.proofs.Judging.{exit, refused, first_front, first_behind}
-use Rattle.pram_check.proofs.Parts.{to_front, to_back, none_in, print_parts, while_parts, if_parts, for_parts, pardo_parts, block_more}
+use Rattle.pram_names.specs.Breaches.{inside_of, statement_breaches, block_breaches, else_breaches}
+use Rattle.pram_names.specs.Resolved.{SaySteps}
+use Rattle.pram_names.specs.Resolved as says
+use Rattle.pram_names.proofs.Judging.{exit, refused, first_front, first_behind}
+use Rattle.pram_names.proofs.Judging.{to_front, to_back, none_in}
+use Rattle.pram_check.proofs.Parts.{print_parts, while_parts, if_parts, for_parts, pardo_parts, block_more}
 use Rattle.pram_check.proofs.Parts.{block_at}
 use Rattle.pram_check.proofs.Steps.{said_while, said_if, steps_more}
 use Rattle.pram_check.proofs.step.+step.Goals as goal

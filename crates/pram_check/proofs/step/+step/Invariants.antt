@@ -1,6 +1,6 @@
 use Rattle.std.proofs.Common.{◌≡◌, None, take}
-use Rattle.pram_check.specs.Breaches.{block_breaches, inside_of, first}
-use Rattle.pram_check.specs.Resolved.{SaySteps}
+use Rattle.pram_names.specs.Breaches.{block_breaches, inside_of, first}
+use Rattle.pram_names.specs.Resolved.{SaySteps}
 use Rattle.pram_check.proofs.step.+step.Given as goal
 
 -- the steps so far say the statements so far, in which nothing is wrong

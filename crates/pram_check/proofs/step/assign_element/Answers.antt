@@ -1,8 +1,9 @@
 use Rattle.std.proofs.Common.{refl}
-use Rattle.pram_check.specs.Breaches.{inside_of}
-use Rattle.pram_check.specs.Resolved as says
-use Rattle.pram_check.proofs.Judging.{exit}
-use Rattle.pram_check.proofs.Parts.{to_front, to_back, none_in, element_parts}
+use Rattle.pram_names.specs.Breaches.{inside_of}
+use Rattle.pram_names.specs.Resolved as says
+use Rattle.pram_names.proofs.Judging.{exit}
+use Rattle.pram_names.proofs.Judging.{to_front, to_back, none_in}
+use Rattle.pram_check.proofs.Parts.{element_parts}
 use Rattle.pram_check.proofs.step.assign_element.Goals as goal
 
 pub returns-in_err-array : goal.returns-in_err-array

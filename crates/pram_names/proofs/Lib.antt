@@ -1,0 +1,6 @@
+pub mod Judging
+pub mod Uses
+pub mod Names
+pub mod Expressions
+pub mod Locals
+pub mod Chains

@@ -1,0 +1,5 @@
+pub mod Scope
+pub mod ScopeFields
+pub mod Breaches
+pub mod Resolved
+pub mod Walk
