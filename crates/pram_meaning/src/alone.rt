@@ -8,13 +8,13 @@ ghost use Rattle.pram_meaning.specs.Together as spec;
 ghost use Rattle.pram_meaning.specs.Runs.{state_of, view_is, effect_is, IsValue};
 
 use crate::attempt::{Effect, Failure, assignment, bounds, range, value_of};
+use crate::interpreter::Interpreter;
 use crate::run::{Halt, Run};
 use crate::view::View;
 use pram_check::body::{Expression, Target};
 use pram_check::program::Program;
 use pram_values::kind::Kind;
 use pram_values::place::Place;
-use std::alloc::Global;
 use write_rules::fault::Fault;
 
 // What the one processor sees.
@@ -42,87 +42,80 @@ fn fault_at(kind: Kind, line: u32) -> Halt
     })
 }
 
-/// The value of an expression.
-pub fn evaluate(
-    alloc: Global,
-    program: &Program,
-    run: &Run,
-    line: u32,
-    e: &Expression,
-) -> Result<i64, Halt>
-    ensures { IsValue (λ v. v) result (spec.alone line (attempt (seen program.now (state_of run.now)) e.now [])) }
-{
-    let no_locals: Vec<i64> = Vec::new(alloc);
-    let view = view_of(program, run, &no_locals);
-    let mut trail = Vec::new(alloc);
-    match value_of(&view, e, &mut trail) {
-        Ok(value) => Ok(value),
-        Err(Failure::Fault(kind)) => Err(fault_at(kind, line)),
-        Err(Failure::NoMemory) => Err(Halt::NoMemory),
+impl<'a> Interpreter<'a> {
+    /// The value of an expression.
+    pub fn evaluate(&self, run: &Run, line: u32, e: &Expression) -> Result<i64, Halt>
+        ensures { IsValue (λ v. v) result (spec.alone line (attempt (seen self.now.program.now (state_of run.now)) e.now [])) }
+    {
+        let no_locals: Vec<i64> = Vec::new(self.alloc);
+        let view = view_of(self.program, run, &no_locals);
+        let mut trail = Vec::new(self.alloc);
+        match value_of(&view, e, &mut trail) {
+            Ok(value) => Ok(value),
+            Err(Failure::Fault(kind)) => Err(fault_at(kind, line)),
+            Err(Failure::NoMemory) => Err(Halt::NoMemory),
+        }
     }
-}
 
-/// What an assignment gives.
-pub fn evaluate_assignment(
-    alloc: Global,
-    program: &Program,
-    run: &Run,
-    line: u32,
-    target: &Target,
-    e: &Expression,
-) -> Result<Effect, Halt>
-    ensures { IsValue effect_is result (spec.alone line (attempt_assign (seen program.now (state_of run.now)) target.now e.now)) }
-{
-    let no_locals: Vec<i64> = Vec::new(alloc);
-    let view = view_of(program, run, &no_locals);
-    let mut trail = Vec::new(alloc);
-    match assignment(&view, target, e, &mut trail) {
-        Ok(effect) => Ok(effect),
-        Err(Failure::Fault(kind)) => Err(fault_at(kind, line)),
-        Err(Failure::NoMemory) => Err(Halt::NoMemory),
+    /// What an assignment gives.
+    pub fn evaluate_assignment(
+        &self,
+        run: &Run,
+        line: u32,
+        target: &Target,
+        e: &Expression,
+    ) -> Result<Effect, Halt>
+        ensures { IsValue effect_is result (spec.alone line (attempt_assign (seen self.now.program.now (state_of run.now)) target.now e.now)) }
+    {
+        let no_locals: Vec<i64> = Vec::new(self.alloc);
+        let view = view_of(self.program, run, &no_locals);
+        let mut trail = Vec::new(self.alloc);
+        match assignment(&view, target, e, &mut trail) {
+            Ok(effect) => Ok(effect),
+            Err(Failure::Fault(kind)) => Err(fault_at(kind, line)),
+            Err(Failure::NoMemory) => Err(Halt::NoMemory),
+        }
     }
-}
 
-/// The bounds of a `for`.
-pub fn evaluate_bounds(
-    alloc: Global,
-    program: &Program,
-    run: &Run,
-    line: u32,
-    low: &Expression,
-    high: &Expression,
-) -> Result<(i64, i64), Halt>
-    ensures { IsValue (λ r. (r.0, r.1)) result (spec.alone line (attempt_bounds (seen program.now (state_of run.now)) low.now high.now)) }
-{
-    let no_locals: Vec<i64> = Vec::new(alloc);
-    let view = view_of(program, run, &no_locals);
-    let mut trail = Vec::new(alloc);
-    match bounds(&view, low, high, &mut trail) {
-        Ok(pair) => Ok(pair),
-        Err(Failure::Fault(kind)) => Err(fault_at(kind, line)),
-        Err(Failure::NoMemory) => Err(Halt::NoMemory),
+    /// The bounds of a `for`.
+    pub fn evaluate_bounds(
+        &self,
+        run: &Run,
+        line: u32,
+        low: &Expression,
+        high: &Expression,
+    ) -> Result<(i64, i64), Halt>
+        ensures { IsValue (λ r. (r.0, r.1)) result (spec.alone line (attempt_bounds (seen self.now.program.now (state_of run.now)) low.now high.now)) }
+    {
+        let no_locals: Vec<i64> = Vec::new(self.alloc);
+        let view = view_of(self.program, run, &no_locals);
+        let mut trail = Vec::new(self.alloc);
+        match bounds(&view, low, high, &mut trail) {
+            Ok(pair) => Ok(pair),
+            Err(Failure::Fault(kind)) => Err(fault_at(kind, line)),
+            Err(Failure::NoMemory) => Err(Halt::NoMemory),
+        }
     }
-}
 
-/// The first index of a pardo, and how many there are.
-pub fn evaluate_range(
-    alloc: Global,
-    program: &Program,
-    run: &Run,
-    line: u32,
-    low: &Expression,
-    high: &Expression,
-) -> Result<(i64, u32), Halt>
-    ensures value { IsValue (λ r. (r.0, r.1)) result (spec.alone line (attempt_range program.now.procs (seen program.now (state_of run.now)) low.now high.now)) }
-    // The last index is an i64.
-    ensures fits { IfOk result (λ r. FitsSigned w64 (r.0 +ℤ pos (r.1 - 1))) }
-{
-    let no_locals: Vec<i64> = Vec::new(alloc);
-    let view = view_of(program, run, &no_locals);
-    let mut trail = Vec::new(alloc);
-    match range(program.procs(), &view, low, high, &mut trail) {
-        Ok(pair) => Ok(pair),
-        Err(Failure::Fault(kind)) => Err(fault_at(kind, line)),
-        Err(Failure::NoMemory) => Err(Halt::NoMemory),
+    /// The first index of a pardo, and how many there are.
+    pub fn evaluate_range(
+        &self,
+        run: &Run,
+        line: u32,
+        low: &Expression,
+        high: &Expression,
+    ) -> Result<(i64, u32), Halt>
+        ensures value { IsValue (λ r. (r.0, r.1)) result (spec.alone line (attempt_range self.now.program.now.procs (seen self.now.program.now (state_of run.now)) low.now high.now)) }
+        // The last index is an i64.
+        ensures fits { IfOk result (λ r. FitsSigned w64 (r.0 +ℤ pos (r.1 - 1))) }
+    {
+        let no_locals: Vec<i64> = Vec::new(self.alloc);
+        let view = view_of(self.program, run, &no_locals);
+        let mut trail = Vec::new(self.alloc);
+        match range(self.program.procs(), &view, low, high, &mut trail) {
+            Ok(pair) => Ok(pair),
+            Err(Failure::Fault(kind)) => Err(fault_at(kind, line)),
+            Err(Failure::NoMemory) => Err(Halt::NoMemory),
+        }
     }
 }

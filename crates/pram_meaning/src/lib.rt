@@ -6,6 +6,7 @@ mod alone;
 mod attempt;
 mod conflict;
 mod inside;
+mod interpreter;
 mod key;
 pub mod law;
 mod operation;

@@ -5,7 +5,7 @@ ghost use Rattle.pram_model.specs.Layout.{total_size};
 ghost use Rattle.write_rules.specs.Verdict.{verdict_of};
 ghost use Rattle.pram_meaning.specs.Outcome.{IsOutcome};
 
-use crate::outside::run_body;
+use crate::interpreter::Interpreter;
 use crate::run::{Halt, Run, add_zeros, zeros};
 use crate::slate::Slate;
 use pram_check::program::Program;
@@ -62,7 +62,12 @@ pub fn reference_run(
         Ok(run) => run,
         Err(_) => return Err(RunRefusal::OutOfMemory),
     };
-    match run_body(alloc, program, bound, &mut run) {
+    let interpreter = Interpreter {
+        alloc,
+        program,
+        bound,
+    };
+    match interpreter.run_body(&mut run) {
         Ok(()) => Ok(Outcome::Ended {
             output: run.output,
             memory: run.cells,

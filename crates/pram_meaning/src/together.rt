@@ -12,121 +12,119 @@ ghost use Rattle.pram_meaning.specs.Sets.{state_in, IsParts};
 use crate::access::Judged;
 use crate::attempt::{Failure, step_assignment};
 use crate::conflict::least_key;
+use crate::interpreter::Interpreter;
 use crate::part::Part;
 use crate::run::{Halt, Run, set_number};
 use crate::slate::Slate;
 use crate::team::{Member, set_locals, value_in};
 use crate::view::View;
 use pram_check::body::{Expression, StepTarget};
-use pram_check::program::Program;
 use pram_syntax::rule::Rule;
 use pram_values::truth::is_true;
 use std::alloc::{AllocError, Global};
 use write_rules::fault::Fault;
 
-// One processor's attempt at an assignment.
-fn part_in(
-    alloc: Global,
-    program: &Program,
-    run: &Run,
-    team: &Vec<Member>,
-    v: u32,
-    target: &StepTarget,
-    e: &Expression,
-) -> Option<Part>
-    ensures { IfSome result (λ x. part_is x ≡ part_of program.now (state_in run.now team.now.items) (λ s. attempt_step s target.now e.now) v) }
-{
-    let no_locals: Vec<i64> = Vec::new(alloc);
-    let (index, locals) = match team.get(v as usize) {
-        Some(member) => (member.index, &member.locals),
-        None => (0, &no_locals),
-    };
-    let view = View {
-        layout: program.layout(),
-        uniforms: &run.uniforms,
-        cells: &run.cells,
-        index,
-        locals,
-    };
-    let mut trail = Vec::new(alloc);
-    let outcome = match step_assignment(&view, target, e, &mut trail) {
-        Ok(effect) => Ok(effect),
-        Err(Failure::Fault(kind)) => Err(kind),
-        Err(Failure::NoMemory) => return None,
-    };
-    Some(Part {
-        member: v,
-        processor: index,
-        trail,
-        outcome,
-    })
-}
+impl<'a> Interpreter<'a> {
+    // One processor's attempt at an assignment.
+    fn part_in(
+        &self,
+        run: &Run,
+        team: &Vec<Member>,
+        v: u32,
+        target: &StepTarget,
+        e: &Expression,
+    ) -> Option<Part>
+        ensures { IfSome result (λ x. part_is x ≡ part_of self.now.program.now (state_in run.now team.now.items) (λ s. attempt_step s target.now e.now) v) }
+    {
+        let no_locals: Vec<i64> = Vec::new(self.alloc);
+        let (index, locals) = match team.get(v as usize) {
+            Some(member) => (member.index, &member.locals),
+            None => (0, &no_locals),
+        };
+        let view = View {
+            layout: self.program.layout(),
+            uniforms: &run.uniforms,
+            cells: &run.cells,
+            index,
+            locals,
+        };
+        let mut trail = Vec::new(self.alloc);
+        let outcome = match step_assignment(&view, target, e, &mut trail) {
+            Ok(effect) => Ok(effect),
+            Err(Failure::Fault(kind)) => Err(kind),
+            Err(Failure::NoMemory) => return None,
+        };
+        Some(Part {
+            member: v,
+            processor: index,
+            trail,
+            outcome,
+        })
+    }
 
-// The attempts of all processors of a set.
-#[tactic(auto, using(crate::proofs::Sets::parts_start, crate::proofs::Sets::parts_go, crate::proofs::Sets::parts_end))]
-fn parts_in(
-    alloc: Global,
-    program: &Program,
-    run: &Run,
-    team: &Vec<Member>,
-    active: &Vec<u32>,
-    target: &StepTarget,
-    e: &Expression,
-) -> Option<Vec<Part>>
-    ensures { IfSome result (λ xs. map part_is xs.items ≡ parts program.now (state_in run.now team.now.items) (λ s. attempt_step s target.now e.now) active.now.items) }
-{
-    let mut all = Vec::new(alloc);
-    for v in active {
-        let x = part_in(alloc, program, run, team, *v, target, e)?;
-        if all.push(x).is_err() {
-            return None;
+    // The attempts of all processors of a set.
+    #[tactic(auto, using(crate::proofs::Sets::parts_start, crate::proofs::Sets::parts_go, crate::proofs::Sets::parts_end))]
+    fn parts_in(
+        &self,
+        run: &Run,
+        team: &Vec<Member>,
+        active: &Vec<u32>,
+        target: &StepTarget,
+        e: &Expression,
+    ) -> Option<Vec<Part>>
+        ensures { IfSome result (λ xs. map part_is xs.items ≡ parts self.now.program.now (state_in run.now team.now.items) (λ s. attempt_step s target.now e.now) active.now.items) }
+    {
+        let mut all = Vec::new(self.alloc);
+        for v in active {
+            let x = self.part_in(run, team, *v, target, e)?;
+            if all.push(x).is_err() {
+                return None;
+            }
         }
+        Some(all)
     }
-    Some(all)
-}
 
-// One statement more, inside pardo.
-fn begin_on(bound: u32, run: &mut Run, team: &Vec<Member>) -> Result<(), Halt>
-    ensures counts { IsBehaviour result (state_in run.new team.now.items) (counted bound (state_in run.old team.now.items)) }
-    ensures more { OnOk result (run.new.count ≡ run.old.count + 1) }
-    ensures below { OnOk result (run.old.count < bound) }
-{
-    if bound <= run.count {
-        return Err(Halt::Bound);
+    // One statement more, inside pardo.
+    fn begin_on(&self, run: &mut Run, team: &Vec<Member>) -> Result<(), Halt>
+        ensures counts { IsBehaviour result (state_in run.new team.now.items) (counted self.now.bound (state_in run.old team.now.items)) }
+        ensures more { OnOk result (run.new.count ≡ run.old.count + 1) }
+        ensures below { OnOk result (run.old.count < self.now.bound) }
+    {
+        if self.bound <= run.count {
+            return Err(Halt::Bound);
+        }
+        run.count += 1;
+        Ok(())
     }
-    run.count += 1;
-    Ok(())
-}
 
-// A statement of a set: its least fault, or the parts.
-#[tactic(auto, using(crate::proofs::Sets::set_halts, crate::proofs::Sets::set_faults, crate::proofs::Sets::set_goes))]
-fn attempt_on(
-    alloc: Global,
-    program: &Program,
-    bound: u32,
-    run: &mut Run,
-    team: &Vec<Member>,
-    active: &Vec<u32>,
-    line: u32,
-    target: &StepTarget,
-    e: &Expression,
-) -> Result<Vec<Part>, Halt>
-    ensures value { IsParts result (state_in run.new team.now.items) (attempted_on program.now bound line (λ s. attempt_step s target.now e.now) active.now.items (state_in run.old team.now.items)) }
-    ensures more { OnOk result (run.new.count ≡ run.old.count + 1) }
-    ensures below { OnOk result (run.old.count < bound) }
-{
-    begin_on(bound, run, team)?;
-    let Some(all) = parts_in(alloc, program, run, team, active, target, e) else {
-        return Err(Halt::NoMemory);
-    };
-    match least_key(alloc, &mut run.slate, program.rule(), &all) {
-        Err(_) => Err(Halt::NoMemory),
-        Ok(Some(key)) => Err(Halt::Fault(Fault {
-            kind: key.kind,
-            line,
-            place: key.place,
-        })),
-        Ok(None) => Ok(all),
+    // A statement of a set: its least fault, or the parts.
+    #[tactic(auto, using(crate::proofs::Sets::set_halts, crate::proofs::Sets::set_faults, crate::proofs::Sets::set_goes))]
+    fn attempt_on(
+        &self,
+        run: &mut Run,
+        team: &Vec<Member>,
+        active: &Vec<u32>,
+        line: u32,
+        target: &StepTarget,
+        e: &Expression,
+    ) -> Result<Vec<Part>, Halt>
+        ensures value { IsParts result (state_in run.new team.now.items) (attempted_on self.now.program.now self.now.bound line (λ s. attempt_step s target.now e.now) active.now.items (state_in run.old team.now.items)) }
+        ensures more { OnOk result (run.new.count ≡ run.old.count + 1) }
+        ensures below { OnOk result (run.old.count < self.now.bound) }
+    {
+        self.begin_on(run, team)?;
+        let Some(all) = self.parts_in(run, team, active, target, e) else {
+            return Err(Halt::NoMemory);
+        };
+        match least_key(self.alloc, &mut run.slate, self.program.rule(), &all) {
+            Err(_) => Err(Halt::NoMemory),
+            Ok(Some(key)) => Err(Halt::Fault(Fault {
+                kind: key.kind,
+                line,
+                place: key.place,
+            })),
+            Ok(None) => Ok(all),
+        }
     }
 }
 
@@ -178,49 +176,55 @@ fn overwrite(
     Ok(())
 }
 
-/// An assignment of a set.
-#[tactic(auto, using(crate::proofs::SetBlocks::assign_halts, crate::proofs::SetBlocks::assign_goes))]
-pub fn assign_on(
-    alloc: Global,
-    program: &Program,
-    bound: u32,
-    run: &mut Run,
-    team: &mut Vec<Member>,
-    active: &Vec<u32>,
-    line: u32,
-    target: &StepTarget,
-    e: &Expression,
-) -> Result<(), Halt>
-    ensures value { IsBehaviour result (state_in run.new team.new.items) (spec.assign_on program.now bound line target.now e.now active.now.items (state_in run.old team.old.items)) }
-    ensures grows { OnOk result (run.old.count ≤ run.new.count) }
-{
-    let all = attempt_on(alloc, program, bound, run, team, active, line, target, e)?;
-    match target {
-        StepTarget::Local(x) => set_locals(team, *x, &all),
-        StepTarget::Cell(_) | StepTarget::Element(_, _) => {
-            if overwrite(alloc, &mut run.slate, program.rule(), &mut run.cells, &all).is_err() {
-                return Err(Halt::NoMemory);
+impl<'a> Interpreter<'a> {
+    /// An assignment of a set.
+    #[tactic(auto, using(crate::proofs::SetBlocks::assign_halts, crate::proofs::SetBlocks::assign_goes))]
+    pub fn assign_on(
+        &self,
+        run: &mut Run,
+        team: &mut Vec<Member>,
+        active: &Vec<u32>,
+        line: u32,
+        target: &StepTarget,
+        e: &Expression,
+    ) -> Result<(), Halt>
+        ensures value { IsBehaviour result (state_in run.new team.new.items) (spec.assign_on self.now.program.now self.now.bound line target.now e.now active.now.items (state_in run.old team.old.items)) }
+        ensures grows { OnOk result (run.old.count ≤ run.new.count) }
+    {
+        let all = self.attempt_on(run, team, active, line, target, e)?;
+        match target {
+            StepTarget::Local(x) => set_locals(team, *x, &all),
+            StepTarget::Cell(_) | StepTarget::Element(_, _) => {
+                if overwrite(
+                    self.alloc,
+                    &mut run.slate,
+                    self.program.rule(),
+                    &mut run.cells,
+                    &all,
+                )
+                .is_err()
+                {
+                    return Err(Halt::NoMemory);
+                }
             }
         }
+        Ok(())
     }
-    Ok(())
-}
 
-/// A test of a set. It is evaluated as what a local gets, and nothing gets it.
-pub fn test_on(
-    alloc: Global,
-    program: &Program,
-    bound: u32,
-    run: &mut Run,
-    team: &Vec<Member>,
-    active: &Vec<u32>,
-    line: u32,
-    test: &Expression,
-) -> Result<Vec<Part>, Halt>
-    ensures value { IsParts result (state_in run.new team.now.items) (tested_on program.now bound line test.now active.now.items (state_in run.old team.now.items)) }
-    ensures more { OnOk result (run.new.count ≡ run.old.count + 1) }
-    ensures below { OnOk result (run.old.count < bound) }
-{
-    let none = StepTarget::Local(0);
-    attempt_on(alloc, program, bound, run, team, active, line, &none, test)
+    /// A test of a set. It is evaluated as what a local gets, and nothing gets it.
+    pub fn test_on(
+        &self,
+        run: &mut Run,
+        team: &Vec<Member>,
+        active: &Vec<u32>,
+        line: u32,
+        test: &Expression,
+    ) -> Result<Vec<Part>, Halt>
+        ensures value { IsParts result (state_in run.new team.now.items) (tested_on self.now.program.now self.now.bound line test.now active.now.items (state_in run.old team.now.items)) }
+        ensures more { OnOk result (run.new.count ≡ run.old.count + 1) }
+        ensures below { OnOk result (run.old.count < self.now.bound) }
+    {
+        let none = StepTarget::Local(0);
+        self.attempt_on(run, team, active, line, &none, test)
+    }
 }
