@@ -1,11 +1,10 @@
 -- What instructions ask for and write to are cells of the layout.
-use Rattle.std.proofs.Common.{◌≡◌, ℕ, zero, suc, ◌+◌, ◌<◌, ◌≤◌, List, [], ◌∷◌, ◌++◌, map, Bool, true, false, Option, Some, None, ℤ, pos}
-use Rattle.std.proofs.Common.{◌-ℤ◌, nat_abs, int_le, eqb, refl, sym, ap, ◌∙◌, subst, arith, ⊎_elim, ◌⊎◌, inl, inr}
-use Rattle.std.specs.Prelude.{if◌then◌else◌, ◌&&◌}
+use Rattle.std.proofs.Common.{◌≡◌, ℕ, zero, suc, ◌<◌, ◌≤◌, List, [], ◌∷◌, ◌++◌, map, Bool, true, false, Option, Some, None, ℤ, pos}
+use Rattle.std.proofs.Common.{eqb, refl, sym, ap, ◌∙◌, subst, arith, ⊎_elim, ◌⊎◌, inl, inr}
+use Rattle.std.specs.Prelude.{if◌then◌else◌}
 use Rattle.std.proofs.lemmas.Bool.Decides.{nat_tests}
-use Rattle.std.proofs.lemmas.Int.{ints}
-use Rattle.pram_model.specs.Layout.{SharedEntry, width, size, total_size, cell_in, cell_from, cell_of}
-use Rattle.pram_model.specs.Layout as layout
+use Rattle.pram_model.specs.Layout.{total_size, cell_of}
+use Rattle.pram_model.proofs.Cells.{cell_below}
 use Rattle.pram_model.specs.declared.rule.Rule.{Rule}
 use Rattle.pram_values.specs.Total.{total}
 use Rattle.pram_values.proofs.Totals.{total_none}
@@ -19,41 +18,11 @@ use Rattle.superstep_machine.specs.Sending.{join, cell_at}
 use Rattle.superstep_machine.proofs.Collected.{entries_are_monoid}
 use Rattle.flat_machine.specs.Flat.{Flat, range, single_to, written}
 use Rattle.superstep_machine.specs.Sides.{IsBySide, AreBySide}
-use Rattle.pram_model.proofs.Truths.{unsome}
 
 -- what holds of both holds of the one that a test takes
 pub either : {A : Type 0} (P : A → Type 0) (b : Bool) (x y : A) → P x → P y → P (if b then x else y)
 either P true x y p q = p
 either P false x y p q = q
-
--- ---- a declaration's cells
-
-between : (low high z : ℤ) → int_le low z ≡ true → int_le z high ≡ true → nat_abs (z -ℤ low) < width low high
-between low high z above below = let ordered : int_le low high ≡ true = grind (arith, ints, above, below) in
-    rw ordered (grind (arith, ints, above, below))
-
-found_below : (first : ℕ) (low high z : ℤ) (c : ℕ) → layout.cell_at first low high z ≡ Some c → c < first + width low high
-found_below first low high z c h = go (int_le low z) (int_le z high) refl refl h
-  where
-    go : (a b : Bool) → int_le low z ≡ a → int_le z high ≡ b → (if a && b then Some (first + nat_abs (z -ℤ low)) else None) ≡ Some c →
-        c < first + width low high
-    go true true above below e = let room = between low high z above below in let is = unsome (first + nat_abs (z -ℤ low)) c e in
-        omega (arith, room, is)
-    go true false above below e = absurd (cc)
-    go false b above below e = absurd (cc)
-
-found_in : (first : ℕ) (bounds : Option (ℤ × ℤ)) (z : ℤ) (c : ℕ) → cell_in first bounds z ≡ Some c → c < first + size bounds
-found_in first None z c h = found_below first (pos 0) (pos 0) z c h
-found_in first (Some (low, high)) z c h = found_below first low high z c h
-
-found_from : (first : ℕ) (es : List SharedEntry) (entry : ℕ) (z : ℤ) (c : ℕ) → cell_from first es entry z ≡ Some c →
-    c < first + total_size es
-found_from first [] entry z c h = absurd (cc)
-found_from first (e ∷ es) zero z c h = let below = found_in first e.bounds z c h in omega (arith, below)
-found_from first (e ∷ es) (suc entry) z c h = let below = found_from (first + size e.bounds) es entry z c h in omega (arith, below)
-
-pub cell_below : (es : List SharedEntry) (entry : ℕ) (z : ℤ) (c : ℕ) → cell_of es entry z ≡ Some c → c < total_size es
-cell_below es entry z c h = let below = found_from 0 es entry z c h in omega (arith, below)
 
 -- ---- what is asked for
 

@@ -1,2 +1,3 @@
 pub mod Truths
 pub mod Layouts
+pub mod Cells

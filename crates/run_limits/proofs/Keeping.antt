@@ -22,7 +22,7 @@ use Rattle.superstep_machine.specs.Fitting.{FitsWrite, IsCellBelow}
 use Rattle.superstep_machine.proofs.MachineWords.{all_map, all_joined, zero_fits}
 use Rattle.bsp_verify.proofs.WorkerLemmas.{either_way, all_made, all_add, width_at_most}
 use Rattle.flat_machine.specs.Flatness.{IsMapFor}
-use Rattle.flat_machine.proofs.Ranges.{cell_below}
+use Rattle.pram_model.proofs.Cells.{cell_below}
 use Rattle.run_limits.specs.Within.{AreValues, HaveValues, share}
 use Rattle.run_limits.proofs.Values.{result_if, zero_without_fits, set_fits, index_within}
 use Rattle.run_limits.proofs.Shares.{few_processors, some_share, numbers_below}
