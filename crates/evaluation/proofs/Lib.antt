@@ -1,0 +1,10 @@
+pub mod Attempts
+pub mod Sums
+pub mod Order
+pub mod Cuts
+pub mod Askers
+pub mod ReadColumns
+pub mod WriteCells
+pub mod Tasks
+pub mod FaultKinds
+pub mod Columns

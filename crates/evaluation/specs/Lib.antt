@@ -1,0 +1,6 @@
+pub mod Terms
+pub mod Whole
+pub mod Attempts
+pub mod Rows
+pub mod Noted
+pub mod Told

@@ -1,0 +1,35 @@
+//! Laws of whole evaluation.
+
+ghost use Rattle.evaluation.specs.Attempts.{ExpressionsAreWhole, ValuesAreWhole, AssignmentsAreWhole};
+ghost use Rattle.evaluation.specs.Attempts.{InnerAssignmentsAreWhole, BoundsAreWhole, RangesAreWhole};
+ghost use Rattle.std.specs.Prelude.{ℕ, ℤ};
+ghost use Rattle.pram_meaning.specs.Attempt.{Effect};
+ghost use Rattle.evaluation.specs.Told.{LeastFaultIsNoted, TogetherIsNoted, AloneIsNoted, AreToldInOneOrder, NoneDifferInKindAlone};
+
+/// A processor's attempt at a statement is its whole evaluation, in which it goes on after a fault
+/// with 0, cut off at the first thing noted: for an expression, for each kind of statement outside
+/// and inside pardo, and for the bounds of a `for` and of a pardo.
+pub fn attempts_are_whole()
+    ensures expressions { ExpressionsAreWhole }
+    ensures values { ValuesAreWhole }
+    ensures assignments { AssignmentsAreWhole }
+    ensures inner_assignments { InnerAssignmentsAreWhole }
+    ensures bounds { BoundsAreWhole }
+    ensures ranges { RangesAreWhole }
+{}
+
+/// The fault of a statement: on a set of processors with different indices, the least of the
+/// faults of the attempts, with the conflicts between them, is the least key that is noted where
+/// all processors go on after their faults; outside pardo it is the first note. The meaning's order
+/// of faults is the machine's order of keys, since no two faults of a statement differ in their
+/// kind alone.
+pub fn least_fault_is_noted()
+    ensures least { LeastFaultIsNoted }
+    ensures together { TogetherIsNoted }
+    ensures values_alone { AloneIsNoted ℤ }
+    ensures effects_alone { AloneIsNoted Effect }
+    ensures bounds_alone { AloneIsNoted (ℤ × ℤ) }
+    ensures ranges_alone { AloneIsNoted (ℤ × ℕ) }
+    ensures order { AreToldInOneOrder }
+    ensures kinds { NoneDifferInKindAlone }
+{}
