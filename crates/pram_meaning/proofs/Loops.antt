@@ -57,7 +57,7 @@ turns_of w n line e body k v m = if v then then_do (perform_list w n body m) (λ
 halts_at : (x : Halt) (new : State) (out : List ℤ) (b : Behaviour Bool) → b ≡ Reaches out → IsBehaviour {A = Bool} (Err x) new b → IsBehaviour {A = Unit {0}} (Err x) new (Reaches out)
 halts_at (halt.Fault k) new out b at e = cc
 halts_at halt.Bound new out b at e = cc
-halts_at halt.NoMemory new out b at e = tt
+halts_at halt.OutOfMemory new out b at e = tt
 
 test_halts_at : (w : Checked) (n line : ℕ) (e : Expression) (body : List Statement) (now new : State) (x : Halt) (k : ℕ) → n ≤ k + now.count → IsBehaviour {A = Bool} (Err x) new (tested w n line e now) → IsBehaviour {A = Unit {0}} (Err x) new (turns k (tested w n line e) (perform_list w n body) now)
 test_halts_at w n line e body now new x zero h t = halts_at x new now.output (tested w n line e now) (at_bound w n line e now (omega arith)) t

@@ -22,7 +22,7 @@ use Rattle.pram_meaning.proofs.Halts.{halts}
 pub parts_halt : {B : Type 0} (h : Halt) (m : State) (x : Behaviour (List Part)) (f : List Part → State → Behaviour B) → IsParts (Err h) m x → IsBehaviour {A = B} (Err h) m (then_do x f)
 parts_halt (halt.Fault k) m x f is = ap (λ x. then_do x f) is
 parts_halt halt.Bound m x f is = ap (λ x. then_do x f) is
-parts_halt halt.NoMemory m x f is = tt
+parts_halt halt.OutOfMemory m x f is = tt
 
 abbrev pub set_assigned : Checked → ℕ → ℕ → StepTarget → Expression → List ℕ → State → Done
 set_assigned w n line x e vs m = then_do (attempted_on w n line (λ s. attempt_step s x e) vs m) (λ xs m. Goes tt (assigned_by w x xs m))

@@ -33,7 +33,7 @@ at_bound w n line e vs m h = rw (le-ltb m.count n h)
 halts_at : (x : Halt) (new : State) (out : List ℤ) (b : Behaviour (List Part)) → b ≡ Reaches out → IsParts (Err x) new b → IsBehaviour {A = Unit {0}} (Err x) new (Reaches out)
 halts_at (halt.Fault k) new out b at e = cc
 halts_at halt.Bound new out b at e = cc
-halts_at halt.NoMemory new out b at e = tt
+halts_at halt.OutOfMemory new out b at e = tt
 
 test_halts_at : (w : Checked) (n line : ℕ) (e : Expression) (body : List Step) (us : List ℕ) (now new : State) (x : Halt) (k : ℕ) → n ≤ k + now.count → IsParts (Err x) new (tested_on w n line e us now) → IsBehaviour {A = Unit {0}} (Err x) new (turns_on k (tested_on w n line e) (perform_list_on w n body) us now)
 test_halts_at w n line e body us now new x zero h t = halts_at x new now.output (tested_on w n line e us now) (at_bound w n line e us now (omega arith)) t

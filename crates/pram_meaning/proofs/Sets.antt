@@ -44,7 +44,7 @@ parts_end w m a vs i now b h = sym (b.same ∙ ap (λ us. map part_is now ++ par
 pub set_halts : (w : Checked) (n line : ℕ) (a : View → Attempt Effect) (vs : List ℕ) (m new : State) (h : Halt) → IsBehaviour {A = Unit {0}} (Err h) new (counted n m) → IsParts (Err h) new (attempted_on w n line a vs m)
 set_halts w n line a vs m new (halt.Fault k) e = ap (λ x. then_do x (λ u m. valued (together w line (parts w m a vs)) m)) e
 set_halts w n line a vs m new halt.Bound e = ap (λ x. then_do x (λ u m. valued (together w line (parts w m a vs)) m)) e
-set_halts w n line a vs m new halt.NoMemory e = tt
+set_halts w n line a vs m new halt.OutOfMemory e = tt
 
 went : (w : Checked) (n line : ℕ) (a : View → Attempt Effect) (vs : List ℕ) (m new : State) (xs : List Part) (k : Option Key) → counted n m ≡ Goes tt new → xs ≡ parts w new a vs → k ≡ least (keys w.rule xs) → attempted_on w n line a vs m ≡ valued (on_key line k xs) new
 went w n line a vs m new xs k e t l =

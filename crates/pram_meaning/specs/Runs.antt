@@ -19,7 +19,7 @@ view_is s = record { layout = s.layout.now; uniforms = s.uniforms.now.items; cel
 abbrev pub IsAttempt : {A : Type 0} → Result A Failure → Trail → Attempt A → Type 0
 IsAttempt (Ok v) t a = a ≡ Gives t v
 IsAttempt (Err (failure.Fault k)) t a = a ≡ Fails t k
-IsAttempt (Err failure.NoMemory) t a = ⊤
+IsAttempt (Err failure.OutOfMemory) t a = ⊤
 
 abbrev pub effect_is : rust.Effect.Effect → Effect
 effect_is g = record { value = g.value; cell = g.cell }
@@ -28,13 +28,13 @@ effect_is g = record { value = g.value; cell = g.cell }
 abbrev pub IsEffect : Result rust.Effect.Effect Failure → Trail → Attempt Effect → Type 0
 IsEffect (Ok g) t a = a ≡ Gives t (effect_is g)
 IsEffect (Err (failure.Fault k)) t a = a ≡ Fails t k
-IsEffect (Err failure.NoMemory) t a = ⊤
+IsEffect (Err failure.OutOfMemory) t a = ⊤
 
 -- the same of an attempt at bounds
 abbrev pub IsPair : {A B : Type 0} → Result (A × B) Failure → Trail → Attempt (A × B) → Type 0
 IsPair (Ok r) t a = a ≡ Gives t (r.0, r.1)
 IsPair (Err (failure.Fault k)) t a = a ≡ Fails t k
-IsPair (Err failure.NoMemory) t a = ⊤
+IsPair (Err failure.OutOfMemory) t a = ⊤
 
 -- a run outside pardo, as a state
 abbrev pub state_of : Run → State
@@ -45,11 +45,11 @@ abbrev pub IsValue : {A B : Type 0} → (A → B) → Result A Halt → Result B
 IsValue f (Ok v) x = x ≡ Ok (f v)
 IsValue f (Err (halt.Fault k)) x = x ≡ Err k
 IsValue f (Err halt.Bound) x = ⊥
-IsValue f (Err halt.NoMemory) x = ⊤
+IsValue f (Err halt.OutOfMemory) x = ⊤
 
 -- how an answer, and the state behind it, tell of a behaviour
 abbrev pub IsBehaviour : {A : Type 0} → Result A Halt → State → Behaviour A → Type 0
 IsBehaviour (Ok a) m b = b ≡ Goes a m
 IsBehaviour (Err (halt.Fault k)) m b = b ≡ Stops k m.output
 IsBehaviour (Err halt.Bound) m b = b ≡ Reaches m.output
-IsBehaviour (Err halt.NoMemory) m b = ⊤
+IsBehaviour (Err halt.OutOfMemory) m b = ⊤

@@ -25,4 +25,4 @@ abbrev pub IsParts : Result (Vec part.Part.Part Global) Halt → State → Behav
 IsParts (Ok xs) m b = b ≡ Goes (map part_is xs.items) m
 IsParts (Err (halt.Fault k)) m b = b ≡ Stops k m.output
 IsParts (Err halt.Bound) m b = b ≡ Reaches m.output
-IsParts (Err halt.NoMemory) m b = ⊤
+IsParts (Err halt.OutOfMemory) m b = ⊤

@@ -53,7 +53,7 @@ impl<'a> Interpreter<'a> {
         match value_of(&view, e, &mut trail) {
             Ok(value) => Ok(value),
             Err(Failure::Fault(kind)) => Err(fault_at(kind, line)),
-            Err(Failure::NoMemory) => Err(Halt::NoMemory),
+            Err(Failure::OutOfMemory) => Err(Halt::OutOfMemory),
         }
     }
 
@@ -73,7 +73,7 @@ impl<'a> Interpreter<'a> {
         match assignment(&view, target, e, &mut trail) {
             Ok(effect) => Ok(effect),
             Err(Failure::Fault(kind)) => Err(fault_at(kind, line)),
-            Err(Failure::NoMemory) => Err(Halt::NoMemory),
+            Err(Failure::OutOfMemory) => Err(Halt::OutOfMemory),
         }
     }
 
@@ -93,7 +93,7 @@ impl<'a> Interpreter<'a> {
         match bounds(&view, low, high, &mut trail) {
             Ok(pair) => Ok(pair),
             Err(Failure::Fault(kind)) => Err(fault_at(kind, line)),
-            Err(Failure::NoMemory) => Err(Halt::NoMemory),
+            Err(Failure::OutOfMemory) => Err(Halt::OutOfMemory),
         }
     }
 
@@ -115,7 +115,7 @@ impl<'a> Interpreter<'a> {
         match range(self.program.procs(), &view, low, high, &mut trail) {
             Ok(pair) => Ok(pair),
             Err(Failure::Fault(kind)) => Err(fault_at(kind, line)),
-            Err(Failure::NoMemory) => Err(Halt::NoMemory),
+            Err(Failure::OutOfMemory) => Err(Halt::OutOfMemory),
         }
     }
 }

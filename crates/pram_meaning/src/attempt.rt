@@ -17,7 +17,7 @@ pub enum Failure {
     /// It faults.
     Fault(Kind),
     /// Memory was refused.
-    NoMemory,
+    OutOfMemory,
 }
 
 /// What an attempt at a statement gives: a value, and the cell that it goes to, if any.
@@ -30,10 +30,10 @@ pub struct Effect {
 // One position on, where a cell may be read.
 fn step(trail: &mut Vec<Option<u32>>, cell: Option<u32>) -> Result<(), Failure>
     ensures ok { OnOk result (trail.new.items ≡ trail.old.items ++ cell ∷ []) }
-    ensures err { IfErr result (λ e. e ≡ Failure.NoMemory) }
+    ensures err { IfErr result (λ e. e ≡ Failure.OutOfMemory) }
 {
     if trail.push(cell).is_err() {
-        return Err(Failure::NoMemory);
+        return Err(Failure::OutOfMemory);
     }
     Ok(())
 }

@@ -43,10 +43,10 @@ impl<'a> Interpreter<'a> {
             } => {
                 let all = self.test_on(run, team, active, *line, test)?;
                 let Ok(chosen) = select(self.alloc, true, &all) else {
-                    return Err(Halt::NoMemory);
+                    return Err(Halt::OutOfMemory);
                 };
                 let Ok(others) = select(self.alloc, false, &all) else {
-                    return Err(Halt::NoMemory);
+                    return Err(Halt::OutOfMemory);
                 };
                 self.run_block_on(run, team, &chosen, then_part)?;
                 self.run_block_on(run, team, &others, else_part)
@@ -69,12 +69,12 @@ impl<'a> Interpreter<'a> {
         ensures grows { OnOk result (run.old.count ≤ run.new.count) }
     {
         let Ok(mut current) = Vec::from_slice(self.alloc, active) else {
-            return Err(Halt::NoMemory);
+            return Err(Halt::OutOfMemory);
         };
         'turns: loop {
             let all = self.test_on(run, team, &current, line, test)?;
             let Ok(chosen) = select(self.alloc, true, &all) else {
-                return Err(Halt::NoMemory);
+                return Err(Halt::OutOfMemory);
             };
             if chosen.is_empty() {
                 return Ok(());
@@ -117,10 +117,10 @@ impl<'a> Interpreter<'a> {
         ensures grows { OnOk result (run.old.count ≤ run.new.count) }
     {
         let Ok(mut team) = gather(self.alloc, low, count, locals) else {
-            return Err(Halt::NoMemory);
+            return Err(Halt::OutOfMemory);
         };
         let Ok(active) = numbers_below(self.alloc, count) else {
-            return Err(Halt::NoMemory);
+            return Err(Halt::OutOfMemory);
         };
         self.run_block_on(run, &mut team, &active, body)
     }

@@ -119,7 +119,7 @@ impl<'a> Interpreter<'a> {
     {
         let item = self.run_value(run, line, value)?;
         if run.output.push(item).is_err() {
-            return Err(Halt::NoMemory);
+            return Err(Halt::OutOfMemory);
         }
         Ok(())
     }

@@ -10,14 +10,17 @@ use crate::run::{Halt, Run, add_zeros, zeros};
 use crate::slate::Slate;
 use pram_check::program::Program;
 use std::alloc::{AllocError, Global};
+use thiserror::Error;
 use write_rules::outcome::Outcome;
 
 /// Why a run is refused.
-#[derive(Clone, Copy, Debug, PartialEq, Eq)]
+#[derive(Clone, Copy, Debug, Drop, PartialEq, Eq, Error)]
 pub enum RunRefusal {
     /// E11: the input has more values than the program has cells.
+    #[error("E11 InputTooLong")]
     InputTooLong,
     /// E16: memory was refused.
+    #[error("E16 OutOfMemory")]
     OutOfMemory,
 }
 
@@ -77,6 +80,6 @@ pub fn reference_run(
             output: run.output,
         }),
         Err(Halt::Bound) => Ok(Outcome::GoesOn { output: run.output }),
-        Err(Halt::NoMemory) => Err(RunRefusal::OutOfMemory),
+        Err(Halt::OutOfMemory) => Err(RunRefusal::OutOfMemory),
     }
 }

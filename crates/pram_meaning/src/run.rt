@@ -25,7 +25,7 @@ pub enum Halt {
     /// One statement more would begin than the bound allows.
     Bound,
     /// Memory was refused.
-    NoMemory,
+    OutOfMemory,
 }
 
 /// One item gets a value, if it is there.

@@ -52,7 +52,7 @@ impl<'a> Interpreter<'a> {
         let outcome = match step_assignment(&view, target, e, &mut trail) {
             Ok(effect) => Ok(effect),
             Err(Failure::Fault(kind)) => Err(kind),
-            Err(Failure::NoMemory) => return None,
+            Err(Failure::OutOfMemory) => return None,
         };
         Some(Part {
             member: v,
@@ -114,10 +114,10 @@ impl<'a> Interpreter<'a> {
     {
         self.begin_on(run, team)?;
         let Some(all) = self.parts_in(run, team, active, target, e) else {
-            return Err(Halt::NoMemory);
+            return Err(Halt::OutOfMemory);
         };
         match least_key(self.alloc, &mut run.slate, self.program.rule(), &all) {
-            Err(_) => Err(Halt::NoMemory),
+            Err(_) => Err(Halt::OutOfMemory),
             Ok(Some(key)) => Err(Halt::Fault(Fault {
                 kind: key.kind,
                 line,
@@ -204,7 +204,7 @@ impl<'a> Interpreter<'a> {
                 )
                 .is_err()
                 {
-                    return Err(Halt::NoMemory);
+                    return Err(Halt::OutOfMemory);
                 }
             }
         }

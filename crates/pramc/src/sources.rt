@@ -1,13 +1,16 @@
 //! Where the program finds its files.
 
 use std::alloc::Global;
+use thiserror::Error;
 
 /// Why the bytes of a file are not there.
-#[derive(Clone, Copy, Debug, Drop, PartialEq, Eq)]
+#[derive(Clone, Copy, Debug, Drop, PartialEq, Eq, Error)]
 pub enum SourceFault {
     /// P2: there is no such file, or it can't be read.
+    #[error("P2")]
     Unreadable,
     /// E16: memory was refused.
+    #[error("E16 OutOfMemory")]
     OutOfMemory,
 }
 

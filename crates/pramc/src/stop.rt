@@ -13,19 +13,27 @@ use pram_check::fault::{Breach, Cause, Limit, Spot};
 use pram_syntax::error::TextFault;
 use pram_syntax::writer::{Out, WriteFault};
 use std::alloc::AllocError;
+use std::fmt;
+use thiserror::Error;
 
-/// Why a call of the program comes to no end of its own.
-#[derive(Drop)]
+/// Why a call of the program comes to no end of its own. Its text is what `write_stop` writes, but
+/// for the word `refused` and the end of the line.
+#[derive(Debug, Drop, Error)]
 pub enum Stop<'a> {
     /// P1, in the words of the parser of command lines.
+    #[error("{0}")]
     Words(String),
     /// P1: a number of an option that isn't one.
+    #[error("P1 {0}")]
     Number(&'a str),
     /// P2: a file that can't be read.
+    #[error("P2 {0}")]
     Unreadable(&'a str),
     /// E1 to E11 and E16.
+    #[error(transparent)]
     Refused(Refusal),
     /// E17: standard output failed.
+    #[error("E17 WriteFailed")]
     WriteFailed,
 }
 
@@ -67,12 +75,12 @@ fn write_refusal<W: Out>(out: &mut W, refusal: Refusal) -> Result<(), WriteFault
 {
     let (words, place) = words_of(refusal);
     match place {
-        None => out.write_parts(&[b"refused ", words, b"\n"]),
+        None => out.write_parts(&[b"refused ", words.as_bytes(), b"\n"]),
         Some(at) => {
             let mut digits = Buffer::new();
             out.write_parts(&[
                 b"refused ",
-                words,
+                words.as_bytes(),
                 b" at ",
                 digits.format(at).as_bytes(),
                 b"\n",
@@ -81,34 +89,47 @@ fn write_refusal<W: Out>(out: &mut W, refusal: Refusal) -> Result<(), WriteFault
     }
 }
 
+// The words by which a refusal is written are its text.
+impl fmt::Display for Refusal {
+    fn fmt<W: fmt::Write>(&self, f: &mut fmt::Formatter<W>) -> fmt::Result {
+        let (words, place) = words_of(*self);
+        match place {
+            None => write!(f, "{words}"),
+            Some(at) => write!(f, "{words} at {at}"),
+        }
+    }
+}
+
+impl std::error::Error for Refusal {}
+
 // A refusal's number and name, and the offset where it has one.
-fn words_of(refusal: Refusal) -> (&'static [u8], Option<u32>)
+fn words_of(refusal: Refusal) -> (&'static str, Option<u32>)
     ensures words { result.0.now ≡ stopped.refusal_words refusal }
     ensures place { result.1 ≡ stopped.refusal_place refusal }
 {
     match refusal {
         Refusal::Text(fault) => text_words(fault),
         Refusal::Program(breach) => breach_words(breach),
-        Refusal::InputTooLong => (b"E11 InputTooLong", None),
-        Refusal::OutOfMemory => (b"E16 OutOfMemory", None),
+        Refusal::InputTooLong => ("E11 InputTooLong", None),
+        Refusal::OutOfMemory => ("E16 OutOfMemory", None),
     }
 }
 
-fn text_words(fault: TextFault) -> (&'static [u8], Option<u32>)
+fn text_words(fault: TextFault) -> (&'static str, Option<u32>)
     ensures words { result.0.now ≡ stopped.text_words fault }
     ensures place { result.1 ≡ stopped.text_place fault }
 {
     match fault {
-        TextFault::NotAscii(at) => (b"E1 NotAscii", Some(at)),
-        TextFault::TextTooLong => (b"E2 TextTooLong", None),
-        TextFault::BadToken(at) => (b"E3 BadToken", Some(at)),
-        TextFault::Syntax(at) => (b"E4 Syntax", Some(at)),
-        TextFault::TooDeep(at) => (b"E5 TooDeep", Some(at)),
-        TextFault::OutOfMemory => (b"E16 OutOfMemory", None),
+        TextFault::NotAscii(at) => ("E1 NotAscii", Some(at)),
+        TextFault::TextTooLong => ("E2 TextTooLong", None),
+        TextFault::BadToken(at) => ("E3 BadToken", Some(at)),
+        TextFault::Syntax(at) => ("E4 Syntax", Some(at)),
+        TextFault::TooDeep(at) => ("E5 TooDeep", Some(at)),
+        TextFault::OutOfMemory => ("E16 OutOfMemory", None),
     }
 }
 
-fn breach_words(breach: Breach) -> (&'static [u8], Option<u32>)
+fn breach_words(breach: Breach) -> (&'static str, Option<u32>)
     ensures words { result.0.now ≡ stopped.cause_words breach.cause }
     ensures place { result.1 ≡ stopped.cause_place breach.spot breach.cause }
 {
@@ -117,22 +138,22 @@ fn breach_words(breach: Breach) -> (&'static [u8], Option<u32>)
         Spot::TextEnd => None,
     };
     match breach.cause {
-        Cause::UnknownName => (b"E6 UnknownName", place),
-        Cause::DoubleName => (b"E7 DoubleName", place),
-        Cause::WrongKind => (b"E8 WrongKind", place),
-        Cause::AssignedLoopVariable => (b"E9 AssignedLoopVariable", place),
+        Cause::UnknownName => ("E6 UnknownName", place),
+        Cause::DoubleName => ("E7 DoubleName", place),
+        Cause::WrongKind => ("E8 WrongKind", place),
+        Cause::AssignedLoopVariable => ("E9 AssignedLoopVariable", place),
         Cause::Limit(limit) => (limit_words(limit), None),
     }
 }
 
-fn limit_words(limit: Limit) -> &'static [u8]
+fn limit_words(limit: Limit) -> &'static str
     ensures { result.now ≡ stopped.limit_words limit }
 {
     match limit {
-        Limit::Cells => b"E10 Limit cells",
-        Limit::Procs => b"E10 Limit procs",
-        Limit::Bounds => b"E10 Limit bounds",
-        Limit::Reads => b"E10 Limit reads",
-        Limit::Tokens => b"E10 Limit tokens",
+        Limit::Cells => "E10 Limit cells",
+        Limit::Procs => "E10 Limit procs",
+        Limit::Bounds => "E10 Limit bounds",
+        Limit::Reads => "E10 Limit reads",
+        Limit::Tokens => "E10 Limit tokens",
     }
 }
