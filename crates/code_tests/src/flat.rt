@@ -107,21 +107,23 @@ fn goes_on(found: Option<Outcome>, wanted: &[i64]) -> bool {
     }
 }
 
+// Code, input and bound, with the output and the memory of its end.
+const ENDED: [(&[u8], &[i64], u32, &[i64], &[i64]); 10] = [
+    (BROADCAST, &[9, 8], 2, &[], &[9, 8, 9, 9, 9, 9]),
+    (THREE_TURNS, &[], 9, &[], &[3, 6]),
+    (CROSSED_READS, &[1, 2], 9, &[], &[1, 2, 12, 21]),
+    (ADDED_UP, &[5], 2, &[], &[10]),
+    (COUNTING_DOWN, &[], 12, &[], &[0, 2, 5, 9]),
+    (UNIFORM_PUTS, &[1], 9, &[7], &[7]),
+    (UNIFORM_PUTS_EREW, &[], 9, &[7], &[7]),
+    (THREE_PARTS, &[], 9, &[], &[1, 1, 3, 4, 0, 0, 4, 4]),
+    (AT_MOST, &[], 1, &[], &[]),
+    (THREE_COMPARISONS, &[8, 8, 8], 3, &[1, 1, 0, 2], &[1, 1, 0]),
+];
+
 #[test]
 fn runs_end(rt: HostRuntime) {
-    let rows: [(&[u8], &[i64], u32, &[i64], &[i64]); 10] = [
-        (BROADCAST, &[9, 8], 2, &[], &[9, 8, 9, 9, 9, 9]),
-        (THREE_TURNS, &[], 9, &[], &[3, 6]),
-        (CROSSED_READS, &[1, 2], 9, &[], &[1, 2, 12, 21]),
-        (ADDED_UP, &[5], 2, &[], &[10]),
-        (COUNTING_DOWN, &[], 12, &[], &[0, 2, 5, 9]),
-        (UNIFORM_PUTS, &[1], 9, &[7], &[7]),
-        (UNIFORM_PUTS_EREW, &[], 9, &[7], &[7]),
-        (THREE_PARTS, &[], 9, &[], &[1, 1, 3, 4, 0, 0, 4, 4]),
-        (AT_MOST, &[], 1, &[], &[]),
-        (THREE_COMPARISONS, &[8, 8, 8], 3, &[1, 1, 0, 2], &[1, 1, 0]),
-    ];
-    for (text, input, bound, output, memory) in rows {
+    for (text, input, bound, output, memory) in ENDED {
         assert!(rt; is_end(run(rt.alloc(), text, input, bound), output, memory));
     }
 }
@@ -134,51 +136,53 @@ fn runs_go_on_at_their_bound(rt: HostRuntime) {
     assert!(rt; goes_on(run(alloc, LATE_OUTPUT, &[], 1), &[4]));
 }
 
+// Code, input and bound, with the fault by kind, line and place, and the output before it.
+const FAULTED: [(&[u8], &[i64], u32, Kind, u32, Place, &[i64]); 8] = [
+    (
+        BROADCAST_EREW,
+        &[9, 8],
+        2,
+        Kind::ReadConflict,
+        8,
+        Place::Cell(0),
+        &[],
+    ),
+    (
+        LATE_CONFLICT,
+        &[],
+        9,
+        Kind::WriteConflict,
+        5,
+        Place::Cell(0),
+        &[],
+    ),
+    (
+        TWO_LEVELS,
+        &[5, 1],
+        9,
+        Kind::OutOfRange,
+        4,
+        Place::Processor(1),
+        &[],
+    ),
+    (
+        TWO_LEVELS,
+        &[2, 5],
+        9,
+        Kind::OutOfRange,
+        4,
+        Place::Processor(2),
+        &[],
+    ),
+    (ZERO_AT_ONCE, &[], 9, Kind::DivideByZero, 0, Place::All, &[]),
+    (OUT_OF_RANGE, &[], 9, Kind::OutOfRange, 0, Place::All, &[]),
+    (LATE_OUTPUT, &[], 9, Kind::DivideByZero, 2, Place::All, &[4]),
+    (TOO_WIDE, &[], 9, Kind::TooWide, 7, Place::All, &[]),
+];
+
 #[test]
 fn faults_are_told(rt: HostRuntime) {
-    let rows: [(&[u8], &[i64], u32, Kind, u32, Place, &[i64]); 8] = [
-        (
-            BROADCAST_EREW,
-            &[9, 8],
-            2,
-            Kind::ReadConflict,
-            8,
-            Place::Cell(0),
-            &[],
-        ),
-        (
-            LATE_CONFLICT,
-            &[],
-            9,
-            Kind::WriteConflict,
-            5,
-            Place::Cell(0),
-            &[],
-        ),
-        (
-            TWO_LEVELS,
-            &[5, 1],
-            9,
-            Kind::OutOfRange,
-            4,
-            Place::Processor(1),
-            &[],
-        ),
-        (
-            TWO_LEVELS,
-            &[2, 5],
-            9,
-            Kind::OutOfRange,
-            4,
-            Place::Processor(2),
-            &[],
-        ),
-        (ZERO_AT_ONCE, &[], 9, Kind::DivideByZero, 0, Place::All, &[]),
-        (OUT_OF_RANGE, &[], 9, Kind::OutOfRange, 0, Place::All, &[]),
-        (LATE_OUTPUT, &[], 9, Kind::DivideByZero, 2, Place::All, &[4]),
-        (TOO_WIDE, &[], 9, Kind::TooWide, 7, Place::All, &[]),
-    ];
-    for (text, input, bound, kind, line, place, output) in rows {
+    for (text, input, bound, kind, line, place, output) in FAULTED {
         let fault = Fault { kind, line, place };
         assert!(rt; is_fault(run(rt.alloc(), text, input, bound), fault, output));
     }

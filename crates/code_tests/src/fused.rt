@@ -32,40 +32,43 @@ fn code_without_empty_sends_stays(rt: HostRuntime) {
     }
 }
 
+// Code with empty sends, and without them.
+const WITH_EMPTY_SENDS: [(&[u8], &[u8]); 6] = [
+    // behind a mark
+    (
+        b"bsp 1\nrule crew\nprocs 4\ncell s\nuniform 2\nprivate 0\ncode 8\n0 mark 1\n1 send\n2 uset 0 1\n3 jzero 0 6\n4 uset 1 2\n5 jump 0\n6 mark 2\n7 halt\n",
+        b"bsp 1\nrule crew\nprocs 4\ncell s\nuniform 2\nprivate 0\ncode 7\n0 mark 1\n1 uset 0 1\n2 jzero 0 5\n3 uset 1 2\n4 jump 0\n5 mark 2\n6 halt\n",
+    ),
+    // a jump to one goes to what stands behind it
+    (
+        b"bsp 1\nrule erew\nprocs 4\nuniform 1\nprivate 0\ncode 7\n0 mark 1\n1 send\n2 jzero 0 4\n3 uset 0 1\n4 send\n5 print 0\n6 halt\n",
+        b"bsp 1\nrule erew\nprocs 4\nuniform 1\nprivate 0\ncode 5\n0 mark 1\n1 jzero 0 3\n2 uset 0 1\n3 print 0\n4 halt\n",
+    ),
+    // two in a row, and a jump to the second one
+    (
+        b"bsp 1\nrule common\nprocs 4\nuniform 1\nprivate 0\ncode 5\n0 mark 1\n1 jzero 0 3\n2 send\n3 send\n4 jump 0\n",
+        b"bsp 1\nrule common\nprocs 4\nuniform 1\nprivate 0\ncode 3\n0 mark 1\n1 jzero 0 2\n2 jump 0\n",
+    ),
+    // a write is held at the first one
+    (
+        b"bsp 1\nrule crew\nprocs 4\ncell s\nuniform 1\nprivate 0\ncode 5\n0 mark 1\n1 uput 0 0 0 1\n2 send\n3 send\n4 halt\n",
+        b"bsp 1\nrule crew\nprocs 4\ncell s\nuniform 1\nprivate 0\ncode 4\n0 mark 1\n1 uput 0 0 0 1\n2 send\n3 halt\n",
+    ),
+    // a jump back over one, to a mark
+    (
+        b"bsp 1\nrule crew\nprocs 4\ncell s\nuniform 2\nprivate 0\ncode 8\n0 send\n1 mark 1\n2 uask 0 0 1 1\n3 send\n4 reply\n5 send\n6 jzero 0 1\n7 halt\n",
+        b"bsp 1\nrule crew\nprocs 4\ncell s\nuniform 2\nprivate 0\ncode 6\n0 mark 1\n1 uask 0 0 1 1\n2 send\n3 reply\n4 jzero 0 0\n5 halt\n",
+    ),
+    // the code of the fault that is told later
+    (
+        b"bsp 1\nrule crew\nprocs 1\nuniform 2\nprivate 0\ncode 6\n0 mark 4\n1 udiv 1 0 0 1\n2 mark 5\n3 send\n4 print 0\n5 halt\n",
+        b"bsp 1\nrule crew\nprocs 1\nuniform 2\nprivate 0\ncode 5\n0 mark 4\n1 udiv 1 0 0 1\n2 mark 5\n3 print 0\n4 halt\n",
+    ),
+];
+
 #[test]
 fn empty_sends_are_taken_away(rt: HostRuntime) {
-    for (text, left) in [
-        // behind a mark
-        (
-            b"bsp 1\nrule crew\nprocs 4\ncell s\nuniform 2\nprivate 0\ncode 8\n0 mark 1\n1 send\n2 uset 0 1\n3 jzero 0 6\n4 uset 1 2\n5 jump 0\n6 mark 2\n7 halt\n".as_slice(),
-            b"bsp 1\nrule crew\nprocs 4\ncell s\nuniform 2\nprivate 0\ncode 7\n0 mark 1\n1 uset 0 1\n2 jzero 0 5\n3 uset 1 2\n4 jump 0\n5 mark 2\n6 halt\n".as_slice(),
-        ),
-        // a jump to one goes to what stands behind it
-        (
-            b"bsp 1\nrule erew\nprocs 4\nuniform 1\nprivate 0\ncode 7\n0 mark 1\n1 send\n2 jzero 0 4\n3 uset 0 1\n4 send\n5 print 0\n6 halt\n",
-            b"bsp 1\nrule erew\nprocs 4\nuniform 1\nprivate 0\ncode 5\n0 mark 1\n1 jzero 0 3\n2 uset 0 1\n3 print 0\n4 halt\n",
-        ),
-        // two in a row, and a jump to the second one
-        (
-            b"bsp 1\nrule common\nprocs 4\nuniform 1\nprivate 0\ncode 5\n0 mark 1\n1 jzero 0 3\n2 send\n3 send\n4 jump 0\n",
-            b"bsp 1\nrule common\nprocs 4\nuniform 1\nprivate 0\ncode 3\n0 mark 1\n1 jzero 0 2\n2 jump 0\n",
-        ),
-        // a write is held at the first one
-        (
-            b"bsp 1\nrule crew\nprocs 4\ncell s\nuniform 1\nprivate 0\ncode 5\n0 mark 1\n1 uput 0 0 0 1\n2 send\n3 send\n4 halt\n",
-            b"bsp 1\nrule crew\nprocs 4\ncell s\nuniform 1\nprivate 0\ncode 4\n0 mark 1\n1 uput 0 0 0 1\n2 send\n3 halt\n",
-        ),
-        // a jump back over one, to a mark
-        (
-            b"bsp 1\nrule crew\nprocs 4\ncell s\nuniform 2\nprivate 0\ncode 8\n0 send\n1 mark 1\n2 uask 0 0 1 1\n3 send\n4 reply\n5 send\n6 jzero 0 1\n7 halt\n",
-            b"bsp 1\nrule crew\nprocs 4\ncell s\nuniform 2\nprivate 0\ncode 6\n0 mark 1\n1 uask 0 0 1 1\n2 send\n3 reply\n4 jzero 0 0\n5 halt\n",
-        ),
-        // the code of the fault that is told later
-        (
-            b"bsp 1\nrule crew\nprocs 1\nuniform 2\nprivate 0\ncode 6\n0 mark 4\n1 udiv 1 0 0 1\n2 mark 5\n3 send\n4 print 0\n5 halt\n",
-            b"bsp 1\nrule crew\nprocs 1\nuniform 2\nprivate 0\ncode 5\n0 mark 4\n1 udiv 1 0 0 1\n2 mark 5\n3 print 0\n4 halt\n",
-        ),
-    ] {
+    for (text, left) in WITH_EMPTY_SENDS {
         let out = fused(rt.alloc(), text).expect(&rt, "fused code");
         assert_eq!(rt; out.bytes(), left);
     }

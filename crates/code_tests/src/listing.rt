@@ -133,84 +133,88 @@ fn changes_of_one_byte_are_counted(rt: HostRuntime) {
     assert_eq!(rt; (refused, read), (54_489, 336));
 }
 
+// Texts that are no listing, each with the offset of the first line with which none begins.
+const WRONG_LINES: [(&[u8], u32); 34] = [
+    (b"", 0),
+    (b"bsp 1", 0),
+    (b"bsp 01\n", 0),
+    (b"bsp 1 \n", 0),
+    (b"bsp 1\n", 6),
+    (b"bsp 1\nrule Sum\n", 6),
+    (b"bsp 1\nrule sum\nprocs 0\n", 15),
+    (b"bsp 1\nrule sum\nprocs 16385\n", 15),
+    (b"bsp 1\nrule sum\nprocs +1\n", 15),
+    (b"bsp 1\nrule sum\nprocs 01\n", 15),
+    (b"bsp 1\nrule sum\nprocs 1\ncell s\ncell s\n", 30),
+    (b"bsp 1\nrule sum\nprocs 1\ncell s\narray s 0 0\n", 30),
+    (b"bsp 1\nrule sum\nprocs 1\ncell end\n", 23),
+    (b"bsp 1\nrule sum\nprocs 1\ncell rule\n", 23),
+    (b"bsp 1\nrule sum\nprocs 1\ncell 1s\n", 23),
+    (b"bsp 1\nrule sum\nprocs 1\ncell _s\n", 23),
+    (b"bsp 1\nrule sum\nprocs 1\ncell s 1\n", 23),
+    (b"bsp 1\nrule sum\nprocs 1\narray a 2 1\n", 23),
+    (b"bsp 1\nrule sum\nprocs 1\narray a -1 2\n", 23),
+    (b"bsp 1\nrule sum\nprocs 1\narray a -0 2\n", 23),
+    (b"bsp 1\nrule sum\nprocs 1\narray a 0 1048576\n", 23),
+    (b"bsp 1\nrule sum\nprocs 1\narray a 1 1048576\ncell s\n", 41),
+    (
+        b"bsp 1\nrule sum\nprocs 1\narray a 0 9223372036854775808\n",
+        23,
+    ),
+    (b"bsp 1\nrule sum\nprocs 1\nuniform 65537\n", 23),
+    (b"bsp 1\nrule sum\nprocs 1\nuniform 0\ncell s\n", 33),
+    (
+        b"bsp 1\nrule sum\nprocs 1\nuniform 0\nprivate 0\ncode 65537\n",
+        43,
+    ),
+    (
+        b"bsp 1\nrule sum\nprocs 1\nuniform 0\nprivate 0\ncode 0\n\n",
+        50,
+    ),
+    (
+        b"bsp 1\nrule sum\nprocs 1\nuniform 0\nprivate 0\ncode 1\n1 halt\n",
+        50,
+    ),
+    (
+        b"bsp 1\nrule sum\nprocs 1\nuniform 0\nprivate 0\ncode 1\n0 halt 1\n",
+        50,
+    ),
+    (
+        b"bsp 1\nrule sum\nprocs 1\nuniform 0\nprivate 0\ncode 1\n0 uset 0 -0\n",
+        50,
+    ),
+    (
+        b"bsp 1\nrule sum\nprocs 1\nuniform 0\nprivate 0\ncode 1\n0 uset 65536 0\n",
+        50,
+    ),
+    (
+        b"bsp 1\nrule sum\nprocs 1\nuniform 0\nprivate 0\ncode 1\n0 mark 4294967296\n",
+        50,
+    ),
+    (
+        b"bsp 1\nrule sum\nprocs 1\nuniform 0\nprivate 0\ncode 1\n0 uset 0 9223372036854775808\n",
+        50,
+    ),
+    (
+        b"bsp 1\nrule sum\nprocs 1\nuniform 0\nprivate 0\ncode 1\n0 halt\r\n",
+        50,
+    ),
+];
+
+// Listings at the limits of what a listing may say.
+const LISTINGS_AT_LIMITS: [&[u8]; 3] = [
+    b"bsp 1\nrule sum\nprocs 1\nuniform 0\nprivate 0\ncode 0\n",
+    b"bsp 1\nrule priority\nprocs 1\narray a 1 1048576\nuniform 0\nprivate 0\ncode 0\n",
+    b"bsp 1\nrule erew\nprocs 1\narray a 9223372036854775807 9223372036854775807\ncell sum\nuniform 0\nprivate 0\ncode 0\n",
+];
+
 #[test]
 fn wrong_lines_are_told_with_their_offset(rt: HostRuntime) {
     let alloc = rt.alloc();
-    let rows: [(&[u8], u32); 34] = [
-        (b"", 0),
-        (b"bsp 1", 0),
-        (b"bsp 01\n", 0),
-        (b"bsp 1 \n", 0),
-        (b"bsp 1\n", 6),
-        (b"bsp 1\nrule Sum\n", 6),
-        (b"bsp 1\nrule sum\nprocs 0\n", 15),
-        (b"bsp 1\nrule sum\nprocs 16385\n", 15),
-        (b"bsp 1\nrule sum\nprocs +1\n", 15),
-        (b"bsp 1\nrule sum\nprocs 01\n", 15),
-        (b"bsp 1\nrule sum\nprocs 1\ncell s\ncell s\n", 30),
-        (b"bsp 1\nrule sum\nprocs 1\ncell s\narray s 0 0\n", 30),
-        (b"bsp 1\nrule sum\nprocs 1\ncell end\n", 23),
-        (b"bsp 1\nrule sum\nprocs 1\ncell rule\n", 23),
-        (b"bsp 1\nrule sum\nprocs 1\ncell 1s\n", 23),
-        (b"bsp 1\nrule sum\nprocs 1\ncell _s\n", 23),
-        (b"bsp 1\nrule sum\nprocs 1\ncell s 1\n", 23),
-        (b"bsp 1\nrule sum\nprocs 1\narray a 2 1\n", 23),
-        (b"bsp 1\nrule sum\nprocs 1\narray a -1 2\n", 23),
-        (b"bsp 1\nrule sum\nprocs 1\narray a -0 2\n", 23),
-        (b"bsp 1\nrule sum\nprocs 1\narray a 0 1048576\n", 23),
-        (b"bsp 1\nrule sum\nprocs 1\narray a 1 1048576\ncell s\n", 41),
-        (
-            b"bsp 1\nrule sum\nprocs 1\narray a 0 9223372036854775808\n",
-            23,
-        ),
-        (b"bsp 1\nrule sum\nprocs 1\nuniform 65537\n", 23),
-        (b"bsp 1\nrule sum\nprocs 1\nuniform 0\ncell s\n", 33),
-        (
-            b"bsp 1\nrule sum\nprocs 1\nuniform 0\nprivate 0\ncode 65537\n",
-            43,
-        ),
-        (
-            b"bsp 1\nrule sum\nprocs 1\nuniform 0\nprivate 0\ncode 0\n\n",
-            50,
-        ),
-        (
-            b"bsp 1\nrule sum\nprocs 1\nuniform 0\nprivate 0\ncode 1\n1 halt\n",
-            50,
-        ),
-        (
-            b"bsp 1\nrule sum\nprocs 1\nuniform 0\nprivate 0\ncode 1\n0 halt 1\n",
-            50,
-        ),
-        (
-            b"bsp 1\nrule sum\nprocs 1\nuniform 0\nprivate 0\ncode 1\n0 uset 0 -0\n",
-            50,
-        ),
-        (
-            b"bsp 1\nrule sum\nprocs 1\nuniform 0\nprivate 0\ncode 1\n0 uset 65536 0\n",
-            50,
-        ),
-        (
-            b"bsp 1\nrule sum\nprocs 1\nuniform 0\nprivate 0\ncode 1\n0 mark 4294967296\n",
-            50,
-        ),
-        (
-            b"bsp 1\nrule sum\nprocs 1\nuniform 0\nprivate 0\ncode 1\n0 uset 0 9223372036854775808\n",
-            50,
-        ),
-        (
-            b"bsp 1\nrule sum\nprocs 1\nuniform 0\nprivate 0\ncode 1\n0 halt\r\n",
-            50,
-        ),
-    ];
-    for (text, at) in rows {
+    for (text, at) in WRONG_LINES {
         assert_eq!(rt; fault(alloc, text), Some(ListingFault::BadListing(at)));
     }
-    let rows: [&[u8]; 3] = [
-        b"bsp 1\nrule sum\nprocs 1\nuniform 0\nprivate 0\ncode 0\n",
-        b"bsp 1\nrule priority\nprocs 1\narray a 1 1048576\nuniform 0\nprivate 0\ncode 0\n",
-        b"bsp 1\nrule erew\nprocs 1\narray a 9223372036854775807 9223372036854775807\ncell sum\nuniform 0\nprivate 0\ncode 0\n",
-    ];
-    for text in rows {
+    for text in LISTINGS_AT_LIMITS {
         assert_eq!(rt; fault(alloc, text), None);
     }
 }

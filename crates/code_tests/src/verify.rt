@@ -31,133 +31,136 @@ fn code_is_verified(rt: HostRuntime) {
     }
 }
 
+// Code with the first instruction that can't be met, and why.
+const REFUSED: [(&[u8], u32, Reason); 23] = [
+    (
+        b"bsp 1\nrule crew\nprocs 4\nuniform 0\nprivate 0\ncode 2\n0 reply\n1 halt\n",
+        0,
+        Reason::Exchange,
+    ),
+    (
+        b"bsp 1\nrule crew\nprocs 4\nuniform 0\nprivate 0\ncode 1\n0 jump 0\n",
+        0,
+        Reason::Target,
+    ),
+    (
+        b"bsp 1\nrule crew\nprocs 4\nuniform 0\nprivate 0\ncode 0\n",
+        0,
+        Reason::End,
+    ),
+    (
+        b"bsp 1\nrule crew\nprocs 4\nuniform 0\nprivate 0\ncode 3\n0 mark 1\n1 flip\n2 halt\n",
+        1,
+        Reason::Mode,
+    ),
+    (
+        b"bsp 1\nrule crew\nprocs 4\ncell s\nuniform 1\nprivate 0\ncode 5\n0 jzero 0 3\n1 uask 0 0 0 1\n2 send\n3 reply\n4 halt\n",
+        2,
+        Reason::State,
+    ),
+    (
+        b"bsp 1\nrule crew\nprocs 4\nuniform 1\nprivate 0\ncode 2\n0 vote 0\n1 halt\n",
+        0,
+        Reason::Mode,
+    ),
+    // no lower place leads to it
+    (
+        b"bsp 1\nrule crew\nprocs 4\nuniform 0\nprivate 0\ncode 3\n0 jump 2\n1 mark 1\n2 halt\n",
+        1,
+        Reason::State,
+    ),
+    (
+        b"bsp 1\nrule crew\nprocs 4\nuniform 0\nprivate 0\ncode 2\n0 uset 0 1\n1 halt\n",
+        0,
+        Reason::Register,
+    ),
+    (
+        b"bsp 1\nrule crew\nprocs 4\nuniform 1\nprivate 1\ncode 2\n0 pset 0 1\n1 halt\n",
+        0,
+        Reason::Mode,
+    ),
+    (
+        b"bsp 1\nrule crew\nprocs 4\nuniform 1\nprivate 1\ncode 4\n0 enter 0 0 1\n1 pset 1 1\n2 leave\n3 halt\n",
+        1,
+        Reason::Register,
+    ),
+    (
+        b"bsp 1\nrule crew\nprocs 4\nuniform 1\nprivate 0\ncode 4\n0 uask 0 0 0 1\n1 send\n2 reply\n3 halt\n",
+        0,
+        Reason::Entry,
+    ),
+    (
+        b"bsp 1\nrule crew\nprocs 4\nuniform 0\nprivate 0\ncode 1\n0 jump 1\n",
+        0,
+        Reason::Target,
+    ),
+    // a mask is left on
+    (
+        b"bsp 1\nrule crew\nprocs 4\nuniform 1\nprivate 1\ncode 4\n0 enter 0 0 1\n1 mask 0\n2 leave\n3 halt\n",
+        2,
+        Reason::Mask,
+    ),
+    (
+        b"bsp 1\nrule crew\nprocs 4\nuniform 1\nprivate 1\ncode 4\n0 enter 0 0 1\n1 unmask\n2 leave\n3 halt\n",
+        1,
+        Reason::Mask,
+    ),
+    // the mask at 65 would be the 65th
+    (
+        b"bsp 1\nrule crew\nprocs 4\nuniform 1\nprivate 1\ncode 67\n0 enter 0 0 1\n1 mask 0\n2 mask 0\n3 mask 0\n4 mask 0\n5 mask 0\n6 mask 0\n7 mask 0\n8 mask 0\n9 mask 0\n10 mask 0\n11 mask 0\n12 mask 0\n13 mask 0\n14 mask 0\n15 mask 0\n16 mask 0\n17 mask 0\n18 mask 0\n19 mask 0\n20 mask 0\n21 mask 0\n22 mask 0\n23 mask 0\n24 mask 0\n25 mask 0\n26 mask 0\n27 mask 0\n28 mask 0\n29 mask 0\n30 mask 0\n31 mask 0\n32 mask 0\n33 mask 0\n34 mask 0\n35 mask 0\n36 mask 0\n37 mask 0\n38 mask 0\n39 mask 0\n40 mask 0\n41 mask 0\n42 mask 0\n43 mask 0\n44 mask 0\n45 mask 0\n46 mask 0\n47 mask 0\n48 mask 0\n49 mask 0\n50 mask 0\n51 mask 0\n52 mask 0\n53 mask 0\n54 mask 0\n55 mask 0\n56 mask 0\n57 mask 0\n58 mask 0\n59 mask 0\n60 mask 0\n61 mask 0\n62 mask 0\n63 mask 0\n64 mask 0\n65 mask 0\n66 halt\n",
+        65,
+        Reason::Mask,
+    ),
+    // a ninth read
+    (
+        b"bsp 1\nrule crew\nprocs 4\ncell s\nuniform 1\nprivate 0\ncode 10\n0 uask 0 0 0 1\n1 uask 0 0 0 2\n2 uask 0 0 0 3\n3 uask 0 0 0 4\n4 uask 0 0 0 5\n5 uask 0 0 0 6\n6 uask 0 0 0 7\n7 uask 0 0 0 8\n8 uask 0 0 0 9\n9 halt\n",
+        8,
+        Reason::Exchange,
+    ),
+    // a second write
+    (
+        b"bsp 1\nrule crew\nprocs 4\ncell s\nuniform 1\nprivate 0\ncode 3\n0 uput 0 0 0 1\n1 uput 0 0 0 2\n2 halt\n",
+        1,
+        Reason::Exchange,
+    ),
+    // a vote with a write held
+    (
+        b"bsp 1\nrule crew\nprocs 4\ncell s\nuniform 1\nprivate 1\ncode 5\n0 uput 0 0 0 1\n1 enter 0 0 2\n2 vote 0\n3 leave\n4 halt\n",
+        2,
+        Reason::Exchange,
+    ),
+    (
+        b"bsp 1\nrule crew\nprocs 4\ncell s\nuniform 1\nprivate 0\ncode 3\n0 uask 0 0 0 1\n1 print 0\n2 halt\n",
+        1,
+        Reason::Exchange,
+    ),
+    (
+        b"bsp 1\nrule crew\nprocs 4\ncell s\nuniform 1\nprivate 0\ncode 5\n0 uask 0 0 0 1\n1 send\n2 uset 0 1\n3 reply\n4 halt\n",
+        2,
+        Reason::Exchange,
+    ),
+    (
+        b"bsp 1\nrule crew\nprocs 4\nuniform 0\nprivate 0\ncode 1\n0 mark 1\n",
+        0,
+        Reason::End,
+    ),
+    // the target before the end
+    (
+        b"bsp 1\nrule crew\nprocs 4\nuniform 1\nprivate 0\ncode 2\n0 mark 1\n1 jzero 0 2\n",
+        1,
+        Reason::Target,
+    ),
+    // the mark has another state
+    (
+        b"bsp 1\nrule crew\nprocs 4\ncell s\nuniform 1\nprivate 0\ncode 3\n0 mark 1\n1 uput 0 0 0 1\n2 jump 0\n",
+        2,
+        Reason::State,
+    ),
+];
+
 #[test]
 fn refused_code_has_its_first_fault(rt: HostRuntime) {
-    for (text, at, reason) in [
-        (
-            b"bsp 1\nrule crew\nprocs 4\nuniform 0\nprivate 0\ncode 2\n0 reply\n1 halt\n".as_slice(),
-            0,
-            Reason::Exchange,
-        ),
-        (
-            b"bsp 1\nrule crew\nprocs 4\nuniform 0\nprivate 0\ncode 1\n0 jump 0\n",
-            0,
-            Reason::Target,
-        ),
-        (
-            b"bsp 1\nrule crew\nprocs 4\nuniform 0\nprivate 0\ncode 0\n",
-            0,
-            Reason::End,
-        ),
-        (
-            b"bsp 1\nrule crew\nprocs 4\nuniform 0\nprivate 0\ncode 3\n0 mark 1\n1 flip\n2 halt\n",
-            1,
-            Reason::Mode,
-        ),
-        (
-            b"bsp 1\nrule crew\nprocs 4\ncell s\nuniform 1\nprivate 0\ncode 5\n0 jzero 0 3\n1 uask 0 0 0 1\n2 send\n3 reply\n4 halt\n",
-            2,
-            Reason::State,
-        ),
-        (
-            b"bsp 1\nrule crew\nprocs 4\nuniform 1\nprivate 0\ncode 2\n0 vote 0\n1 halt\n",
-            0,
-            Reason::Mode,
-        ),
-        // no lower place leads to it
-        (
-            b"bsp 1\nrule crew\nprocs 4\nuniform 0\nprivate 0\ncode 3\n0 jump 2\n1 mark 1\n2 halt\n",
-            1,
-            Reason::State,
-        ),
-        (
-            b"bsp 1\nrule crew\nprocs 4\nuniform 0\nprivate 0\ncode 2\n0 uset 0 1\n1 halt\n",
-            0,
-            Reason::Register,
-        ),
-        (
-            b"bsp 1\nrule crew\nprocs 4\nuniform 1\nprivate 1\ncode 2\n0 pset 0 1\n1 halt\n",
-            0,
-            Reason::Mode,
-        ),
-        (
-            b"bsp 1\nrule crew\nprocs 4\nuniform 1\nprivate 1\ncode 4\n0 enter 0 0 1\n1 pset 1 1\n2 leave\n3 halt\n",
-            1,
-            Reason::Register,
-        ),
-        (
-            b"bsp 1\nrule crew\nprocs 4\nuniform 1\nprivate 0\ncode 4\n0 uask 0 0 0 1\n1 send\n2 reply\n3 halt\n",
-            0,
-            Reason::Entry,
-        ),
-        (
-            b"bsp 1\nrule crew\nprocs 4\nuniform 0\nprivate 0\ncode 1\n0 jump 1\n",
-            0,
-            Reason::Target,
-        ),
-        // a mask is left on
-        (
-            b"bsp 1\nrule crew\nprocs 4\nuniform 1\nprivate 1\ncode 4\n0 enter 0 0 1\n1 mask 0\n2 leave\n3 halt\n",
-            2,
-            Reason::Mask,
-        ),
-        (
-            b"bsp 1\nrule crew\nprocs 4\nuniform 1\nprivate 1\ncode 4\n0 enter 0 0 1\n1 unmask\n2 leave\n3 halt\n",
-            1,
-            Reason::Mask,
-        ),
-        // the mask at 65 would be the 65th
-        (
-            b"bsp 1\nrule crew\nprocs 4\nuniform 1\nprivate 1\ncode 67\n0 enter 0 0 1\n1 mask 0\n2 mask 0\n3 mask 0\n4 mask 0\n5 mask 0\n6 mask 0\n7 mask 0\n8 mask 0\n9 mask 0\n10 mask 0\n11 mask 0\n12 mask 0\n13 mask 0\n14 mask 0\n15 mask 0\n16 mask 0\n17 mask 0\n18 mask 0\n19 mask 0\n20 mask 0\n21 mask 0\n22 mask 0\n23 mask 0\n24 mask 0\n25 mask 0\n26 mask 0\n27 mask 0\n28 mask 0\n29 mask 0\n30 mask 0\n31 mask 0\n32 mask 0\n33 mask 0\n34 mask 0\n35 mask 0\n36 mask 0\n37 mask 0\n38 mask 0\n39 mask 0\n40 mask 0\n41 mask 0\n42 mask 0\n43 mask 0\n44 mask 0\n45 mask 0\n46 mask 0\n47 mask 0\n48 mask 0\n49 mask 0\n50 mask 0\n51 mask 0\n52 mask 0\n53 mask 0\n54 mask 0\n55 mask 0\n56 mask 0\n57 mask 0\n58 mask 0\n59 mask 0\n60 mask 0\n61 mask 0\n62 mask 0\n63 mask 0\n64 mask 0\n65 mask 0\n66 halt\n",
-            65,
-            Reason::Mask,
-        ),
-        // a ninth read
-        (
-            b"bsp 1\nrule crew\nprocs 4\ncell s\nuniform 1\nprivate 0\ncode 10\n0 uask 0 0 0 1\n1 uask 0 0 0 2\n2 uask 0 0 0 3\n3 uask 0 0 0 4\n4 uask 0 0 0 5\n5 uask 0 0 0 6\n6 uask 0 0 0 7\n7 uask 0 0 0 8\n8 uask 0 0 0 9\n9 halt\n",
-            8,
-            Reason::Exchange,
-        ),
-        // a second write
-        (
-            b"bsp 1\nrule crew\nprocs 4\ncell s\nuniform 1\nprivate 0\ncode 3\n0 uput 0 0 0 1\n1 uput 0 0 0 2\n2 halt\n",
-            1,
-            Reason::Exchange,
-        ),
-        // a vote with a write held
-        (
-            b"bsp 1\nrule crew\nprocs 4\ncell s\nuniform 1\nprivate 1\ncode 5\n0 uput 0 0 0 1\n1 enter 0 0 2\n2 vote 0\n3 leave\n4 halt\n",
-            2,
-            Reason::Exchange,
-        ),
-        (
-            b"bsp 1\nrule crew\nprocs 4\ncell s\nuniform 1\nprivate 0\ncode 3\n0 uask 0 0 0 1\n1 print 0\n2 halt\n",
-            1,
-            Reason::Exchange,
-        ),
-        (
-            b"bsp 1\nrule crew\nprocs 4\ncell s\nuniform 1\nprivate 0\ncode 5\n0 uask 0 0 0 1\n1 send\n2 uset 0 1\n3 reply\n4 halt\n",
-            2,
-            Reason::Exchange,
-        ),
-        (
-            b"bsp 1\nrule crew\nprocs 4\nuniform 0\nprivate 0\ncode 1\n0 mark 1\n",
-            0,
-            Reason::End,
-        ),
-        // the target before the end
-        (
-            b"bsp 1\nrule crew\nprocs 4\nuniform 1\nprivate 0\ncode 2\n0 mark 1\n1 jzero 0 2\n",
-            1,
-            Reason::Target,
-        ),
-        // the mark has another state
-        (
-            b"bsp 1\nrule crew\nprocs 4\ncell s\nuniform 1\nprivate 0\ncode 3\n0 mark 1\n1 uput 0 0 0 1\n2 jump 0\n",
-            2,
-            Reason::State,
-        ),
-    ] {
+    for (text, at, reason) in REFUSED {
         assert_eq!(rt;
             read_and_verify(rt.alloc(), text),
             Some(Err(VerifyFault::NotVerified { at, reason }))
