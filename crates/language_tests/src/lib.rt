@@ -12,6 +12,8 @@ mod rows_order;
 #[cfg(test)]
 mod rows_parallel;
 #[cfg(test)]
+mod rows_stop;
+#[cfg(test)]
 mod rows_uniform;
 #[cfg(test)]
 mod syntax;

@@ -2,11 +2,11 @@
 
 ghost use Rattle.std.specs.Prelude.{◌<◌, Some};
 
+use pram_printer::print::print_tree;
 use pram_syntax::buffer::Buffer;
 use pram_syntax::error::TextFault;
 use pram_syntax::input::read_input;
 use pram_syntax::parse::parse;
-use pram_printer::print::print_tree;
 use pram_syntax::rule::Rule;
 use pram_syntax::token::Location;
 use pram_syntax::writer::{Out, OutFailed, WriteFault};
@@ -27,34 +27,29 @@ fn refused(alloc: Global, text: &[u8]) -> Option<TextFault> {
     }
 }
 
+/// Texts with a byte or a token that is wrong. A byte of 128 or more is told before the bad token in
+/// front of it, and a bad token before the syntax fault in front of it. A lone CR ends no comment.
+const BYTES_AND_TOKENS: [(&[u8], TextFault); 10] = [
+    (&[128], TextFault::NotAscii(0)),
+    (&[b':', b' ', 255], TextFault::NotAscii(2)),
+    (&[127], TextFault::BadToken(0)),
+    (b"rule crew; procs 1; begin x :", TextFault::BadToken(28)),
+    (b"end :", TextFault::BadToken(4)),
+    (b"rule 1a", TextFault::BadToken(5)),
+    (b"shared a[1...2];", TextFault::BadToken(12)),
+    (
+        b"rule crew; procs 9223372036854775808; begin end",
+        TextFault::BadToken(17),
+    ),
+    (b"# a\r1a", TextFault::Syntax(6)),
+    (b"# a\n1a", TextFault::BadToken(4)),
+];
+
 #[test]
 fn bytes_and_tokens(rt: HostRuntime) {
-    let alloc = rt.alloc();
-    assert_eq!(rt; fault(alloc, &[128]), Some(TextFault::NotAscii(0)));
-    // A byte of 128 or more is told before the bad token in front of it.
-    assert_eq!(rt;
-        fault(alloc, &[b':', b' ', 255]),
-        Some(TextFault::NotAscii(2))
-    );
-    assert_eq!(rt; fault(alloc, &[127]), Some(TextFault::BadToken(0)));
-    assert_eq!(rt;
-        fault(alloc, b"rule crew; procs 1; begin x :"),
-        Some(TextFault::BadToken(28))
-    );
-    // A bad token is told before the syntax fault in front of it.
-    assert_eq!(rt; fault(alloc, b"end :"), Some(TextFault::BadToken(4)));
-    assert_eq!(rt; fault(alloc, b"rule 1a"), Some(TextFault::BadToken(5)));
-    assert_eq!(rt;
-        fault(alloc, b"shared a[1...2];"),
-        Some(TextFault::BadToken(12))
-    );
-    assert_eq!(rt;
-        fault(alloc, b"rule crew; procs 9223372036854775808; begin end"),
-        Some(TextFault::BadToken(17))
-    );
-    // A lone CR ends no comment.
-    assert_eq!(rt; fault(alloc, b"# a\r1a"), Some(TextFault::Syntax(6)));
-    assert_eq!(rt; fault(alloc, b"# a\n1a"), Some(TextFault::BadToken(4)));
+    for (text, refusal) in &BYTES_AND_TOKENS {
+        assert_eq!(rt; fault(rt.alloc(), text), Some(*refusal));
+    }
 }
 
 /// What is refused, by a number and an offset.
@@ -346,25 +341,26 @@ impl Out for Narrow {
     }
 }
 
+const SPELLINGS: [(&str, &str); 3] = [
+    (
+        "rule crew;procs 01;begin print(1);end",
+        "rule crew ;\nprocs 1 ;\nbegin\nprint ( 1 ) ;\nend\n",
+    ),
+    (
+        "rule sum;procs 2;shared s;shared a[00..3];var x;begin # rest
+a[-x]:=not x=s or 1<>2;if x then else end if x then x:=0;else print x;end end",
+        "rule sum ;\nprocs 2 ;\nshared s ;\nshared a [ 0 .. 3 ] ;\nvar x ;\nbegin\na [ - x ] := not x = s or 1 <> 2 ;\nif x then\nelse\nend\nif x then\nx := 0 ;\nelse\nprint x ;\nend\nend\n",
+    ),
+    (
+        "rule erew;procs 3;begin for x:=1 to 3 do while x<2 do end end for 1<=i<=x+1 pardo local t;local r;end end",
+        "rule erew ;\nprocs 3 ;\nbegin\nfor x := 1 to 3 do\nwhile x < 2 do\nend\nend\nfor 1 <= i <= x + 1 pardo\nlocal t ;\nlocal r ;\nend\nend\n",
+    ),
+];
+
 #[test]
 fn a_tree_has_one_spelling(rt: HostRuntime) {
     let alloc = rt.alloc();
-    let rows = [
-        (
-            "rule crew;procs 01;begin print(1);end",
-            "rule crew ;\nprocs 1 ;\nbegin\nprint ( 1 ) ;\nend\n",
-        ),
-        (
-            "rule sum;procs 2;shared s;shared a[00..3];var x;begin # rest
-a[-x]:=not x=s or 1<>2;if x then else end if x then x:=0;else print x;end end",
-            "rule sum ;\nprocs 2 ;\nshared s ;\nshared a [ 0 .. 3 ] ;\nvar x ;\nbegin\na [ - x ] := not x = s or 1 <> 2 ;\nif x then\nelse\nend\nif x then\nx := 0 ;\nelse\nprint x ;\nend\nend\n",
-        ),
-        (
-            "rule erew;procs 3;begin for x:=1 to 3 do while x<2 do end end for 1<=i<=x+1 pardo local t;local r;end end",
-            "rule erew ;\nprocs 3 ;\nbegin\nfor x := 1 to 3 do\nwhile x < 2 do\nend\nend\nfor 1 <= i <= x + 1 pardo\nlocal t ;\nlocal r ;\nend\nend\n",
-        ),
-    ];
-    for (text, spelling) in rows {
+    for (text, spelling) in &SPELLINGS {
         match parse(alloc, text.as_bytes()) {
             Ok(tree) => {
                 let mut buffer = Buffer::new(alloc);
@@ -407,20 +403,38 @@ fn writers_take_less_and_fail(rt: HostRuntime) {
     }
 }
 
+const NUMBERS: [(&str, i64); 6] = [
+    ("0", 0),
+    ("-0", 0),
+    ("\t0009\r\n", 9),
+    (" -007 ", -7),
+    ("9223372036854775807", 9_223_372_036_854_775_807),
+    ("-9223372036854775808", -9_223_372_036_854_775_808),
+];
+
+const NO_NUMBERS: [(&str, u32); 14] = [
+    ("+1", 0),
+    ("-", 0),
+    (" - 1", 1),
+    ("1 --1", 2),
+    ("1a", 0),
+    ("1 2 3x 4y", 4),
+    ("1-", 0),
+    ("1-2", 0),
+    ("1,2", 0),
+    ("0x10", 0),
+    ("# 1", 0),
+    ("1\u{b}2", 0),
+    ("9223372036854775808", 0),
+    ("7\n-9223372036854775809", 2),
+];
+
 #[test]
 fn inputs_are_whole_numbers(rt: HostRuntime) -> Result<(), Fail> {
     let alloc = rt.alloc();
-    let one = [
-        ("0", 0),
-        ("-0", 0),
-        ("\t0009\r\n", 9),
-        (" -007 ", -7),
-        ("9223372036854775807", 9_223_372_036_854_775_807),
-        ("-9223372036854775808", -9_223_372_036_854_775_808),
-    ];
-    for (text, value) in one {
+    for (text, value) in &NUMBERS {
         match read_input(alloc, text.as_bytes()) {
-            Ok(values) => assert_eq!(rt; values.as_slice(), [value].as_slice(), "{text}"),
+            Ok(values) => assert_eq!(rt; values.as_slice(), [*value].as_slice(), "{text}"),
             Err(fault) => assert_eq!(rt; Some(fault), None, "{text}"),
         }
     }
@@ -428,26 +442,10 @@ fn inputs_are_whole_numbers(rt: HostRuntime) -> Result<(), Fail> {
         Ok(values) => assert_eq!(rt; values.as_slice(), [7, 8, 9, -10].as_slice()),
         Err(fault) => assert_eq!(rt; Some(fault), None),
     }
-    let bad = [
-        ("+1", 0),
-        ("-", 0),
-        (" - 1", 1),
-        ("1 --1", 2),
-        ("1a", 0),
-        ("1 2 3x 4y", 4),
-        ("1-", 0),
-        ("1-2", 0),
-        ("1,2", 0),
-        ("0x10", 0),
-        ("# 1", 0),
-        ("1\u{b}2", 0),
-        ("9223372036854775808", 0),
-        ("7\n-9223372036854775809", 2),
-    ];
-    for (text, at) in bad {
+    for (text, at) in &NO_NUMBERS {
         assert_eq!(rt;
             refused(alloc, text.as_bytes()),
-            Some(TextFault::BadToken(at)),
+            Some(TextFault::BadToken(*at)),
             "{text}"
         );
     }
