@@ -8,3 +8,4 @@ pub mod WriteCells
 pub mod Tasks
 pub mod FaultKinds
 pub mod Columns
+pub mod Effects

@@ -15,6 +15,7 @@ use Rattle.superstep_machine.specs.Keys.{is_first, least}
 use Rattle.superstep_machine.proofs.KeyOrder.{keys_are_monoid, least_again, by_lesser_position, by_lesser_class, by_earlier_place}
 use Rattle.pram_meaning.specs.declared.key.Key.{Key}
 use Rattle.pram_meaning.specs.Conflict.{is_key_before, lesser}
+use Rattle.pram_meaning.proofs.Swaps.{tied_at, tied_place}
 use Rattle.evaluation.specs.Noted.{Heading}
 use Rattle.evaluation.specs.Told.{is_cell, key_of, told, AreToldInOneOrder}
 
@@ -50,18 +51,6 @@ before_first h k j b = go (at_cases k.at j.at (is_place_before k.place j.place) 
       | inr e ↦ by_lesser_class (key_of h k) (key_of h j) refl s.0 e.0 e.1
     ]
 
-tied_at : (a b : ℕ) (p q : Bool) → (nat_lt a b || (nat_eq a b && p)) ≡ false → (nat_lt b a || (nat_eq b a && q)) ≡ false →
-    (a ≡ b) × (p ≡ false) × (q ≡ false)
-tied_at a b p q h k = go (nat_lt a b) (nat_lt b a) (nat_eq a b) (nat_eq b a) refl refl refl refl h k
-  where
-    go : (x y z w : Bool) → nat_lt a b ≡ x → nat_lt b a ≡ y → nat_eq a b ≡ z → nat_eq b a ≡ w → (x || (z && p)) ≡ false →
-        (y || (w && q)) ≡ false → (a ≡ b) × (p ≡ false) × (q ≡ false)
-    go true y z w e f g i m n = absurd (cc m)
-    go false true z w e f g i m n = absurd (cc n)
-    go false false true true e f g i m n = ((let k : a ≡ b = grind (arith, nat_tests, g) in k), m, n)
-    go false false false w e f g i m n = absurd (grind (arith, nat_tests, e, f, g))
-    go false false true false e f g i m n = absurd (grind (arith, nat_tests, g, i))
-
 pub one_order : AreToldInOneOrder
 one_order h k j same = go (is_key_before j k) (is_key_before k j) refl refl
   where
@@ -72,9 +61,11 @@ one_order h k j same = go (is_key_before j k) (is_key_before k j) refl refl
         ∙ ap (λ b. let x : machine.Key.Key = if b then key_of h j else key_of h k in Some x) (before_first h j k e))
     go false true e f = sym (ap (λ b. let x : machine.Key.Key = if b then key_of h k else key_of h j in Some x) (before_first h k j f))
     go false false e f =
-        let t = tied_at k.at j.at (is_place_before k.place j.place) (is_place_before j.place k.place) f e in
-        let place : k.place ≡ j.place = one_is_before k.place j.place t.1 t.2 in
-        let one : k ≡ j = λ i. record { at = t.0 i; place = place i; kind = same t.0 place i } in
+        let at : k.at ≡ j.at = tied_at k.at j.at (is_place_before k.place j.place) (is_place_before j.place k.place) f e in
+        let place : k.place ≡ j.place = one_is_before k.place j.place
+        (tied_place k.at j.at (is_place_before k.place j.place) at f)
+        (tied_place j.at k.at (is_place_before j.place k.place) (sym at) e) in
+        let one : k ≡ j = λ i. record { at = at i; place = place i; kind = same at place i } in
         sym (ap (λ x. least (told h (Some k)) (told h (Some x))) (sym one) ∙ least_again (told h (Some k)))
 
 -- ---- all keys of a list

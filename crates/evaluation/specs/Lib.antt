@@ -4,3 +4,4 @@ pub mod Attempts
 pub mod Rows
 pub mod Noted
 pub mod Told
+pub mod Effects

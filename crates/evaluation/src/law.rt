@@ -4,6 +4,8 @@ ghost use Rattle.evaluation.specs.Attempts.{ExpressionsAreWhole, ValuesAreWhole,
 ghost use Rattle.evaluation.specs.Attempts.{InnerAssignmentsAreWhole, BoundsAreWhole, RangesAreWhole};
 ghost use Rattle.std.specs.Prelude.{ℕ, ℤ};
 ghost use Rattle.pram_meaning.specs.Attempt.{Effect};
+ghost use Rattle.evaluation.specs.Effects.{PartsAreWhole, TestsAreValues, LocalsAreValues};
+ghost use Rattle.evaluation.specs.Effects.{CellsAreSettled, NoCellIsLost, EntriesAreTheRule, OneWriterIsTheRule};
 ghost use Rattle.evaluation.specs.Told.{LeastFaultIsNoted, TogetherIsNoted, AloneIsNoted, AreToldInOneOrder, NoneDifferInKindAlone};
 
 /// A processor's attempt at a statement is its whole evaluation, in which it goes on after a fault
@@ -32,4 +34,18 @@ pub fn least_fault_is_noted()
     ensures ranges_alone { AloneIsNoted (ℤ × ℕ) }
     ensures order { AreToldInOneOrder }
     ensures kinds { NoneDifferInKindAlone }
+{}
+
+/// Where no processor notes a fault of its own, a statement does what the values of the whole
+/// evaluations say: each part is whole; a test splits the set by them; each local gets its own; each
+/// cell has what the rule gives for its writers, and none is lost. What the machine combines for a
+/// cell has the rule's value as its verdict, and a single writer leaves its value.
+pub fn effects_are_values()
+    ensures parts { PartsAreWhole }
+    ensures tests { TestsAreValues }
+    ensures locals { LocalsAreValues }
+    ensures cells { CellsAreSettled }
+    ensures length { NoCellIsLost }
+    ensures entries { EntriesAreTheRule }
+    ensures one_writer { OneWriterIsTheRule }
 {}

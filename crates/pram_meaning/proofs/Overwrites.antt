@@ -93,11 +93,11 @@ over_goes rule all items i d start now new b said h e =
     subst (InOver rule all (drop (i + 1) all) start) (sym (e ∙ ap (λ (j : Judged). with_value j.access.cell j.verdict now) one))
     (step rule all (take i all) (drop (i + 1) all) a split start now (subst (λ r. InOver rule all r start now) left b))
 
-length_over : (rule : Rule) (xs : List Part) (k : ℕ) (cells : List ℤ) → length (overwritten rule xs k cells) ≡ length cells
+pub length_over : (rule : Rule) (xs : List Part) (k : ℕ) (cells : List ℤ) → length (overwritten rule xs k cells) ≡ length cells
 length_over rule xs k [] = refl
 length_over rule xs k (o ∷ cells) = ap suc (length_over rule xs (k + 1) cells)
 
-at_over : (rule : Rule) (xs : List Part) (k : ℕ) (cells : List ℤ) (c : ℕ) → c < length cells → get_or (overwritten rule xs k cells) c (pos 0) ≡ settled (get_or cells c (pos 0)) (written rule (get_or cells c (pos 0)) (writes_to (k + c) xs))
+pub at_over : (rule : Rule) (xs : List Part) (k : ℕ) (cells : List ℤ) (c : ℕ) → c < length cells → get_or (overwritten rule xs k cells) c (pos 0) ≡ settled (get_or cells c (pos 0)) (written rule (get_or cells c (pos 0)) (writes_to (k + c) xs))
 at_over rule xs k [] c h = absurd (omega arith)
 at_over rule xs k (o ∷ cells) zero h = ap (λ n. settled o (written rule o (writes_to n xs))) (let e : k ≡ k + 0 = omega arith in e)
 at_over rule xs k (o ∷ cells) (suc c) h =

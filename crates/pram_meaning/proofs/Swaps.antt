@@ -16,13 +16,13 @@ use Rattle.pram_model.proofs.Truths.{either}
 one_way : (j k : Key) → is_key_before j k ≡ true → is_key_before k j ≡ true → ⊥
 one_way j k a b = let c : is_key_before j j ≡ true = key_passed_on j k j a b in let d = key_irreflexive j in cc (c, d)
 
-tied_at : (a b : ℕ) (p q : Bool) → (nat_lt a b || (nat_eq a b && p)) ≡ false → (nat_lt b a || (nat_eq b a && q)) ≡ false → a ≡ b
+pub tied_at : (a b : ℕ) (p q : Bool) → (nat_lt a b || (nat_eq a b && p)) ≡ false → (nat_lt b a || (nat_eq b a && q)) ≡ false → a ≡ b
 tied_at a b true true h k = grind arith
 tied_at a b true false h k = grind arith
 tied_at a b false true h k = grind arith
 tied_at a b false false h k = grind arith
 
-tied_place : (a b : ℕ) (p : Bool) → a ≡ b → (nat_lt a b || (nat_eq a b && p)) ≡ false → p ≡ false
+pub tied_place : (a b : ℕ) (p : Bool) → a ≡ b → (nat_lt a b || (nat_eq a b && p)) ≡ false → p ≡ false
 tied_place a b true e h = grind arith
 tied_place a b false e h = refl
 

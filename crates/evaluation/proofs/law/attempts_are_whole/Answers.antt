@@ -1,4 +1,5 @@
-use Rattle.evaluation.proofs.Attempts.{whole_expressions, whole_values, whole_assignments, whole_inner_assignments, whole_bounds_of, whole_ranges}
+use Rattle.evaluation.proofs.Attempts.{whole_expressions, whole_values, whole_assignments, whole_inner_assignments, whole_bounds_of}
+use Rattle.evaluation.proofs.Attempts.{whole_ranges}
 use Rattle.evaluation.proofs.law.attempts_are_whole.Goals as goal
 
 pub returns : goal.returns
