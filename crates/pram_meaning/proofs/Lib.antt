@@ -23,6 +23,7 @@ pub mod Overwrites
 pub mod Swaps
 pub mod Columns
 pub mod SoundValues
+pub mod ValuesOfAttempts
 pub mod ValuesKept
 pub mod DenotedExpressions
 pub mod DenotedStatements
