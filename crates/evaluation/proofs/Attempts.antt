@@ -17,6 +17,8 @@ use Rattle.pram_meaning.specs.Operation.{operate, operate_before}
 use Rattle.pram_meaning.specs.Store.{View}
 use Rattle.pram_meaning.specs.Attempt.{Attempt, Gives, Fails, Trail, Effect, next, and_then, operation, read, write, unwritten, ranged}
 use Rattle.pram_meaning.specs.Attempt.{attempt, attempt_links}
+use Rattle.pram_meaning.specs.Together.{parts}
+use Rattle.evaluation.specs.Attempts.{TestPartsAreCut, AssignmentPartsAreCut}
 use Rattle.evaluation.specs.Terms.{Term, Between, term_of, chained}
 use Rattle.evaluation.specs.Whole.{Step, testing, reading, fetched, value, steps, unless_noted, upto}
 use Rattle.evaluation.specs.Attempts.{ExpressionsAreWhole, ValuesAreWhole, AssignmentsAreWhole, InnerAssignmentsAreWhole, BoundsAreWhole}
@@ -182,3 +184,11 @@ whole_ranges procs s e f =
     behind s e [] (steps s (term_of f) ++ testing (kind_of k) ∷ []) (a, or_empty k)
     (λ t a. and_then (attempt s f t) (λ t b. ranged procs a (width a b) t))
     (λ t. behind s f t (testing (kind_of k) ∷ []) (a, or_empty k) (λ t b. ranged procs a (width a b) t) (ranged_is procs a b))
+
+-- ---- on a set of processors
+
+pub test_parts : TestPartsAreCut
+test_parts p m e vs = ap (λ a. parts p m a vs) (λ i s. whole_values s e i)
+
+pub assignment_parts : AssignmentPartsAreCut
+assignment_parts p m x e vs = ap (λ a. parts p m a vs) (λ i s. whole_inner_assignments s x e i)

@@ -50,33 +50,31 @@ none_covers h q c =
     let j : Key = record { count = h.count; position = q; conflict = true; place = All; kind = Overflow; line = h.line } in
     absurd (cc (c.hides j refl refl refl))
 
-both_none : (x y : Option Key) → least x y ≡ None → (x ≡ None) × (y ≡ None)
+-- of two sums neither has a key where both together have none
+pub both_none : (x y : Option Key) → least x y ≡ None → (x ≡ None) × (y ≡ None)
 both_none None y e = (refl, e)
 both_none (Some x) None e = absurd (cc e)
 both_none (Some x) (Some y) e = absurd (cc e)
 
-module _ (p : Checked) (m : State) (task : Task) where
-  start : Heading
-  start = record { count = 0; line = 0 }
-
-  one_whole : (v : ℕ) → notes_behind start 0 (Processor (member_of m.team v).index) (whole (seen_by p m v) task).steps ≡ None →
+module _ (h : Heading) (p : Checked) (m : State) (task : Task) where
+  one_whole : (v : ℕ) → notes_behind h 0 (Processor (member_of m.team v).index) (whole (seen_by p m v) task).steps ≡ None →
       cut (whole (seen_by p m v) task) ≡ Gives (trail (whole (seen_by p m v) task).steps) (whole (seen_by p m v) task).value
   one_whole v e =
       let w : Whole Effect = whole (seen_by p m v) task in
-      elim (kept_whole start (Processor (member_of m.team v).index) w.steps w.value [] 0) [
-        | inl c ↦ absurd (none_covers start (0 + length w.steps) (subst (Covers start (0 + length w.steps)) e c))
+      elim (kept_whole h (Processor (member_of m.team v).index) w.steps w.value [] 0) [
+        | inl c ↦ absurd (none_covers h (0 + length w.steps) (subst (Covers h (0 + length w.steps)) e c))
         | inr g ↦ g
       ]
 
-  all_whole : (vs : List ℕ) → notes start (rows p m task vs) ≡ None → cut_parts p m task vs ≡ map (whole_part p m task) vs
+  all_whole : (vs : List ℕ) → notes h (rows p m task vs) ≡ None → cut_parts p m task vs ≡ map (whole_part p m task) vs
   all_whole [] e = refl
   all_whole (v ∷ vs) e =
-      let n = both_none (notes_behind start 0 (Processor (member_of m.team v).index) (whole (seen_by p m v) task).steps)
-      (notes start (rows p m task vs)) e in
+      let n = both_none (notes_behind h 0 (Processor (member_of m.team v).index) (whole (seen_by p m v) task).steps)
+      (notes h (rows p m task vs)) e in
       λ i. record { member = v; processor = (member_of m.team v).index; attempt = one_whole v n.0 i } ∷ all_whole vs n.1 i
 
 pub parts_are_whole : PartsAreWhole
-parts_are_whole p m task vs f = all_whole p m task vs (f (start p m task))
+parts_are_whole h p m task vs f = all_whole h p m task vs f
 
 -- ---- tests and locals
 
@@ -100,7 +98,7 @@ tests_of p m t false (v ∷ vs) = go (is_nonzero (value (seen_by p m v) t)) (tes
     go false r = ap (λ us. v ∷ us) r
 
 pub tests_are_values : TestsAreValues
-tests_are_values p m t vs f b = ap (those b) (parts_are_whole p m (Gets t) vs f) ∙ tests_of p m t b vs
+tests_are_values h p m t vs f b = ap (those b) (parts_are_whole h p m (Gets t) vs f) ∙ tests_of p m t b vs
 
 locals_of : (p : Checked) (m : State) (t : Term) (x : ℕ) (vs : List ℕ) (team : List Member) →
     with_locals x (map (whole_part p m (Gets t)) vs) team ≡ fold (λ team v. with_local x v (value (seen_by p m v) t) team) team vs
@@ -108,7 +106,7 @@ locals_of p m t x [] team = refl
 locals_of p m t x (v ∷ vs) team = locals_of p m t x vs (with_local x v (value (seen_by p m v) t) team)
 
 pub locals_are_values : LocalsAreValues
-locals_are_values p m t vs f x team = ap (λ xs. with_locals x xs team) (parts_are_whole p m (Gets t) vs f) ∙ locals_of p m t x vs team
+locals_are_values h p m t vs f x team = ap (λ xs. with_locals x xs team) (parts_are_whole h p m (Gets t) vs f) ∙ locals_of p m t x vs team
 
 -- ---- cells
 
@@ -131,11 +129,11 @@ whole_writes p m task c (v ∷ vs) =
     ap (λ ws. write_to c (member_of m.team v).index w.value.cell w.value.value ++ ws) (whole_writes p m task c vs)
 
 pub cells_are_settled : CellsAreSettled
-cells_are_settled p m task vs f rule cells c h =
+cells_are_settled h p m task vs f rule cells c l =
     let old : ℤ = get_or cells c (pos 0) in
-    at_over rule (cut_parts p m task vs) 0 cells c h
+    at_over rule (cut_parts p m task vs) 0 cells c l
     ∙ ap (λ n. settled old (written rule old (writes_to n (cut_parts p m task vs)))) (let e : 0 + c ≡ c = omega arith in e)
-    ∙ ap (λ ws. settled old (written rule old ws)) (ap (writes_to c) (parts_are_whole p m task vs f) ∙ whole_writes p m task c vs)
+    ∙ ap (λ ws. settled old (written rule old ws)) (ap (writes_to c) (parts_are_whole h p m task vs f) ∙ whole_writes p m task c vs)
     ∙ settles rule old (writes_at c (rows p m task vs))
 
 -- ---- entries

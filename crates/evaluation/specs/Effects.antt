@@ -22,8 +22,8 @@ use Rattle.evaluation.specs.Rows.{Row, rows, cut_parts, trail}
 use Rattle.evaluation.specs.Noted.{Heading, notes, writes_at, verdict}
 
 -- no processor notes a fault of its own
-abbrev pub AreFine : List Row → Type 0
-AreFine rows = (h : Heading) → notes h rows ≡ None
+abbrev pub AreFine : Heading → List Row → Type 0
+AreFine h rows = notes h rows ≡ None
 
 -- ---- parts
 
@@ -34,7 +34,7 @@ whole_part p m task v =
     record { member = v; processor = (member_of m.team v).index; attempt = Gives (trail w.steps) w.value }
 
 abbrev pub PartsAreWhole : Type 0
-PartsAreWhole = (p : Checked) (m : State) (task : Task) (vs : List ℕ) → AreFine (rows p m task vs) →
+PartsAreWhole = (h : Heading) (p : Checked) (m : State) (task : Task) (vs : List ℕ) → AreFine h (rows p m task vs) →
     cut_parts p m task vs ≡ map (whole_part p m task) vs
 
 -- ---- tests, and values for a local
@@ -46,12 +46,12 @@ counts_as false z = not (is_nonzero z)
 
 abbrev pub TestsAreValues : Type 0
 TestsAreValues =
-    (p : Checked) (m : State) (t : Term) (vs : List ℕ) → AreFine (rows p m (Gets t) vs) → (b : Bool) →
+    (h : Heading) (p : Checked) (m : State) (t : Term) (vs : List ℕ) → AreFine h (rows p m (Gets t) vs) → (b : Bool) →
     those b (cut_parts p m (Gets t) vs) ≡ filter (λ v. counts_as b (value (seen_by p m v) t)) vs
 
 abbrev pub LocalsAreValues : Type 0
 LocalsAreValues =
-    (p : Checked) (m : State) (t : Term) (vs : List ℕ) → AreFine (rows p m (Gets t) vs) → (x : ℕ) (team : List Member) →
+    (h : Heading) (p : Checked) (m : State) (t : Term) (vs : List ℕ) → AreFine h (rows p m (Gets t) vs) → (x : ℕ) (team : List Member) →
     with_locals x (cut_parts p m (Gets t) vs) team ≡ fold (λ team v. with_local x v (value (seen_by p m v) t) team) team vs
 
 -- ---- writes
@@ -59,7 +59,8 @@ LocalsAreValues =
 -- each cell has what the rule gives for its writers, and without writers its old value
 abbrev pub CellsAreSettled : Type 0
 CellsAreSettled =
-    (p : Checked) (m : State) (task : Task) (vs : List ℕ) → AreFine (rows p m task vs) → (rule : Rule) (cells : List ℤ) (c : ℕ) →
+    (h : Heading) (p : Checked) (m : State) (task : Task) (vs : List ℕ) → AreFine h (rows p m task vs) →
+    (rule : Rule) (cells : List ℤ) (c : ℕ) →
     c < length cells →
     slice_index_or (overwritten rule (cut_parts p m task vs) 0 cells) c (pos 0)
     ≡ settled (verdict rule (writes_at c (rows p m task vs))) (slice_index_or cells c (pos 0))

@@ -2,6 +2,7 @@
 
 ghost use Rattle.evaluation.specs.Attempts.{ExpressionsAreWhole, ValuesAreWhole, AssignmentsAreWhole};
 ghost use Rattle.evaluation.specs.Attempts.{InnerAssignmentsAreWhole, BoundsAreWhole, RangesAreWhole};
+ghost use Rattle.evaluation.specs.Attempts.{TestPartsAreCut, AssignmentPartsAreCut};
 ghost use Rattle.std.specs.Prelude.{ℕ, ℤ};
 ghost use Rattle.pram_meaning.specs.Attempt.{Effect};
 ghost use Rattle.evaluation.specs.Effects.{PartsAreWhole, TestsAreValues, LocalsAreValues};
@@ -10,7 +11,8 @@ ghost use Rattle.evaluation.specs.Told.{LeastFaultIsNoted, TogetherIsNoted, Alon
 
 /// A processor's attempt at a statement is its whole evaluation, in which it goes on after a fault
 /// with 0, cut off at the first thing noted: for an expression, for each kind of statement outside
-/// and inside pardo, and for the bounds of a `for` and of a pardo.
+/// and inside pardo, and for the bounds of a `for` and of a pardo. So are the parts of a set of
+/// processors at a test and at an assignment.
 pub fn attempts_are_whole()
     ensures expressions { ExpressionsAreWhole }
     ensures values { ValuesAreWhole }
@@ -18,6 +20,8 @@ pub fn attempts_are_whole()
     ensures inner_assignments { InnerAssignmentsAreWhole }
     ensures bounds { BoundsAreWhole }
     ensures ranges { RangesAreWhole }
+    ensures test_parts { TestPartsAreCut }
+    ensures assignment_parts { AssignmentPartsAreCut }
 {}
 
 /// The fault of a statement: on a set of processors with different indices, the least of the
