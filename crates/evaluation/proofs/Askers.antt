@@ -8,6 +8,12 @@ use Rattle.pram_values.specs.Truth.{is_equal}
 use Rattle.superstep_machine.specs.Sending.{several, asks_for, is_several}
 use Rattle.evaluation.proofs.Sums.{is_at}
 
+pub equal_self : (i : ℤ) → is_equal i i ≡ true
+equal_self i = grind (arith, ints)
+
+pub unequal : (i j : ℤ) → i ≢ j → is_equal i j ≡ false
+unequal i j h = grind (arith, ints, h)
+
 -- no two of these have one index
 abbrev pub IsApart : (ℕ → ℤ) → List ℕ → Type 0
 IsApart index [] = Unit {0}
@@ -30,12 +36,6 @@ module _ (index : ℕ → ℤ) (cell : ℕ → Option ℕ) (c : ℕ) where
   asks_is : (o : Option ℕ) → asks_for c o ≡ (if is_at c o then Some false else None)
   asks_is None = refl
   asks_is (Some d) = refl
-
-  equal_self : (i : ℤ) → is_equal i i ≡ true
-  equal_self i = grind (arith, ints)
-
-  unequal : (i j : ℤ) → i ≢ j → is_equal i j ≡ false
-  unequal i j h = grind (arith, ints, h)
 
   -- for one apart from them
   other_some : (v : ℕ) (us : List ℕ) → AllByRecursion (λ u. index v ≢ index u) us → other us v ≡ some us

@@ -2,7 +2,6 @@
 use Rattle.std.proofs.Common.{◌≡◌, ◌≢◌, ℕ, suc, ◌+◌, ◌≤◌, List, [], ◌∷◌, ◌++◌, map, length, get_or, Bool, true, false, if◌then◌else◌}
 use Rattle.std.proofs.Common.{nat_eq, Option, Some, None, Ok, Err, ℤ, pos, refl, sym, ap, ◌∙◌, subst, arith}
 use Rattle.std.proofs.lemmas.Bool.Decides.{nat_tests}
-use Rattle.std.proofs.lemmas.Int.{ints}
 use Rattle.std.specs.List.{AllByRecursion, flat_map, list_any}
 use Rattle.pram_model.specs.declared.rule.Rule.{Rule}
 use Rattle.pram_values.specs.declared.kind.Kind.{Kind}
@@ -20,7 +19,7 @@ use Rattle.evaluation.specs.Whole.{Step, Whole, unless_noted, upto, cut}
 use Rattle.evaluation.specs.Rows.{trail}
 use Rattle.evaluation.proofs.Order.{IsOfKind}
 use Rattle.evaluation.proofs.Cuts.{left, left_reads, trail_left}
-use Rattle.evaluation.proofs.Askers.{IsApart}
+use Rattle.evaluation.proofs.Askers.{IsApart, equal_self, unequal}
 use Rattle.evaluation.proofs.WriteCells.{IsFull, full_whole, put_by}
 use Rattle.evaluation.specs.Noted.{Heading}
 use Rattle.evaluation.proofs.ReadColumns.{part}
@@ -61,12 +60,6 @@ put_none ss g t f a e = sym (ap put_by e) ∙ go ss t
         by (Some kind) r = refl
 
 -- ---- kinds
-
-equal_self : (i : ℤ) → is_equal i i ≡ true
-equal_self i = grind (arith, ints)
-
-unequal : (i j : ℤ) → i ≢ j → is_equal i j ≡ false
-unequal i j h = grind (arith, ints, h)
 
 abbrev failing : Attempt Effect → Kind
 failing (Gives t x) = Overflow
