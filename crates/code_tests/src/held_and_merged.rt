@@ -4,7 +4,6 @@ use address_map::{AddressMap, Identity};
 use combining::answers::answer_asks;
 use combining::asks::Asks;
 use combining::cells::Cells;
-use combining::machine_rule::MachineRule;
 use combining::merge::merge_at_module;
 use combining::puts::Puts;
 use combining::readers::read_conflict;
@@ -14,9 +13,10 @@ use write_rules::common::Common;
 use write_rules::exclusive::Exclusive;
 use write_rules::priority::Priority;
 use write_rules::summed::Summed;
+use write_rules::write_rule::WriteRule;
 
 // Merges two columns at module 0 of two, whose cell 0 holds a value: what it holds then, and the conflict.
-fn merge_two<R: MachineRule>(
+fn merge_two<R: WriteRule>(
     alloc: Global,
     rule: &R,
     held: i64,

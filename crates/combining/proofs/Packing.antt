@@ -8,7 +8,7 @@ use Rattle.pram_model.specs.declared.rule.Rule.TheVariants.{Sum}
 use Rattle.superstep_machine.specs.Words.{CellPut, put_words, bit, word_of, low_word, high_word}
 use Rattle.superstep_machine.specs.WordReading.{put_length}
 use Rattle.superstep_machine.specs.Fitting.{FitsValue}
-use Rattle.combining.specs.Held.{is_sum}
+use Rattle.write_rules.specs.Rule.{is_sum}
 
 -- ---- words written from n on
 

@@ -1,24 +1,12 @@
 -- What is held for the next exchange: puts by cell, in the order first held.
-use Rattle.std.specs.Prelude.{◌≡◌, refl, ℕ, List, [], ◌∷◌, Bool, true, false, if◌then◌else◌, ◌<◌}
+use Rattle.std.specs.Prelude.{ℕ, List, [], ◌∷◌, Bool, true, false, if◌then◌else◌, ◌<◌}
 use Rattle.std.specs.List.{filter, flat_map}
 use Rattle.std.proofs.Common.{eqb}
 use Rattle.pram_model.specs.declared.rule.Rule.{Rule}
-use Rattle.pram_model.specs.declared.rule.Rule.TheVariants.{Sum}
 use Rattle.write_rules.specs.declared.entry.Entry.{Entry}
-use Rattle.write_rules.specs.Combining.{exclusive, exclusive_rule}
 use Rattle.superstep_machine.specs.Setting.{combining}
 use Rattle.superstep_machine.specs.Words.{CellPut, put_words}
 use Rattle.superstep_machine.specs.Worker.{HeldWrite}
-
--- whether the values are sums, which have two words
-abbrev pub is_sum : Rule → Bool
-is_sum Sum = true
-is_sum rule = false
-
--- exclusive writes are the machine's, whether reads are shared or not
-pub exclusive_known : (shared_reads : Bool) → exclusive ≡ combining (exclusive_rule shared_reads)
-exclusive_known true = refl
-exclusive_known false = refl
 
 -- the puts that are held, and for how many there is room
 pub record HeldPuts : Type 0 where

@@ -6,7 +6,6 @@ pub mod asks;
 pub mod cells;
 pub mod index;
 pub mod laws;
-pub mod machine_rule;
 pub mod merge;
 pub mod puts;
 pub mod readers;

@@ -7,14 +7,14 @@ ghost use Rattle.combining.specs.Gathering.{slot, value_at, note, Collects, Coll
 ghost use Rattle.combining.specs.Merged.{refusal, IsMerged};
 
 use crate::cells::Cells;
-use crate::machine_rule::MachineRule;
 use crate::words::{PutWords, next};
 use address_map::AddressMap;
 use pram_values::kind::Kind;
 use write_rules::entry::Entry;
+use write_rules::write_rule::WriteRule;
 
 // One more entry.
-fn joined<R: MachineRule>(rule: &R, before: Option<Entry>, entry: Entry) -> Entry
+fn joined<R: WriteRule>(rule: &R, before: Option<Entry>, entry: Entry) -> Entry
     ensures { Some result ≡ join (R.WriteRule.rule rule.now) before (Some entry) }
 {
     match before {
@@ -24,7 +24,7 @@ fn joined<R: MachineRule>(rule: &R, before: Option<Entry>, entry: Entry) -> Entr
 }
 
 // Joins what one worker put.
-fn gather_column<R: MachineRule, M: AddressMap>(
+fn gather_column<R: WriteRule, M: AddressMap>(
     rule: &R,
     map: &M,
     part: u32,
@@ -45,7 +45,7 @@ fn gather_column<R: MachineRule, M: AddressMap>(
 }
 
 // Joins what all workers put.
-fn gather<R: MachineRule, M: AddressMap>(
+fn gather<R: WriteRule, M: AddressMap>(
     rule: &R,
     map: &M,
     part: u32,
@@ -72,7 +72,7 @@ pub(crate) fn least(cell: u32, kind: Kind, noted: Option<(u32, Kind)>) -> Option
 }
 
 // Settles one cell.
-fn settle_at<R: MachineRule>(
+fn settle_at<R: WriteRule>(
     rule: &R,
     cell: u32,
     at: usize,
@@ -100,7 +100,7 @@ fn settle_at<R: MachineRule>(
 }
 
 // Settles what one worker put.
-fn settle_column<R: MachineRule, M: AddressMap>(
+fn settle_column<R: WriteRule, M: AddressMap>(
     rule: &R,
     map: &M,
     part: u32,
@@ -127,7 +127,7 @@ fn settle_column<R: MachineRule, M: AddressMap>(
 }
 
 // Settles what all workers put.
-fn settle_all<R: MachineRule, M: AddressMap>(
+fn settle_all<R: WriteRule, M: AddressMap>(
     rule: &R,
     map: &M,
     part: u32,
@@ -150,7 +150,7 @@ fn settle_all<R: MachineRule, M: AddressMap>(
 }
 
 // Joins the puts of all workers in the entries, and then settles them.
-fn apply<R: MachineRule, M: AddressMap>(
+fn apply<R: WriteRule, M: AddressMap>(
     rule: &R,
     map: &M,
     part: u32,
@@ -172,7 +172,7 @@ fn apply<R: MachineRule, M: AddressMap>(
 
 /// Applies the puts of all workers to the cells of a module, whatever words the columns hold: groups of words that no worker writes
 /// for this module are passed over. The least cell in conflict, with its kind; such cells keep their values.
-pub fn merge_at_module<R: MachineRule, M: AddressMap>(
+pub fn merge_at_module<R: WriteRule, M: AddressMap>(
     rule: &R,
     map: &M,
     part: u32,

@@ -10,12 +10,12 @@ ghost use Rattle.combining.specs.AllModules.{HasRoomFor, HasGot};
 ghost use Rattle.combining.specs.Held.{put, put_at, packed_puts, IsPutBelow};
 
 use crate::index::Index;
-use crate::machine_rule::MachineRule;
 use crate::words::{push_put, write_put};
 use address_map::AddressMap;
 use std::alloc::{AllocError, Global};
 use std::marker::Model;
 use write_rules::entry::Entry;
+use write_rules::write_rule::WriteRule;
 
 /// The puts that a worker holds: an entry for each cell, in the order in which the cells were first held.
 #[derive(Drop)]
@@ -61,7 +61,7 @@ impl Puts {
     }
 
     /// Holds a write, joined to what is held for its cell.
-    pub fn add<R: MachineRule>(&mut self, rule: &R, cell: u32, processor: i64, value: i64)
+    pub fn add<R: WriteRule>(&mut self, rule: &R, cell: u32, processor: i64, value: i64)
         requires { length self.old.held < self.old.room }
         ensures held { self.new.held ≡ put (R.WriteRule.rule rule.now) (record { processor = processor; cell = cell; value = value }) self.old.held }
         ensures room { self.new.room ≡ self.old.room }
@@ -77,7 +77,7 @@ impl Puts {
     }
 
     /// Writes the words of the puts for one module, and says how many they are. What is behind them stays.
-    pub fn pack<R: MachineRule, M: AddressMap>(
+    pub fn pack<R: WriteRule, M: AddressMap>(
         &self,
         rule: &R,
         map: &M,
@@ -105,12 +105,7 @@ impl Puts {
 
     /// Adds the words of all puts to the columns of their modules, one for each module, behind what a column holds: in one pass, to
     /// each what `pack` writes for its module.
-    pub fn pack_all<R: MachineRule, M: AddressMap>(
-        &self,
-        rule: &R,
-        map: &M,
-        columns: &mut [Vec<u64>],
-    )
+    pub fn pack_all<R: WriteRule, M: AddressMap>(&self, rule: &R, map: &M, columns: &mut [Vec<u64>])
         requires cells { AllByRecursion (IsPutBelow (M.shape map.now).count) self.now.held }
         requires fit { AllByRecursion (FitsPut (R.WriteRule.rule rule.now)) self.now.held }
         requires modules { length columns.old ≡ (M.shape map.now).parts }

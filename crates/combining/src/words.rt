@@ -9,9 +9,9 @@ ghost use Rattle.combining.specs.Held.{put_at};
 ghost use Rattle.combining.specs.Asked.{ask_key as key_for, ask_at};
 
 use crate::asks::Asked;
-use crate::machine_rule::MachineRule;
 use address_map::AddressMap;
 use write_rules::entry::Entry;
+use write_rules::write_rule::WriteRule;
 
 // Numbers of cells are below it.
 const CELLS: u32 = 1_048_576;
@@ -85,7 +85,7 @@ fn write_sum(out: &mut [u64], n: usize, cell: u32, entry: Entry) -> usize
 }
 
 /// Writes the words of a put, from n on, and says where they end.
-pub(crate) fn write_put<R: MachineRule>(
+pub(crate) fn write_put<R: WriteRule>(
     rule: &R,
     out: &mut [u64],
     n: usize,
@@ -107,7 +107,7 @@ pub(crate) fn write_put<R: MachineRule>(
 }
 
 /// Adds the words of a put behind others, where there is room.
-pub(crate) fn push_put<R: MachineRule>(rule: &R, out: &mut Vec<u64>, cell: u32, entry: Entry)
+pub(crate) fn push_put<R: WriteRule>(rule: &R, out: &mut Vec<u64>, cell: u32, entry: Entry)
     requires room { length out.old.items + length_of_put (R.WriteRule.rule rule.now) ≤ vec_capacity out.old }
     requires fits { FitsValue (R.WriteRule.rule rule.now) entry.value }
     ensures words { out.new.items ≡ out.old.items ++ put_words (R.WriteRule.rule rule.now) (put_at cell entry) }
@@ -124,14 +124,14 @@ pub(crate) fn push_put<R: MachineRule>(rule: &R, out: &mut Vec<u64>, cell: u32, 
 }
 
 // How many words a put has.
-fn put_length<R: MachineRule>(rule: &R) -> usize
+fn put_length<R: WriteRule>(rule: &R) -> usize
     ensures { result ≡ length_of_put (R.WriteRule.rule rule.now) }
 {
     if rule.sums() { 4 } else { 3 }
 }
 
 // The value of a put.
-fn read_value<R: MachineRule>(rule: &R, words: &[u64]) -> i128
+fn read_value<R: WriteRule>(rule: &R, words: &[u64]) -> i128
     requires { length words.now ≡ length_of_put (R.WriteRule.rule rule.now) }
     ensures { result ≡ value_of_words (R.WriteRule.rule rule.now) words.now }
 {
@@ -247,13 +247,13 @@ pub(crate) struct PlacedPut {
 
 /// Words as puts for a module.
 #[derive(Drop)]
-pub(crate) struct PutWords<'a, R: MachineRule, M: AddressMap> {
+pub(crate) struct PutWords<'a, R: WriteRule, M: AddressMap> {
     pub(crate) rule: &'a R,
     pub(crate) map: &'a M,
     pub(crate) part: u32,
 }
 
-impl<'a, R: MachineRule, M: AddressMap> Format for PutWords<'a, R, M> {
+impl<'a, R: WriteRule, M: AddressMap> Format for PutWords<'a, R, M> {
     ghost use Rattle.superstep_machine.specs.WordReading.{put_length as length_of_put, put_in};
     ghost use Rattle.combining.specs.Items.{placed_if, puts_placed, IsPlaced};
     ghost use Rattle.combining.specs.ItemLaws.{puts_more, puts_short};

@@ -2,7 +2,6 @@ pub mod Agree
 pub mod AgreeAll
 pub mod OneOutcome
 pub mod Links
-pub mod Rules
 pub mod Folds
 pub mod Trails
 pub mod Halts

@@ -6,42 +6,80 @@ ghost use Rattle.superstep_machine.specs.Sending as spec;
 
 use pram_model::rule::Rule;
 use pram_values::kind::Kind;
-use write_rules::common::Common;
 use write_rules::entry::Entry;
-use write_rules::exclusive::Exclusive;
-use write_rules::priority::Priority;
-use write_rules::summed::Summed;
+use write_rules::under::{RuleBody, under};
 use write_rules::write_rule::WriteRule;
+
+// The entry of one writer.
+#[derive(Clone, Copy, Debug)]
+struct OneWriter {
+    processor: i64,
+    value: i64,
+}
+
+impl RuleBody for OneWriter {
+    ghost use Rattle.std.specs.Prelude.{◌≡◌};
+    ghost use Rattle.superstep_machine.specs.Setting.{combining};
+
+    type Answer = Entry;
+
+    ghost can_run = { λ b rule. Unit {0} };
+
+    ghost gives = { λ b rule entry. entry ≡ (combining rule).single b.processor b.value };
+
+    fn run<R: WriteRule>(self, rule: &R) -> Entry {
+        rule.single(self.processor, self.value)
+    }
+}
+
+// Two entries as one.
+#[derive(Clone, Copy, Debug)]
+struct Pair {
+    first: Entry,
+    second: Entry,
+}
+
+impl RuleBody for Pair {
+    ghost use Rattle.std.specs.Prelude.{◌≡◌};
+    ghost use Rattle.superstep_machine.specs.Setting.{combining};
+
+    type Answer = Entry;
+
+    ghost can_run = { λ b rule. Unit {0} };
+
+    ghost gives = { λ b rule entry. entry ≡ (combining rule).join b.first b.second };
+
+    fn run<R: WriteRule>(self, rule: &R) -> Entry {
+        rule.join(self.first, self.second)
+    }
+}
+
+// What the writers of an entry leave.
+#[derive(Clone, Copy, Debug)]
+struct Judged {
+    entry: Entry,
+}
+
+impl RuleBody for Judged {
+    ghost use Rattle.std.specs.Prelude.{◌≡◌};
+    ghost use Rattle.superstep_machine.specs.Setting.{combining};
+
+    type Answer = Result<i64, Kind>;
+
+    ghost can_run = { λ b rule. Unit {0} };
+
+    ghost gives = { λ b rule verdict. verdict ≡ (combining rule).verdict b.entry };
+
+    fn run<R: WriteRule>(self, rule: &R) -> Result<i64, Kind> {
+        rule.verdict(self.entry)
+    }
+}
 
 /// The entry of one writer.
 pub fn single(rule: Rule, processor: i64, value: i64) -> Entry
     ensures { result ≡ (combining rule).single processor value }
 {
-    match rule {
-        Rule::Erew => Exclusive {
-            shared_reads: false,
-        }
-        .single(processor, value),
-        Rule::Crew => Exclusive { shared_reads: true }.single(processor, value),
-        Rule::Common => Common.single(processor, value),
-        Rule::Priority => Priority.single(processor, value),
-        Rule::Sum => Summed.single(processor, value),
-    }
-}
-
-fn join_entries(rule: Rule, a: Entry, b: Entry) -> Entry
-    ensures { result ≡ (combining rule).join a b }
-{
-    match rule {
-        Rule::Erew => Exclusive {
-            shared_reads: false,
-        }
-        .join(a, b),
-        Rule::Crew => Exclusive { shared_reads: true }.join(a, b),
-        Rule::Common => Common.join(a, b),
-        Rule::Priority => Priority.join(a, b),
-        Rule::Sum => Summed.join(a, b),
-    }
+    under(rule, OneWriter { processor, value })
 }
 
 /// What some writers of one cell and some others come to.
@@ -51,22 +89,13 @@ pub fn join(rule: Rule, a: Option<Entry>, b: Option<Entry>) -> Option<Entry>
     match (a, b) {
         (None, _) => b,
         (_, None) => a,
-        (Some(x), Some(y)) => Some(join_entries(rule, x, y)),
-    }
-}
-
-fn verdict(rule: Rule, entry: Entry) -> Result<i64, Kind>
-    ensures { result ≡ (combining rule).verdict entry }
-{
-    match rule {
-        Rule::Erew => Exclusive {
-            shared_reads: false,
-        }
-        .verdict(entry),
-        Rule::Crew => Exclusive { shared_reads: true }.verdict(entry),
-        Rule::Common => Common.verdict(entry),
-        Rule::Priority => Priority.verdict(entry),
-        Rule::Sum => Summed.verdict(entry),
+        (Some(x), Some(y)) => Some(under(
+            rule,
+            Pair {
+                first: x,
+                second: y,
+            },
+        )),
     }
 }
 
@@ -76,6 +105,6 @@ pub fn verdict_on(rule: Rule, held: Option<Entry>) -> Option<Result<i64, Kind>>
 {
     match held {
         None => None,
-        Some(entry) => Some(verdict(rule, entry)),
+        Some(entry) => Some(under(rule, Judged { entry })),
     }
 }

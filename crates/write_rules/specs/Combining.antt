@@ -1,9 +1,9 @@
 -- How the writers of one cell are combined, two by two and in any order (this project's own profile).
-use Rattle.std.specs.Prelude.{◌≡◌, ◌≢◌, List, ◌∷◌, map, Bool, true, false, not, ◌&&◌, ◌||◌, if◌then◌else◌, Err, ℤ, ◌+ℤ◌, int_lt, int_le, FitsSigned}
+use Rattle.std.specs.Prelude.{◌≡◌, ◌≢◌, refl, List, ◌∷◌, map, Bool, true, false, not, ◌&&◌, ◌||◌, if◌then◌else◌, Err, ℤ, ◌+ℤ◌, int_lt, int_le, FitsSigned}
 use Rattle.std.specs.List.{fold, All, AllPairs}
 use Rattle.std.specs.Int.{w64, w128, int_wrap}
 use Rattle.pram_model.specs.declared.rule.Rule.{Rule}
-use Rattle.pram_model.specs.declared.rule.Rule.TheVariants.{Erew, Crew}
+use Rattle.pram_model.specs.declared.rule.Rule.TheVariants.{Erew, Crew, Common, Priority, Sum}
 use Rattle.pram_values.specs.declared.kind.Kind.TheVariants.{WriteConflict}
 use Rattle.pram_values.specs.Value.{Value, checked}
 use Rattle.pram_values.specs.Truth.{is_equal}
@@ -77,3 +77,16 @@ summed = record {
 abbrev pub exclusive_rule : Bool → Rule
 exclusive_rule true = Crew
 exclusive_rule false = Erew
+
+-- how the writers of one cell are combined by a rule
+abbrev pub combining_by : Rule → Combining
+combining_by Erew = exclusive
+combining_by Crew = exclusive
+combining_by Common = common
+combining_by Priority = priority
+combining_by Sum = summed
+
+-- exclusive writes are combined in one way, whether reads are shared or not
+pub exclusive_known : (shared_reads : Bool) → exclusive ≡ combining_by (exclusive_rule shared_reads)
+exclusive_known true = refl
+exclusive_known false = refl

@@ -49,3 +49,8 @@ shares_reads Crew = true
 shares_reads Common = true
 shares_reads Priority = true
 shares_reads Sum = true
+
+-- whether the values of the writers are added up
+abbrev pub is_sum : Rule → Bool
+is_sum Sum = true
+is_sum rule = false

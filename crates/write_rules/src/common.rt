@@ -4,6 +4,8 @@ ghost use Rattle.std.specs.Prelude.{◌≡◌};
 ghost use Rattle.write_rules.specs.Combining as spec;
 
 use crate::entry::Entry;
+use crate::values::common_of;
+use crate::write::Write;
 use crate::write_rule::WriteRule;
 use pram_values::kind::Kind;
 
@@ -19,6 +21,7 @@ fn differ(a: Entry, b: Entry) -> bool
 }
 
 impl WriteRule for Common {
+    ghost use Rattle.std.specs.Prelude.{refl};
     ghost use Rattle.write_rules.specs.Combining.{common};
     ghost use Rattle.write_rules.specs.CommonLaws.{common_carries};
     ghost use Rattle.pram_model.specs.declared.rule.Rule.TheVariants as name;
@@ -42,6 +45,19 @@ impl WriteRule for Common {
     fn reads_shared(&self) -> bool {
         true
     }
+
+    fn sums(&self) -> bool {
+        false
+    }
+
+    fn value_after(&self, old: i64, writes: &[Write]) -> Result<i64, Kind> {
+        match writes {
+            [] => Ok(old),
+            [first, others @ ..] => common_of(first.value, others),
+        }
+    }
+
+    ghost known = { λ r. refl };
 
     ghost lawful = { λ r. common_carries };
 }

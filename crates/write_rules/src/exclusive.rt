@@ -3,6 +3,8 @@
 ghost use Rattle.std.specs.Prelude.{◌≡◌};
 
 use crate::entry::Entry;
+use crate::values::only_of;
+use crate::write::Write;
 use crate::write_rule::WriteRule;
 use pram_values::kind::Kind;
 
@@ -15,7 +17,7 @@ pub struct Exclusive {
 impl WriteRule for Exclusive {
     ghost use Rattle.write_rules.specs.Combining.{exclusive};
     ghost use Rattle.write_rules.specs.ExclusiveLaws.{exclusive_carries};
-    ghost use Rattle.write_rules.specs.Combining.{exclusive_rule};
+    ghost use Rattle.write_rules.specs.Combining.{exclusive_rule, exclusive_known};
 
     ghost rule = { λ r. exclusive_rule r.shared_reads };
 
@@ -36,6 +38,19 @@ impl WriteRule for Exclusive {
     fn reads_shared(&self) -> bool {
         self.shared_reads
     }
+
+    fn sums(&self) -> bool {
+        false
+    }
+
+    fn value_after(&self, old: i64, writes: &[Write]) -> Result<i64, Kind> {
+        match writes {
+            [] => Ok(old),
+            [first, others @ ..] => only_of(*first, others),
+        }
+    }
+
+    ghost known = { λ r. exclusive_known r.shared_reads };
 
     ghost lawful = { λ r. exclusive_carries r.shared_reads };
 }

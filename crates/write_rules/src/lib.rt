@@ -9,5 +9,7 @@ pub mod order;
 pub mod outcome;
 pub mod priority;
 pub mod summed;
+pub mod under;
+mod values;
 pub mod write;
 pub mod write_rule;

@@ -3,6 +3,8 @@
 ghost use Rattle.std.specs.Prelude.{◌≡◌};
 
 use crate::entry::Entry;
+use crate::values::least_of;
+use crate::write::Write;
 use crate::write_rule::WriteRule;
 use pram_values::kind::Kind;
 
@@ -11,6 +13,7 @@ use pram_values::kind::Kind;
 pub struct Priority;
 
 impl WriteRule for Priority {
+    ghost use Rattle.std.specs.Prelude.{refl};
     ghost use Rattle.write_rules.specs.Combining.{priority};
     ghost use Rattle.write_rules.specs.PriorityLaws.{priority_carries};
     ghost use Rattle.pram_model.specs.declared.rule.Rule.TheVariants as name;
@@ -34,6 +37,19 @@ impl WriteRule for Priority {
     fn reads_shared(&self) -> bool {
         true
     }
+
+    fn sums(&self) -> bool {
+        false
+    }
+
+    fn value_after(&self, old: i64, writes: &[Write]) -> Result<i64, Kind> {
+        match writes {
+            [] => Ok(old),
+            [first, others @ ..] => Ok(least_of(*first, others)),
+        }
+    }
+
+    ghost known = { λ r. refl };
 
     ghost lawful = { λ r. priority_carries };
 }

@@ -4,6 +4,8 @@ ghost use Rattle.std.specs.Prelude.{◌≡◌, ◌+ℤ◌, int_le, if◌then◌e
 ghost use Rattle.std.specs.Int.{w128, int_wrap};
 
 use crate::entry::Entry;
+use crate::values::checked_total;
+use crate::write::Write;
 use crate::write_rule::WriteRule;
 use pram_values::kind::Kind;
 
@@ -27,6 +29,7 @@ fn added(x: i128, y: i128) -> i128
 }
 
 impl WriteRule for Summed {
+    ghost use Rattle.std.specs.Prelude.{refl};
     ghost use Rattle.write_rules.specs.Combining.{summed};
     ghost use Rattle.write_rules.specs.SumLaws.{summed_carries};
     ghost use Rattle.pram_model.specs.declared.rule.Rule.TheVariants as name;
@@ -54,6 +57,19 @@ impl WriteRule for Summed {
     fn reads_shared(&self) -> bool {
         true
     }
+
+    fn sums(&self) -> bool {
+        true
+    }
+
+    fn value_after(&self, old: i64, writes: &[Write]) -> Result<i64, Kind> {
+        match writes {
+            [] => Ok(old),
+            _ => checked_total(writes),
+        }
+    }
+
+    ghost known = { λ r. refl };
 
     ghost lawful = { λ r. summed_carries };
 }

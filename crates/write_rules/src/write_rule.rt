@@ -1,14 +1,15 @@
 //! Write rules as ways to combine entries.
 
 ghost use Rattle.std.specs.Prelude.{◌≡◌};
-ghost use Rattle.write_rules.specs.Rule.{shares_reads};
+ghost use Rattle.write_rules.specs.Rule.{shares_reads, is_sum, written};
 
 use crate::entry::Entry;
+use crate::write::Write;
 use pram_values::kind::Kind;
 
 /// How the writers of one cell are combined. Joining goes in any order.
 pub trait WriteRule {
-    ghost use Rattle.write_rules.specs.Combining.{Combining, Carries};
+    ghost use Rattle.write_rules.specs.Combining.{Combining, Carries, combining_by};
     ghost use Rattle.pram_model.specs.declared.rule.Rule.{Rule as RuleName};
 
     /// The rule that it carries.
@@ -32,6 +33,16 @@ pub trait WriteRule {
     /// Whether processors may read one cell at the same time.
     fn reads_shared(&self) -> bool
         ensures { result ≡ shares_reads (rule self.now) };
+
+    /// Whether the values of the writers are added up, so that an entry's value has 128 bits.
+    fn sums(&self) -> bool
+        ensures { result ≡ is_sum (rule self.now) };
+
+    /// What is in a cell after some writes, where `old` is its value before them.
+    fn value_after(&self, old: i64, writes: &[Write]) -> Result<i64, Kind>
+        ensures { result ≡ written (rule self.now) old writes.now };
+
+    ghost known: { (r : Self) → combining r ≡ combining_by (rule r) };
 
     ghost lawful: { (r : Self) → Carries (rule r) (combining r) };
 }

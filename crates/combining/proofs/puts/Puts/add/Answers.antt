@@ -37,7 +37,7 @@ returns-then-i-len-clause-held g c =
     let ks = c.self.inside.index.keys in
     let xs = c.self.inside.entries.items in
     let rule = g.R.WriteRule.rule c.args.rule.now in
-    let known : g.R.WriteRule.combining c.args.rule.now ≡ combining rule = g.met.R.MachineRule.known c.args.rule.now in
+    let known : g.R.WriteRule.combining c.args.rule.now ≡ combining rule = g.met.R.WriteRule.known c.args.rule.now in
     let w : HeldWrite = record { processor = c.args.processor; cell = c.args.cell; value = c.args.value } in
     let e = entry_of_write rule w in
     let single = (g.R.WriteRule.combining c.args.rule.now).single in
@@ -58,7 +58,7 @@ returns-else-i-len-clause-held g c =
     let ks = c.self.inside.index.keys in
     let xs = c.self.inside.entries.items in
     let rule = g.R.WriteRule.rule c.args.rule.now in
-    let known : g.R.WriteRule.combining c.args.rule.now ≡ combining rule = g.met.R.MachineRule.known c.args.rule.now in
+    let known : g.R.WriteRule.combining c.args.rule.now ≡ combining rule = g.met.R.WriteRule.known c.args.rule.now in
     let w : HeldWrite = record { processor = c.args.processor; cell = c.args.cell; value = c.args.value } in
     let e = entry_of_write rule w in
     let single = (g.R.WriteRule.combining c.args.rule.now).single in

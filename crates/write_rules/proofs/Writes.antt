@@ -5,8 +5,7 @@ use Rattle.std.proofs.lemmas.Bool.{lt-ltb, le-ltb}
 use Rattle.std.proofs.lemmas.List.{drop_more, drop_all}
 use Rattle.std.proofs.lemmas.Int.{ints}
 use Rattle.pram_values.specs.Truth.{is_equal}
-use Rattle.pram_values.specs.Value.{Value, checked, fits}
-use Rattle.pram_values.specs.declared.kind.Kind.TheVariants.{Overflow, WriteConflict}
+use Rattle.pram_values.specs.declared.kind.Kind.TheVariants.{WriteConflict}
 use Rattle.write_rules.specs.Rule.{common_value, least_writer, sum_of}
 use Rattle.write_rules.specs.declared.write.Write.{Write}
 
@@ -96,19 +95,3 @@ sum_low ws i now b h = let l = b.below in omega (arith, ints)
 
 pub sum_high : (ws : List Write) (i : ℕ) (now : ℤ) → InSum ws i now → i < 2 ^ 64 → now ≤ℤ pos (2 ^ 127 - 2 ^ 63)
 sum_high ws i now b h = let l = b.above in omega (arith, ints)
-
--- ---- results that fit in 64 bits, or don't
-
-fits_if : (z : ℤ) → FitsSigned w64 z → fits z ≡ true
-fits_if (pos n) h = lt-ltb n (2 ^ 63) h.sfits
-fits_if (negsuc n) h = let k : n < 2 ^ 63 = h.sfits in grind (arith, ints)
-
-fits_not : (z : ℤ) → ¬ (FitsSigned w64 z) → fits z ≡ false
-fits_not (pos n) h = let k : n < 2 ^ 63 → ⊥ = λ q. h (record { sfits = q }) in le-ltb n (2 ^ 63) (omega arith)
-fits_not (negsuc n) h = let k : n < 2 ^ 63 → ⊥ = λ q. h (record { sfits = q }) in let l : 2 ^ 63 ≤ n = omega arith in grind (arith, ints)
-
-pub checked_some : (z v : ℤ) → FitsSigned w64 z → v ≡ z → ◌≡◌ {A = Value} (Ok v) (checked z)
-checked_some z v h e = rw (fits_if z h) (ap Ok e)
-
-pub checked_none : (z : ℤ) → ¬ (FitsSigned w64 z) → ◌≡◌ {A = Value} (Err Overflow) (checked z)
-checked_none z h = rw (fits_not z h)

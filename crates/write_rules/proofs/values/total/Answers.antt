@@ -1,8 +1,8 @@
 use Rattle.std.proofs.Common.{pos}
 use Rattle.std.specs.Int.{w128}
 use Rattle.std.proofs.lemmas.Int.{to_z-of_z}
-use Rattle.pram_meaning.proofs.Rules.{sum_goes_at}
-use Rattle.pram_meaning.proofs.rule.total.Goals as goal
+use Rattle.write_rules.proofs.Writes.{sum_goes_at}
+use Rattle.write_rules.proofs.values.total.Goals as goal
 
 pub loop-write-preserved : goal.loop-write-preserved
 loop-write-preserved c =
