@@ -1,5 +1,6 @@
 -- Words that are added to the columns of all modules, one item after the other.
-use Rattle.std.proofs.Common.{◌≡◌, ℕ, zero, suc, ◌+◌, ◌<◌, ◌≤◌, List, [], ◌∷◌, ◌++◌, length, get_or, set, map, drop, refl, sym, ap, ◌∙◌, arith, eqb, ⊎_elim, Vec, Global, vec_capacity, length-append}
+use Rattle.std.proofs.Common.{◌≡◌, ℕ, zero, suc, ◌+◌, ◌<◌, ◌≤◌, List, [], ◌∷◌, ◌++◌, length, get_or, set, map, drop, refl, sym, ap, ◌∙◌}
+use Rattle.std.proofs.Common.{arith, eqb, ⊎_elim, Vec, Global, vec_capacity, length-append}
 use Rattle.std.proofs.lemmas.List.{get_or-set_same, get_or-set_other, length-map}
 use Rattle.std.proofs.lemmas.Bool.{eq-eqb, ne_eqb, cases_eq}
 use Rattle.combining.specs.AllModules.{column, room_at}
@@ -19,9 +20,11 @@ changed_here f xs n v d l =
 
 pub changed_elsewhere : {A B : Type 0} (f : A → B) (xs : List A) (n j : ℕ) (v : A) (d : B) → (n ≡ j → ⊥) →
     get_or (map f (set xs n v)) j d ≡ get_or (map f xs) j d
-changed_elsewhere f xs n j v d apart = ap (λ ys. get_or ys j d) (map_set f xs n v) ∙ get_or-set_other (map f xs) n j (f v) d (λ e. apart (sym e))
+changed_elsewhere f xs n j v d apart = ap (λ ys. get_or ys j d) (map_set f xs n v)
+    ∙ get_or-set_other (map f xs) n j (f v) d (λ e. apart (sym e))
 
-pub item_of : {A B : Type 0} (f : A → B) (xs : List A) (n : ℕ) (v : A) (d : B) → n < length xs → v ≡ get_or xs n v → get_or (map f xs) n d ≡ f v
+pub item_of : {A B : Type 0} (f : A → B) (xs : List A) (n : ℕ) (v : A) (d : B) → n < length xs → v ≡ get_or xs n v →
+    get_or (map f xs) n d ≡ f v
 item_of f [] n v d l is = absurd (omega (arith, l))
 item_of f (x ∷ xs) zero v d l is = ap f (sym is)
 item_of f (x ∷ xs) (suc n) v d l is = item_of f xs n v d (omega (arith, l)) is
@@ -52,7 +55,8 @@ module _ {X : Type 0} (words : X → List ℕ) (home : X → ℕ) where
         ∙ pack_not words (λ x. eqb (home x) j) held i q more (column old j) all known (ne_eqb (home q) j apart))
         (cases_eq (home q) j)
 
-    pub room_for_one : (before all : List ℕ) → before ++ packed_for (home q) (drop i held) ≡ all → length before + length (words q) ≤ length all
+    pub room_for_one : (before all : List ℕ) → before ++ packed_for (home q) (drop i held) ≡ all →
+        length before + length (words q) ≤ length all
     room_for_one before all known =
         pack_room words (λ x. eqb (home x) (home q)) held i q more before all known (length before) (eq-eqb (home q) (home q) refl) refl
 

@@ -1,5 +1,6 @@
 -- The replies of all modules, of each of which some words were taken.
-use Rattle.std.proofs.Common.{◌≡◌, ℕ, zero, suc, ◌+◌, ◌<◌, ◌≤◌, List, [], ◌∷◌, length, get_or, set, drop, Bool, replicate, refl, sym, ap, ◌∙◌, arith, map, Bor}
+use Rattle.std.proofs.Common.{◌≡◌, ℕ, zero, suc, ◌+◌, ◌<◌, ◌≤◌, List, [], ◌∷◌, length, get_or, set, drop, Bool, replicate, refl, sym, ap}
+use Rattle.std.proofs.Common.{◌∙◌, arith, map, Bor}
 use Rattle.std.specs.Prelude.{if◌then◌else◌}
 use Rattle.std.proofs.lemmas.List.{get_or-set_same, get_or-set_other, drop_more, drop_all}
 use Rattle.std.proofs.lemmas.Bool.{eq-eqb, ne_eqb}
@@ -34,7 +35,8 @@ module _ (part : ℕ → ℕ) (home : ℕ) where
   passes q here k [] empty rest = ap (λ xs. q ∷ xs) (sym (nothing_replied part k rest))
   passes q here k (w ∷ ws) empty rest =
       let apart : part q.ask.cell ≡ k → ⊥ = λ e. cc (empty (sym e ∙ here)) in
-      ap (λ (b : Bool). if b then answered q w ∷ replied part k ws rest else q ∷ replied part k (w ∷ ws) rest) (ne_eqb (part q.ask.cell) k apart)
+      ap (λ (b : Bool). if b then answered q w ∷ replied part k ws rest else q
+          ∷ replied part k (w ∷ ws) rest) (ne_eqb (part q.ask.cell) k apart)
 
   -- and so do those of all later modules
   later : (q : HeldAsk) → part q.ask.cell ≡ home → (columns : List (List ℕ)) (k : ℕ) → home < k → (rest : List HeldAsk) →
@@ -54,7 +56,8 @@ module _ (part : ℕ → ℕ) (home : ℕ) where
         (passes q here k (drop (get_or taken k 0) r)
         (λ e. let at : home ≡ k + 0 = omega (arith, e) in
         ap (λ j. drop (get_or taken j 0) r) e ∙ ap (λ m. drop m r) is ∙ drop_all n r (few 0 at (omega arith))) rest)
-        ∙ none_left replies (k + 1) (λ d e l. few (suc d) (omega (arith, e)) (omega (arith, l))) (replied part k (drop (get_or taken k 0) r) rest)
+        ∙ none_left replies (k + 1) (λ d e l. few (suc d) (omega (arith, e)) (omega (arith, l)))
+            (replied part k (drop (get_or taken k 0) r) rest)
 
     left_same : (v : ℕ) (replies : List (List ℕ)) (k : ℕ) → home < k → left (set taken home v) k replies ≡ left taken k replies
     left_same v [] k l = refl
@@ -63,7 +66,8 @@ module _ (part : ℕ → ℕ) (home : ℕ) where
         ∙ ap (λ us. drop (get_or taken k 0) r ∷ us) (left_same v replies (k + 1) (omega (arith, l)))
 
     -- the next word of its module is for it
-    pub one_taken : home < length taken → (replies : List (List ℕ)) (k d : ℕ) → home ≡ k + d → d < length replies → n < length (get_or replies d []) →
+    pub one_taken : home < length taken → (replies : List (List ℕ)) (k d : ℕ) → home ≡ k + d → d < length replies →
+        n < length (get_or replies d []) →
         (rest : List HeldAsk) →
         all_replied part k (left taken k replies) (q ∷ rest)
         ≡ answered q (get_or (get_or replies d []) n 0) ∷ all_replied part k (left (set taken home (n + 1)) k replies) rest
@@ -75,15 +79,18 @@ module _ (part : ℕ → ℕ) (home : ℕ) where
         let next = left taken (k + 1) replies in
         ap (λ m. all_replied part (k + 1) next (replied part k (drop m r) (q ∷ rest))) (ap (λ j. get_or taken j 0) same ∙ is)
         ∙ ap (λ us. all_replied part (k + 1) next (replied part k us (q ∷ rest))) (drop_more r n 0 some)
-        ∙ ap (λ (b : Bool). all_replied part (k + 1) next (if b then answered q w ∷ replied part k behind rest else q ∷ replied part k (w ∷ behind) rest))
+        ∙ ap (λ (b : Bool). all_replied part (k + 1) next (if b then answered q w ∷ replied part k behind rest else q
+            ∷ replied part k (w ∷ behind) rest))
         (eq-eqb (part q.ask.cell) k (here ∙ sym same))
         ∙ later (answered q w) here next (k + 1) (omega (arith, same)) (replied part k behind rest)
-        ∙ ap (λ us. answered q w ∷ all_replied part (k + 1) us (replied part k behind rest)) (sym (left_same (n + 1) replies (k + 1) (omega (arith, same))))
+        ∙ ap (λ us. answered q w ∷ all_replied part (k + 1) us (replied part k behind rest))
+            (sym (left_same (n + 1) replies (k + 1) (omega (arith, same))))
         ∙ ap (λ m. answered q w ∷ all_replied part (k + 1) (left (set taken home (n + 1)) (k + 1) replies) (replied part k (drop m r) rest))
         (sym (ap (λ j. get_or (set taken home (n + 1)) j 0) same ∙ get_or-set_same taken home (n + 1) 0 known))
     one_taken known (r ∷ replies) k (suc d) at l some rest =
         let apart : k ≡ home → ⊥ = λ e. absurd (omega (arith, e, at)) in
-        ap (all_replied part (k + 1) (left taken (k + 1) replies)) (passes q here k (drop (get_or taken k 0) r) (λ e. absurd (apart e)) rest)
+        ap (all_replied part (k + 1) (left taken (k + 1) replies)) (passes q here k (drop (get_or taken k 0) r) (λ e. absurd (apart e))
+            rest)
         ∙ one_taken known replies (k + 1) d (omega (arith, at)) (omega (arith, l)) some (replied part k (drop (get_or taken k 0) r) rest)
         ∙ ap (λ m. answered q (get_or (get_or replies d []) n 0)
         ∷ all_replied part (k + 1) (left (set taken home (n + 1)) (k + 1) replies) (replied part k (drop m r) rest))
@@ -95,7 +102,8 @@ nothing_held part [] k = refl
 nothing_held part (ws ∷ columns) k = nothing_held part columns (k + 1)
 
 -- one of some borrowed lists
-pub at_each : (rows : List (Bor (List ℕ))) (n : ℕ) (d : Bor (List ℕ)) → n < length rows → (get_or rows n d).now ≡ get_or (map (λ x. x.now) rows) n []
+pub at_each : (rows : List (Bor (List ℕ))) (n : ℕ) (d : Bor (List ℕ)) → n < length rows →
+    (get_or rows n d).now ≡ get_or (map (λ x. x.now) rows) n []
 at_each [] n d l = absurd (omega (arith, l))
 at_each (row ∷ rows) zero d l = refl
 at_each (row ∷ rows) (suc n) d l = at_each rows n d (omega (arith, l))

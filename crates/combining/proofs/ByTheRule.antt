@@ -1,5 +1,6 @@
 -- A merge of what all workers packed gives each cell what the rule gives for its writers.
-use Rattle.std.proofs.Common.{◌≡◌, ℕ, ℤ, ◌<◌, List, [], ◌∷◌, Bool, true, false, Option, Some, None, Ok, Err, eqb, refl, sym, ap, ◌∙◌, FitsSigned, All}
+use Rattle.std.proofs.Common.{◌≡◌, ℕ, ℤ, ◌<◌, List, [], ◌∷◌, Bool, true, false, Option, Some, None, Ok, Err, eqb, refl, sym, ap, ◌∙◌}
+use Rattle.std.proofs.Common.{FitsSigned, All}
 use Rattle.std.specs.Prelude.{if◌then◌else◌}
 use Rattle.std.specs.List.{AllByRecursion, filter, flat_map}
 use Rattle.std.specs.Int.{w64}

@@ -1,5 +1,6 @@
 -- The values after all replies were taken are those that came to the machine's worker.
-use Rattle.std.proofs.Common.{◌≡◌, ℕ, zero, suc, ℤ, pos, ◌+◌, ◌^◌, ◌<◌, List, [], ◌∷◌, map, Bool, true, false, refl, sym, subst, ap, ◌∙◌, arith, ⊎_elim, cond, eqb}
+use Rattle.std.proofs.Common.{◌≡◌, ℕ, zero, suc, ℤ, pos, ◌+◌, ◌^◌, ◌<◌, List, [], ◌∷◌, map, Bool, true, false, refl, sym, subst, ap, ◌∙◌}
+use Rattle.std.proofs.Common.{arith, ⊎_elim, cond, eqb}
 use Rattle.std.specs.Prelude.{if◌then◌else◌, ◌&&◌, FitsSigned, slice_index_or}
 use Rattle.std.specs.List.{filter, zip, AllByRecursion}
 use Rattle.std.specs.Int.{w64}

@@ -1,5 +1,6 @@
 -- What is read from a column of words, group by group.
-use Rattle.std.proofs.Common.{◌≡◌, ℕ, ◌+◌, ◌<◌, ◌≤◌, List, [], ◌∷◌, ◌++◌, length, get_or, drop, take, map, Bool, Option, Some, None, refl, sym, ap, ◌∙◌, Bor}
+use Rattle.std.proofs.Common.{◌≡◌, ℕ, ◌+◌, ◌<◌, ◌≤◌, List, [], ◌∷◌, ◌++◌, length, get_or, drop, take, map, Bool, Option, Some, None, refl}
+use Rattle.std.proofs.Common.{sym, ap, ◌∙◌, Bor}
 use Rattle.std.specs.Prelude.{if◌then◌else◌}
 use Rattle.std.proofs.lemmas.List.{drop_more, drop_all, take_at}
 use Rattle.std.proofs.lemmas.Bool.{eq-eqb, ne_eqb}
@@ -46,12 +47,15 @@ module _ (rule : Rule) (m : Shape) (j : ℕ) where
 
 -- the columns one after the other
 module _ {E : Type 0} (op : Option E → Option E → Option E) (f : List ℕ → Option E) (columns : List (Bor (List ℕ))) (i : ℕ) where
-  pub columns_more : (d : Bor (List ℕ)) → i < length columns → total None op f (map (λ x. x.now) (drop i columns)) ≡ op (f (get_or columns i d).now) (total None op f (map (λ x. x.now) (drop (i + 1) columns)))
+  pub columns_more : (d : Bor (List ℕ)) → i < length columns →
+      total None op f (map (λ x. x.now) (drop i columns)) ≡ op (f (get_or columns i d).now)
+      (total None op f (map (λ x. x.now) (drop (i + 1) columns)))
   columns_more d l = ap (λ (xs : List (Bor (List ℕ))). total None op f (map (λ x. x.now) xs)) (drop_more columns i d l)
 
   pub columns_end : length columns ≤ i → total None op f (map (λ x. x.now) (drop i columns)) ≡ None
   columns_end l = ap (λ (xs : List (Bor (List ℕ))). total None op f (map (λ x. x.now) xs)) (drop_all i columns l)
 
 -- a borrowed list that kept its length
-pub whole_list : {X : Type 0} (items after : List X) (n : ℕ) → n ≡ length items → length after ≡ length items → take n (after ++ drop (length after) items) ≡ after
+pub whole_list : {X : Type 0} (items after : List X) (n : ℕ) → n ≡ length items → length after ≡ length items →
+    take n (after ++ drop (length after) items) ≡ after
 whole_list items after n e l = take_at after (drop (length after) items) n (l ∙ sym e)

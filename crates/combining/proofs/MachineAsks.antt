@@ -1,5 +1,6 @@
 -- The asks that are added read by read are those of the machine's worker.
-use Rattle.std.proofs.Common.{◌≡◌, ℕ, zero, suc, ◌+◌, ◌^◌, ◌<◌, ◌≤◌, List, [], ◌∷◌, ◌++◌, length, map, Bool, true, false, not, Option, Some, None, refl, sym, subst, ap, ◌∙◌, arith, ⊎_elim, cond, eqb}
+use Rattle.std.proofs.Common.{◌≡◌, ℕ, zero, suc, ◌+◌, ◌^◌, ◌<◌, ◌≤◌, List, [], ◌∷◌, ◌++◌, length, map, Bool, true, false, not, Option, Some}
+use Rattle.std.proofs.Common.{None, refl, sym, subst, ap, ◌∙◌, arith, ⊎_elim, cond, eqb}
 use Rattle.std.specs.Prelude.{if◌then◌else◌}
 use Rattle.std.specs.List.{filter, AllByRecursion, cons_option}
 use Rattle.std.proofs.lemmas.Bool.{eq-eqb, ne_eqb}
@@ -17,7 +18,8 @@ use Rattle.superstep_machine.specs.Sides.{HasOneSide, HaveOneSide}
 use Rattle.superstep_machine.specs.Sending.{firsts, cell_at, present, several, is_several, asks_for, asked_twice, asks_from}
 use Rattle.superstep_machine.proofs.MachineWords.{all_firsts, all_map, cell_at_below}
 use Rattle.combining.specs.Asked.{HeldAsk, IsAskBelow, ask_key, key_of, marked_twice, ask}
-use Rattle.combining.specs.Adding.{cells_added, asked_from, asked_by, asked_after, unanswered, AddedAsksAreTheMachines, AsksCanBeAdded, FittingAsksAreTheMachines, CellsStayBelow}
+use Rattle.combining.specs.Adding.{cells_added, asked_from, asked_by, asked_after, unanswered, AddedAsksAreTheMachines, AsksCanBeAdded}
+use Rattle.combining.specs.Adding.{FittingAsksAreTheMachines, CellsStayBelow}
 use Rattle.combining.proofs.MachinePuts.{firsts_filter, length_filter}
 
 -- ---- one read

@@ -12,7 +12,8 @@ use Rattle.combining.specs.Gathering.{value_at}
 use Rattle.combining.specs.Answers.{AnswersAreTheReply}
 
 -- what stands at a place, changed twice
-twice_at : {A B C : Type 0} (f : A → B) (g : B → C) (xs : List A) (j : ℕ) (x : A) (d : C) → slice_get xs j ≡ Some x → slice_index_or (map g (map f xs)) j d ≡ g (f x)
+twice_at : {A B C : Type 0} (f : A → B) (g : B → C) (xs : List A) (j : ℕ) (x : A) (d : C) → slice_get xs j ≡ Some x →
+    slice_index_or (map g (map f xs)) j d ≡ g (f x)
 twice_at f g [] j x d e = absurd (cc e)
 twice_at f g (y ∷ xs) zero x d e = ap (λ z. g (f z)) (cc e)
 twice_at f g (y ∷ xs) (suc j) x d e = twice_at f g xs j x d e
@@ -24,6 +25,7 @@ answers_are_the_reply t w s received j came e =
     let after = after_send t w s (messages_read rule m w received) in
     let asked = asks_in m w (ask_part rule came.0 came.1) in
     let taken : slice_index_or after.taken j [] ≡ map (λ (x : CellAsk). x.cell) asked =
-    twice_at (λ (r : MessageHeader × List ℕ). read_message rule m w Sends r.0 r.1) (λ (x : Message). map (λ (y : CellAsk). y.cell) x.asks) received j came [] e in
+    twice_at (λ (r : MessageHeader × List ℕ). read_message rule m w Sends r.0 r.1) (λ (x : Message). map (λ (y : CellAsk). y.cell) x.asks)
+        received j came [] e in
     ap (λ cs. values_words (map (λ c. value_at after.cells (m.offset c)) cs)) taken
     ∙ ap values_words (map-map (λ c. value_at after.cells (m.offset c)) (λ (x : CellAsk). x.cell) asked)

@@ -1,5 +1,6 @@
 -- The asks that are held, by read and cell in the order first held, and the values that came for them.
-use Rattle.std.specs.Prelude.{◌≡◌, ℕ, suc, length, slice_index_or, ℤ, pos, ◌+◌, ◌*◌, ◌/◌, ◌%◌, ◌^◌, ◌<◌, List, [], ◌∷◌, map, true, false, if◌then◌else◌}
+use Rattle.std.specs.Prelude.{◌≡◌, ℕ, suc, length, slice_index_or, ℤ, pos, ◌+◌, ◌*◌, ◌/◌, ◌%◌, ◌^◌, ◌<◌, List, [], ◌∷◌, map, true, false}
+use Rattle.std.specs.Prelude.{if◌then◌else◌}
 use Rattle.std.specs.List.{filter}
 use Rattle.std.specs.Int.{cast_signed, w64}
 use Rattle.std.proofs.Common.{eqb}
@@ -51,7 +52,8 @@ answered x w = record { ask = x.ask; value = cast_signed w64 w }
 abbrev pub replied : (ℕ → ℕ) → ℕ → List ℕ → List HeldAsk → List HeldAsk
 replied part j ws [] = []
 replied part j [] (x ∷ rest) = x ∷ rest
-replied part j (w ∷ ws) (x ∷ rest) = if eqb (part x.ask.cell) j then answered x w ∷ replied part j ws rest else x ∷ replied part j (w ∷ ws) rest
+replied part j (w ∷ ws) (x ∷ rest) = if eqb (part x.ask.cell) j then answered x w ∷ replied part j ws rest else x
+    ∷ replied part j (w ∷ ws) rest
 
 -- the value for a read and a cell
 abbrev pub value_for : ℕ → ℕ → List HeldAsk → ℤ

@@ -27,7 +27,8 @@ entry_of_write rule w = (combining rule).single w.processor w.value
 
 -- one more write, joined to what is held for its cell
 abbrev pub put : Rule → HeldWrite → List CellPut → List CellPut
-put rule w = hold (λ (x : CellPut). eqb x.cell w.cell) (λ (x : CellPut). put_at x.cell ((combining rule).join x.entry (entry_of_write rule w))) (put_at w.cell (entry_of_write rule w))
+put rule w = hold (λ (x : CellPut). eqb x.cell w.cell) (λ (x : CellPut).
+    put_at x.cell ((combining rule).join x.entry (entry_of_write rule w))) (put_at w.cell (entry_of_write rule w))
 
 -- what is held after some writes, one by one
 abbrev pub held_after : Rule → List HeldWrite → List CellPut → List CellPut

@@ -1,12 +1,14 @@
 -- States that are alike stay alike, instruction by instruction.
-use Rattle.std.proofs.Common.{◌≡◌, ℕ, zero, suc, ◌+◌, Bool, true, false, cond, eqb, Option, Some, None, List, map, ℤ, refl, sym, ap, subst, ◌∙◌, arith}
+use Rattle.std.proofs.Common.{◌≡◌, ℕ, zero, suc, ◌+◌, Bool, true, false, cond, eqb, Option, Some, None, List, map, ℤ, refl, sym, ap, subst}
+use Rattle.std.proofs.Common.{◌∙◌, arith}
 use Rattle.std.specs.Prelude.{slice_get}
 use Rattle.pram_values.specs.Truth.{is_nonzero}
 use Rattle.superstep_code.specs.declared.instr.Instr.{Instr}
 use Rattle.superstep_code.specs.declared.instr.Instr.TheVariants.{Mark, Send, Reply, Vote, Jump, JumpIfZero, Halt}
 use Rattle.superstep_code.specs.Code.{SuperstepCode}
 use Rattle.superstep_machine.specs.Parts.{UniformPart}
-use Rattle.superstep_machine.specs.Run.{Way, On, Ending, Past, Refused, Lost, Purpose, Sends, Replies, Votes, Closes, is_held, decided, verdict_by}
+use Rattle.superstep_machine.specs.Run.{Way, On, Ending, Past, Refused, Lost, Purpose, Sends, Replies, Votes, Closes, is_held, decided}
+use Rattle.superstep_machine.specs.Run.{verdict_by}
 use Rattle.flat_machine.specs.Flat.{Flat, cells, after_send}
 use Rattle.flat_machine.specs.ByExchanges.{State, after_exchange, opening, outcome_of}
 use Rattle.flat_machine.specs.ByInstructions.{exchanged, closed, instructed, step_by, step, steps, everywhere, outcome_within}
@@ -40,7 +42,8 @@ module _ (code : SuperstepCode) (bound : ℕ) where
     same_after_exchange (Votes d) = same_after_vote f g s d
     same_after_exchange Closes = s
 
-    alike_exchanged : (purpose : Purpose) (place : ℕ) → AreSameStates (exchanged code everywhere purpose place f) (exchanged code everywhere purpose place g)
+    alike_exchanged : (purpose : Purpose) (place : ℕ) → AreSameStates (exchanged code everywhere purpose place f)
+        (exchanged code everywhere purpose place g)
     alike_exchanged purpose place = record {
       flat = same_after_exchange purpose;
       place = refl;
@@ -73,7 +76,8 @@ module _ (code : SuperstepCode) (bound : ℕ) where
     alike_led None place = record { flat = s; place = refl; way = refl }
     alike_led (Some i) place = alike_going i place
 
-  by_way : (s t : State) → AreSameStates s t → (way : Way) → AreSameStates (step_by code bound everywhere s way) (step_by code bound everywhere t way)
+  by_way : (s t : State) → AreSameStates s t → (way : Way) → AreSameStates (step_by code bound everywhere s way)
+      (step_by code bound everywhere t way)
   by_way s t h On =
       subst (λ p. AreSameStates (instructed code bound everywhere s.place s.flat) (instructed code bound everywhere p t.flat)) h.place
       (alike_led s.flat t.flat h.flat (slice_get code.instructions s.place) s.place)
@@ -83,9 +87,11 @@ module _ (code : SuperstepCode) (bound : ℕ) where
   by_way s t h Lost = h
 
   alike_step : (s t : State) → AreSameStates s t → AreSameStates (step code bound everywhere s) (step code bound everywhere t)
-  alike_step s t h = subst (λ way. AreSameStates (step_by code bound everywhere s way) (step code bound everywhere t)) (sym h.way) (by_way s t h t.way)
+  alike_step s t h = subst (λ way. AreSameStates (step_by code bound everywhere s way) (step code bound everywhere t)) (sym h.way)
+      (by_way s t h t.way)
 
-  pub alike_steps : (n : ℕ) (s t : State) → AreSameStates s t → AreSameStates (steps code bound everywhere n s) (steps code bound everywhere n t)
+  pub alike_steps : (n : ℕ) (s t : State) → AreSameStates s t → AreSameStates (steps code bound everywhere n s)
+      (steps code bound everywhere n t)
   alike_steps zero s t h = h
   alike_steps (suc n) s t h = alike_steps n (step code bound everywhere s) (step code bound everywhere t) (alike_step s t h)
 
@@ -102,10 +108,12 @@ module _ (code : SuperstepCode) (bound : ℕ) where
   steps_over (suc n) s h = ap (steps code bound everywhere n) (still s s.way h) ∙ steps_over n s h
 
   -- one instruction of those that are left
-  pub one_step : (left rest : ℕ) (old new : State) → rest + 1 ≡ left → old.way ≡ On → AreSameStates new (instructed code bound everywhere old.place old.flat) →
+  pub one_step : (left rest : ℕ) (old new : State) → rest + 1 ≡ left → old.way ≡ On →
+      AreSameStates new (instructed code bound everywhere old.place old.flat) →
       AreSameStates (steps code bound everywhere rest new) (steps code bound everywhere left old)
   one_step left rest old new e on h =
-      let stepped : step code bound everywhere old ≡ instructed code bound everywhere old.place old.flat = ap (step_by code bound everywhere old) on in
+      let stepped : step code bound everywhere old ≡ instructed code bound everywhere old.place old.flat =
+          ap (step_by code bound everywhere old) on in
       let next : suc rest ≡ left = omega (arith, e) in
       subst (λ n. AreSameStates (steps code bound everywhere rest new) (steps code bound everywhere n old)) next
       (alike_steps rest new (step code bound everywhere old) (subst (AreSameStates new) (sym stepped) h))
@@ -126,10 +134,12 @@ same_outcome code s t h =
     ∙ ap (λ (m : ℕ → ℤ). verdict_by t.way t.flat.uniform.output (map m (cells code))) h.flat.memory
 
 -- where one run is alike to another's beginning, and was carried on for n instructions
-pub outcome_comes : (code : SuperstepCode) (bound n m : ℕ) (input : List ℤ) (first last : State) → n ≡ m → AreSameStates first (opening input) →
+pub outcome_comes : (code : SuperstepCode) (bound n m : ℕ) (input : List ℤ) (first last : State) → n ≡ m →
+    AreSameStates first (opening input) →
     AreSameStates last (steps code bound everywhere n first) →
     outcome_of code last ≡ outcome_within code bound everywhere m input
 outcome_comes code bound n m input first last e a b =
     same_outcome code last (steps code bound everywhere n (opening input))
-    (alike_on last (steps code bound everywhere n first) (steps code bound everywhere n (opening input)) b (alike_steps code bound n first (opening input) a))
+    (alike_on last (steps code bound everywhere n first) (steps code bound everywhere n (opening input)) b
+        (alike_steps code bound n first (opening input) a))
     ∙ ap (λ k. outcome_within code bound everywhere k input) e

@@ -1,5 +1,6 @@
 -- The conflicts of the reads of a send, one after the other.
-use Rattle.std.proofs.Common.{◌≡◌, ℕ, zero, suc, ◌+◌, ◌<◌, ◌≤◌, List, [], ◌∷◌, length, map, drop, Option, Some, None, ◌&&◌, cond, refl, sym, ap, ◌∙◌, arith, slice_index_or}
+use Rattle.std.proofs.Common.{◌≡◌, ℕ, zero, suc, ◌+◌, ◌<◌, ◌≤◌, List, [], ◌∷◌, length, map, drop, Option, Some, None, ◌&&◌, cond, refl, sym}
+use Rattle.std.proofs.Common.{ap, ◌∙◌, arith, slice_index_or}
 use Rattle.pram_values.specs.declared.kind.Kind.TheVariants.{ReadConflict}
 use Rattle.superstep_machine.specs.declared.key.Key.{Key}
 use Rattle.superstep_code.specs.Code.{SuperstepCode}
@@ -16,7 +17,8 @@ abbrev pub conflict_by : Flat → ℕ → Read → ℕ → Option Key
 conflict_by f k read c = cond (is_private read.side && is_several (askers f k c)) (Some (conflict_at read.moment c ReadConflict)) None
 
 -- the read before those that were looked at
-pub reads_go : (code : SuperstepCode) (f : Flat) (reads : List HeldRead) (k m : ℕ) (x : HeldRead) (noted : Option Key) → k + 1 ≡ m → k < length reads →
+pub reads_go : (code : SuperstepCode) (f : Flat) (reads : List HeldRead) (k m : ℕ) (x : HeldRead) (noted : Option Key) → k + 1 ≡ m →
+    k < length reads →
     x ≡ slice_index_or reads k x →
     noted ≡ read_conflicts code f m (map read_is (drop m reads)) →
     least (read_conflict code f k (read_is x)) noted ≡ read_conflicts code f k (map read_is (drop k reads))

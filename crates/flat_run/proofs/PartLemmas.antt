@@ -1,5 +1,6 @@
 -- The parts of the processors in their list, and the cells in theirs.
-use Rattle.std.proofs.Common.{◌≡◌, ℕ, zero, suc, ◌<◌, ◌≤◌, List, [], ◌∷◌, length, Option, None, refl, sym, ap, ◌∙◌, arith, slice_index_or, slice_set, ◌+◌, ◌++◌, ⊎_elim}
+use Rattle.std.proofs.Common.{◌≡◌, ℕ, zero, suc, ◌<◌, ◌≤◌, List, [], ◌∷◌, length, Option, None, refl, sym, ap, ◌∙◌, arith, slice_index_or}
+use Rattle.std.proofs.Common.{slice_set, ◌+◌, ◌++◌, ⊎_elim}
 use Rattle.std.proofs.lemmas.List.{length-set}
 use Rattle.superstep_machine.specs.Parts.{PrivatePart, fresh}
 use Rattle.superstep_machine.specs.Sending.{cell_at}
@@ -24,7 +25,8 @@ no_cell (c ∷ cs) zero h = absurd (omega arith)
 no_cell (c ∷ cs) (suc k) h = no_cell cs k (omega arith)
 
 -- any default reads the same
-pub held_is : {A : Type 0} (items : List (Option A)) (k : ℕ) (x : Option A) → k < length items → x ≡ slice_index_or items k x → x ≡ slice_index_or items k None
+pub held_is : {A : Type 0} (items : List (Option A)) (k : ℕ) (x : Option A) → k < length items → x ≡ slice_index_or items k x →
+    x ≡ slice_index_or items k None
 held_is [] k x h e = absurd (omega arith)
 held_is (c ∷ cs) zero x h e = e
 held_is (c ∷ cs) (suc k) x h e = held_is cs k x (omega arith) e
@@ -52,7 +54,8 @@ module _ (f : ℕ → PrivatePart → PrivatePart) (old : List ProcessorState) w
   pub each_starts : AreEach f old old 0
   each_starts = record { count = refl; bound = omega arith; done = λ k h. absurd (omega arith); rest = λ k h. refl }
 
-  pub each_goes : (new : List ProcessorState) (v : ℕ) (x y : ProcessorState) → AreEach f old new v → v < length new → x ≡ slice_index_or new v x →
+  pub each_goes : (new : List ProcessorState) (v : ℕ) (x y : ProcessorState) → AreEach f old new v → v < length new →
+      x ≡ slice_index_or new v x →
       part_of y ≡ f v (part_of x) → AreEach f old (slice_set new v y) (v + 1)
   each_goes new v x y h l e q =
       let n = h.count in
@@ -60,7 +63,8 @@ module _ (f : ℕ → PrivatePart → PrivatePart) (old : List ProcessorState) w
         count = length-set new v y ∙ h.count;
         bound = omega (arith, n, l);
         done = λ k m. ⊎_elim
-            (λ (here : k ≡ v). ap (own_of (slice_set new v y)) here ∙ own_there new v y l ∙ q ∙ ap (f v) (own_is new v x l e ∙ h.rest v (omega arith))
+            (λ (here : k ≡ v). ap (own_of (slice_set new v y)) here ∙ own_there new v y l ∙ q
+                ∙ ap (f v) (own_is new v x l e ∙ h.rest v (omega arith))
             ∙ sym (ap (λ j. f j (own_of old j)) here))
             (λ (before : k < v). own_elsewhere new v k y (λ here. omega (arith, here, before)) ∙ h.done k before)
             (at_or_before k v m);

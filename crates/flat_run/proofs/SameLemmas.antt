@@ -1,5 +1,6 @@
 -- Flat states that don't differ within the range don't differ after an instruction or an exchange.
-use Rattle.std.proofs.Common.{◌≡◌, ℕ, ◌+◌, ◌<◌, List, [], ◌∷◌, Bool, true, false, ◌&&◌, ◌||◌, cond, Option, Some, None, ℤ, pos, refl, sym, ap, subst, ◌∙◌, arith}
+use Rattle.std.proofs.Common.{◌≡◌, ℕ, ◌+◌, ◌<◌, List, [], ◌∷◌, Bool, true, false, ◌&&◌, ◌||◌, cond, Option, Some, None, ℤ, pos, refl, sym}
+use Rattle.std.proofs.Common.{ap, subst, ◌∙◌, arith}
 use Rattle.std.specs.List.{range_with_len}
 use Rattle.pram_values.specs.declared.kind.Kind.TheVariants.{ReadConflict}
 use Rattle.pram_values.specs.Total.{total}
@@ -13,10 +14,13 @@ use Rattle.superstep_code.specs.declared.instr.Instr.TheVariants.{Enter, Leave, 
 use Rattle.superstep_code.specs.Code.{SuperstepCode}
 use Rattle.superstep_machine.specs.Keys.{least}
 use Rattle.superstep_machine.specs.Parts.{Read, UniformPart, PrivatePart, set_register, fresh}
-use Rattle.superstep_machine.specs.Steps.{on_uniform, on_own, uniform_key, own_key, uniform_write, own_write, index_of, is_active, is_put, renews}
-use Rattle.superstep_machine.specs.Sending.{join, cell_at, several, asks_for, is_several, verdict_on, settled, conflict_at, put_conflict, is_private, uniform_sent, own_sent}
+use Rattle.superstep_machine.specs.Steps.{on_uniform, on_own, uniform_key, own_key, uniform_write, own_write, index_of, is_active, is_put}
+use Rattle.superstep_machine.specs.Steps.{renews}
+use Rattle.superstep_machine.specs.Sending.{join, cell_at, several, asks_for, is_several, verdict_on, settled, conflict_at, put_conflict}
+use Rattle.superstep_machine.specs.Sending.{is_private, uniform_sent, own_sent}
 use Rattle.superstep_machine.specs.Answering.{uniform_answered, own_answered}
-use Rattle.flat_machine.specs.Flat.{Flat, range, cells, noted, single_to, written, after_instr, owed, askers, read_conflict, read_conflicts, conflicts, after_send, after_reply, any_active, after_vote}
+use Rattle.flat_machine.specs.Flat.{Flat, range, cells, noted, single_to, written, after_instr, owed, askers, read_conflict, read_conflicts}
+use Rattle.flat_machine.specs.Flat.{conflicts, after_send, after_reply, any_active, after_vote}
 use Rattle.flat_run.specs.Views.{AreSame}
 use Rattle.flat_run.proofs.SumLemmas.{any_is}
 
@@ -139,7 +143,8 @@ module _ (f g : Flat) (s : AreSame f g) where
 
   active_same : any_active f ≡ any_active g
   active_same =
-      sym (any_is (λ v. is_active (f.own v)) (range f)) ∙ sum_same false (λ a b. a || b) (λ u v x. is_active x) ∙ any_is (λ v. is_active (g.own v)) (range g)
+      sym (any_is (λ v. is_active (f.own v)) (range f)) ∙ sum_same false (λ a b. a || b) (λ u v x. is_active x)
+          ∙ any_is (λ v. is_active (g.own v)) (range g)
 
   pub same_after_vote : (d : ℕ) → AreSame (after_vote d f) (after_vote d g)
   same_after_vote d = record {

@@ -1,5 +1,6 @@
 -- One more write to a cell.
-use Rattle.std.proofs.Common.{◌≡◌, ◌≢◌, ◌⊎◌, inl, inr, ℕ, zero, suc, ◌<◌, ◌≤◌, List, [], ◌∷◌, ◌++◌, map, length, get_or, set, nat_eq, true, false, if◌then◌else◌, append-nil, refl, ap, sym, ◌∙◌, subst, arith}
+use Rattle.std.proofs.Common.{◌≡◌, ◌≢◌, ◌⊎◌, inl, inr, ℕ, zero, suc, ◌<◌, ◌≤◌, List, [], ◌∷◌, ◌++◌, map, length, get_or, set, nat_eq, true}
+use Rattle.std.proofs.Common.{false, if◌then◌else◌, append-nil, refl, ap, sym, ◌∙◌, subst, arith}
 use Rattle.std.proofs.lemmas.List.{length-set, get_or-set_same, get_or-set_other}
 use Rattle.std.proofs.lemmas.Bool.{cases_lt}
 use Rattle.std.proofs.lemmas.Bool.Decides.{eqb_tells}
@@ -46,7 +47,8 @@ one_default [] i a b h = absurd (omega arith)
 one_default (x ∷ xs) zero a b h = refl
 one_default (x ∷ xs) (suc i) a b h = one_default xs i a b (omega arith)
 
-elsewhere : (groups : List Group) (g : Group) (p d : ℕ) → d ≢ g.cell → writes_in d (get_or (groups ++ g ∷ []) p (no_writes d)) ≡ writes_in d (get_or groups p (no_writes d))
+elsewhere : (groups : List Group) (g : Group) (p d : ℕ) → d ≢ g.cell →
+    writes_in d (get_or (groups ++ g ∷ []) p (no_writes d)) ≡ writes_in d (get_or groups p (no_writes d))
 elsewhere [] g zero d h = not_there d g h ∙ sym (there (no_writes d))
 elsewhere [] g (suc p) d h = refl
 elsewhere (k ∷ groups) g zero d h = refl
@@ -81,12 +83,14 @@ module _ (c : ℕ) (w : Write) (old new : List ℕ) (groups : List Group) (is : 
 
   opened : kept_in old groups c ≡ [] → (d : ℕ) → kept_in new longer d ≡ kept_in old groups d ++ more d c w
   opened none d = elim (eqb_tells d c) [
-    | inl e ↦ subst (λ d. kept_in new longer d ≡ kept_in old groups d ++ more d c w) (sym e.1) (opened_here ∙ sym (ap (λ ws. ws ++ more c c w) none ∙ one_more c w))
+    | inl e ↦ subst (λ d. kept_in new longer d ≡ kept_in old groups d ++ more d c w) (sym e.1) (opened_here
+        ∙ sym (ap (λ ws. ws ++ more c c w) none ∙ one_more c w))
     | inr e ↦ opened_by d e.1 (cases_lt d (length new))
         ∙ sym (append-nil (kept_in old groups d)) ∙ ap (λ ws. kept_in old groups d ++ ws) (sym (no_more c d w e.1))
   ]
 
-map_push : (groups : List rust.Group.Group) (g : rust.Group.Group) → map group_is (groups ++ g ∷ []) ≡ map group_is groups ++ group_is g ∷ []
+map_push : (groups : List rust.Group.Group) (g : rust.Group.Group) → map group_is (groups ++ g ∷ []) ≡ map group_is groups ++ group_is g
+    ∷ []
 map_push [] g = refl
 map_push (h ∷ groups) g = ap (λ r. group_is h ∷ r) (map_push groups g)
 
@@ -94,22 +98,29 @@ pub map_length : (groups : List rust.Group.Group) → length (map group_is group
 map_length [] = refl
 map_length (g ∷ groups) = ap suc (map_length groups)
 
-pub group_opens : (c : ℕ) (w : Write) (s t : rust.Slate.Slate) (g : rust.Group.Group) → kept s c ≡ [] → IsMarked c (length s.groups.items) s.places.items t.places.items → g.cell ≡ c → g.writes.items ≡ w ∷ [] → t.groups.items ≡ s.groups.items ++ g ∷ [] → IsMore c w s t
+pub group_opens : (c : ℕ) (w : Write) (s t : rust.Slate.Slate) (g : rust.Group.Group) → kept s c ≡ [] →
+    IsMarked c (length s.groups.items) s.places.items t.places.items → g.cell ≡ c → g.writes.items ≡ w ∷ [] →
+    t.groups.items ≡ s.groups.items ++ g ∷ [] → IsMore c w s t
 group_opens c w s t g none is named has grown =
     let long : length (map group_is s.groups.items) ≡ length s.groups.items = map_length s.groups.items in
     let all : map group_is t.groups.items ≡ map group_is s.groups.items ++ record { cell = c; writes = w ∷ [] } ∷ [] =
-    ap (map group_is) grown ∙ map_push s.groups.items g ∙ (λ j. map group_is s.groups.items ++ record { cell = named j; writes = has j } ∷ []) in
-    let marked : IsMarked c (length (map group_is s.groups.items)) s.places.items t.places.items = subst (λ n. IsMarked c n s.places.items t.places.items) (sym long) is in
-    record { more = λ d. ap (λ gs. kept_in t.places.items gs d) all ∙ opened c w s.places.items t.places.items (map group_is s.groups.items) marked none d }
+    ap (map group_is) grown ∙ map_push s.groups.items g ∙ (λ j. map group_is s.groups.items ++ record { cell = named j; writes = has j }
+        ∷ []) in
+    let marked : IsMarked c (length (map group_is s.groups.items)) s.places.items t.places.items =
+        subst (λ n. IsMarked c n s.places.items t.places.items) (sym long) is in
+    record { more = λ d. ap (λ gs. kept_in t.places.items gs d) all
+        ∙ opened c w s.places.items t.places.items (map group_is s.groups.items) marked none d }
 
 -- ---- a group that is there
 
-module _ (c : ℕ) (w : Write) (places : List ℕ) (groups : List Group) (place : ℕ) (named : get_or places c (length groups) ≡ place) (inside : place < length groups) (own : (get_or groups place (no_writes c)).cell ≡ c) where
+module _ (c : ℕ) (w : Write) (places : List ℕ) (groups : List Group) (place : ℕ) (named : get_or places c (length groups) ≡ place)
+    (inside : place < length groups) (own : (get_or groups place (no_writes c)).cell ≡ c) where
   abbrev more_here : List Group
   more_here = set groups place (record { cell = c; writes = (get_or groups place (no_writes c)).writes ++ w ∷ [] })
 
   same_places : (d : ℕ) → get_or places d (length more_here) ≡ get_or places d (length groups)
-  same_places d = ap (get_or places d) (length-set groups place (record { cell = c; writes = (get_or groups place (no_writes c)).writes ++ w ∷ [] }))
+  same_places d = ap (get_or places d) (length-set groups place (record { cell = c; writes = (get_or groups place (no_writes c)).writes ++ w
+      ∷ [] }))
 
   other_cell : (d : ℕ) → d ≢ c → (g : Group) → g.cell ≡ c → writes_in d g ≡ []
   other_cell d h g e = not_there d g (λ k. h (k ∙ e))
@@ -117,41 +128,53 @@ module _ (c : ℕ) (w : Write) (places : List ℕ) (groups : List Group) (place 
   extended_here : kept_in places more_here c ≡ kept_in places groups c ++ w ∷ []
   extended_here =
       let g : Group = get_or groups place (no_writes c) in
-      let before : kept_in places groups c ≡ g.writes = ap (λ p. writes_in c (get_or groups p (no_writes c))) named ∙ ap (λ n. if nat_eq c n then g.writes else []) own ∙ ap (λ b. if b then g.writes else []) (same_number c) in
+      let before : kept_in places groups c ≡ g.writes = ap (λ p. writes_in c (get_or groups p (no_writes c))) named
+          ∙ ap (λ n. if nat_eq c n then g.writes else []) own ∙ ap (λ b. if b then g.writes else []) (same_number c) in
       ap (λ p. writes_in c (get_or more_here p (no_writes c))) (same_places c ∙ named)
       ∙ ap (writes_in c) (get_or-set_same groups place (record { cell = c; writes = g.writes ++ w ∷ [] }) (no_writes c) inside)
       ∙ there (record { cell = c; writes = g.writes ++ w ∷ [] })
       ∙ ap (λ ws. ws ++ w ∷ []) (sym before)
 
-  extended_by : (d : ℕ) → d ≢ c → ((p : ℕ) × (get_or places d (length groups) ≡ p) × ((p ≡ place) ⊎ (p ≢ place))) → kept_in places more_here d ≡ kept_in places groups d
+  extended_by : (d : ℕ) → d ≢ c → ((p : ℕ) × (get_or places d (length groups) ≡ p) × ((p ≡ place) ⊎ (p ≢ place))) →
+      kept_in places more_here d ≡ kept_in places groups d
   extended_by d h (p, at, inl e) =
       ap (λ p. writes_in d (get_or more_here p (no_writes d))) (same_places d ∙ at ∙ e)
-      ∙ ap (writes_in d) (get_or-set_same groups place (record { cell = c; writes = (get_or groups place (no_writes c)).writes ++ w ∷ [] }) (no_writes d) inside)
+      ∙ ap (writes_in d) (get_or-set_same groups place (record { cell = c; writes = (get_or groups place (no_writes c)).writes ++ w ∷ [] })
+          (no_writes d) inside)
       ∙ other_cell d h (record { cell = c; writes = (get_or groups place (no_writes c)).writes ++ w ∷ [] }) refl
-      ∙ sym (ap (λ p. writes_in d (get_or groups p (no_writes d))) (at ∙ e) ∙ ap (writes_in d) (one_default groups place (no_writes d) (no_writes c) inside) ∙ other_cell d h (get_or groups place (no_writes c)) own)
+      ∙ sym (ap (λ p. writes_in d (get_or groups p (no_writes d))) (at ∙ e)
+          ∙ ap (writes_in d) (one_default groups place (no_writes d) (no_writes c) inside)
+          ∙ other_cell d h (get_or groups place (no_writes c)) own)
   extended_by d h (p, at, inr e) =
       ap (λ p. writes_in d (get_or more_here p (no_writes d))) (same_places d ∙ at)
-      ∙ ap (writes_in d) (get_or-set_other groups place p (record { cell = c; writes = (get_or groups place (no_writes c)).writes ++ w ∷ [] }) (no_writes d) e)
+      ∙ ap (writes_in d) (get_or-set_other groups place p (record { cell = c; writes = (get_or groups place (no_writes c)).writes ++ w
+          ∷ [] }) (no_writes d) e)
       ∙ sym (ap (λ p. writes_in d (get_or groups p (no_writes d))) at)
 
   extended : (d : ℕ) → kept_in places more_here d ≡ kept_in places groups d ++ more d c w
   extended d = elim (eqb_tells d c) [
-    | inl e ↦ subst (λ d. kept_in places more_here d ≡ kept_in places groups d ++ more d c w) (sym e.1) (extended_here ∙ sym (ap (λ ws. kept_in places groups c ++ ws) (one_more c w)))
-    | inr e ↦ extended_by d e.1 (get_or places d (length groups), refl, elim (eqb_tells (get_or places d (length groups)) place) [ inl f ↦ inl f.1 | inr f ↦ inr f.1 ])
+    | inl e ↦ subst (λ d. kept_in places more_here d ≡ kept_in places groups d ++ more d c w) (sym e.1) (extended_here
+        ∙ sym (ap (λ ws. kept_in places groups c ++ ws) (one_more c w)))
+    | inr e ↦ extended_by d e.1 (get_or places d (length groups), refl,
+        elim (eqb_tells (get_or places d (length groups)) place) [ inl f ↦ inl f.1 | inr f ↦ inr f.1 ])
         ∙ sym (append-nil (kept_in places groups d)) ∙ ap (λ ws. kept_in places groups d ++ ws) (sym (no_more c d w e.1))
   ]
 
-map_set : (groups : List rust.Group.Group) (p : ℕ) (g : rust.Group.Group) → map group_is (set groups p g) ≡ set (map group_is groups) p (group_is g)
+map_set : (groups : List rust.Group.Group) (p : ℕ) (g : rust.Group.Group) →
+    map group_is (set groups p g) ≡ set (map group_is groups) p (group_is g)
 map_set [] p g = refl
 map_set (h ∷ groups) zero g = refl
 map_set (h ∷ groups) (suc p) g = ap (λ r. group_is h ∷ r) (map_set groups p g)
 
-map_at : (groups : List rust.Group.Group) (p : ℕ) (g : rust.Group.Group) (d : Group) → p < length groups → g ≡ get_or groups p g → get_or (map group_is groups) p d ≡ group_is g
+map_at : (groups : List rust.Group.Group) (p : ℕ) (g : rust.Group.Group) (d : Group) → p < length groups → g ≡ get_or groups p g →
+    get_or (map group_is groups) p d ≡ group_is g
 map_at [] p g d h e = absurd (omega arith)
 map_at (x ∷ groups) zero g d h e = ap group_is (sym e)
 map_at (x ∷ groups) (suc p) g d h e = map_at groups p g d (omega arith) e
 
-pub group_grows : (c place : ℕ) (w : Write) (s t : rust.Slate.Slate) (g h : rust.Group.Group) → IsPlace s c place → place < length s.groups.items → g ≡ get_or s.groups.items place g → h.cell ≡ g.cell → h.writes.items ≡ g.writes.items ++ w ∷ [] → t.groups.items ≡ set s.groups.items place h → t.places.items ≡ s.places.items → IsMore c w s t
+pub group_grows : (c place : ℕ) (w : Write) (s t : rust.Slate.Slate) (g h : rust.Group.Group) → IsPlace s c place →
+    place < length s.groups.items → g ≡ get_or s.groups.items place g → h.cell ≡ g.cell → h.writes.items ≡ g.writes.items ++ w ∷ [] →
+    t.groups.items ≡ set s.groups.items place h → t.places.items ≡ s.places.items → IsMore c w s t
 group_grows c place w s t g h is lt at same grown new old =
     let gs : List Group = map group_is s.groups.items in
     let long : length gs ≡ length s.groups.items = map_length s.groups.items in

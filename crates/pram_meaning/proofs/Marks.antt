@@ -21,7 +21,8 @@ filled [] (suc k) (suc d) e = filled [] k d e
 filled (x ∷ old) k zero e = refl
 filled (x ∷ old) k (suc d) e = filled old k d e
 
-pub marked_behind : (c e k : ℕ) (old mid new : List ℕ) → mid ≡ old ++ replicate k e → c < length mid → new ≡ set mid c e → IsMarked c e old new
+pub marked_behind : (c e k : ℕ) (old mid new : List ℕ) → mid ≡ old ++ replicate k e → c < length mid → new ≡ set mid c e →
+    IsMarked c e old new
 marked_behind c e k old mid new grown h is =
     let m = is_marked c e mid new h is in
     record { inside = m.inside; here = m.here; others = λ d other. m.others d other ∙ ap (λ xs. get_or xs d e) grown ∙ filled old k d e }

@@ -15,7 +15,8 @@ shown p input n (Goes u m) s = (m, s.0, s.1, refl, refl)
 shown p input n (Stops k out) s = s
 shown p input n (Reaches out) s = s
 
-only_one : (p : Checked) (input : List ℤ) (n : ℕ) (b : Done) → ((f : Fate (Unit {0})) → Body p input f → Comes n b f) → (v : Verdict) → IsOutcome p input n v → v ≡ verdict_at b
+only_one : (p : Checked) (input : List ℤ) (n : ℕ) (b : Done) → ((f : Fate (Unit {0})) → Body p input f → Comes n b f) → (v : Verdict) →
+    IsOutcome p input n v → v ≡ verdict_at b
 only_one p input n b c (Ended out mem) is =
     let e : b ≡ Goes tt is.0 = c (Ends tt is.0) is.1 is.2 in
     ap (λ o. Ended o mem) (sym is.3) ∙ ap (λ o. Ended is.0.output o) (sym is.4) ∙ sym (ap verdict_at e)
@@ -30,9 +31,11 @@ one_outcome p input n = record {
 }
 
 -- what a bounded run of the body comes to is the outcome
-pub outcome_is : (p : Checked) (input : List ℤ) (n : ℕ) (b : Done) → perform_list p n p.body (opening p input) ≡ b → IsOutcome p input n (verdict_at b)
+pub outcome_is : (p : Checked) (input : List ℤ) (n : ℕ) (b : Done) → perform_list p n p.body (opening p input) ≡ b →
+    IsOutcome p input n (verdict_at b)
 outcome_is p input n b e =
-    subst (λ (b : Done). IsOutcome p input n (verdict_at b)) e (shown p input n (body_done p input n) ((agree_list p n p.body).shows (opening p input) (omega arith)))
+    subst (λ (b : Done). IsOutcome p input n (verdict_at b)) e
+        (shown p input n (body_done p input n) ((agree_list p n p.body).shows (opening p input) (omega arith)))
 
 pub outcome_is_computed : OutcomeIsComputed
 outcome_is_computed p input n v = (

@@ -5,7 +5,8 @@ use Rattle.std.specs.List.{fold, flat_map}
 use Rattle.pram_meaning.specs.declared.part as part
 use Rattle.pram_meaning.specs.declared.attempt as rust
 use Rattle.pram_meaning.specs.Attempt.{Trail}
-use Rattle.pram_meaning.specs.Conflict.{Part, conflict_of, fault_of, keys, least, lesser, read_conflicts, reads_of, trail_of, write_conflict}
+use Rattle.pram_meaning.specs.Conflict.{Part, conflict_of, fault_of, keys, least, lesser, read_conflicts, reads_of, trail_of}
+use Rattle.pram_meaning.specs.Conflict.{write_conflict}
 use Rattle.write_rules.specs.Rule.{shares_reads}
 use Rattle.pram_meaning.specs.Judging.{attempt_is, part_is}
 use Rattle.pram_meaning.specs.declared.key.Key.{Key}
@@ -25,19 +26,24 @@ faults = flat_map (λ x. fault_of x.processor x.attempt)
 abbrev writes : Rule → List Part → List Key
 writes rule xs = flat_map (λ x. write_conflict rule xs x.attempt) xs
 
-keys_split : (rule : Rule) (xs : List Part) → least (keys rule xs) ≡ fold lesser (fold lesser (fold lesser None (faults xs)) (read_conflicts rule (reads_of xs))) (writes rule xs)
+keys_split : (rule : Rule) (xs : List Part) →
+    least (keys rule xs) ≡ fold lesser (fold lesser (fold lesser None (faults xs)) (read_conflicts rule (reads_of xs))) (writes rule xs)
 keys_split rule xs =
     fold-append lesser None (faults xs ++ read_conflicts rule (reads_of xs)) (writes rule xs)
     ∙ ap (λ k. fold lesser k (writes rule xs)) (fold-append lesser None (faults xs) (read_conflicts rule (reads_of xs)))
 
-pub keys_are : (rule : Rule) (xs : List Part) (a b c : Option Key) → shares_reads rule ≡ false → a ≡ fold lesser None (faults xs) → b ≡ fold lesser a (flat_map (conflict_of (reads_of xs)) (reads_of xs)) → c ≡ fold lesser b (writes rule xs) → c ≡ least (keys rule xs)
+pub keys_are : (rule : Rule) (xs : List Part) (a b c : Option Key) → shares_reads rule ≡ false → a ≡ fold lesser None (faults xs) →
+    b ≡ fold lesser a (flat_map (conflict_of (reads_of xs)) (reads_of xs)) → c ≡ fold lesser b (writes rule xs) → c ≡ least (keys rule xs)
 keys_are rule xs a b c sh ea eb ec =
-    let r : read_conflicts rule (reads_of xs) ≡ flat_map (conflict_of (reads_of xs)) (reads_of xs) = ap (λ z. if z then [] else flat_map (conflict_of (reads_of xs)) (reads_of xs)) sh in
+    let r : read_conflicts rule (reads_of xs) ≡ flat_map (conflict_of (reads_of xs)) (reads_of xs) =
+        ap (λ z. if z then [] else flat_map (conflict_of (reads_of xs)) (reads_of xs)) sh in
     ec
-    ∙ ap (λ k. fold lesser k (writes rule xs)) (eb ∙ ap (λ k. fold lesser k (flat_map (conflict_of (reads_of xs)) (reads_of xs))) ea ∙ ap (fold lesser (fold lesser None (faults xs))) (sym r))
+    ∙ ap (λ k. fold lesser k (writes rule xs)) (eb ∙ ap (λ k. fold lesser k (flat_map (conflict_of (reads_of xs)) (reads_of xs))) ea
+        ∙ ap (fold lesser (fold lesser None (faults xs))) (sym r))
     ∙ sym (keys_split rule xs)
 
-pub keys_are_shared : (rule : Rule) (xs : List Part) (a c : Option Key) → shares_reads rule ≡ true → a ≡ fold lesser None (faults xs) → c ≡ fold lesser a (writes rule xs) → c ≡ least (keys rule xs)
+pub keys_are_shared : (rule : Rule) (xs : List Part) (a c : Option Key) → shares_reads rule ≡ true → a ≡ fold lesser None (faults xs) →
+    c ≡ fold lesser a (writes rule xs) → c ≡ least (keys rule xs)
 keys_are_shared rule xs a c sh ea ec =
     let r : read_conflicts rule (reads_of xs) ≡ [] = ap (λ z. if z then [] else flat_map (conflict_of (reads_of xs)) (reads_of xs)) sh in
     ec

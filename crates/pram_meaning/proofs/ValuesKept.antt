@@ -40,7 +40,8 @@ use Rattle.pram_meaning.specs.Values.{StatementsKeepValues, StepsKeepValues}
 use Rattle.pram_meaning.proofs.OneOutcome.{outcome_is_computed}
 use Rattle.pram_meaning.proofs.SoundValues.{AreNumbers, IsSound, WritesValue, all_append, all_set, numbers_first}
 use Rattle.pram_meaning.proofs.SoundValues.{numbers_rest, written_sound, zero_is, zeros_are}
-use Rattle.pram_meaning.proofs.ValuesOfAttempts.{IfGives, SeesValues, attempt_gives, value_gives, assign_gives, step_gives, bounds_give, range_gives}
+use Rattle.pram_meaning.proofs.ValuesOfAttempts.{IfGives, SeesValues, attempt_gives, value_gives, assign_gives, step_gives, bounds_give}
+use Rattle.pram_meaning.proofs.ValuesOfAttempts.{range_gives}
 
 -- ---- runs
 

@@ -1,5 +1,6 @@
 -- The writes of a statement as a list of accesses.
-use Rattle.std.proofs.Common.{◌≡◌, ℕ, ℤ, pos, ◌≤◌, List, [], ◌∷◌, ◌++◌, map, length, append-nil, nat_eq, Option, Some, None, if◌then◌else◌, refl, ap, ◌∙◌}
+use Rattle.std.proofs.Common.{◌≡◌, ℕ, ℤ, pos, ◌≤◌, List, [], ◌∷◌, ◌++◌, map, length, append-nil, nat_eq, Option, Some, None, if◌then◌else◌}
+use Rattle.std.proofs.Common.{refl, ap, ◌∙◌}
 use Rattle.std.proofs.lemmas.List.{map-append}
 use Rattle.std.proofs.lemmas.Grind.{flat_map-append}
 use Rattle.std.specs.List.{fold, flat_map}
@@ -30,25 +31,30 @@ same_writes c (x ∷ xs) =
 
 -- ---- what the rule says against them
 
-cell_verdict : (rule : Rule) (xs : List Part) (at : ℕ) (w : Write) (c : Option ℕ) → flat_map key_of (map (judged_in rule (writes_made xs)) (access_to at c w)) ≡ cell_conflict rule xs at c
+cell_verdict : (rule : Rule) (xs : List Part) (at : ℕ) (w : Write) (c : Option ℕ) →
+    flat_map key_of (map (judged_in rule (writes_made xs)) (access_to at c w)) ≡ cell_conflict rule xs at c
 cell_verdict rule xs at w None = refl
 cell_verdict rule xs at w (Some c) =
     append-nil (value_key at c (written rule (pos 0) (writes_for c (writes_made xs))))
     ∙ ap (λ ws. value_key at c (written rule (pos 0) ws)) (same_writes c xs)
 
-one_verdict : (rule : Rule) (xs : List Part) (i : ℤ) (a : Attempt Effect) → flat_map key_of (map (judged_in rule (writes_made xs)) (made_by i a)) ≡ write_conflict rule xs a
+one_verdict : (rule : Rule) (xs : List Part) (i : ℤ) (a : Attempt Effect) →
+    flat_map key_of (map (judged_in rule (writes_made xs)) (made_by i a)) ≡ write_conflict rule xs a
 one_verdict rule xs i (Gives t x) = cell_verdict rule xs (length t) (record { processor = i; value = x.value }) x.cell
 one_verdict rule xs i (Fails t k) = refl
 
-verdicts_are : (rule : Rule) (xs ys : List Part) → flat_map key_of (map (judged_in rule (writes_made xs)) (writes_made ys)) ≡ flat_map (λ x. write_conflict rule xs x.attempt) ys
+verdicts_are : (rule : Rule) (xs ys : List Part) →
+    flat_map key_of (map (judged_in rule (writes_made xs)) (writes_made ys)) ≡ flat_map (λ x. write_conflict rule xs x.attempt) ys
 verdicts_are rule xs [] = refl
 verdicts_are rule xs (y ∷ ys) =
     ap (flat_map key_of) (map-append (judged_in rule (writes_made xs)) (made_by y.processor y.attempt) (writes_made ys))
-    ∙ flat_map-append key_of (map (judged_in rule (writes_made xs)) (made_by y.processor y.attempt)) (map (judged_in rule (writes_made xs)) (writes_made ys))
+    ∙ flat_map-append key_of (map (judged_in rule (writes_made xs)) (made_by y.processor y.attempt))
+        (map (judged_in rule (writes_made xs)) (writes_made ys))
     ∙ ap (λ ks. ks ++ flat_map key_of (map (judged_in rule (writes_made xs)) (writes_made ys))) (one_verdict rule xs y.processor y.attempt)
     ∙ ap (λ ks. write_conflict rule xs y.attempt ++ ks) (verdicts_are rule xs ys)
 
-pub verdicts_end : (rule : Rule) (xs : List Part) (items : List Judged) (i : ℕ) (start now : Option Key) → InEach key_of items i start now → items ≡ judged rule (writes_made xs) → length items ≤ i → now ≡ fold lesser start (flat_map (λ x. write_conflict rule xs x.attempt) xs)
+pub verdicts_end : (rule : Rule) (xs : List Part) (items : List Judged) (i : ℕ) (start now : Option Key) → InEach key_of items i start now →
+    items ≡ judged rule (writes_made xs) → length items ≤ i → now ≡ fold lesser start (flat_map (λ x. write_conflict rule xs x.attempt) xs)
 verdicts_end rule xs items i start now b is h =
     each_ends key_of items i start now b h
     ∙ ap (λ js. fold lesser start (flat_map key_of js)) is

@@ -1,5 +1,6 @@
 -- What processors do to cells in a statement, as a list, and what a write rule says to it.
-use Rattle.std.specs.Prelude.{◌+◌, max, Ok, Err, Bool, false, slice_index_or, ℕ, ℤ, List, [], ◌∷◌, map, length, pos, nat_eq, if◌then◌else◌, Option, Some, None}
+use Rattle.std.specs.Prelude.{◌+◌, max, Ok, Err, Bool, false, slice_index_or, ℕ, ℤ, List, [], ◌∷◌, map, length, pos, nat_eq, if◌then◌else◌}
+use Rattle.std.specs.Prelude.{Option, Some, None}
 use Rattle.std.specs.List.{flat_map}
 use Rattle.pram_model.specs.declared.rule.Rule.{Rule}
 use Rattle.pram_values.specs.declared.kind.Kind.TheVariants.{ReadConflict}
@@ -71,4 +72,5 @@ is_only_reader i (Err k) = false
 -- what is said against a read
 abbrev pub shared_key : Judged → List Key
 shared_key j =
-    if is_only_reader j.access.write.processor j.verdict then [] else record { at = j.access.at; place = Cell j.access.cell; kind = ReadConflict } ∷ []
+    if is_only_reader j.access.write.processor j.verdict then [] else record { at = j.access.at; place = Cell j.access.cell;
+        kind = ReadConflict } ∷ []

@@ -4,7 +4,8 @@ use Rattle.pram_model.specs.Layout.{cell_of, width}
 use Rattle.pram_values.specs.declared.kind.Kind.{Kind}
 use Rattle.pram_values.specs.declared.kind.Kind.TheVariants.{OutOfRange, TooWide}
 use Rattle.pram_values.specs.Value.{Value}
-use Rattle.pram_names.specs.declared.body.Expression.{Expression, Number, Uniform, Index, Local, Cell, Element', Prefix', Chain', Row_of-Link, end_of-Link, more_of-Link}
+use Rattle.pram_names.specs.declared.body.Expression.{Expression, Number, Uniform, Index, Local, Cell, Element', Prefix', Chain'}
+use Rattle.pram_names.specs.declared.body.Expression.{Row_of-Link, end_of-Link, more_of-Link}
 use Rattle.pram_names.specs.declared.body.Target.{Target}
 use Rattle.pram_names.specs.declared.body.Target.TheVariants as target
 use Rattle.pram_names.specs.declared.body.StepTarget.{StepTarget}

@@ -3,7 +3,8 @@ use Rattle.std.specs.Prelude.{Result, Ok, Err, ℕ, zero, suc, ◌+◌, List, []
 use Rattle.pram_model.specs.Layout.{width}
 use Rattle.pram_check.specs.Checked.{Checked}
 use Rattle.pram_names.specs.declared.body.Expression.{Expression}
-use Rattle.pram_names.specs.declared.body.Statement.{Statement, Assign, Print, While', If', For', Pardo, Row_of-Statement, end_of-Statement, more_of-Statement}
+use Rattle.pram_names.specs.declared.body.Statement.{Statement, Assign, Print, While', If', For', Pardo, Row_of-Statement, end_of-Statement}
+use Rattle.pram_names.specs.declared.body.Statement.{more_of-Statement}
 use Rattle.pram_names.specs.declared.body.Target.{Target}
 use Rattle.pram_names.specs.declared.body.StepTarget.{StepTarget}
 use Rattle.pram_names.specs.declared.body.Step as step

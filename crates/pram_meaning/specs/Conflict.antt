@@ -1,7 +1,8 @@
 -- The faults of a statement on a set of processors: their own faults, and conflicts between them.
 -- Exclusive reads: JáJá, An Introduction to Parallel Algorithms, chapter 1 (the EREW PRAM). Positions and the order of faults are
 -- this project's own profile.
-use Rattle.std.specs.Prelude.{◌≡◌, Ok, Err, ℕ, ◌+◌, List, [], ◌∷◌, ◌++◌, Bool, false, not, ◌&&◌, ◌||◌, if◌then◌else◌, ℤ, pos, Option, Some, None, nat_eq, nat_lt, length}
+use Rattle.std.specs.Prelude.{◌≡◌, Ok, Err, ℕ, ◌+◌, List, [], ◌∷◌, ◌++◌, Bool, false, not, ◌&&◌, ◌||◌, if◌then◌else◌, ℤ, pos, Option, Some}
+use Rattle.std.specs.Prelude.{None, nat_eq, nat_lt, length}
 use Rattle.std.specs.List.{fold, flat_map, list_any, All, Contains}
 use Rattle.pram_model.specs.declared.rule.Rule.{Rule}
 use Rattle.pram_values.specs.declared.kind.Kind.TheVariants.{ReadConflict}
@@ -87,7 +88,8 @@ write_conflict rule xs (Fails t k) = []
 -- all faults of a statement
 abbrev pub keys : Rule → List Part → List Key
 keys rule xs =
-    flat_map (λ x. fault_of x.processor x.attempt) xs ++ read_conflicts rule (reads_of xs) ++ flat_map (λ x. write_conflict rule xs x.attempt) xs
+    flat_map (λ x. fault_of x.processor x.attempt) xs ++ read_conflicts rule (reads_of xs)
+        ++ flat_map (λ x. write_conflict rule xs x.attempt) xs
 
 -- the order of faults: the least position; there a processor's own fault before a conflict, since processors come before cells,
 -- the least processor, the least cell

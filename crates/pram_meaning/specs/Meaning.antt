@@ -5,7 +5,8 @@ use Rattle.std.specs.Prelude.{◌≡◌, ℕ, zero, suc, ◌+◌, List, [], ◌�
 use Rattle.pram_model.specs.Layout.{width}
 use Rattle.pram_check.specs.Checked.{Checked}
 use Rattle.pram_names.specs.declared.body.Expression.{Expression}
-use Rattle.pram_names.specs.declared.body.Statement.{Statement, Assign, Print, While', If', For', Pardo, Row_of-Statement, end_of-Statement, more_of-Statement}
+use Rattle.pram_names.specs.declared.body.Statement.{Statement, Assign, Print, While', If', For', Pardo, Row_of-Statement, end_of-Statement}
+use Rattle.pram_names.specs.declared.body.Statement.{more_of-Statement}
 use Rattle.pram_names.specs.declared.body.Step as step
 use Rattle.pram_names.specs.declared.body.Step.{Step, Row_of-Step, end_of-Step, more_of-Step}
 use Rattle.pram_values.specs.Truth.{is_nonzero}
@@ -71,7 +72,8 @@ Turns (suc k) Test Body m =
 abbrev pub ForTurns : ℕ → ℕ → ℤ → (State → Does) → State → Does
 ForTurns zero x a Body m = IsEnd tt m
 ForTurns (suc k) x a Body m =
-    Then (Unit {0}) (Unit {0}) (Begins m) (λ u m. Then (Unit {0}) (Unit {0}) (Body (with_uniform x a m)) (λ u. ForTurns k x (a +ℤ pos 1) Body))
+    Then (Unit {0}) (Unit {0}) (Begins m) (λ u m. Then (Unit {0}) (Unit {0}) (Body (with_uniform x a m))
+        (λ u. ForTurns k x (a +ℤ pos 1) Body))
 
 -- ---- inside pardo: a set of processors acts
 
@@ -88,7 +90,8 @@ abbrev pub TurnsOn : ℕ → (List ℕ → State → Fates (List Part)) → (Lis
 TurnsOn zero Test Body vs m = λ f. ⊥
 TurnsOn (suc k) Test Body vs m =
     Then (List Part) (Unit {0}) (Test vs m) (λ xs m.
-    UnlessNone (those true xs) (IsEnd tt m) (Then (Unit {0}) (Unit {0}) (Body (those true xs) m) (λ u. TurnsOn k Test Body (those true xs))))
+    UnlessNone (those true xs) (IsEnd tt m)
+        (Then (Unit {0}) (Unit {0}) (Body (those true xs) m) (λ u. TurnsOn k Test Body (those true xs))))
 
 abbrev mutual
   -- a statement inside pardo, on the members vs
@@ -98,7 +101,8 @@ abbrev mutual
   MeansOn p (step.If' line e q then_part r else_part) vs m =
       Then (List Part) (Unit {0}) (AttemptedOn p line (λ s. attempt_value s e) vs m) (λ xs m.
       Then (Unit {0}) (Unit {0}) (MeansRowOn p then_part (those true xs) m) (λ u. MeansRowOn p else_part (those false xs)))
-  MeansOn p (step.While' line e q body) vs m = λ f. (k : ℕ) × TurnsOn k (AttemptedOn p line (λ s. attempt_value s e)) (MeansRowOn p body) vs m f
+  MeansOn p (step.While' line e q body) vs m = λ f. (k : ℕ)
+      × TurnsOn k (AttemptedOn p line (λ s. attempt_value s e)) (MeansRowOn p body) vs m f
 
   -- statements in order
   pub MeansRowOn : Checked → {k : _} → Row_of-Step k → List ℕ → State → Does
@@ -118,13 +122,15 @@ PardoDone p locals body a k m =
 abbrev mutual
   -- a statement outside pardo
   pub Means : Checked → Statement → State → Does
-  Means p (Assign line x e) m = Then Effect (Unit {0}) (Evaluated line (λ m. attempt_assign (seen p m) x e) m) (λ g m. IsEnd tt (assigned x g m))
+  Means p (Assign line x e) m = Then Effect (Unit {0}) (Evaluated line (λ m. attempt_assign (seen p m) x e) m)
+      (λ g m. IsEnd tt (assigned x g m))
   Means p (Print line e) m = Then ℤ (Unit {0}) (Evaluated line (λ m. attempt (seen p m) e []) m) (λ v m. IsEnd tt (printed v m))
   Means p (While' line e q body) m = λ f. (k : ℕ) × Turns k (Tested p line e) (MeansRow p body) m f
   Means p (If' line e q then_part r else_part) m =
       Then Bool (Unit {0}) (Tested p line e m) (λ z m. Either z (MeansRow p then_part m) (MeansRow p else_part m))
   Means p (For' line x e f q body) m =
-      Then (ℤ × ℤ) (Unit {0}) (Evaluated line (λ m. attempt_bounds (seen p m) e f) m) (λ r. ForTurns (width r.0 r.1) x r.0 (MeansRow p body))
+      Then (ℤ × ℤ) (Unit {0}) (Evaluated line (λ m. attempt_bounds (seen p m) e f) m)
+          (λ r. ForTurns (width r.0 r.1) x r.0 (MeansRow p body))
   Means p (Pardo line e f locals body) m =
       Then (ℤ × ℕ) (Unit {0}) (Evaluated line (λ m. attempt_range p.procs (seen p m) e f) m) (λ r. PardoDone p locals body.items r.0 r.1)
 

@@ -1,7 +1,8 @@
 -- What each operator gives (this project's own profile).
 use Rattle.std.specs.Prelude.{Ok, not, ◌&&◌, ◌||◌, ℤ, ◌+ℤ◌, ◌-ℤ◌, ◌*ℤ◌, neg_ℤ, int_lt, int_le}
 use Rattle.pram_tokens.specs.declared.token.Binary.{Binary}
-use Rattle.pram_tokens.specs.declared.token.Binary.TheVariants.{Or, And, Equal, Unequal, Less, AtMost, Greater, AtLeast, Add, Subtract, Multiply, Divide, Remainder}
+use Rattle.pram_tokens.specs.declared.token.Binary.TheVariants.{Or, And, Equal, Unequal, Less, AtMost, Greater, AtLeast, Add, Subtract}
+use Rattle.pram_tokens.specs.declared.token.Binary.TheVariants.{Multiply, Divide, Remainder}
 use Rattle.pram_syntax.specs.declared.tree.Prefix.{Prefix}
 use Rattle.pram_syntax.specs.declared.tree.Prefix.TheVariants.{Negate, Not}
 use Rattle.pram_values.specs.Value.{Value, checked}

@@ -1,7 +1,8 @@
 -- The text of lists, item by item.
 use Rattle.std.proofs.lemmas.Bool.Decides.{nat_tests}
 use Rattle.std.specs.Bool.{if◌then◌else◌}
-use Rattle.std.proofs.Common.{◌≤◌, ◌-◌, nat_lt, true, false, arith, ◌≡◌, ◌<◌, ◌+◌, ◌++◌, ◌∙◌, ◌∷◌, [], List, ℕ, ap, sym, subst, append_assoc, drop, get_or, length, codes, slice_get, take}
+use Rattle.std.proofs.Common.{◌≤◌, ◌-◌, nat_lt, true, false, arith, ◌≡◌, ◌<◌, ◌+◌, ◌++◌, ◌∙◌, ◌∷◌, [], List, ℕ, ap, sym, subst}
+use Rattle.std.proofs.Common.{append_assoc, drop, get_or, length, codes, slice_get, take}
 use Rattle.std.specs.Prelude.{ℤ, Option, Some, None, IfSome}
 use Rattle.std.proofs.lemmas.Option.{slice_get-get_or}
 use Rattle.pram_model.specs.Layout.{SharedEntry, size}
@@ -47,14 +48,18 @@ entry_at layout i below =
     (get_or layout i none, slice_get-get_or layout i none below, drop_more layout i none below)
 
 -- what is known of the declaration at i
-pub known_at : (layout : List SharedEntry) (i : ℕ) (e : SharedEntry) (P : SharedEntry → Type 0) → slice_get layout i ≡ Some e → IfSome (slice_get layout i) P → P e
+pub known_at : (layout : List SharedEntry) (i : ℕ) (e : SharedEntry) (P : SharedEntry → Type 0) → slice_get layout i ≡ Some e →
+    IfSome (slice_get layout i) P → P e
 known_at layout i e P found known = subst (λ o. IfSome o P) found known
 
 -- the lines of the declarations from i on
-pub memory_at : (layout : List SharedEntry) (i : ℕ) (rest values others : List ℤ) (name : List ℕ) (bounds : Option (ℤ × ℤ)) (count : ℕ) → i < length layout
-    → IfSome (slice_get layout i) (λ e. name ≡ e.name) → IfSome (slice_get layout i) (λ e. bounds ≡ e.bounds) → IfSome (slice_get layout i) (λ e. count ≡ size e.bounds)
+pub memory_at : (layout : List SharedEntry) (i : ℕ) (rest values others : List ℤ) (name : List ℕ) (bounds : Option (ℤ × ℤ)) (count : ℕ) →
+    i < length layout
+    → IfSome (slice_get layout i) (λ e. name ≡ e.name) → IfSome (slice_get layout i) (λ e. bounds ≡ e.bounds) →
+        IfSome (slice_get layout i) (λ e. count ≡ size e.bounds)
     → values ≡ take count rest → others ≡ drop count rest
-    → memory_lines (drop i layout) rest ≡ entry_line record { name = name; bounds = bounds } values ++ memory_lines (drop (i + 1) layout) others
+    → memory_lines (drop i layout) rest ≡ entry_line record { name = name; bounds = bounds } values
+        ++ memory_lines (drop (i + 1) layout) others
 memory_at layout i rest values others name bounds count below named bounded counted first behind =
     let (e, found, split) = entry_at layout i below in
     let named' = known_at layout i e (λ e. name ≡ e.name) found named in
@@ -76,7 +81,8 @@ cell_here layout i k count P below counted inside written =
     let counted' = known_at layout i e (λ e. count ≡ size e.bounds) found counted in
     let written' = known_at layout i e (λ e. P (e.name ++ subscript_text e.bounds k)) found written in
     let here : nat_lt k (size e.bounds) ≡ true = grind (arith, nat_tests, inside, counted') in
-    subst P (sym (ap (λ l. cell_text l k) split ∙ ap (λ b. if b then e.name ++ subscript_text e.bounds k else cell_text (drop (i + 1) layout) (k - size e.bounds)) here)) written'
+    subst P (sym (ap (λ l. cell_text l k) split
+        ∙ ap (λ b. if b then e.name ++ subscript_text e.bounds k else cell_text (drop (i + 1) layout) (k - size e.bounds)) here)) written'
 
 -- a cell behind those of the declaration at i
 pub cell_behind : (layout : List SharedEntry) (i k count : ℕ) → i < length layout

@@ -1,5 +1,6 @@
 -- How an outcome is written: each output item on a line, then how the run came out.
-use Rattle.std.specs.Prelude.{ℕ, ◌-◌, nat_lt, ℤ, pos, ◌+ℤ◌, List, [], ◌∷◌, ◌++◌, Option, Some, None, if◌then◌else◌, codes, take, drop, decimal}
+use Rattle.std.specs.Prelude.{ℕ, ◌-◌, nat_lt, ℤ, pos, ◌+ℤ◌, List, [], ◌∷◌, ◌++◌, Option, Some, None, if◌then◌else◌, codes, take, drop}
+use Rattle.std.specs.Prelude.{decimal}
 use Rattle.std.specs.Fmt.{signed_decimal}
 use Rattle.pram_model.specs.Layout.{SharedEntry, size}
 use Rattle.pram_values.specs.declared.kind.Kind.{Kind}
@@ -62,7 +63,8 @@ place_text layout (place.Cell c) = cell_text layout c
 
 -- `fault read-conflict a[1] line 4`
 abbrev pub fault_text : List SharedEntry → Fault → List ℕ
-fault_text layout f = codes "fault " ++ (kind_text f.kind ++ (codes " " ++ (place_text layout f.place ++ (codes " line " ++ decimal f.line))))
+fault_text layout f = codes "fault "
+    ++ (kind_text f.kind ++ (codes " " ++ (place_text layout f.place ++ (codes " line " ++ decimal f.line))))
 
 -- what `show` writes
 abbrev pub shown : List SharedEntry → Verdict → List ℕ

@@ -12,16 +12,20 @@ use Rattle.pramc.specs.declared.stop.Stop.TheVariants.{WriteFailed}
 use Rattle.pramc_command.specs.Answered.{Answers, IsStopped, IsTold, Tells}
 
 -- a beginning of the text, and the writer failed
-pub cut_off : (status : Status) (old new : OutState) (text : List ℕ) → Tells status text → StopsIn old new text → Answers old new (Err WriteFailed)
+pub cut_off : (status : Status) (old new : OutState) (text : List ℕ) → Tells status text → StopsIn old new text →
+    Answers old new (Err WriteFailed)
 cut_off status old new text tells stops = record { status = status; text = text; tells = tells; stops = stops }
 
 -- the writer failed behind the text
-behind : (status : Status) (old mid new : OutState) (text : List ℕ) → Tells status text → mid ≡ with_bytes old text → new ≡ with_failure mid → IsStopped WriteFailed old new
+behind : (status : Status) (old mid new : OutState) (text : List ℕ) → Tells status text → mid ≡ with_bytes old text →
+    new ≡ with_failure mid → IsStopped WriteFailed old new
 behind status old mid new text tells written failed =
-    cut_off status old new text tells (record { front = text; rest = []; whole = sym (append-nil text); stopped = failed ∙ ap with_failure written })
+    cut_off status old new text tells (record { front = text; rest = []; whole = sym (append-nil text); stopped =
+        failed ∙ ap with_failure written })
 
 -- all of the text, and what the last flush said
-pub told : (status : Status) (old mid new : OutState) (text : List ℕ) (r : Result Status Stop) → Tells status text → mid ≡ with_bytes old text
+pub told : (status : Status) (old mid new : OutState) (text : List ℕ) (r : Result Status Stop) → Tells status text →
+    mid ≡ with_bytes old text
     → IfOk r (λ s. (s ≡ status) × (new ≡ mid)) → IfErr r (λ stop. (stop ≡ WriteFailed) × (new ≡ with_failure mid)) → Answers old new r
 told status old mid new text (Ok s) tells written ok failed =
     subst (λ s. IsTold s old new) (sym ok.0) (record { text = text; tells = tells; written = ok.1 ∙ written })

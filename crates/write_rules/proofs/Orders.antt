@@ -1,5 +1,6 @@
 -- Writers that come in another order.
-use Rattle.std.proofs.Common.{zero, suc, ◌≡◌, ◌<◌, ℕ, List, [], ◌∷◌, map, fold, length, get_or, set, Option, Some, None, refl, ap, sym, ◌∙◌, true, false, arith}
+use Rattle.std.proofs.Common.{zero, suc, ◌≡◌, ◌<◌, ℕ, List, [], ◌∷◌, map, fold, length, get_or, set, Option, Some, None, refl, ap, sym, ◌∙◌}
+use Rattle.std.proofs.Common.{true, false, arith}
 use Rattle.std.proofs.lemmas.List.Edits.{swap_is}
 use Rattle.std.proofs.lemmas.List.Sorted.{IsPermutation-keeps, IsPermutation-map}
 use Rattle.std.specs.List.Sorted.{IsPermutation}
@@ -47,7 +48,8 @@ module _ (rule : Rule) (c : Combining) (carries : Carries rule c) where
   folded a (b ∷ rest) = folded (c.join a b) rest ∙ associates (Some a) (Some b) (all_of rest)
 
   -- an entry in the place of another
-  replaced : (l : List Entry) (i : ℕ) (v d : Entry) → i < length l → both (Some (get_or l i d)) (all_of (set l i v)) ≡ both (Some v) (all_of l)
+  replaced : (l : List Entry) (i : ℕ) (v d : Entry) → i < length l → both (Some (get_or l i d)) (all_of (set l i v)) ≡ both (Some v)
+      (all_of l)
   replaced [] i v d h = absurd (omega arith)
   replaced (a ∷ l) zero v d h = exchanged (Some a) (Some v) (all_of l)
   replaced (a ∷ l) (suc i) v d h =
@@ -56,7 +58,8 @@ module _ (rule : Rule) (c : Combining) (carries : Carries rule c) where
       ∙ exchanged (Some a) (Some v) (all_of l)
 
   -- two entries that change places
-  changed : (l : List Entry) (i j : ℕ) (d : Entry) → i < length l → j < length l → all_of (set (set l i (get_or l j d)) j (get_or l i d)) ≡ all_of l
+  changed : (l : List Entry) (i j : ℕ) (d : Entry) → i < length l → j < length l →
+      all_of (set (set l i (get_or l j d)) j (get_or l i d)) ≡ all_of l
   changed [] i j d h k = absurd (omega arith)
   changed (a ∷ l) zero zero d h k = refl
   changed (a ∷ l) zero (suc j) d h k = replaced l j a d (omega arith)
@@ -75,7 +78,8 @@ module _ (rule : Rule) (c : Combining) (carries : Carries rule c) where
   joined_any w v ws vs p =
       let one : Write → Entry = λ x. c.single x.processor x.value in
       let q = IsPermutation-map one (w ∷ ws) (v ∷ vs) p in
-      ap (λ e. or_else e (one w)) (folded (one w) (map one ws) ∙ sym (reordered (map one (w ∷ ws)) (map one (v ∷ vs)) (one w) q) ∙ sym (folded (one v) (map one vs)))
+      ap (λ e. or_else e (one w)) (folded (one w) (map one ws) ∙ sym (reordered (map one (w ∷ ws)) (map one (v ∷ vs)) (one w) q)
+          ∙ sym (folded (one v) (map one vs)))
 
 pub joined_again : (rule : Rule) (c : Combining) → Carries rule c → (w v : Write) (ws vs : List Write)
     → IsPermutation (w ∷ ws) (v ∷ vs) → joined c w ws ≡ joined c v vs

@@ -1,5 +1,6 @@
 -- How the writers of one cell are combined, two by two and in any order (this project's own profile).
-use Rattle.std.specs.Prelude.{◌≡◌, ◌≢◌, refl, List, ◌∷◌, map, Bool, true, false, not, ◌&&◌, ◌||◌, if◌then◌else◌, Err, ℤ, ◌+ℤ◌, int_lt, int_le, FitsSigned}
+use Rattle.std.specs.Prelude.{◌≡◌, ◌≢◌, refl, List, ◌∷◌, map, Bool, true, false, not, ◌&&◌, ◌||◌, if◌then◌else◌, Err, ℤ, ◌+ℤ◌, int_lt}
+use Rattle.std.specs.Prelude.{int_le, FitsSigned}
 use Rattle.std.specs.List.{fold, All, AllPairs}
 use Rattle.std.specs.Int.{w64, w128, int_wrap}
 use Rattle.pram_model.specs.declared.rule.Rule.{Rule}
@@ -69,7 +70,8 @@ priority = record { single = entry_of; join = first_of false; verdict = λ a. ch
 abbrev pub summed : Combining
 summed = record {
   single = entry_of;
-  join = λ a b. record { owner = if int_le a.owner b.owner then a.owner else b.owner; value = int_wrap w128 (a.value +ℤ b.value); clash = false };
+  join = λ a b. record { owner = if int_le a.owner b.owner then a.owner else b.owner; value = int_wrap w128 (a.value +ℤ b.value); clash =
+      false };
   verdict = λ a. checked a.value;
 }
 

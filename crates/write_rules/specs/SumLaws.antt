@@ -1,5 +1,7 @@
 -- Writes that are summed carry their rule.
-use Rattle.std.proofs.Common.{◌≡◌, ◌≢◌, ◌⊎◌, inl, inr, ℕ, suc, ◌+◌, ◌-◌, ◌*◌, ◌^◌, ◌<◌, ◌≤◌, List, [], ◌∷◌, map, fold, length, get_or, eqb, ◌||◌, true, false, if◌then◌else◌, ℤ, pos, negsuc, neg_ℤ, ◌+ℤ◌, ◌≤ℤ◌, ◌<ℤ◌, int_le, ap, sym, ◌∙◌, subst, FitsSigned, All, AllPairs, arith}
+use Rattle.std.proofs.Common.{◌≡◌, ◌≢◌, ◌⊎◌, inl, inr, ℕ, suc, ◌+◌, ◌-◌, ◌*◌, ◌^◌, ◌<◌, ◌≤◌, List, [], ◌∷◌, map, fold, length, get_or, eqb}
+use Rattle.std.proofs.Common.{◌||◌, true, false, if◌then◌else◌, ℤ, pos, negsuc, neg_ℤ, ◌+ℤ◌, ◌≤ℤ◌, ◌<ℤ◌, int_le, ap, sym, ◌∙◌, subst}
+use Rattle.std.proofs.Common.{FitsSigned, All, AllPairs, arith}
 use Rattle.std.specs.Int.{w64, w128, int_wrap}
 use Rattle.std.proofs.lemmas.Int.{ints, int_wrap_fits, int_wrap-add_left, int_wrap-add_right}
 use Rattle.std.proofs.lemmas.List.{length-map, get_or-map}
@@ -16,7 +18,9 @@ use Rattle.write_rules.specs.Combining.{entry_of, AreWriters, Carries, summed}
 
 -- ---- joining
 
-least_associates : (x y z : ℤ) → (if int_le (if int_le x y then x else y) z then (if int_le x y then x else y) else z) ≡ (if int_le x (if int_le y z then y else z) then x else (if int_le y z then y else z))
+least_associates : (x y z : ℤ) →
+    (if int_le (if int_le x y then x else y) z then (if int_le x y then x else y) else z) ≡ (if int_le x (if int_le y z then y else z) then
+    x else (if int_le y z then y else z))
 least_associates x y z = grind (arith, ints)
 
 least_commutes : (x y : ℤ) → (if int_le x y then x else y) ≡ (if int_le y x then y else x)
@@ -64,14 +68,17 @@ abbrev AreFit : List Write → Type 0
 AreFit = All (λ w. FitsSigned w64 w.processor × FitsSigned w64 w.value)
 
 abbrev SumIs : List Write → Type 0
-SumIs vs = (k : ℕ) (a : Entry) → IsWithin k a.value → k + length vs ≤ 2 ^ 64 → AreFit vs → (fold summed.join a (map (λ v. entry_of v.processor v.value) vs)).value ≡ a.value +ℤ sum_of vs
+SumIs vs = (k : ℕ) (a : Entry) → IsWithin k a.value → k + length vs ≤ 2 ^ 64 → AreFit vs →
+    (fold summed.join a (map (λ v. entry_of v.processor v.value) vs)).value ≡ a.value +ℤ sum_of vs
 
 sum_is : (vs : List Write) → SumIs vs
 sum_is [] k a h l f = omega (arith, ints)
 sum_is (v ∷ vs) k a h l f =
     let g : IsWithin (suc k) (a.value +ℤ v.value) = more_within k a.value v.value h (f 0 v (omega arith)).1 in
-    let e : int_wrap w128 (a.value +ℤ v.value) ≡ a.value +ℤ v.value = int_wrap_fits w128 (a.value +ℤ v.value) (within_fits (suc k) (a.value +ℤ v.value) g (omega arith) (omega arith)) in
-    sum_is vs (suc k) (summed.join a (entry_of v.processor v.value)) (subst (IsWithin (suc k)) (sym e) g) (omega arith) (λ i d m. f (suc i) d (omega arith))
+    let e : int_wrap w128 (a.value +ℤ v.value) ≡ a.value +ℤ v.value =
+        int_wrap_fits w128 (a.value +ℤ v.value) (within_fits (suc k) (a.value +ℤ v.value) g (omega arith) (omega arith)) in
+    sum_is vs (suc k) (summed.join a (entry_of v.processor v.value)) (subst (IsWithin (suc k)) (sym e) g) (omega arith)
+        (λ i d m. f (suc i) d (omega arith))
     ∙ ap (λ z. z +ℤ sum_of vs) e
     ∙ omega (arith, ints)
 
@@ -98,14 +105,16 @@ one_number y z f g e = let a = number_is y f in let b = number_is z g in omega (
 abbrev numbers : List Write → List ℕ
 numbers = map (λ w. number w.processor)
 
-below_by : (q n : ℕ) (ns : List ℕ) → n < 2 ^ 64 → (list_any (eqb q) ns ≡ true → q < 2 ^ 64) → list_any (eqb q) (n ∷ ns) ≡ true → ((eqb q n ≡ true) × (q ≡ n)) ⊎ ((eqb q n ≡ false) × (q ≢ n)) → q < 2 ^ 64
+below_by : (q n : ℕ) (ns : List ℕ) → n < 2 ^ 64 → (list_any (eqb q) ns ≡ true → q < 2 ^ 64) → list_any (eqb q) (n ∷ ns) ≡ true →
+    ((eqb q n ≡ true) × (q ≡ n)) ⊎ ((eqb q n ≡ false) × (q ≢ n)) → q < 2 ^ 64
 below_by q n ns b rest h (inl e) = let k : q ≡ n = e.1 in omega arith
 below_by q n ns b rest h (inr e) = rest (sym (ap (λ c. c || list_any (eqb q) ns) e.0) ∙ h)
 
 numbers_below : (ws : List Write) → AreFit ws → (q : ℕ) → list_any (eqb q) (numbers ws) ≡ true → q < 2 ^ 64
 numbers_below [] f q h = absurd (cc h)
 numbers_below (w ∷ ws) f q h =
-    below_by q (number w.processor) (numbers ws) (number_below w.processor (f 0 w (omega arith)).0) (numbers_below ws (λ i d m. f (suc i) d (omega arith)) q) h (eqb_tells q (number w.processor))
+    below_by q (number w.processor) (numbers ws) (number_below w.processor (f 0 w (omega arith)).0)
+        (numbers_below ws (λ i d m. f (suc i) d (omega arith)) q) h (eqb_tells q (number w.processor))
 
 nobody : Write
 nobody = record { processor = pos 0; value = pos 0 }
@@ -113,19 +122,26 @@ nobody = record { processor = pos 0; value = pos 0 }
 numbers_apart : (ws : List Write) → AreWriters ws → AllPairs (λ x y. x ≢ y) (numbers ws)
 numbers_apart ws h i j d a b e =
     let l : length (numbers ws) ≡ length ws = length-map ws (λ w. number w.processor) in
-    let first : get_or (numbers ws) i d ≡ number (get_or ws i nobody).processor = get_or-map (λ w. number w.processor) ws i nobody d (omega arith) in
-    let second : get_or (numbers ws) j d ≡ number (get_or ws j nobody).processor = get_or-map (λ w. number w.processor) ws j nobody d (omega arith) in
-    h.apart i j nobody a (omega arith) (one_number (get_or ws i nobody).processor (get_or ws j nobody).processor (h.fit i nobody (omega arith)).0 (h.fit j nobody (omega arith)).0 (sym first ∙ e ∙ second))
+    let first : get_or (numbers ws) i d ≡ number (get_or ws i nobody).processor =
+        get_or-map (λ w. number w.processor) ws i nobody d (omega arith) in
+    let second : get_or (numbers ws) j d ≡ number (get_or ws j nobody).processor =
+        get_or-map (λ w. number w.processor) ws j nobody d (omega arith) in
+    h.apart i j nobody a (omega arith) (one_number (get_or ws i nobody).processor (get_or ws j nobody).processor
+        (h.fit i nobody (omega arith)).0 (h.fit j nobody (omega arith)).0 (sym first ∙ e ∙ second))
 
 few : (ws : List Write) → AreWriters ws → length ws ≤ 2 ^ 64
 few ws h =
     let l : length (numbers ws) ≡ length ws = length-map ws (λ w. number w.processor) in
-    let m : length (numbers ws) ≤ 2 ^ 64 = length-le_from_distinct_below (numbers ws) (2 ^ 64) (IsDistinct-from_AllPairs {eq = eqb} Decides-eqb (numbers ws) (numbers_apart ws h)) (numbers_below ws h.fit) in
+    let m : length (numbers ws) ≤ 2 ^ 64 =
+        length-le_from_distinct_below (numbers ws) (2 ^ 64) (IsDistinct-from_AllPairs {eq =
+        eqb} Decides-eqb (numbers ws) (numbers_apart ws h)) (numbers_below ws h.fit) in
     omega arith
 
 pub summed_carries : Carries Sum summed
 summed_carries = record {
-  associative = λ a b e j. record { owner = least_associates a.owner b.owner e.owner j; value = wraps_associate a.value b.value e.value j; clash = false };
+  associative = λ a b e j. record { owner = least_associates a.owner b.owner e.owner j; value = wraps_associate a.value b.value e.value j;
+      clash = false };
   commutative = λ a b j. record { owner = least_commutes a.owner b.owner j; value = wraps_commute a.value b.value j; clash = false };
-  meets = λ w ws h. ap checked (sum_is ws 1 (entry_of w.processor w.value) (one_within w.value (h.fit 0 w (omega arith)).1) (let k : suc (length ws) ≤ 2 ^ 64 = few (w ∷ ws) h in omega arith) (λ i d m. h.fit (suc i) d (omega arith)));
+  meets = λ w ws h. ap checked (sum_is ws 1 (entry_of w.processor w.value) (one_within w.value (h.fit 0 w (omega arith)).1)
+      (let k : suc (length ws) ≤ 2 ^ 64 = few (w ∷ ws) h in omega arith) (λ i d m. h.fit (suc i) d (omega arith)));
 }

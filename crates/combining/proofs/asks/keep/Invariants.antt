@@ -10,5 +10,6 @@ invariant-loop-i g l =
       within : l.n ≤ length l.words;
       long : length l.asked ≡ length l.fn.asked;
       rest : drop l.i l.asked ≡ drop l.i l.fn.asked;
-      all : take l.i (paired ask_at l.keys l.asked) ++ replied at l.part (drop l.n l.words) (drop l.i (paired ask_at l.keys l.fn.asked)) ≡ replied at l.part l.words (paired ask_at l.keys l.fn.asked);
+      all : take l.i (paired ask_at l.keys l.asked) ++ replied at l.part (drop l.n l.words)
+          (drop l.i (paired ask_at l.keys l.fn.asked)) ≡ replied at l.part l.words (paired ask_at l.keys l.fn.asked);
     }

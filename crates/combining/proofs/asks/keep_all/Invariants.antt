@@ -13,6 +13,7 @@ invariant-loop-i g l =
       size : length l.taken ≡ 32;
       long : length l.asked ≡ length l.fn.asked;
       rest : drop l.i l.asked ≡ drop l.i l.fn.asked;
-      all : take l.i (paired ask_at l.keys l.asked) ++ all_replied at 0 (left l.taken 0 replies) (drop l.i (paired ask_at l.keys l.fn.asked))
+      all : take l.i (paired ask_at l.keys l.asked) ++ all_replied at 0 (left l.taken 0 replies)
+          (drop l.i (paired ask_at l.keys l.fn.asked))
           ≡ all_replied at 0 replies (paired ask_at l.keys l.fn.asked);
     }

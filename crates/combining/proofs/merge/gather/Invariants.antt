@@ -11,6 +11,7 @@ invariant-loop-words g l =
     let rule = g.R.WriteRule.rule l.rule in
     record {
       long : length l.entries ≡ length l.fn.entries;
-      gathered : (whole : ℕ → Option Entry) → Gathers m l.part (join rule) whole l.fn.entries (entry_read rule m l.part (map (λ x. x.now) l.columns))
+      gathered : (whole : ℕ → Option Entry) →
+          Gathers m l.part (join rule) whole l.fn.entries (entry_read rule m l.part (map (λ x. x.now) l.columns))
           → Gathers m l.part (join rule) whole l.entries (entry_read rule m l.part (map (λ x. x.now) (drop l.words-index l.columns)));
     }

@@ -11,7 +11,8 @@ invariant-loop-put g l =
     let rule = g.R.WriteRule.rule l.rule in
     record {
       long : length l.entries ≡ length l.fn.entries;
-      gathered : (whole rest : ℕ → Option Entry) → Gathers m l.part (join rule) whole l.fn.entries (λ c. join rule (entry_of_column rule m l.part c l.words) (rest c))
+      gathered : (whole rest : ℕ → Option Entry) →
+          Gathers m l.part (join rule) whole l.fn.entries (λ c. join rule (entry_of_column rule m l.part c l.words) (rest c))
           → Gathers m l.part (join rule) whole l.entries (λ c. join rule (entry_of_column rule m l.part c l.rest) (rest c));
     }
 

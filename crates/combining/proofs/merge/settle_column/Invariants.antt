@@ -13,8 +13,11 @@ invariant-loop-put g l =
     record {
       as_many : length l.entries ≡ length l.fn.entries;
       long : length l.values ≡ length l.fn.values;
-      notes : (start rest : ℕ → Option Entry) → Notes m l.part (λ x. refusal (verdict_on rule x)) start l.fn.entries l.fn.before (λ c. join rule (entry_of_column rule m l.part c l.words) (rest c))
-          → Notes m l.part (λ x. refusal (verdict_on rule x)) start l.entries l.noted (λ c. join rule (entry_of_column rule m l.part c l.rest) (rest c));
+      notes : (start rest : ℕ → Option Entry) →
+          Notes m l.part (λ x. refusal (verdict_on rule x)) start l.fn.entries l.fn.before
+          (λ c. join rule (entry_of_column rule m l.part c l.words) (rest c))
+          → Notes m l.part (λ x. refusal (verdict_on rule x)) start l.entries l.noted
+              (λ c. join rule (entry_of_column rule m l.part c l.rest) (rest c));
       owes : (due : ℕ → ℤ) → Owes m rule l.part due l.fn.entries l.fn.values → Owes m rule l.part due l.entries l.values;
     }
 

@@ -9,6 +9,7 @@ invariant-loop-words g l =
     let m = g.M.AddressMap.shape l.map in
     record {
       long : length l.askers ≡ length l.fn.askers;
-      gathered : (whole : ℕ → Option Bool) → Gathers m l.part several whole l.fn.askers (askers_read m l.part (map (λ x. x.now) l.columns) l.k)
+      gathered : (whole : ℕ → Option Bool) →
+          Gathers m l.part several whole l.fn.askers (askers_read m l.part (map (λ x. x.now) l.columns) l.k)
           → Gathers m l.part several whole l.askers (askers_read m l.part (map (λ x. x.now) (drop l.words-index l.columns)) l.k);
     }

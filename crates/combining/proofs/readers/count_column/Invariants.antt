@@ -9,7 +9,8 @@ invariant-loop-ask g l =
     let m = g.M.AddressMap.shape l.map in
     record {
       long : length l.askers ≡ length l.fn.askers;
-      gathered : (whole rest : ℕ → Option Bool) → Gathers m l.part several whole l.fn.askers (λ c. several (askers_of_column m l.part l.k c l.words) (rest c))
+      gathered : (whole rest : ℕ → Option Bool) →
+          Gathers m l.part several whole l.fn.askers (λ c. several (askers_of_column m l.part l.k c l.words) (rest c))
           → Gathers m l.part several whole l.askers (λ c. several (askers_of_column m l.part l.k c l.rest) (rest c));
     }
 

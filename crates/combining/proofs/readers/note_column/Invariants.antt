@@ -10,7 +10,8 @@ invariant-loop-ask g l =
     let m = g.M.AddressMap.shape l.map in
     record {
       long : length l.askers ≡ length l.fn.askers;
-      notes : (start rest : ℕ → Option Bool) → Notes m l.part shared start l.fn.askers l.fn.before (λ c. several (askers_of_column m l.part l.k c l.words) (rest c))
+      notes : (start rest : ℕ → Option Bool) →
+          Notes m l.part shared start l.fn.askers l.fn.before (λ c. several (askers_of_column m l.part l.k c l.words) (rest c))
           → Notes m l.part shared start l.askers l.noted (λ c. several (askers_of_column m l.part l.k c l.rest) (rest c));
     }
 

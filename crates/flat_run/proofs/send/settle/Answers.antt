@@ -15,7 +15,8 @@ cells-preserved c =
     let held = c.args.held.now.items in
     let old = c.cells.memory.items in
     rw (to_z-of_z w64 c.settled.result c.settled.ensures.fits)
-    (settles_go rule held c.args.memory.now.items old c.cells.c c.settled.result c.cells.invariant (omega (arith, c.cells-test.true, c.len.ensures, c.requires))
+    (settles_go rule held c.args.memory.now.items old c.cells.c c.settled.result c.cells.invariant
+        (omega (arith, c.cells-test.true, c.len.ensures, c.requires))
     (c.settled.ensures.value
     ∙ ap (settled c.verdict_on.result) (to_z-of_z w64 c.value_at.result c.value_at.ensures.fits ∙ c.value_at.ensures.value
     ∙ ap (λ values. registers_of values c.cells.c) c.deref.ensures.value)
@@ -23,5 +24,6 @@ cells-preserved c =
     ∙ ap (verdict_on rule) (held_is held c.cells.c c.index.result.now (omega (arith, c.cells-test.true, c.len.ensures)) c.index.ensures))))
 
 pub returns-clause-each : goal.returns-clause-each
-returns-clause-each c = λ k. settles_end c.args.rule c.args.held.now.items c.args.memory.now.items c.cells.memory.items c.cells.c c.cells.invariant
+returns-clause-each c = λ k. settles_end c.args.rule c.args.held.now.items c.args.memory.now.items c.cells.memory.items c.cells.c
+    c.cells.invariant
     (omega (arith, c.cells-test.false, c.len.ensures)) k

@@ -1,4 +1,5 @@
-use Rattle.std.proofs.Common.{◌≡◌, ◌<◌, ◌+◌, ◌%◌, ◌^◌, ◌∷◌, length, ℕ, take, drop, sym, ap, ◌∙◌, subst, arith, true, false, length-take-le, get_or}
+use Rattle.std.proofs.Common.{◌≡◌, ◌<◌, ◌+◌, ◌%◌, ◌^◌, ◌∷◌, length, ℕ, take, drop, sym, ap, ◌∙◌, subst, arith, true, false, length-take-le}
+use Rattle.std.proofs.Common.{get_or}
 use Rattle.std.proofs.lemmas.List.{get_or_default}
 use Rattle.std.proofs.lemmas.Bool.{eq-eqb, ne_eqb}
 use Rattle.combining.specs.Asked.{HeldAsks, ask_at, IsAskBelow}
@@ -15,7 +16,8 @@ place-requires g c =
     let xs = c.self.inside.asked.items in
     let n : length xs ≡ length ks = c.self.invariant.1 in
     let l : c.loop-i.i < length ks = (let v = c.self.inside.asked.ok.0 in omega arith) in
-    rw (c.cell_of.ensures, c.keys-keys.ensures.keys) (all_keys ask_at (IsAskBelow m.count) (λ k. k % 2 ^ 20 < m.count) (λ k x h. h) ks xs c.loop-i.i n l (rw (← c.self.view_is) at c.requires.cells))
+    rw (c.cell_of.ensures, c.keys-keys.ensures.keys) (all_keys ask_at (IsAskBelow m.count) (λ k. k % 2 ^ 20 < m.count) (λ k x h. h) ks xs
+        c.loop-i.i n l (rw (← c.self.view_is) at c.requires.cells))
 
 pub write_ask-n-requires : goal.write_ask-n-requires
 write_ask-n-requires g c =
@@ -29,9 +31,12 @@ write_ask-n-requires g c =
     let p : k ≡ get_or ks i k = ap (λ w. get_or w i 0) c.keys-keys.ensures.keys ∙ get_or_default ks i 0 k l in
     let held = c.args.self.now.held in
     let x = c.index.result.now in
-    let more : drop i held ≡ ask_at k x ∷ drop (i + 1) held = rw (← c.self.view_is) (paired_more ask_at ks xs i k x n l p c.index.ensures) in
-    let yes : mine (ask_at k x) ≡ true = eq-eqb _ _ (sym (c.place.ensures.part ∙ ap (g.M.AddressMap.shape c.args.map.now).part c.cell_of.ensures) ∙ c.if-place-part.true) in
-    let r = pack_room words_of mine held i (ask_at k x) more (take c.loop-i.n c.loop-i.out) (packed words_of mine held) c.loop-i.invariant.all c.loop-i.n yes (length-take-le c.loop-i.n c.loop-i.out c.loop-i.invariant.within) in
+    let more : drop i held ≡ ask_at k x ∷ drop (i + 1) held =
+        rw (← c.self.view_is) (paired_more ask_at ks xs i k x n l p c.index.ensures) in
+    let yes : mine (ask_at k x) ≡ true =
+        eq-eqb _ _ (sym (c.place.ensures.part ∙ ap (g.M.AddressMap.shape c.args.map.now).part c.cell_of.ensures) ∙ c.if-place-part.true) in
+    let r = pack_room words_of mine held i (ask_at k x) more (take c.loop-i.n c.loop-i.out) (packed words_of mine held)
+        c.loop-i.invariant.all c.loop-i.n yes (length-take-le c.loop-i.n c.loop-i.out c.loop-i.invariant.within) in
     let w = ap length (words_for (g.M.AddressMap.shape c.args.map.now).part c.args.part held) in
     let long = c.requires.long in
     let q = c.loop-i.invariant.long in
@@ -52,21 +57,30 @@ loop-i-preserved g c =
     elim c.if-place-part.branch [
       | then-place-part w ↦
           (let x = w.index.result.now in
-          let more : drop i held ≡ ask_at k x ∷ drop (i + 1) held = rw (← c.self.view_is) (paired_more ask_at ks xs i k x n l p w.index.ensures) in
-          let yes : mine (ask_at k x) ≡ true = eq-eqb _ _ (sym (c.place.ensures.part ∙ ap (g.M.AddressMap.shape c.args.map.now).part c.cell_of.ensures) ∙ w.if-place-part.true) in
-          let room = pack_room words_of mine held i (ask_at k x) more before (packed words_of mine held) c.loop-i.invariant.all c.loop-i.n yes (length-take-le c.loop-i.n c.loop-i.out c.loop-i.invariant.within) in
+          let more : drop i held ≡ ask_at k x ∷ drop (i + 1) held =
+              rw (← c.self.view_is) (paired_more ask_at ks xs i k x n l p w.index.ensures) in
+          let yes : mine (ask_at k x) ≡ true =
+              eq-eqb _ _ (sym (c.place.ensures.part ∙ ap (g.M.AddressMap.shape c.args.map.now).part c.cell_of.ensures)
+              ∙ w.if-place-part.true) in
+          let room = pack_room words_of mine held i (ask_at k x) more before (packed words_of mine held) c.loop-i.invariant.all c.loop-i.n
+              yes (length-take-le c.loop-i.n c.loop-i.out c.loop-i.invariant.within) in
           let all = ap length (words_for (g.M.AddressMap.shape c.args.map.now).part c.args.part held) in
           rw (w.out-is, w.n-is)
           (record {
-            within = (let e = w.write_ask-n.ensures.length in let f = w.write_ask-n.ensures.count in let h = c.requires.long in let q = c.loop-i.invariant.long in omega arith);
+            within = (let e = w.write_ask-n.ensures.length in let f = w.write_ask-n.ensures.count in let h = c.requires.long in let q =
+                c.loop-i.invariant.long in omega arith);
             long = w.write_ask-n.ensures.length ∙ c.loop-i.invariant.long;
             all = pack_yes words_of mine held i (ask_at k x) more before _ c.loop-i.invariant.all _ yes w.write_ask-n.ensures.done;
-            rest = w.write_ask-n.ensures.rest ∙ subst (λ (m : ℕ). drop m c.loop-i.out ≡ drop m c.args.out.now) (sym w.write_ask-n.ensures.count) (drop_further c.loop-i.out c.args.out.now c.loop-i.n 1 c.loop-i.invariant.rest);
+            rest = w.write_ask-n.ensures.rest
+                ∙ subst (λ (m : ℕ). drop m c.loop-i.out ≡ drop m c.args.out.now) (sym w.write_ask-n.ensures.count)
+                (drop_further c.loop-i.out c.args.out.now c.loop-i.n 1 c.loop-i.invariant.rest);
           }))
       | else-place-part w ↦
           (let there = item_at ask_at ks xs i k n l p in
           let more : drop i held ≡ ask_at k there.0 ∷ drop (i + 1) held = rw (← c.self.view_is) there.1 in
-          let not_mine : mine (ask_at k there.0) ≡ false = ne_eqb _ _ (λ e. w.if-place-part.false (c.place.ensures.part ∙ ap (g.M.AddressMap.shape c.args.map.now).part c.cell_of.ensures ∙ e)) in
+          let not_mine : mine (ask_at k there.0) ≡ false =
+              ne_eqb _ _ (λ e. w.if-place-part.false (c.place.ensures.part ∙ ap (g.M.AddressMap.shape c.args.map.now).part c.cell_of.ensures
+              ∙ e)) in
           rw (w.out-is, w.n-is)
           (record {
             within = c.loop-i.invariant.within;
@@ -81,7 +95,8 @@ returns-clause-words g c =
     let at = (g.M.AddressMap.shape c.args.map.now).part in
     let n = length_paired ask_at c.self.inside.index.keys c.self.inside.asked.items c.self.invariant.1 in
     let h = ap (λ (v : HeldAsks). length v.held) c.self.view_is in
-    pack_end words_of (is_for at c.args.part) c.args.self.now.held c.loop-i.i _ _ (let v = c.self.inside.asked.ok.0 in omega arith) c.loop-i.invariant.all ∙ sym (words_for at c.args.part c.args.self.now.held)
+    pack_end words_of (is_for at c.args.part) c.args.self.now.held c.loop-i.i _ _ (let v = c.self.inside.asked.ok.0 in
+        omega arith) c.loop-i.invariant.all ∙ sym (words_for at c.args.part c.args.self.now.held)
 
 pub returns-clause-count : goal.returns-clause-count
 returns-clause-count g c =

@@ -10,6 +10,7 @@ invariant-loop-i g l =
     let m = g.M.AddressMap.shape l.map in
     record {
       rooms : map vec_capacity l.columns ≡ map vec_capacity l.fn.columns;
-      got : (j : ℕ) → j < m.parts → column (map (λ v. v.items) l.columns) j ++ packed_for words_of (λ (x : HeldAsk). m.part x.ask.cell) j (drop l.i l.self.held)
+      got : (j : ℕ) → j < m.parts → column (map (λ v. v.items) l.columns) j
+          ++ packed_for words_of (λ (x : HeldAsk). m.part x.ask.cell) j (drop l.i l.self.held)
           ≡ column (map (λ v. v.items) l.fn.columns) j ++ packed_for words_of (λ (x : HeldAsk). m.part x.ask.cell) j l.self.held;
     }

@@ -1,4 +1,5 @@
-use Rattle.std.proofs.Common.{◌≡◌, ◌<◌, ◌+◌, ◌∷◌, length, ℕ, take, drop, sym, ap, ◌∙◌, subst, arith, true, false, length-take-le, get_or, eqb}
+use Rattle.std.proofs.Common.{◌≡◌, ◌<◌, ◌+◌, ◌∷◌, length, ℕ, take, drop, sym, ap, ◌∙◌, subst, arith, true, false, length-take-le, get_or}
+use Rattle.std.proofs.Common.{eqb}
 use Rattle.std.proofs.lemmas.List.{get_or_default}
 use Rattle.std.proofs.lemmas.Bool.{eq-eqb, ne_eqb}
 use Rattle.superstep_machine.specs.Words.{CellPut, put_words}
@@ -18,7 +19,8 @@ place-requires g c =
     let xs = c.self.inside.entries.items in
     let n : length xs ≡ length ks = c.self.invariant.1 in
     let l : c.loop-i.i < length ks = (let v = c.self.inside.entries.ok.0 in omega arith) in
-    rw c.keys-keys.ensures.keys (all_keys put_at (IsPutBelow m.count) (λ k. k < m.count) (λ k x h. h) ks xs c.loop-i.i n l (rw (← c.self.view_is) at c.requires.cells))
+    rw c.keys-keys.ensures.keys (all_keys put_at (IsPutBelow m.count) (λ k. k < m.count) (λ k x h. h) ks xs c.loop-i.i n l
+        (rw (← c.self.view_is) at c.requires.cells))
 
 pub write_put-n-requires-clause-room : goal.write_put-n-requires-clause-room
 write_put-n-requires-clause-room g c =
@@ -33,10 +35,12 @@ write_put-n-requires-clause-room g c =
     let p : k ≡ get_or ks i k = ap (λ w. get_or w i 0) c.keys-keys.ensures.keys ∙ get_or_default ks i 0 k l in
     let held = c.args.self.now.held in
     let x = c.index.result.now in
-    let more : drop i held ≡ put_at k x ∷ drop (i + 1) held = rw (← c.self.view_is) (paired_more put_at ks xs i k x n l p c.index.ensures) in
+    let more : drop i held ≡ put_at k x ∷ drop (i + 1) held =
+        rw (← c.self.view_is) (paired_more put_at ks xs i k x n l p c.index.ensures) in
     let yes : mine (put_at k x) ≡ true = eq-eqb _ _ (sym c.place.ensures.part ∙ c.if-place-part.true) in
     let before = take c.loop-i.n c.loop-i.out in
-    let r = pack_room (put_words rule) mine held i (put_at k x) more before (packed_puts rule (g.M.AddressMap.shape c.args.map.now).part c.args.part held) c.loop-i.invariant.all c.loop-i.n yes (length-take-le c.loop-i.n c.loop-i.out c.loop-i.invariant.within) in
+    let r = pack_room (put_words rule) mine held i (put_at k x) more before (packed_puts rule (g.M.AddressMap.shape c.args.map.now).part
+        c.args.part held) c.loop-i.invariant.all c.loop-i.n yes (length-take-le c.loop-i.n c.loop-i.out c.loop-i.invariant.within) in
     let w = put_long rule (put_at k x) in
     omega arith
 
@@ -71,16 +75,22 @@ loop-i-preserved g c =
     elim c.if-place-part.branch [
       | then-place-part w ↦
           (let x = w.index.result.now in
-          let more : drop i held ≡ put_at k x ∷ drop (i + 1) held = rw (← c.self.view_is) (paired_more put_at ks xs i k x n l p w.index.ensures) in
+          let more : drop i held ≡ put_at k x ∷ drop (i + 1) held =
+              rw (← c.self.view_is) (paired_more put_at ks xs i k x n l p w.index.ensures) in
           let yes : mine (put_at k x) ≡ true = eq-eqb _ _ (sym c.place.ensures.part ∙ w.if-place-part.true) in
-          let room = pack_room (put_words rule) mine held i (put_at k x) more before (packed_puts rule (g.M.AddressMap.shape c.args.map.now).part c.args.part held) c.loop-i.invariant.all c.loop-i.n yes (length-take-le c.loop-i.n c.loop-i.out c.loop-i.invariant.within) in
+          let room = pack_room (put_words rule) mine held i (put_at k x) more before
+              (packed_puts rule (g.M.AddressMap.shape c.args.map.now).part c.args.part held) c.loop-i.invariant.all c.loop-i.n yes
+              (length-take-le c.loop-i.n c.loop-i.out c.loop-i.invariant.within) in
           let long = put_long rule (put_at k x) in
           rw (w.out-is, w.n-is)
           (record {
-            within = (let e = w.write_put-n.ensures.length in let f = w.write_put-n.ensures.count in let h = c.requires.long in let q = c.loop-i.invariant.long in omega arith);
+            within = (let e = w.write_put-n.ensures.length in let f = w.write_put-n.ensures.count in let h = c.requires.long in let q =
+                c.loop-i.invariant.long in omega arith);
             long = w.write_put-n.ensures.length ∙ c.loop-i.invariant.long;
             all = pack_yes (put_words rule) mine held i (put_at k x) more before _ c.loop-i.invariant.all _ yes w.write_put-n.ensures.done;
-            rest = w.write_put-n.ensures.rest ∙ subst (λ (m : ℕ). drop m c.loop-i.out ≡ drop m c.args.out.now) (sym w.write_put-n.ensures.count) (drop_further c.loop-i.out c.args.out.now c.loop-i.n (put_length rule) c.loop-i.invariant.rest);
+            rest = w.write_put-n.ensures.rest
+                ∙ subst (λ (m : ℕ). drop m c.loop-i.out ≡ drop m c.args.out.now) (sym w.write_put-n.ensures.count)
+                (drop_further c.loop-i.out c.args.out.now c.loop-i.n (put_length rule) c.loop-i.invariant.rest);
           }))
       | else-place-part w ↦
           (let there = item_at put_at ks xs i k n l p in
@@ -101,7 +111,8 @@ returns-clause-words g c =
     let mine = λ (x : CellPut). eqb ((g.M.AddressMap.shape c.args.map.now).part x.cell) c.args.part in
     let n = length_paired put_at c.self.inside.index.keys c.self.inside.entries.items c.self.invariant.1 in
     let h = ap (λ (v : HeldPuts). length v.held) c.self.view_is in
-    pack_end (put_words rule) mine c.args.self.now.held c.loop-i.i _ _ (let v = c.self.inside.entries.ok.0 in omega arith) c.loop-i.invariant.all
+    pack_end (put_words rule) mine c.args.self.now.held c.loop-i.i _ _ (let v = c.self.inside.entries.ok.0 in
+        omega arith) c.loop-i.invariant.all
 
 pub returns-clause-count : goal.returns-clause-count
 returns-clause-count g c =

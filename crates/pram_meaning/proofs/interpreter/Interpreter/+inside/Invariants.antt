@@ -5,10 +5,14 @@ use Rattle.pram_meaning.proofs.SetLoops.{InTurns}
 use Rattle.pram_meaning.proofs.interpreter.Interpreter.+inside.Given as goal
 
 abbrev pub invariant-run_block_on-loop-s : goal.invariant-run_block_on-loop-s
-invariant-run_block_on-loop-s l = InBlock l.self.program.now l.self.bound l.s-items l.active.items l.s-index (state_in l.fn.run l.fn.team.items) (state_in l.run l.team.items)
+invariant-run_block_on-loop-s l =
+    InBlock l.self.program.now l.self.bound l.s-items l.active.items l.s-index (state_in l.fn.run l.fn.team.items)
+    (state_in l.run l.team.items)
 
 abbrev pub invariant-run_while_on-turns : goal.invariant-run_while_on-turns
-invariant-run_while_on-turns l = InTurns l.self.program.now l.self.bound l.line l.test l.body.items l.active.items (state_in l.fn.run l.fn.team.items) l.current.items (state_in l.run l.team.items)
+invariant-run_while_on-turns l =
+    InTurns l.self.program.now l.self.bound l.line l.test l.body.items l.active.items (state_in l.fn.run l.fn.team.items) l.current.items
+    (state_in l.run l.team.items)
 
 abbrev pub decreases-run_while_on-turns : goal.decreases-run_while_on-turns
 decreases-run_while_on-turns l = l.self.bound - l.run.count

@@ -14,7 +14,8 @@ abbrev pub decreases-run_while-turns : goal.decreases-run_while-turns
 decreases-run_while-turns l = l.self.bound - l.run.count
 
 abbrev pub invariant-run_turns-turns : goal.invariant-run_turns-turns
-invariant-run_turns-turns l = InFor l.self.program.now l.self.bound l.variable l.body.items l.numbers.next l.numbers.last (state_of l.fn.run) l.left.next l.left.last (state_of l.run)
+invariant-run_turns-turns l = InFor l.self.program.now l.self.bound l.variable l.body.items l.numbers.next l.numbers.last
+    (state_of l.fn.run) l.left.next l.left.last (state_of l.run)
 
 abbrev pub decreases-run_turns-turns : goal.decreases-run_turns-turns
 decreases-run_turns-turns l = l.self.bound - l.run.count

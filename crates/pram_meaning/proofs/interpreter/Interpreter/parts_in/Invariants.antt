@@ -4,4 +4,5 @@ use Rattle.pram_meaning.proofs.Sets.{InParts}
 use Rattle.pram_meaning.proofs.interpreter.Interpreter.parts_in.Given as goal
 
 abbrev pub invariant-loop-v : goal.invariant-loop-v
-invariant-loop-v l = InParts l.self.program.now (state_in l.run l.team.items) (λ s. attempt_step s l.target l.e) l.v-items l.v-index l.all.items
+invariant-loop-v l = InParts l.self.program.now (state_in l.run l.team.items) (λ s. attempt_step s l.target l.e) l.v-items l.v-index
+    l.all.items
