@@ -24,9 +24,11 @@ odd_power a (suc i) odd =
     let o = odd_power a i odd in
     let s : suc i ≡ i + 1 = omega arith in
     let e : a ^ (2 ^ suc i) ≡ a ^ (2 ^ i) * a ^ (2 ^ i) = ap (λ k. a ^ (2 ^ k)) s ∙ squared a i in
-    let w : 2 ^ (suc i + 1) ≡ 2 ^ (i + 1) + 2 ^ (i + 1) = ap (λ k. 2 ^ (k + 1)) s ∙ doubled (i + 1) in
-    (o.0 * o.0 * 2 ^ i + o.0, e ∙ ap (λ y. y * y) o.1 ∙ square_one o.0 (2 ^ i) (2 ^ (i + 1)) (doubled i)
-        ∙ ap (λ y. (o.0 * o.0 * 2 ^ i + o.0) * y + 1) (sym w))
+    let w : 2 ^ (suc i + 1) ≡ 2 ^ (i + 1) + 2 ^ (i + 1) = ap (λ k. 2 ^ (k + 1)) s ∙ doubled (i + 1) in (
+      o.0 * o.0 * 2 ^ i + o.0,
+      e ∙ ap (λ y. y * y) o.1 ∙ square_one o.0 (2 ^ i) (2 ^ (i + 1)) (doubled i)
+          ∙ ap (λ y. (o.0 * o.0 * 2 ^ i + o.0) * y + 1) (sym w),
+    )
 
 -- an odd number to the power 2 ^ i leaves 1 below 2 ^ i
 pub odd_one : (a i : ℕ) → a % 2 ≡ 1 → a ^ (2 ^ i) % 2 ^ i ≡ 1 % 2 ^ i

@@ -54,12 +54,12 @@ made_starts k given made long = record { long = long; same = refl; undone = tt; 
 pub made_goes : (k : ℕ) (given : List (ℕ × ℕ)) (made : List Round) (i : ℕ) (d : ℕ × ℕ) (r : Round) → Made k given made i →
     i < length given → length given ≤ 8
     → numbers_of r ≡ get_or given i d → IsRound (numbers_of r) → (r.multiplier * r.inverse) % k ≡ 1 % k →
-        Made k given (set made i r) (i + 1)
+    Made k given (set made i r) (i + 1)
 made_goes k given made i d r m below few is shape unit =
     let room : i < length made = (let l = m.long in omega arith) in
     let more : take (i + 1) (set made i r) ≡ take i made ++ r ∷ [] = take_more_set made i r room in
     let next : take (i + 1) given ≡ take i given ++ numbers_of r ∷ [] = take_more given i d below
-        ∙ ap (λ p. take i given ++ p ∷ []) (sym is) in
+    ∙ ap (λ p. take i given ++ p ∷ []) (sym is) in
     record {
       long = length-set made i r ∙ m.long;
       same = ap (map numbers_of) more ∙ map-append numbers_of (take i made) (r ∷ []) ∙ ap (λ l. l ++ numbers_of r ∷ []) m.same ∙ sym next;

@@ -32,7 +32,7 @@ pub rounds_inverse : (e : ℕ) (rs : List Round) → e ≤ 20 → AllByRecursion
 rounds_inverse e [] small undone = same_inverse (2 ^ e)
 rounds_inverse e (r ∷ rs) small undone =
     inverse_after (2 ^ e) (round (2 ^ e) r.multiplier r.shift) (round_back (2 ^ e) r.inverse r.shift) (rounds_of (2 ^ e) rs)
-        (rounds_back (2 ^ e) rs)
+    (rounds_back (2 ^ e) rs)
     (round_inverse e r.multiplier r.inverse r.shift small undone.0.least (pow_pos e) undone.0.unit) (rounds_inverse e rs small undone.1)
 
 -- the same for a number that is a power of two

@@ -28,7 +28,7 @@ turned : (s t y : ℕ) → shifted s (shifted t y) ≡ shifted t (shifted s y)
 turned s t y =
     let e : t + s ≡ s + t = omega arith in
     twice_shifted s t y ∙ mixed y (y / 2 ^ t) (y / 2 ^ s) (y / 2 ^ (t + s))
-        ∙ ap (λ k. bit_xor (bit_xor y (y / 2 ^ s)) (bit_xor (y / 2 ^ t) (y / 2 ^ k))) e ∙ sym (twice_shifted t s y)
+    ∙ ap (λ k. bit_xor (bit_xor y (y / 2 ^ s)) (bit_xor (y / 2 ^ t) (y / 2 ^ k))) e ∙ sym (twice_shifted t s y)
 
 xor_gone : (a b c : ℕ) → bit_xor a a ≡ 0 → bit_xor (bit_xor b a) (bit_xor a c) ≡ bit_xor b c
 xor_gone a b c self = xor_assoc b a (bit_xor a c) ∙ ap (bit_xor b) (sym (xor_assoc a a c) ∙ ap (λ x. bit_xor x c) self ∙ xor_zero_l c)

@@ -133,8 +133,10 @@ module _ (t : Setting) (formed : IsWellFormed t.code) where
           stays_within t.code place i ≡ true → IsStopped (at i)
       step Send is a b = (leads_within t.code place Send a b (place + 1) refl, not_past n place x.uniform.count fuel Send is a b)
       step Reply is a b = (leads_within t.code place Reply a b (place + 1) refl, not_past n place x.uniform.count fuel Reply is a b)
-      step (Vote v) is a b = (leads_within t.code place (Vote v) a b (place + 1) refl,
-          not_past n place x.uniform.count fuel (Vote v) is a b)
+      step (Vote v) is a b = (
+        leads_within t.code place (Vote v) a b (place + 1) refl,
+        not_past n place x.uniform.count fuel (Vote v) is a b,
+      )
       step Halt is a b = tt
       step (Mark line) is a b = go (eqb x.uniform.count t.bound) refl
         where
@@ -157,7 +159,7 @@ module _ (t : Setting) (formed : IsWellFormed t.code) where
     stops (suc n) place x fuel =
         let m = formed.1.1.each place fuel.inside in
         subst (λ (o : Option Instr). IsStopped (advance t.bound (λ (y : Worker). y.uniform) (after_instr t w) Nowhere (λ stop k z.
-            At stop k z) (from n) o place x)) (sym m.is)
+        At stop k z) (from n) o place x)) (sym m.is)
         (step n (stops n) place x fuel m.instr m.is m.allowed.target m.allowed.within)
 
   -- ---- a run
@@ -210,8 +212,11 @@ module _ (t : Setting) (formed : IsWellFormed t.code) where
       where
         stays : (way : machine.Way) → s.way ≡ way → (way ≡ machine.On → ⊥) →
             IsRunning (machine.after t w (record { purpose = machine.Closes; state = s }) messages)
-        stays way e no_way = exchanged (record { purpose = machine.Closes; state = s }) (record { found = a.found; inside =
-            λ h. absurd (no_way (sym e ∙ h)) })
+        stays way e no_way = exchanged (record { purpose = machine.Closes; state = s }) (record {
+          found = a.found;
+          inside =
+              λ h. absurd (no_way (sym e ∙ h));
+        })
 
         go : (way : machine.Way) → s.way ≡ way → IsRunning (machine.after t w (machine.ready_by t w s way) messages)
         go machine.On e = let i = a.inside e in
@@ -223,10 +228,15 @@ module _ (t : Setting) (formed : IsWellFormed t.code) where
 
         marked : (mark : HeaderMark) → IsRunning (machine.after t w (machine.ready_with t w s mark) messages)
         marked Clear = go s.way refl
-        marked OutOfMemory = exchanged (record { purpose = machine.Closes; state = machine.stopped OutOfMemory }) (record { found = λ h. cc;
-            inside = λ h. cc })
-        marked OutOfReserve = exchanged (record { purpose = machine.Closes; state = machine.stopped OutOfReserve }) (record { found =
-            λ h. cc; inside = λ h. cc })
+        marked OutOfMemory = exchanged (record { purpose = machine.Closes; state = machine.stopped OutOfMemory }) (record {
+          found = λ h. cc;
+          inside = λ h. cc;
+        })
+        marked OutOfReserve = exchanged (record { purpose = machine.Closes; state = machine.stopped OutOfReserve }) (record {
+          found =
+              λ h. cc;
+          inside = λ h. cc;
+        })
 
   phases_running : (t.bound + 1) * size + 1 ≤ t.enough → (p n : ℕ) (ws : ℕ → machine.State) → ((w : ℕ) → IsRunning (ws w)) → (w : ℕ) →
       IsRunning (phases (machine.bsp t) p n ws w)

@@ -163,12 +163,28 @@ module _ (code : SuperstepCode) (k : ℕ) where
           later t w = ⊎_elim (λ z. inl z) (λ l. inr (l.0, l.1, (let x = l.2 in omega (arith, x)), l.3, l.4)) w
 
           done : (j : ℕ) → IsDone code table j → IsDone code new j
-          done j d = record { instr = d.instr; state = d.state; is = d.is; has = a.grows j d.state d.has; reached = d.reached; allowed =
-              d.allowed; leaves = λ t l. a.grows t (after d.instr d.state) (d.leaves t l) }
+          done j d = record {
+            instr = d.instr;
+            state = d.state;
+            is = d.is;
+            has = a.grows j d.state d.has;
+            reached = d.reached;
+            allowed =
+                d.allowed;
+            leaves = λ t l. a.grows t (after d.instr d.state) (d.leaves t l);
+          }
 
           this : IsDone code new k
-          this = record { instr = i; state = s; is = is; has = a.grows k s has; reached = kept.why k s has; allowed =
-              none_allowed code k i s h; leaves = a.gives }
+          this = record {
+            instr = i;
+            state = s;
+            is = is;
+            has = a.grows k s has;
+            reached = kept.why k s has;
+            allowed =
+                none_allowed code k i s h;
+            leaves = a.gives;
+          }
 
           each : (j : ℕ) → j < k + 1 → IsDone code new j
           each j l = ⊎_elim (λ under. done j (kept.each j under)) (λ at. subst (IsDone code new) (here j at l) this) (cases_lt j k)

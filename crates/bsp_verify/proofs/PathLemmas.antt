@@ -120,7 +120,7 @@ module _ (code : SuperstepCode) (formed : IsWellFormed code) where
       let same = unsome s.0 m.instr (sym s.1 ∙ m.is) in
       subst IsWithin (sym (s.3 ∙ ap (λ (i : Instr). after i p.state) same))
       (within_after code p.place m.instr p.state (subst (λ (x : State). IsAllowed code p.place m.instr x) (sym before.1) m.allowed)
-          (comes_within n p h.1))
+      (comes_within n p h.1))
 
   sound : (n : ℕ) (q : Point) → Comes code n q → IsSound code q
   sound n q h =

@@ -54,10 +54,20 @@ pub acts : (code : SuperstepCode) (i : Instr) (s : State) (u : UniformPart) → 
     Describes (after i s) (on_uniform code i u)
 acts code Send s u a f d = absurd a
 acts code Reply s u a f d = absurd a
-acts code (Ask Uniform x c r q) s u a f d = record { asks = length-append u.asks _ ∙ ap (λ n. n + 1) d.asks; put = d.put; awaited =
-    d.awaited; alone = λ h. not_both s.awaits f h }
-acts code (Ask Private x c r q) s u a f d = record { asks = length-append u.asks _ ∙ ap (λ n. n + 1) d.asks; put = d.put; awaited =
-    d.awaited; alone = λ h. not_both s.awaits f h }
+acts code (Ask Uniform x c r q) s u a f d = record {
+  asks = length-append u.asks _ ∙ ap (λ n. n + 1) d.asks;
+  put = d.put;
+  awaited =
+      d.awaited;
+  alone = λ h. not_both s.awaits f h;
+}
+acts code (Ask Private x c r q) s u a f d = record {
+  asks = length-append u.asks _ ∙ ap (λ n. n + 1) d.asks;
+  put = d.put;
+  awaited =
+      d.awaited;
+  alone = λ h. not_both s.awaits f h;
+}
 acts code (Put side c r v q) s u a f d = record { asks = d.asks; put = refl; awaited = d.awaited; alone = λ h. not_both s.awaits f h }
 acts code i s u a f d = record { asks = d.asks; put = d.put; awaited = d.awaited; alone = d.alone }
 
@@ -152,8 +162,13 @@ module _ (t : Setting) (formed : IsWellFormed t.code) (w : ℕ) where
       (x : Worker) →
       Leads i q.place place → DescribesWorker t w (after i q.state) x → IsThere place x
   onward n q c i is place x l d =
-      record { steps = suc n; point = record { place = place; state = after i q.state }; comes = (q, c, (i, is, l, refl)); here = refl;
-          describes = d }
+      record {
+        steps = suc n;
+        point = record { place = place; state = after i q.state };
+        comes = (q, c, (i, is, l, refl));
+        here = refl;
+        describes = d;
+      }
 
   pub record Stops (stop : Stop) (place : ℕ) (x : Worker) : Type 0 where
     pub there : IsThere place x
@@ -175,8 +190,13 @@ module _ (t : Setting) (formed : IsWellFormed t.code) (w : ℕ) where
           (within : IsWithin q.state) where
         halts : (stop : Stop) → StopsBy stop i → Good (stops stop q.place x)
         halts stop by =
-            stopped stop q.place x (record { there = record { steps = m; point = q; comes = c; here = refl; describes = d }; instr = i;
-                is = is; by = by; fits = may.exchange })
+            stopped stop q.place x (record {
+              there = record { steps = m; point = q; comes = c; here = refl; describes = d };
+              instr = i;
+              is = is;
+              by = by;
+              fits = may.exchange;
+            })
 
         goes : (place : ℕ) (y : Worker) → Leads i q.place place → DescribesWorker t w (after i q.state) y → Good (next place y)
         goes place y l e = going place y (onward m q c i is place y l e)
@@ -205,14 +225,14 @@ module _ (t : Setting) (formed : IsWellFormed t.code) (w : ℕ) where
 
     advances : (place : ℕ) (x : Worker) → IsThere place x →
         Good (advance t.bound (λ (y : Worker). y.uniform) (after_instr t w) nowhere stops next (slice_get t.code.instructions place) place
-            x)
+        x)
     advances place x h =
         let q = h.point in
         let s = paths_sound t.code formed h.steps q h.comes in
         subst (λ k. Good (advance t.bound (λ (y : Worker). y.uniform) (after_instr t w) nowhere stops next (slice_get t.code.instructions k)
-            k x)) h.here
+        k x)) h.here
         (subst (λ (o : Option Instr). Good (advance t.bound (λ (y : Worker). y.uniform) (after_instr t w) nowhere stops next o q.place x))
-            (sym s.is)
+        (sym s.is)
         (step h.steps q h.comes x h.describes s.instr s.is s.allowed s.within))
 
   abbrev pub Arrives : Arrival Worker → Type 0
@@ -265,20 +285,20 @@ module _ (t : Setting) (formed : IsWellFormed t.code) (w : ℕ) where
         let q = h.there.point in
         subst (λ k. IsThere (k + 1) y) h.there.here
         (onward h.there.steps q h.there.comes i (ap (slice_get t.code.instructions) h.there.here ∙ h.is
-            ∙ ap (λ j. Some j) same) (q.place + 1) y (leads q.place)
+        ∙ ap (λ j. Some j) same) (q.place + 1) y (leads q.place)
         (described q.state h.there.describes))
 
     arrived : (s : machine.State) (a : Arrival Worker) → Arrives a → Agrees (machine.after t w (machine.ready_at s a) messages)
     arrived s Nowhere h = exchanged (machine.ready_at s Nowhere) (λ e. cc)
     arrived s (At ToSend place x) h =
         exchanged (machine.ready_at s (At ToSend place x))
-            (λ e. behind ToSend place x Send _ h h.by (λ k. refl) (λ z d. sent_worker t w z x d messages))
+        (λ e. behind ToSend place x Send _ h h.by (λ k. refl) (λ z d. sent_worker t w z x d messages))
     arrived s (At ToReply place x) h =
         exchanged (machine.ready_at s (At ToReply place x))
-            (λ e. behind ToReply place x Reply _ h h.by (λ k. refl) (λ z d. replied_worker t w z x d messages))
+        (λ e. behind ToReply place x Reply _ h h.by (λ k. refl) (λ z d. replied_worker t w z x d messages))
     arrived s (At (ToVote v) place x) h =
         exchanged (machine.ready_at s (At (ToVote v) place x)) (λ e. behind (ToVote v) place x (Vote v) _ h h.by (λ k. refl)
-            (λ z d. voted_worker t w z x d v messages))
+        (λ z d. voted_worker t w z x d v messages))
     arrived s (At (ToClose ended) place x) h = exchanged (machine.ready_at s (At (ToClose ended) place x)) (λ e. cc)
 
     pub next_agrees : (s : machine.State) → Agrees s → Agrees (machine.after t w (machine.ready t w s) messages)
@@ -301,8 +321,14 @@ module _ (t : Setting) (formed : IsWellFormed t.code) (w : ℕ) where
         marked OutOfReserve = exchanged (record { purpose = machine.Closes; state = machine.stopped OutOfReserve }) (λ h. cc)
 
   pub begins : (input : List ℤ) → Agrees (machine.opening t input w)
-  begins input h = record { steps = 0; point = record { place = 0; state = opening }; comes = (refl, refl); here = refl; describes =
-      opening_worker t w input }
+  begins input h = record {
+    steps = 0;
+    point = record { place = 0; state = opening };
+    comes = (refl, refl);
+    here = refl;
+    describes =
+        opening_worker t w input;
+  }
 
   may_make : (s : machine.State) → Agrees s → s.way ≡ machine.On → (stop : Stop) (place : ℕ) (x : Worker) →
       machine.stretch t w s ≡ At stop place x →
@@ -310,9 +336,11 @@ module _ (t : Setting) (formed : IsWellFormed t.code) (w : ℕ) where
   may_make s a h stop place x e =
       let z = subst Arrives e (follow t.enough s.place s.worker (a h)) in
       let p = z.there in
-      let sound = paths_sound t.code formed p.steps p.point p.comes in
-      ((p.steps, p.point, p.comes, p.here), may p.point.state x.uniform (describes_uniform t w p.point.state x sound.within p.describes)
-          stop z.instr z.by z.fits)
+      let sound = paths_sound t.code formed p.steps p.point p.comes in (
+        (p.steps, p.point, p.comes, p.here),
+        may p.point.state x.uniform (describes_uniform t w p.point.state x sound.within p.describes)
+            stop z.instr z.by z.fits,
+      )
 
   one_side_at : (s : machine.State) → Agrees s → s.way ≡ machine.On → (stop : Stop) (place : ℕ) (x : Worker) →
       machine.stretch t w s ≡ At stop place x →

@@ -38,7 +38,7 @@ got-append (x ∷ xs) ys (suc k) h = got-append xs ys k (omega arith)
 pub stretches_compose : StretchesCompose
 stretches_compose code at s m e [] ys a b =
     subst (λ (r : State). IsStretch code at r ys e) (sym a) (subst (λ k. IsStretch code k m ys e) (let h : at + 0 ≡ at = omega arith in
-        h) b)
+    h) b)
 stretches_compose code at s m e (x ∷ xs) ys a b = (
   a.0,
   stretches_compose code (at + 1) (after x s) m e xs ys a.1
@@ -187,7 +187,7 @@ module _ (code : SuperstepCode) (closed : IsClosed code.instructions) where
       (λ l. met m (after i s) (at + 1) is (second_stands code at s (i ∷ []) is h) (reached_next at s i is h p.0) p.1 k (omega (arith, l))
       (omega (arith, high)))
       (λ l. subst (IsMet code (scan_of code)) (let e : at ≡ k = omega (arith, low, l) in
-          e) (met_here at s i is h p.0 (reached (omega arith))))
+      e) (met_here at s i is h p.0 (reached (omega arith))))
       (cases_lt at k)
 
 pub a_stretch_is_code : AStretchIsCode

@@ -15,28 +15,69 @@ use Rattle.pram_model.proofs.Truths.{unsome}
 
 -- what doesn't jump, and goes on
 first_set : IsPlaced counting 0 (Set Uniform 0 (pos 3)) opening
-first_set = record { registers = refl; entry = refl; target = refl; mode = refl; masks = refl; exchange = refl; joins = λ t j. absurd j;
-    followed = λ e l. cc }
+first_set = record {
+  registers = refl;
+  entry = refl;
+  target = refl;
+  mode = refl;
+  masks = refl;
+  exchange = refl;
+  joins = λ t j. absurd j;
+  followed = λ e l. cc;
+}
 
 second_set : IsPlaced counting 1 (Set Uniform 1 (pos 1)) opening
-second_set = record { registers = refl; entry = refl; target = refl; mode = refl; masks = refl; exchange = refl; joins = λ t j. absurd j;
-    followed = λ e l. cc }
+second_set = record {
+  registers = refl;
+  entry = refl;
+  target = refl;
+  mode = refl;
+  masks = refl;
+  exchange = refl;
+  joins = λ t j. absurd j;
+  followed = λ e l. cc;
+}
 
 pub settings_judged : IsStretch counting 0 opening settings opening
 settings_judged = (first_set, (second_set, refl))
 
 turn_mark : IsPlaced counting 2 (Mark 1) opening
-turn_mark = record { registers = refl; entry = refl; target = refl; mode = refl; masks = refl; exchange = refl; joins = λ t j. absurd j;
-    followed = λ e l. cc }
+turn_mark = record {
+  registers = refl;
+  entry = refl;
+  target = refl;
+  mode = refl;
+  masks = refl;
+  exchange = refl;
+  joins = λ t j. absurd j;
+  followed = λ e l. cc;
+}
 
 -- to the end
 turn_fork : IsPlaced counting 3 (JumpIfZero 0 6) opening
-turn_fork = record { registers = refl; entry = refl; target = refl; mode = refl; masks = refl; exchange = refl; joins =
-    λ t j. ap (scan_of counting) j; followed = λ e l. cc }
+turn_fork = record {
+  registers = refl;
+  entry = refl;
+  target = refl;
+  mode = refl;
+  masks = refl;
+  exchange = refl;
+  joins =
+      λ t j. ap (scan_of counting) j;
+  followed = λ e l. cc;
+}
 
 turn_step : IsPlaced counting 4 (Calculate Uniform Subtract 0 0 1 1) opening
-turn_step = record { registers = refl; entry = refl; target = refl; mode = refl; masks = refl; exchange = refl; joins = λ t j. absurd j;
-    followed = λ e l. cc }
+turn_step = record {
+  registers = refl;
+  entry = refl;
+  target = refl;
+  mode = refl;
+  masks = refl;
+  exchange = refl;
+  joins = λ t j. absurd j;
+  followed = λ e l. cc;
+}
 
 -- the fork at place 3 leads behind the last turn
 behind_turns : IsReached counting 6
@@ -44,24 +85,57 @@ behind_turns = inr (3, JumpIfZero 0 6, (let l : 3 < 6 = omega arith in l), refl,
 
 -- back to the mark
 turn_back : IsPlaced counting 5 (Jump 2) opening
-turn_back = record { registers = refl; entry = refl; target = refl; mode = refl; masks = refl; exchange = refl; joins =
-    λ t j. ap (scan_of counting) j; followed = λ e l. behind_turns }
+turn_back = record {
+  registers = refl;
+  entry = refl;
+  target = refl;
+  mode = refl;
+  masks = refl;
+  exchange = refl;
+  joins =
+      λ t j. ap (scan_of counting) j;
+  followed = λ e l. behind_turns;
+}
 
 pub turns_judged : IsStretch counting 2 opening turns opening
 turns_judged = (turn_mark, (turn_fork, (turn_step, (turn_back, refl))))
 
 last_mark : IsPlaced counting 6 (Mark 2) opening
-last_mark = record { registers = refl; entry = refl; target = refl; mode = refl; masks = refl; exchange = refl; joins = λ t j. absurd j;
-    followed = λ e l. cc }
+last_mark = record {
+  registers = refl;
+  entry = refl;
+  target = refl;
+  mode = refl;
+  masks = refl;
+  exchange = refl;
+  joins = λ t j. absurd j;
+  followed = λ e l. cc;
+}
 
 last_print : IsPlaced counting 7 (Print 0) opening
-last_print = record { registers = refl; entry = refl; target = refl; mode = refl; masks = refl; exchange = refl; joins = λ t j. absurd j;
-    followed = λ e l. cc }
+last_print = record {
+  registers = refl;
+  entry = refl;
+  target = refl;
+  mode = refl;
+  masks = refl;
+  exchange = refl;
+  joins = λ t j. absurd j;
+  followed = λ e l. cc;
+}
 
 -- nothing stands behind it
 last_halt : IsPlaced counting 8 (Halt) opening
-last_halt = record { registers = refl; entry = refl; target = refl; mode = refl; masks = refl; exchange = refl; joins = λ t j. absurd j;
-    followed = λ e l. absurd (omega (arith, l)) }
+last_halt = record {
+  registers = refl;
+  entry = refl;
+  target = refl;
+  mode = refl;
+  masks = refl;
+  exchange = refl;
+  joins = λ t j. absurd j;
+  followed = λ e l. absurd (omega (arith, l));
+}
 
 pub ending_judged : IsStretch counting 6 opening ending opening
 ending_judged = (last_mark, (last_print, (last_halt, refl)))

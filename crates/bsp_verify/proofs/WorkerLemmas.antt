@@ -88,18 +88,31 @@ one_part code Send a s n u v y h = absurd a
 one_part code Reply a s n u v y h = absurd a
 one_part code (Mask r) a s n u v y h = record { masks = (let m = h.masks in omega (arith, m)); asks = h.asks; awaited = h.awaited }
 one_part code Flip a s n u v y h = record { masks = length-flipped y.masks ∙ h.masks; asks = h.asks; awaited = h.awaited }
-one_part code Unmask a s n u v y h = record { masks = length-unmasked y.masks ∙ ap (λ m. m - 1) h.masks; asks = h.asks; awaited =
-    h.awaited }
-one_part code (Ask Uniform d c r q) a s n u v y h = record { masks = h.masks; asks = length-append y.asks _ ∙ ap (λ m. m + 1) h.asks;
-    awaited = h.awaited }
+one_part code Unmask a s n u v y h = record {
+  masks = length-unmasked y.masks ∙ ap (λ m. m - 1) h.masks;
+  asks = h.asks;
+  awaited =
+      h.awaited;
+}
+one_part code (Ask Uniform d c r q) a s n u v y h = record {
+  masks = h.masks;
+  asks = length-append y.asks _ ∙ ap (λ m. m + 1) h.asks;
+  awaited = h.awaited;
+}
 one_part code (Ask Private d c r q) a s n u v y h =
-    either_way (HasPlaces s.masks (s.asks + 1) n) (is_active y) (on_active code (Ask Private d c r q) u v y) (record y { asks =
-        y.asks ++ None ∷ [] })
+    either_way (HasPlaces s.masks (s.asks + 1) n) (is_active y) (on_active code (Ask Private d c r q) u v y) (record y {
+      asks =
+          y.asks ++ None ∷ [];
+    })
     (record { masks = h.masks; asks = length-append y.asks _ ∙ ap (λ m. m + 1) h.asks; awaited = h.awaited })
     (record { masks = h.masks; asks = length-append y.asks _ ∙ ap (λ m. m + 1) h.asks; awaited = h.awaited })
 one_part code i a s n u v y h =
-    either_way (HasPlaces s.masks s.asks n) (is_active y) (on_active code i u v y) y (record { masks = h.masks; asks = h.asks; awaited =
-        h.awaited }) h
+    either_way (HasPlaces s.masks s.asks n) (is_active y) (on_active code i u v y) y (record {
+      masks = h.masks;
+      asks = h.asks;
+      awaited =
+          h.awaited;
+    }) h
 
 -- ---- the worker
 
@@ -116,7 +129,7 @@ module _ (t : Setting) (w : ℕ) (s : State) (x : Worker) (d : DescribesWorker t
 
   all_parts : (i : Instr) → Works i →
       AllByRecursion (HasPlaces (after i s).masks (after i s).asks awaited_so_far)
-          (map (λ (y : ℕ × PrivatePart). on_own t.code i x.uniform y.0 y.1) (numbered t w x))
+      (map (λ (y : ℕ × PrivatePart). on_own t.code i x.uniform y.0 y.1) (numbered t w x))
   all_parts i a =
       all_numbered (HasPlaces s.masks s.asks awaited_so_far) (HasPlaces (after i s).masks (after i s).asks awaited_so_far)
       (λ (y : ℕ × PrivatePart). on_own t.code i x.uniform y.0 y.1) (λ v y h. one_part t.code i a s awaited_so_far x.uniform v y h)
@@ -319,4 +332,4 @@ one_side t w s x d = go s.entered refl
         let none : x.own ≡ [] = none_of x.own (d.processors ∙ ap (λ n. length (processors t w n)) (d.outside e)) in
         subst (λ own. HaveOneSide own 0 x.uniform.asks) (sym none)
         (uniform_sides 0 x.uniform.asks (subst (λ (b : Bool). AllByRecursion (λ (r : Read). r.side ≡ side_of b) x.uniform.asks) e
-            d.asks_side))
+        d.asks_side))

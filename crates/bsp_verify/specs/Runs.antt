@@ -30,7 +30,7 @@ IsOnPath code place = (n : ℕ) × (q : Point) × Comes code n q × (q.place ≡
 abbrev pub RunsAreSound : Type 0
 RunsAreSound = (t : Setting) → IsWellFormed t.code → (input : List ℤ) (n w : ℕ) → (worker_after t input n w).way ≡ machine.On →
     (stop : Stop) (place : ℕ) (x : Worker) → machine.stretch t w (worker_after t input n w) ≡ At stop place x →
-        IsOnPath t.code place × MayExchange stop x.uniform
+    IsOnPath t.code place × MayExchange stop x.uniform
 
 -- No worker of a run is lost, where a stretch between two exchanges may have (bound + 1) * N + 1 instructions, N those of the code.
 abbrev pub RunsArrive : Type 0

@@ -36,7 +36,7 @@ module _ (part : ℕ → ℕ) (home : ℕ) where
   passes q here k (w ∷ ws) empty rest =
       let apart : part q.ask.cell ≡ k → ⊥ = λ e. cc (empty (sym e ∙ here)) in
       ap (λ (b : Bool). if b then answered q w ∷ replied part k ws rest else q
-          ∷ replied part k (w ∷ ws) rest) (ne_eqb (part q.ask.cell) k apart)
+      ∷ replied part k (w ∷ ws) rest) (ne_eqb (part q.ask.cell) k apart)
 
   -- and so do those of all later modules
   later : (q : HeldAsk) → part q.ask.cell ≡ home → (columns : List (List ℕ)) (k : ℕ) → home < k → (rest : List HeldAsk) →
@@ -57,7 +57,7 @@ module _ (part : ℕ → ℕ) (home : ℕ) where
         (λ e. let at : home ≡ k + 0 = omega (arith, e) in
         ap (λ j. drop (get_or taken j 0) r) e ∙ ap (λ m. drop m r) is ∙ drop_all n r (few 0 at (omega arith))) rest)
         ∙ none_left replies (k + 1) (λ d e l. few (suc d) (omega (arith, e)) (omega (arith, l)))
-            (replied part k (drop (get_or taken k 0) r) rest)
+        (replied part k (drop (get_or taken k 0) r) rest)
 
     left_same : (v : ℕ) (replies : List (List ℕ)) (k : ℕ) → home < k → left (set taken home v) k replies ≡ left taken k replies
     left_same v [] k l = refl
@@ -80,17 +80,17 @@ module _ (part : ℕ → ℕ) (home : ℕ) where
         ap (λ m. all_replied part (k + 1) next (replied part k (drop m r) (q ∷ rest))) (ap (λ j. get_or taken j 0) same ∙ is)
         ∙ ap (λ us. all_replied part (k + 1) next (replied part k us (q ∷ rest))) (drop_more r n 0 some)
         ∙ ap (λ (b : Bool). all_replied part (k + 1) next (if b then answered q w ∷ replied part k behind rest else q
-            ∷ replied part k (w ∷ behind) rest))
+        ∷ replied part k (w ∷ behind) rest))
         (eq-eqb (part q.ask.cell) k (here ∙ sym same))
         ∙ later (answered q w) here next (k + 1) (omega (arith, same)) (replied part k behind rest)
         ∙ ap (λ us. answered q w ∷ all_replied part (k + 1) us (replied part k behind rest))
-            (sym (left_same (n + 1) replies (k + 1) (omega (arith, same))))
+        (sym (left_same (n + 1) replies (k + 1) (omega (arith, same))))
         ∙ ap (λ m. answered q w ∷ all_replied part (k + 1) (left (set taken home (n + 1)) (k + 1) replies) (replied part k (drop m r) rest))
         (sym (ap (λ j. get_or (set taken home (n + 1)) j 0) same ∙ get_or-set_same taken home (n + 1) 0 known))
     one_taken known (r ∷ replies) k (suc d) at l some rest =
         let apart : k ≡ home → ⊥ = λ e. absurd (omega (arith, e, at)) in
         ap (all_replied part (k + 1) (left taken (k + 1) replies)) (passes q here k (drop (get_or taken k 0) r) (λ e. absurd (apart e))
-            rest)
+        rest)
         ∙ one_taken known replies (k + 1) d (omega (arith, at)) (omega (arith, l)) some (replied part k (drop (get_or taken k 0) r) rest)
         ∙ ap (λ m. answered q (get_or (get_or replies d []) n 0)
         ∷ all_replied part (k + 1) (left (set taken home (n + 1)) (k + 1) replies) (replied part k (drop m r) rest))

@@ -41,7 +41,7 @@ replies_move_nothing part j (w ∷ ws) read cell (x ∷ rest) =
     go : (b : Bool) → place_held read cell (replied part j ws rest) ≡ place_held read cell rest →
         place_held read cell (replied part j (w ∷ ws) rest) ≡ place_held read cell rest
         → place_held read cell (if b then answered x w ∷ replied part j ws rest else x ∷ replied part j (w ∷ ws) rest) ≡ place_held read
-            cell (x ∷ rest)
+        cell (x ∷ rest)
     go true e f = ap (λ i. if eqb (key_of x.ask) (ask_key read cell) then 0 else suc i) e
     go false e f = ap (λ i. if eqb (key_of x.ask) (ask_key read cell) then 0 else suc i) f
 
@@ -56,7 +56,7 @@ asks_move_nothing read cell r c (x ∷ rest) l =
     go true b s e = refl
     go false true s e =
         ap (λ t. if t then 0 else suc (place_held read cell (ask r c rest))) s
-            ∙ sym (ap (λ t. if t then 0 else suc (place_held read cell rest)) s)
+        ∙ sym (ap (λ t. if t then 0 else suc (place_held read cell rest)) s)
     go false false s e =
         let i = ap (λ t. if t then 0 else suc (place_held read cell rest)) s in
         let inner : place_held read cell rest < length rest = omega (arith, l, i) in

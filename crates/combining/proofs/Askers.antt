@@ -68,7 +68,7 @@ shared_some x kind = go (is_several x)
 pub least_shared : (m : Shape) (j : ℕ) (columns : List (List ℕ)) (k : ℕ) (noted : Option (ℕ × Kind))
     → (noted ≡ None → (c : ℕ) → IsOf m j c → shared (askers_read m j columns k c) ≡ None)
     → ((c : ℕ) (kind : Kind) → noted ≡ Some (c, kind) → IsOf m j c × (shared (askers_read m j columns k c) ≡ Some kind)
-        × ((d : ℕ) → IsOf m j d → d < c → shared (askers_read m j columns k d) ≡ None))
+    × ((d : ℕ) → IsOf m j d → d < c → shared (askers_read m j columns k d) ≡ None))
     → IsLeastShared m j columns k (noted_cell noted)
 least_shared m j columns k None none least = record {
   none = λ e c p. shared_none (askers_read m j columns k c) (none refl c p);
@@ -81,7 +81,7 @@ least_shared m j columns k (Some q) none least = record {
       let p : q.0 ≡ c = same_Some _ _ e in
       subst
       (λ (x : ℕ). IsOf m j x × (is_several (askers_read m j columns k x) ≡ true)
-          × ((d : ℕ) → IsOf m j d → d < x → is_several (askers_read m j columns k d) ≡ false))
+      × ((d : ℕ) → IsOf m j d → d < x → is_several (askers_read m j columns k d) ≡ false))
       p
       (l.0, shared_some (askers_read m j columns k q.0) q.1 l.1, λ d o b. shared_none (askers_read m j columns k d) (l.2 d o b));
 }

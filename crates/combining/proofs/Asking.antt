@@ -18,8 +18,11 @@ key_parts k = omega arith
 pub meant_at : (read cell k : ℕ) (a : Asked) → eqb (key_of (ask_at k a).ask) (ask_key read cell) ≡ eqb k (ask_key read cell)
 meant_at read cell k a = ap (λ n. eqb n (ask_key read cell)) (key_parts k)
 
-pub fresh_at : (read cell : ℕ) → cell < 2 ^ 20 → ask_at (ask_key read cell) (record { again = false; value = pos 0 }) ≡ record { ask =
-    record { read = read; cell = cell; twice = false }; value = pos 0 }
+pub fresh_at : (read cell : ℕ) → cell < 2 ^ 20 → ask_at (ask_key read cell) (record { again = false; value = pos 0 }) ≡ record {
+  ask =
+      record { read = read; cell = cell; twice = false };
+  value = pos 0;
+}
 fresh_at read cell h =
     let r : (cell + 2 ^ 20 * read) / 2 ^ 20 ≡ read = omega arith in
     let c : (cell + 2 ^ 20 * read) % 2 ^ 20 ≡ cell = omega arith in
@@ -43,7 +46,7 @@ words_for part j (x ∷ held) = go (is_for part j x) (words_for part j held)
   where
     go : (b : Bool) → ask_words (asks_for part j held) ≡ flat_map words_of (filter (is_for part j) held)
         → ask_words (cond b (x.ask ∷ asks_for part j held) (asks_for part j held)) ≡ flat_map words_of
-            (cond b (x ∷ filter (is_for part j) held) (filter (is_for part j) held))
+        (cond b (x ∷ filter (is_for part j) held) (filter (is_for part j) held))
     go true h = ap (λ ws. ask_word x.ask ∷ ws) h
     go false h = h
 
@@ -64,7 +67,7 @@ module _ (read cell : ℕ) where
       step : (b : Bool) → (place_of (ask_key read cell) ks < length xs → x ≡ get_or xs (place_of (ask_key read cell) ks) x →
           x.value ≡ value_for read cell (paired ask_at ks xs))
           → (if b then 0 else suc (place_of (ask_key read cell) ks)) < suc (length xs) →
-              x ≡ get_or (z ∷ xs) (if b then 0 else suc (place_of (ask_key read cell) ks)) x
+          x ≡ get_or (z ∷ xs) (if b then 0 else suc (place_of (ask_key read cell) ks)) x
           → x.value ≡ (if b then z.value else value_for read cell (paired ask_at ks xs))
       step true go l is = ap (λ (w : Asked). w.value) is
       step false go l is = go (omega arith) is
@@ -95,7 +98,7 @@ module _ (part : ℕ → ℕ) (j : ℕ) (ws : List ℕ) (n i : ℕ) (before : Li
       (ap (replied part j (drop n ws)) more
       ∙ ap (λ w. replied part j w (q ∷ drop (i + 1) held)) (drop_more ws n 0 l)
       ∙ ap (λ (b : Bool). if b then answered q (get_or ws n 0) ∷ replied part j (drop (n + 1) ws) (drop (i + 1) held) else q
-          ∷ replied part j (get_or ws n 0 ∷ drop (n + 1) ws) (drop (i + 1) held)) h
+      ∷ replied part j (get_or ws n 0 ∷ drop (n + 1) ws) (drop (i + 1) held)) h
       ∙ ap (λ (w : HeldAsk). w ∷ replied part j (drop (n + 1) ws) (drop (i + 1) held)) (sym e)))
       ∙ known
 
@@ -118,12 +121,12 @@ module _ (part : ℕ → ℕ) (j : ℕ) (ws : List ℕ) (n i : ℕ) (before : Li
           let d = drop_more ws n 0 lt in
           ap (λ w. replied part j w (q ∷ drop (i + 1) held)) d
           ∙ ap (λ (b : Bool). if b then answered q (get_or ws n 0) ∷ replied part j (drop (n + 1) ws) (drop (i + 1) held) else q
-              ∷ replied part j (get_or ws n 0 ∷ drop (n + 1) ws) (drop (i + 1) held)) other
+          ∷ replied part j (get_or ws n 0 ∷ drop (n + 1) ws) (drop (i + 1) held)) other
           ∙ sym (ap (λ w. q ∷ replied part j w (drop (i + 1) held)) d))
           (λ ge.
           let d = drop_all n ws ge in
           ap (λ w. replied part j w (q ∷ drop (i + 1) held)) d ∙ ap (λ w. q ∷ w) (sym (none (drop (i + 1) held)))
-              ∙ sym (ap (λ w. q ∷ replied part j w (drop (i + 1) held)) d))
+          ∙ sym (ap (λ w. q ∷ replied part j w (drop (i + 1) held)) d))
           (cases_lt n (length ws))
 
 -- lists with the same rest have the same item there

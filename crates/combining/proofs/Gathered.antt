@@ -90,7 +90,7 @@ module _ {E : Type 0} (op : Option E → Option E → Option E) (monoid : IsMono
           (λ eq.
           subst (λ (k : ℕ). op (slot (set slots (m.offset d) (Some made)) (m.offset k)) (rest k) ≡ whole k) (sym eq)
           (ap (λ x. op x (rest d)) (slot_here (Some made) ∙ e) ∙ monoid.associative (slot slots (m.offset d)) (item d) (rest d)
-              ∙ known d of))
+          ∙ known d of))
           (λ ne.
           ap (λ x. op x (rest c)) (slot_other c (Some made) p ne)
           ∙ sym (ap (λ x. op (slot slots (m.offset c)) x) (ap (λ x. op x (rest c)) (others c ne) ∙ monoid.neutral (rest c)))
@@ -99,7 +99,7 @@ module _ {E : Type 0} (op : Option E → Option E → Option E) (monoid : IsMono
 
       pub note_taken : (judge : Option E → Option Kind) → judge None ≡ None → (start : ℕ → Option E) (noted : Option (ℕ × Kind))
           → Notes m j judge start slots noted (λ c. op (item c) (rest c)) →
-              Notes m j judge start (set slots (m.offset d) None) (note d (judge (slot slots (m.offset d))) noted) rest
+          Notes m j judge start (set slots (m.offset d) None) (note d (judge (slot slots (m.offset d))) noted) rest
       note_taken judge quiet start noted known = record {
         least = note_one m j (λ c. judge (start c)) (λ c. judge (slot slots (m.offset c)))
             (λ c. judge (slot (set slots (m.offset d) None) (m.offset c))) d of
@@ -141,7 +141,7 @@ module _ {E : Type 0} (op : Option E → Option E → Option E) (monoid : IsMono
           × ((d : ℕ) → IsOf m j d → d < c → judge (all d) ≡ None)
       least_noted c k e =
           let l = subst (λ (x : Option (ℕ × Kind)). IsNoted m j (λ c. judge (all c)) (λ c. judge (slot slots2 (m.offset c))) x) e
-              done.least in
+          done.least in
           (l.0, l.1, λ d p b. l.2 d p b ∙ calm d p)
 
       pub is_empty : (o : ℕ) → slot slots2 o ≡ None
@@ -158,7 +158,7 @@ module _ (m : Shape) (lawful : IsLawful m) (rule : Rule) (j : ℕ) (slots : List
     (values : List ℤ) (long : length values ≡ m.width j) (d : ℕ) (of : IsOf m j d) where
   pub settle_one : (due : ℕ → ℤ) → Owes m rule j due slots values
       → Owes m rule j due (set slots (m.offset d) None)
-          (set values (m.offset d) (settled (verdict_on rule (slot slots (m.offset d))) (value_at values (m.offset d))))
+      (set values (m.offset d) (settled (verdict_on rule (slot slots (m.offset d))) (value_at values (m.offset d))))
   settle_one due known c p =
       let o = m.offset d in
       let v = settled (verdict_on rule (slot slots o)) (value_at values o) in
@@ -166,13 +166,13 @@ module _ (m : Shape) (lawful : IsLawful m) (rule : Rule) (j : ℕ) (slots : List
       ⊎_elim
       (λ eq.
       subst (λ (k : ℕ). settled (verdict_on rule (slot (set slots o None) (m.offset k))) (value_at (set values o v) (m.offset k)) ≡ due k)
-          (sym eq)
+      (sym eq)
       (ap (λ (x : Option Entry). settled (verdict_on rule x) (value_at (set values o v) o))
-          (get_or-set_same slots o None None (omega arith)) ∙ get_or-set_same values o v (pos 0) room ∙ known d of))
+      (get_or-set_same slots o None None (omega arith)) ∙ get_or-set_same values o v (pos 0) room ∙ known d of))
       (λ ne.
       let apart : m.offset c ≡ o → ⊥ = λ e. ne (offsets_apart m lawful j c d p of e) in
       ap (λ (x : Option Entry). settled (verdict_on rule x) (value_at (set values o v) (m.offset c)))
-          (get_or-set_other slots o (m.offset c) None None apart)
+      (get_or-set_other slots o (m.offset c) None None apart)
       ∙ ap (settled (verdict_on rule (slot slots (m.offset c)))) (get_or-set_other values o (m.offset c) v (pos 0) apart)
       ∙ known c p)
       (cases_eq c d)

@@ -21,7 +21,7 @@ put_fits rule w f (x ∷ held) h = step (eqb x.cell w.cell) (put_fits rule w f h
 
     step : (b : Bool) → AllByRecursion (FitsPut rule) (put rule w held)
         → AllByRecursion (FitsPut rule) (if b then put_at x.cell ((combining rule).join x.entry (entry_of_write rule w)) ∷ held else x
-            ∷ put rule w held)
+        ∷ put rule w held)
     step true rest = (here, h.1)
     step false rest = (h.0, rest)
 

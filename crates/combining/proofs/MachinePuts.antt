@@ -25,7 +25,7 @@ filter_both p q (x ∷ xs) = go (p x) (q x) refl refl (filter_both p q xs)
         → filter p (cond b (x ∷ filter q xs) (filter q xs)) ≡ filter q (cond a (x ∷ filter p xs) (filter p xs))
     go true true e f rest =
         ap (λ t. cond t (x ∷ filter p (filter q xs)) (filter p (filter q xs))) e ∙ ap (λ ys. x ∷ ys) rest
-            ∙ sym (ap (λ t. cond t (x ∷ filter q (filter p xs)) (filter q (filter p xs))) f)
+        ∙ sym (ap (λ t. cond t (x ∷ filter q (filter p xs)) (filter q (filter p xs))) f)
     go true false e f rest = rest ∙ sym (ap (λ t. cond t (x ∷ filter q (filter p xs)) (filter q (filter p xs))) f)
     go false true e f rest = ap (λ t. cond t (x ∷ filter p (filter q xs)) (filter p (filter q xs))) e ∙ rest
     go false false e f rest = rest
@@ -51,7 +51,7 @@ firsts_filter p (x ∷ xs) = go (p x) refl (firsts_filter p xs)
   where
     go : (b : Bool) → p x ≡ b → firsts (filter p xs) ≡ filter p (firsts xs)
         → firsts (cond b (x ∷ filter p xs) (filter p xs)) ≡ cond b (x ∷ filter p (filter (λ y. not (eqb x y)) (firsts xs)))
-            (filter p (filter (λ y. not (eqb x y)) (firsts xs)))
+        (filter p (filter (λ y. not (eqb x y)) (firsts xs)))
     go true e rest = ap (λ ys. x ∷ filter (λ y. not (eqb x y)) ys) rest ∙ ap (λ ys. x ∷ ys) (filter_both (λ y. not (eqb x y)) p (firsts xs))
     go false e rest = rest ∙ sym (filter_less p x e (firsts xs))
 
@@ -76,7 +76,7 @@ entry_to_other rule w c h = ap (λ t. if t then Some (entry_of_write rule w) els
 -- what is held first gets the writes to its cell, and the others go behind it
 held_first : (rule : Rule) (ws : List HeldWrite) (x : CellPut) (held : List CellPut)
     → held_after rule ws (x ∷ held) ≡ cons_option (put_of x.cell (join rule (Some x.entry) (sum_to rule x.cell ws)))
-        (held_after rule (but x.cell ws) held)
+    (held_after rule (but x.cell ws) held)
 held_first rule [] x held = refl
 held_first rule (w ∷ ws) x held =
     let others = but x.cell ws in
@@ -88,16 +88,16 @@ held_first rule (w ∷ ws) x held =
     ∙ held_first rule ws joined held
     ∙ ap (λ y. cons_option (put_of x.cell y) (held_after rule others held))
     ((entries_are_monoid rule).associative (Some x.entry) (Some s) (sum_to rule x.cell ws)
-        ∙ sym (ap (λ y. join rule (Some x.entry) (join rule y (sum_to rule x.cell ws))) (entry_to_own rule w x.cell same.1)))
+    ∙ sym (ap (λ y. join rule (Some x.entry) (join rule y (sum_to rule x.cell ws))) (entry_to_own rule w x.cell same.1)))
     ∙ sym (ap (λ t. cons_option (put_of x.cell (join rule (Some x.entry) (sum_to rule x.cell (w ∷ ws))))
-        (held_after rule (cond (not t) (w ∷ others) others) held)) same.0))
+    (held_after rule (cond (not t) (w ∷ others) others) held)) same.0))
     (λ other.
     ap (λ t. held_after rule ws (if t then joined ∷ held else x ∷ put rule w held)) other.0
     ∙ held_first rule ws x (put rule w held)
     ∙ ap (λ y. cons_option (put_of x.cell (join rule (Some x.entry) y)) (held_after rule (w ∷ others) held))
     (sym (ap (λ y. join rule y (sum_to rule x.cell ws)) (entry_to_other rule w x.cell other.1)))
     ∙ sym (ap (λ t. cons_option (put_of x.cell (join rule (Some x.entry) (sum_to rule x.cell (w ∷ ws))))
-        (held_after rule (cond (not t) (w ∷ others) others) held)) other.0))
+    (held_after rule (cond (not t) (w ∷ others) others) held)) other.0))
     (eqb_tells x.cell w.cell)
 
 -- the sum to another cell doesn't need them
@@ -120,7 +120,7 @@ map_but c (w ∷ ws) = go (not (eqb c (cell_of w))) (map_but c ws)
   where
     go : (b : Bool) → map cell_of (but c ws) ≡ filter (λ y. not (eqb c y)) (map cell_of ws)
         → map cell_of (cond b (w ∷ but c ws) (but c ws)) ≡ cond b (cell_of w ∷ filter (λ y. not (eqb c y)) (map cell_of ws))
-            (filter (λ y. not (eqb c y)) (map cell_of ws))
+        (filter (λ y. not (eqb c y)) (map cell_of ws))
     go true h = ap (λ ys. cell_of w ∷ ys) h
     go false h = h
 
@@ -133,7 +133,7 @@ same_but f g c h (x ∷ xs) =
     ⊎_elim
     (λ same.
     ap (λ t. filter_map f (cond (not t) (x ∷ rest) rest)) same.0 ∙ same_but f g c h xs
-        ∙ sym (ap (λ t. filter_map g (cond (not t) (x ∷ rest) rest)) same.0))
+    ∙ sym (ap (λ t. filter_map g (cond (not t) (x ∷ rest) rest)) same.0))
     (λ other.
     ap (λ t. filter_map f (cond (not t) (x ∷ rest) rest)) other.0
     ∙ (λ i. cons_option (h x other.1 i) (same_but f g c h xs i))
@@ -166,7 +166,7 @@ held_within rule (suc n) (w ∷ ws) h =
     ∙ ap (λ ds. cons_option (g c) (filter_map f ds)) (ap firsts (map_but c ws) ∙ firsts_filter (λ y. not (eqb c y)) (map cell_of ws))
     ∙ ap (cons_option (g c))
     (same_but f g c (λ d apart. ap (put_of d) (sum_but rule c d apart ws
-        ∙ sym (ap (λ y. join rule y (sum_to rule d ws)) (entry_to_other rule w d (λ e. apart (sym e)))))) (firsts (map cell_of ws)))
+    ∙ sym (ap (λ y. join rule y (sum_to rule d ws)) (entry_to_other rule w d (λ e. apart (sym e)))))) (firsts (map cell_of ws)))
 
 pub held_is_machines : (rule : Rule) (ws : List HeldWrite) →
     held_after rule ws [] ≡ filter_map (λ c. put_of c (total None (join rule) (entry_to rule c) ws))

@@ -26,6 +26,6 @@ answers_are_the_reply t w s received j came e =
     let asked = asks_in m w (ask_part rule came.0 came.1) in
     let taken : slice_index_or after.taken j [] ≡ map (λ (x : CellAsk). x.cell) asked =
     twice_at (λ (r : MessageHeader × List ℕ). read_message rule m w Sends r.0 r.1) (λ (x : Message). map (λ (y : CellAsk). y.cell) x.asks)
-        received j came [] e in
+    received j came [] e in
     ap (λ cs. values_words (map (λ c. value_at after.cells (m.offset c)) cs)) taken
     ∙ ap values_words (map-map (λ c. value_at after.cells (m.offset c)) (λ (x : CellAsk). x.cell) asked)

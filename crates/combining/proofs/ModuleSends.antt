@@ -38,7 +38,7 @@ values_are f (suc n) k (x ∷ old) [] e g h = absurd (omega (arith, g))
 values_are f (suc n) k (x ∷ old) (y ∷ new) e g h =
     let here : f k x ≡ y = (let z : k + 0 ≡ k = omega arith in ap (λ o. f o x) (sym z) ∙ sym (h 0 (omega arith))) in
     let on = values_are f n (k + 1) old new (omega (arith, e)) (omega (arith, g)) (λ o l. let z : k + suc o ≡ k + 1 + o = omega arith in
-        h (suc o) (omega (arith, l)) ∙ ap (λ p. f p (get_or old o (pos 0))) z) in
+    h (suc o) (omega (arith, l)) ∙ ap (λ p. f p (get_or old o (pos 0))) z) in
     λ i. here i ∷ on i
 
 pub merged_cells : MergedCells
@@ -47,14 +47,14 @@ merged_cells t w s received new result lawful below long merged =
     let rule = t.code.rule in
     let each = merged.each in
     values_are (λ o old. settled (verdict_on rule (entry_came rule (messages_read rule m w received) (m.cell w o))) old) (m.width w) 0
-        s.cells new long (merged.long ∙ long)
+    s.cells new long (merged.long ∙ long)
     (λ o l.
     let here = lawful.again w o below l in
     let z : 0 + o ≡ o = omega arith in
     ap (λ p. value_at new p) (sym here)
     ∙ each (m.cell w o) (lawful.forth w o below l)
     ∙ ap (λ e. settled (verdict_on rule e) (value_at s.cells (m.offset (m.cell w o))))
-        (sym (entries_of_words rule m w received (m.cell w o)))
+    (sym (entries_of_words rule m w received (m.cell w o)))
     ∙ ap (λ p. settled (verdict_on rule (entry_came rule (messages_read rule m w received) (m.cell w o))) (value_at s.cells p)) here
     ∙ ap (λ p. settled (verdict_on rule (entry_came rule (messages_read rule m w received) (m.cell w p))) (value_at s.cells o)) (sym z))
 
@@ -70,7 +70,7 @@ lesser_first : (at : Moment) (c d : ℕ) (one other : Kind) → c < d → least 
     (Some (conflict_at at d other)) ≡ Some (conflict_at at c one)
 lesser_first at c d one other l =
     ap (λ b. Some (if b then conflict_at at c one else conflict_at at d other))
-        (by_earlier_place (conflict_at at c one) (conflict_at at d other) refl refl refl (lt-ltb c d l))
+    (by_earlier_place (conflict_at at c one) (conflict_at at d other) refl refl refl (lt-ltb c d l))
 
 module _ (at : Moment) (m : Shape) (lawful : IsLawful m) (w : ℕ) (below : w < m.parts) (found : ℕ → Option Kind) where
   abbrev cells : ℕ → ℕ → List ℕ
@@ -83,7 +83,7 @@ module _ (at : Moment) (m : Shape) (lawful : IsLawful m) (w : ℕ) (below : w < 
   nothing zero k l none = refl
   nothing (suc n) k l none =
       ap (λ o. least (noted at (m.cell w k) o) (sum (k + 1) n)) (none (m.cell w k) (lawful.forth w k below (omega (arith, l))))
-          ∙ nothing n (k + 1) (omega (arith, l)) none
+      ∙ nothing n (k + 1) (omega (arith, l)) none
 
   module _ (c : ℕ) (kind : Kind) (is : found c ≡ Some kind) (before : (d : ℕ) → IsOf m w d → d < c → found d ≡ None) where
     abbrev key : Option Key
@@ -95,7 +95,7 @@ module _ (at : Moment) (m : Shape) (lawful : IsLawful m) (w : ℕ) (below : w < 
     other d of (Some k) e =
         ⊎_elim
         (λ same. let k_is : Some kind ≡ Some k = sym is ∙ ap found same ∙ e in ap (λ o. least key (noted at d o)) (sym k_is)
-            ∙ ap (λ x. least key (Some (conflict_at at x kind))) (sym same) ∙ least_again key)
+        ∙ ap (λ x. least key (Some (conflict_at at x kind))) (sym same) ∙ least_again key)
         (λ r. ⊎_elim (λ up. lesser_first at c d kind k up) (λ down. absurd (cc (sym e ∙ before d of down))) r)
         (cases_order c d)
 
@@ -118,10 +118,10 @@ module _ (at : Moment) (m : Shape) (lawful : IsLawful m) (w : ℕ) (below : w < 
         let at_c : m.cell w k ≡ c = ap (m.cell w) same ∙ here in
         let x_is : x ≡ key = ap (λ d. noted at d (found d)) at_c ∙ ap (noted at c) is in
         ap (λ a. least key (least a rest)) x_is ∙ sym (keys_are_monoid.associative key key rest) ∙ ap (λ a. least a rest) (least_again key)
-            ∙ ap (λ a. least a rest) (sym x_is))
+        ∙ ap (λ a. least a rest) (sym x_is))
         (λ on.
         sym (keys_are_monoid.associative key x rest) ∙ ap (λ a. least a rest) (keys_are_monoid.commutative key x)
-            ∙ keys_are_monoid.associative x key rest
+        ∙ keys_are_monoid.associative x key rest
         ∙ ap (least x) (within n (k + 1) o (omega (arith, on)) (omega (arith, high)) here))
         (eq-or-lt_of_le low)
 
@@ -129,7 +129,7 @@ module _ (at : Moment) (m : Shape) (lawful : IsLawful m) (w : ℕ) (below : w < 
     told of =
         let inside = subst_part (lawful.offset_below c of.below) in
         sym (within (m.width w) 0 (m.offset c) (omega arith) (omega (arith, inside)) (ap (λ j. m.cell j (m.offset c)) (sym of.here)
-            ∙ lawful.back c of.below)) ∙ absorbs (m.width w) 0 (omega arith)
+        ∙ lawful.back c of.below)) ∙ absorbs (m.width w) 0 (omega arith)
       where
         subst_part : m.offset c < m.width (m.part c) → m.offset c < m.width w
         subst_part l = let e : m.width (m.part c) ≡ m.width w = ap m.width of.here in omega (arith, e, l)
@@ -147,17 +147,17 @@ merged_conflict t w received old new result at lawful below merged = same ∙ go
     same : total None least (λ c. put_conflict (Some at) c
         (verdict_on t.code.rule (entry_came t.code.rule (messages_read t.code.rule t.map w received) c))) (module_cells t w)
         ≡ total None least (λ c. noted at c
-            (refusal (verdict_on t.code.rule (entry_read t.code.rule t.map w (put_parts t.code.rule received) c)))) (module_cells t w)
+        (refusal (verdict_on t.code.rule (entry_read t.code.rule t.map w (put_parts t.code.rule received) c)))) (module_cells t w)
     same =
         total_same None least _ _
         (λ c. put_noted at c (verdict_on t.code.rule (entry_came t.code.rule (messages_read t.code.rule t.map w received) c))
-            ∙ ap (λ e. noted at c (refusal (verdict_on t.code.rule e))) (entries_of_words t.code.rule t.map w received c))
+        ∙ ap (λ e. noted at c (refusal (verdict_on t.code.rule e))) (entries_of_words t.code.rule t.map w received c))
         (module_cells t w)
 
     go : (r : Option (ℕ × Kind)) → result ≡ r
         → total None least (λ c. noted at c
-            (refusal (verdict_on t.code.rule (entry_read t.code.rule t.map w (put_parts t.code.rule received) c))))
-            (module_cells t w) ≡ key_of_conflict at r
+        (refusal (verdict_on t.code.rule (entry_read t.code.rule t.map w (put_parts t.code.rule received) c))))
+        (module_cells t w) ≡ key_of_conflict at r
     go None e = nothing at t.map lawful w below
         (λ c. refusal (verdict_on t.code.rule (entry_read t.code.rule t.map w (put_parts t.code.rule received) c))) (t.map.width w) 0
         (omega arith) (merged.none e)
@@ -186,7 +186,7 @@ shared_conflict t w received k read result lawful below least_shared = by_side (
     same =
         total_same None least _ _
         (λ c. read_noted read.moment c (askers_came (messages_read t.code.rule t.map w received) k c)
-            ∙ ap (λ o. noted read.moment c (shared o)) (askers_of_words t.code.rule t.map w received k c))
+        ∙ ap (λ o. noted read.moment c (shared o)) (askers_of_words t.code.rule t.map w received k c))
         (module_cells t w)
 
     go : (r : Option ℕ) → result ≡ r →
@@ -198,8 +198,8 @@ shared_conflict t w received k read result lawful below least_shared = by_side (
     go (Some c) e =
         let l = least_shared.least c e in
         told read.moment t.map lawful w below (λ c. shared (askers_read t.map w (ask_parts t.code.rule received) k c)) c ReadConflict
-            (shared_some (askers_read t.map w (ask_parts t.code.rule received) k c) l.1) (λ d of less.
-            shared_none (askers_read t.map w (ask_parts t.code.rule received) k d) (l.2 d of less)) l.0
+        (shared_some (askers_read t.map w (ask_parts t.code.rule received) k c) l.1) (λ d of less.
+        shared_none (askers_read t.map w (ask_parts t.code.rule received) k d) (l.2 d of less)) l.0
 
     none_at_all : (xs : List ℕ) → total None least (λ c. if false
         && is_several (askers_came (messages_read t.code.rule t.map w received) k c) then Some (conflict_at read.moment c ReadConflict) else
@@ -209,7 +209,7 @@ shared_conflict t w received k read result lawful below least_shared = by_side (
 
     by_side : (b : Bool)
         → total None least (λ c. if b && is_several (askers_came (messages_read t.code.rule t.map w received) k c) then
-            Some (conflict_at read.moment c ReadConflict) else None) (module_cells t w)
+        Some (conflict_at read.moment c ReadConflict) else None) (module_cells t w)
         ≡ (if b then key_of_shared read.moment result else None)
     by_side true = same ∙ go result refl
     by_side false = none_at_all (module_cells t w)

@@ -61,7 +61,7 @@ module _ {X Y : Type 0} (make : ℕ → X → Y) where
   take_paired_set (j ∷ ks) (x ∷ xs) zero k y n l p = ap (λ w. make w y ∷ []) (sym p)
   take_paired_set (j ∷ ks) (x ∷ xs) (suc i) k y n l p =
       let e = simp unary_clauses at (take_paired_set ks xs i k y (omega arith) (omega arith) p) in
-          simp unary_clauses (ap (λ w. make j x ∷ w) e)
+      simp unary_clauses (ap (λ w. make j x ∷ w) e)
 
 -- one more is held: a key is found by a test on pairs, and the change is one of items
 module _ {X Y : Type 0} (make : ℕ → X → Y) (is : Y → Bool) (change : Y → Y) (alter : X → X) (key : ℕ) (fresh : X)
@@ -74,13 +74,13 @@ module _ {X Y : Type 0} (make : ℕ → X → Y) (is : Y → Bool) (change : Y �
   hold_at (k ∷ ks) (z ∷ xs) x y n l here made =
       step (k == key) (λ m i. hold_at ks xs x y (omega arith) m i made) l here
       ∙ sym (ap (λ (b : Bool). if b then change (make k z) ∷ paired make ks xs else make k z
-          ∷ hold is change (make key fresh) (paired make ks xs)) (meant k z))
+      ∷ hold is change (make key fresh) (paired make ks xs)) (meant k z))
     where
       step : (b : Bool) → (place_of key ks < length xs → x ≡ get_or xs (place_of key ks) x →
           paired make ks (set xs (place_of key ks) y) ≡ hold is change (make key fresh) (paired make ks xs))
           → (if b then 0 else suc (place_of key ks)) < suc (length xs) → x ≡ get_or (z ∷ xs) (if b then 0 else suc (place_of key ks)) x
           → paired make (k ∷ ks) (set (z ∷ xs) (if b then 0 else suc (place_of key ks)) y) ≡ (if b then change (make k z)
-              ∷ paired make ks xs else make k z ∷ hold is change (make key fresh) (paired make ks xs))
+          ∷ paired make ks xs else make k z ∷ hold is change (make key fresh) (paired make ks xs))
       step true go l here = ap (λ w. make k w ∷ paired make ks xs) (made ∙ ap alter here)
           ∙ ap (λ w. w ∷ paired make ks xs) (sym (altered k z))
       step false go l here = ap (λ w. make k z ∷ w) (go (omega arith) here)
@@ -93,11 +93,11 @@ module _ {X Y : Type 0} (make : ℕ → X → Y) (is : Y → Bool) (change : Y �
   hold_new (k ∷ ks) (x ∷ xs) n p =
       step (k == key) (λ q. hold_new ks xs (omega arith) q) p
       ∙ sym (ap (λ (b : Bool). if b then change (make k x) ∷ paired make ks xs else make k x
-          ∷ hold is change (make key fresh) (paired make ks xs)) (meant k x))
+      ∷ hold is change (make key fresh) (paired make ks xs)) (meant k x))
     where
       step : (b : Bool) → (place_of key ks ≡ length ks → paired make (ks ++ key ∷ []) (xs ++ fresh ∷ []) ≡ hold is change (make key fresh)
           (paired make ks xs)) → (if b then 0 else suc (place_of key ks)) ≡ suc (length ks)
           → make k x ∷ paired make (ks ++ key ∷ []) (xs ++ fresh ∷ []) ≡ (if b then change (make k x) ∷ paired make ks xs else make k x
-              ∷ hold is change (make key fresh) (paired make ks xs))
+          ∷ hold is change (make key fresh) (paired make ks xs))
       step true go q = absurd (omega arith)
       step false go q = ap (λ w. make k x ∷ w) (go (omega arith))

@@ -20,8 +20,13 @@ puts_are_for rule m j (x ∷ held) fits below =
     let inner = puts_for m.part j held in
     let rest = puts_are_for rule m j held fits.1 below.1 in
     ⊎_elim
-    (λ yes. subst (λ (b : Bool). AllByRecursion (IsPutFor rule m j) (cond b (x ∷ inner) inner)) (sym yes.0) (record { fits = fits.0;
-        of = record { below = below.0; here = yes.1 } }, rest))
+    (λ yes. subst (λ (b : Bool). AllByRecursion (IsPutFor rule m j) (cond b (x ∷ inner) inner)) (sym yes.0) (
+      record {
+        fits = fits.0;
+        of = record { below = below.0; here = yes.1 };
+      },
+      rest,
+    ))
     (λ other. subst (λ (b : Bool). AllByRecursion (IsPutFor rule m j) (cond b (x ∷ inner) inner)) (sym other.0) rest)
     (eqb_tells (m.part x.cell) j)
 

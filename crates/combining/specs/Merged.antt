@@ -25,14 +25,14 @@ pub record IsMerged (m : Shape) (rule : Rule) (j : ℕ) (columns : List (List �
   pub none : result ≡ None → (c : ℕ) → IsOf m j c → refusal (verdict_on rule (entry_read rule m j columns c)) ≡ None
   pub least : (c : ℕ) (kind : Kind) → result ≡ Some (c, kind)
       → IsOf m j c × (refusal (verdict_on rule (entry_read rule m j columns c)) ≡ Some kind)
-          × ((d : ℕ) → IsOf m j d → d < c → refusal (verdict_on rule (entry_read rule m j columns d)) ≡ None)
+      × ((d : ℕ) → IsOf m j d → d < c → refusal (verdict_on rule (entry_read rule m j columns d)) ≡ None)
 
 -- the least cell of module j that two or more ask for by read k
 pub record IsLeastShared (m : Shape) (j : ℕ) (columns : List (List ℕ)) (k : ℕ) (result : Option ℕ) : Type 0 where
   pub none : result ≡ None → (c : ℕ) → IsOf m j c → is_several (askers_read m j columns k c) ≡ false
   pub least : (c : ℕ) → result ≡ Some c
       → IsOf m j c × (is_several (askers_read m j columns k c) ≡ true)
-          × ((d : ℕ) → IsOf m j d → d < c → is_several (askers_read m j columns k d) ≡ false)
+      × ((d : ℕ) → IsOf m j d → d < c → is_several (askers_read m j columns k d) ≡ false)
 
 -- two or more readers are in conflict
 abbrev pub shared : Option Bool → Option Kind

@@ -45,7 +45,7 @@ MergedConflict = (t : Setting) (w : ℕ) (received : List (MessageHeader × List
     (at : Moment) →
     IsLawful t.map → w < workers t → IsMerged t.map t.code.rule w (put_parts t.code.rule received) old new result →
     total None least (λ c. put_conflict (Some at) c
-        (verdict_on t.code.rule (entry_came t.code.rule (messages_read t.code.rule t.map w received) c)))
+    (verdict_on t.code.rule (entry_came t.code.rule (messages_read t.code.rule t.map w received) c)))
     (module_cells t w) ≡ key_of_conflict at result
 
 -- .. and the cell that is told of a private read is the least key that it notes of that read; of a uniform read it notes none.

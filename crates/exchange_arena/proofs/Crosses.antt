@@ -43,15 +43,19 @@ word-sync = search sendable
 pub Run-send : IsSend run.the_row
 Run-send =
     let O = run.the_type in let all : AllSend (fields O) = (search sendable, tt) in owning_send O all
-    (λ d. (lies (Array u64 (length d.items)) (array_send u64 (length d.items) word-send) d.ptr d.items,
-        room (words (d.room - length d.items)) (d.ptr +ₚ (length d.items * 8))))
+    (λ d. (
+      lies (Array u64 (length d.items)) (array_send u64 (length d.items) word-send) d.ptr d.items,
+      room (words (d.room - length d.items)) (d.ptr +ₚ (length d.items * 8)),
+    ))
     (λ k. quiet (to O) (exits_of k (fields O)) ((struct_send (shape O) all).leaving k))
 
 pub Run-sync : IsSync run.the_row
 Run-sync =
     let O = run.the_type in record {
-      shared = λ d b o κ. ((struct_sync (shape O) (search sendable, tt)).shared (to O d) b o κ,
-          (inside d.ptr, (array_sync u64 (length d.items) word-sync).shared d.items (block_of d.ptr) (count_of d.ptr) κ));
+      shared = λ d b o κ. (
+        (struct_sync (shape O) (search sendable, tt)).shared (to O d) b o κ,
+        (inside d.ptr, (array_sync u64 (length d.items) word-sync).shared d.items (block_of d.ptr) (count_of d.ptr) κ),
+      );
     }
 
 module _ (A : RattleType) (g : Ghosts A.Denot) where
@@ -59,7 +63,7 @@ module _ (A : RattleType) (g : Ghosts A.Denot) where
   Deed-send f =
       let O = deed.the_type A g in let all : AllSend (fields O) = (search sendable, tt) in
       owning_send O all (λ d. f.frees d.alloc (words d.len) d.base)
-          (λ k. quiet (to O) (exits_of k (fields O)) ((struct_send (shape O) all).leaving k))
+      (λ k. quiet (to O) (exits_of k (fields O)) ((struct_send (shape O) all).leaving k))
 
   pub Deed-sync : IsSync (deed.the_row A g)
   Deed-sync = let O = deed.the_type A g in

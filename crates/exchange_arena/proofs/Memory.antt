@@ -54,13 +54,13 @@ module _ {M : Type 1} {𝓤 : Ura M} (𝓛 : Logic 𝓤) (b : ℕ) where
   forgets : (xs : List ℕ) (n o : ℕ) → sem 𝓛 (part_at (Array u64 n) full_share xs b o) ⊢ room n o
   forgets xs n o = qed 𝓛 (‵ (part_at (Array u64 n) full_share xs b o) ∷ []) ∵
       use1 𝓛 (some (λ (v : Val). ‵ (fat full_share (words n) b o v) ⊛ ‵ ((Array u64 n).own_val xs (v ∷ []))))
-          (part_out 𝓛 (Array u64 n) refl full_share xs b o) $ pick ! (λ v. split ! $
+      (part_out 𝓛 (Array u64 n) refl full_share xs b o) $ pick ! (λ v. split ! $
       keep ! (0 ∷ []) $ by ! (𝓛.laws.at_room (words n) b o v))
 
   pub all_out : (xs : List ℕ) (n o : ℕ) → length xs ≤ n → sem 𝓛 (run_owns (block_ptr b o) n xs) ⊢ room n o
   all_out xs n o le = qed 𝓛 (‵ (run_owns (block_ptr b o) n xs) ∷ []) ∵ fsplit ! $
       use1 𝓛 (‵ (froom (words (length xs)) b o)) (forgets xs (length xs) o) $ by !
-          (room_joined (length xs) (n - length xs) n o (omega arith))
+      (room_joined (length xs) (n - length xs) n o (omega arith))
 
   pub all_in : (n o : ℕ) → room n o ⊢ sem 𝓛 (run_owns (block_ptr b o) n [])
   all_in n o =
@@ -68,7 +68,7 @@ module _ {M : Type 1} {𝓤 : Ura M} (𝓛 : Logic 𝓤) (b : ℕ) where
       qed 𝓛 (‵ (froom (words n) b o) ∷ []) ∵
       rewrite ! 0 (λ (u : ℕ × ℕ). ‵ (froom (words u.0) b u.1)) {x = (n - 0, o + 0 * 8)} {y = (n, o)} (λ i. (same i, at i)) refl $
       nothing ! $ feq_i ! ℕ 0 0 refl $ fjoin ! $ use1 𝓛 (‵ (part_at (Array u64 0) full_share [] b o))
-          (Array-whole 𝓛 u64 full_share 0 [] b o) $ fjoin ! $ done !
+      (Array-whole 𝓛 u64 full_share 0 [] b o) $ fjoin ! $ done !
 
   abbrev Row : ℕ → List ℕ → Fml
   Row o xs = row u64 full_share xs b o
@@ -96,9 +96,9 @@ module _ {M : Type 1} {𝓤 : Ura M} (𝓛 : Logic 𝓤) (b : ℕ) where
   next_out xs n o lt =
       let k = length xs in let one : n - k ≡ suc (n - suc k) = omega arith in
       qed 𝓛 (‵ (run_owns (block_ptr b o) n xs) ∷ []) ∵ fsplit ! $ move ! (1
-          ∷ []) $ rewrite ! 0 (λ (j : ℕ). ‵ (froom (words j) b (o + k * 8))) one refl $
+      ∷ []) $ rewrite ! 0 (λ (j : ℕ). ‵ (froom (words j) b (o + k * 8))) one refl $
       use1 𝓛 (‵ (froom (ty_int w64) b (o + k * 8)) ⊛ ‵ (froom (words (n - suc k)) b (o + k * 8 + 8)))
-          (𝓛.laws.room_uncons (ty_int w64) (n - suc k) b (o + k * 8)) $ split ! $
+      (𝓛.laws.room_uncons (ty_int w64) (n - suc k) b (o + k * 8)) $ split ! $
       rewrite ! 0 (λ (j : ℕ). ‵ (froom (ty_int w64) b j)) {x = k * 8 + o} (omega arith) refl $ move ! (0 ∷ 2 ∷ 1 ∷ []) $ done !
 
   pub next_in : (xs : List ℕ) (x n o : ℕ) → length xs < n → H.at full_share (ty_int w64) b (length xs * 8 + o)
@@ -107,15 +107,15 @@ module _ {M : Type 1} {𝓤 : Ura M} (𝓛 : Logic 𝓤) (b : ℕ) where
       let k = length xs in let long : length (xs ++ x ∷ []) ≡ suc k = length-append xs (x ∷ []) ∙ omega arith in
       qed 𝓛 (‵ (fat full_share (ty_int w64) b (k * 8 + o) (vint w64 x)) ∷ ‵ (Others xs n o) ∷ []) ∵
       use1 𝓛 (‵ (part_at u64 full_share x b (k * 8 + o))) (uint_in 𝓛 full_share w64 x b (k * 8 + o)) $ nothing ! $ move ! (1 ∷ 0
-          ∷ []) $ fjoin ! $ move ! (1 ∷ []) $ fsplit ! $
+      ∷ []) $ fjoin ! $ move ! (1 ∷ []) $ fsplit ! $
       use1 𝓛 (‵ (Row o xs)) (apart xs k o) $ move ! (0 ∷ 2 ∷ []) $ use2 𝓛 (‵ (Row o (xs ++ x ∷ [])))
-          (glued xs (x ∷ []) o (k * 8 + o) refl) $
+      (glued xs (x ∷ []) o (k * 8 + o) refl) $
       use1 𝓛 (‵ (part_at (Array u64 (length (xs ++ x ∷ []))) full_share (xs ++ x ∷ []) b o))
-          (whole (xs ++ x ∷ []) (length (xs ++ x ∷ [])) o refl) $ move ! (1 ∷ []) $
+      (whole (xs ++ x ∷ []) (length (xs ++ x ∷ [])) o refl) $ move ! (1 ∷ []) $
       rewrite ! 0 (λ (u : ℕ × ℕ). ‵ (froom (words u.0) b u.1)) {x = (n - length (xs ++ x ∷ []), o + length (xs ++ x ∷ []) * 8)} {y =
-          (n - suc k, o + k * 8 + 8)}
+      (n - suc k, o + k * 8 + 8)}
       (let e₀ : n - suc k ≡ n - length (xs ++ x ∷ []) = omega arith in let e₁ : o + k * 8 + 8 ≡ o + length (xs ++ x ∷ []) * 8 =
-          omega arith in λ i. (e₀ i, e₁ i)) refl $ move ! (1 ∷ 0 ∷ []) $ fjoin ! $ done !
+      omega arith in λ i. (e₀ i, e₁ i)) refl $ move ! (1 ∷ 0 ∷ []) $ fjoin ! $ done !
 
   -- the words, and the room after the m that are next
   abbrev pub Around : List ℕ → ℕ → ℕ → ℕ → Fml
@@ -128,12 +128,12 @@ module _ {M : Type 1} {𝓤 : Ura M} (𝓛 : Logic 𝓤) (b : ℕ) where
       let k = length xs in
       qed 𝓛 (‵ (run_owns (block_ptr b o) n xs) ∷ []) ∵ fsplit ! $ move ! (1 ∷ []) $
       use1 𝓛 (‵ (froom (words m) b (o + k * 8)) ⊛ ‵ (froom (words (n - (k + m))) b (o + k * 8 + m * 8)))
-          (room_parted m (n - (k + m)) (n - k) (o + k * 8) (omega arith)) $ split ! $
+      (room_parted m (n - (k + m)) (n - k) (o + k * 8) (omega arith)) $ split ! $
       rewrite ! 0 (λ (j : ℕ). ‵ (froom (words m) b j)) {x = k * 8 + o} (omega arith) refl $ move ! (0 ∷ 2 ∷ 1 ∷ []) $ done !
 
   pub chunk_in : (xs ys : List ℕ) (m n o : ℕ) → length ys ≡ m → length xs + m ≤ n
       → sem 𝓛 (part_at (Array u64 m) full_share ys b (length xs * 8 + o)) ∗ sem 𝓛 (Around xs m n o) ⊢ sem 𝓛 (run_owns (block_ptr b o) n (xs
-          ++ ys))
+      ++ ys))
   chunk_in xs ys m n o count le =
       let k = length xs in let all = xs ++ ys in let long : length all ≡ k + m = length-append xs ys ∙ omega (arith, count) in
       qed 𝓛 (‵ (part_at (Array u64 m) full_share ys b (k * 8 + o)) ∷ ‵ (Around xs m n o) ∷ []) ∵
@@ -141,9 +141,9 @@ module _ {M : Type 1} {𝓤 : Ura M} (𝓛 : Logic 𝓤) (b : ℕ) where
       use1 𝓛 (‵ (Row o xs)) (apart xs k o) $ move ! (0 ∷ 2 ∷ []) $ use2 𝓛 (‵ (Row o all)) (glued xs ys o (k * 8 + o) refl) $
       use1 𝓛 (‵ (part_at (Array u64 (length all)) full_share all b o)) (whole all (length all) o refl) $ move ! (1 ∷ []) $
       rewrite ! 0 (λ (u : ℕ × ℕ). ‵ (froom (words u.0) b u.1)) {x = (n - length all, o + length all * 8)} {y =
-          (n - (k + m), o + k * 8 + m * 8)}
+      (n - (k + m), o + k * 8 + m * 8)}
       (let e₀ : n - (k + m) ≡ n - length all = omega (arith, long) in let e₁ : o + k * 8 + m * 8 ≡ o + length all * 8 =
-          omega (arith, long) in λ i. (e₀ i, e₁ i)) refl $ move ! (1 ∷ 0 ∷ []) $ fjoin ! $ done !
+      omega (arith, long) in λ i. (e₀ i, e₁ i)) refl $ move ! (1 ∷ 0 ∷ []) $ fjoin ! $ done !
 
 pub none_at_null : {M : Type 1} {𝓤 : Ura M} (𝓛 : Logic 𝓤) (n : ℕ) (xs : List ℕ) → ent 𝓤 (sem 𝓛 (run_owns null_ptr n xs)) (never 𝓤)
 none_at_null {𝓤 = 𝓤} 𝓛 n xs = fst∗ 𝓤 (never 𝓤) (never 𝓤)

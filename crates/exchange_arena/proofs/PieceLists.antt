@@ -55,11 +55,11 @@ last_of b n ys xs x split all =
     let m = length xs in
     let seen : map emptied_piece (xs ++ x ∷ []) ≡ first_pieces b n = ap (map emptied_piece) (sym split) ∙ all in
     let count : n ≡ suc m = sym (length-first_pieces b n) ∙ ap length (sym seen) ∙ length-map (xs ++ x ∷ []) emptied_piece
-        ∙ length-append xs (x ∷ []) ∙ omega arith in
+    ∙ length-append xs (x ∷ []) ∙ omega arith in
     let both : map emptied_piece xs ++ emptied_piece x ∷ [] ≡ first_pieces b m ++ piece_at b m ∷ [] =
-        sym (map-append emptied_piece xs (x ∷ [])) ∙ seen ∙ ap (first_pieces b) count in
+    sym (map-append emptied_piece xs (x ∷ [])) ∙ seen ∙ ap (first_pieces b) count in
     let two = shorter (map emptied_piece xs) (first_pieces b m) (emptied_piece x) (piece_at b m) (length-map xs emptied_piece
-        ∙ sym (length-first_pieces b m)) both in
+    ∙ sym (length-first_pieces b m)) both in
     record {
       count = count;
       others = two.0;
@@ -110,13 +110,13 @@ row_within i j side row column = let next : suc i * side ≤ side * side = mul-l
 pub covering_stand_in_order : (b : BlockShape) (xs : List PieceState) → Covers b xs → StandInOrder b xs
 covering_stand_in_order b xs covered =
     let count : length xs ≡ b.side * b.side = sym (length-map xs emptied_piece) ∙ ap length covered
-        ∙ length-first_pieces b (b.side * b.side) in
+    ∙ length-first_pieces b (b.side * b.side) in
     record {
       count = count;
       places = λ k x found.
           let within : k < b.side * b.side = omega (arith, slice_get_within xs k x found, count) in
           let seen : slice_get (map emptied_piece xs) k ≡ Some (emptied_piece x) = slice_get-map emptied_piece xs k
-              ∙ ap (option_map emptied_piece) found in
+          ∙ ap (option_map emptied_piece) found in
           same_Some (emptied_piece x) (piece_at b k) (sym seen ∙ ap (λ l. slice_get l k) covered ∙ slice_get-pieces_of b k within);
     }
 
@@ -129,7 +129,7 @@ in_order_cover b xs order =
     let seen : slice_get (map emptied_piece xs) k ≡ Some (piece_at b k) =
     slice_get-map emptied_piece xs k ∙ ap (option_map emptied_piece) found ∙ ap Some (order.places k (get_or xs k d) found) in
     get_or_from_slice_get (map emptied_piece xs) k (piece_at b k) d seen
-        ∙ sym (get_or-first_pieces b n k d (omega (arith, inside, order.count))))
+    ∙ sym (get_or-first_pieces b n k d (omega (arith, inside, order.count))))
 
 map-reverse : {X Y : Type 0} (f : X → Y) (xs : List X) → map f (reverse xs) ≡ reverse (map f xs)
 map-reverse f [] = refl

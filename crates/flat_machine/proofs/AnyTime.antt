@@ -138,14 +138,14 @@ module _ (code : SuperstepCode) (formed : IsWellFormed code) (bound : ℕ) (one 
         (λ l. inr (late_verdict code formed bound one input n l.1 l.0 l.2
         ∙ ap (λ (s : State). faulted l.1 (items_below l.1.count s.flat.uniform.output)) e
         ∙ sym (late_verdict code formed bound two input n l.1 (ap (λ (s : State). s.way) (sym e)
-            ∙ l.0) (subst (λ (s : State). IsLate code l.1 s.flat) e l.2))))
+        ∙ l.0) (subst (λ (s : State). IsLate code l.1 s.flat) e l.2))))
         (step_alike (after_one n) (states_describe code formed bound one input n))
       where
         last : (judges : ℕ → Bool) (n : ℕ) →
             steps code bound judges (suc n) (opening input) ≡ step code bound judges (steps code bound judges n (opening input))
         last judges n =
             ap (λ k. steps code bound judges k (opening input)) (let h : suc n ≡ n + 1 = omega arith in h)
-                ∙ steps_more code bound judges n 1 (opening input)
+            ∙ steps_more code bound judges n 1 (opening input)
 
     all_same : (n : ℕ) → AreSame n
     all_same zero = inl refl
@@ -164,9 +164,10 @@ module _ (code : SuperstepCode) (formed : IsWellFormed code) (bound : ℕ) (one 
         }
 
 pub any_time_of_verdict : AnyTimeOfVerdict
-any_time_of_verdict code formed judges input bound verdict =
-    (λ o. other_outcome code formed bound judges everywhere input verdict o,
-        λ o. other_outcome code formed bound everywhere judges input verdict o)
+any_time_of_verdict code formed judges input bound verdict = (
+  λ o. other_outcome code formed bound judges everywhere input verdict o,
+  λ o. other_outcome code formed bound everywhere judges input verdict o,
+)
 
 -- ---- a key is for good
 
@@ -233,7 +234,7 @@ module _ (code : SuperstepCode) (formed : IsWellFormed code) (bound : ℕ) (judg
     at_mark line is true e =
         closes false (mark_asks_none code here.place here.flat agrees line (fits (Mark line) is))
         (goes (Mark line) is ∙ ap (λ c. if c then closed code false here.place here.flat else
-            going (here.place + 1) (after_instr code (Mark line) here.flat)) e)
+        going (here.place + 1) (after_instr code (Mark line) here.flat)) e)
     at_mark line is false e =
         let g = after_instr code (Mark line) here.flat in
         let s = one_more (going (here.place + 1) g)

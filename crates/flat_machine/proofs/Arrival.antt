@@ -49,7 +49,7 @@ exchanged_by code purpose place f way = record { flat = after_exchange code purp
 -- after an exchange a run goes on, or it is over
 pub exchanged_on : (code : SuperstepCode) (judges : ℕ → Bool) (purpose : Purpose) (place : ℕ) (f : Flat) →
     (exchanged code judges purpose place f ≡ going (place + 1) (after_exchange code purpose f))
-        ⊎ IsPast (exchanged code judges purpose place f).way
+    ⊎ IsPast (exchanged code judges purpose place f).way
 exchanged_on code judges purpose place f = go (judges place)
   where
     go : (b : Bool) → let way = if b then decided purpose f.uniform f.key On else On in
@@ -165,7 +165,7 @@ module _ (code : SuperstepCode) (formed : IsWellFormed code) (bound : ℕ) where
       let u = fuel.up in
       let v = fuel.inside in
       ⊎_elim (λ x. ⊎_elim (λ m. let l = m.1 in omega (arith, l)) (λ l. omega (arith, l)) x) (λ x. let l = x.1 in
-          omega (arith, l, u, v)) fuel.enough
+      omega (arith, l, u, v)) fuel.enough
 
   -- ---- runs
 
@@ -181,7 +181,7 @@ module _ (code : SuperstepCode) (formed : IsWellFormed code) (bound : ℕ) where
         Ends n (exchanged code judges purpose place f)
     exchanged_ends n purpose place f h =
         ⊎_elim (λ e. subst (Ends n) (sym e) h) (past_ends n (exchanged code judges purpose place f))
-            (exchanged_on code judges purpose place f)
+        (exchanged_on code judges purpose place f)
 
     closed_ends : (n : ℕ) (ended : Bool) (place : ℕ) (f : Flat) → Ends n (closed code ended place f)
     closed_ends n ended place f = past_ends n (closed code ended place f) tt
@@ -248,4 +248,4 @@ pub arrives : (code : SuperstepCode) → IsWellFormed code → (bound : ℕ) (ju
 arrives code formed bound judges input =
     let n = (bound + 1) * length code.instructions in
     past_has_outcome code (steps code bound judges n (opening input))
-        (ends code formed bound judges n 0 (opening input).flat (begins code formed bound))
+    (ends code formed bound judges n 0 (opening input).flat (begins code formed bound))

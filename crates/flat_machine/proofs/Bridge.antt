@@ -26,11 +26,11 @@ uniform f = f.uniform
 module _ (code : SuperstepCode) (bound : ℕ) {R Q : Type 0} (Rel : R → Q → Type 0) (place : ℕ) (f : Flat)
     (nowhere : R) (nowheres : Q) (lost : Rel nowhere nowheres)
     (stops : Stop → ℕ → Flat → R) (stopping : Stop → ℕ → Flat → Q) (stops_same : (stop : Stop) →
-        Rel (stops stop place f) (stopping stop place f))
+    Rel (stops stop place f) (stopping stop place f))
     (on : ℕ → Flat → R) (going_on : ℕ → Flat → Q) (goes : (k : ℕ) (g : Flat) → Rel (on k g) (going_on k g)) where
   marked : (line : ℕ) (b : Bool) →
       Rel (if b then stops (ToClose false) place f else on (place + 1) (after_instr code (Mark line) f))
-          (if b then stopping (ToClose false) place f else going_on (place + 1) (after_instr code (Mark line) f))
+      (if b then stopping (ToClose false) place f else going_on (place + 1) (after_instr code (Mark line) f))
   marked line true = stops_same (ToClose false)
   marked line false = goes (place + 1) (after_instr code (Mark line) f)
 
@@ -83,8 +83,11 @@ module _ (t : Plan) where
   -- a close takes one exchange, or two
   module _ (s : State) (ended : Bool) (place : ℕ) (f : Flat) where
     abbrev pub closing : Bool → State
-    closing b = after t.code (record { purpose = if b then Sends else Closes; state =
-        record s { flat = f; place = place; way = Ending ended } })
+    closing b = after t.code (record {
+      purpose = if b then Sends else Closes;
+      state =
+          record s { flat = f; place = place; way = Ending ended };
+    })
 
     abbrev pub closed_if : Bool → State
     closed_if b = let last = if b then after_send t.code f else f in record { flat = last; place = place; way = Past last.key ended }
@@ -99,11 +102,14 @@ module _ (t : Plan) where
         ∙ ap (λ c. Some (outcome_of t.code (closed_if c))) (sym e)
       where
         run_ended : (closing true).way ≡ Ending ended → run t (suc (suc x))
-            (closing true) ≡ Some (outcome_of t.code (record { flat = after_send t.code f; place = place;
-            way = Past (after_send t.code f).key ended }))
+            (closing true) ≡ Some (outcome_of t.code (record {
+              flat = after_send t.code f;
+              place = place;
+              way = Past (after_send t.code f).key ended;
+            }))
         run_ended h =
             ap (λ w. if is_over w then Some (outcome_of t.code (closing true)) else
-                run t (suc x) (after t.code (ready_by t (record (closing true) { way = w }) w))) h
+            run t (suc x) (after t.code (ready_by t (record (closing true) { way = w }) w))) h
     closes x false e =
         ap (λ c. Some (outcome_of t.code (closed_if c))) (sym e)
 
@@ -116,7 +122,7 @@ module _ (t : Plan) where
   abbrev Comes : ℕ → Verdict → Type 0
   Comes k v = k ≤ t.enough → (place : ℕ) (f : Flat) → outcome_of t.code (many k (going place f)) ≡ Some v →
       (a x : ℕ) → k ≤ a → k ≤ x → (s : State) → s.way ≡ On →
-          onward x s (until t.bound uniform (after_instr t.code) t.code.instructions a place f) ≡ Some (Some v)
+      onward x s (until t.bound uniform (after_instr t.code) t.code.instructions a place f) ≡ Some (Some v)
 
   module _ (v : Verdict) where
     settles : (k : ℕ) → Comes k v → k ≤ t.enough → (s : State) → outcome_of t.code (many k s) ≡ Some v → (x : ℕ) → k ≤ x →
@@ -141,10 +147,10 @@ module _ (t : Plan) where
       -- an exchange that may decide
       exchanges : (p : Purpose) (place : ℕ) (f : Flat) →
           outcome_of t.code (many k (exchanged t.code everywhere p place f)) ≡ Some v →
-              run t (suc (suc x)) (after t.code (record { purpose = p; state = record s { flat = f; place = place + 1 } })) ≡ Some (Some v)
+          run t (suc (suc x)) (after t.code (record { purpose = p; state = record s { flat = f; place = place + 1 } })) ≡ Some (Some v)
       exchanges p place f o =
           ap (λ w. run t (suc (suc x)) (record { flat = after_exchange t.code p f; place = place + 1; way = decided p f.uniform f.key w }))
-              on
+          on
           ∙ settles k comes enough (exchanged t.code everywhere p place f) o x l
 
       stops : (place : ℕ) (f : Flat) (stop : Stop) → Same (stopped t.code everywhere stop place f) (At stop place f)
@@ -169,7 +175,7 @@ module _ (t : Plan) where
         let kx : k ≤ x = omega (arith, lx) in
         let kx2 : k ≤ suc x = omega (arith, lx) in
         advances t.code t.bound (Same k (comes_on k) e x kx s on) place f (lost_at place f) Nowhere
-            (lost k (comes_on k) e x kx s on place f)
+        (lost k (comes_on k) e x kx s on place f)
         (stopped t.code everywhere) (λ stop n g. At stop n g) (stops k (comes_on k) e x kx s on place f)
         going (until t.bound uniform (after_instr t.code) t.code.instructions a) (λ n g h. comes_on k e n g h a (suc x) ka kx2 s on)
         (slice_get t.code.instructions place) o

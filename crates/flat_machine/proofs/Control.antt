@@ -33,7 +33,7 @@ module _ (t : Setting) where
       (nowhere : R) (nowheres : Q) (lost : Rel nowhere (λ w. nowheres))
       (stops : Stop → ℕ → Flat → R) (stopping : Stop → ℕ → Worker → Q)
       (stopped : (stop : Stop) (place : ℕ) (f : Flat) (ws : ℕ → Worker) → Splits t f ws →
-          Rel (stops stop place f) (λ w. stopping stop place (ws w)))
+      Rel (stops stop place f) (λ w. stopping stop place (ws w)))
       (next : ℕ → Flat → R) (nexts : ℕ → ℕ → Worker → Q)
       (goes : (place : ℕ) (f : Flat) (ws : ℕ → Worker) → Splits t f ws → Rel (next place f) (λ w. nexts w place (ws w))) where
     module _ (place : ℕ) (f : Flat) (ws : ℕ → Worker) (s : Splits t f ws) where
@@ -57,9 +57,9 @@ module _ (t : Setting) where
       advances None = lost
       advances (Some (Mark line)) =
           same _ (λ w. if eqb f.uniform.count t.bound then stopping (ToClose false) place (ws w) else
-              nexts w (place + 1) (worker.after_instr t w (Mark line) (ws w))) _
+          nexts w (place + 1) (worker.after_instr t w (Mark line) (ws w))) _
           (λ w l. ap (λ (u : UniformPart). if eqb u.count t.bound then stopping (ToClose false) place (ws w) else
-              nexts w (place + 1) (worker.after_instr t w (Mark line) (ws w))) (sym (s.uniform w l)))
+          nexts w (place + 1) (worker.after_instr t w (Mark line) (ws w))) (sym (s.uniform w l)))
           (marked line (eqb f.uniform.count t.bound))
       advances (Some Send) = stopped ToSend place f ws s
       advances (Some Reply) = stopped ToReply place f ws s
@@ -68,7 +68,7 @@ module _ (t : Setting) where
       advances (Some (JumpIfZero r target)) =
           same _ (λ w. if is_nonzero (f.uniform.registers r) then nexts w (place + 1) (ws w) else nexts w target (ws w)) _
           (λ w l. ap (λ (u : UniformPart). if is_nonzero (u.registers r) then nexts w (place + 1) (ws w) else nexts w target (ws w))
-              (sym (s.uniform w l)))
+          (sym (s.uniform w l)))
           (forked target (is_nonzero (f.uniform.registers r)))
       advances (Some Halt) = stopped (ToClose true) place f ws s
       advances (Some i) = acts i
@@ -88,13 +88,13 @@ module _ (t : Setting) (instr : InstructionsSplit t) where
 
   pub until_splits : (code : List Instr) (n place : ℕ) (f : Flat) (ws : ℕ → Worker) → Splits t f ws →
       ArrivedAs (until t.bound (flat_uniform t) (flat.after_instr t.code) code n place f)
-          (λ w. until t.bound (worker_uniform t) (worker.after_instr t w) code n place (ws w))
+      (λ w. until t.bound (worker_uniform t) (worker.after_instr t w) code n place (ws w))
   until_splits code zero place f ws s = λ w l. refl
   until_splits code (suc n) place f ws s =
       advances t instr ArrivedAs arrived_same Nowhere Nowhere (λ w l. refl) (λ stop k x. At stop k x) (λ stop k x. At stop k x)
-          (λ stop k g xs r. (xs, λ w l. refl, r))
+      (λ stop k g xs r. (xs, λ w l. refl, r))
       (until t.bound (flat_uniform t) (flat.after_instr t.code) code n) (λ w. until t.bound (worker_uniform t) (worker.after_instr t w) code
-          n) (until_splits code n) place f ws s (slice_get code place)
+      n) (until_splits code n) place f ws s (slice_get code place)
 
   -- and so at each moment
   abbrev pub WalkedAs : Option (ℕ × Flat) → (ℕ → Option (ℕ × Worker)) → Type 0
@@ -108,9 +108,9 @@ module _ (t : Setting) (instr : InstructionsSplit t) where
 
   pub walked_splits : (code : List Instr) (n place : ℕ) (f : Flat) (ws : ℕ → Worker) → Splits t f ws →
       WalkedAs (walked t.bound (flat_uniform t) (flat.after_instr t.code) code n place f)
-          (λ w. walked t.bound (worker_uniform t) (worker.after_instr t w) code n place (ws w))
+      (λ w. walked t.bound (worker_uniform t) (worker.after_instr t w) code n place (ws w))
   walked_splits code zero place f ws s = (ws, λ w l. refl, s)
   walked_splits code (suc n) place f ws s =
       advances t instr WalkedAs walked_same None None (λ w l. refl) (λ stop k x. None) (λ stop k x. None) (λ stop k g xs r. λ w l. refl)
       (walked t.bound (flat_uniform t) (flat.after_instr t.code) code n) (λ w. walked t.bound (worker_uniform t) (worker.after_instr t w)
-          code n) (walked_splits code n) place f ws s (slice_get code place)
+      code n) (walked_splits code n) place f ws s (slice_get code place)

@@ -91,7 +91,7 @@ module _ (P : ℕ → Type 0) where
   pub noted_of : (code : SuperstepCode) (i : Instr) (f : Flat) → P f.uniform.count → IsKeyOf P (noted code i f)
   noted_of code i f h =
       least_of (uniform_key code i f.uniform) (total None least (λ v. own_key code i f.uniform v (f.own v)) (range f))
-          (fault_of_present f.uniform _ _ _ h)
+      (fault_of_present f.uniform _ _ _ h)
       (total_of (λ v. own_key code i f.uniform v (f.own v)) (λ v. own_of code i f.uniform v (f.own v) h) (range f))
 
   put_conflict_of : (put : Option Moment) (c : ℕ) (v : Option Value) → IsPutOf P put → IsKeyOf P (put_conflict put c v)
@@ -120,7 +120,7 @@ module _ (P : ℕ → Type 0) where
   read_conflicts_of code f k [] h = tt
   read_conflicts_of code f k (x ∷ xs) h =
       least_of (read_conflict code f k x) (read_conflicts code f (k + 1) xs) (read_conflict_of code f k x h.0)
-          (read_conflicts_of code f (k + 1) xs h.1)
+      (read_conflicts_of code f (k + 1) xs h.1)
 
   -- what a send notes of the reads
   pub reads_of : (code : SuperstepCode) (f : Flat) → AreReadsOf P f.uniform.asks →
@@ -206,7 +206,7 @@ module _ (code : SuperstepCode) (f : Flat) (c : IsCounted f) where
         (least_of (λ n. n ≤ f.uniform.count) (owed code f) (if shares_reads code.rule then None else read_conflicts code f 0 f.uniform.asks)
         (owed_of (λ n. n ≤ f.uniform.count) code f c.put)
         (reads_of (λ n. n ≤ f.uniform.count) code f (reads_also (λ n. n ≡ f.uniform.count) (λ n. n ≤ f.uniform.count) same f.uniform.asks
-            c.asks)));
+        c.asks)));
     put = tt;
     asks = tt;
     output = c.output;

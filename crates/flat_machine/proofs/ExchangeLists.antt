@@ -40,7 +40,7 @@ module _ (code : SuperstepCode) (bound : ℕ) (judges : ℕ → Bool) where
 
   pub sum_from : (m n k : ℕ) → m + n ≡ k → (s : State) →
       exchanges_from code bound judges k s ≡ exchanges_from code bound judges m s
-          ++ exchanges_from code bound judges n (steps code bound judges m s)
+      ++ exchanges_from code bound judges n (steps code bound judges m s)
   sum_from zero n k e s = ap (λ j. exchanges_from code bound judges j s) (let h : k ≡ n = omega (arith, e) in h)
   sum_from (suc m) n zero e s = absurd (omega (arith, e))
   sum_from (suc m) n (suc k) e s =

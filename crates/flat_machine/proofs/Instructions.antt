@@ -51,7 +51,7 @@ collected rule c index write (x ∷ xs) = go (collected rule c index write xs) (
     go : total None (join rule) (entry_to rule c) (filter_map (λ y. by_processor (index y) (write y)) xs)
         ≡ total None (join rule) (λ y. single_to rule c (index y) (write y)) xs → (o : Option (ℕ × ℤ)) →
         total None (join rule) (entry_to rule c)
-            (cons_option (by_processor (index x) o) (filter_map (λ y. by_processor (index y) (write y)) xs))
+        (cons_option (by_processor (index x) o) (filter_map (λ y. by_processor (index y) (write y)) xs))
         ≡ join rule (single_to rule c (index x) o) (total None (join rule) (λ y. single_to rule c (index y) (write y)) xs)
     go same None = same
     go same (Some (cell, value)) = ap (join rule (single_to rule c (index x) (Some (cell, value)))) same
@@ -107,9 +107,9 @@ module _ (t : Setting) (fits : IsMapFor t.code t.map) where
       let key = λ (u : UniformPart) (x : ℕ × PrivatePart). own_key t.code i u x.0 x.1 in
       ap (λ (u : UniformPart). least (uniform_key t.code i u) (total None least (key u) (numbered t w s))) same
       ∙ ap (λ (xs : List (ℕ × PrivatePart)). least (uniform_key t.code i f.uniform) (total None least (key f.uniform) xs))
-          (numbers f s w same own)
+      (numbers f s w same own)
       ∙ ap (least (uniform_key t.code i f.uniform))
-          (total_map None least (key f.uniform) (λ v. (v, f.own v)) (processors t w f.uniform.width))
+      (total_map None least (key f.uniform) (λ v. (v, f.own v)) (processors t w f.uniform.width))
 
   after_key : (i : Instr) (f : Flat) (ws : ℕ → Worker) → Splits t f ws →
       total None least (λ w. least (ws w).key (worker.noted t w i (ws w))) all ≡ least f.key (flat.noted t.code i f)
@@ -117,15 +117,15 @@ module _ (t : Setting) (fits : IsMapFor t.code t.map) where
       let own = λ (w : ℕ). total None least (λ v. own_key t.code i f.uniform v (f.own v)) (processors t w f.uniform.width) in
       let every = uniform_key t.code i f.uniform in
       total_within None least (λ w. least (ws w).key (worker.noted t w i (ws w))) (λ w. least (ws w).key (least every (own w))) (workers t)
-          0
+      0
       (λ w h. let below : w < workers t = omega (arith, h) in
-          ap (least (ws w).key) (keys_of i f (ws w) w (s.uniform w below) (s.own w below)))
+      ap (least (ws w).key) (keys_of i f (ws w) w (s.uniform w below) (s.own w below)))
       ∙ total_both None least keys_are_monoid (λ w. (ws w).key) (λ w. least every (own w)) all
       ∙ ap (λ k. least k (total None least (λ w. least every (own w)) all)) s.key
       ∙ ap (least f.key) (total_both None least keys_are_monoid (λ w. every) own all)
       ∙ ap (λ k. least f.key (least k (total None least own all))) (noted_by_all every)
       ∙ ap (λ k. least f.key (least every k)) (by_workers None least keys_are_monoid (λ v. own_key t.code i f.uniform v (f.own v))
-          f.uniform.width)
+      f.uniform.width)
 
   -- ---- what is held
 
@@ -152,7 +152,7 @@ module _ (t : Setting) (fits : IsMapFor t.code t.map) where
       ∙ total_joined None (join rule) (entries_are_monoid rule) to (uniform_writes t w i f.uniform) (own_writes t i f.uniform pairs)
       ∙ ap (λ e. join rule e (sum (own_writes t i f.uniform pairs)))
       (collected rule c (λ (x : Option (ℕ × ℤ)). pos 0) (λ (x : Option (ℕ × ℤ)). x) one
-          ∙ neutral_right None (join rule) (entries_are_monoid rule)
+      ∙ neutral_right None (join rule) (entries_are_monoid rule)
       (single_to rule c (pos 0) (mine i f.uniform w)))
       ∙ ap (join rule (single_to rule c (pos 0) (mine i f.uniform w)))
       (collected rule c (λ (x : ℕ × PrivatePart). index_of f.uniform x.0) (λ (x : ℕ × PrivatePart). own_write t.code i x.1) pairs
@@ -161,14 +161,14 @@ module _ (t : Setting) (fits : IsMapFor t.code t.map) where
   -- the uniform write is held once
   written_once : (i : Instr) (u : UniformPart) (c : ℕ) →
       total None (join t.code.rule) (λ w. single_to t.code.rule c (pos 0) (mine i u w)) all ≡ single_to t.code.rule c (pos 0)
-          (uniform_write t.code i u)
+      (uniform_write t.code i u)
   written_once i u c =
       let rule = t.code.rule in
       let entry = single_to rule c (pos 0) (uniform_write t.code i u) in
       total_same None (join rule) (λ w. single_to rule c (pos 0) (mine i u w)) (λ w. cond (eqb 0 w) entry None)
       (λ w. go (eqb w 0) ∙ ap (λ b. cond b entry None) (turned w 0)) all
       ∙ total_at None (join rule) (entries_are_monoid rule) entry 0 (workers t) 0 (omega arith) (let one = fits.lawful.one in
-          omega (arith, one))
+      omega (arith, one))
     where
       go : (b : Bool) → single_to t.code.rule c (pos 0) (if b then uniform_write t.code i u else None)
           ≡ cond b (single_to t.code.rule c (pos 0) (uniform_write t.code i u)) None
@@ -177,7 +177,7 @@ module _ (t : Setting) (fits : IsMapFor t.code t.map) where
 
   after_held : (i : Instr) (f : Flat) (ws : ℕ → Worker) → Splits t f ws → (c : ℕ) →
       total None (join t.code.rule) (λ w. entry_held t.code.rule (worker.after_instr t w i (ws w)) c)
-          all ≡ (flat.after_instr t.code i f).held c
+      all ≡ (flat.after_instr t.code i f).held c
   after_held i f ws s c = go (is_put i)
     where
       go : (b : Bool) →
@@ -190,7 +190,7 @@ module _ (t : Setting) (fits : IsMapFor t.code t.map) where
           let own = λ (w : ℕ). total None join (own_to i f c) (processors t w f.uniform.width) in
           total_within None join (λ w. total None join (entry_to t.code.rule c)
           (uniform_writes t w i (ws w).uniform ++ own_writes t i (ws w).uniform (numbered t w (ws w)))) (λ w. join (first w) (own w))
-              (workers t) 0
+          (workers t) 0
           (λ w h. let below : w < workers t = omega (arith, h) in held_of i f (ws w) w c (s.uniform w below) (s.own w below))
           ∙ total_both None join (entries_are_monoid t.code.rule) first own all
           ∙ ap (λ e. join e (total None join own all)) (written_once i f.uniform c)
@@ -204,7 +204,7 @@ module _ (t : Setting) (fits : IsMapFor t.code t.map) where
       v < (on_uniform t.code i f.uniform).width →
       v % workers t ≡ w → (k c : ℕ) →
       k < length (on_uniform t.code i f.uniform).awaited → cell_at k ((flat.after_instr t.code i f).own v).awaited ≡ Some c →
-          wants k c (ws w).wanted ≡ true
+      wants k c (ws w).wanted ≡ true
   after_wants i f ws s w v w_below v_below here k c few is = go (renews i) refl is
     where
       go : (b : Bool) → renews i ≡ b → cell_at k (if b then fresh else on_own t.code i f.uniform v (f.own v)).awaited ≡ Some c →

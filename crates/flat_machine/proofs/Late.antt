@@ -102,14 +102,14 @@ module _ (code : SuperstepCode) where
     where
       by_key : (g : Flat) → g.uniform.output ≡ f.uniform.output → g.key ≡ Some key →
           outcome_of code (record { flat = g; place = place; way = Past g.key ended }) ≡ faulted key
-              (items_below key.count f.uniform.output)
+          (items_below key.count f.uniform.output)
       by_key g o e =
           ap (λ (k : Option Key). outcome_of code (record { flat = g; place = place; way = Past k ended })) e
           ∙ ap (λ xs. faulted key (items_below key.count xs)) o
 
       go : (b : Bool) → is_held f.uniform.put ≡ b →
           outcome_of code (let last = if b then after_send code f else f in
-              record { flat = last; place = place; way = Past last.key ended })
+          record { flat = last; place = place; way = Past last.key ended })
           ≡ faulted key (items_below key.count f.uniform.output)
       go true e = by_key (after_send code f) refl (told_sent f ∙ ap (least (told code f)) (no_read_keys f h) ∙ none_least (told code f) ∙ t)
       go false e = by_key f refl (sym (told_noted f e) ∙ t)
@@ -120,7 +120,7 @@ module _ (code : SuperstepCode) where
     late_send h = record {
       told = told_noted (after_send code f) refl ∙ told_sent f ∙ ap (λ x. least x (read_keys f)) l.told
           ∙ stays key (read_keys f) (reads_of (λ n. key.count < n) code f (reads_also (λ n. n ≡ f.uniform.count) (λ n. key.count < n) later
-              f.uniform.asks h));
+          f.uniform.asks h));
       over = l.over;
     }
       where
@@ -260,7 +260,7 @@ module _ (code : SuperstepCode) (formed : IsWellFormed code) (bound : ℕ) (judg
   step_fixed : (s : State) → Agrees code s → IsFixed s → IsFixed (step code bound judges s)
   step_fixed s a h =
       ⊎_elim (λ l. subst (λ (w : Way). IsFixed (step_by code bound judges s w)) (sym l.on)
-          (instructed_fixed s.place s.flat (a l.on) l.late l.same))
+      (instructed_fixed s.place s.flat (a l.on) l.late l.same))
       (λ o. subst IsFixed (sym (over_stays code bound judges 1 s (told_not_on s o))) (inr o)) h
 
   steps_fixed : (n : ℕ) (s : State) → Agrees code s → IsFixed s → IsFixed (steps code bound judges n s)
@@ -272,7 +272,7 @@ pub late_verdict : (code : SuperstepCode) → IsWellFormed code → (bound : ℕ
     let s = steps code bound judges n (opening input) in
     s.way ≡ On → IsLate code key s.flat →
     outcome_within code bound judges ((bound + 1) * length code.instructions) input ≡ faulted key
-        (items_below key.count s.flat.uniform.output)
+    (items_below key.count s.flat.uniform.output)
 late_verdict code formed bound judges input n key on l = go (arrives code formed bound judges input)
   where
     s : State
@@ -290,5 +290,5 @@ late_verdict code formed bound judges input n key on l = go (arrives code formed
         (λ m. absurd (past_is_not_on _ (outcome_is_past code (steps code bound judges enough s) a.0 here) m.on))
         (λ e. a.1 ∙ sym here ∙ e)
         (steps_fixed code formed bound judges key (items_below key.count s.flat.uniform.output) enough s
-            (states_describe code formed bound judges input n)
+        (states_describe code formed bound judges input n)
         (inl (record { on = on; late = l; same = refl })))

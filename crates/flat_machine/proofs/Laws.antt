@@ -26,17 +26,27 @@ pub runs_agree : RunsAgree
 runs_agree code input bound verdict = (
   λ h. let r = to_instructions (record { code = code; bound = bound; enough = h.enough }) h.exchanges input verdict h.ends in
       record { instructions = r.instructions; ends = r.ends },
-  λ h. record { enough = h.instructions; exchanges = suc (suc h.instructions);
-      ends = to_exchanges code bound h.instructions input verdict h.ends },
+  λ h. record {
+    enough = h.instructions;
+    exchanges = suc (suc h.instructions);
+    ends = to_exchanges code bound h.instructions input verdict h.ends;
+  },
 )
 
 pub workers_are_flat : WorkersAreFlat
 workers_are_flat code map room input bound verdict = (
-  λ h. (runs_agree code input bound verdict).0 (record { enough = h.enough; exchanges = h.exchanges;
-      ends = sym (outcomes_are_same (setting code map bound h.enough) room h.exchanges input) ∙ h.ends }),
+  λ h. (runs_agree code input bound verdict).0 (record {
+    enough = h.enough;
+    exchanges = h.exchanges;
+    ends = sym (outcomes_are_same (setting code map bound h.enough) room h.exchanges input) ∙ h.ends;
+  }),
   λ h. let r = (runs_agree code input bound verdict).1 h in
-      record { enough = r.enough; exchanges = r.exchanges; ends = outcomes_are_same (setting code map bound r.enough) room r.exchanges input
-      ∙ r.ends },
+      record {
+        enough = r.enough;
+        exchanges = r.exchanges;
+        ends = outcomes_are_same (setting code map bound r.enough) room r.exchanges input
+            ∙ r.ends;
+      },
 )
 
 pub one_control_between : OneControlBetween
@@ -58,7 +68,7 @@ exchanges_are_one code map room input bound verdict made m n e =
     ap made_for (sym m.told) ∙ purposes_are_same t room m.most input ∙ sym r.lists
     ∙ ap purposes_of (all_made code bound everywhere r.instructions n s
     (outcome_is_past code (steps code bound everywhere r.instructions s) verdict r.ends)
-        (outcome_is_past code (steps code bound everywhere n s) verdict e))
+    (outcome_is_past code (steps code bound everywhere n s) verdict e))
 
 pub workers_make_listed : WorkersMakeListed
 workers_make_listed code formed map room input bound verdict o =
@@ -66,7 +76,7 @@ workers_make_listed code formed map room input bound verdict o =
     let n = (bound + 1) * length code.instructions in
     let a = arrives code formed bound everywhere input in
     let e = a.1 ∙ ap (λ (v : Verdict). let x : Option Verdict = Some v in
-        x) (one_end code bound everywhere input n o.instructions a.0 verdict a.1 o.ends) in
+    x) (one_end code bound everywhere input n o.instructions a.0 verdict a.1 o.ends) in
     record {
       made = exchanges_by (setting code map bound b.enough) b.exchanges input;
       makes = record { enough = b.enough; most = b.exchanges; ends = b.ends; told = refl };

@@ -45,8 +45,10 @@ module _ (t : Plan) where
     -- an instruction's state and its exchanges at once
     abbrev both : Option Instr → State × List Exchange
     both o =
-        advance t.bound uniform (after_instr t.code) (lost_at t place f,
-            []) (λ stop k g. (stopped t.code everywhere stop k g, exchanges_at stop g.uniform))
+        advance t.bound uniform (after_instr t.code) (
+          lost_at t place f,
+          [],
+        ) (λ stop k g. (stopped t.code everywhere stop k g, exchanges_at stop g.uniform))
         (λ k g. (going k g, [])) o place f
 
     abbrev exchanges_there : Option Instr → List Exchange
@@ -58,7 +60,7 @@ module _ (t : Plan) where
     states_are : (o : Option Instr) → (both o).0 ≡ led o
     states_are o =
         advances t.code t.bound (λ (x : State × List Exchange) (z : State). x.0 ≡ z) place f (lost_at t place f, []) (lost_at t place f)
-            refl
+        refl
         (λ stop k g. (stopped t.code everywhere stop k g, exchanges_at stop g.uniform)) (stopped t.code everywhere) (λ stop. refl)
         (λ k g. (going k g, [])) going (λ k g. refl) o
 
@@ -66,7 +68,7 @@ module _ (t : Plan) where
     exchanges_are o =
         advances t.code t.bound (λ (x : State × List Exchange) (es : List Exchange). x.1 ≡ es) place f (lost_at t place f, []) [] refl
         (λ stop k g. (stopped t.code everywhere stop k g, exchanges_at stop g.uniform)) (λ stop k g. exchanges_at stop g.uniform)
-            (λ stop. refl)
+        (λ stop. refl)
         (λ k g. (going k g, [])) (λ k g. []) (λ k g. refl) o
 
     abbrev instr : Option Instr
@@ -121,7 +123,7 @@ module _ (t : Plan) where
       closes_back (suc zero) true e h =
           let w : (closing t s ended place f true).way ≡ Ending ended = ap (unended t s ended place f) e in
           let z : None ≡ Some (Some v) =
-              sym (ap (λ y. if is_over y then Some (outcome_of t.code (closing t s ended place f true)) else None) w) ∙ h in
+          sym (ap (λ y. if is_over y then Some (outcome_of t.code (closing t s ended place f true)) else None) w) ∙ h in
           cc
       closes_back (suc zero) false e h = ap (λ c. outcome_of t.code (closed_if t s ended place f c)) e ∙ unsome _ (Some v) h
       closes_back (suc (suc x)) b e h = unsome _ (Some v) (sym (closes t s ended place f x b e) ∙ h)
@@ -137,7 +139,7 @@ module _ (t : Plan) where
 
       closes_for : (x : ℕ) (b : Bool) → is_held f.uniform.put ≡ b → run t x (closing t s ended place f b) ≡ Some (Some v) →
           purposes_of (if b then exchange Sends f.uniform ∷ exchange Closes (uniform_sent f.uniform) ∷ [] else exchange Closes f.uniform
-              ∷ [])
+          ∷ [])
           ≡ last b ∷ purposes_from t x (closing t s ended place f b)
       closes_for zero b e h = cc
       closes_for (suc x) true e h =
@@ -146,8 +148,8 @@ module _ (t : Plan) where
           (sym (ap (λ way. if is_over way then [] else (ready_by t (closing t s ended place f true) way).purpose
           ∷ purposes_from t x (after t.code (ready_by t (record (closing t s ended place f true) { way = way }) way))) w
           ∙ ap (λ ps. Closes ∷ ps) (over_makes_none x
-              (after t.code (record { purpose = Closes; state = record (closing t s ended place f true) { way = Ending ended } })) _ ended
-              refl)))
+          (after t.code (record { purpose = Closes; state = record (closing t s ended place f true) { way = Ending ended } })) _ ended
+          refl)))
       closes_for (suc x) false e h = ap (λ ps. Closes ∷ ps) (sym (over_makes_none (suc x) (closing t s ended place f false) _ ended refl))
 
     not_ending : (p : Purpose) (f : Flat) (ended : Bool) → decided p f.uniform f.key On ≡ Ending ended → ⊥
@@ -170,7 +172,7 @@ module _ (t : Plan) where
       exchange_returns : (p : Purpose) (place : ℕ) (f : Flat) (n : ℕ) →
           many t n (going s.place s.flat) ≡ exchanged t.code everywhere p place f →
           made n (going s.place s.flat) ≡ exchange p f.uniform ∷ [] → run t x (arrived p place f) ≡ Some (Some v) →
-              Returns s (p ∷ purposes_from t x (arrived p place f))
+          Returns s (p ∷ purposes_from t x (arrived p place f))
       exchange_returns p place f n e m h =
           let z = exchanged t.code everywhere p place f in
           subst (λ (y : State). Returns s (p ∷ purposes_from t x y)) (sym (arrived_is p place f))

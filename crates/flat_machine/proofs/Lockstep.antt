@@ -69,10 +69,26 @@ module _ (t : Setting) (room : IsMapFor t.code t.map) where
     -- all stop in the same way
     stops : (stop : Stop) (place : ℕ) (f : Flat) (xs : ℕ → Worker) → Splits t f xs → ReadyAs (flat_run.ready_at s (At stop place f))
         (λ w. ready_at (ws w) (At stop place (xs w)))
-    stops ToSend place f xs x = record { purpose = λ w l. refl; states = record { splits = x; place = λ w l. refl; way = a.way; unrefused =
-        a.unrefused } }
-    stops ToReply place f xs x = record { purpose = λ w l. refl; states = record { splits = x; place = λ w l. refl; way = a.way; unrefused =
-        a.unrefused } }
+    stops ToSend place f xs x = record {
+      purpose = λ w l. refl;
+      states = record {
+        splits = x;
+        place = λ w l. refl;
+        way = a.way;
+        unrefused =
+            a.unrefused;
+      };
+    }
+    stops ToReply place f xs x = record {
+      purpose = λ w l. refl;
+      states = record {
+        splits = x;
+        place = λ w l. refl;
+        way = a.way;
+        unrefused =
+            a.unrefused;
+      };
+    }
     stops (ToVote d) place f xs x =
         record { purpose = λ w l. refl; states = record { splits = x; place = λ w l. refl; way = a.way; unrefused = a.unrefused } }
     stops (ToClose ended) place f xs x = record {
@@ -84,11 +100,19 @@ module _ (t : Setting) (room : IsMapFor t.code t.map) where
         (λ w. ready_at (ws w) (each w))
     arrives Nowhere each h =
         ready_same _ (λ w. ready_at (ws w) Nowhere) _ (λ w l. ap (ready_at (ws w)) (sym (h w l)))
-        (record { purpose = λ w l. refl; states = record { splits = a.splits; place = a.place; way = λ w l. refl; unrefused =
-            a.unrefused } })
+        (record {
+          purpose = λ w l. refl;
+          states = record {
+            splits = a.splits;
+            place = a.place;
+            way = λ w l. refl;
+            unrefused =
+                a.unrefused;
+          };
+        })
     arrives (At stop place f) each h =
         ready_same _ (λ w. ready_at (ws w) (At stop place (h.0 w))) _ (λ w l. ap (ready_at (ws w)) (sym (h.1 w l)))
-            (stops stop place f h.0 h.2)
+        (stops stop place f h.0 h.2)
 
     -- workers that are not on their way close
     closes : ReadyAs (record { purpose = Closes; state = s }) (λ w. record { purpose = Closes; state = ws w })

@@ -35,7 +35,7 @@ is_there (Some b) = true
 
 listed_askers : (k c : ℕ) (own : List PrivatePart) →
     has c (present (map (λ (x : PrivatePart). cell_at k x.asks) own)) ≡ is_there
-        (total None several (λ (x : PrivatePart). asks_for c (cell_at k x.asks)) own)
+    (total None several (λ (x : PrivatePart). asks_for c (cell_at k x.asks)) own)
 listed_askers k c [] = refl
 listed_askers k c (x ∷ own) = go (listed_askers k c own) (cell_at k x.asks)
   where
@@ -65,7 +65,7 @@ both_tests twice false false = refl
 -- where c passes, they come to what stands at c
 asks_sum : (n k c : ℕ) (twice : ℕ → Bool) (test : ℕ → Bool) → test c ≡ true → (ds : List ℕ) →
     total None several (asked_in k c) (asks_passing test n twice ds) ≡ total None several
-        (λ d. cond (eqb d c) (cond (eqb n k) (Some (twice d)) None) None) ds
+    (λ d. cond (eqb d c) (cond (eqb n k) (Some (twice d)) None) None) ds
 asks_sum n k c twice test h [] = refl
 asks_sum n k c twice test h (d ∷ ds) = go (test d) refl (eqb d c) refl
     ∙ ap (several (cond (eqb d c) (cond (eqb n k) (Some (twice d)) None) None)) (asks_sum n k c twice test h ds)
@@ -74,19 +74,19 @@ asks_sum n k c twice test h (d ∷ ds) = go (test d) refl (eqb d c) refl
         total None several (asked_in k c)
         (cond b (record { read = n; cell = d; twice = twice d } ∷ asks_passing test n twice ds) (asks_passing test n twice ds))
         ≡ several (cond (eqb d c) (cond (eqb n k) (Some (twice d)) None) None)
-            (total None several (asked_in k c) (asks_passing test n twice ds))
+        (total None several (asked_in k c) (asks_passing test n twice ds))
     go true e a is = ap (λ o. several o (total None several (asked_in k c) (asks_passing test n twice ds)))
         (both_tests (twice d) (eqb n k) (eqb d c))
     go false e true is = let no : true ≡ false = sym h ∙ ap test (sym (same_number d c is)) ∙ e in absurd (cc)
     go false e false is =
         ap (λ a. several (cond a (cond (eqb n k) (Some (twice d)) None) None)
-            (total None several (asked_in k c) (asks_passing test n twice ds))) (sym is)
+        (total None several (asked_in k c) (asks_passing test n twice ds))) (sym is)
 
 -- what the asks of one read come to, of whichever number
 block : (s : Worker) (n k c : ℕ) (read : Read) (test : ℕ → Bool) → test c ≡ true →
     total None several (asked_in k c) (asks_passing test n (asked_twice s n) (cells_asked s read n))
     ≡ cond (has c (present (read.cell ∷ map (λ (x : PrivatePart). cell_at n x.asks) s.own)))
-        (cond (eqb n k) (Some (asked_twice s n c)) None) None
+    (cond (eqb n k) (Some (asked_twice s n c)) None) None
 block s n k c read test h =
     let cells = present (read.cell ∷ map (λ (x : PrivatePart). cell_at n x.asks) s.own) in
     asks_sum n k c (asked_twice s n) test h (firsts cells)
@@ -99,7 +99,7 @@ askers_of s k c = total None several (λ (x : PrivatePart). asks_for c (cell_at 
 -- a read without a cell of its own is asked for by the processors alone
 block_here : (s : Worker) (k c : ℕ) (read : Read) → read.cell ≡ None →
     cond (has c (present (read.cell ∷ map (λ (x : PrivatePart). cell_at k x.asks) s.own))) (cond (eqb k k) (Some (asked_twice s k c)) None)
-        None
+    None
     ≡ askers_of s k c
 block_here s k c read own =
     let cells = map (λ (x : PrivatePart). cell_at k x.asks) s.own in
@@ -114,7 +114,7 @@ block_here s k c read own =
 
 block_elsewhere : (s : Worker) (n k c : ℕ) (read : Read) → eqb n k ≡ false →
     cond (has c (present (read.cell ∷ map (λ (x : PrivatePart). cell_at n x.asks) s.own))) (cond (eqb n k) (Some (asked_twice s n c)) None)
-        None ≡ None
+    None ≡ None
 block_elsewhere s n k c read apart =
     let b = has c (present (read.cell ∷ map (λ (x : PrivatePart). cell_at n x.asks) s.own)) in
     ap (λ a. cond b (cond a (Some (asked_twice s n c)) None) None) apart ∙ sym (same_either b None)
@@ -123,7 +123,7 @@ block_elsewhere s n k c read apart =
 parted : (s : Worker) (n k c : ℕ) (read : Read) (rest : List Read) (test : ℕ → Bool) → test c ≡ true →
     total None several (asked_in k c) (filter (λ (x : CellAsk). test x.cell) (asks_from s n (read ∷ rest)))
     ≡ several (cond (has c (present (read.cell ∷ map (λ (x : PrivatePart). cell_at n x.asks) s.own)))
-        (cond (eqb n k) (Some (asked_twice s n c)) None) None)
+    (cond (eqb n k) (Some (asked_twice s n c)) None) None)
     (total None several (asked_in k c) (filter (λ (x : CellAsk). test x.cell) (asks_from s (n + 1) rest)))
 parted s n k c read rest test h =
     let test_of = λ (x : CellAsk). test x.cell in
@@ -181,7 +181,7 @@ wants_block n c twice (d ∷ ds) =
 -- a cell that a read asks for is among the asks
 pub wants_asked : (s : Worker) (reads : List Read) (n i c : ℕ) → i < length reads →
     ((read : Read) → slice_get reads i ≡ Some read →
-        has c (present (read.cell ∷ map (λ (x : PrivatePart). cell_at (n + i) x.asks) s.own)) ≡ true) →
+    has c (present (read.cell ∷ map (λ (x : PrivatePart). cell_at (n + i) x.asks) s.own)) ≡ true) →
     wants (n + i) c (asks_from s n reads) ≡ true
 wants_asked s [] n i c few h = absurd (omega (arith, few))
 wants_asked s (read ∷ rest) n zero c few h =

@@ -88,10 +88,10 @@ module _ (t : Setting) (fits : IsMapFor t.code t.map) {M : Type 0} (e : M) (op :
   given_once : (c : ℕ) → c < t.map.count → total e op (λ w. total e op (λ o. given w o c) (range_with_len 0 (t.map.width w))) all ≡ f c
   given_once c c_below =
       total_within e op (λ w. total e op (λ o. given w o c) (range_with_len 0 (t.map.width w))) (λ w. cond (eqb (t.map.part c) w) (f c) e)
-          (workers t) 0
+      (workers t) 0
       (λ w l. given_by c w c_below (omega (arith, l)))
       ∙ total_at e op m (f c) (t.map.part c) (workers t) 0 (omega arith) (let below = fits.lawful.part_below c c_below in
-          omega (arith, below))
+      omega (arith, below))
 
   -- what one module has, by cells
   of_module : (w : ℕ) → w < workers t →
@@ -110,7 +110,7 @@ module _ (t : Setting) (fits : IsMapFor t.code t.map) {M : Type 0} (e : M) (op :
   of_modules beyond =
       let by_cell = λ (w c : ℕ). total e op (λ o. given w o c) (range_with_len 0 (t.map.width w)) in
       total_within e op (λ w. total e op f (module_cells t w)) (λ w. total e op (by_cell w) counted) (workers t) 0
-          (λ w l. of_module w (omega (arith, l)))
+      (λ w l. of_module w (omega (arith, l)))
       ∙ total_swapped e op m by_cell all counted
       ∙ total_within e op (λ c. total e op (λ w. by_cell w c) all) f t.map.count 0 (λ c l. given_once c (omega (arith, l)))
       ∙ total_cut e op m f (total_size t.code.layout) t.map.count 0 fits.room (λ c above. beyond c (omega (arith, above)))
@@ -121,7 +121,7 @@ module _ (t : Setting) (fits : IsMapFor t.code t.map) {M : Type 0} (e : M) (op :
       total e op (λ w. total e op (g w) (module_cells t w)) all ≡ total e op f (cells t.code)
   of_modules_each g same beyond =
       total_within e op (λ w. total e op (g w) (module_cells t w)) (λ w. total e op f (module_cells t w)) (workers t) 0
-          (λ w l. go w (omega (arith, l)))
+      (λ w l. go w (omega (arith, l)))
       ∙ of_modules beyond
     where
       go : (w : ℕ) → w < workers t → total e op (g w) (module_cells t w) ≡ total e op f (module_cells t w)

@@ -52,7 +52,7 @@ module _ (t : Setting) (m : ℕ) (more : t.enough ≤ m) where
 
       marked : (line : ℕ) (b : Bool) →
           Same (if b then At (ToClose false) place x else next (place + 1) (after_instr t w (Mark line) x))
-              (if b then At (ToClose false) place x else other (place + 1) (after_instr t w (Mark line) x))
+          (if b then At (ToClose false) place x else other (place + 1) (after_instr t w (Mark line) x))
       marked line true = refl
       marked line false = same (place + 1) (after_instr t w (Mark line) x)
 
@@ -180,10 +180,10 @@ module _ (t : Setting) (m : ℕ) (more : t.enough ≤ m) where
         purpose = (readies_same 0 (first t room) i).purpose;
         sent = map_within (λ k. sum_over t (λ j. words_between t ws k j)) (λ k. sum_over t (λ j. words_between u vs k j)) (workers t) 0
             (λ k l. total_within 0 (λ x y. x + y) (λ j. words_between t ws k j) (λ j. words_between u vs k j) (workers t) 0
-                (λ j q. words_same k j (within k l))) i;
+            (λ j q. words_same k j (within k l))) i;
         received = map_within (λ j. sum_over t (λ k. words_between t ws k j)) (λ j. sum_over t (λ k. words_between u vs k j)) (workers t) 0
             (λ j l. total_within 0 (λ x y. x + y) (λ k. words_between t ws k j) (λ k. words_between u vs k j) (workers t) 0
-                (λ k q. words_same k j (within k q))) i;
+            (λ k q. words_same k j (within k q))) i;
       }
 
       phase_same : (w : ℕ) → w < workers t → phase (bsp t) (workers t) ws w ≡ phase (bsp u) (workers t) vs w
@@ -195,14 +195,14 @@ module _ (t : Setting) (m : ℕ) (more : t.enough ≤ m) where
 
     lists_same : (n k : ℕ) (s : flat.State) (ws vs : ℕ → State) → Agree t room s ws → ((w : ℕ) → w < workers t → ws w ≡ vs w) →
         flat.run (plan t) n s ≡ Some (Some v) → (x : Option Verdict) → run (bsp u) (workers t) k vs ≡ Some x →
-            exchanges_from t n ws ≡ exchanges_from u k vs
+        exchanges_from t n ws ≡ exchanges_from u k vs
     lists_same zero k s ws vs a e h x g = cc
     lists_same (suc n) zero s ws vs a e h x g = cc
     lists_same (suc n) (suc k) s ws vs a e h x g =
         ap (λ (b : Bool). if b then [] else exchange_of t ws ∷ exchanges_from t n (phase (bsp t) (workers t) ws))
-            (ap is_over (a.way 0 (first t room)))
+        (ap is_over (a.way 0 (first t room)))
         ∙ go (λ e2 h2 g2. lists_same n k (flat.next (plan t) s) (phase (bsp t) (workers t) ws) (phase (bsp u) (workers t) vs)
-            (phase_agrees t room s ws a) e2 h2 x g2)
+        (phase_agrees t room s ws a) e2 h2 x g2)
         (is_over s.way) refl
         ∙ ap (λ (b : Bool). if b then [] else exchange_of u vs ∷ exchanges_from u k (phase (bsp u) (workers t) vs)) (sym other)
       where
@@ -213,7 +213,7 @@ module _ (t : Setting) (m : ℕ) (more : t.enough ≤ m) where
             flat.run (plan t) n (flat.next (plan t) s) ≡ Some (Some v) →
             run (bsp u) (workers t) k (phase (bsp u) (workers t) vs) ≡ Some x →
             exchanges_from t n (phase (bsp t) (workers t) ws) ≡ exchanges_from u k (phase (bsp u) (workers t) vs)) → (b : Bool) →
-                is_over s.way ≡ b →
+            is_over s.way ≡ b →
             (if is_over s.way then [] else exchange_of t ws ∷ exchanges_from t n (phase (bsp t) (workers t) ws))
             ≡ (if is_over s.way then [] else exchange_of u vs ∷ exchanges_from u k (phase (bsp u) (workers t) vs))
         go rest true q =
@@ -224,7 +224,7 @@ module _ (t : Setting) (m : ℕ) (more : t.enough ≤ m) where
             ap (λ (b : Bool). if b then Some (flat.outcome_of t.code s) else flat.run (plan t) n (flat.next (plan t) s)) (sym q) ∙ h in
             let g2 : run (bsp u) (workers t) k (phase (bsp u) (workers t) vs) ≡ Some x =
             ap (λ (b : Bool). if b then Some (outcome_of u (map vs (range_with_len 0 (workers t)))) else run (bsp u) (workers t) k
-                (phase (bsp u) (workers t) vs)) (sym (other ∙ q)) ∙ g in
+            (phase (bsp u) (workers t) vs)) (sym (other ∙ q)) ∙ g in
             ap (λ (b : Bool). if b then [] else exchange_of t ws ∷ exchanges_from t n (phase (bsp t) (workers t) ws)) q
             ∙ (λ i. exchange_same s ws vs a e n q h2 i
             ∷ rest (phase_same s ws vs a e n q h2) h2 g2 i)
@@ -240,7 +240,7 @@ pub exchanges_are_unique : ExchangesAreUnique
 exchanges_are_unique code map room input bound verdict other made more a b =
     ⊎_elim
     (λ l. sym a.told ∙ unique_more (setting code map bound a.enough) b.enough (omega (arith, l)) room verdict input a.most b.most
-        (Some other) a.ends b.ends ∙ b.told)
+    (Some other) a.ends b.ends ∙ b.told)
     (λ l. sym a.told ∙ sym (unique_more (setting code map bound b.enough) a.enough l room other input b.most a.most (Some verdict) b.ends
-        a.ends) ∙ b.told)
+    a.ends) ∙ b.told)
     (cases_lt a.enough b.enough)

@@ -32,13 +32,13 @@ module _ (t : Setting) (fits : IsMapFor t.code t.map) where
         ∙ s.held c;
     key =
         total_within None least (λ w. (vs w).key) (λ w. (ws w).key) (workers t) 0
-            (λ w h. ap (λ (x : Worker). x.key) (sym (same w (omega (arith, h)))))
+        (λ w h. ap (λ (x : Worker). x.key) (sym (same w (omega (arith, h)))))
         ∙ s.key;
     taken = λ j w j_below w_below.
         sym (ap (λ (x : Worker). slice_index_or x.taken w []) (same j j_below))
         ∙ s.taken j w j_below w_below
         ∙ ap (λ (x : Worker). map (λ (x : CellAsk). x.cell) (filter (λ (x : CellAsk). eqb (t.map.part x.cell) j) x.wanted))
-            (same w w_below);
+        (same w w_below);
     wants_uniform = λ w h k c is. sym (ap (λ (x : Worker). wants k c x.wanted) (same w h)) ∙ s.wants_uniform w h k c is;
     wants_own = λ w v h below here k c few is. sym (ap (λ (x : Worker). wants k c x.wanted) (same w h))
         ∙ s.wants_own w v h below here k c few is;

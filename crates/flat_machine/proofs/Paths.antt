@@ -116,7 +116,7 @@ module _ (code : SuperstepCode) (place : ℕ) (f : Flat) (a : IsAt code place f)
   at_works Halt w is h = absurd w
   at_works i w is h =
       onward i is (place + 1) (after_instr code i f) refl (acts code i a.point.state f.uniform tt (no_answers i a.point.state (λ e. cc) h)
-          a.describes)
+      a.describes)
       (counted_instr code f a.counted i (may_count i h))
 
   pub at_send : slice_get code.instructions place ≡ Some Send → IsAt code (place + 1) (after_send code f)
@@ -189,7 +189,7 @@ module _ (code : SuperstepCode) (formed : IsWellFormed code) (bound : ℕ) (judg
   instructed_agrees place f a =
       let x = found code formed place f a in
       subst (λ (o : Option Instr). Agrees code (carried_out code bound judges o place f)) (sym x.is)
-          (by_instr place f a x.instr x.is x.fits)
+      (by_instr place f a x.instr x.is x.fits)
 
   pub step_agrees : (s : State) → Agrees code s → Agrees code (step code bound judges s)
   step_agrees s a = go s.way refl

@@ -57,7 +57,7 @@ uniform_below code (Ask Uniform d c s q) u h =
     let n = total_size code.layout in
     subst (AreBelow n) (sym (cells_pushed u.asks _))
     (below_pushed n (map (λ (r : Read). r.cell) u.asks) (cell_of code.layout c (u.registers s)) h
-        (cell_below code.layout c (u.registers s)))
+    (cell_below code.layout c (u.registers s)))
 uniform_below code (Ask Private d c s q) u h =
     let n = total_size code.layout in
     subst (AreBelow n) (sym (cells_pushed u.asks _)) (below_pushed n (map (λ (r : Read). r.cell) u.asks) None h (none_below n))
@@ -71,8 +71,10 @@ own_below code Unmask u v x h = h
 own_below code (Ask Uniform d c s q) u v x h = let n = total_size code.layout in below_pushed n x.asks None h (none_below n)
 own_below code (Ask Private d c s q) u v x h =
     let n = total_size code.layout in
-    either (λ (y : PrivatePart). AreBelow n y.asks) (is_active x) (on_active code (Ask Private d c s q) u v x) (record x { asks =
-        x.asks ++ None ∷ [] })
+    either (λ (y : PrivatePart). AreBelow n y.asks) (is_active x) (on_active code (Ask Private d c s q) u v x) (record x {
+      asks =
+          x.asks ++ None ∷ [];
+    })
     (below_pushed n x.asks (cell_for code c s x) h (cell_below code.layout c (x.registers s)))
     (below_pushed n x.asks None h (none_below n))
 own_below code i u v x h = either (λ (y : PrivatePart). AreBelow (total_size code.layout) y.asks) (is_active x) (on_active code i u v x) x h

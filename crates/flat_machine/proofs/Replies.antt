@@ -55,7 +55,7 @@ answers_same v w k [] same r = refl
 answers_same v w k ((d, cell) ∷ rest) same r =
     ap (answers v (k + 1) rest) (go cell (λ c is. let here : k + 0 ≡ k = omega arith in subst (λ n. v n c ≡ w n c) here (same 0 c is)))
     ∙ answers_same v w (k + 1) rest (λ i c is. let on : k + suc i ≡ k + 1 + i = omega arith in
-        subst (λ n. v n c ≡ w n c) on (same (suc i) c is))
+    subst (λ n. v n c ≡ w n c) on (same (suc i) c is))
     (answer (w k) d cell r)
   where
     go : (o : Option ℕ) → ((c : ℕ) → o ≡ Some c → v k c ≡ w k c) → answer (v k) d o r ≡ answer (w k) d o r
@@ -138,8 +138,16 @@ module _ (t : Setting) (fits : IsMapFor t.code t.map) where
     taken = s.taken;
     wants_uniform = s.wants_uniform;
     wants_own = s.wants_own;
-    ranged = let r = s.ranged in record { own = r.own; own_awaited = r.own_awaited; uniform = r.uniform; uniform_awaited =
-        r.uniform_awaited; sides = r.sides; held = r.held; level = r.level };
+    ranged = let r = s.ranged in record {
+      own = r.own;
+      own_awaited = r.own_awaited;
+      uniform = r.uniform;
+      uniform_awaited =
+          r.uniform_awaited;
+      sides = r.sides;
+      held = r.held;
+      level = r.level;
+    };
   }
 
   -- ---- a reply
@@ -214,7 +222,7 @@ module _ (t : Setting) (fits : IsMapFor t.code t.map) where
       ∙ ap (map answered) (s.own w h)
       ∙ map_twice answered f.own vs
       ∙ map_class (λ v. answered (f.own v)) (λ v. own_answered (now f) f.uniform.awaited (f.own v)) (λ v. v % workers t) w
-          (range_with_len 0 f.uniform.width)
+      (range_with_len 0 f.uniform.width)
       (all_below (λ v. v % workers t ≡ w → answered (f.own v) ≡ own_answered (now f) f.uniform.awaited (f.own v)) f.uniform.width 0
       (λ v l here. own_same f ws s w v h (omega (arith, l)) here))
 

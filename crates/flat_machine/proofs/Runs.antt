@@ -39,7 +39,7 @@ module _ (t : Setting) (room : IsMapFor t.code t.map) where
     keys_are w =
         total_map None least (λ (m : Message). m.key) (λ i. message_for t r.purpose (rs i).state.worker w) (numbers t)
         ∙ total_same None least (λ i. (message_for t r.purpose (rs i).state.worker w).key) (λ i. (rs i).state.worker.key)
-            (λ i. own_key t r.purpose (rs i).state.worker w) (numbers t)
+        (λ i. own_key t r.purpose (rs i).state.worker w) (numbers t)
         ∙ h.states.splits.key
 
     -- what a worker comes to
@@ -104,13 +104,13 @@ module _ (t : Setting) (room : IsMapFor t.code t.map) where
         (workers t) ws w ≡ map (λ i. message_for t (flat_run.ready (plan t) s).purpose (ready t i (ws i)).state.worker w) (numbers t)
     column_is w =
         map_within (λ i. message_of t i (ws i) w) (λ i. message_for t (flat_run.ready (plan t) s).purpose (ready t i (ws i)).state.worker w)
-            (workers t) 0
+        (workers t) 0
         (λ i l. message_is i w (let k : i < workers t = omega (arith, l) in k))
 
     pub phase_agrees : Agree t room (flat_run.next (plan t) s) (phase (bsp t) (workers t) ws)
     phase_agrees =
         agree_same (flat_run.next (plan t) s) (came_to (flat_run.ready (plan t) s) (λ w. ready t w (ws w)) at)
-            (phase (bsp t) (workers t) ws)
+        (phase (bsp t) (workers t) ws)
         (λ w l. sym (ap (after t w (ready t w (ws w))) (column_is w) ∙ after_is (flat_run.ready (plan t) s) (λ v. ready t v (ws v)) at w l))
         (exchanged (flat_run.ready (plan t) s) (λ w. ready t w (ws w)) at)
 
@@ -127,20 +127,20 @@ module _ (t : Setting) (room : IsMapFor t.code t.map) where
         ap (λ (x : State). slice_index_or x.worker.cells (t.map.offset c) (pos 0)) (state_is j below)
         ∙ ap (λ (xs : List ℤ). slice_index_or xs (t.map.offset c) (pos 0)) (a.splits.cells j below)
         ∙ ap (λ (xs : List ℤ). slice_index_or xs (t.map.offset c) (pos 0))
-            (map_twice s.flat.memory (t.map.cell j) (range_with_len 0 (t.map.width j)))
+        (map_twice s.flat.memory (t.map.cell j) (range_with_len 0 (t.map.width j)))
         ∙ get_or-map-range_with_len (λ o. s.flat.memory (t.map.cell j o)) 0 (t.map.width j) (t.map.offset c) (t.map.offset c) (pos 0)
-            (room.lawful.offset_below c k) (omega arith)
+        (room.lawful.offset_below c k) (omega arith)
         ∙ ap s.flat.memory (room.lawful.back c k)
 
     pub outcome_is : outcome_of t (map ws (numbers t)) ≡ flat_run.outcome_of t.code s
     outcome_is =
         ap (λ (x : State). verdict_by x.way x.worker.uniform.output (map (cell_in t (map ws (numbers t))) (all_cells t))) (state_is 0 first)
         ∙ ap (λ (way : Way). verdict_by way (ws 0).worker.uniform.output (map (cell_in t (map ws (numbers t))) (all_cells t)))
-            (a.way 0 first)
+        (a.way 0 first)
         ∙ ap (λ (u : UniformPart). verdict_by s.way u.output (map (cell_in t (map ws (numbers t))) (all_cells t)))
-            (a.splits.uniform 0 first)
+        (a.splits.uniform 0 first)
         ∙ ap (verdict_by s.way s.flat.uniform.output) (map_within (cell_in t (map ws (numbers t))) s.flat.memory (total_size t.code.layout)
-            0 (λ c l. cell_is c (let k : c < total_size t.code.layout = omega (arith, l) in k)))
+        0 (λ c l. cell_is c (let k : c < total_size t.code.layout = omega (arith, l) in k)))
 
   -- ---- whole runs
 
@@ -149,24 +149,24 @@ module _ (t : Setting) (room : IsMapFor t.code t.map) where
   run_same zero s ws a = refl
   run_same (suc n) s ws a =
       ap (λ (way : Way). if is_over way then Some (outcome_of t (map ws (numbers t))) else run (bsp t) (workers t) n
-          (phase (bsp t) (workers t) ws)) (a.way 0 first)
+      (phase (bsp t) (workers t) ws)) (a.way 0 first)
       ∙ ap (λ o. if is_over s.way then Some o else run (bsp t) (workers t) n (phase (bsp t) (workers t) ws)) (outcome_is s ws a)
       ∙ ap (λ o. if is_over s.way then Some (flat_run.outcome_of t.code s) else o)
-          (run_same n (flat_run.next (plan t) s) (phase (bsp t) (workers t) ws) (phase_agrees s ws a))
+      (run_same n (flat_run.next (plan t) s) (phase (bsp t) (workers t) ws) (phase_agrees s ws a))
 
   pub purposes_same : (n : ℕ) (s : flat_run.State) (ws : ℕ → State) → Agree t room s ws → map (λ (e : Exchange). e.purpose)
       (exchanges_from t n ws) ≡ flat_run.purposes_from (plan t) n s
   purposes_same zero s ws a = refl
   purposes_same (suc n) s ws a =
       ap (λ (way : Way). map (λ (e : Exchange). e.purpose) (if is_over way then [] else exchange_of t ws
-          ∷ exchanges_from t n (phase (bsp t) (workers t) ws))) (a.way 0 first)
+      ∷ exchanges_from t n (phase (bsp t) (workers t) ws))) (a.way 0 first)
       ∙ go (is_over s.way) (purposes_same n (flat_run.next (plan t) s) (phase (bsp t) (workers t) ws) (phase_agrees s ws a))
     where
       go : (b : Bool) → map (λ (e : Exchange). e.purpose)
           (exchanges_from t n (phase (bsp t) (workers t) ws)) ≡ flat_run.purposes_from (plan t) n (flat_run.next (plan t) s) →
           map (λ (e : Exchange). e.purpose) (if b then [] else exchange_of t ws
-              ∷ exchanges_from t n (phase (bsp t) (workers t) ws)) ≡ (if b then [] else (flat_run.ready (plan t) s).purpose
-              ∷ flat_run.purposes_from (plan t) n (flat_run.next (plan t) s))
+          ∷ exchanges_from t n (phase (bsp t) (workers t) ws)) ≡ (if b then [] else (flat_run.ready (plan t) s).purpose
+          ∷ flat_run.purposes_from (plan t) n (flat_run.next (plan t) s))
       go true rest = refl
       go false rest = (λ i. ((at s ws a).purpose 0 first i) ∷ rest i)
 

@@ -54,15 +54,15 @@ module _ (t : Setting) (fits : IsMapFor t.code t.map) where
 
   key_sent : (f : Flat) (ws : ℕ → Worker) → Splits t f ws →
       total None least (λ w. least (ws w).key (conflicts t w (ws w).uniform (column t fits ws w))) all ≡ least f.key
-          (flat.conflicts t.code f)
+      (flat.conflicts t.code f)
   key_sent f ws s =
       let puts = λ (w : ℕ). total None least
-          (λ c. put_conflict f.uniform.put c (verdict_on t.code.rule (entry_came t.code.rule (column t fits ws w) c)))
+      (λ c. put_conflict f.uniform.put c (verdict_on t.code.rule (entry_came t.code.rule (column t fits ws w) c)))
       (module_cells t w) in
       let reads = λ (w : ℕ). if shares_reads t.code.rule then None else read_conflicts (column t fits ws w) (module_cells t w) 0
-          f.uniform.asks in
+      f.uniform.asks in
       total_within None least (λ w. least (ws w).key (conflicts t w (ws w).uniform (column t fits ws w)))
-          (λ w. least (ws w).key (least (puts w) (reads w)))
+      (λ w. least (ws w).key (least (puts w) (reads w)))
       (workers t) 0
       (λ w h. ap (λ (u : UniformPart). least (ws w).key (conflicts t w u (column t fits ws w))) (s.uniform w (omega (arith, h))))
       ∙ total_both None least keys_are_monoid (λ w. (ws w).key) (λ w. least (puts w) (reads w)) all

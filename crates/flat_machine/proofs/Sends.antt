@@ -127,18 +127,18 @@ module _ (t : Setting) (fits : IsMapFor t.code t.map) where
       ∙ map_each (λ o. step (o, old o)) (λ o. next (t.map.cell w o)) offsets
       (all_below (λ o. step (o, old o) ≡ next (t.map.cell w o)) (t.map.width w) 0
       (λ o l. ap (λ e. settled (verdict_on rule e) (old o))
-          (entries_came f ws s w (t.map.cell w o) (fits.lawful.forth w o w_below (omega (arith, l))).here)))
+      (entries_came f ws s w (t.map.cell w o) (fits.lawful.forth w o w_below (omega (arith, l))).here)))
       ∙ sym (map_twice next (t.map.cell w) offsets)
 
   -- the conflicts of what was held
   pub owed_by_modules : (f : Flat) (ws : ℕ → Worker) → Splits t f ws →
       total None least (λ w. total None least
-          (λ c. put_conflict f.uniform.put c (verdict_on t.code.rule (entry_came t.code.rule (column ws w) c)))
+      (λ c. put_conflict f.uniform.put c (verdict_on t.code.rule (entry_came t.code.rule (column ws w) c)))
       (module_cells t w)) all ≡ flat.owed t.code f
   owed_by_modules f ws s =
       let conflict = λ (c : ℕ) (e : Option Entry). put_conflict f.uniform.put c (verdict_on t.code.rule e) in
       of_modules_each t fits None least keys_are_monoid (λ c. conflict c (f.held c))
-          (λ w c. conflict c (entry_came t.code.rule (column ws w) c))
+      (λ w c. conflict c (entry_came t.code.rule (column ws w) c))
       (λ w c below here. ap (conflict c) (entries_came f ws s w c here))
       (λ c above. ap (conflict c) (s.ranged.held c above) ∙ no_put f.uniform.put c)
 
@@ -158,9 +158,9 @@ module _ (t : Setting) (fits : IsMapFor t.code t.map) where
       (λ i. total None several asked (processors t i f.uniform.width)) (workers t) 0
       (λ i l. let below : i < workers t = omega (arith, l) in
       ap (λ (u : UniformPart). total None several (asked_in k c) (filter (λ (x : CellAsk). test x.cell) (asks_from (ws i) 0 u.asks)))
-          (s.uniform i below)
+      (s.uniform i below)
       ∙ subst (λ n. total None several (asked_in n c)
-          (filter (λ (x : CellAsk). test x.cell) (asks_from (ws i) 0 f.uniform.asks)) ≡ askers_of
+      (filter (λ (x : CellAsk). test x.cell) (asks_from (ws i) 0 f.uniform.asks)) ≡ askers_of
       (ws i) n c) start
       (asks_message (ws i) f.uniform.asks 0 k c read test (in_it c w here) is own)
       ∙ ap (total None several (λ (x : PrivatePart). asks_for c (cell_at k x.asks))) (s.own i below)
@@ -176,7 +176,7 @@ module _ (t : Setting) (fits : IsMapFor t.code t.map) where
   abbrev pub Finds : Flat → (ℕ → Worker) → ℕ → List Read → Type 0
   Finds f ws n reads = (i : ℕ) (read : Read) → slice_get reads i ≡ Some read → (w c : ℕ) → w < workers t → t.map.part c ≡ w →
       (is_private read.side && is_several (askers_came (column ws w) (n + i) c)) ≡ (is_private read.side
-          && is_several (flat.askers f (n + i) c))
+      && is_several (flat.askers f (n + i) c))
 
   pub reads_by_modules : (f : Flat) (ws : ℕ → Worker) → Splits t f ws → (reads : List Read) (n : ℕ) → Finds f ws n reads →
       total None least (λ w. read_conflicts (column ws w) (module_cells t w) n reads) all ≡ flat.read_conflicts t.code f n reads
@@ -193,14 +193,14 @@ module _ (t : Setting) (fits : IsMapFor t.code t.map) where
       (of_modules_each t fits None least keys_are_monoid (λ c. key c (found c)) (λ w c. key c (came w c))
       (λ w c below at. ap (key c)
       (subst (λ k. (is_private read.side && is_several (askers_came (column ws w) k c)) ≡ (is_private read.side
-          && is_several (flat.askers f k c))) here
+      && is_several (flat.askers f k c))) here
       (finds 0 read refl w c below at)))
       (λ c above. ap (key c) (ap (λ o. is_private read.side && is_several o) (none_ask f ws s n c above)
-          ∙ not_both (is_private read.side))))
+      ∙ not_both (is_private read.side))))
       ∙ ap (least (flat.read_conflict t.code f n read))
       (reads_by_modules f ws s rest (n + 1) (λ i r is w c below at. let on : n + suc i ≡ n + 1 + i = omega arith in
       subst (λ k. (is_private r.side && is_several (askers_came (column ws w) k c)) ≡ (is_private r.side && is_several (flat.askers f k c)))
-          on
+      on
       (finds (suc i) r is w c below at)))
 
   -- ---- what a worker awaits it has asked for
@@ -226,10 +226,10 @@ module _ (t : Setting) (fits : IsMapFor t.code t.map) where
       let listed : has c (own k) ≡ true =
       ap (λ (xs : List PrivatePart). has c (present (map (λ (x : PrivatePart). cell_at k x.asks) xs))) (s.own w w_below)
       ∙ ap (λ (cells : List (Option ℕ)). has c (present cells))
-          (map_twice (λ (x : PrivatePart). cell_at k x.asks) f.own (processors t w f.uniform.width))
+      (map_twice (λ (x : PrivatePart). cell_at k x.asks) f.own (processors t w f.uniform.width))
       ∙ has_own (λ u. cell_at k (f.own u).asks) (λ u. u % workers t) c w v here is f.uniform.width 0 (omega arith)
-          (omega (arith, v_below)) in
+      (omega (arith, v_below)) in
       ap (λ (u : UniformPart). wants k c (asks_from (ws w) 0 u.asks)) (s.uniform w w_below)
       ∙ subst (λ n. wants n c (asks_from (ws w) 0 f.uniform.asks) ≡ true) start
       (wants_asked (ws w) f.uniform.asks 0 k c few
-          (λ read at. has_behind c read.cell (own (0 + k)) (subst (λ n. has c (own n) ≡ true) (sym start) listed)))
+      (λ read at. has_behind c read.cell (own (0 + k)) (subst (λ n. has c (own n) ≡ true) (sym start) listed)))

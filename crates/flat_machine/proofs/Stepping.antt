@@ -52,7 +52,7 @@ past_has_outcome code s h = verdict_past s.way _ _ h
 abbrev pub carried_out : SuperstepCode → ℕ → (ℕ → Bool) → Option Instr → ℕ → Flat → State
 carried_out code bound judges o place f =
     advance bound (λ (g : Flat). g.uniform) (after_instr code) (record { flat = f; place = place; way = Lost }) (stopped code judges) going
-        o place f
+    o place f
 
 module _ (code : SuperstepCode) (bound : ℕ) (judges : ℕ → Bool) where
   pub step_stays : (s : State) → (s.way ≡ On → ⊥) → step code bound judges s ≡ s
@@ -84,7 +84,7 @@ module _ (code : SuperstepCode) (bound : ℕ) (judges : ℕ → Bool) where
   outcome_stays input m n v l e =
       let s = steps code bound judges m (opening input) in
       let h = steps_sum m (n - m) n (omega (arith, l)) (opening input)
-          ∙ over_stays (n - m) s (past_is_not_on s.way (outcome_is_past code s v e)) in
+      ∙ over_stays (n - m) s (past_is_not_on s.way (outcome_is_past code s v e)) in
       ap (λ (x : State). outcome_of code x) h ∙ e
 
 pub one_end : (code : SuperstepCode) (bound : ℕ) (judges : ℕ → Bool) (input : List ℤ) (m n : ℕ) (v w : Verdict) →

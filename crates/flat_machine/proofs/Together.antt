@@ -75,9 +75,11 @@ module _ (t : Setting) (room : IsMapFor t.code t.map) where
       pub exchange : ((ready t w (states w)).purpose ≡ (ready t v (states v)).purpose)
           × AreAtOne (ready t w (states w)).state (ready t v (states v)).state
       exchange =
-          let r = readies t room agreed.0 states agreed.1 in
-          (r.purpose w lw ∙ sym (r.purpose v lv), at_one (flat_run.ready (plan t) agreed.0).state (λ k. (ready t k (states k)).state)
-              r.states)
+          let r = readies t room agreed.0 states agreed.1 in (
+            r.purpose w lw ∙ sym (r.purpose v lv),
+            at_one (flat_run.ready (plan t) agreed.0).state (λ k. (ready t k (states k)).state)
+                r.states,
+          )
 
       pub after : AreAtOne (states w) (states v)
       after = at_one agreed.0 states agreed.1

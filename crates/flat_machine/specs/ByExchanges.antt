@@ -32,8 +32,11 @@ ready_at s Nowhere = record { purpose = Closes; state = record s { way = Lost } 
 ready_at s (At ToSend place f) = record { purpose = Sends; state = record s { flat = f; place = place + 1 } }
 ready_at s (At ToReply place f) = record { purpose = Replies; state = record s { flat = f; place = place + 1 } }
 ready_at s (At (ToVote d) place f) = record { purpose = Votes d; state = record s { flat = f; place = place + 1 } }
-ready_at s (At (ToClose ended) place f) = record { purpose = if is_held f.uniform.put then Sends else Closes; state =
-    record s { flat = f; place = place; way = Ending ended } }
+ready_at s (At (ToClose ended) place f) = record {
+  purpose = if is_held f.uniform.put then Sends else Closes;
+  state =
+      record s { flat = f; place = place; way = Ending ended };
+}
 
 abbrev pub ready_by : Plan → State → Way → Ready
 ready_by t s On = ready_at s (stretch t s)

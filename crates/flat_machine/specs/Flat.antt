@@ -80,7 +80,7 @@ askers f k c = total None several (λ v. asks_for c (cell_at k (f.own v).asks)) 
 abbrev pub read_conflict : SuperstepCode → Flat → ℕ → Read → Option Key
 read_conflict code f k read =
     total None least (λ c. if is_private read.side && is_several (askers f k c) then Some (conflict_at read.moment c ReadConflict) else
-        None) (cells code)
+    None) (cells code)
 
 -- read by read from number k on
 abbrev pub read_conflicts : SuperstepCode → Flat → ℕ → List Read → Option Key
@@ -119,5 +119,10 @@ after_vote d f = record f { uniform = record f.uniform { registers = set_registe
 -- ---- the beginning
 
 abbrev pub opening : List ℤ → Flat
-opening input = record { uniform = opening_part; own = λ v. fresh; memory = λ c. slice_index_or input c (pos 0); held = λ c. None;
-    key = None }
+opening input = record {
+  uniform = opening_part;
+  own = λ v. fresh;
+  memory = λ c. slice_index_or input c (pos 0);
+  held = λ c. None;
+  key = None;
+}

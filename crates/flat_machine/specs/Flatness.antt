@@ -36,7 +36,7 @@ PurposesAreSame = (t : Setting) → IsMapFor t.code t.map → (n : ℕ) (input :
 abbrev pub WorkersAreFlat : Type 0
 WorkersAreFlat = (code : SuperstepCode) (map : Shape) → IsMapFor code map → (input : List ℤ) (bound : ℕ) (verdict : Verdict) →
     (IsBspOutcome code map input bound verdict → IsFlatOutcome code input bound verdict) × (IsFlatOutcome code input bound verdict →
-        IsBspOutcome code map input bound verdict)
+    IsBspOutcome code map input bound verdict)
 
 -- the outcome of the flat machine's run exchange by exchange, with enough exchanges and enough instructions between them
 pub record IsOutcomeByExchanges (code : SuperstepCode) (input : List ℤ) (bound : ℕ) (verdict : Verdict) : Type 0 where
@@ -48,4 +48,4 @@ pub record IsOutcomeByExchanges (code : SuperstepCode) (input : List ℤ) (bound
 abbrev pub RunsAgree : Type 0
 RunsAgree = (code : SuperstepCode) (input : List ℤ) (bound : ℕ) (verdict : Verdict) →
     (IsOutcomeByExchanges code input bound verdict → IsFlatOutcome code input bound verdict) × (IsFlatOutcome code input bound verdict →
-        IsOutcomeByExchanges code input bound verdict)
+    IsOutcomeByExchanges code input bound verdict)

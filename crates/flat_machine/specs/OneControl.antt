@@ -35,7 +35,7 @@ OneControlBetween = (t : Setting) → IsMapFor t.code t.map → (input : List �
 abbrev pub OneExchange : Type 0
 OneExchange = (t : Setting) → IsMapFor t.code t.map → (input : List ℤ) (n w v : ℕ) → w < workers t → v < workers t →
     ((ready t w (worker_after t input n w)).purpose ≡ (ready t v (worker_after t input n v)).purpose)
-        × AreAtOne (ready t w (worker_after t input n w)).state (ready t v (worker_after t input n v)).state
+    × AreAtOne (ready t w (worker_after t input n w)).state (ready t v (worker_after t input n v)).state
 
 -- .. and behind it
 abbrev pub OneControlAfter : Type 0

@@ -113,7 +113,7 @@ module _ (code : SuperstepCode) (bound : ℕ) where
       AreSameStates (steps code bound everywhere rest new) (steps code bound everywhere left old)
   one_step left rest old new e on h =
       let stepped : step code bound everywhere old ≡ instructed code bound everywhere old.place old.flat =
-          ap (step_by code bound everywhere old) on in
+      ap (step_by code bound everywhere old) on in
       let next : suc rest ≡ left = omega (arith, e) in
       subst (λ n. AreSameStates (steps code bound everywhere rest new) (steps code bound everywhere n old)) next
       (alike_steps rest new (step code bound everywhere old) (subst (AreSameStates new) (sym stepped) h))
@@ -141,5 +141,5 @@ pub outcome_comes : (code : SuperstepCode) (bound n m : ℕ) (input : List ℤ) 
 outcome_comes code bound n m input first last e a b =
     same_outcome code last (steps code bound everywhere n (opening input))
     (alike_on last (steps code bound everywhere n first) (steps code bound everywhere n (opening input)) b
-        (alike_steps code bound n first (opening input) a))
+    (alike_steps code bound n first (opening input) a))
     ∙ ap (λ k. outcome_within code bound everywhere k input) e

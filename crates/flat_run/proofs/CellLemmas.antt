@@ -50,7 +50,7 @@ module _ (rule : Rule) (held : List (Option Entry)) (old : List ℤ) where
         count = length-set new c x ∙ h.count;
         done = λ k m. ⊎_elim
             (λ (here : k ≡ c). set_there new c x inside k here ∙ e
-                ∙ ap (settled (verdict_on rule (held_of held c))) (h.rest c (omega arith))
+            ∙ ap (settled (verdict_on rule (held_of held c))) (h.rest c (omega arith))
             ∙ sym (ap (λ j. settled (verdict_on rule (held_of held j)) (registers_of old j)) here))
             (λ (before : k < c). set_elsewhere new c x inside k (λ here. omega (arith, here, before)) ∙ h.done k before)
             (at_or_before k c m);
@@ -63,7 +63,7 @@ module _ (rule : Rule) (held : List (Option Entry)) (old : List ℤ) where
       ⊎_elim
       (λ (m : k < c). h.done k m)
       (λ (m : c ≤ k). h.rest k m ∙ sym
-          (ap (λ x. settled (verdict_on rule x) (registers_of old k)) (past_held held k (omega (arith, l, m)))))
+      (ap (λ x. settled (verdict_on rule x) (registers_of old k)) (past_held held k (omega (arith, l, m)))))
       (below_or_past k c)
 
 -- ---- a reply
@@ -80,7 +80,7 @@ module _ (value : ℕ → ℕ → ℤ) where
   pub own_goes : (reads : List HeldRead) (cells : List (Option ℕ)) (k : ℕ) (x : HeldRead) (c : Option ℕ) (r : Registers) →
       k < length reads → k < length cells →
       x ≡ slice_index_or reads k x → c ≡ slice_index_or cells k c →
-          own_left reads cells k r ≡ own_left reads cells (k + 1) (answer (value k) x.destination c r)
+      own_left reads cells k r ≡ own_left reads cells (k + 1) (answer (value k) x.destination c r)
   own_goes reads cells k x c r h l e f =
       ap (λ (xs : List HeldRead). answers value k (zip (destinations (map read_is xs)) (drop k cells)) r) (split_at reads k x h e)
       ∙ ap (λ cs. answers value k (zip (destinations (map read_is (x ∷ drop (k + 1) reads))) cs) r) (split_at cells k c l f)

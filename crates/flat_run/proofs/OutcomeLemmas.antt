@@ -14,7 +14,7 @@ shifted y ys zero k = refl
 shifted y ys (suc n) k =
     let next : suc k + 1 ≡ suc (k + 1) = omega arith in
     ap (λ j. registers_of ys k ∷ map (registers_of (y ∷ ys)) (range_with_len j n)) next
-        ∙ ap (λ l. registers_of ys k ∷ l) (shifted y ys n (k + 1))
+    ∙ ap (λ l. registers_of ys k ∷ l) (shifted y ys n (k + 1))
 
 -- the first values by number
 pub first_values : (xs : List ℤ) (n : ℕ) → n ≤ length xs → take n xs ≡ map (registers_of xs) (range_with_len 0 n)
@@ -43,7 +43,7 @@ pub below_goes : (count : ℕ) (found new : List ℤ) (output : List (ℕ × ℤ
     x ≡ slice_index_or output k x →
     new ≡ found ++ items_below count (x ∷ []) →
     found ++ items_below count (drop k output) ≡ items_below count output →
-        new ++ items_below count (drop (k + 1) output) ≡ items_below count output
+    new ++ items_below count (drop (k + 1) output) ≡ items_below count output
 below_goes count found new output k x h e n o =
     ap (λ l. l ++ items_below count (drop (k + 1) output)) n
     ∙ append_assoc found (items_below count (x ∷ [])) (items_below count (drop (k + 1) output))

@@ -64,7 +64,7 @@ module _ (f : ℕ → PrivatePart → PrivatePart) (old : List ProcessorState) w
         bound = omega (arith, n, l);
         done = λ k m. ⊎_elim
             (λ (here : k ≡ v). ap (own_of (slice_set new v y)) here ∙ own_there new v y l ∙ q
-                ∙ ap (f v) (own_is new v x l e ∙ h.rest v (omega arith))
+            ∙ ap (f v) (own_is new v x l e ∙ h.rest v (omega arith))
             ∙ sym (ap (λ j. f j (own_of old j)) here))
             (λ (before : k < v). own_elsewhere new v k y (λ here. omega (arith, here, before)) ∙ h.done k before)
             (at_or_before k v m);

@@ -144,7 +144,7 @@ module _ (f g : Flat) (s : AreSame f g) where
   active_same : any_active f ≡ any_active g
   active_same =
       sym (any_is (λ v. is_active (f.own v)) (range f)) ∙ sum_same false (λ a b. a || b) (λ u v x. is_active x)
-          ∙ any_is (λ v. is_active (g.own v)) (range g)
+      ∙ any_is (λ v. is_active (g.own v)) (range g)
 
   pub same_after_vote : (d : ℕ) → AreSame (after_vote d f) (after_vote d g)
   same_after_vote d = record {

@@ -44,7 +44,7 @@ IsCounted _ count bound = Unit {0}
 abbrev pub led : SuperstepCode → ℕ → Option Instr → ℕ → Flat → State
 led code bound found place f =
     advance bound (λ (g : Flat). g.uniform) (after_instr code) (record { flat = f; place = place; way = Lost }) (stopped code everywhere)
-        going found place f
+    going found place f
 
 -- whether a run goes on
 abbrev pub is_going : Way → Bool

@@ -11,8 +11,13 @@ use Rattle.flat_machine.specs.Flat.{Flat}
 
 -- the last mask is kept at the end
 abbrev pub part_of : ProcessorState → PrivatePart
-part_of x = record { registers = registers_of x.registers.items; masks = reverse x.masks.items; asks = x.asks.items; awaited =
-    x.awaited.items }
+part_of x = record {
+  registers = registers_of x.registers.items;
+  masks = reverse x.masks.items;
+  asks = x.asks.items;
+  awaited =
+      x.awaited.items;
+}
 
 -- the part of the v-th processor
 abbrev pub own_of : List ProcessorState → ℕ → PrivatePart

@@ -44,8 +44,8 @@ few_uniforms (declare.Uniform x) = omega arith
 
 pub breaches_cons : (s : Scope) (e u t : ℕ) (d : Declaration) (ds : List Declaration) → declaration_breaches s e u t (d ∷ ds)
     ≡ declaration_breaches s e u t (d ∷ [])
-        ++ declaration_breaches (s ++ declared_from e u (d ∷ [])) (e + one_entry d) (u + one_uniform d)
-        (t + total_size (shared_entries (d ∷ []))) ds
+    ++ declaration_breaches (s ++ declared_from e u (d ∷ [])) (e + one_entry d) (u + one_uniform d)
+    (t + total_size (shared_entries (d ∷ []))) ds
 breaches_cons s e u t (declare.Cell x) ds =
     let here = at x.location (shared_cause s t x.text None) in
     ap (λ k. here ++ declaration_breaches (s ++ (x.text, Cell e) ∷ []) (e + 1) k (t + 1) ds) (omega arith)
@@ -65,7 +65,7 @@ breaches_cons s e u t (declare.Uniform x) ds =
 -- one step of the walk over declarations
 module _ (s s2 : Scope) (es es2 : List SharedEntry) (u u2 : ℕ) (d : Declaration) (ds : List Declaration)
     (scope : s2 ≡ s ++ declared_from (length es) u (d ∷ [])) (entries : es2 ≡ es
-        ++ shared_entries (d ∷ [])) (uniforms : u2 ≡ u + one_uniform d) where
+    ++ shared_entries (d ∷ [])) (uniforms : u2 ≡ u + one_uniform d) where
   longer : length es + one_entry d ≡ length es2
   longer = sym (ap length entries ∙ length-append es (shared_entries (d ∷ [])))
 
@@ -82,7 +82,7 @@ module _ (s s2 : Scope) (es es2 : List SharedEntry) (u u2 : ℕ) (d : Declaratio
   pub step_entries : es ++ shared_entries (d ∷ ds) ≡ es2 ++ shared_entries ds
   step_entries =
       ap (λ l. es ++ l) (entries_cons d ds) ∙ (sym (append_assoc es (shared_entries (d ∷ [])) (shared_entries ds))
-          ∙ ap (λ l. l ++ shared_entries ds) (sym entries))
+      ∙ ap (λ l. l ++ shared_entries ds) (sym entries))
 
   pub step_uniforms : u + uniform_count (d ∷ ds) ≡ u2 + uniform_count ds
   step_uniforms = let c = uniforms_cons d ds in omega (arith, c, uniforms)
@@ -93,14 +93,14 @@ module _ (s s2 : Scope) (es es2 : List SharedEntry) (u u2 : ℕ) (d : Declaratio
       let here = declaration_breaches s (length es) u (total_size es) (d ∷ []) in
       breaches_cons s (length es) u (total_size es) d ds
       ∙ (ap (λ z. here ++ declaration_breaches z (length es + one_entry d) (u + one_uniform d)
-          (total_size es + total_size (shared_entries (d ∷ []))) ds) (sym scope)
+      (total_size es + total_size (shared_entries (d ∷ []))) ds) (sym scope)
       ∙ (ap (λ k. here ++ declaration_breaches s2 k (u + one_uniform d) (total_size es + total_size (shared_entries (d ∷ []))) ds) longer
       ∙ (ap (λ k. here ++ declaration_breaches s2 (length es2) k (total_size es + total_size (shared_entries (d ∷ []))) ds) (sym uniforms)
       ∙ ap (λ k. here ++ declaration_breaches s2 (length es2) u2 k ds) wider)))
 
   pub step_first : first (declaration_breaches s (length es) u (total_size es) (d ∷ [])) ≡ None →
       first (declaration_breaches s (length es) u (total_size es) (d ∷ ds)) ≡ first
-          (declaration_breaches s2 (length es2) u2 (total_size es2) ds)
+      (declaration_breaches s2 (length es2) u2 (total_size es2) ds)
   step_first none = ap first split ∙ first_behind _ _ none
 
 pub leads_declaration : (s : Scope) (e u t : ℕ) (d : Declaration) (ds : List Declaration) → Leads (declaration_breaches s e u t (d ∷ []))

@@ -55,8 +55,11 @@ module _ (end : ℕ) where
   leads_append lo mid hi (x ∷ bs) cs fs gs a b =
       let below : offset_in end x.spot + 1 ≤ mid = most (offset_in end x.spot + 1) mid (offsets_in end bs) a.ascends.1 in
       let later : All (λ f. (f ≡ x) ⊎ IsBefore end x f) gs = λ k d h. let w = b.within k d h in inr (inl (omega (arith, below, w.0))) in
-      record { one = Contains-append_left fs gs x a.leads.one; least =
-          All-append (λ f. (f ≡ x) ⊎ IsBefore end x f) fs gs a.leads.least later }
+      record {
+        one = Contains-append_left fs gs x a.leads.one;
+        least =
+            All-append (λ f. (f ≡ x) ⊎ IsBefore end x f) fs gs a.leads.least later;
+      }
 
   pub told_append : (lo mid hi : ℕ) (bs cs fs gs : List Breach) → Told lo mid bs fs → Told mid hi cs gs → Told lo hi (bs ++ cs) (fs ++ gs)
   told_append lo mid hi bs cs fs gs a b =
@@ -79,16 +82,22 @@ module _ (end : ℕ) where
   cut lo hi ts us h = split lo hi (places ts) (places us) (subst (λ l. Between lo l hi) (places_append ts us) h)
 
   pub join : {bs cs fs gs : List Breach} {ts us : List Token} → ToldIn bs fs ts → ToldIn cs gs us → ToldIn (bs ++ cs) (fs ++ gs) (ts ++ us)
-  join {bs} {cs} {fs} {gs} {ts} {us} a b = record { told = λ lo hi h. let s = cut lo hi ts us h in
-      told_append lo s.0 hi bs cs fs gs (a.told lo s.0 s.1) (b.told s.0 hi s.2) }
+  join {bs} {cs} {fs} {gs} {ts} {us} a b = record {
+    told = λ lo hi h. let s = cut lo hi ts us h in
+        told_append lo s.0 hi bs cs fs gs (a.told lo s.0 s.1) (b.told s.0 hi s.2);
+  }
 
   pub front : {bs fs : List Breach} {ts : List Token} (us : List Token) → ToldIn bs fs ts → ToldIn bs fs (ts ++ us)
-  front {bs} {fs} {ts} us a = record { told = λ lo hi h. let s = cut lo hi ts us h in
-      told_higher lo s.0 hi bs fs (most s.0 hi (places us) s.2) (a.told lo s.0 s.1) }
+  front {bs} {fs} {ts} us a = record {
+    told = λ lo hi h. let s = cut lo hi ts us h in
+        told_higher lo s.0 hi bs fs (most s.0 hi (places us) s.2) (a.told lo s.0 s.1);
+  }
 
   pub behind : {bs fs : List Breach} {us : List Token} (ts : List Token) → ToldIn bs fs us → ToldIn bs fs (ts ++ us)
-  behind {bs} {fs} {us} ts a = record { told = λ lo hi h. let s = cut lo hi ts us h in
-      told_lower lo s.0 hi bs fs (most lo s.0 (places ts) s.1) (a.told s.0 hi s.2) }
+  behind {bs} {fs} {us} ts a = record {
+    told = λ lo hi h. let s = cut lo hi ts us h in
+        told_lower lo s.0 hi bs fs (most lo s.0 (places ts) s.1) (a.told s.0 hi s.2);
+  }
 
   pub nothing : (ts : List Token) → ToldIn [] [] ts
   nothing ts = record { told = λ lo hi h. told_nothing lo hi (most lo hi (places ts) h) }
@@ -101,8 +110,12 @@ module _ (end : ℕ) where
         let s = cut lo hi ts us h in
         let one = x.told lo s.0 s.1 in
         let both = told_append lo s.0 hi (b ∷ []) cs fs gs one (y.told s.0 hi s.2) in
-        record { ascends = (told_higher lo s.0 hi (b ∷ []) fs (most s.0 hi (places us) s.2) one).ascends; within = both.within; leads =
-            both.leads };
+        record {
+          ascends = (told_higher lo s.0 hi (b ∷ []) fs (most s.0 hi (places us) s.2) one).ascends;
+          within = both.within;
+          leads =
+              both.leads;
+        };
   }
 
 -- the cause that is told at a place is the lowest of those that apply there

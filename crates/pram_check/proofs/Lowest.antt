@@ -40,9 +40,11 @@ before_one true c d low = before c d low
 before_one false c d low = one c
 
 before_two : (a b : Bool) (c d e : Cause) → number c < number d → number c < number e → IsLowest (Some c) (c ∷ (when a d ++ when b e))
-before_two true true c d e low other =
-    ((0, omega arith, refl), All-cons (Rank c) c (d ∷ e
-        ∷ []) (inl refl) (All-cons (Rank c) d (e ∷ []) (inr low) (All-cons (Rank c) e [] (inr other) (none_left c))))
+before_two true true c d e low other = (
+  (0, omega arith, refl),
+  All-cons (Rank c) c (d ∷ e
+      ∷ []) (inl refl) (All-cons (Rank c) d (e ∷ []) (inr low) (All-cons (Rank c) e [] (inr other) (none_left c))),
+)
 before_two true false c d e low other = before c d low
 before_two false b c d e low other = before_one b c e other
 
@@ -123,7 +125,7 @@ bounds_lowest cells (Some (low, high)) = by (int_lt high low) refl
   where
     by : (b : Bool) → int_lt high low ≡ b →
         IsLowest (or_else (if b then Some (Limit limit.Bounds) else None) (if passes cells (Some (low, high)) then
-            Some (Limit limit.Cells) else None))
+        Some (Limit limit.Cells) else None))
         (when b (Limit limit.Bounds) ++ when (passes cells (Some (low, high))) (Limit limit.Cells))
     by true is =
         subst (λ p. IsLowest (Some (Limit limit.Bounds)) (Limit limit.Bounds ∷ when p (Limit limit.Cells)))
@@ -137,7 +139,7 @@ shared_lowest scope cells text bounds = by (meaning_of scope text)
     by : (m : Option Meaning) → IsLowest (or_else (elim m [ None ↦ None | Some m ↦ Some DoubleName ])
         (or_else (bounds_cause bounds) (cells_cause cells (size bounds))))
         (when (not (is_unknown m)) DoubleName
-            ++ (when (is_reversed bounds) (Limit limit.Bounds) ++ when (passes cells bounds) (Limit limit.Cells)))
+        ++ (when (is_reversed bounds) (Limit limit.Bounds) ++ when (passes cells bounds) (Limit limit.Cells)))
     by None = bounds_lowest cells bounds
     by (Some m) = before_two (is_reversed bounds) (passes cells bounds) DoubleName (Limit limit.Bounds) (Limit limit.Cells) (omega arith)
         (omega arith)

@@ -39,7 +39,7 @@ module _ (scope : Scope) (loops : List ℕ) (l : Location) (low : Expr) (t : Nam
       let back = use_breaches scope (read_count scope (uses low)) (uses high) in
       breaches-Pardo (outside_of scope loops) l low t high locals body
       ∙ (ap (λ x. front ++ x) (sym (append_assoc name back (names_breaches ++ body_breaches)))
-          ∙ sym (append_assoc front (name ++ back) (names_breaches ++ body_breaches)))
+      ∙ sym (append_assoc front (name ++ back) (names_breaches ++ body_breaches)))
 
   -- the scopes on the way
   pub grown : (s2 s3 : Scope) → s2 ≡ inner_scope scope t [] → s3 ≡ s2 ++ locals_from 0 locals → s3 ≡ inner_scope scope t locals
@@ -60,7 +60,7 @@ module _ (scope : Scope) (loops : List ℕ) (l : Location) (low : Expr) (t : Nam
       leads_body b h =
           ap first pardo_whole ∙ (first_behind range_breaches (names_breaches ++ body_breaches) none
           ∙ (first_behind names_breaches body_breaches no_name
-              ∙ (ap (λ x. first (block_breaches body (inside_of x))) (sym (grown s2 s3 one two)) ∙ h)))
+          ∙ (ap (λ x. first (block_breaches body (inside_of x))) (sym (grown s2 s3 one two)) ∙ h)))
 
       pub good_pardo : (a b : Expression) (steps : Vec Step Global) → Says scope low a → Says scope high b →
           first (block_breaches body (inside_of s3)) ≡ None → SaySteps s3 body steps.items →
@@ -69,6 +69,6 @@ module _ (scope : Scope) (loops : List ℕ) (l : Location) (low : Expr) (t : Nam
       good_pardo a b steps x y h k = (
         ap first pardo_whole ∙ (first_behind range_breaches (names_breaches ++ body_breaches) none
             ∙ (first_behind names_breaches body_breaches no_name
-                ∙ (ap (λ x. first (block_breaches body (inside_of x))) (sym (grown s2 s3 one two)) ∙ h))),
+            ∙ (ap (λ x. first (block_breaches body (inside_of x))) (sym (grown s2 s3 one two)) ∙ h))),
         says.pardo l low t high locals body a b steps x y (subst (λ z. SaySteps z body steps.items) (grown s2 s3 one two) k),
       )

@@ -49,24 +49,24 @@ module _ (c : Context) (x : Stmt) where
   pub for_parts : (l : Location) (t : Name) (low high : Expr) (body given : List Stmt) → x ≡ s.For l t low high body → given ≡ body →
       statement_breaches x c ≡ outside_only c.inside l
       (at t.location (variable_cause c.loops (meaning_of c.scope t.text))
-          ++ (use_breaches c.scope 0 (uses low ++ uses high) ++ block_breaches given (for_context c t)))
+      ++ (use_breaches c.scope 0 (uses low ++ uses high) ++ block_breaches given (for_context c t)))
   for_parts l t low high body given is same =
       parts_of (s.For l t low high body) _ is (breaches-For c l t low high body)
       ∙ ap (λ b. outside_only c.inside l (at t.location (variable_cause c.loops (meaning_of c.scope t.text))
-          ++ (use_breaches c.scope 0 (uses low ++ uses high) ++ block_breaches b (for_context c t)))) (sym same)
+      ++ (use_breaches c.scope 0 (uses low ++ uses high) ++ block_breaches b (for_context c t)))) (sym same)
 
   pub pardo_parts : (l : Location) (low : Expr) (t : Name) (high : Expr) (locals names : List Name) (body given : List Stmt) →
       x ≡ s.Pardo l low t high locals body → names ≡ locals → given ≡ body → statement_breaches x c ≡ outside_only c.inside l
       (use_breaches c.scope 0 (uses low)
-          ++ (at t.location (new_cause c.scope t.text) ++ (use_breaches c.scope (read_count c.scope (uses low)) (uses high)
+      ++ (at t.location (new_cause c.scope t.text) ++ (use_breaches c.scope (read_count c.scope (uses low)) (uses high)
       ++ (local_breaches (inner_scope c.scope t []) 0 names ++ block_breaches given (pardo_context c t names)))))
   pardo_parts l low t high locals names body given is listed same =
       parts_of (s.Pardo l low t high locals body) _ is (breaches-Pardo c l low t high locals body)
       ∙ (ap (λ b. outside_only c.inside l (use_breaches c.scope 0 (uses low)
-          ++ (at t.location (new_cause c.scope t.text) ++ (use_breaches c.scope (read_count c.scope (uses low)) (uses high)
+      ++ (at t.location (new_cause c.scope t.text) ++ (use_breaches c.scope (read_count c.scope (uses low)) (uses high)
       ++ (local_breaches (inner_scope c.scope t []) 0 locals ++ block_breaches b (pardo_context c t locals)))))) (sym same)
       ∙ ap (λ n. outside_only c.inside l (use_breaches c.scope 0 (uses low)
-          ++ (at t.location (new_cause c.scope t.text) ++ (use_breaches c.scope (read_count c.scope (uses low)) (uses high)
+      ++ (at t.location (new_cause c.scope t.text) ++ (use_breaches c.scope (read_count c.scope (uses low)) (uses high)
       ++ (local_breaches (inner_scope c.scope t []) 0 n ++ block_breaches given (pardo_context c t n)))))) (sym listed))
 
 -- a block so far, and one statement more
@@ -80,7 +80,7 @@ pub block_more : (xs : List Stmt) (i : ℕ) (d : Stmt) (c : Context) → i < len
 block_more xs i d c below is =
     let grown : take (i + 1) xs ≡ take i xs ++ d ∷ [] = take_more xs i d below ∙ ap (λ y. take i xs ++ y ∷ []) (sym is) in
     ap (λ l. block_breaches l c) grown
-        ∙ (block_append (take i xs) (d ∷ []) c ∙ ap (λ l. block_breaches (take i xs) c ++ l) (append-nil (statement_breaches d c)))
+    ∙ (block_append (take i xs) (d ∷ []) c ∙ ap (λ l. block_breaches (take i xs) c ++ l) (append-nil (statement_breaches d c)))
 
 pub block_at : (xs : List Stmt) (i : ℕ) (d : Stmt) (c : Context) → i < length xs → d ≡ get_or xs i d →
     block_breaches xs c ≡ block_breaches (take i xs) c ++ (statement_breaches d c ++ block_breaches (drop (i + 1) xs) c)

@@ -78,7 +78,7 @@ unfolding uses tokens
 rolled y =
     subst (λ us. UsesIn us (tokens (roll-Expr (exprs y)))) (sym (fold-roll-Expr (List Use) node_uses (exprs y)))
     (subst (λ ts. UsesIn (node_uses (map-Expr Expr (List Use) uses (exprs y))) ts) (sym (fold-roll-Expr (List Token) node_tokens (exprs y)))
-        (layer y))
+    (layer y))
 
 -- the names of an expression are tokens of it, in order
 pub expression_places : (e : Expr) → Placed e

@@ -44,7 +44,7 @@ module _ (end : ℕ) where
       behind end (token.Mark mark.Shared ∷ [])
       (join end (named end x _ _ (shared_lowest s c x.text (Some (low.value, high.value))))
       (behind end (token.Mark mark.OpenBracket ∷ token.Number low ∷ token.Mark mark.Range ∷ token.Number high ∷ token.Mark mark.CloseBracket
-          ∷ token.Mark mark.Semicolon ∷ [])
+      ∷ token.Mark mark.Semicolon ∷ [])
       (declarations_in (s ++ (x.text, Array e) ∷ []) (e + 1) u (c + size (Some (low.value, high.value))) ds)))
   declarations_in s e u c (declare.Uniform x ∷ ds) =
       behind end (token.Mark mark.Var ∷ [])
@@ -106,12 +106,12 @@ module _ (end : ℕ) where
       let all_procs = all_at t.procs.location (procs_causes t.procs.value) in
       subst (λ bs. Told end 0 (end + 1) bs (faults t))
       (four procs (declaration_breaches [] 0 0 0 t.declarations) (block_breaches t.body (body_context t.declarations))
-          (token_breaches count))
+      (token_breaches count))
       (subst (Told end 0 (end + 1) (front_breaches t ++ token_breaches count))
       (four all_procs (declaration_faults [] 0 0 0 t.declarations) (block_faults t.body (body_context t.declarations))
-          (token_breaches count))
+      (token_breaches count))
       (told_append end 0 end (end + 1) (front_breaches t) (token_breaches count) (front_faults t) (token_breaches count)
-          ((program_in t).told 0 end h) (end_in count)))
+      ((program_in t).told 0 end h) (end_in count)))
 
 module _ (text : List ℕ) (tree : ProgramTree) (is : IsTextOf text tree) where
   abbrev end : ℕ

@@ -62,7 +62,7 @@ module _ (end : ℕ) where
   all_in : (ys : List Held) (inside : Bool) (scope : Scope) (loops : List ℕ) →
       ToldIn end (judged_all (map statement_breaches (map (λ (x : Held). x.0) ys)) (seen inside scope loops))
       (judged_all (map statement_faults (map (λ (x : Held). x.0) ys)) (stands inside scope loops))
-          (joined_all (map statement_tokens (map (λ (x : Held). x.0) ys)))
+      (joined_all (map statement_tokens (map (λ (x : Held). x.0) ys)))
   all_in [] inside scope loops = nothing end []
   all_in (y ∷ ys) inside scope loops = join end (y.1 inside scope loops) (all_in ys inside scope loops)
 
@@ -71,7 +71,7 @@ module _ (end : ℕ) where
   locals_in scope k (x ∷ xs) =
       behind end (token.Mark mark.Local ∷ [])
       (join end (named x _ _ (new_lowest scope x.text)) (behind end (token.Mark mark.Semicolon
-          ∷ []) (locals_in (scope ++ locals_from k (x ∷ [])) (k + 1) xs)))
+      ∷ []) (locals_in (scope ++ locals_from k (x ∷ [])) (k + 1) xs)))
 
   -- the statements in a block, with the word behind them
   block_in : (ys : List Held) (inside : Bool) (scope : Scope) (loops : List ℕ) →
@@ -112,15 +112,15 @@ module _ (end : ℕ) where
   pardo_in : (low : Expr) (x : Name) (high : Expr) (locals : List Name) (body : List Held) (scope : Scope) (loops : List ℕ) →
       ToldIn end
       (use_breaches scope 0 (uses low)
-          ++ (at x.location (new_cause scope x.text) ++ (use_breaches scope (read_count scope (uses low)) (uses high)
+      ++ (at x.location (new_cause scope x.text) ++ (use_breaches scope (read_count scope (uses low)) (uses high)
       ++ (local_breaches (inner_scope scope x []) 0 locals
-          ++ judged_all (map statement_breaches (map (λ (x : Held). x.0) body)) (inside_of (inner_scope scope x locals))))))
+      ++ judged_all (map statement_breaches (map (λ (x : Held). x.0) body)) (inside_of (inner_scope scope x locals))))))
       (use_faults scope 0 (uses low)
-          ++ (all_at x.location (new_causes scope x.text) ++ (use_faults scope (read_count scope (uses low)) (uses high)
+      ++ (all_at x.location (new_causes scope x.text) ++ (use_faults scope (read_count scope (uses low)) (uses high)
       ++ (local_faults (inner_scope scope x []) 0 locals
-          ++ judged_all (map statement_faults (map (λ (x : Held). x.0) body)) (stands true (inner_scope scope x locals) loops)))))
+      ++ judged_all (map statement_faults (map (λ (x : Held). x.0) body)) (stands true (inner_scope scope x locals) loops)))))
       (tokens low ++ (token.Binary op.AtMost
-          ∷ (token.Name x ∷ (token.Binary op.AtMost ∷ (tokens high ++ (token.Mark mark.Pardo ∷ (local_tokens locals
+      ∷ (token.Name x ∷ (token.Binary op.AtMost ∷ (tokens high ++ (token.Mark mark.Pardo ∷ (local_tokens locals
       ++ (joined_all (map statement_tokens (map (λ (x : Held). x.0) body)) ++ token.Mark mark.End ∷ []))))))))
   pardo_in low x high locals body scope loops =
       join end (told_expression end scope 0 low)
@@ -134,7 +134,7 @@ module _ (end : ℕ) where
   -- the parts of `while` and `if` behind the keyword
   while_in : (e : Expr) (body : List Held) (inside : Bool) (scope : Scope) (loops : List ℕ) →
       ToldIn end (use_breaches scope 0 (uses e)
-          ++ judged_all (map statement_breaches (map (λ (x : Held). x.0) body)) (seen inside scope loops))
+      ++ judged_all (map statement_breaches (map (λ (x : Held). x.0) body)) (seen inside scope loops))
       (use_faults scope 0 (uses e) ++ judged_all (map statement_faults (map (λ (x : Held). x.0) body)) (stands inside scope loops))
       (tokens e ++ (token.Mark mark.Do ∷ (joined_all (map statement_tokens (map (λ (x : Held). x.0) body)) ++ token.Mark mark.End ∷ [])))
   while_in e body inside scope loops =
@@ -142,7 +142,7 @@ module _ (end : ℕ) where
 
   if_in : (e : Expr) (body : List Held) (inside : Bool) (scope : Scope) (loops : List ℕ) →
       ToldIn end (use_breaches scope 0 (uses e)
-          ++ (judged_all (map statement_breaches (map (λ (x : Held). x.0) body)) (seen inside scope loops) ++ []))
+      ++ (judged_all (map statement_breaches (map (λ (x : Held). x.0) body)) (seen inside scope loops) ++ []))
       (use_faults scope 0 (uses e) ++ (judged_all (map statement_faults (map (λ (x : Held). x.0) body)) (stands inside scope loops) ++ []))
       (tokens e ++ (token.Mark mark.Then ∷ (joined_all (map statement_tokens (map (λ (x : Held). x.0) body)) ++ token.Mark mark.End ∷ [])))
   if_in e body inside scope loops =
@@ -165,19 +165,19 @@ module _ (end : ℕ) where
   layer : (y : Stmt-F Held) (inside : Bool) (scope : Scope) (loops : List ℕ) →
       ToldIn end (node_breaches (map-Stmt Stmt Judged statement_breaches (stmts y)) (seen inside scope loops))
       (node_faults (map-Stmt Stmt Judged statement_faults (stmts y)) (stands inside scope loops))
-          (statement_step (map-Stmt Stmt (List Token) statement_tokens (stmts y)))
+      (statement_step (map-Stmt Stmt (List Token) statement_tokens (stmts y)))
   layer (Stmt-F.Assign x v) true scope loops =
       join end (named x _ _ (target_lowest_inside [] loops (meaning_of scope x.text))) (behind end (token.Mark mark.Becomes
-          ∷ []) (value_in scope v))
+      ∷ []) (value_in scope v))
   layer (Stmt-F.Assign x v) false scope loops =
       join end (named x _ _ (target_lowest_outside loops (meaning_of scope x.text))) (behind end (token.Mark mark.Becomes
-          ∷ []) (value_in scope v))
+      ∷ []) (value_in scope v))
   layer (Stmt-F.AssignElement x i v) true scope loops =
       join end (named x _ _ (element_lowest loops (meaning_of scope x.text))) (behind end (token.Mark mark.OpenBracket
-          ∷ []) (pair_in scope i v))
+      ∷ []) (pair_in scope i v))
   layer (Stmt-F.AssignElement x i v) false scope loops =
       join end (named x _ _ (element_lowest loops (meaning_of scope x.text))) (behind end (token.Mark mark.OpenBracket
-          ∷ []) (pair_in scope i v))
+      ∷ []) (pair_in scope i v))
   layer (Stmt-F.Print l v) true scope loops = hidden end (misplaced opening.Print l) (value_in scope v)
   layer (Stmt-F.Print l v) false scope loops = behind end (token.Opening opening.Print l ∷ []) (value_in scope v)
   layer (Stmt-F.While l e body) true scope loops = behind end (token.Opening opening.While l ∷ []) (while_in e body true scope loops)
@@ -201,13 +201,13 @@ module _ (end : ℕ) where
   rolled y inside scope loops =
       let x = stmts y in
       subst (λ f. ToldIn end (f (seen inside scope loops)) (statement_faults (roll-Stmt x) (stands inside scope loops))
-          (statement_tokens (roll-Stmt x)))
+      (statement_tokens (roll-Stmt x)))
       (sym (fold-roll-Stmt Judged node_breaches x))
       (subst (λ f. ToldIn end (node_breaches (map-Stmt Stmt Judged statement_breaches x) (seen inside scope loops))
-          (f (stands inside scope loops)) (statement_tokens (roll-Stmt x)))
+      (f (stands inside scope loops)) (statement_tokens (roll-Stmt x)))
       (sym (fold-roll-Stmt Judged node_faults x))
       (subst (ToldIn end (node_breaches (map-Stmt Stmt Judged statement_breaches x) (seen inside scope loops))
-          (node_faults (map-Stmt Stmt Judged statement_faults x) (stands inside scope loops)))
+      (node_faults (map-Stmt Stmt Judged statement_faults x) (stands inside scope loops)))
       (sym (fold-roll-Stmt (List Token) statement_step x)) (layer y inside scope loops)))
 
   -- the first breach of a statement is the least of its faults

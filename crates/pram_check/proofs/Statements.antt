@@ -30,22 +30,22 @@ module _ (scope : Scope) where
       Says scope v y → SayStatements scope given inside.items → SaysStatement scope x (statement.While l.line y inside)
   said_while x l v body given y inside is same h k =
       subst (λ z. SaysStatement scope z (statement.While l.line y inside)) (sym is)
-          (says.while l v body y inside h (subst (λ b. SayStatements scope b inside.items) same k))
+      (says.while l v body y inside h (subst (λ b. SayStatements scope b inside.items) same k))
 
   pub said_if : (x : Stmt) (l : Location) (v : Expr) (body given : List Stmt) (other else_given : Option (List Stmt)) (y : Expression)
       (inside others : Vec Statement Global) →
       x ≡ s.If l v body other → given ≡ body → else_given ≡ other → Says scope v y → SayStatements scope given inside.items →
-          SayOther scope else_given others.items →
+      SayOther scope else_given others.items →
       SaysStatement scope x (statement.If l.line y inside others)
   said_if x l v body given other else_given y inside others is same also h k m =
       subst (λ z. SaysStatement scope z (statement.If l.line y inside others)) (sym is)
       (says.if_else l v body other y inside others h (subst (λ b. SayStatements scope b inside.items) same k)
-          (subst (λ o. SayOther scope o others.items) also m))
+      (subst (λ o. SayOther scope o others.items) also m))
 
   pub said_for : (x : Stmt) (l : Location) (t : Name) (low high : Expr) (body given : List Stmt) (k : ℕ) (a b : Expression)
       (inside : Vec Statement Global) →
       x ≡ s.For l t low high body → given ≡ body → meaning_of scope t.text ≡ Some (meaning.Uniform k) → Says scope low a →
-          Says scope high b →
+      Says scope high b →
       SayStatements scope given inside.items → SaysStatement scope x (statement.For l.line k a b inside)
   said_for x l t low high body given k a b inside is same m h j g =
       subst (λ z. SaysStatement scope z (statement.For l.line k a b inside)) (sym is)
@@ -64,14 +64,14 @@ module _ (scope : Scope) where
   statements_more xs i d ys zs y below is grown h k =
       let longer : take (i + 1) xs ≡ take i xs ++ d ∷ [] = take_more xs i d below ∙ ap (λ y. take i xs ++ y ∷ []) (sym is) in
       subst (λ l. SayStatements scope l zs) (sym longer) (subst (λ l. SayStatements scope (take i xs ++ d ∷ []) l) (sym grown)
-          (statements_snoc (take i xs) ys d y h k))
+      (statements_snoc (take i xs) ys d y h k))
 
 -- the parts of a `for`
 module _ (scope : Scope) (loops inner : List ℕ) (x : Stmt) (l : Location) (t : Name) (low high : Expr) (body given : List Stmt)
     (is : x ≡ s.For l t low high body) (same : given ≡ body) where
   pub for_whole : statement_breaches x (outside_of scope loops)
       ≡ at t.location (variable_cause loops (meaning_of scope t.text))
-          ++ (use_breaches scope 0 (uses low ++ uses high) ++ block_breaches given (for_context (outside_of scope loops) t))
+      ++ (use_breaches scope 0 (uses low ++ uses high) ++ block_breaches given (for_context (outside_of scope loops) t))
   for_whole = for_parts (outside_of scope loops) x l t low high body given is same
 
   module _ (k : ℕ) (m : meaning_of scope t.text ≡ Some (meaning.Uniform k)) (grown : inner ≡ loops ++ k ∷ []) where

@@ -20,17 +20,17 @@ module _ (scope : Scope) where
       Says scope v y → SaySteps scope given steps.items → SaysStep scope x (step.While l.line y steps)
   said_while x l v body given y steps is same h k =
       subst (λ z. SaysStep scope z (step.While l.line y steps)) (sym is)
-          (says.while l v body y steps h (subst (λ b. SaySteps scope b steps.items) same k))
+      (says.while l v body y steps h (subst (λ b. SaySteps scope b steps.items) same k))
 
   pub said_if : (x : Stmt) (l : Location) (v : Expr) (body given : List Stmt) (other else_given : Option (List Stmt)) (y : Expression)
       (steps others : Vec Step Global) →
       x ≡ s.If l v body other → given ≡ body → else_given ≡ other → Says scope v y → SaySteps scope given steps.items →
-          SayElse scope else_given others.items →
+      SayElse scope else_given others.items →
       SaysStep scope x (step.If l.line y steps others)
   said_if x l v body given other else_given y steps others is same also h k m =
       subst (λ z. SaysStep scope z (step.If l.line y steps others)) (sym is)
       (says.if_else l v body other y steps others h (subst (λ b. SaySteps scope b steps.items) same k)
-          (subst (λ o. SayElse scope o others.items) also m))
+      (subst (λ o. SayElse scope o others.items) also m))
 
   steps_snoc : (xs : List Stmt) (ys : List Step) (d : Stmt) (y : Step) → SaySteps scope xs ys → SaysStep scope d y →
       SaySteps scope (xs ++ d ∷ []) (ys ++ y ∷ [])
@@ -44,4 +44,4 @@ module _ (scope : Scope) where
   steps_more xs i d ys zs y below is grown h k =
       let longer : take (i + 1) xs ≡ take i xs ++ d ∷ [] = take_more xs i d below ∙ ap (λ y. take i xs ++ y ∷ []) (sym is) in
       subst (λ l. SaySteps scope l zs) (sym longer) (subst (λ l. SaySteps scope (take i xs ++ d ∷ []) l) (sym grown)
-          (steps_snoc (take i xs) ys d y h k))
+      (steps_snoc (take i xs) ys d y h k))

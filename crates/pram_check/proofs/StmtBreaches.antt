@@ -47,7 +47,7 @@ module _ (c : Context) where
   unfolding statement_breaches
   breaches-While l v body =
       rolled _ (Stmt-F.While l v (map statement_breaches body)) c (ap statement_breaches (sym (s.rolls-While l v body))
-          ∙ fold-roll-Stmt Judged node_breaches (Stmt-F.While l v body))
+      ∙ fold-roll-Stmt Judged node_breaches (Stmt-F.While l v body))
       ∙ ap (λ b. use_breaches c.scope 0 (uses v) ++ b) (each body c)
 
   pub breaches-If : (l : Location) (v : Expr) (body : List Stmt) (other : Option (List Stmt)) →
@@ -55,36 +55,36 @@ module _ (c : Context) where
   unfolding statement_breaches
   breaches-If l v body None =
       rolled _ (Stmt-F.If l v (map statement_breaches body) None) c (ap statement_breaches (sym (s.rolls-If l v body None))
-          ∙ fold-roll-Stmt Judged node_breaches (Stmt-F.If l v body None))
+      ∙ fold-roll-Stmt Judged node_breaches (Stmt-F.If l v body None))
       ∙ ap (λ b. use_breaches c.scope 0 (uses v) ++ (b ++ [])) (each body c)
   breaches-If l v body (Some other) =
       rolled _ (Stmt-F.If l v (map statement_breaches body) (Some (map statement_breaches other))) c
-          (ap statement_breaches (sym (s.rolls-If l v body (Some other)))
-          ∙ fold-roll-Stmt Judged node_breaches (Stmt-F.If l v body (Some other)))
+      (ap statement_breaches (sym (s.rolls-If l v body (Some other)))
+      ∙ fold-roll-Stmt Judged node_breaches (Stmt-F.If l v body (Some other)))
       ∙ ap (λ b. use_breaches c.scope 0 (uses v) ++ (b ++ judged_all (map statement_breaches other) c)) (each body c)
       ∙ ap (λ b. use_breaches c.scope 0 (uses v) ++ (block_breaches body c ++ b)) (each other c)
 
   pub breaches-For : (l : Location) (x : Name) (low high : Expr) (body : List Stmt) →
       statement_breaches (s.For l x low high body) c ≡ outside_only c.inside l
       (at x.location (variable_cause c.loops (meaning_of c.scope x.text))
-          ++ (use_breaches c.scope 0 (uses low ++ uses high) ++ block_breaches body (for_context c x)))
+      ++ (use_breaches c.scope 0 (uses low ++ uses high) ++ block_breaches body (for_context c x)))
   unfolding statement_breaches
   breaches-For l x low high body =
       rolled _ (Stmt-F.For l x low high (map statement_breaches body)) c (ap statement_breaches (sym (s.rolls-For l x low high body))
-          ∙ fold-roll-Stmt Judged node_breaches (Stmt-F.For l x low high body))
+      ∙ fold-roll-Stmt Judged node_breaches (Stmt-F.For l x low high body))
       ∙ ap (λ b. outside_only c.inside l (at x.location (variable_cause c.loops (meaning_of c.scope x.text))
-          ++ (use_breaches c.scope 0 (uses low ++ uses high) ++ b))) (each body (for_context c x))
+      ++ (use_breaches c.scope 0 (uses low ++ uses high) ++ b))) (each body (for_context c x))
 
   pub breaches-Pardo : (l : Location) (low : Expr) (x : Name) (high : Expr) (locals : List Name) (body : List Stmt) →
       statement_breaches (s.Pardo l low x high locals body) c ≡ outside_only c.inside l
       (use_breaches c.scope 0 (uses low)
-          ++ (at x.location (new_cause c.scope x.text) ++ (use_breaches c.scope (read_count c.scope (uses low)) (uses high)
+      ++ (at x.location (new_cause c.scope x.text) ++ (use_breaches c.scope (read_count c.scope (uses low)) (uses high)
       ++ (local_breaches (inner_scope c.scope x []) 0 locals ++ block_breaches body (pardo_context c x locals)))))
   unfolding statement_breaches
   breaches-Pardo l low x high locals body =
       rolled _ (Stmt-F.Pardo l low x high locals (map statement_breaches body)) c
-          (ap statement_breaches (sym (s.rolls-Pardo l low x high locals body))
-          ∙ fold-roll-Stmt Judged node_breaches (Stmt-F.Pardo l low x high locals body))
+      (ap statement_breaches (sym (s.rolls-Pardo l low x high locals body))
+      ∙ fold-roll-Stmt Judged node_breaches (Stmt-F.Pardo l low x high locals body))
       ∙ ap (λ b. outside_only c.inside l (use_breaches c.scope 0 (uses low)
-          ++ (at x.location (new_cause c.scope x.text) ++ (use_breaches c.scope (read_count c.scope (uses low)) (uses high)
+      ++ (at x.location (new_cause c.scope x.text) ++ (use_breaches c.scope (read_count c.scope (uses low)) (uses high)
       ++ (local_breaches (inner_scope c.scope x []) 0 locals ++ b))))) (each body (pardo_context c x locals))

@@ -83,7 +83,7 @@ from_first low high x (y ∷ xs) least ascend inside =
       least,
       from_first (x + 1) high y xs (omega (arith, next))
           (λ k below. let later = ascend (suc k) (omega (arith, below)) in let is : suc k + 1 ≡ suc (k + 1) = omega arith in
-              subst (λ j. slice_index (y ∷ xs) k < slice_index (x ∷ y ∷ xs) j) is later)
+          subst (λ j. slice_index (y ∷ xs) k < slice_index (x ∷ y ∷ xs) j) is later)
           (λ k d below. inside (suc k) d (omega (arith, below))),
     )
 

@@ -22,7 +22,7 @@ module _ (end : ℕ) (scope : Scope) where
       let l = u.name.location in
       let k = n + (if is_read m u.subscripted then 1 else 0) in
       told_append end lo (l.offset + 1) hi (at l (or_else (use_cause m u.subscripted) (ninth n (is_read m u.subscripted))))
-          (use_breaches scope k us)
+      (use_breaches scope k us)
       (all_at l (use_causes m u.subscripted n)) (use_faults scope k us)
       (told_at end l _ (use_causes m u.subscripted n) lo (l.offset + 1) (use_lowest m u.subscripted n) h.0 (omega arith))
       (told_uses k (l.offset + 1) hi us h.1)
@@ -40,4 +40,4 @@ module _ (end : ℕ) (scope : Scope) where
   told_two e f between =
       told_names 0 (uses e ++ uses f) (tokens e ++ (between ++ tokens f))
       (join_uses (uses e) (uses f) (tokens e) (between
-          ++ tokens f) (expression_places e) (behind_uses (uses f) between (tokens f) (expression_places f)))
+      ++ tokens f) (expression_places e) (behind_uses (uses f) between (tokens f) (expression_places f)))

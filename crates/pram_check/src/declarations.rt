@@ -10,8 +10,8 @@ ghost use Rattle.pram_names.specs.Walk.{Judges};
 
 use pram_names::expression::breach;
 use pram_names::fault::{Cause, CheckFault, Limit};
-use pram_names::scope::{Meaning, Scope};
 use pram_names::range::new_name;
+use pram_names::scope::{Meaning, Scope};
 use pram_syntax::layout::Layout;
 use pram_syntax::token::{Name, Numeral};
 use pram_syntax::tree::Declaration;

@@ -5,9 +5,9 @@ ghost use Rattle.pram_names.specs.Breaches.{breaches, IsAccepted, Tells};
 ghost use Rattle.pram_check.specs.Bounded.{IsBounded};
 ghost use Rattle.pram_check.specs.Checked.{IsResolved};
 
+use crate::resolve::{Parts, resolve};
 use pram_names::body::Statement;
 use pram_names::fault::CheckFault;
-use crate::resolve::{Parts, resolve};
 use pram_syntax::layout::Layout;
 use pram_syntax::rule::Rule;
 use pram_syntax::tree::Tree;

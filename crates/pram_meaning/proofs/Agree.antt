@@ -197,11 +197,11 @@ loop_shows n T B t b at ab ct zero m e h = absurd (omega arith)
 loop_shows n T B t b at ab ct (suc j) m e h =
     shows_map n (Turn T B (Loop T B) m) (Loop T B m) (turns (suc j) t b m) (fold_loop T B m)
     (shows_then n (T m) (λ z m. Either z (Then (Unit {0}) (Unit {0}) (B m) (λ u. Loop T B)) (IsEnd tt m)) (t m)
-        (λ z m. if z then then_do (b m) (λ u. turns j t b) else Goes tt m)
+    (λ z m. if z then then_do (b m) (λ u. turns j t b) else Goes tt m)
     (at.shows m h)
     (λ z k p hk. elim z as (λ z. T m (Ends z k) →
-        Shows n (Either z (Then (Unit {0}) (Unit {0}) (B k) (λ u. Loop T B)) (IsEnd tt k)) (if z then then_do (b k) (λ u. turns j t b) else
-        Goes tt k)) [
+    Shows n (Either z (Then (Unit {0}) (Unit {0}) (B k) (λ u. Loop T B)) (IsEnd tt k)) (if z then then_do (b k) (λ u. turns j t b) else
+    Goes tt k)) [
       | true ↦ (λ p. shows_then n (B k) (λ u. Loop T B) (b k) (λ u. turns j t b) (ab.shows k hk) (λ u l q hl. let c : m.count < k.count =
           ct m k true p in let d : k.count ≤ l.count = ab.grows k (Ends u l) q in loop_shows n T B t b at ab ct j l (omega arith) hl))
       | false ↦ (λ p. end_shows n tt k hk)
@@ -214,12 +214,12 @@ loop_comes n T B t b at ab ct gr zero j m e h f r = absurd r
 loop_comes n T B t b at ab ct gr (suc i) zero m e h f r = absurd (omega arith)
 loop_comes n T B t b at ab ct gr (suc i) (suc j) m e h f r =
     comes_then n (T m) (λ z m. Either z (Then (Unit {0}) (Unit {0}) (B m) (λ u. Turns i T B)) (IsEnd tt m)) (t m)
-        (λ z m. if z then then_do (b m) (λ u. turns j t b) else Goes tt m)
+    (λ z m. if z then then_do (b m) (λ u. turns j t b) else Goes tt m)
     (at.comes m h)
     (λ z k f. elim z as (λ z. Either z (Then (Unit {0}) (Unit {0}) (B k) (λ u. Turns i T B)) (IsEnd tt k) f →
-        k.count ≤ count_of f) [ true ↦ grows_then k (B k) (λ u. Turns i T B) (ab.grows k) (λ u. gr i) f | false ↦ end_grows tt k f ])
+    k.count ≤ count_of f) [ true ↦ grows_then k (B k) (λ u. Turns i T B) (ab.grows k) (λ u. gr i) f | false ↦ end_grows tt k f ])
     (λ z k p hk f. elim z as (λ z. T m (Ends z k) → Either z (Then (Unit {0}) (Unit {0}) (B k) (λ u. Turns i T B)) (IsEnd tt k) f →
-        Comes n (if z then then_do (b k) (λ u. turns j t b) else Goes tt k) f) [
+    Comes n (if z then then_do (b k) (λ u. turns j t b) else Goes tt k) f) [
       | true ↦ (λ p. comes_then n (B k) (λ u. Turns i T B) (b k) (λ u. turns j t b) (ab.comes k hk) (λ u. gr i) (λ u l q hl.
           let c : m.count < k.count = ct m k true p in let d : k.count ≤ l.count = ab.grows k (Ends u l) q in
           loop_comes n T B t b at ab ct gr i j l (omega arith) hl) f)
@@ -232,8 +232,11 @@ loop_grows T B gt gb zero m f r = absurd r
 loop_grows T B gt gb (suc i) m f r =
     grows_then m (T m) (λ z m. Either z (Then (Unit {0}) (Unit {0}) (B m) (λ u. Turns i T B)) (IsEnd tt m)) (gt m)
     (λ z k f. elim z as (λ z. Either z (Then (Unit {0}) (Unit {0}) (B k) (λ u. Turns i T B)) (IsEnd tt k) f →
-        k.count ≤ count_of f) [ true ↦ grows_then k (B k) (λ u. Turns i T B) (gb k) (λ u. loop_grows T B gt gb i) f | false ↦ end_grows tt k
-        f ])
+    k.count ≤ count_of f) [
+      | true ↦ grows_then k (B k) (λ u. Turns i T B) (gb k) (λ u. loop_grows T B gt gb i) f
+      | false ↦ end_grows tt k
+          f
+    ])
     f r
 
 pub agree_loop : (n : ℕ) (T : State → Fates Bool) (B : State → Does) (t : State → Behaviour Bool) (b : State → Done) → Agree Bool n T t →

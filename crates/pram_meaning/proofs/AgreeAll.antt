@@ -57,16 +57,16 @@ agree_for : (n k x : ℕ) (a : ℤ) (B : State → Does) (b : State → Done) �
 agree_for n zero x a B b r = agree_end n (λ m. tt) (λ m. m) (λ m. refl)
 agree_for n (suc k) x a B b r =
     agree_then n Begins (λ u m. Then (Unit {0}) (Unit {0}) (B (with_uniform x a m)) (λ u. ForTurns k x (a +ℤ pos 1) B)) (counted n)
-        (λ u m. then_do (b (with_uniform x a m)) (λ u. for_turns n k x (a +ℤ pos 1) b)) (agree_counted n)
+    (λ u m. then_do (b (with_uniform x a m)) (λ u. for_turns n k x (a +ℤ pos 1) b)) (agree_counted n)
     (λ u. agree_then n (λ m. B (with_uniform x a m)) (λ u. ForTurns k x (a +ℤ pos 1) B) (λ m. b (with_uniform x a m))
-        (λ u. for_turns n k x (a +ℤ pos 1) b) (agree_after n (with_uniform x a) (λ m. refl) B b r)
-        (λ u. agree_for n k x (a +ℤ pos 1) B b r))
+    (λ u. for_turns n k x (a +ℤ pos 1) b) (agree_after n (with_uniform x a) (λ m. refl) B b r)
+    (λ u. agree_for n k x (a +ℤ pos 1) B b r))
 
 agree_attempted : (w : Checked) (n line : ℕ) (a : View → Attempt Effect) (vs : List ℕ) → Agree (List Part) n (AttemptedOn w line a vs)
     (attempted_on w n line a vs)
 agree_attempted w n line a vs =
     agree_then n Begins (λ u m. Yields (List Part) m (together w line (parts w m a vs))) (counted n)
-        (λ u m. valued (together w line (parts w m a vs)) m) (agree_counted n) (λ u. agree_valued n (λ m. together w line (parts w m a vs)))
+    (λ u m. valued (together w line (parts w m a vs)) m) (agree_counted n) (λ u. agree_valued n (λ m. together w line (parts w m a vs)))
 
 agree_unless : (n : ℕ) (us : List ℕ) (P Q : State → Does) (b c : State → Done) → Agree (Unit {0}) n P b → Agree (Unit {0}) n Q c →
     Agree (Unit {0}) n (λ m. UnlessNone us (P m) (Q m)) (λ m. unless_none us (b m) (c m))
@@ -121,12 +121,12 @@ module _ (n : ℕ) (T : List ℕ → State → Fates (List Part)) (B : List ℕ 
   grows_on zero vs m f r = absurd r
   grows_on (suc i) vs m f r =
       grows_then m (T vs m) (λ xs m.
-          UnlessNone (those true xs) (IsEnd tt m) (Then (Unit {0}) (Unit {0}) (B (those true xs) m) (λ u. TurnsOn i T B (those true xs))))
-          ((at vs).grows m)
+      UnlessNone (those true xs) (IsEnd tt m) (Then (Unit {0}) (Unit {0}) (B (those true xs) m) (λ u. TurnsOn i T B (those true xs))))
+      ((at vs).grows m)
       (λ xs k f. unless_grows k (those true xs) (IsEnd tt k)
-          (Then (Unit {0}) (Unit {0}) (B (those true xs) k) (λ u. TurnsOn i T B (those true xs))) f (end_grows tt k f)
+      (Then (Unit {0}) (Unit {0}) (B (those true xs) k) (λ u. TurnsOn i T B (those true xs))) f (end_grows tt k f)
       (grows_then k (B (those true xs) k) (λ u. TurnsOn i T B (those true xs)) ((ab (those true xs)).grows k)
-          (λ u. grows_on i (those true xs)) f))
+      (λ u. grows_on i (those true xs)) f))
       f r
 
   shows_loop : (j : ℕ) (vs : List ℕ) (m : State) → n < j + m.count → m.count ≤ n → Shows n (LoopOn T B vs m) (turns_on j t b vs m)
@@ -134,17 +134,17 @@ module _ (n : ℕ) (T : List ℕ → State → Fates (List Part)) (B : List ℕ 
   shows_loop (suc j) vs m e h =
       shows_map n (TurnOn T B (LoopOn T B) vs m) (LoopOn T B vs m) (turns_on (suc j) t b vs m) (fold_loop_on T B vs m)
       (shows_then n (T vs m) (λ xs m.
-          UnlessNone (those true xs) (IsEnd tt m) (Then (Unit {0}) (Unit {0}) (B (those true xs) m) (λ u. LoopOn T B (those true xs))))
-          (t vs m) (λ xs m. unless_none (those true xs) (Goes tt m) (then_do (b (those true xs) m) (λ u. turns_on j t b (those true xs))))
+      UnlessNone (those true xs) (IsEnd tt m) (Then (Unit {0}) (Unit {0}) (B (those true xs) m) (λ u. LoopOn T B (those true xs))))
+      (t vs m) (λ xs m. unless_none (those true xs) (Goes tt m) (then_do (b (those true xs) m) (λ u. turns_on j t b (those true xs))))
       ((at vs).shows m h)
       (λ xs k p hk. unless_shows n (those true xs) (IsEnd tt k)
-          (Then (Unit {0}) (Unit {0}) (B (those true xs) k) (λ u. LoopOn T B (those true xs))) (Goes tt k)
-          (then_do (b (those true xs) k) (λ u. turns_on j t b (those true xs)))
+      (Then (Unit {0}) (Unit {0}) (B (those true xs) k) (λ u. LoopOn T B (those true xs))) (Goes tt k)
+      (then_do (b (those true xs) k) (λ u. turns_on j t b (those true xs)))
       (end_shows n tt k hk)
       (shows_then n (B (those true xs) k) (λ u. LoopOn T B (those true xs)) (b (those true xs) k) (λ u. turns_on j t b (those true xs))
-          ((ab (those true xs)).shows k hk)
+      ((ab (those true xs)).shows k hk)
       (λ u l q hl. let c : m.count < k.count = ct vs m k xs p in let d : k.count ≤ l.count = (ab (those true xs)).grows k (Ends u l) q in
-          shows_loop j (those true xs) l (omega arith) hl))))
+      shows_loop j (those true xs) l (omega arith) hl))))
 
   comes_loop : (i j : ℕ) (vs : List ℕ) (m : State) → n < j + m.count → m.count ≤ n → (f : Fate (Unit {0})) → TurnsOn i T B vs m f →
       Comes n (turns_on j t b vs m) f
@@ -152,21 +152,21 @@ module _ (n : ℕ) (T : List ℕ → State → Fates (List Part)) (B : List ℕ 
   comes_loop (suc i) zero vs m e h f r = absurd (omega arith)
   comes_loop (suc i) (suc j) vs m e h f r =
       comes_then n (T vs m) (λ xs m.
-          UnlessNone (those true xs) (IsEnd tt m) (Then (Unit {0}) (Unit {0}) (B (those true xs) m) (λ u. TurnsOn i T B (those true xs))))
-          (t vs m) (λ xs m. unless_none (those true xs) (Goes tt m) (then_do (b (those true xs) m) (λ u. turns_on j t b (those true xs))))
+      UnlessNone (those true xs) (IsEnd tt m) (Then (Unit {0}) (Unit {0}) (B (those true xs) m) (λ u. TurnsOn i T B (those true xs))))
+      (t vs m) (λ xs m. unless_none (those true xs) (Goes tt m) (then_do (b (those true xs) m) (λ u. turns_on j t b (those true xs))))
       ((at vs).comes m h)
       (λ xs k f. unless_grows k (those true xs) (IsEnd tt k)
-          (Then (Unit {0}) (Unit {0}) (B (those true xs) k) (λ u. TurnsOn i T B (those true xs))) f (end_grows tt k f)
+      (Then (Unit {0}) (Unit {0}) (B (those true xs) k) (λ u. TurnsOn i T B (those true xs))) f (end_grows tt k f)
       (grows_then k (B (those true xs) k) (λ u. TurnsOn i T B (those true xs)) ((ab (those true xs)).grows k)
-          (λ u. grows_on i (those true xs)) f))
+      (λ u. grows_on i (those true xs)) f))
       (λ xs k p hk f. unless_comes n (those true xs) (IsEnd tt k)
-          (Then (Unit {0}) (Unit {0}) (B (those true xs) k) (λ u. TurnsOn i T B (those true xs))) (Goes tt k)
-          (then_do (b (those true xs) k) (λ u. turns_on j t b (those true xs))) f
+      (Then (Unit {0}) (Unit {0}) (B (those true xs) k) (λ u. TurnsOn i T B (those true xs))) (Goes tt k)
+      (then_do (b (those true xs) k) (λ u. turns_on j t b (those true xs))) f
       (end_comes n tt k f)
       (comes_then n (B (those true xs) k) (λ u. TurnsOn i T B (those true xs)) (b (those true xs) k) (λ u. turns_on j t b (those true xs))
-          ((ab (those true xs)).comes k hk) (λ u. grows_on i (those true xs))
+      ((ab (those true xs)).comes k hk) (λ u. grows_on i (those true xs))
       (λ u l q hl. let c : m.count < k.count = ct vs m k xs p in let d : k.count ≤ l.count = (ab (those true xs)).grows k (Ends u l) q in
-          comes_loop i j (those true xs) l (omega arith) hl) f))
+      comes_loop i j (those true xs) l (omega arith) hl) f))
       f r
 
   agree_loop_on : (vs : List ℕ) → Agree (Unit {0}) n (LoopOn T B vs) (turns_on (n + 1) t b vs)
@@ -211,19 +211,19 @@ mutual
   agree_on : (w : Checked) (n : ℕ) (s : Step) (vs : List ℕ) → Agree (Unit {0}) n (MeansOn w s vs) (perform_on w n s vs)
   agree_on w n (step.Assign line x e) vs =
       agree_then n (AttemptedOn w line (λ s. attempt_step s x e) vs) (λ xs m. IsEnd tt (assigned_by w x xs m))
-          (attempted_on w n line (λ s. attempt_step s x e) vs) (λ xs m. Goes tt (assigned_by w x xs m))
+      (attempted_on w n line (λ s. attempt_step s x e) vs) (λ xs m. Goes tt (assigned_by w x xs m))
       (agree_attempted w n line (λ s. attempt_step s x e) vs) (λ xs. agree_end n (λ m. tt) (assigned_by w x xs) (set_count w x xs))
   agree_on w n (step.If' line e q a r b) vs =
       agree_then n (AttemptedOn w line (λ s. attempt_value s e) vs) (λ xs m. Then (Unit {0}) (Unit {0}) (MeansRowOn w a (those true xs) m)
-          (λ u. MeansRowOn w b (those false xs)))
+      (λ u. MeansRowOn w b (those false xs)))
       (attempted_on w n line (λ s. attempt_value s e) vs)
-          (λ xs m. then_do (perform_row_on w n a (those true xs) m) (λ u. perform_row_on w n b (those false xs)))
-          (agree_attempted w n line (λ s. attempt_value s e) vs)
+      (λ xs m. then_do (perform_row_on w n a (those true xs) m) (λ u. perform_row_on w n b (those false xs)))
+      (agree_attempted w n line (λ s. attempt_value s e) vs)
       (λ xs. agree_then n (MeansRowOn w a (those true xs)) (λ u. MeansRowOn w b (those false xs)) (perform_row_on w n a (those true xs))
-          (λ u. perform_row_on w n b (those false xs)) (agree_row_on w n a (those true xs)) (λ u. agree_row_on w n b (those false xs)))
+      (λ u. perform_row_on w n b (those false xs)) (agree_row_on w n a (those true xs)) (λ u. agree_row_on w n b (those false xs)))
   agree_on w n (step.While' line e q body) vs =
       agree_loop_on n (AttemptedOn w line (λ s. attempt_value s e)) (MeansRowOn w body) (attempted_on w n line (λ s. attempt_value s e))
-          (perform_row_on w n body)
+      (perform_row_on w n body)
       (agree_attempted w n line (λ s. attempt_value s e)) (agree_row_on w n body) (attempted_counts w line (λ s. attempt_value s e)) vs
 
   agree_row_on : (w : Checked) (n : ℕ) {k : _} (ss : Row_of-Step k) (vs : List ℕ) → Agree (Unit {0}) n (MeansRowOn w ss vs)
@@ -231,49 +231,49 @@ mutual
   agree_row_on w n end_of-Step vs = agree_end n (λ m. tt) (λ m. m) (λ m. refl)
   agree_row_on w n (more_of-Step s ss) vs =
       agree_then n (MeansOn w s vs) (λ u. MeansRowOn w ss vs) (perform_on w n s vs) (λ u. perform_row_on w n ss vs) (agree_on w n s vs)
-          (λ u. agree_row_on w n ss vs)
+      (λ u. agree_row_on w n ss vs)
 
 agree_list_on : (w : Checked) (n : ℕ) (ss : List Step) (vs : List ℕ) → Agree (Unit {0}) n (MeansListOn w ss vs) (perform_list_on w n ss vs)
 agree_list_on w n [] vs = agree_end n (λ m. tt) (λ m. m) (λ m. refl)
 agree_list_on w n (s ∷ ss) vs =
     agree_then n (MeansOn w s vs) (λ u. MeansListOn w ss vs) (perform_on w n s vs) (λ u. perform_list_on w n ss vs) (agree_on w n s vs)
-        (λ u. agree_list_on w n ss vs)
+    (λ u. agree_list_on w n ss vs)
 
 agree_pardo : (w : Checked) (n locals : ℕ) (body : List Step) (a : ℤ) (k : ℕ) → Agree (Unit {0}) n (PardoDone w locals body a k)
     (pardo_done w n locals body a k)
 agree_pardo w n locals body a k =
     agree_then n (λ m. MeansListOn w body (numbers 0 k) (with_team a k locals m)) (λ u m. IsEnd tt (without_team m))
-        (λ m. perform_list_on w n body (numbers 0 k) (with_team a k locals m)) (λ u m. Goes tt (without_team m))
+    (λ m. perform_list_on w n body (numbers 0 k) (with_team a k locals m)) (λ u m. Goes tt (without_team m))
     (agree_after n (with_team a k locals) (λ m. refl) (MeansListOn w body (numbers 0 k)) (perform_list_on w n body (numbers 0 k))
-        (agree_list_on w n body (numbers 0 k)))
+    (agree_list_on w n body (numbers 0 k)))
     (λ u. agree_end n (λ m. tt) without_team (λ m. refl))
 
 mutual
   agree : (w : Checked) (n : ℕ) (s : Statement) → Agree (Unit {0}) n (Means w s) (perform w n s)
   agree w n (Assign line x e) =
       agree_then n (Evaluated line (λ m. attempt_assign (seen w m) x e)) (λ g m. IsEnd tt (assigned x g m))
-          (evaluated n line (λ m. attempt_assign (seen w m) x e)) (λ g m. Goes tt (assigned x g m))
+      (evaluated n line (λ m. attempt_assign (seen w m) x e)) (λ g m. Goes tt (assigned x g m))
       (agree_evaluated n line (λ m. attempt_assign (seen w m) x e)) (λ g. agree_end n (λ m. tt) (assigned x g) (assigned_count x g))
   agree w n (Print line e) =
       agree_then n (Evaluated line (λ m. attempt (seen w m) e [])) (λ v m. IsEnd tt (printed v m)) (found w n line e)
-          (λ v m. Goes tt (printed v m))
+      (λ v m. Goes tt (printed v m))
       (agree_evaluated n line (λ m. attempt (seen w m) e [])) (λ v. agree_end n (λ m. tt) (printed v) (λ m. refl))
   agree w n (While' line e q body) =
       agree_loop n (Tested w line e) (MeansRow w body) (tested w n line e) (perform_row w n body) (agree_tested w n line e)
-          (agree_row w n body) (tested_counts w line e)
+      (agree_row w n body) (tested_counts w line e)
   agree w n (If' line e q a r b) =
       agree_then n (Tested w line e) (λ z m. Either z (MeansRow w a m) (MeansRow w b m)) (tested w n line e)
-          (λ z m. if z then perform_row w n a m else perform_row w n b m)
+      (λ z m. if z then perform_row w n a m else perform_row w n b m)
       (agree_tested w n line e) (λ z. agree_either n z (MeansRow w a) (MeansRow w b) (perform_row w n a) (perform_row w n b)
-          (agree_row w n a) (agree_row w n b))
+      (agree_row w n a) (agree_row w n b))
   agree w n (For' line x e g q body) =
       agree_then n (Evaluated line (λ m. attempt_bounds (seen w m) e g)) (λ r. ForTurns (width r.0 r.1) x r.0 (MeansRow w body))
-          (evaluated n line (λ m. attempt_bounds (seen w m) e g)) (λ r. for_turns n (width r.0 r.1) x r.0 (perform_row w n body))
+      (evaluated n line (λ m. attempt_bounds (seen w m) e g)) (λ r. for_turns n (width r.0 r.1) x r.0 (perform_row w n body))
       (agree_evaluated n line (λ m. attempt_bounds (seen w m) e g))
-          (λ r. agree_for n (width r.0 r.1) x r.0 (MeansRow w body) (perform_row w n body) (agree_row w n body))
+      (λ r. agree_for n (width r.0 r.1) x r.0 (MeansRow w body) (perform_row w n body) (agree_row w n body))
   agree w n (Pardo line e g locals body) =
       agree_then n (Evaluated line (λ m. attempt_range w.procs (seen w m) e g)) (λ r. PardoDone w locals body.items r.0 r.1)
-          (evaluated n line (λ m. attempt_range w.procs (seen w m) e g)) (λ r. pardo_done w n locals body.items r.0 r.1)
+      (evaluated n line (λ m. attempt_range w.procs (seen w m) e g)) (λ r. pardo_done w n locals body.items r.0 r.1)
       (agree_evaluated n line (λ m. attempt_range w.procs (seen w m) e g)) (λ r. agree_pardo w n locals body.items r.0 r.1)
 
   agree_row : (w : Checked) (n : ℕ) {k : _} (ss : Row_of-Statement k) → Agree (Unit {0}) n (MeansRow w ss) (perform_row w n ss)

@@ -64,7 +64,7 @@ pub if_halts_arm : (w : Checked) (n line : ℕ) (s : Statement) (e : Expression)
     s ≡ If line e a b → IsBehaviour {A = Bool} (Err h) new (tested w n line e m) → IsBehaviour {A = Unit {0}} (Err h) new (perform w n s m)
 if_halts_arm w n line s e a b m new h is t =
     rw (if_arm w n line s e a b m is)
-        (halts h new (tested w n line e m) (λ z m. if z then perform_list w n a.items m else perform_list w n b.items m) t)
+    (halts h new (tested w n line e m) (λ z m. if z then perform_list w n a.items m else perform_list w n b.items m) t)
 
 pub then_arm : (w : Checked) (n line : ℕ) (s : Statement) (e : Expression) (a b : Vec Statement Global) (m m' new : State) (v : Bool)
     (r : Result (Unit {0}) Halt) → s ≡ If line e a b → tested w n line e m ≡ Goes v m' → v ≡ true →
@@ -72,8 +72,8 @@ pub then_arm : (w : Checked) (n line : ℕ) (s : Statement) (e : Expression) (a 
 then_arm w n line s e a b m m' new v r is t z h =
     let P : Done → Type 0 = IsBehaviour r new in
     subst P (sym (if_arm w n line s e a b m is
-        ∙ ap (λ x. then_do x (λ z m. if z then perform_list w n a.items m else perform_list w n b.items m)) t
-        ∙ ap (λ c. if c then perform_list w n a.items m' else perform_list w n b.items m') z)) h
+    ∙ ap (λ x. then_do x (λ z m. if z then perform_list w n a.items m else perform_list w n b.items m)) t
+    ∙ ap (λ c. if c then perform_list w n a.items m' else perform_list w n b.items m') z)) h
 
 pub else_arm : (w : Checked) (n line : ℕ) (s : Statement) (e : Expression) (a b : Vec Statement Global) (m m' new : State) (v : Bool)
     (r : Result (Unit {0}) Halt) → s ≡ If line e a b → tested w n line e m ≡ Goes v m' → v ≡ false →
@@ -81,8 +81,8 @@ pub else_arm : (w : Checked) (n line : ℕ) (s : Statement) (e : Expression) (a 
 else_arm w n line s e a b m m' new v r is t z h =
     let P : Done → Type 0 = IsBehaviour r new in
     subst P (sym (if_arm w n line s e a b m is
-        ∙ ap (λ x. then_do x (λ z m. if z then perform_list w n a.items m else perform_list w n b.items m)) t
-        ∙ ap (λ c. if c then perform_list w n a.items m' else perform_list w n b.items m') z)) h
+    ∙ ap (λ x. then_do x (λ z m. if z then perform_list w n a.items m else perform_list w n b.items m)) t
+    ∙ ap (λ c. if c then perform_list w n a.items m' else perform_list w n b.items m') z)) h
 
 pub for_arm : (w : Checked) (n line x : ℕ) (s : Statement) (e f : Expression) (body : Vec Statement Global) (m new : State)
     (r : Result (Unit {0}) Halt) → s ≡ For line x e f body →
@@ -91,8 +91,8 @@ pub for_arm : (w : Checked) (n line x : ℕ) (s : Statement) (e f : Expression) 
 for_arm w n line x s e f body m new r is h =
     let P : Done → Type 0 = IsBehaviour r new in
     subst P (sym (ap (λ s. perform w n s m) is
-        ∙ ap (λ b. then_do (evaluated n line (λ m. attempt_bounds (seen w m) e f) m) (λ r. for_turns n (width r.0 r.1) x r.0 b))
-        (block_is w n body))) h
+    ∙ ap (λ b. then_do (evaluated n line (λ m. attempt_bounds (seen w m) e f) m) (λ r. for_turns n (width r.0 r.1) x r.0 b))
+    (block_is w n body))) h
 
 pub pardo_arm : (w : Checked) (n line locals : ℕ) (s : Statement) (e f : Expression) (body : Vec Step Global) (m new : State)
     (r : Result (Unit {0}) Halt) → s ≡ Pardo line e f locals body →

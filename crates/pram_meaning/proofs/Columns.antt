@@ -87,7 +87,7 @@ row_by i t k n h rest (inr l) =
     ap (reads_on i k) (drop_all k t l) ∙ ap (reads_on i (k + 1)) (sym (drop_all (k + 1) t (omega arith)))
     ∙ rest
     ∙ ap (λ rs. rs ++ flat_map (λ p. read_cell i p (get_or t p None)) (numbers (k + 1) n))
-        (sym (no_cell i k (get_or t k None) (past t k None l)))
+    (sym (no_cell i k (get_or t k None) (past t k None l)))
 
 row : (i : ℤ) (t : Trail) (k n : ℕ) → length t ≤ k + n → reads_on i k (drop k t) ≡ flat_map (λ p. read_cell i p (get_or t p None))
     (numbers k n)
@@ -104,7 +104,7 @@ rows : (n : ℕ) (xs : List Part) → AreWithin n xs → reads_of xs ≡ flat_ma
 rows n [] h = refl
 rows n (x ∷ xs) h =
     ap (λ rs. rs ++ reads_of xs) (row x.processor (trail_of x.attempt) 0 n (let l : length (trail_of x.attempt) ≤ n = h 0 x (omega arith) in
-        omega arith))
+    omega arith))
     ∙ ap (λ rs. flat_map (read_in x) (numbers 0 n) ++ rs) (rows n xs (λ k d l. h (suc k) d (omega arith)))
 
 -- ---- conflicts of a read are those with reads at its position
@@ -190,9 +190,9 @@ any_same r p (x ∷ xs) at =
     list_any-append (is_conflict r) (read_in x p) (column p xs)
     ∙ (λ j. any_one r x.processor p (get_or (trail_of x.attempt) p None) at j || any_same r p xs at j)
     ∙ sym (ap (list_any (is_other r.processor)) (flat_map-append (write_for r.cell) (read_at p x.processor (trail_of x.attempt))
-        (reads_at p xs))
+    (reads_at p xs))
     ∙ list_any-append (is_other r.processor) (writes_for r.cell (read_at p x.processor (trail_of x.attempt)))
-        (writes_for r.cell (reads_at p xs)))
+    (writes_for r.cell (reads_at p xs)))
 
 equal_is : (x y : ℤ) → is_equal x y ≡ true → x ≡ y
 equal_is x y h = grind (arith, ints)
@@ -271,11 +271,11 @@ said_to p xs front (y ∷ ys) split =
     let J = judged_in Common (reads_at p xs) in
     let F = conflict_of (reads_of xs) in
     let whole : reads_at p xs ≡ reads_at p front ++ (one ++ reads_at p ys) = ap (reads_at p) split
-        ∙ flat_map-append (λ x. read_at p x.processor (trail_of x.attempt)) front (y ∷ ys) in
+    ∙ flat_map-append (λ x. read_at p x.processor (trail_of x.attempt)) front (y ∷ ys) in
     ap (flat_map shared_key) (map-append J one (reads_at p ys))
     ∙ flat_map-append shared_key (map J one) (map J (reads_at p ys))
     ∙ ap (λ ks. ks ++ flat_map shared_key (map J (reads_at p ys))) (said_one y.processor p (get_or (trail_of y.attempt) p None) xs
-        (reads_at p front) (reads_at p ys) whole)
+    (reads_at p front) (reads_at p ys) whole)
     ∙ ap (λ ks. flat_map F (read_in y p) ++ ks) (said_to p xs (front ++ y ∷ []) ys (split ∙ sym (append_assoc front (y ∷ []) ys)))
     ∙ sym (flat_map-append F (read_in y p) (column p ys))
 
@@ -301,8 +301,10 @@ pub record InColumns (xs : List Part) (n at : ℕ) (start now : Option Key) : Ty
   pub same : fold lesser start (flat_map (said_at xs) (numbers 0 n)) ≡ fold lesser now (flat_map (said_at xs) (numbers at (n - at)))
 
 pub columns_start : (xs : List Part) (n : ℕ) (start : Option Key) → InColumns xs n 0 start start
-columns_start xs n start = record { same = ap (λ m. fold lesser start (flat_map (said_at xs) (numbers 0 m))) (let e : n ≡ n - 0 =
-    omega arith in e) }
+columns_start xs n start = record {
+  same = ap (λ m. fold lesser start (flat_map (said_at xs) (numbers 0 m))) (let e : n ≡ n - 0 =
+      omega arith in e);
+}
 
 pub columns_go : (xs : List Part) (n at : ℕ) (start now new : Option Key) → InColumns xs n at start now → at < n →
     new ≡ fold lesser now (flat_map shared_key (judged Common (reads_at at xs))) → InColumns xs n (at + 1) start new
@@ -317,4 +319,4 @@ pub columns_end : (xs : List Part) (n at : ℕ) (start now : Option Key) → InC
     now ≡ fold lesser start (flat_map (conflict_of (reads_of xs)) (reads_of xs))
 columns_end xs n at start now b last h =
     sym (sym (columns n xs start (within xs n (omega (arith, last)))) ∙ b.same
-        ∙ ap (λ m. fold lesser now (flat_map (said_at xs) (numbers at m))) (let k : n - at ≡ zero = omega arith in k))
+    ∙ ap (λ m. fold lesser now (flat_map (said_at xs) (numbers at m))) (let k : n - at ≡ zero = omega arith in k))

@@ -48,8 +48,8 @@ no_turns w n x body first last m h = ap (λ k. for_turns n k x first (perform_li
 turn_of : (w : Checked) (n x : ℕ) (body : List Statement) (first last value end : ℤ) (start now : State) →
     InFor w n x body first last start value end now →
     for_turns n (width first last) x first (perform_list w n body) start ≡ then_do (counted n now)
-        (λ u m. then_do (perform_list w n body (with_uniform x value m)) (λ u. for_turns n (width (value +ℤ pos 1) last) x (value +ℤ pos 1)
-        (perform_list w n body)))
+    (λ u m. then_do (perform_list w n body (with_uniform x value m)) (λ u. for_turns n (width (value +ℤ pos 1) last) x (value +ℤ pos 1)
+    (perform_list w n body)))
 turn_of w n x body first last value end start now i =
     i.same ∙ ap (λ k. for_turns n k x value (perform_list w n body) now) (width_more value last i.within)
 
@@ -58,19 +58,19 @@ pub setting_halts : (w : Checked) (n x : ℕ) (body : List Statement) (first las
     (Err h) new (for_turns n (width first last) x first (perform_list w n body) start)
 setting_halts w n x body first last value end start now new h i e =
     rw (turn_of w n x body first last value end start now i)
-        (halts h new (counted n now) (λ u m. then_do (perform_list w n body (with_uniform x value m))
-        (λ u. for_turns n (width (value +ℤ pos 1) last) x (value +ℤ pos 1) (perform_list w n body))) e)
+    (halts h new (counted n now) (λ u m. then_do (perform_list w n body (with_uniform x value m))
+    (λ u. for_turns n (width (value +ℤ pos 1) last) x (value +ℤ pos 1) (perform_list w n body))) e)
 
 begun : (w : Checked) (n x : ℕ) (body : List Statement) (first last value end : ℤ) (start now mid set : State) →
     InFor w n x body first last start value end now → counted n now ≡ Goes tt mid → set ≡ with_uniform x value mid →
     for_turns n (width first last) x first (perform_list w n body) start ≡ then_do (perform_list w n body set)
-        (λ u. for_turns n (width (value +ℤ pos 1) last) x (value +ℤ pos 1) (perform_list w n body))
+    (λ u. for_turns n (width (value +ℤ pos 1) last) x (value +ℤ pos 1) (perform_list w n body))
 begun w n x body first last value end start now mid set i c s =
     turn_of w n x body first last value end start now i
     ∙ ap (λ b. then_do b (λ u m. then_do (perform_list w n body (with_uniform x value m))
-        (λ u. for_turns n (width (value +ℤ pos 1) last) x (value +ℤ pos 1) (perform_list w n body)))) c
+    (λ u. for_turns n (width (value +ℤ pos 1) last) x (value +ℤ pos 1) (perform_list w n body)))) c
     ∙ ap (λ m. then_do (perform_list w n body m) (λ u. for_turns n (width (value +ℤ pos 1) last) x (value +ℤ pos 1)
-        (perform_list w n body))) (sym s)
+    (perform_list w n body))) (sym s)
 
 pub turn_halts : (w : Checked) (n x : ℕ) (body : List Statement) (first last value end : ℤ) (start now mid set new : State) (h : Halt) →
     InFor w n x body first last start value end now → counted n now ≡ Goes tt mid → set ≡ with_uniform x value mid →
@@ -78,17 +78,17 @@ pub turn_halts : (w : Checked) (n x : ℕ) (body : List Statement) (first last v
     (Err h) new (for_turns n (width first last) x first (perform_list w n body) start)
 turn_halts w n x body first last value end start now mid set new h i c s e =
     rw (begun w n x body first last value end start now mid set i c s)
-        (halts h new (perform_list w n body set) (λ u. for_turns n (width (value +ℤ pos 1) last) x (value +ℤ pos 1) (perform_list w n body))
-        e)
+    (halts h new (perform_list w n body set) (λ u. for_turns n (width (value +ℤ pos 1) last) x (value +ℤ pos 1) (perform_list w n body))
+    e)
 
 gone : (w : Checked) (n x : ℕ) (body : List Statement) (first last value end : ℤ) (start now mid set new : State) →
     InFor w n x body first last start value end now → counted n now ≡ Goes tt mid → set ≡ with_uniform x value mid →
     perform_list w n body set ≡ Goes tt new →
     for_turns n (width first last) x first (perform_list w n body) start ≡ for_turns n (width (value +ℤ pos 1) last) x (value +ℤ pos 1)
-        (perform_list w n body) new
+    (perform_list w n body) new
 gone w n x body first last value end start now mid set new i c s e =
     begun w n x body first last value end start now mid set i c s
-        ∙ ap (λ b. then_do b (λ u. for_turns n (width (value +ℤ pos 1) last) x (value +ℤ pos 1) (perform_list w n body))) e
+    ∙ ap (λ b. then_do b (λ u. for_turns n (width (value +ℤ pos 1) last) x (value +ℤ pos 1) (perform_list w n body))) e
 
 pub turn_goes : (w : Checked) (n x : ℕ) (body : List Statement) (first last value end next till : ℤ) (start now mid set new : State) →
     InFor w n x body first last start value end now → counted n now ≡ Goes tt mid → set ≡ with_uniform x value mid →

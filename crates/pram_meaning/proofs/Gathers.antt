@@ -24,8 +24,10 @@ pub new_slate : (s : rust.Slate.Slate) → s.groups.items ≡ [] → IsGathered 
 new_slate s e = record { each = λ c. ap (λ gs. kept_in s.places.items (map group_is gs) c) e ∙ nothing s.places.items c }
 
 pub gather_starts : (all : List Access) (s : rust.Slate.Slate) → s.groups.items ≡ [] → InGather all 0 s
-gather_starts all s e = record { each =
-    λ c. ap (λ ws. ws ++ writes_for c all) (sym (ap (λ gs. kept_in s.places.items (map group_is gs) c) e ∙ nothing s.places.items c)) }
+gather_starts all s e = record {
+  each =
+      λ c. ap (λ ws. ws ++ writes_for c all) (sym (ap (λ gs. kept_in s.places.items (map group_is gs) c) e ∙ nothing s.places.items c));
+}
 
 pub gather_goes : (all : List Access) (i : ℕ) (a : Access) (s t : rust.Slate.Slate) → InGather all i s → i < length all →
     a ≡ get_or all i a → IsMore a.cell a.write s t → InGather all (i + 1) t
@@ -38,8 +40,10 @@ gather_goes all i a s t b h is m = record {
 }
 
 pub gather_ends : (all : List Access) (i : ℕ) (s : rust.Slate.Slate) → InGather all i s → length all ≤ i → IsGathered all s
-gather_ends all i s b h = record { each = λ c. sym (b.each c ∙ ap (λ bs. kept s c ++ writes_for c bs) (drop_all i all h)
-    ∙ append-nil (kept s c)) }
+gather_ends all i s b h = record {
+  each = λ c. sym (b.each c ∙ ap (λ bs. kept s c ++ writes_for c bs) (drop_all i all h)
+      ∙ append-nil (kept s c));
+}
 
 -- ---- what the rule says to each group
 
@@ -101,7 +105,7 @@ pub verdict_past : (s : rust.Slate.Slate) (c place : ℕ) (verdicts : List (Resu
 verdict_past s c place verdicts is past rule all =
     let inside = is.inside in
     let long : length verdicts ≡ length s.groups.items = ap length all
-        ∙ map_long (λ (g : Group). written rule (pos 0) g.writes) (groups_of s) ∙ map_length s.groups.items in
+    ∙ map_long (λ (g : Group). written rule (pos 0) g.writes) (groups_of s) ∙ map_length s.groups.items in
     absurd (omega (arith, long, inside, past))
 
 pub verdict_none : (s : rust.Slate.Slate) (c : ℕ) (verdicts : List (Result ℤ Kind)) → kept s c ≡ [] → (rule : Rule) →

@@ -105,11 +105,13 @@ group_opens c w s t g none is named has grown =
     let long : length (map group_is s.groups.items) ≡ length s.groups.items = map_length s.groups.items in
     let all : map group_is t.groups.items ≡ map group_is s.groups.items ++ record { cell = c; writes = w ∷ [] } ∷ [] =
     ap (map group_is) grown ∙ map_push s.groups.items g ∙ (λ j. map group_is s.groups.items ++ record { cell = named j; writes = has j }
-        ∷ []) in
+    ∷ []) in
     let marked : IsMarked c (length (map group_is s.groups.items)) s.places.items t.places.items =
-        subst (λ n. IsMarked c n s.places.items t.places.items) (sym long) is in
-    record { more = λ d. ap (λ gs. kept_in t.places.items gs d) all
-        ∙ opened c w s.places.items t.places.items (map group_is s.groups.items) marked none d }
+    subst (λ n. IsMarked c n s.places.items t.places.items) (sym long) is in
+    record {
+      more = λ d. ap (λ gs. kept_in t.places.items gs d) all
+          ∙ opened c w s.places.items t.places.items (map group_is s.groups.items) marked none d;
+    }
 
 -- ---- a group that is there
 
@@ -119,8 +121,11 @@ module _ (c : ℕ) (w : Write) (places : List ℕ) (groups : List Group) (place 
   more_here = set groups place (record { cell = c; writes = (get_or groups place (no_writes c)).writes ++ w ∷ [] })
 
   same_places : (d : ℕ) → get_or places d (length more_here) ≡ get_or places d (length groups)
-  same_places d = ap (get_or places d) (length-set groups place (record { cell = c; writes = (get_or groups place (no_writes c)).writes ++ w
-      ∷ [] }))
+  same_places d = ap (get_or places d) (length-set groups place (record {
+    cell = c;
+    writes = (get_or groups place (no_writes c)).writes ++ w
+        ∷ [];
+  }))
 
   other_cell : (d : ℕ) → d ≢ c → (g : Group) → g.cell ≡ c → writes_in d g ≡ []
   other_cell d h g e = not_there d g (λ k. h (k ∙ e))
@@ -129,7 +134,7 @@ module _ (c : ℕ) (w : Write) (places : List ℕ) (groups : List Group) (place 
   extended_here =
       let g : Group = get_or groups place (no_writes c) in
       let before : kept_in places groups c ≡ g.writes = ap (λ p. writes_in c (get_or groups p (no_writes c))) named
-          ∙ ap (λ n. if nat_eq c n then g.writes else []) own ∙ ap (λ b. if b then g.writes else []) (same_number c) in
+      ∙ ap (λ n. if nat_eq c n then g.writes else []) own ∙ ap (λ b. if b then g.writes else []) (same_number c) in
       ap (λ p. writes_in c (get_or more_here p (no_writes c))) (same_places c ∙ named)
       ∙ ap (writes_in c) (get_or-set_same groups place (record { cell = c; writes = g.writes ++ w ∷ [] }) (no_writes c) inside)
       ∙ there (record { cell = c; writes = g.writes ++ w ∷ [] })
@@ -140,23 +145,29 @@ module _ (c : ℕ) (w : Write) (places : List ℕ) (groups : List Group) (place 
   extended_by d h (p, at, inl e) =
       ap (λ p. writes_in d (get_or more_here p (no_writes d))) (same_places d ∙ at ∙ e)
       ∙ ap (writes_in d) (get_or-set_same groups place (record { cell = c; writes = (get_or groups place (no_writes c)).writes ++ w ∷ [] })
-          (no_writes d) inside)
+      (no_writes d) inside)
       ∙ other_cell d h (record { cell = c; writes = (get_or groups place (no_writes c)).writes ++ w ∷ [] }) refl
       ∙ sym (ap (λ p. writes_in d (get_or groups p (no_writes d))) (at ∙ e)
-          ∙ ap (writes_in d) (one_default groups place (no_writes d) (no_writes c) inside)
-          ∙ other_cell d h (get_or groups place (no_writes c)) own)
+      ∙ ap (writes_in d) (one_default groups place (no_writes d) (no_writes c) inside)
+      ∙ other_cell d h (get_or groups place (no_writes c)) own)
   extended_by d h (p, at, inr e) =
       ap (λ p. writes_in d (get_or more_here p (no_writes d))) (same_places d ∙ at)
-      ∙ ap (writes_in d) (get_or-set_other groups place p (record { cell = c; writes = (get_or groups place (no_writes c)).writes ++ w
-          ∷ [] }) (no_writes d) e)
+      ∙ ap (writes_in d) (get_or-set_other groups place p (record {
+        cell = c;
+        writes = (get_or groups place (no_writes c)).writes ++ w
+            ∷ [];
+      }) (no_writes d) e)
       ∙ sym (ap (λ p. writes_in d (get_or groups p (no_writes d))) at)
 
   extended : (d : ℕ) → kept_in places more_here d ≡ kept_in places groups d ++ more d c w
   extended d = elim (eqb_tells d c) [
     | inl e ↦ subst (λ d. kept_in places more_here d ≡ kept_in places groups d ++ more d c w) (sym e.1) (extended_here
         ∙ sym (ap (λ ws. kept_in places groups c ++ ws) (one_more c w)))
-    | inr e ↦ extended_by d e.1 (get_or places d (length groups), refl,
-        elim (eqb_tells (get_or places d (length groups)) place) [ inl f ↦ inl f.1 | inr f ↦ inr f.1 ])
+    | inr e ↦ extended_by d e.1 (
+      get_or places d (length groups),
+      refl,
+      elim (eqb_tells (get_or places d (length groups)) place) [ inl f ↦ inl f.1 | inr f ↦ inr f.1 ],
+    )
         ∙ sym (append-nil (kept_in places groups d)) ∙ ap (λ ws. kept_in places groups d ++ ws) (sym (no_more c d w e.1))
   ]
 

@@ -46,12 +46,12 @@ not_passed a b c false false false i x y = grind arith
 pub key_passed_on : (j k m : Key) → is_key_before j k ≡ true → is_key_before k m ≡ true → is_key_before j m ≡ true
 key_passed_on j k m a b =
     passed j.at k.at m.at (is_place_before j.place k.place) (is_place_before k.place m.place) (is_place_before j.place m.place)
-        (before_is_passed_on j.place k.place m.place) a b
+    (before_is_passed_on j.place k.place m.place) a b
 
 key_not : (j k m : Key) → is_key_before j k ≡ false → is_key_before k m ≡ false → is_key_before j m ≡ false
 key_not j k m a b =
     not_passed j.at k.at m.at (is_place_before j.place k.place) (is_place_before k.place m.place) (is_place_before j.place m.place)
-        (place_not j.place k.place m.place) a b
+    (place_not j.place k.place m.place) a b
 
 contains_first : (k : Key) (ks : List Key) → Contains (k ∷ ks) k
 contains_first k ks = (0, omega arith, refl)
@@ -99,8 +99,10 @@ comes [] k = (k, refl, record { here = inl refl; start = key_irreflexive k; rest
 comes (j ∷ ks) k = comes_by k j ks (comes ks) (either (is_key_before j k))
 
 whole : (k m : Key) (ks : List Key) → IsLeastFrom k ks m → IsLeast (k ∷ ks) (Some m)
-whole k m ks l = (elim l.here [ inl e ↦ subst (Contains (k ∷ ks)) (sym e) (contains_first k ks) | inr c ↦ contains_behind k ks m c ],
-    All-cons (λ j. is_key_before j m ≡ false) k ks l.start l.rest)
+whole k m ks l = (
+  elim l.here [ inl e ↦ subst (Contains (k ∷ ks)) (sym e) (contains_first k ks) | inr c ↦ contains_behind k ks m c ],
+  All-cons (λ j. is_key_before j m ≡ false) k ks l.start l.rest,
+)
 
 pub least_is_least : (ks : List Key) → IsLeast ks (least ks)
 least_is_least [] = refl

@@ -26,7 +26,7 @@ pub attempt_chain : (s : View) (first : Box Expression Global) (links : Vec Link
     attempt s (Chain first links) t ≡ and_then (attempt s first.value t) (attempt_items s links.items)
 attempt_chain s first links t =
     ap (and_then (attempt s first.value t)) (λ j t v. (sym (items_are_links s (hidden-the_row-Link-0 links) t v)
-        ∙ ap (λ xs. attempt_items s xs t v) (items_hidden-the_row-Link-0 links)) j)
+    ∙ ap (λ xs. attempt_items s xs t v) (items_hidden-the_row-Link-0 links)) j)
 
 pub chain_starts : (s : View) (e : Expression) (first : Box Expression Global) (links : Vec Link Global) (t t' : Trail) (v : ℤ) →
     e ≡ Chain first links → attempt s first.value t ≡ Gives t' v → attempt s e t ≡ attempt_items s (drop 0 links.items) t' v
@@ -44,7 +44,7 @@ pub link_fails : (s : View) (a : Attempt ℤ) (items : List Link) (i : ℕ) (l :
     a ≡ attempt_items s (drop i items) t v → i < length items → l ≡ get_or items i l → attempt s l.operand t ≡ Fails t' k → a ≡ Fails t' k
 link_fails s a items i l t t' v k e h is fails =
     one_link s a items i l t v e h is
-        ∙ ap (λ b. and_then b (λ t w. and_then (operation (operate l.operator v w) t) (attempt_items s (drop (i + 1) items)))) fails
+    ∙ ap (λ b. and_then b (λ t w. and_then (operation (operate l.operator v w) t) (attempt_items s (drop (i + 1) items)))) fails
 
 -- an operand with a value
 link_gives : (s : View) (a : Attempt ℤ) (items : List Link) (i : ℕ) (l : Link) (t t' : Trail) (v w : ℤ) (x : Value) →

@@ -38,8 +38,11 @@ pub block_goes : (w : Checked) (n : ℕ) (items : List Statement) (i : ℕ) (s :
     InBlock w n items i start now → i < length items → s ≡ get_or items i s → perform w n s now ≡ Goes tt new → now.count ≤ new.count →
     InBlock w n items (i + 1) start new
 block_goes w n items i s start now new b h is e more =
-    record { same = next_of w n items i s start now b h is ∙ ap (λ x. then_do x (λ u. perform_list w n (drop (i + 1) items))) e; grows =
-        let g : start.count ≤ now.count = b.grows in omega arith }
+    record {
+      same = next_of w n items i s start now b h is ∙ ap (λ x. then_do x (λ u. perform_list w n (drop (i + 1) items))) e;
+      grows =
+          let g : start.count ≤ now.count = b.grows in omega arith;
+    }
 
 pub block_ends : (w : Checked) (n : ℕ) (items : List Statement) (i : ℕ) (start now : State) → InBlock w n items i start now →
     length items ≤ i → perform_list w n items start ≡ Goes tt now
@@ -77,7 +80,7 @@ test_halts_at w n line e body now new x zero h t =
     halts_at x new now.output (tested w n line e now) (at_bound w n line e now (omega arith)) t
 test_halts_at w n line e body now new x (suc k) h t =
     halts x new (tested w n line e now)
-        (λ z m. if z then then_do (perform_list w n body m) (λ u. turns k (tested w n line e) (perform_list w n body)) else Goes tt m) t
+    (λ z m. if z then then_do (perform_list w n body m) (λ u. turns k (tested w n line e) (perform_list w n body)) else Goes tt m) t
 
 pub test_halts : (w : Checked) (n line : ℕ) (e : Expression) (body : List Statement) (start now new : State) (x : Halt) →
     InTurns w n line e body start now → IsBehaviour {A = Bool} (Err x) new (tested w n line e now) → IsBehaviour {A = Unit {0}}
@@ -90,10 +93,13 @@ test_goes : (w : Checked) (n line : ℕ) (e : Expression) (body : List Statement
     (j : ℕ) × (k ≡ suc j) × (turns k (tested w n line e) (perform_list w n body) now ≡ turns_of w n line e body j v m)
 test_goes w n line e body now m zero v h t = let r : tested w n line e now ≡ Reaches now.output = at_bound w n line e now (omega arith) in
     cc
-test_goes w n line e body now m (suc j) v h t =
-    (j, refl, unfold turns_of in ap
-    (λ x. then_do x (λ z m. if z then then_do (perform_list w n body m) (λ u. turns j (tested w n line e) (perform_list w n body)) else
-    Goes tt m)) t)
+test_goes w n line e body now m (suc j) v h t = (
+  j,
+  refl,
+  unfold turns_of in ap
+      (λ x. then_do x (λ z m. if z then then_do (perform_list w n body m) (λ u. turns j (tested w n line e) (perform_list w n body)) else
+      Goes tt m)) t,
+)
 
 pub turns_end : (w : Checked) (n line : ℕ) (e : Expression) (body : List Statement) (start now m : State) (v : Bool) →
     InTurns w n line e body start now → tested w n line e now ≡ Goes v m → v ≡ false → turns (n + 1) (tested w n line e)
@@ -101,7 +107,7 @@ pub turns_end : (w : Checked) (n line : ℕ) (e : Expression) (body : List State
 turns_end w n line e body start now m v i t z =
     let g = test_goes w n line e body now m i.left v i.enough t in
     i.same ∙ g.2 ∙ (unfold turns_of in
-        ap (λ b. if b then then_do (perform_list w n body m) (λ u. turns g.0 (tested w n line e) (perform_list w n body)) else Goes tt m) z)
+    ap (λ b. if b then then_do (perform_list w n body m) (λ u. turns g.0 (tested w n line e) (perform_list w n body)) else Goes tt m) z)
 
 turn_begins : (w : Checked) (n line : ℕ) (e : Expression) (body : List Statement) (start now m : State) (v : Bool) →
     InTurns w n line e body start now → tested w n line e now ≡ Goes v m → v ≡ true → (j : ℕ) × (n ≤ j + suc now.count)
@@ -110,10 +116,13 @@ turn_begins : (w : Checked) (n line : ℕ) (e : Expression) (body : List Stateme
 turn_begins w n line e body start now m v i t z =
     let g = test_goes w n line e body now m i.left v i.enough t in
     let h : n ≤ i.left + now.count = i.enough in
-    let k : i.left ≡ suc g.0 = g.1 in
-    (g.0, omega arith, i.same ∙ g.2
-        ∙ (unfold turns_of in ap (λ b.
-        if b then then_do (perform_list w n body m) (λ u. turns g.0 (tested w n line e) (perform_list w n body)) else Goes tt m) z))
+    let k : i.left ≡ suc g.0 = g.1 in (
+      g.0,
+      omega arith,
+      i.same ∙ g.2
+          ∙ (unfold turns_of in ap (λ b.
+          if b then then_do (perform_list w n body m) (λ u. turns g.0 (tested w n line e) (perform_list w n body)) else Goes tt m) z),
+    )
 
 pub turn_halts : (w : Checked) (n line : ℕ) (e : Expression) (body : List Statement) (start now m new : State) (v : Bool) (x : Halt) →
     InTurns w n line e body start now → tested w n line e now ≡ Goes v m → v ≡ true → IsBehaviour {A = Unit {0}}
@@ -130,5 +139,9 @@ turn_goes w n line e body start now m new v i t z b more =
     let g = turn_begins w n line e body start now m v i t z in
     let h : n ≤ g.0 + suc now.count = g.1 in
     let grown : start.count ≤ now.count = i.grows in
-    record { left = g.0; enough = omega arith;
-        same = g.2 ∙ ap (λ x. then_do x (λ u. turns g.0 (tested w n line e) (perform_list w n body))) b; grows = omega arith }
+    record {
+      left = g.0;
+      enough = omega arith;
+      same = g.2 ∙ ap (λ x. then_do x (λ u. turns g.0 (tested w n line e) (perform_list w n body))) b;
+      grows = omega arith;
+    }

@@ -35,7 +35,7 @@ pub outcome_is : (p : Checked) (input : List ℤ) (n : ℕ) (b : Done) → perfo
     IsOutcome p input n (verdict_at b)
 outcome_is p input n b e =
     subst (λ (b : Done). IsOutcome p input n (verdict_at b)) e
-        (shown p input n (body_done p input n) ((agree_list p n p.body).shows (opening p input) (omega arith)))
+    (shown p input n (body_done p input n) ((agree_list p n p.body).shows (opening p input) (omega arith)))
 
 pub outcome_is_computed : OutcomeIsComputed
 outcome_is_computed p input n v = (

@@ -42,7 +42,7 @@ module _ (rule : Rule) (all front tail : List Access) (a : Access) (split : all 
       ap (writes_for a.cell) split ∙ flat_map-append (write_for a.cell) front (a ∷ tail)
       ∙ ap (λ c. writes_for a.cell front ++ ((if c then a.write ∷ [] else []) ++ writes_for a.cell tail)) (same_number a.cell) in
       ap (written rule (pos 0)) e ∙ written_any rule (pos 0) o (writes_for a.cell front) a.write (writes_for a.cell tail)
-          ∙ sym (ap (written rule o) e)
+      ∙ sym (ap (written rule o) e)
 
   -- a cell that this write doesn't go to
   behind : (c : ℕ) → c ≢ a.cell → writes_for c tail ≡ [] → writes_for c (a ∷ tail) ≡ []
@@ -53,13 +53,16 @@ module _ (rule : Rule) (all front tail : List Access) (a : Access) (split : all 
       let here : (c : ℕ) → c < length start → c ≡ a.cell → get_or (set now a.cell z) c (pos 0) ≡ final rule all start c = λ c l e.
       subst (λ c. get_or (set now a.cell z) c (pos 0) ≡ final rule all start c) (sym e)
       (get_or-set_same now a.cell z (pos 0) (let k = b.long in omega (arith, e))
-          ∙ ap (settled (get_or start a.cell (pos 0))) (is (get_or start a.cell (pos 0)))) in
+      ∙ ap (settled (get_or start a.cell (pos 0))) (is (get_or start a.cell (pos 0)))) in
       record {
         long = length-set now a.cell z ∙ b.long;
         each = λ c l. elim (eqb_tells c a.cell) [
           | inl e ↦ inr (here c l e.1)
-          | inr e ↦ elim (b.each c l) [ inl f ↦ inl (get_or-set_other now a.cell c z (pos 0) e.1
-              ∙ f) | inr f ↦ inr (get_or-set_other now a.cell c z (pos 0) e.1 ∙ f) ]
+          | inr e ↦ elim (b.each c l) [
+            | inl f ↦ inl (get_or-set_other now a.cell c z (pos 0) e.1
+                ∙ f)
+            | inr f ↦ inr (get_or-set_other now a.cell c z (pos 0) e.1 ∙ f)
+          ]
         ];
         done = λ c l h. elim (eqb_tells c a.cell) [
           | inl e ↦ here c l e.1
@@ -69,7 +72,7 @@ module _ (rule : Rule) (all front tail : List Access) (a : Access) (split : all 
   set_value (Err k) is =
       let old : (c : ℕ) → c ≡ a.cell → get_or start c (pos 0) ≡ final rule all start c = λ c e.
       subst (λ c. get_or start c (pos 0) ≡ final rule all start c) (sym e)
-          (ap (settled (get_or start a.cell (pos 0))) (is (get_or start a.cell (pos 0)))) in
+      (ap (settled (get_or start a.cell (pos 0))) (is (get_or start a.cell (pos 0)))) in
       record {
         long = b.long;
         each = b.each;
@@ -98,7 +101,7 @@ over_goes rule all items i d start now new b said h e =
     let a : Access = get_or all i d.access in
     let inside : i < length all = (let k = length-map all (judged_in rule all) in let l = ap length said in omega (arith, k, l)) in
     let one : get_or items i d ≡ judged_in rule all a = ap (λ js. get_or js i d) said
-        ∙ get_or-map (judged_in rule all) all i d.access d inside in
+    ∙ get_or-map (judged_in rule all) all i d.access d inside in
     let left : drop i all ≡ a ∷ drop (i + 1) all = drop_more all i d.access inside in
     let split : all ≡ take i all ++ a ∷ drop (i + 1) all = sym (take-append-drop i all) ∙ ap (λ r. take i all ++ r) left in
     subst (InOver rule all (drop (i + 1) all) start) (sym (e ∙ ap (λ (j : Judged). with_value j.access.cell j.verdict now) one))
@@ -116,7 +119,7 @@ at_over rule xs k (o ∷ cells) zero h = ap (λ n. settled o (written rule o (wr
 at_over rule xs k (o ∷ cells) (suc c) h =
     let p : ℤ = get_or cells c (pos 0) in
     at_over rule xs (k + 1) cells c (omega arith) ∙ ap (λ n. settled p (written rule p (writes_to n xs))) (let e : k + 1 + c ≡ k + suc c =
-        omega arith in e)
+    omega arith in e)
 
 pub over_ends : (rule : Rule) (xs : List Part) (items : List Judged) (i : ℕ) (start now : List ℤ) → InOver rule (writes_made xs)
     (drop i (writes_made xs)) start now → items ≡ judged rule (writes_made xs) → length items ≤ i → now ≡ overwritten rule xs 0 start

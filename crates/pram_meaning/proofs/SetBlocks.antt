@@ -72,14 +72,16 @@ pub block_halts : (w : Checked) (n : ℕ) (items : List Step) (vs : List ℕ) (i
     (Err x) new (perform_on w n s vs now) → IsBehaviour {A = Unit {0}} (Err x) new (perform_list_on w n items vs start)
 block_halts w n items vs i s start now new x b h is e =
     rw (next_of w n items vs i s start now b h is) (halts x new (perform_on w n s vs now) (λ u. perform_list_on w n (drop (i + 1) items) vs)
-        e)
+    e)
 
 pub block_goes : (w : Checked) (n : ℕ) (items : List Step) (vs : List ℕ) (i : ℕ) (s : Step) (start now new : State) →
     InBlock w n items vs i start now → i < length items → s ≡ get_or items i s → perform_on w n s vs now ≡ Goes tt new →
     now.count ≤ new.count → InBlock w n items vs (i + 1) start new
 block_goes w n items vs i s start now new b h is e more =
-    record { same = next_of w n items vs i s start now b h is ∙ ap (λ x. then_do x (λ u. perform_list_on w n (drop (i + 1) items) vs)) e;
-        grows = let g : start.count ≤ now.count = b.grows in omega arith }
+    record {
+      same = next_of w n items vs i s start now b h is ∙ ap (λ x. then_do x (λ u. perform_list_on w n (drop (i + 1) items) vs)) e;
+      grows = let g : start.count ≤ now.count = b.grows in omega arith;
+    }
 
 pub block_ends : (w : Checked) (n : ℕ) (items : List Step) (vs : List ℕ) (i : ℕ) (start now : State) → InBlock w n items vs i start now →
     length items ≤ i → perform_list_on w n items vs start ≡ Goes tt now
@@ -107,17 +109,17 @@ if_arm : (w : Checked) (n line : ℕ) (s : Step) (e : Expression) (a b : Vec Ste
 if_arm w n line s e a b vs m is =
     ap (λ s. perform_on w n s vs m) is
     ∙ ap (λ f. then_do (tested_on w n line e vs m)
-        (λ xs m. then_do (f (those true xs) m) (λ u. perform_row_on w n (hidden-the_row-Step-0 b) (those false xs)))) (block_is w n a)
+    (λ xs m. then_do (f (those true xs) m) (λ u. perform_row_on w n (hidden-the_row-Step-0 b) (those false xs)))) (block_is w n a)
     ∙ ap (λ f. then_do (tested_on w n line e vs m) (λ xs m. then_do (perform_list_on w n a.items (those true xs) m)
-        (λ u. f (those false xs)))) (block_is w n b)
+    (λ u. f (those false xs)))) (block_is w n b)
 
 pub if_halts : (w : Checked) (n line : ℕ) (s : Step) (e : Expression) (a b : Vec Step Global) (vs : List ℕ) (m new : State) (h : Halt) →
     s ≡ step.If line e a b → IsParts (Err h) new (tested_on w n line e vs m) → IsBehaviour {A = Unit {0}}
     (Err h) new (perform_on w n s vs m)
 if_halts w n line s e a b vs m new h is t =
     rw (if_arm w n line s e a b vs m is)
-        (parts_halt h new (tested_on w n line e vs m) (λ xs m. then_do (perform_list_on w n a.items (those true xs) m)
-        (λ u. perform_list_on w n b.items (those false xs))) t)
+    (parts_halt h new (tested_on w n line e vs m) (λ xs m. then_do (perform_list_on w n a.items (those true xs) m)
+    (λ u. perform_list_on w n b.items (those false xs))) t)
 
 if_tested : (w : Checked) (n line : ℕ) (s : Step) (e : Expression) (a b : Vec Step Global) (vs us : List ℕ) (m mid : State)
     (xs : List Part) → s ≡ step.If line e a b → tested_on w n line e vs m ≡ Goes xs mid → us ≡ those true xs →
@@ -125,7 +127,7 @@ if_tested : (w : Checked) (n line : ℕ) (s : Step) (e : Expression) (a b : Vec 
 if_tested w n line s e a b vs us m mid xs is t u =
     if_arm w n line s e a b vs m is
     ∙ ap (λ y. then_do y (λ xs m. then_do (perform_list_on w n a.items (those true xs) m)
-        (λ u. perform_list_on w n b.items (those false xs)))) t
+    (λ u. perform_list_on w n b.items (those false xs)))) t
     ∙ ap (λ us. then_do (perform_list_on w n a.items us mid) (λ u. perform_list_on w n b.items (those false xs))) (sym u)
 
 pub if_then_halts : (w : Checked) (n line : ℕ) (s : Step) (e : Expression) (a b : Vec Step Global) (vs us : List ℕ) (m mid new : State)
@@ -134,7 +136,7 @@ pub if_then_halts : (w : Checked) (n line : ℕ) (s : Step) (e : Expression) (a 
     (Err h) new (perform_on w n s vs m)
 if_then_halts w n line s e a b vs us m mid new xs h is t u r =
     rw (if_tested w n line s e a b vs us m mid xs is t u)
-        (halts h new (perform_list_on w n a.items us mid) (λ u. perform_list_on w n b.items (those false xs)) r)
+    (halts h new (perform_list_on w n a.items us mid) (λ u. perform_list_on w n b.items (those false xs)) r)
 
 pub if_goes : (w : Checked) (n line : ℕ) (s : Step) (e : Expression) (a b : Vec Step Global) (vs us ws : List ℕ) (m mid late new : State)
     (xs : List Part) (r : Result (Unit {0}) Halt) → s ≡ step.If line e a b → tested_on w n line e vs m ≡ Goes xs mid → us ≡ those true xs →
@@ -143,5 +145,5 @@ pub if_goes : (w : Checked) (n line : ℕ) (s : Step) (e : Expression) (a b : Ve
 if_goes w n line s e a b vs us ws m mid late new xs r is t u v f g =
     let P : Done → Type 0 = IsBehaviour r new in
     subst P (sym (if_tested w n line s e a b vs us m mid xs is t u
-        ∙ ap (λ y. then_do y (λ u. perform_list_on w n b.items (those false xs))) f
-        ∙ ap (λ ws. perform_list_on w n b.items ws late) (sym v))) g
+    ∙ ap (λ y. then_do y (λ u. perform_list_on w n b.items (those false xs))) f
+    ∙ ap (λ ws. perform_list_on w n b.items ws late) (sym v))) g

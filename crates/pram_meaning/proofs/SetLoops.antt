@@ -29,8 +29,12 @@ pub record InTurns (w : Checked) (n line : ℕ) (e : Expression) (body : List St
 pub turns_start : (w : Checked) (n line : ℕ) (e : Expression) (body : List Step) (vs us : List ℕ) (m : State) → us ≡ vs →
     InTurns w n line e body vs m us m
 turns_start w n line e body vs us m is =
-    record { left = n + 1; enough = omega arith;
-    same = ap (λ vs. turns_on (n + 1) (tested_on w n line e) (perform_list_on w n body) vs m) (sym is); grows = omega arith }
+    record {
+      left = n + 1;
+      enough = omega arith;
+      same = ap (λ vs. turns_on (n + 1) (tested_on w n line e) (perform_list_on w n body) vs m) (sym is);
+      grows = omega arith;
+    }
 
 at_bound : (w : Checked) (n line : ℕ) (e : Expression) (vs : List ℕ) (m : State) → n ≤ m.count →
     tested_on w n line e vs m ≡ Reaches m.output
@@ -49,9 +53,9 @@ test_halts_at w n line e body us now new x zero h t =
     halts_at x new now.output (tested_on w n line e us now) (at_bound w n line e us now (omega arith)) t
 test_halts_at w n line e body us now new x (suc k) h t =
     parts_halt x new (tested_on w n line e us now)
-        (λ xs m. unless_none (those true xs) (Goes tt m)
-        (then_do (perform_list_on w n body (those true xs) m) (λ u. turns_on k (tested_on w n line e) (perform_list_on w n body)
-        (those true xs)))) t
+    (λ xs m. unless_none (those true xs) (Goes tt m)
+    (then_do (perform_list_on w n body (those true xs) m) (λ u. turns_on k (tested_on w n line e) (perform_list_on w n body)
+    (those true xs)))) t
 
 pub test_halts : (w : Checked) (n line : ℕ) (e : Expression) (body : List Step) (vs us : List ℕ) (start now new : State) (x : Halt) →
     InTurns w n line e body vs start us now → IsParts (Err x) new (tested_on w n line e us now) → IsBehaviour {A = Unit {0}}
@@ -72,7 +76,7 @@ test_goes w n line e body us ws now m (suc j) xs h t s = (
       (then_do (perform_list_on w n body (those true xs) m) (λ u. turns_on j (tested_on w n line e) (perform_list_on w n body)
       (those true xs))))) t
       ∙ ap (λ ws. unless_none ws (Goes tt m)
-          (then_do (perform_list_on w n body ws m) (λ u. turns_on j (tested_on w n line e) (perform_list_on w n body) ws))) (sym s),
+      (then_do (perform_list_on w n body ws m) (λ u. turns_on j (tested_on w n line e) (perform_list_on w n body) ws))) (sym s),
 )
 
 none_left : (ws : List ℕ) (a b : Done) → length ws ≡ 0 → unless_none ws a b ≡ a
@@ -116,5 +120,9 @@ turn_goes w n line e body vs us ws start now m new xs i t s z b more =
     let g = turn_begins w n line e body vs us ws start now m xs i t s z in
     let h : n ≤ g.0 + suc now.count = g.1 in
     let grown : start.count ≤ now.count = i.grows in
-    record { left = g.0; enough = omega arith;
-        same = g.2 ∙ ap (λ x. then_do x (λ u. turns_on g.0 (tested_on w n line e) (perform_list_on w n body) ws)) b; grows = omega arith }
+    record {
+      left = g.0;
+      enough = omega arith;
+      same = g.2 ∙ ap (λ x. then_do x (λ u. turns_on g.0 (tested_on w n line e) (perform_list_on w n body) ws)) b;
+      grows = omega arith;
+    }

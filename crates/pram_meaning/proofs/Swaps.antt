@@ -31,8 +31,8 @@ one_key : (j k : Key) → j.kind ≡ k.kind → is_key_before j k ≡ false → 
 one_key j k same a b =
     let at : j.at ≡ k.at = tied_at j.at k.at (is_place_before j.place k.place) (is_place_before k.place j.place) a b in
     let place : j.place ≡ k.place =
-        one_is_before j.place k.place (tied_place j.at k.at (is_place_before j.place k.place) at a)
-        (tied_place k.at j.at (is_place_before k.place j.place) (sym at) b) in
+    one_is_before j.place k.place (tied_place j.at k.at (is_place_before j.place k.place) at a)
+    (tied_place k.at j.at (is_place_before k.place j.place) (sym at) b) in
     λ i. record { at = at i; place = place i; kind = same i }
 
 two_swap : (j k : Key) → j.kind ≡ k.kind → (is_key_before k j ≡ true) ⊎ (is_key_before k j ≡ false) → (is_key_before j k ≡ true)
@@ -99,13 +99,13 @@ module _ (all : List Read) where
   swap_one b r [] = refl
   swap_one b r (q ∷ qs) =
       found-cons (one all b r) q qs ∙ ap (λ m. found all m qs) (swap_ones b r q) ∙ swap_one (one all b q) r qs
-          ∙ ap (λ m. one all m r) (sym (found-cons b q qs))
+      ∙ ap (λ m. one all m r) (sym (found-cons b q qs))
 
   swap : (b : Option Key) (rs qs : List Read) → found all (found all b rs) qs ≡ found all (found all b qs) rs
   swap b [] qs = refl
   swap b (r ∷ rs) qs =
       ap (λ m. found all m qs) (found-cons b r rs) ∙ swap (one all b r) rs qs ∙ ap (λ m. found all m rs) (swap_one b r qs)
-          ∙ sym (found-cons (found all b qs) r rs)
+      ∙ sym (found-cons (found all b qs) r rs)
 
   -- ---- rows and columns
 

@@ -45,7 +45,7 @@ team_go low count locals j now new g b h i l e = record {
   same = b.same
       ∙ ap (λ k. map member_is now ++ members (low +ℤ pos j) k locals) (let k : count - j ≡ suc (count - (j + 1)) = omega arith in k)
       ∙ ap (λ a. map member_is now ++ (record { index = low +ℤ pos j; locals = replicate locals (pos 0) }
-          ∷ members a (count - (j + 1)) locals)) (let a : (low +ℤ pos j) +ℤ pos 1 ≡ low +ℤ pos (j + 1) = omega (arith, ints) in a)
+      ∷ members a (count - (j + 1)) locals)) (let a : (low +ℤ pos j) +ℤ pos 1 ≡ low +ℤ pos (j + 1) = omega (arith, ints) in a)
       ∙ (λ t. map member_is now ++ (record { index = sym i t; locals = sym l t } ∷ members (low +ℤ pos (j + 1)) (count - (j + 1)) locals))
       ∙ sym (append_assoc (map member_is now) (member_is g ∷ []) (members (low +ℤ pos (j + 1)) (count - (j + 1)) locals))
       ∙ ap (λ k. k ++ members (low +ℤ pos (j + 1)) (count - (j + 1)) locals) (sym (map_push now g))

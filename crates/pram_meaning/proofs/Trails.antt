@@ -36,10 +36,10 @@ pub keys_are : (rule : Rule) (xs : List Part) (a b c : Option Key) → shares_re
     b ≡ fold lesser a (flat_map (conflict_of (reads_of xs)) (reads_of xs)) → c ≡ fold lesser b (writes rule xs) → c ≡ least (keys rule xs)
 keys_are rule xs a b c sh ea eb ec =
     let r : read_conflicts rule (reads_of xs) ≡ flat_map (conflict_of (reads_of xs)) (reads_of xs) =
-        ap (λ z. if z then [] else flat_map (conflict_of (reads_of xs)) (reads_of xs)) sh in
+    ap (λ z. if z then [] else flat_map (conflict_of (reads_of xs)) (reads_of xs)) sh in
     ec
     ∙ ap (λ k. fold lesser k (writes rule xs)) (eb ∙ ap (λ k. fold lesser k (flat_map (conflict_of (reads_of xs)) (reads_of xs))) ea
-        ∙ ap (fold lesser (fold lesser None (faults xs))) (sym r))
+    ∙ ap (fold lesser (fold lesser None (faults xs))) (sym r))
     ∙ sym (keys_split rule xs)
 
 pub keys_are_shared : (rule : Rule) (xs : List Part) (a c : Option Key) → shares_reads rule ≡ true → a ≡ fold lesser None (faults xs) →

@@ -49,7 +49,7 @@ verdicts_are rule xs [] = refl
 verdicts_are rule xs (y ∷ ys) =
     ap (flat_map key_of) (map-append (judged_in rule (writes_made xs)) (made_by y.processor y.attempt) (writes_made ys))
     ∙ flat_map-append key_of (map (judged_in rule (writes_made xs)) (made_by y.processor y.attempt))
-        (map (judged_in rule (writes_made xs)) (writes_made ys))
+    (map (judged_in rule (writes_made xs)) (writes_made ys))
     ∙ ap (λ ks. ks ++ flat_map key_of (map (judged_in rule (writes_made xs)) (writes_made ys))) (one_verdict rule xs y.processor y.attempt)
     ∙ ap (λ ks. write_conflict rule xs y.attempt ++ ks) (verdicts_are rule xs ys)
 

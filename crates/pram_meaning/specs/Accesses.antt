@@ -72,5 +72,8 @@ is_only_reader i (Err k) = false
 -- what is said against a read
 abbrev pub shared_key : Judged → List Key
 shared_key j =
-    if is_only_reader j.access.write.processor j.verdict then [] else record { at = j.access.at; place = Cell j.access.cell;
-        kind = ReadConflict } ∷ []
+    if is_only_reader j.access.write.processor j.verdict then [] else record {
+      at = j.access.at;
+      place = Cell j.access.cell;
+      kind = ReadConflict;
+    } ∷ []

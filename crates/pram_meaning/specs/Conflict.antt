@@ -89,7 +89,7 @@ write_conflict rule xs (Fails t k) = []
 abbrev pub keys : Rule → List Part → List Key
 keys rule xs =
     flat_map (λ x. fault_of x.processor x.attempt) xs ++ read_conflicts rule (reads_of xs)
-        ++ flat_map (λ x. write_conflict rule xs x.attempt) xs
+    ++ flat_map (λ x. write_conflict rule xs x.attempt) xs
 
 -- the order of faults: the least position; there a processor's own fault before a conflict, since processors come before cells,
 -- the least processor, the least cell

@@ -73,7 +73,7 @@ abbrev pub ForTurns : ℕ → ℕ → ℤ → (State → Does) → State → Doe
 ForTurns zero x a Body m = IsEnd tt m
 ForTurns (suc k) x a Body m =
     Then (Unit {0}) (Unit {0}) (Begins m) (λ u m. Then (Unit {0}) (Unit {0}) (Body (with_uniform x a m))
-        (λ u. ForTurns k x (a +ℤ pos 1) Body))
+    (λ u. ForTurns k x (a +ℤ pos 1) Body))
 
 -- ---- inside pardo: a set of processors acts
 
@@ -91,7 +91,7 @@ TurnsOn zero Test Body vs m = λ f. ⊥
 TurnsOn (suc k) Test Body vs m =
     Then (List Part) (Unit {0}) (Test vs m) (λ xs m.
     UnlessNone (those true xs) (IsEnd tt m)
-        (Then (Unit {0}) (Unit {0}) (Body (those true xs) m) (λ u. TurnsOn k Test Body (those true xs))))
+    (Then (Unit {0}) (Unit {0}) (Body (those true xs) m) (λ u. TurnsOn k Test Body (those true xs))))
 
 abbrev mutual
   -- a statement inside pardo, on the members vs
@@ -130,7 +130,7 @@ abbrev mutual
       Then Bool (Unit {0}) (Tested p line e m) (λ z m. Either z (MeansRow p then_part m) (MeansRow p else_part m))
   Means p (For' line x e f q body) m =
       Then (ℤ × ℤ) (Unit {0}) (Evaluated line (λ m. attempt_bounds (seen p m) e f) m)
-          (λ r. ForTurns (width r.0 r.1) x r.0 (MeansRow p body))
+      (λ r. ForTurns (width r.0 r.1) x r.0 (MeansRow p body))
   Means p (Pardo line e f locals body) m =
       Then (ℤ × ℕ) (Unit {0}) (Evaluated line (λ m. attempt_range p.procs (seen p m) e f) m) (λ r. PardoDone p locals body.items r.0 r.1)
 

@@ -13,8 +13,14 @@ use Rattle.pram_meaning.specs.Attempt.{Attempt, Gives, Fails, Trail, Effect}
 use Rattle.pram_meaning.specs.Bounded.{Behaviour, Goes, Stops, Reaches}
 
 abbrev pub view_is : view.View.View → View
-view_is s = record { layout = s.layout.now; uniforms = s.uniforms.now.items; cells = s.cells.now.items; index = s.index; locals =
-    s.locals.now.items }
+view_is s = record {
+  layout = s.layout.now;
+  uniforms = s.uniforms.now.items;
+  cells = s.cells.now.items;
+  index = s.index;
+  locals =
+      s.locals.now.items;
+}
 
 -- how an answer, and the trail behind it, tell of an attempt
 abbrev pub IsAttempt : {A : Type 0} → Result A Failure → Trail → Attempt A → Type 0

@@ -65,7 +65,7 @@ pub numbered_push : (es : List field.Entry) (cells more : ℕ) (e : field.Entry)
 numbered_push es cells more e low high h first l k ordered single is =
     let sized : size (shown e).bounds ≡ width low high =
     ap (λ z. size (bounds_of e.is_array z e.range.high)) l ∙ ap (λ z. size (bounds_of e.is_array low z)) k
-        ∙ size_width e.is_array low high ordered single in
+    ∙ size_width e.is_array low high ordered single in
     let alone : IsSingle e.is_array e.range.low e.range.high =
     subst (λ z. IsSingle e.is_array z e.range.high) (sym l) (subst (λ z. IsSingle e.is_array low z) (sym k) single) in
     numbered_more 0 es cells more e h first alone (is ∙ ap (λ n. cells + n) (sym sized))
@@ -95,7 +95,7 @@ range_bounds es cells i d all h view below is =
     let there : slice_get all i ≡ Some (shown d) =
     ap (λ l. slice_get l i) (sym view) ∙ shown_at es i inside ∙ ap (λ (e : field.Entry). Some (shown e)) (sym is) in
     subst (λ o. IfSome o (λ (e : SharedEntry). (d.range.low ≡ (subscripts e.bounds).0) × (d.range.high ≡ (subscripts e.bounds).1)))
-        (sym there)
+    (sym there)
     (bounds_are d.is_array d.range.low d.range.high (single_at 0 es cells i d h inside is))
   where
     shown_at : (es : List field.Entry) (i : ℕ) → i < length es → slice_get (declared es) i ≡ Some (shown (get_or es i d))

@@ -28,9 +28,9 @@ is_one_of (word ∷ rest) text = same_text word text || is_one_of rest text
 abbrev pub keywords : List (List ℕ)
 keywords =
     codes "rule" ∷ codes "procs" ∷ codes "shared" ∷ codes "var" ∷ codes "local" ∷ codes "begin" ∷ codes "end" ∷ codes "for" ∷ codes "to"
-        ∷ codes "do"
+    ∷ codes "do"
     ∷ codes "pardo" ∷ codes "while" ∷ codes "if" ∷ codes "then" ∷ codes "else" ∷ codes "print" ∷ codes "and" ∷ codes "or" ∷ codes "not"
-        ∷ codes "div"
+    ∷ codes "div"
     ∷ codes "mod" ∷ []
 
 -- whether a text is one of them

@@ -31,9 +31,14 @@ module _ (scope : Scope) where
       (value.Number z) n
   good_number n x v z is same =
       let names : [] ≡ uses x = sym (ap uses is ∙ uses-Number v) in
-      let fine = fine_as scope n n [] (uses x) names (fine_none scope n) in
-      (fine.0, (subst (λ y. Says scope y (value.Number z)) (sym is) (subst (λ w. Says scope (e.Number v) (value.Number w)) (sym same)
-          (says.number v)), fine.1))
+      let fine = fine_as scope n n [] (uses x) names (fine_none scope n) in (
+        fine.0,
+        (
+          subst (λ y. Says scope y (value.Number z)) (sym is) (subst (λ w. Says scope (e.Number v) (value.Number w)) (sym same)
+              (says.number v)),
+          fine.1,
+        ),
+      )
 
   pub names_name : (x : Expr) (v : Name) → x ≡ e.Name v → plain v ∷ [] ≡ uses x
   names_name x v is = sym (ap uses is ∙ uses-Name v)
@@ -55,7 +60,7 @@ module _ (scope : Scope) where
   pub good_element : (n m k : ℕ) (x : Expr) (v : Name) (i j : Expr) (a : ℕ) (y : Expression) (b : Box Expression Global) →
       x ≡ e.Element v i → j ≡ i → b.value ≡ y →
       Good (λ a. meaning_of scope v.text ≡ Some (meaning.Array a)) scope n (subscripted v ∷ []) a m →
-          Good (Says scope j) scope m (uses j) y k →
+      Good (Says scope j) scope m (uses j) y k →
       Good (Says scope x) scope n (uses x) (value.Element a b) k
   good_element n m k x v i j a y b is same boxed array inner =
       let fine = fine_as scope n k ((subscripted v ∷ []) ++ uses j) (uses x) (names_element x v i j is same)
@@ -78,7 +83,7 @@ module _ (scope : Scope) where
       (links : Vec Link Global) →
       x ≡ e.Chain f rest → g ≡ f → more ≡ rest → b.value ≡ y → Good (Says scope g) scope n (uses g) y m →
       Good (λ v. SayLinks scope more v.items) scope m (step_uses more) links k →
-          Good (Says scope x) scope n (uses x) (value.Chain b links) k
+      Good (Says scope x) scope n (uses x) (value.Chain b links) k
   good_chain n m k x f g rest more y b links is same others boxed first_one last =
       let fine = fine_as scope n k (uses g ++ step_uses more) (uses x) (names_chain x f g rest more is same others)
       (fine_append scope n m k (uses g) (step_uses more) (first_one.0, first_one.1.1) (last.0, last.1.1)) in

@@ -56,7 +56,7 @@ module _ (scope : Scope) where
   breaches_append n (u ∷ us) vs =
       let one = if is_read (meaning_of scope u.name.text) u.subscripted then 1 else 0 in
       let here = at u.name.location (or_else (use_cause (meaning_of scope u.name.text) u.subscripted)
-          (ninth n (is_read (meaning_of scope u.name.text) u.subscripted))) in
+      (ninth n (is_read (meaning_of scope u.name.text) u.subscripted))) in
       let sum : (n + one) + read_count scope us ≡ n + (one + read_count scope us) = omega arith in
       ap (λ l. here ++ l) (breaches_append (n + one) us vs ∙ ap (λ k. use_breaches scope (n + one) us ++ use_breaches scope k vs) sum)
       ∙ sym (append_assoc here (use_breaches scope (n + one) us) (use_breaches scope (n + (one + read_count scope us)) vs))
@@ -73,9 +73,10 @@ module _ (scope : Scope) where
       let c = count_append us vs in
       let joined = ap first (breaches_append n us vs) in
       let moved : first (use_breaches scope (n + read_count scope us) vs) ≡ None =
-          subst (λ j. first (use_breaches scope j vs) ≡ None) a.1 b.0 in
-      (joined ∙ (first_behind (use_breaches scope n us) (use_breaches scope (n + read_count scope us) vs) a.0 ∙ moved),
-          omega (arith, a.1, b.1, c))
+      subst (λ j. first (use_breaches scope j vs) ≡ None) a.1 b.0 in (
+        joined ∙ (first_behind (use_breaches scope n us) (use_breaches scope (n + read_count scope us) vs) a.0 ∙ moved),
+        omega (arith, a.1, b.1, c),
+      )
 
   pub leads_front : (n : ℕ) (us vs : List Use) → Leads (use_breaches scope n us) (use_breaches scope n (us ++ vs))
   leads_front n us vs b h = ap first (breaches_append n us vs)

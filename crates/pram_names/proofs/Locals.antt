@@ -24,7 +24,7 @@ breaches_append s k (x ∷ xs) ys =
     ap (λ l. here ++ l)
     (breaches_append (s ++ one) (k + 1) xs ys
     ∙ ap (λ t. local_breaches (s ++ one) (k + 1) xs ++ local_breaches t ((k + 1) + length xs) ys)
-        (append_assoc s one (locals_from (k + 1) xs))
+    (append_assoc s one (locals_from (k + 1) xs))
     ∙ ap (λ j. local_breaches (s ++ one) (k + 1) xs ++ local_breaches (s ++ locals_from k (x ∷ xs)) j ys) sum)
     ∙ sym (append_assoc here (local_breaches (s ++ one) (k + 1) xs) (local_breaches (s ++ locals_from k (x ∷ xs)) (k + length (x ∷ xs)) ys))
 
@@ -53,7 +53,7 @@ module _ (s scope : Scope) (xs : List Name) (i k : ℕ) (d : Name) (below : i < 
   pub leads_local : first (local_breaches s 0 (take i xs)) ≡ None → Leads (at d.location (new_cause scope d.text)) (local_breaches s 0 xs)
   leads_local none b h =
       let here : first (local_breaches s 0 (take (i + 1) xs)) ≡ Some b = ap first breaches_more
-          ∙ (first_behind (local_breaches s 0 (take i xs)) (at d.location (new_cause scope d.text)) none ∙ h) in
+      ∙ (first_behind (local_breaches s 0 (take i xs)) (at d.location (new_cause scope d.text)) none ∙ h) in
       let split = breaches_append s 0 (take (i + 1) xs) (drop (i + 1) xs) in
       ap (λ l. first (local_breaches s 0 l)) (sym (take-append-drop (i + 1) xs))
-          ∙ (ap first split ∙ first_front (local_breaches s 0 (take (i + 1) xs)) _ b here)
+      ∙ (ap first split ∙ first_front (local_breaches s 0 (take (i + 1) xs)) _ b here)

@@ -48,9 +48,16 @@ like_part (u ∷ us) vs [] same = absurd (let a = same.all in cc)
 like_part (u ∷ us) vs (t ∷ ts) same =
     let a = same.all in
     let rest : Like ts (us ++ vs) = record { all = cc } in
-    let p = like_part us vs ts rest in
-    (t ∷ p.0, p.1, ap (λ l. t ∷ l) p.2, record { all = let h : bare t ≡ bare u = cc in ap (λ x. x ∷ map bare p.0) h
-        ∙ ap (λ l. bare u ∷ l) p.3.all }, p.4)
+    let p = like_part us vs ts rest in (
+      t ∷ p.0,
+      p.1,
+      ap (λ l. t ∷ l) p.2,
+      record {
+        all = let h : bare t ≡ bare u = cc in ap (λ x. x ∷ map bare p.0) h
+            ∙ ap (λ l. bare u ∷ l) p.3.all;
+      },
+      p.4,
+    )
 
 -- a token that has no location
 abbrev pub IsFixed : Token → Type 0
@@ -213,7 +220,7 @@ module _ (l : Level) (P : Expr → Type 0) (moves : (x : Expr) → P x → Moves
   -- the first operand and the rest, as they stand there
   chain_moves : (Q : Expr → Type 0) (first : Expr) (rest : List (Binary × Expr)) → P first → AreSteps l P rest →
       ((f : Expr) (r : List (Binary × Expr)) → P f → AreSteps l P r → bare_steps r ≡ bare_steps rest → Q (chain f r)) →
-          Moves Q (chain first rest)
+      Moves Q (chain first rest)
   chain_moves Q first rest one more put ts same =
       let q = like_part (tokens first) (step_tokens rest) ts (like_as (tokens-chain first rest) same) in
       let f = moves first one q.0 q.3 in
@@ -270,9 +277,9 @@ module _ (I : Level → Expr → Type 0) (inner : (l : Level) (x : Expr) → I l
       }
   atom_moves _ (element x i h) ts same =
       let q = like_name x (token.Mark mark.OpenBracket ∷ (tokens i ++ token.Mark mark.CloseBracket ∷ [])) ts
-          (like_as (tokens-Element x i) same) in
+      (like_as (tokens-Element x i) same) in
       let o = like_fixed (token.Mark mark.OpenBracket) (fixed_mark mark.OpenBracket) (tokens i ++ token.Mark mark.CloseBracket
-          ∷ []) q.1 q.4 in
+      ∷ []) q.1 q.4 in
       let p = like_part (tokens i) (token.Mark mark.CloseBracket ∷ []) o.0 o.2 in
       let m = inner level.Expression i h p.0 p.3 in
       let c = like_fixed (token.Mark mark.CloseBracket) (fixed_mark mark.CloseBracket) [] p.1 p.4 in
@@ -283,14 +290,14 @@ module _ (I : Level → Expr → Type 0) (inner : (l : Level) (x : Expr) → I l
         has = tokens-Element q.0 m.there
             ∙ ap (λ v. token.Name q.0 ∷ (token.Mark mark.OpenBracket ∷ (v ++ token.Mark mark.CloseBracket ∷ []))) m.has
             ∙ ap (λ v. token.Name q.0 ∷ (token.Mark mark.OpenBracket ∷ (p.0 ++ v))) (ap (λ v. token.Mark mark.CloseBracket ∷ v) (sym none)
-                ∙ sym c.1)
+            ∙ sym c.1)
             ∙ ap (λ v. token.Name q.0 ∷ (token.Mark mark.OpenBracket ∷ v)) (sym p.2) ∙ ap (λ v. token.Name q.0 ∷ v) (sym o.1) ∙ sym q.2;
         same = bare-Element q.0 m.there ∙ ap (λ z. e.Element z (bare_expr m.there)) q.3 ∙ ap (e.Element (bare_name x)) m.same
             ∙ sym (bare-Element x i);
       }
   atom_moves _ (paren i h) ts same =
       let o = like_fixed (token.Mark mark.OpenParen) (fixed_mark mark.OpenParen) (tokens i ++ token.Mark mark.CloseParen
-          ∷ []) ts (like_as (tokens-Paren i) same) in
+      ∷ []) ts (like_as (tokens-Paren i) same) in
       let p = like_part (tokens i) (token.Mark mark.CloseParen ∷ []) o.0 o.2 in
       let m = inner level.Expression i h p.0 p.3 in
       let c = like_fixed (token.Mark mark.CloseParen) (fixed_mark mark.CloseParen) [] p.1 p.4 in

@@ -47,8 +47,8 @@ pub spelling-Element : (x : Name) (i : Expr) → spelling (tokens (e.Element x i
     ≡ spelled (token.Name x) ++ (spelled (token.Mark mark.OpenBracket) ++ (spelling (tokens i) ++ spelled (token.Mark mark.CloseBracket)))
 spelling-Element x i =
     ap spelling (tokens-Element x i)
-        ∙ ap (λ l. spelled (token.Name x) ++ (spelled (token.Mark mark.OpenBracket) ++ l))
-        (spelling-append (tokens i) (token.Mark mark.CloseBracket ∷ []))
+    ∙ ap (λ l. spelled (token.Name x) ++ (spelled (token.Mark mark.OpenBracket) ++ l))
+    (spelling-append (tokens i) (token.Mark mark.CloseBracket ∷ []))
 
 pub spelling-Prefix : (p : Prefix) (i : Expr) → spelling (tokens (e.Prefix p i)) ≡ spelled (prefix_token p) ++ spelling (tokens i)
 spelling-Prefix p i = ap spelling (tokens-Prefix p i)
@@ -72,7 +72,7 @@ pub ruleset printed = (spelling-Number, spelling-Name, spelling-Paren, spelling-
 
 pub as_element : (x : Expr) (name : Name) (i j : Expr) → x ≡ e.Element name i → j ≡ i → spelling (tokens x)
     ≡ spelled (token.Name name) ++ (spelled (token.Mark mark.OpenBracket)
-        ++ (spelling (tokens j) ++ spelled (token.Mark mark.CloseBracket)))
+    ++ (spelling (tokens j) ++ spelled (token.Mark mark.CloseBracket)))
 as_element x name i j is same = ap (λ z. spelling (tokens z)) (is ∙ ap (e.Element name) (sym same)) ∙ spelling-Element name j
 
 pub as_paren : (x i j : Expr) → x ≡ e.Paren i → j ≡ i → spelling (tokens x) ≡ spelled (token.Mark mark.OpenParen)
@@ -110,7 +110,7 @@ turns_text x low high = spelled (token.Name x) ++ (marked mark.Becomes ++ (shown
 abbrev pub range_text : Expr → Name → Expr → List ℕ
 range_text low x high =
     shown low ++ (spelled (token.Binary op.AtMost)
-        ++ (spelled (token.Name x) ++ (spelled (token.Binary op.AtMost) ++ (shown high ++ marked mark.Pardo))))
+    ++ (spelled (token.Name x) ++ (spelled (token.Binary op.AtMost) ++ (shown high ++ marked mark.Pardo))))
 
 -- Each form of statement.
 
@@ -132,7 +132,7 @@ spelling-while at c body = ap spelling (sym (append-nil _) ∙ spell_while [] at
 pub spelling-if : (at : Location) (c : Expr) (body : List Stmt) (other : Option (List Stmt)) →
     spelling (statement_tokens (s.If at c body other))
     ≡ opened opening.If ++ (shown c
-        ++ (marked mark.Then ++ (spelling (block_tokens body) ++ (spelling (else_tokens other) ++ marked mark.End))))
+    ++ (marked mark.Then ++ (spelling (block_tokens body) ++ (spelling (else_tokens other) ++ marked mark.End))))
 spelling-if at c body None = ap spelling (sym (append-nil _) ∙ spell_if_then [] at c body) ∙ simp (spelling-append, append_assoc)
 spelling-if at c body (Some other) = ap spelling (sym (append-nil _) ∙ spell_if_else [] at c body other)
     ∙ simp (spelling-append, append_assoc)
@@ -149,7 +149,7 @@ spelling-pardo at low x high locals body = ap spelling (sym (append-nil _) ∙ s
 
 pub spelling-program : (p : ProgramTree) → spelling (program_tokens p)
     ≡ spelling (header_tokens p.rule p.rule_location p.procs [])
-        ++ (spelling (declarations_tokens p.declarations) ++ (marked mark.Begin ++ (spelling (block_tokens p.body) ++ marked mark.End)))
+    ++ (spelling (declarations_tokens p.declarations) ++ (marked mark.Begin ++ (spelling (block_tokens p.body) ++ marked mark.End)))
 spelling-program p =
     let end = token.Mark mark.End ∷ [] in
     let rest = token.Mark mark.Begin ∷ (block_tokens p.body ++ end) in

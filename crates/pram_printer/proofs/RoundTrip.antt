@@ -115,7 +115,7 @@ module _ (at : Location) (rest : List ℕ) where
       let taken : take (length (b ∷ bs)) text ≡ b ∷ bs = take_front (b ∷ bs) (32 ∷ rest) in
       pick (is_blank b) (nat_eq b 35) (is_digit b) (is_letter b) _ _ _ _ _ o.0 o.1 o.2 letter
       ∙ (ap (λ n. word_lexeme at (take n text) (keyword (take n text))) spanned ∙ ap (λ l. word_lexeme at l (keyword l)) taken
-          ∙ ap (word_lexeme at (b ∷ bs)) free)
+      ∙ ap (word_lexeme at (b ∷ bs)) free)
 
   read_name : (bs : List ℕ) → IsName bs → lexeme_at at (bs ++ (32 ∷ rest)) ≡ lexeme.Token (token.Name (record { text = bs; location = at }))
       (length bs)
@@ -130,8 +130,11 @@ module _ (at : Location) (rest : List ℕ) where
 
   digits_model : IsNumeralModel (AllIn is_digit) (value_after 0)
   digits_model =
-      numerals_by_fold (AllIn is_digit) (record { empty = tt; parts = λ c cs h. (digit_range c h.0, h.1);
-          more = λ c cs r h. (range_digit c r, h) }) value_after
+      numerals_by_fold (AllIn is_digit) (record {
+        empty = tt;
+        parts = λ c cs h. (digit_range c h.0, h.1);
+        more = λ c cs r h. (range_digit c r, h);
+      }) value_after
       (record { empty = λ n. refl; more = λ n c cs r. refl })
 
   digit_only : (b : ℕ) → is_digit b ≡ true → (is_blank b ≡ false) × (nat_eq b 35 ≡ false)
@@ -143,7 +146,7 @@ module _ (at : Location) (rest : List ℕ) where
 
   read_digits : (b : ℕ) (bs : List ℕ) → AllIn is_digit (b ∷ bs) → nat_lt largest (value_after 0 (b ∷ bs)) ≡ false →
       lexeme_at at (b ∷ (bs ++ (32 ∷ rest))) ≡ lexeme.Token (token.Number (record { value = pos (value_after 0 (b ∷ bs)); location = at }))
-          (length (b ∷ bs))
+      (length (b ∷ bs))
   unfolding lexeme_at
   read_digits b bs all fits =
       let o = digit_only b all.0 in
@@ -153,9 +156,9 @@ module _ (at : Location) (rest : List ℕ) where
       let dropped : drop (length (b ∷ bs)) text ≡ 32 ∷ rest = drop_front (b ∷ bs) (32 ∷ rest) in
       pick_digit (is_blank b) (nat_eq b 35) (is_digit b) _ _ _ _ o.0 o.1 all.0
       ∙ ap (λ n. number_lexeme at (take n text) (drop n text)) spanned ∙ ap (λ l. number_lexeme at l (drop (length (b ∷ bs)) text)) taken
-          ∙ ap (number_lexeme at (b ∷ bs)) dropped
+      ∙ ap (number_lexeme at (b ∷ bs)) dropped
       ∙ ap (λ c. if c || is_word 32 then lexeme.Bad else
-          lexeme.Token (token.Number (record { value = pos (value_after 0 (b ∷ bs)); location = at })) (length (b ∷ bs))) fits
+      lexeme.Token (token.Number (record { value = pos (value_after 0 (b ∷ bs)); location = at })) (length (b ∷ bs))) fits
 
   read_decimal : (n : ℕ) → n ≤ largest →
       lexeme_at at (decimal n ++ (32 ∷ rest)) ≡ lexeme.Token (token.Number (record { value = pos n; location = at })) (length (decimal n))
@@ -175,7 +178,7 @@ module _ (at : Location) (rest : List ℕ) where
           let v : value_after 0 (b ∷ bs) ≡ n = ap (value_after 0) (sym is) ∙ value in
           let fits : nat_lt largest (value_after 0 (b ∷ bs)) ≡ false = rw v (grind (arith, nat_tests)) in
           read_digits b bs (subst (AllIn is_digit) is all) fits
-              ∙ ap (λ m. lexeme.Token (token.Number (record { value = pos m; location = at })) (length (b ∷ bs))) v
+          ∙ ap (λ m. lexeme.Token (token.Number (record { value = pos m; location = at })) (length (b ∷ bs))) v
 
   read_number : (z : ℤ) → IsNumber z →
       lexeme_at at (signed_decimal z ++ (32 ∷ rest)) ≡ lexeme.Token (token.Number (record { value = z; location = at }))
@@ -261,7 +264,7 @@ scan_spelling (t ∷ ts) h at line =
     let grouped : spelling (t ∷ ts) ≡ all = append_assoc (token_text t) (token_end t ∷ []) (spelling ts) in
     let room : n ≤ length all = omega (arith, length-append (token_text t) rest) in
     let token' = pass_token at line n (put (place at line) t) all (some_text t h.0) room
-        (sym (read_token (place at line) (spelling ts) t h.0)) in
+    (sym (read_token (place at line) (spelling ts) t h.0)) in
     let mid = line_after line (token_text t) in
     let blank = pass_blank (at + n) mid 1 rest (lit≤ tt) (omega arith) (blank_behind (place (at + n) mid) (spelling ts) t) in
     ap (scan 0 at line) grouped ∙ token'

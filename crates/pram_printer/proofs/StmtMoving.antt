@@ -69,11 +69,11 @@ bare-for at x low high body = ap bare_statement (sym (s.rolls-For at x low high 
 
 pub bare-pardo : (at : Location) (low : Expr) (x : Name) (high : Expr) (locals : List Name) (body : List Stmt) →
     bare_statement (s.Pardo at low x high locals body) ≡ s.Pardo start (bare_expr low) (bare_name x) (bare_expr high) (map bare_name locals)
-        (map bare_statement body)
+    (map bare_statement body)
 unfolding bare_statement
 bare-pardo at low x high locals body =
     ap bare_statement (sym (s.rolls-Pardo at low x high locals body))
-        ∙ fold-roll-Stmt Stmt bare_step (Stmt-F.Pardo at low x high locals body)
+    ∙ fold-roll-Stmt Stmt bare_step (Stmt-F.Pardo at low x high locals body)
 
 -- Parts at the front of a list, each with what stands behind it.
 
@@ -170,7 +170,7 @@ module _ (n : ℕ) (Inner : List Stmt → Type 0) (inner : (body : List Stmt) �
         fits = assign q.0 f.there f.fits;
         has = sym (append-nil _) ∙ spell_assign [] q.0 f.there
             ∙ sym (q.2 ∙ ap (λ t. token.Name q.0 ∷ t) (b.1
-                ∙ ap (λ t. token.Mark mark.Becomes ∷ t) (f.has ∙ ap (λ t. tokens f.there ++ t) z)));
+            ∙ ap (λ t. token.Mark mark.Becomes ∷ t) (f.has ∙ ap (λ t. tokens f.there ++ t) z)));
         same = bare-assign q.0 f.there ∙ ap (λ y. s.Assign y (bare_expr f.there)) q.3 ∙ ap (s.Assign (bare_name x)) f.same
             ∙ sym (bare-assign x v);
       }
@@ -187,12 +187,12 @@ module _ (n : ℕ) (Inner : List Stmt → Type 0) (inner : (body : List Stmt) �
         fits = assign_element q.0 e.there f.there e.fits f.fits;
         has = sym (append-nil _) ∙ spell_assign_element [] q.0 e.there f.there
             ∙ sym (q.2 ∙ ap (λ t. token.Name q.0 ∷ t) (o.1
-                ∙ ap (λ t. token.Mark mark.OpenBracket ∷ t) (e.has ∙ ap (λ t. tokens e.there ++ t)
+            ∙ ap (λ t. token.Mark mark.OpenBracket ∷ t) (e.has ∙ ap (λ t. tokens e.there ++ t)
             (c.1 ∙ ap (λ t. token.Mark mark.CloseBracket ∷ t) (b.1
-                ∙ ap (λ t. token.Mark mark.Becomes ∷ t) (f.has ∙ ap (λ t. tokens f.there ++ t) z))))));
+            ∙ ap (λ t. token.Mark mark.Becomes ∷ t) (f.has ∙ ap (λ t. tokens f.there ++ t) z))))));
         same = bare-assign_element q.0 e.there f.there ∙ ap (λ y. s.AssignElement y (bare_expr e.there) (bare_expr f.there)) q.3
             ∙ ap (λ y. s.AssignElement (bare_name x) y (bare_expr f.there)) e.same ∙ ap (s.AssignElement (bare_name x) (bare_expr i)) f.same
-                ∙ sym (bare-assign_element x i v);
+            ∙ sym (bare-assign_element x i v);
       }
   statement_moves _ (print at v h) ts same =
       let o = like_opening opening.Print at _ ts (alone (s.Print at v) _ ts (spell_print [] at v) same) in
@@ -270,7 +270,7 @@ module _ (n : ℕ) (Inner : List Stmt → Type 0) (inner : (body : List Stmt) �
         fits = for_to o.0 q.0 e.there f.there w.there e.fits f.fits w.fits;
         has = sym (append-nil _) ∙ spell_for [] o.0 q.0 e.there f.there w.there
             ∙ sym (o.2 ∙ ap (λ t. token.Opening opening.For o.0 ∷ t) (q.2
-                ∙ ap (λ t. token.Name q.0 ∷ t) (b.1 ∙ ap (λ t. token.Mark mark.Becomes ∷ t)
+            ∙ ap (λ t. token.Name q.0 ∷ t) (b.1 ∙ ap (λ t. token.Mark mark.Becomes ∷ t)
             (e.has ∙ ap (λ t. tokens e.there ++ t) (a.1 ∙ ap (λ t. token.Mark mark.To ∷ t) (f.has ∙ ap (λ t. tokens f.there ++ t)
             (c.1 ∙ ap (λ t. token.Mark mark.Do ∷ t) (w.has ∙ ap (λ t. block_tokens w.there ++ t) z))))))));
         same = bare-for o.0 q.0 e.there f.there w.there
@@ -281,7 +281,7 @@ module _ (n : ℕ) (Inner : List Stmt → Type 0) (inner : (body : List Stmt) �
       }
   statement_moves _ (pardo at low x high names body h g k) ts same =
       let o = like_opening opening.For at _ ts (alone (s.Pardo at low x high names body) _ ts (spell_pardo [] at low x high names body)
-          same) in
+      same) in
       let e = expr_front (Fits n level.Sum) low _ o.1 (fits_moves n level.Sum low h) o.3 in
       let a = like_fixed (token.Binary op.AtMost) (fixed_binary op.AtMost) _ e.rest e.like in
       let q = like_name x _ a.0 a.2 in
@@ -296,17 +296,17 @@ module _ (n : ℕ) (Inner : List Stmt → Type 0) (inner : (body : List Stmt) �
         fits = pardo o.0 e.there q.0 f.there l.there w.there e.fits f.fits w.fits;
         has = sym (append-nil _) ∙ spell_pardo [] o.0 e.there q.0 f.there l.there w.there
             ∙ sym (o.2 ∙ ap (λ t. token.Opening opening.For o.0 ∷ t) (e.has
-                ∙ ap (λ t. tokens e.there ++ t) (a.1 ∙ ap (λ t. token.Binary op.AtMost ∷ t)
+            ∙ ap (λ t. tokens e.there ++ t) (a.1 ∙ ap (λ t. token.Binary op.AtMost ∷ t)
             (q.2 ∙ ap (λ t. token.Name q.0 ∷ t) (b.1 ∙ ap (λ t. token.Binary op.AtMost ∷ t) (f.has ∙ ap (λ t. tokens f.there ++ t)
             (c.1 ∙ ap (λ t. token.Mark mark.Pardo ∷ t) (l.has
-                ∙ ap (λ t. local_tokens l.there ++ t) (w.has ∙ ap (λ t. block_tokens w.there ++ t) z)))))))));
+            ∙ ap (λ t. local_tokens l.there ++ t) (w.has ∙ ap (λ t. block_tokens w.there ++ t) z)))))))));
         same = bare-pardo o.0 e.there q.0 f.there l.there w.there
             ∙ ap (λ y. s.Pardo start y (bare_name q.0) (bare_expr f.there) (map bare_name l.there) (map bare_statement w.there)) e.same
             ∙ ap (λ y. s.Pardo start (bare_expr low) y (bare_expr f.there) (map bare_name l.there) (map bare_statement w.there)) q.3
             ∙ ap (λ y. s.Pardo start (bare_expr low) (bare_name x) y (map bare_name l.there) (map bare_statement w.there)) f.same
             ∙ ap (λ y. s.Pardo start (bare_expr low) (bare_name x) (bare_expr high) y (map bare_statement w.there)) l.same
             ∙ ap (s.Pardo start (bare_expr low) (bare_name x) (bare_expr high) (map bare_name names)) w.same
-                ∙ sym (bare-pardo at low x high names body);
+            ∙ sym (bare-pardo at low x high names body);
       }
 
   statements_move : (body : List Stmt) → AreStatements n Inner body → MovesBlock (AreStatements n Inner) body
@@ -349,8 +349,13 @@ declaration_front (d.Cell x) us ts same =
     let a = mark_front mark.Shared (token.Name x ∷ (token.Mark mark.Semicolon ∷ us)) ts same in
     let q = like_name x (token.Mark mark.Semicolon ∷ us) a.0 a.2 in
     let z = mark_front mark.Semicolon us q.1 q.4 in
-    record { there = d.Cell q.0; rest = z.0; has = a.1 ∙ ap (λ t. token.Mark mark.Shared ∷ t) (q.2 ∙ ap (λ t. token.Name q.0 ∷ t) z.1);
-        same = ap d.Cell q.3; like = z.2 }
+    record {
+      there = d.Cell q.0;
+      rest = z.0;
+      has = a.1 ∙ ap (λ t. token.Mark mark.Shared ∷ t) (q.2 ∙ ap (λ t. token.Name q.0 ∷ t) z.1);
+      same = ap d.Cell q.3;
+      like = z.2;
+    }
 declaration_front (d.Array x low high) us ts same =
     let a = mark_front mark.Shared _ ts same in
     let q = like_name x _ a.0 a.2 in
@@ -374,14 +379,19 @@ declaration_front (d.Uniform x) us ts same =
     let a = mark_front mark.Var (token.Name x ∷ (token.Mark mark.Semicolon ∷ us)) ts same in
     let q = like_name x (token.Mark mark.Semicolon ∷ us) a.0 a.2 in
     let z = mark_front mark.Semicolon us q.1 q.4 in
-    record { there = d.Uniform q.0; rest = z.0; has = a.1 ∙ ap (λ t. token.Mark mark.Var ∷ t) (q.2 ∙ ap (λ t. token.Name q.0 ∷ t) z.1);
-        same = ap d.Uniform q.3; like = z.2 }
+    record {
+      there = d.Uniform q.0;
+      rest = z.0;
+      has = a.1 ∙ ap (λ t. token.Mark mark.Var ∷ t) (q.2 ∙ ap (λ t. token.Name q.0 ∷ t) z.1);
+      same = ap d.Uniform q.3;
+      like = z.2;
+    }
 
 declarations_front : (xs : List Declaration) (us ts : List Token) → Like ts (declarations_tokens xs ++ us) → MovedDeclarations xs us ts
 declarations_front [] us ts same = record { there = []; rest = ts; has = refl; same = refl; like = same }
 declarations_front (x ∷ xs) us ts same =
     let one = declaration_front x (declarations_tokens xs
-        ++ us) ts (like_as (append_assoc (declaration_tokens x) (declarations_tokens xs) us) same) in
+    ++ us) ts (like_as (append_assoc (declaration_tokens x) (declarations_tokens xs) us) same) in
     let more = declarations_front xs us one.rest one.like in
     record {
       there = one.there ∷ more.there;
@@ -413,16 +423,16 @@ program_moves b n p h ts same =
     let w = block_front (IsBlock b n) p.body _ g.0 (block_moves b n p.body h) g.2 in
     let z = ends mark.End w.rest w.like in
     let word : q.0 ≡ record { text = rule_word p.rule; location = q.0.location } =
-        ap (λ y. let v : Name = record { text = y.text; location = q.0.location } in v) q.3 in
+    ap (λ y. let v : Name = record { text = y.text; location = q.0.location } in v) q.3 in
     record {
       there = tree_of p.rule q.0.location m.0 ds.there w.there;
       block = w.fits;
       has = sym (a.1 ∙ ap (λ t. token.Mark mark.Rule ∷ t) (q.2 ∙ ap (λ y. token.Name y ∷ q.1) word
           ∙ ap (λ t. token.Name (record { text = rule_word p.rule; location = q.0.location }) ∷ t)
           (c.1 ∙ ap (λ t. token.Mark mark.Semicolon ∷ t) (r.1
-              ∙ ap (λ t. token.Mark mark.Procs ∷ t) (m.2 ∙ ap (λ t. token.Number m.0 ∷ t) (o.1 ∙ ap (λ t. token.Mark mark.Semicolon ∷ t)
+          ∙ ap (λ t. token.Mark mark.Procs ∷ t) (m.2 ∙ ap (λ t. token.Number m.0 ∷ t) (o.1 ∙ ap (λ t. token.Mark mark.Semicolon ∷ t)
           (ds.has ∙ ap (λ t. declarations_tokens ds.there ++ t) (g.1
-              ∙ ap (λ t. token.Mark mark.Begin ∷ t) (w.has ∙ ap (λ t. block_tokens w.there ++ t) z)))))))));
+          ∙ ap (λ t. token.Mark mark.Begin ∷ t) (w.has ∙ ap (λ t. block_tokens w.there ++ t) z)))))))));
       same = ap (λ y. tree_of p.rule start y (map bare_declaration ds.there) (map bare_statement w.there)) m.3
           ∙ ap (λ y. tree_of p.rule start (bare_number p.procs) y (map bare_statement w.there)) ds.same
           ∙ ap (tree_of p.rule start (bare_number p.procs) (map bare_declaration p.declarations)) w.same;

@@ -11,8 +11,8 @@ ghost use Rattle.pram_printer.specs.Spelling.{spelled, spelling};
 
 use crate::printer::Printer;
 use crate::spell::rule_text;
-use pram_tokens::token::{Binary, Mark, Name, Opening, Token};
 use pram_syntax::tree::{Declaration, Expr, Stmt, Tree};
+use pram_tokens::token::{Binary, Mark, Name, Opening, Token};
 use text_out::writer::{Out, WriteFault};
 
 impl<'a, W: Out> Printer<'a, W> {

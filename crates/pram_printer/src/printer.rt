@@ -6,9 +6,9 @@ ghost use Rattle.text_out.specs.Printing.{MayFail, Prints, printing};
 ghost use Rattle.pram_printer.specs.Spelling.{opening_text, spelled};
 
 use crate::spell::{binary_text, mark_end, mark_text, opening_text};
-use pram_tokens::token::{Binary, Mark, Name, Numeral, Opening, Token};
-use pram_syntax::tree::Prefix;
 use itoa::Buffer;
+use pram_syntax::tree::Prefix;
+use pram_tokens::token::{Binary, Mark, Name, Numeral, Opening, Token};
 use text_out::writer::Out;
 
 /// Prints until its writer fails, and then nothing more.

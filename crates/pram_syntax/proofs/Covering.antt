@@ -69,17 +69,31 @@ Covered TooDeep ts = ⊥
 -- an inner expression and the mark behind it
 pub inside : (m : Mark) (d : ℕ) (k : Stack) (ts : List Token) → Covers (Operand level.Expression d ∷ (Want m ∷ k)) ts →
     (i : Expr) × (b : List Token) × Fits d level.Expression i × (ts ≡ (tokens i ++ token.Mark m ∷ []) ++ b) × Covers k b
-inside m d k ts (a, b, whole, (i, h, is), (c, r, tail, closes, rest)) =
-    (i, r, h, whole ∙ ap (λ l. l ++ b) is ∙ ap (λ l. tokens i ++ l) (tail ∙ ap (λ l. l ++ r) closes)
-        ∙ sym (append_assoc (tokens i) (token.Mark m ∷ []) r), rest)
+inside m d k ts (a, b, whole, (i, h, is), (c, r, tail, closes, rest)) = (
+  i,
+  r,
+  h,
+  whole ∙ ap (λ l. l ++ b) is ∙ ap (λ l. tokens i ++ l) (tail ∙ ap (λ l. l ++ r) closes)
+      ∙ sym (append_assoc (tokens i) (token.Mark m ∷ []) r),
+  rest,
+)
 
 atom_back : (d : ℕ) (t : Token) (k : Stack) (ts : List Token) → Covered (enter_atom d t k) ts → Covers (Operand level.Atom d ∷ k) (t ∷ ts)
 atom_back d (token.Number n) k ts h = (token.Number n ∷ [], ts, refl, (e.Number n, number n, sym (tokens-Number n)), h)
 atom_back d (token.Name x) k ts (a, b, whole, inl none, h) =
     (token.Name x ∷ [], ts, refl, (e.Name x, name x, sym (tokens-Name x)), subst (Covers k) (sym (whole ∙ ap (λ l. l ++ b) none)) h)
-atom_back d (token.Name x) k ts (a, b, whole, inr (i, hi, is), h) =
-    (token.Name x ∷ a, b, ap (λ l. token.Name x ∷ l) whole, (e.Element x i, element x i hi, ap (λ l. token.Name x ∷ l) is
-        ∙ sym (tokens-Element x i)), h)
+atom_back d (token.Name x) k ts (a, b, whole, inr (i, hi, is), h) = (
+  token.Name x ∷ a,
+  b,
+  ap (λ l. token.Name x ∷ l) whole,
+  (
+    e.Element x i,
+    element x i hi,
+    ap (λ l. token.Name x ∷ l) is
+        ∙ sym (tokens-Element x i),
+  ),
+  h,
+)
 atom_back zero (token.Mark mark.OpenParen) k ts h = absurd h
 atom_back (suc d) (token.Mark mark.OpenParen) k ts h =
     let w = inside mark.CloseParen d k ts h in (
@@ -110,7 +124,7 @@ unary_back d t k ts h = loosen level.Atom level.Unary d k (t ∷ ts) (λ x a. at
 -- an operand and the operators behind it are a chain
 merge : (l : Level) (d : ℕ) (k : Stack) (ts : List Token) →
     ((first : Expr) (rest : List (Binary × Expr)) → Fits d (tighter l) first → AreSteps l (Fits d (tighter l)) rest → HasRoom l rest →
-        Fits d l (chain first rest)) →
+    Fits d l (chain first rest)) →
     Covers (Operand (tighter l) d ∷ (Rest l d ∷ k)) ts → Covers (Operand l d ∷ k) ts
 merge l d k ts fits (a, b, whole, (f, hf, is), (c, r, tail, (rest, steps, room, are), more)) = (
   tokens f ++ step_tokens rest,
@@ -134,9 +148,18 @@ comparison_back d t k ts h = merge level.Comparison d k (t ∷ ts) (λ f r hf hr
 negation_back : (d : ℕ) (t : Token) (k : Stack) (ts : List Token) → Covered (enter_negation d t k) ts →
     Covers (Operand level.Negation d ∷ k) (t ∷ ts)
 negation_back zero token.Not k ts h = absurd h
-negation_back (suc d) token.Not k ts (a, b, whole, (i, h, is), rest) =
-    (token.Not ∷ a, b, ap (λ l. token.Not ∷ l) whole, (e.Prefix prefix.Not i, not i h, ap (λ l. token.Not ∷ l) is
-        ∙ sym (tokens-Prefix prefix.Not i)), rest)
+negation_back (suc d) token.Not k ts (a, b, whole, (i, h, is), rest) = (
+  token.Not ∷ a,
+  b,
+  ap (λ l. token.Not ∷ l) whole,
+  (
+    e.Prefix prefix.Not i,
+    not i h,
+    ap (λ l. token.Not ∷ l) is
+        ∙ sym (tokens-Prefix prefix.Not i),
+  ),
+  rest,
+)
 negation_back d t k ts h = loosen level.Comparison level.Negation d k (t ∷ ts) (λ x c. comparison c) (comparison_back d t k ts h)
 
 conjunction_back : (d : ℕ) (t : Token) (k : Stack) (ts : List Token) → Covered (enter_conjunction d t k) ts →
@@ -190,9 +213,13 @@ pub subscript_back : (d : ℕ) (t : Token) (k : Stack) (other : Move) (ts : List
     Covered (at_subscript d t k other) ts → Covers (Subscript d ∷ k) (t ∷ ts)
 subscript_back zero (token.Mark mark.OpenBracket) k other ts pop h = absurd h
 subscript_back (suc d) (token.Mark mark.OpenBracket) k other ts pop h =
-    let w = inside mark.CloseBracket d k ts h in
-    (token.Mark mark.OpenBracket ∷ (tokens w.0 ++ token.Mark mark.CloseBracket ∷ []), w.1, ap (λ l. token.Mark mark.OpenBracket ∷ l) w.3,
-        inr (w.0, w.2, refl), w.4)
+    let w = inside mark.CloseBracket d k ts h in (
+      token.Mark mark.OpenBracket ∷ (tokens w.0 ++ token.Mark mark.CloseBracket ∷ []),
+      w.1,
+      ap (λ l. token.Mark mark.OpenBracket ∷ l) w.3,
+      inr (w.0, w.2, refl),
+      w.4,
+    )
 subscript_back d t k other ts pop h = ([], t ∷ ts, refl, inl refl, pop h)
 
 pub rest_back : (l : Level) (d : ℕ) (t : Token) (k : Stack) (other : Move) (ts : List Token) → (Covered other ts → Covers k (t ∷ ts)) →

@@ -14,7 +14,7 @@ declarations_tokens-push : (xs : List Declaration) (y : Declaration) (ts : List 
 declarations_tokens-push [] y ts = append_assoc (declaration_tokens y) [] ts
 declarations_tokens-push (x ∷ rest) y ts =
     append_assoc (declaration_tokens x) (declarations_tokens (rest ++ y ∷ [])) ts
-        ∙ ap (λ l. declaration_tokens x ++ l) (declarations_tokens-push rest y ts)
+    ∙ ap (λ l. declaration_tokens x ++ l) (declarations_tokens-push rest y ts)
     ∙ sym (append_assoc (declaration_tokens x) (declarations_tokens rest) (declaration_tokens y ++ ts))
 
 pub declared_more : (xs : List Declaration) (y : Declaration) (ts mid after : List Token) → ts ≡ declarations_tokens xs ++ mid →

@@ -31,7 +31,7 @@ abbrev word_rule : List ℕ → Rule
 word_rule w =
     if same_text (rule_word rule.Erew) w then rule.Erew else (if same_text (rule_word rule.Crew) w then rule.Crew
     else (if same_text (rule_word rule.Common) w then rule.Common else (if same_text (rule_word rule.Priority) w then rule.Priority else
-        rule.Sum)))
+    rule.Sum)))
 
 word_rule_is : (r : Rule) → word_rule (rule_word r) ≡ r
 word_rule_is rule.Erew = refl

@@ -98,8 +98,11 @@ shortest (Operand l d) = (tokens nought, (nought, nought_at (Further d) l, refl)
 shortest (Rest l d) = ([], ([], tt, no_steps l, refl), tt)
 shortest (Subscript d) = ([], inl refl, tt)
 shortest (Want m) = (token.Mark m ∷ [], refl, (tt, tt))
-shortest WantRule = (rule_token rule.Erew nowhere ∷ [], (rule.Erew, nowhere, refl),
-    (record { letter = refl; words = refl; no_keyword = refl }, tt))
+shortest WantRule = (
+  rule_token rule.Erew nowhere ∷ [],
+  (rule.Erew, nowhere, refl),
+  (record { letter = refl; words = refl; no_keyword = refl }, tt),
+)
 shortest WantName = (token.Name some_name ∷ [], (some_name, refl), (is_name, tt))
 shortest WantNumber = (token.Number no_numeral ∷ [], (no_numeral, refl), (is_number, tt))
 shortest WantAtMost = (token.Binary op.AtMost ∷ [], refl, (tt, tt))
@@ -130,8 +133,11 @@ ending [] = record { end = []; covers = refl; real = tt }
 ending (s ∷ k) =
     let front = shortest s in
     let back = ending k in
-    record { end = front.0 ++ back.end; covers = (front.0, back.end, refl, front.1, back.covers);
-        real = append_real front.0 back.end front.2 back.real }
+    record {
+      end = front.0 ++ back.end;
+      covers = (front.0, back.end, refl, front.1, back.covers);
+      real = append_real front.0 back.end front.2 back.real;
+    }
 
 -- A list of tokens that is refused has a front that can be gone on with, and then the refused token.
 pub record Viable (k : Stack) (ts : List Token) (left : ℕ) : Type 0 where
@@ -144,8 +150,16 @@ pub record Viable (k : Stack) (ts : List Token) (left : ℕ) : Type 0 where
   pub goes_on : Covers k (front ++ more)
 
 abbrev here : (k : Stack) (ts : List Token) → Viable k ts (length ts)
-here k ts = record { front = []; back = ts; whole = refl; is_left = refl; more = (ending k).end; real = (ending k).real; goes_on =
-    (ending k).covers }
+here k ts = record {
+  front = [];
+  back = ts;
+  whole = refl;
+  is_left = refl;
+  more = (ending k).end;
+  real = (ending k).real;
+  goes_on =
+      (ending k).covers;
+}
 
 abbrev pub RefusedAt : Verdict → ℕ → Type 0
 RefusedAt Accepted n = ⊥
@@ -164,7 +178,14 @@ viable (t ∷ ts) k n h = by (step k t) (step_back k t) (λ j. viable ts j n) h
         RefusedAt (on_move m (verdict ts) (length (t ∷ ts))) n → Viable k (t ∷ ts) n
     by (Next j) back inner h =
         let v = inner j h in
-        record { front = t ∷ v.front; back = v.back; whole = ap (λ l. t ∷ l) v.whole; is_left = v.is_left; more = v.more; real = v.real;
-            goes_on = back (v.front ++ v.more) v.goes_on }
+        record {
+          front = t ∷ v.front;
+          back = v.back;
+          whole = ap (λ l. t ∷ l) v.whole;
+          is_left = v.is_left;
+          more = v.more;
+          real = v.real;
+          goes_on = back (v.front ++ v.more) v.goes_on;
+        }
     by Refused back inner is = subst (Viable k (t ∷ ts)) is (here k (t ∷ ts))
     by TooDeep back inner is = subst (Viable k (t ∷ ts)) is (here k (t ∷ ts))

@@ -41,9 +41,11 @@ pub found_paren : (d : ℕ) (m : Mark) (t : Token) (x y : Expr) (ts mid rest : L
     FoundInside mark.CloseParen d mid x rest → y ≡ x → Found level.Atom d ts (e.Paren y) rest
 found_paren d m t x y ts mid rest whole is opens h box =
     let front : t ≡ token.Mark mark.OpenParen = is ∙ ap token.Mark (sym (code_is mark.OpenParen m opens)) in
-    subst (λ z. Found level.Atom d ts (e.Paren z) rest) (sym box)
-    (paren x h.0, whole ∙ ap (λ v. v ∷ mid) front ∙ ap (λ v. token.Mark mark.OpenParen ∷ v) h.1
-        ∙ sym (ap (λ v. v ++ rest) (tokens-Paren x)))
+    subst (λ z. Found level.Atom d ts (e.Paren z) rest) (sym box) (
+      paren x h.0,
+      whole ∙ ap (λ v. v ∷ mid) front ∙ ap (λ v. token.Mark mark.OpenParen ∷ v) h.1
+          ∙ sym (ap (λ v. v ++ rest) (tokens-Paren x)),
+    )
 
 pub found_name : (d : ℕ) (x y : Name) (ts : List Token) → y ≡ x → FoundNamed x d ts (e.Name y) ts
 found_name d x y ts same = subst (λ z. FoundNamed x d ts (e.Name z) ts) (sym same) (name x, sym (ap (λ v. v ++ ts) (tokens-Name x)))
@@ -52,9 +54,11 @@ pub found_element : (d : ℕ) (x y : Name) (i j : Expr) (ts mid rest : List Toke
     FoundInside mark.CloseBracket d mid i rest → y ≡ x → j ≡ i → FoundNamed x d ts (e.Element y j) rest
 found_element d x y i j ts mid rest whole h same box =
     subst (λ z. FoundNamed x d ts (e.Element z j) rest) (sym same)
-    (subst (λ z. FoundNamed x d ts (e.Element x z) rest) (sym box)
-    (element x i h.0, ap (λ v. token.Name x ∷ v) (whole ∙ ap (λ v. token.Mark mark.OpenBracket ∷ v) h.1)
-        ∙ sym (ap (λ v. v ++ rest) (tokens-Element x i))))
+    (subst (λ z. FoundNamed x d ts (e.Element x z) rest) (sym box) (
+      element x i h.0,
+      ap (λ v. token.Name x ∷ v) (whole ∙ ap (λ v. token.Mark mark.OpenBracket ∷ v) h.1)
+          ∙ sym (ap (λ v. v ++ rest) (tokens-Element x i)),
+    ))
 
 prefix_spelt : (p : Prefix) (x : Expr) (ts mid rest : List Token) → ts ≡ prefix_token p ∷ mid → mid ≡ tokens x ++ rest →
     ts ≡ tokens (e.Prefix p x) ++ rest
@@ -64,14 +68,18 @@ pub found_minus : (d : ℕ) (x y : Expr) (ts mid rest : List Token) → ts ≡ t
     FoundFurther level.Unary d mid x rest → y ≡ x →
     Found level.Unary d ts (e.Prefix prefix.Negate y) rest
 found_minus d x y ts mid rest whole h box =
-    subst (λ z. Found level.Unary d ts (e.Prefix prefix.Negate z) rest) (sym box) (minus x h.0,
-        prefix_spelt prefix.Negate x ts mid rest whole h.1)
+    subst (λ z. Found level.Unary d ts (e.Prefix prefix.Negate z) rest) (sym box) (
+      minus x h.0,
+      prefix_spelt prefix.Negate x ts mid rest whole h.1,
+    )
 
 pub found_not : (d : ℕ) (x y : Expr) (ts mid rest : List Token) → ts ≡ token.Not ∷ mid → FoundFurther level.Negation d mid x rest → y ≡ x →
     Found level.Negation d ts (e.Prefix prefix.Not y) rest
 found_not d x y ts mid rest whole h box =
-    subst (λ z. Found level.Negation d ts (e.Prefix prefix.Not z) rest) (sym box) (not x h.0,
-        prefix_spelt prefix.Not x ts mid rest whole h.1)
+    subst (λ z. Found level.Negation d ts (e.Prefix prefix.Not z) rest) (sym box) (
+      not x h.0,
+      prefix_spelt prefix.Not x ts mid rest whole h.1,
+    )
 
 pub found_further : (l : Level) (d : ℕ) (x : Expr) (ts rest : List Token) → d ≢ 0 → Found l (d - 1) ts x rest → FoundFurther l d ts x rest
 found_further l zero x ts rest some h = absurd (some refl)
@@ -96,14 +104,20 @@ lead_subscript d ts mid all k =
 pub lead_minus : (d : ℕ) (ts mid : List Token) → ts ≡ token.Binary op.Subtract ∷ mid → Leads (λ k. verdict ts (Operand level.Unary d ∷ k))
     (further level.Unary d (length ts) mid)
 unfolding enter
-lead_minus d ts mid all k = (k, ap (λ v. verdict v (Operand level.Unary d ∷ k)) all
-    ∙ sym (ap (λ v. further level.Unary d (length v) mid k) all))
+lead_minus d ts mid all k = (
+  k,
+  ap (λ v. verdict v (Operand level.Unary d ∷ k)) all
+      ∙ sym (ap (λ v. further level.Unary d (length v) mid k) all),
+)
 
 pub lead_not : (d : ℕ) (ts mid : List Token) → ts ≡ token.Not ∷ mid → Leads (λ k. verdict ts (Operand level.Negation d ∷ k))
     (further level.Negation d (length ts) mid)
 unfolding enter
-lead_not d ts mid all k = (k, ap (λ v. verdict v (Operand level.Negation d ∷ k)) all
-    ∙ sym (ap (λ v. further level.Negation d (length v) mid k) all))
+lead_not d ts mid all k = (
+  k,
+  ap (λ v. verdict v (Operand level.Negation d ∷ k)) all
+      ∙ sym (ap (λ v. further level.Negation d (length v) mid k) all),
+)
 
 pub lead_further : (l : Level) (d left : ℕ) (ts : List Token) → d ≢ 0 → (k : Stack) →
     further l d left ts k ≡ verdict ts (Operand l (d - 1) ∷ k)
@@ -177,7 +191,7 @@ spelt_more first rest o x ts mid inner after whole at behind =
     whole ∙ ap (λ v. (tokens first ++ step_tokens rest) ++ v) (at ∙ ap (λ v. token.Binary o ∷ v) behind)
     ∙ sym (append_assoc (tokens first ++ step_tokens rest) (token.Binary o ∷ tokens x) after)
     ∙ ap (λ v. v ++ after) (append_assoc (tokens first) (step_tokens rest) (token.Binary o ∷ tokens x)
-        ∙ ap (λ v. tokens first ++ v) (sym (step_tokens-push rest (o, x))))
+    ∙ ap (λ v. tokens first ++ v) (sym (step_tokens-push rest (o, x))))
 
 pub chain_fits : (l : Level) → IsChainLevel l → (d : ℕ) (first : Expr) (rest : List (Binary × Expr)) → Fits d (tighter l) first →
     AreSteps l (Fits d (tighter l)) rest → Fits d l (chain first rest)
@@ -192,14 +206,17 @@ chain_fits level.Atom h d first rest one more = absurd h
 
 pub found_chain : (l : Level) → IsChainLevel l → (d : ℕ) (first x : Expr) (rest : List (Binary × Expr)) (ts after : List Token) →
     Fits d (tighter l) first → AreSteps l (Fits d (tighter l)) rest → ts ≡ (tokens first ++ step_tokens rest) ++ after →
-        x ≡ chain first rest → Found l d ts x after
+    x ≡ chain first rest → Found l d ts x after
 found_chain l h d first x rest ts after one more whole is =
-    subst (λ z. Found l d ts z after) (sym is) (chain_fits l h d first rest one more, whole
-        ∙ ap (λ v. v ++ after) (sym (tokens-chain first rest)))
+    subst (λ z. Found l d ts z after) (sym is) (
+      chain_fits l h d first rest one more,
+      whole
+          ∙ ap (λ v. v ++ after) (sym (tokens-chain first rest)),
+    )
 
 pub found_compared : (d : ℕ) (o : Binary) (first second x : Expr) (steps : List (Binary × Expr)) (ts mid inner after : List Token) →
     Found level.Sum d ts first mid → IsOperatorAt level.Comparison mid o inner → Found level.Sum d inner second after → x ≡ first →
-        steps ≡ (o, second) ∷ [] →
+    steps ≡ (o, second) ∷ [] →
     Found level.Comparison d ts (e.Chain x steps) after
 found_compared d o first second x steps ts mid inner after one at two box pushed =
     subst (λ z. Found level.Comparison d ts (e.Chain z steps) after) (sym box)

@@ -57,7 +57,7 @@ module _ (l : Level) (P Q : Expr → Type 0)
       let behind : (tokens a.1 ++ step_tokens r) ++ xs ≡ (tokens b.1 ++ step_tokens s) ++ ys = cc in
       let regrouped = sym (append_assoc (tokens a.1) (step_tokens r) xs) ∙ behind ∙ append_assoc (tokens b.1) (step_tokens s) ys in
       let one = operands a.1 b.1 hr.1 hs.1 (step_tokens r ++ xs) (step_tokens s ++ ys) (steps_stop P r xs hr.2 p) (steps_stop Q s ys hs.2 q)
-          regrouped in
+      regrouped in
       let more = same_steps r s hr.2 hs.2 xs ys p q one.1 in
       let step : a ≡ b = ap (λ o. let z : Binary × Expr = (o, a.1) in z) operator ∙ ap (λ x. let z : Binary × Expr = (b.0, x) in z) one.0 in
       (ap (λ z. z ∷ r) step ∙ ap (λ z. b ∷ z) more.0, more.1)
@@ -67,7 +67,7 @@ module _ (l : Level) (P Q : Expr → Type 0)
       let whole = fronts xs ys (tokens-chain f r) (tokens-chain g s) same in
       let regrouped = sym (append_assoc (tokens f) (step_tokens r) xs) ∙ whole ∙ append_assoc (tokens g) (step_tokens s) ys in
       let one = operands f g hf hg (step_tokens r ++ xs) (step_tokens s ++ ys) (steps_stop P r xs hr p) (steps_stop Q s ys hs q)
-          regrouped in
+      regrouped in
       let more = same_steps r s hr hs xs ys p q one.1 in
       (ap (λ z. chain z r) one.0 ∙ ap (chain g) more.0, more.1)
 

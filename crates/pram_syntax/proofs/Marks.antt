@@ -14,7 +14,7 @@ use Rattle.pram_syntax.specs.Symbols.{code, is_mark}
 abbrev marks : List Mark
 marks =
     mark.OpenParen ∷ mark.CloseParen ∷ mark.OpenBracket ∷ mark.CloseBracket ∷ mark.Becomes ∷ mark.Semicolon ∷ mark.Range ∷ mark.Rule
-        ∷ mark.Procs
+    ∷ mark.Procs
     ∷ mark.Shared ∷ mark.Var ∷ mark.Begin ∷ mark.Do ∷ mark.End ∷ mark.Then ∷ mark.Else ∷ mark.To ∷ mark.Pardo ∷ mark.Local ∷ []
 
 mark_of_code : (m : Mark) → get_or marks (code m) mark.Local ≡ m
@@ -52,7 +52,7 @@ pub rule_of_word : (text : List ℕ) → is_one_of rule_words text ≡ true → 
 rule_of_word text =
     pick rule.Erew (crew ∷ common ∷ priority ∷ plus ∷ []) text (pick rule.Crew (common ∷ priority ∷ plus ∷ []) text
     (pick rule.Common (priority ∷ plus
-        ∷ []) text (pick rule.Priority (plus ∷ []) text (pick rule.Sum [] text (λ never. absurd (true≢false (sym never)))))))
+    ∷ []) text (pick rule.Priority (plus ∷ []) text (pick rule.Sum [] text (λ never. absurd (true≢false (sym never)))))))
   where
     crew : List ℕ
     crew = rule_word rule.Crew

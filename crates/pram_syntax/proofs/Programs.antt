@@ -40,7 +40,7 @@ body_tokens body = block_tokens body ++ token.Mark mark.End ∷ []
 abbrev behind_rule : (b d : ℕ) → Stack
 behind_rule b d =
     Want mark.Semicolon ∷ (Want mark.Procs
-        ∷ (WantNumber ∷ (Want mark.Semicolon ∷ (Declarations ∷ (Want mark.Begin ∷ statements_and_end b d)))))
+    ∷ (WantNumber ∷ (Want mark.Semicolon ∷ (Declarations ∷ (Want mark.Begin ∷ statements_and_end b d)))))
 
 -- the tokens behind the rule
 abbrev behind_word : ProgramTree → List Token
@@ -58,15 +58,25 @@ pub accepted : (b d : ℕ) (ts : List Token) → IsProgram b d ts → verdict ts
 accepted b d ts (p, h, is) = ap (λ l. verdict l (start b d)) is ∙ accepted_tree b d p h.is_block
 
 is_program : (b d : ℕ) (ts : List Token) → AreReal ts → Covers (start b d) ts → IsProgram b d ts
-is_program b d ts real
-    (a1, r1, w1, e1, (a2, r2, w2, (r, at, e2),
-        (a3, r3, w3, e3, (a4, r4, w4, e4, (a5, r5, w5, (n, e5), (a6, r6, w6, e6, (a7, r7, w7, (xs, e7), (a8, r8, w8, e8, more)))))))) =
+is_program b d ts real (
+  a1,
+  r1,
+  w1,
+  e1,
+  (
+    a2,
+    r2,
+    w2,
+    (r, at, e2),
+    (a3, r3, w3, e3, (a4, r4, w4, e4, (a5, r5, w5, (n, e5), (a6, r6, w6, e6, (a7, r7, w7, (xs, e7), (a8, r8, w8, e8, more)))))),
+  ),
+) =
     let w = body_back mark.End b d [] r8 more in
     let p : ProgramTree = record { rule = r; rule_location = at; procs = n; declarations = xs; body = w.0 } in
     let e : r8 ≡ body_tokens w.0 = w.3 ∙ ap (λ l. block_tokens w.0 ++ (token.Mark mark.End ∷ l)) w.4 in
     let whole : ts ≡ program_tokens p =
     w1 ∙ ap (λ l. l ++ r1) e1 ∙ ap (λ l. token.Mark mark.Rule ∷ l) (w2 ∙ ap (λ l. l ++ r2) e2
-        ∙ ap (λ l. rule_token r at ∷ l) (w3 ∙ ap (λ l. l ++ r3) e3
+    ∙ ap (λ l. rule_token r at ∷ l) (w3 ∙ ap (λ l. l ++ r3) e3
     ∙ ap (λ l. token.Mark mark.Semicolon ∷ l) (w4 ∙ ap (λ l. l ++ r4) e4 ∙ ap (λ l. token.Mark mark.Procs ∷ l) (w5 ∙ ap (λ l. l ++ r5) e5
     ∙ ap (λ l. token.Number n ∷ l) (w6 ∙ ap (λ l. l ++ r6) e6 ∙ ap (λ l. token.Mark mark.Semicolon ∷ l) (w7 ∙ ap (λ l. l ++ r7) e7
     ∙ ap (λ l. declarations_tokens xs ++ l) (w8 ∙ ap (λ l. l ++ r8) e8 ∙ ap (λ l. token.Mark mark.Begin ∷ l) e))))))) in
@@ -77,9 +87,17 @@ wide : (b d : ℕ) (ts : List Token) → IsProgram b d ts → (c : ℕ) × IsPro
 wide b d ts (p, h, is) =
     let up = more_levels (b + limit) (d + limit + b) d p.body (more_blocks (d + limit) b d p.body h.is_block) in
     let e : d + limit + b ≡ b + d + limit = omega arith in
-    let f : b + limit + d ≡ b + d + limit = omega arith in
-    (b + d, (p, record { is_block = subst (λ n. IsBlock n (b + d + limit) p.body) e (subst (λ n. IsBlock (d + limit + b) n p.body) f up);
-        are_real = h.are_real }, is))
+    let f : b + limit + d ≡ b + d + limit = omega arith in (
+      b + d,
+      (
+        p,
+        record {
+          is_block = subst (λ n. IsBlock n (b + d + limit) p.body) e (subst (λ n. IsBlock (d + limit + b) n p.body) f up);
+          are_real = h.are_real;
+        },
+        is,
+      ),
+    )
 
 syntax_above : (c : ℕ) (ts : List Token) (n : ℕ) → verdict ts (start limit limit) ≡ SyntaxAt n →
     verdict ts (start (c + limit) (c + limit)) ≡ SyntaxAt n
@@ -111,7 +129,7 @@ syntax_fault ts n real h =
     by front [] whole left = λ b d p.
         let w = wide b d front p in
         let e = accepted (w.0 + limit) (w.0 + limit) ts (subst (IsProgram (w.0 + limit) (w.0 + limit)) (sym (append-nil front)
-            ∙ sym whole) w.1) in
+        ∙ sym whole) w.1) in
         absurd (refused_only _ n e (subst (λ v. RefusedAt v n) (sym (syntax_above w.0 ts n h)) refl))
     by front (t ∷ back) whole left = λ b d p.
         let w = wide b d ((front ++ t ∷ []) ++ p.0) p.1 in
@@ -119,7 +137,7 @@ syntax_fault ts n real h =
         let e = accepted (w.0 + limit) (w.0 + limit) (front ++ (t ∷ p.0)) (subst (IsProgram (w.0 + limit) (w.0 + limit)) grouped w.1) in
         let refused = subst (λ l. verdict l (start (w.0 + limit) (w.0 + limit)) ≡ SyntaxAt n) whole (syntax_above w.0 ts n h) in
         let at = stuck front t back p.0 (start (w.0 + limit) (w.0 + limit))
-            (subst (λ v. RefusedAt v (length (t ∷ back))) (sym refused) (sym left)) in
+        (subst (λ v. RefusedAt v (length (t ∷ back))) (sym refused) (sym left)) in
         refused_only _ _ e at
 
 pub depth_fault : (ts : List Token) (n : ℕ) → AreReal ts → verdict ts (start limit limit) ≡ TooDeepAt n → IsDepthFault ts n
@@ -129,19 +147,22 @@ depth_fault ts n real h =
     let refused = subst (λ l. verdict l (start limit limit) ≡ TooDeepAt n) o.whole h in
     let opener_whole : ts ≡ (o.front ++ one) ++ o.back = o.whole ∙ sym (append_assoc o.front one o.back) in
     let more_real = subst AreReal (append_assoc o.front one o.more) (real_with ts (o.front ++ one) o.back o.more opener_whole real
-        o.more_real) in
+    o.more_real) in
     record {
       front = o.front;
       opener = o.opener;
       back = o.back;
       whole = o.whole;
       is_left = o.is_left;
-      begins = (o.less, is_program limit limit (o.front
-          ++ o.less) (real_with ts o.front (o.opener ∷ o.back) o.less o.whole real o.less_real) o.shallow);
+      begins = (
+        o.less,
+        is_program limit limit (o.front
+            ++ o.less) (real_with ts o.front (o.opener ∷ o.back) o.less o.whole real o.less_real) o.shallow,
+      );
       within = λ p. refused_only _ _
           (accepted limit limit (o.front ++ (o.opener ∷ p.0)) (subst (IsProgram limit limit) (append_assoc o.front one p.0) p.1))
           (stuck o.front o.opener o.back p.0 (start limit limit) (subst (λ v. RefusedAt v (length (o.opener ∷ o.back))) (sym refused)
-              (sym o.is_left)));
+          (sym o.is_left)));
       deeper = (
         suc limit,
         suc limit,
@@ -206,12 +227,12 @@ none_refused rest ts (error.TooDeep n) follows p h is = no_verdict ts n p h is (
 
 pub only : (ts rest : List Token) (p other : ProgramTree) → nat_eq (length rest) 0 ≡ true → IsBlock limit limit p.body →
     ts ≡ header_tokens p.rule p.rule_location p.procs (declarations_tokens p.declarations
-        ++ (token.Mark mark.Begin ∷ (block_tokens p.body ++ (token.Mark mark.End ∷ rest)))) →
+    ++ (token.Mark mark.Begin ∷ (block_tokens p.body ++ (token.Mark mark.End ∷ rest)))) →
     IsTree limit limit other → ts ≡ program_tokens other → p ≡ other
 only ts rest p other none within found h is =
     same_tree limit limit limit limit p other within h.is_block
     (ap (λ l. header_tokens p.rule p.rule_location p.procs (declarations_tokens p.declarations
-        ++ (token.Mark mark.Begin ∷ (block_tokens p.body ++ (token.Mark mark.End ∷ l)))))
+    ++ (token.Mark mark.Begin ∷ (block_tokens p.body ++ (token.Mark mark.End ∷ l)))))
     (sym (empty rest none)) ∙ sym found ∙ is)
   where
     empty : (l : List Token) → nat_eq (length l) 0 ≡ true → l ≡ []

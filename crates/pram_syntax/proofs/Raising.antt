@@ -171,7 +171,7 @@ raise_step (WantNumber ∷ k) (token.Number n) = refl
 raise_step (WantNumber ∷ k) t = refl
 raise_step (Declarations ∷ k) t =
     raise_mark mark.Shared t (WantName ∷ (AfterShared ∷ (Declarations ∷ k))) (at_mark mark.Var t (WantName
-        ∷ (Want mark.Semicolon ∷ (Declarations ∷ k))) (step k t))
+    ∷ (Want mark.Semicolon ∷ (Declarations ∷ k))) (step k t))
     (at_mark mark.Var t (raise (WantName ∷ (Want mark.Semicolon ∷ (Declarations ∷ k)))) (step (raise k) t))
     (raise_mark mark.Var t (WantName ∷ (Want mark.Semicolon ∷ (Declarations ∷ k))) (step k t) (step (raise k) t) (raise_step k t))
 raise_step (AfterShared ∷ k) t =
@@ -184,13 +184,13 @@ raise_step (Statements b d ∷ k) (token.Opening opening.Print at) = refl
 raise_step (Statements b d ∷ k) (token.Opening opening.While at) =
     raise_deeper b (λ i. Operand level.Expression d ∷ (Want mark.Do ∷ (Statements i d ∷ (Want mark.End ∷ (Statements b d ∷ k)))))
     (λ i. Operand level.Expression (suc d)
-        ∷ (Want mark.Do ∷ (Statements i (suc d) ∷ (Want mark.End ∷ (Statements (suc b) (suc d) ∷ raise k))))) (λ i. refl)
+    ∷ (Want mark.Do ∷ (Statements i (suc d) ∷ (Want mark.End ∷ (Statements (suc b) (suc d) ∷ raise k))))) (λ i. refl)
 raise_step (Statements b d ∷ k) (token.Opening opening.If at) =
     raise_deeper b (λ i. Operand level.Expression d
-        ∷ (Want mark.Then ∷ (Statements i d ∷ (Else i d ∷ (Want mark.End ∷ (Statements b d ∷ k))))))
+    ∷ (Want mark.Then ∷ (Statements i d ∷ (Else i d ∷ (Want mark.End ∷ (Statements b d ∷ k))))))
     (λ i. Operand level.Expression (suc d)
-        ∷ (Want mark.Then ∷ (Statements i (suc d) ∷ (Else i (suc d) ∷ (Want mark.End ∷ (Statements (suc b) (suc d) ∷ raise k))))))
-        (λ i. refl)
+    ∷ (Want mark.Then ∷ (Statements i (suc d) ∷ (Else i (suc d) ∷ (Want mark.End ∷ (Statements (suc b) (suc d) ∷ raise k))))))
+    (λ i. refl)
 raise_step (Statements b d ∷ k) (token.Opening opening.For at) =
     raise_deeper b (λ i. ForHead i d ∷ (Statements b d ∷ k)) (λ i. ForHead i (suc d) ∷ (Statements (suc b) (suc d) ∷ raise k)) (λ i. refl)
 raise_step (Statements b d ∷ k) t = raise_step k t
@@ -210,7 +210,7 @@ raise_step (ForName b d ∷ k) t =
     (raise_subscript d t (Rest level.Term d ∷ (Rest level.Sum d ∷ bounds)) terms terms_above
     (raise_rest level.Term d t (Rest level.Sum d ∷ bounds) sums sums_above
     (raise_rest level.Sum d t bounds (at_at_most t (range b d k) Refused) (at_at_most t (raise (range b d k)) Refused)
-        (raise_at_most t (range b d k)))))
+    (raise_at_most t (range b d k)))))
 raise_step (Else b d ∷ k) t = raise_mark mark.Else t (Statements b d ∷ k) (step k t) (step (raise k) t) (raise_step k t)
 raise_step (Locals ∷ k) t = raise_mark mark.Local t (WantName ∷ (Want mark.Semicolon ∷ (Locals ∷ k))) (step k t) (step (raise k) t)
     (raise_step k t)

@@ -44,19 +44,19 @@ declarations_back t k other ts pop h = by (is_mark mark.Shared t) refl h
 
     by : (c : Bool) → is_mark mark.Shared t ≡ c →
         Covered (if c then Next (WantName ∷ (AfterShared ∷ (Declarations ∷ k))) else at_mark mark.Var t (WantName
-            ∷ (Want mark.Semicolon ∷ (Declarations ∷ k))) other) ts →
+        ∷ (Want mark.Semicolon ∷ (Declarations ∷ k))) other) ts →
         Covers (Declarations ∷ k) (t ∷ ts)
     by true found (a, r, whole, (x, named), (b, q, whole_b, f, rest)) =
         more_declarations k (f x).0 (t ∷ ts) q
         (ap (λ v. v ∷ ts) (mark_is mark.Shared t found) ∙ ap (λ l. token.Mark mark.Shared ∷ l) (whole ∙ ap (λ l. l ++ r) named
-            ∙ ap (λ l. token.Name x ∷ l) whole_b)
+        ∙ ap (λ l. token.Name x ∷ l) whole_b)
         ∙ ap (λ l. l ++ q) (f x).1) rest
     by false never h = uniform (is_mark mark.Var t) refl h
 
 -- the bounds of an array, and what closes them
 bounds_back : (k : Stack) (ts : List Token) → Covers (bounds k) ts → (low high : Numeral) × (r : List Token)
     × (ts ≡ token.Number low ∷ (token.Mark mark.Range
-        ∷ (token.Number high ∷ (token.Mark mark.CloseBracket ∷ (token.Mark mark.Semicolon ∷ r))))) × Covers k r
+    ∷ (token.Number high ∷ (token.Mark mark.CloseBracket ∷ (token.Mark mark.Semicolon ∷ r))))) × Covers k r
 bounds_back k ts (a, r, whole, (low, e), (a1, r1, w1, e1, (a2, r2, w2, (high, e2), (a3, r3, w3, e3, (a4, r4, w4, e4, rest))))) = (
   low,
   high,
@@ -89,9 +89,16 @@ after_shared_back t k ts h = by (is_mark mark.Semicolon t) refl h
 
     by : (c : Bool) → is_mark mark.Semicolon t ≡ c → Covered (if c then Next k else at_mark mark.OpenBracket t (bounds k) Refused) ts →
         Covers (AfterShared ∷ k) (t ∷ ts)
-    by true found h =
-        (t ∷ [], ts, refl, (λ x. (declaration.Cell x,
-            ap (λ v. token.Mark mark.Shared ∷ (token.Name x ∷ (v ∷ []))) (mark_is mark.Semicolon t found))), h)
+    by true found h = (
+      t ∷ [],
+      ts,
+      refl,
+      (λ x. (
+        declaration.Cell x,
+        ap (λ v. token.Mark mark.Shared ∷ (token.Name x ∷ (v ∷ []))) (mark_is mark.Semicolon t found),
+      )),
+      h,
+    )
     by false never h = array (is_mark mark.OpenBracket t) refl h
 
 rule_back : (t : Token) (k : Stack) (ts : List Token) → Covered (step (WantRule ∷ k) t) ts → Covers (WantRule ∷ k) (t ∷ ts)
@@ -110,9 +117,18 @@ else_back : (b d : ℕ) (t : Token) (k : Stack) (other : Move) (ts : List Token)
 else_back b d t k other ts pop h = by (is_mark mark.Else t) refl h
   where
     by : (c : Bool) → is_mark mark.Else t ≡ c → Covered (if c then Next (Statements b d ∷ k) else other) ts → Covers (Else b d ∷ k) (t ∷ ts)
-    by true found (a, r, whole, (body, hb, is), rest) =
-        (t ∷ a, r, ap (λ l. t ∷ l) whole, inr (body, hb, ap (λ v. v ∷ a) (mark_is mark.Else t found)
-            ∙ ap (λ l. token.Mark mark.Else ∷ l) is), rest)
+    by true found (a, r, whole, (body, hb, is), rest) = (
+      t ∷ a,
+      r,
+      ap (λ l. t ∷ l) whole,
+      inr (
+        body,
+        hb,
+        ap (λ v. v ∷ a) (mark_is mark.Else t found)
+            ∙ ap (λ l. token.Mark mark.Else ∷ l) is,
+      ),
+      rest,
+    )
     by false never h = ([], t ∷ ts, refl, inl refl, pop h)
 
 locals_back : (t : Token) (k : Stack) (other : Move) (ts : List Token) → (Covered other ts → Covers k (t ∷ ts)) →
@@ -130,7 +146,7 @@ locals_back t k other ts pop h = by (is_mark mark.Local t) refl h
         x ∷ xs,
         ap (λ v. v ∷ (a ++ (a2 ++ a3))) (mark_is mark.Local t found) ∙ ap (λ l. token.Mark mark.Local ∷ l)
             (ap (λ l. l ++ (a2 ++ a3)) named
-                ∙ ap (λ l. token.Name x ∷ l) (ap (λ l. l ++ a3) semicolon ∙ ap (λ l. token.Mark mark.Semicolon ∷ l) are)),
+            ∙ ap (λ l. token.Name x ∷ l) (ap (λ l. l ++ a3) semicolon ∙ ap (λ l. token.Mark mark.Semicolon ∷ l) are)),
       ),
       rest,
     )

@@ -53,14 +53,14 @@ statement_back b d (token.Name x) k ts (a, r, whole, f, rest) =
 statement_back b d (token.Opening opening.Print at) k ts h =
     let u = upto_back mark.Semicolon d (Statements b d ∷ k) ts h in
     more_back b d k (s.Print at u.0) (token.Opening opening.Print at ∷ ts) u.1 (print at u.0 u.2) (ap (λ l. token.Opening opening.Print at
-        ∷ l) u.3 ∙ sym (spell_print u.1 at u.0)) u.4
+    ∷ l) u.3 ∙ sym (spell_print u.1 at u.0)) u.4
 statement_back zero d (token.Opening opening.While at) k ts h = absurd h
 statement_back (suc b) d (token.Opening opening.While at) k ts h =
     let u = upto_back mark.Do d (Statements b d ∷ (Want mark.End ∷ (Statements (suc b) d ∷ k))) ts h in
     let w = body_back mark.End b d (Statements (suc b) d ∷ k) u.1 u.4 in
     more_back (suc b) d k (s.While at u.0 w.0) (token.Opening opening.While at ∷ ts) w.1 (while at u.0 w.0 u.2 w.2)
     (ap (λ l. token.Opening opening.While at ∷ l) (u.3 ∙ ap (λ l. tokens u.0 ++ (token.Mark mark.Do ∷ l)) w.3)
-        ∙ sym (spell_while w.1 at u.0 w.0)) w.4
+    ∙ sym (spell_while w.1 at u.0 w.0)) w.4
 statement_back zero d (token.Opening opening.If at) k ts h = absurd h
 statement_back (suc b) d (token.Opening opening.If at) k ts h =
     let u = upto_back mark.Then d (Statements b d ∷ (Else b d ∷ (Want mark.End ∷ (Statements (suc b) d ∷ k)))) ts h in
@@ -68,29 +68,29 @@ statement_back (suc b) d (token.Opening opening.If at) k ts h =
   where
     choice : (c : Expr) (mid : List Token) → Fits d level.Expression c → ts ≡ tokens c ++ (token.Mark mark.Then ∷ mid) →
         Covers (Statements b d ∷ (Else b d ∷ (Want mark.End ∷ (Statements (suc b) d ∷ k)))) mid →
-            Covers (Statements (suc b) d ∷ k) (token.Opening opening.If at ∷ ts)
+        Covers (Statements (suc b) d ∷ k) (token.Opening opening.If at ∷ ts)
     choice c mid hc e (a, r, whole, (body, hb, is), (a2, r2, whole2, inl none, (a3, r3, whole3, closes, rest))) =
         more_back (suc b) d k (s.If at c body None) (token.Opening opening.If at ∷ ts) r3 (if_then at c body hc hb)
         (ap (λ l. token.Opening opening.If at ∷ l) (e ∙ ap (λ l. tokens c ++ (token.Mark mark.Then ∷ l))
         (whole ∙ ap (λ l. l ++ r) is ∙ ap (λ l. block_tokens body ++ l) (whole2 ∙ ap (λ l. l ++ r2) none ∙ whole3
-            ∙ ap (λ l. l ++ r3) closes)))
+        ∙ ap (λ l. l ++ r3) closes)))
         ∙ sym (spell_if_then r3 at c body)) rest
     choice c mid hc e (a, r, whole, (body, hb, is), (a2, r2, whole2, inr (other, ho, elsed), (a3, r3, whole3, closes, rest))) =
         more_back (suc b) d k (s.If at c body (Some other)) (token.Opening opening.If at ∷ ts) r3 (if_else at c body other hc hb ho)
         (ap (λ l. token.Opening opening.If at ∷ l) (e ∙ ap (λ l. tokens c ++ (token.Mark mark.Then ∷ l))
         (whole ∙ ap (λ l. l ++ r) is ∙ ap (λ l. block_tokens body ++ l) (whole2 ∙ ap (λ l. l ++ r2) elsed
-            ∙ ap (λ l. token.Mark mark.Else ∷ (block_tokens other ++ l)) (whole3 ∙ ap (λ l. l ++ r3) closes))))
+        ∙ ap (λ l. token.Mark mark.Else ∷ (block_tokens other ++ l)) (whole3 ∙ ap (λ l. l ++ r3) closes))))
         ∙ sym (spell_if_else r3 at c body other)) rest
 statement_back zero d (token.Opening opening.For at) k ts h = absurd h
 statement_back (suc b) d (token.Opening opening.For at) k ts (a, r, whole, f, rest) =
     let st = f at in
     more_back (suc b) d k st.0 (token.Opening opening.For at ∷ ts) r st.1 (ap (λ l. token.Opening opening.For at ∷ l) whole
-        ∙ ap (λ l. l ++ r) st.2) rest
+    ∙ ap (λ l. l ++ r) st.2) rest
 statement_back b d t k ts h = absurd h
 
 element_back : (b d : ℕ) (o : Mark) (k : Stack) (ts : List Token) → same_mark mark.OpenBracket o ≡ true →
     Covered (deeper d (λ i. Operand level.Expression i ∷ (Want mark.CloseBracket ∷ assignment d k))) ts →
-        Covers (AfterName b d ∷ k) (token.Mark o ∷ ts)
+    Covers (AfterName b d ∷ k) (token.Mark o ∷ ts)
 element_back b zero o k ts found h = absurd h
 element_back b (suc d) o k ts found h = by u.0 u.1 u.2 u.3 u.4
   where
@@ -109,7 +109,7 @@ element_back b (suc d) o k ts found h = by u.0 u.1 u.2 u.3 u.4
           ap (λ l. token.Mark o ∷ l) (e ∙ ap (λ l. tokens i ++ (token.Mark mark.CloseBracket ∷ l)) (whole ∙ ap (λ l. l ++ r) becomes
               ∙ ap (λ l. token.Mark mark.Becomes ∷ l)
               (v.3 ∙ sym (append_assoc (tokens v.0) (token.Mark mark.Semicolon ∷ []) v.1)))
-                  ∙ sym (append_assoc (tokens i) (token.Mark mark.CloseBracket ∷ tail) v.1)),
+              ∙ sym (append_assoc (tokens i) (token.Mark mark.CloseBracket ∷ tail) v.1)),
           (λ x. (
             s.AssignElement x i v.0,
             assign_element x i v.0 hi v.2,
@@ -132,7 +132,7 @@ after_name_back b d (token.Mark o) k ts h = by (same_mark mark.Becomes o) refl h
 
     by : (c : Bool) → same_mark mark.Becomes o ≡ c →
         Covered (if c then Next (Operand level.Expression d ∷ (Want mark.Semicolon ∷ k)) else at_subscript d (token.Mark o) (assignment d k)
-            Refused) ts → Covers (AfterName b d ∷ k) (token.Mark o ∷ ts)
+        Refused) ts → Covers (AfterName b d ∷ k) (token.Mark o ∷ ts)
     by true found h =
         let u = upto_back mark.Semicolon d k ts h in (
           token.Mark o ∷ (tokens u.0 ++ token.Mark mark.Semicolon ∷ []),
@@ -164,8 +164,13 @@ record Ranged (b d : ℕ) (k : Stack) (ts : List Token) : Type 0 where
   covers : Covers k after
 
 range_back : (b d : ℕ) (k : Stack) (ts : List Token) → Covers (WantAtMost ∷ range b d k) ts → Ranged b d k ts
-range_back b d k ts (a1, r1, w1, e1,
-    (a2, r2, w2, (x, e2), (a3, r3, w3, e3, (a4, r4, w4, (high, hh, e4), (a5, r5, w5, e5, (a6, r6, w6, (names, e6), more)))))) =
+range_back b d k ts (
+  a1,
+  r1,
+  w1,
+  e1,
+  (a2, r2, w2, (x, e2), (a3, r3, w3, e3, (a4, r4, w4, (high, hh, e4), (a5, r5, w5, e5, (a6, r6, w6, (names, e6), more))))),
+) =
     let u = body_back mark.End b d k r6 more in
     record {
       index = x;
@@ -179,7 +184,7 @@ range_back b d k ts (a1, r1, w1, e1,
       whole = w1 ∙ ap (λ l. l ++ r1) e1 ∙ ap (λ l. token.Binary op.AtMost ∷ l) (w2 ∙ ap (λ l. l ++ r2) e2
           ∙ ap (λ l. token.Name x ∷ l) (w3 ∙ ap (λ l. l ++ r3) e3
           ∙ ap (λ l. token.Binary op.AtMost ∷ l) (w4 ∙ ap (λ l. l ++ r4) e4
-              ∙ ap (λ l. tokens high ++ l) (w5 ∙ ap (λ l. l ++ r5) e5 ∙ ap (λ l. token.Mark mark.Pardo ∷ l)
+          ∙ ap (λ l. tokens high ++ l) (w5 ∙ ap (λ l. l ++ r5) e5 ∙ ap (λ l. token.Mark mark.Pardo ∷ l)
           (w6 ∙ ap (λ l. l ++ r6) e6 ∙ ap (λ l. local_tokens names ++ l) u.3)))));
     }
 
@@ -187,8 +192,8 @@ range_back b d k ts (a1, r1, w1, e1,
 abbrev pardo_tail : Name → Expr → List Name → List Stmt → List Token → List Token
 pardo_tail x high names body ys =
     token.Binary op.AtMost ∷ (token.Name x
-        ∷ (token.Binary op.AtMost ∷ (tokens high
-        ++ (token.Mark mark.Pardo ∷ (local_tokens names ++ (block_tokens body ++ (token.Mark mark.End ∷ ys)))))))
+    ∷ (token.Binary op.AtMost ∷ (tokens high
+    ++ (token.Mark mark.Pardo ∷ (local_tokens names ++ (block_tokens body ++ (token.Mark mark.End ∷ ys)))))))
 
 pub for_head_back : (b d : ℕ) (t : Token) (k : Stack) (ts : List Token) → Covered (for_head b d t k) ts → Covers (ForHead b d ∷ k) (t ∷ ts)
 for_head_back b d (token.Name x) k ts (a, r, whole, f, rest) = (token.Name x ∷ a, r, ap (λ l. token.Name x ∷ l) whole, (λ at. f at x), rest)
@@ -216,8 +221,14 @@ suffix_back : (b d : ℕ) (k : Stack) (us : List Token) →
 suffix_back b d k us (a1, r1, w1, e1, (a2, r2, w2, e2, (a3, r3, w3, e3, more))) = by (range_back b d k r3 more)
   where
     low_of : (x : Name) → (low : Expr) × Fits d level.Sum low × (tokens low ≡ token.Name x ∷ (a1 ++ (a2 ++ a3)))
-    low_of x = of (sum_back d (token.Name x) [] (a1 ++ (a2 ++ a3)) (a1, a2
-        ++ a3, refl, e1, (a2, a3, refl, e2, (a3, [], sym (append-nil a3), e3, refl))))
+    low_of x = of (sum_back d (token.Name x) [] (a1 ++ (a2 ++ a3)) (
+      a1,
+      a2
+          ++ a3,
+      refl,
+      e1,
+      (a2, a3, refl, e2, (a3, [], sym (append-nil a3), e3, refl)),
+    ))
       where
         of : Covers (Operand level.Sum d ∷ []) (token.Name x ∷ (a1 ++ (a2 ++ a3))) → (low : Expr) × Fits d level.Sum low
             × (tokens low ≡ token.Name x ∷ (a1 ++ (a2 ++ a3)))
@@ -229,7 +240,7 @@ suffix_back b d k us (a1, r1, w1, e1, (a2, r2, w2, e2, (a3, r3, w3, e3, more))) 
         let grouped : pardo_tail g.index g.high g.names g.body g.after ≡ tail ++ g.after = simp append_assoc in
         let whole = w1 ∙ ap (λ l. a1 ++ l) (w2 ∙ ap (λ l. a2 ++ l) (w3 ∙ ap (λ l. a3 ++ l) (g.whole ∙ grouped))) in
         let regrouped = ap (λ l. a1 ++ l) (ap (λ l. a2 ++ l) (sym (append_assoc a3 tail g.after))
-            ∙ sym (append_assoc a2 (a3 ++ tail) g.after)) ∙ sym (append_assoc a1 (a2 ++ (a3 ++ tail)) g.after) in (
+        ∙ sym (append_assoc a2 (a3 ++ tail) g.after)) ∙ sym (append_assoc a1 (a2 ++ (a3 ++ tail)) g.after) in (
           a1 ++ (a2 ++ (a3 ++ tail)),
           g.after,
           whole ∙ regrouped,
@@ -253,9 +264,9 @@ turns_back b d t k ts becomes h =
     let w = body_back mark.End b d k v.1 v.4 in
     let whole = u.3 ∙ ap (λ l. tokens u.0 ++ (token.Mark mark.To ∷ l)) (v.3 ∙ ap (λ l. tokens v.0 ++ (token.Mark mark.Do ∷ l)) w.3) in
     let front = tokens u.0 ++ (token.Mark mark.To
-        ∷ (tokens v.0 ++ (token.Mark mark.Do ∷ (block_tokens w.0 ++ (token.Mark mark.End ∷ []))))) in
+    ∷ (tokens v.0 ++ (token.Mark mark.Do ∷ (block_tokens w.0 ++ (token.Mark mark.End ∷ []))))) in
     let grouped : tokens u.0 ++ (token.Mark mark.To
-        ∷ (tokens v.0 ++ (token.Mark mark.Do ∷ (block_tokens w.0 ++ (token.Mark mark.End ∷ w.1))))) ≡ front ++ w.1 = simp append_assoc in (
+    ∷ (tokens v.0 ++ (token.Mark mark.Do ∷ (block_tokens w.0 ++ (token.Mark mark.End ∷ w.1))))) ≡ front ++ w.1 = simp append_assoc in (
       t ∷ front,
       w.1,
       ap (λ l. t ∷ l) (whole ∙ grouped),
@@ -274,14 +285,14 @@ for_name_back b d t k ts h = by (is_mark mark.Becomes t) refl h
     by : (c : Bool) → is_mark mark.Becomes t ≡ c →
         Covered (if c then Next (turns b d k) else at_subscript d t (Rest level.Term d ∷ (Rest level.Sum d ∷ (WantAtMost ∷ range b d k)))
         (at_rest level.Term d t (Rest level.Sum d ∷ (WantAtMost ∷ range b d k)) (at_rest level.Sum d t (WantAtMost
-            ∷ range b d k) (at_at_most t (range b d k) Refused)))) ts →
+        ∷ range b d k) (at_at_most t (range b d k) Refused)))) ts →
         Covers (ForName b d ∷ k) (t ∷ ts)
     by true found h = turns_back b d t k ts (mark_is mark.Becomes t found) h
     by false never h =
         suffix_back b d k (t ∷ ts)
         (subscript_back d t (Rest level.Term d ∷ (Rest level.Sum d ∷ (WantAtMost ∷ range b d k)))
         (at_rest level.Term d t (Rest level.Sum d ∷ (WantAtMost ∷ range b d k)) (at_rest level.Sum d t (WantAtMost
-            ∷ range b d k) (at_at_most t (range b d k) Refused))) ts
+        ∷ range b d k) (at_at_most t (range b d k) Refused))) ts
         (rest_back level.Term d t (Rest level.Sum d ∷ (WantAtMost ∷ range b d k)) (at_rest level.Sum d t (WantAtMost
-            ∷ range b d k) (at_at_most t (range b d k) Refused)) ts
+        ∷ range b d k) (at_at_most t (range b d k) Refused)) ts
         (rest_back level.Sum d t (WantAtMost ∷ range b d k) (at_at_most t (range b d k) Refused) ts (at_most_back t (range b d k) ts))) h)

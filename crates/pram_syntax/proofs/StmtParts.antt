@@ -29,7 +29,7 @@ into_element b zero ts mid some whole k = absurd (some refl)
 into_element b (suc d) ts mid some whole k =
     ap (λ l. verdict l (AfterName b (suc d) ∷ k)) whole
     ∙ (let e : d ≡ suc d - 1 = omega arith in
-        ap (λ n. verdict mid (Operand level.Expression n ∷ (Want mark.CloseBracket ∷ assignment (suc d) k))) e)
+    ap (λ n. verdict mid (Operand level.Expression n ∷ (Want mark.CloseBracket ∷ assignment (suc d) k))) e)
 
 pub no_element : (b d : ℕ) (ts : List Token) → begins_with mark.OpenBracket ts ≡ false → (k : Stack) →
     verdict ts (AfterName b d ∷ k) ≡ verdict ts (assignment d k)
@@ -48,7 +48,7 @@ found_assign b d x y v ts mid rest same whole h =
 pub found_assign_element : (b d : ℕ) (x y : Name) (i v : Expr) (ts in_brackets mid further_on rest : List Token) → y ≡ x → d ≢ 0 →
     ts ≡ token.Mark mark.OpenBracket ∷ in_brackets →
     FoundThen level.Expression mark.CloseBracket (d - 1) in_brackets i mid → mid ≡ token.Mark mark.Becomes ∷ further_on →
-        FoundThen level.Expression mark.Semicolon d further_on v rest →
+    FoundThen level.Expression mark.Semicolon d further_on v rest →
     FoundStatement b d (token.Name x ∷ []) ts (s.AssignElement y i v) rest
 found_assign_element b zero x y i v ts in_brackets mid further_on rest same some whole hi at hv = absurd (some refl)
 found_assign_element b (suc d) x y i v ts in_brackets mid further_on rest same some whole hi at hv =
@@ -80,11 +80,11 @@ found_while b d at c body ts mid rest some hc hb = (
 
 pub into_while : (b d left : ℕ) (ts : List Token) → b ≢ 0 → (k : Stack) →
     opened_verdict b d left opening.While ts k ≡ verdict ts (Operand level.Expression d
-        ∷ (Want mark.Do ∷ (Statements (b - 1) d ∷ (Want mark.End ∷ k))))
+    ∷ (Want mark.Do ∷ (Statements (b - 1) d ∷ (Want mark.End ∷ k))))
 into_while zero d left ts some k = absurd (some refl)
 into_while (suc b) d left ts some k =
     let e : b ≡ suc b - 1 = omega arith in
-        ap (λ n. verdict ts (Operand level.Expression d ∷ (Want mark.Do ∷ (Statements n d ∷ (Want mark.End ∷ k))))) e
+    ap (λ n. verdict ts (Operand level.Expression d ∷ (Want mark.Do ∷ (Statements n d ∷ (Want mark.End ∷ k))))) e
 
 pub found_print_at : (b d : ℕ) (at : Location) (o : Opening) (v : Expr) (ts rest : List Token) → o ≡ opening.Print →
     FoundThen level.Expression mark.Semicolon d ts v rest →
@@ -94,11 +94,11 @@ found_print_at b d at o v ts rest is h =
 
 pub into_if : (b d left : ℕ) (ts : List Token) → b ≢ 0 → (k : Stack) →
     opened_verdict b d left opening.If ts k ≡ verdict ts (Operand level.Expression d
-        ∷ (Want mark.Then ∷ (Statements (b - 1) d ∷ (Else (b - 1) d ∷ (Want mark.End ∷ k)))))
+    ∷ (Want mark.Then ∷ (Statements (b - 1) d ∷ (Else (b - 1) d ∷ (Want mark.End ∷ k)))))
 into_if zero d left ts some k = absurd (some refl)
 into_if (suc b) d left ts some k =
     let e : b ≡ suc b - 1 = omega arith in
-        ap (λ n. verdict ts (Operand level.Expression d ∷ (Want mark.Then ∷ (Statements n d ∷ (Else n d ∷ (Want mark.End ∷ k)))))) e
+    ap (λ n. verdict ts (Operand level.Expression d ∷ (Want mark.Then ∷ (Statements n d ∷ (Else n d ∷ (Want mark.End ∷ k)))))) e
 
 pub at_else : (b d : ℕ) (ts mid : List Token) → ts ≡ token.Mark mark.Else ∷ mid → (k : Stack) →
     verdict ts (Else b d ∷ k) ≡ verdict mid (Statements b d ∷ k)
@@ -153,7 +153,7 @@ at_loop b d x ts mid whole k = ap (λ l. verdict l (ForHead b d ∷ k)) whole
 
 pub found_bounds : (d : ℕ) (x y : Name) (low high : Expr) (names : List Name) (ts t1 t2 t3 t4 t5 t6 rest : List Token) → y ≡ x →
     Found level.Sum d ts low t1 → t1 ≡ token.Binary op.AtMost ∷ t2 → t2 ≡ token.Name x ∷ t3 → t3 ≡ token.Binary op.AtMost ∷ t4 →
-        Found level.Sum d t4 high t5 →
+    Found level.Sum d t4 high t5 →
     t5 ≡ token.Mark mark.Pardo ∷ t6 → t6 ≡ local_tokens names ++ rest → FoundBounds d ts low y high names rest
 found_bounds d x y low high names ts t1 t2 t3 t4 t5 t6 rest same hl a1 a2 a3 hh a4 hn =
     let e5 = hh.1 ∙ ap (λ l. tokens high ++ l) (a4 ∙ ap (λ l. token.Mark mark.Pardo ∷ l) hn) in
@@ -243,22 +243,40 @@ pub shorter : {d : ℕ} {Inner : List Stmt → Type 0} {x : Stmt} (ts rest : Lis
     ts ≡ statement_tokens x ++ rest → length rest < length ts
 shorter ts rest (while at c body h g) is =
     let e = ap length (is ∙ spell_while rest at c body) in
-    omega (arith, e, length-append (tokens c) (token.Mark mark.Do ∷ (block_tokens body ++ (token.Mark mark.End ∷ rest))),
-        length-append (block_tokens body) (token.Mark mark.End ∷ rest))
+    omega (
+      arith,
+      e,
+      length-append (tokens c) (token.Mark mark.Do ∷ (block_tokens body ++ (token.Mark mark.End ∷ rest))),
+      length-append (block_tokens body) (token.Mark mark.End ∷ rest),
+    )
 shorter ts rest (if_then at c body h g) is =
     let e = ap length (is ∙ spell_if_then rest at c body) in
-    omega (arith, e, length-append (tokens c) (token.Mark mark.Then ∷ (block_tokens body ++ (token.Mark mark.End ∷ rest))),
-        length-append (block_tokens body) (token.Mark mark.End ∷ rest))
+    omega (
+      arith,
+      e,
+      length-append (tokens c) (token.Mark mark.Then ∷ (block_tokens body ++ (token.Mark mark.End ∷ rest))),
+      length-append (block_tokens body) (token.Mark mark.End ∷ rest),
+    )
 shorter ts rest (if_else at c body other h g f) is =
     let e = ap length (is ∙ spell_if_else rest at c body other) in
     let tail = token.Mark mark.Else ∷ (block_tokens other ++ (token.Mark mark.End ∷ rest)) in
-    omega (arith, e, longer (tokens c) (token.Mark mark.Then ∷ (block_tokens body ++ tail)), longer (block_tokens body) tail,
-        longer (block_tokens other) (token.Mark mark.End ∷ rest))
+    omega (
+      arith,
+      e,
+      longer (tokens c) (token.Mark mark.Then ∷ (block_tokens body ++ tail)),
+      longer (block_tokens body) tail,
+      longer (block_tokens other) (token.Mark mark.End ∷ rest),
+    )
 shorter ts rest (for_to at x low high body h g f) is =
     let e = ap length (is ∙ spell_for rest at x low high body) in
     let tail = token.Mark mark.Do ∷ (block_tokens body ++ (token.Mark mark.End ∷ rest)) in
-    omega (arith, e, longer (tokens low) (token.Mark mark.To ∷ (tokens high ++ tail)), longer (tokens high) tail,
-        longer (block_tokens body) (token.Mark mark.End ∷ rest))
+    omega (
+      arith,
+      e,
+      longer (tokens low) (token.Mark mark.To ∷ (tokens high ++ tail)),
+      longer (tokens high) tail,
+      longer (block_tokens body) (token.Mark mark.End ∷ rest),
+    )
 shorter ts rest (pardo at low x high locals body h g f) is =
     let e = ap length (is ∙ spell_pardo rest at low x high locals body) in
     let tail = local_tokens locals ++ (block_tokens body ++ (token.Mark mark.End ∷ rest)) in

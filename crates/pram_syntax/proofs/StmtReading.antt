@@ -53,7 +53,7 @@ upto m d x h ends itself k ys = read d level.Expression x h (Want m ∷ k) (toke
 read_locals : (xs : List Name) (b d : ℕ) (k : Stack) (body : List Stmt) (ys : List Token) →
     verdict (block_tokens body ++ (token.Mark mark.End ∷ ys)) (Locals ∷ (Statements b d ∷ (Want mark.End ∷ k))) ≡ verdict ys k →
     verdict (local_tokens xs ++ (block_tokens body ++ (token.Mark mark.End ∷ ys))) (Locals
-        ∷ (Statements b d ∷ (Want mark.End ∷ k))) ≡ verdict ys k
+    ∷ (Statements b d ∷ (Want mark.End ∷ k))) ≡ verdict ys k
 read_locals [] b d k body ys h = h
 read_locals (x ∷ xs) b d k body ys h = read_locals xs b d k body ys h
 
@@ -86,9 +86,9 @@ no_becomes d low h x r ws is z at =
     let reads = read d level.Sum low h (WantAtMost ∷ []) (token.Binary op.AtMost ∷ ws) (refl, (refl, refl)) in
     let both : SyntaxAt (length (token.Mark mark.Becomes ∷ z)) ≡ verdict ws [] =
     sym (ap (λ l. verdict l (Operand level.Sum d ∷ (WantAtMost ∷ []))) (ap (λ l. l ++ (token.Binary op.AtMost ∷ ws)) is
-        ∙ ap (λ l. token.Name x ∷ l) at)) ∙ reads in
+    ∙ ap (λ l. token.Name x ∷ l) at)) ∙ reads in
     let few = bound ws [] (length (token.Mark mark.Becomes ∷ z)) (subst (λ v. Refuses v (length (token.Mark mark.Becomes ∷ z))) both
-        refl) in
+    refl) in
     omega (arith, ap length at, length-append r (token.Binary op.AtMost ∷ ws))
 
 for_name : (i d : ℕ) (k : Stack) (x : Name) (y : Token) (ws : List Token) → is_mark mark.Becomes y ≡ false →
@@ -104,13 +104,13 @@ for_head i d k low h ws =
   where
     behind_name : (x : Name) (r : List Token) → tokens low ≡ token.Name x ∷ r →
         verdict (r ++ (token.Binary op.AtMost ∷ ws)) (ForName i d ∷ k) ≡ verdict (token.Name x ∷ (r ++ (token.Binary op.AtMost ∷ ws)))
-            (Operand level.Sum d ∷ (WantAtMost ∷ range i d k))
+        (Operand level.Sum d ∷ (WantAtMost ∷ range i d k))
     behind_name x [] is = for_name i d k x (token.Binary op.AtMost) ws refl
     behind_name x (y ∷ r) is = test (is_mark mark.Becomes y) refl
       where
         test : (c : Bool) → is_mark mark.Becomes y ≡ c →
             verdict (y ∷ (r ++ (token.Binary op.AtMost ∷ ws))) (ForName i d ∷ k) ≡ verdict (token.Name x
-                ∷ (y ∷ (r ++ (token.Binary op.AtMost ∷ ws)))) (Operand level.Sum d ∷ (WantAtMost ∷ range i d k))
+            ∷ (y ∷ (r ++ (token.Binary op.AtMost ∷ ws)))) (Operand level.Sum d ∷ (WantAtMost ∷ range i d k))
         test false differs = for_name i d k x y (r ++ (token.Binary op.AtMost ∷ ws)) differs
         test true found = absurd (no_becomes d low h x (y ∷ r) ws is (r
             ++ (token.Binary op.AtMost ∷ ws)) (ap (λ v. v ∷ (r ++ (token.Binary op.AtMost ∷ ws))) (mark_is mark.Becomes y found)))
@@ -158,20 +158,20 @@ module _ (b d : ℕ) (Inner : List Stmt → Type 0) (inner : (body : List Stmt) 
       let f = further d i hi in
       ap (λ l. verdict l (Statements b d ∷ k)) (spell_assign_element ys x i v)
       ∙ rw f.1 (upto mark.CloseBracket f.0 i f.2 refl refl (Want mark.Becomes
-          ∷ (Operand level.Expression (suc f.0) ∷ (Want mark.Semicolon ∷ (Statements b (suc f.0) ∷ k))))
+      ∷ (Operand level.Expression (suc f.0) ∷ (Want mark.Semicolon ∷ (Statements b (suc f.0) ∷ k))))
       (token.Mark mark.Becomes ∷ (tokens v ++ (token.Mark mark.Semicolon ∷ ys)))
       ∙ upto mark.Semicolon (suc f.0) v (subst (λ n. Fits n level.Expression v) f.1 hv) refl refl (Statements b (suc f.0) ∷ k) ys)
   read_statement _ (while at c body hc hb) k ys =
       let r = inner body hb in
       ap (λ l. verdict l (Statements b d ∷ k)) (spell_while ys at c body)
       ∙ rw r.1 (upto mark.Do d c hc refl refl (Statements r.0 d ∷ (Want mark.End ∷ (Statements (suc r.0) d ∷ k))) (block_tokens body
-          ++ (token.Mark mark.End ∷ ys))
+      ++ (token.Mark mark.End ∷ ys))
       ∙ r.2 (Want mark.End ∷ (Statements (suc r.0) d ∷ k)) (token.Mark mark.End ∷ ys) tt)
   read_statement _ (if_then at c body hc hb) k ys =
       let r = inner body hb in
       ap (λ l. verdict l (Statements b d ∷ k)) (spell_if_then ys at c body)
       ∙ rw r.1 (upto mark.Then d c hc refl refl (Statements r.0 d ∷ (Else r.0 d ∷ (Want mark.End ∷ (Statements (suc r.0) d ∷ k))))
-          (block_tokens body ++ (token.Mark mark.End ∷ ys))
+      (block_tokens body ++ (token.Mark mark.End ∷ ys))
       ∙ r.2 (Else r.0 d ∷ (Want mark.End ∷ (Statements (suc r.0) d ∷ k))) (token.Mark mark.End ∷ ys) tt)
   read_statement _ (if_else at c body other hc hb ho) k ys =
       let r = inner body hb in
@@ -181,27 +181,27 @@ module _ (b d : ℕ) (Inner : List Stmt → Type 0) (inner : (body : List Stmt) 
       ∙ rw r.1 (upto mark.Then d c hc refl refl (Statements r.0 d ∷ (Else r.0 d ∷ (Want mark.End ∷ (Statements (suc r.0) d ∷ k))))
       (block_tokens body ++ (token.Mark mark.Else ∷ (block_tokens other ++ (token.Mark mark.End ∷ ys))))
       ∙ r.2 (Else r.0 d ∷ (Want mark.End ∷ (Statements (suc r.0) d ∷ k))) (token.Mark mark.Else
-          ∷ (block_tokens other ++ (token.Mark mark.End ∷ ys))) tt
+      ∷ (block_tokens other ++ (token.Mark mark.End ∷ ys))) tt
       ∙ ap (λ n. verdict (block_tokens other ++ (token.Mark mark.End ∷ ys)) (Statements n d
-          ∷ (Want mark.End ∷ (Statements (suc r.0) d ∷ k)))) e
+      ∷ (Want mark.End ∷ (Statements (suc r.0) d ∷ k)))) e
       ∙ q.2 (Want mark.End ∷ (Statements (suc r.0) d ∷ k)) (token.Mark mark.End ∷ ys) tt)
   read_statement _ (for_to at x low high body hl hh hb) k ys =
       let r = inner body hb in
       ap (λ l. verdict l (Statements b d ∷ k)) (spell_for ys at x low high body)
       ∙ rw r.1 (upto mark.To d low hl refl refl (Operand level.Expression d
-          ∷ (Want mark.Do ∷ (Statements r.0 d ∷ (Want mark.End ∷ (Statements (suc r.0) d ∷ k)))))
+      ∷ (Want mark.Do ∷ (Statements r.0 d ∷ (Want mark.End ∷ (Statements (suc r.0) d ∷ k)))))
       (tokens high ++ (token.Mark mark.Do ∷ (block_tokens body ++ (token.Mark mark.End ∷ ys))))
       ∙ upto mark.Do d high hh refl refl (Statements r.0 d ∷ (Want mark.End ∷ (Statements (suc r.0) d ∷ k))) (block_tokens body
-          ++ (token.Mark mark.End ∷ ys))
+      ++ (token.Mark mark.End ∷ ys))
       ∙ r.2 (Want mark.End ∷ (Statements (suc r.0) d ∷ k)) (token.Mark mark.End ∷ ys) tt)
   read_statement _ (pardo at low x high locals body hl hh hb) k ys =
       let r = inner body hb in
       let behind = local_tokens locals ++ (block_tokens body ++ (token.Mark mark.End ∷ ys)) in
       ap (λ l. verdict l (Statements b d ∷ k)) (spell_pardo ys at low x high locals body)
       ∙ rw r.1 (for_head r.0 d (Statements (suc r.0) d ∷ k) low hl (token.Name x
-          ∷ (token.Binary op.AtMost ∷ (tokens high ++ (token.Mark mark.Pardo ∷ behind))))
+      ∷ (token.Binary op.AtMost ∷ (tokens high ++ (token.Mark mark.Pardo ∷ behind))))
       ∙ read d level.Sum high hh (Want mark.Pardo ∷ (Locals ∷ (Statements r.0 d ∷ (Want mark.End ∷ (Statements (suc r.0) d ∷ k)))))
-          (token.Mark mark.Pardo ∷ behind) (refl, (refl, refl))
+      (token.Mark mark.Pardo ∷ behind) (refl, (refl, refl))
       ∙ read_locals locals r.0 d (Statements (suc r.0) d ∷ k) body ys
       (block_after_locals d (IsFurtherBlock r.0 d) body r.3 (Statements r.0 d ∷ (Want mark.End ∷ (Statements (suc r.0) d ∷ k))) ys
       ∙ r.2 (Want mark.End ∷ (Statements (suc r.0) d ∷ k)) (token.Mark mark.End ∷ ys) tt))

@@ -114,7 +114,7 @@ no_local d I [] h xs = λ r eq. cc
 no_local d I (x ∷ rest) h xs = λ r eq.
     let f = first h.0 (block_tokens rest ++ (token.Mark mark.End ∷ xs)) in
     let both : f.0 ∷ f.1 ≡ token.Mark mark.Local ∷ r =
-        sym f.2 ∙ sym (append_assoc (statement_tokens x) (block_tokens rest) (token.Mark mark.End ∷ xs)) ∙ eq in
+    sym f.2 ∙ sym (append_assoc (statement_tokens x) (block_tokens rest) (token.Mark mark.End ∷ xs)) ∙ eq in
     let heads : f.0 ≡ token.Mark mark.Local = cc in
     never h.0 (sym f.3 ∙ ap kind heads)
   where
@@ -135,9 +135,9 @@ same_locals (x ∷ a) (y ∷ b) zs ws p q eq =
 
 module _ (d e : ℕ) (I J : List Stmt → Type 0)
     (inner : (x y : List Stmt) → I x → J y → (xs ys : List Token) → EndsBlockAt xs → EndsBlockAt ys → block_tokens x ++ xs ≡ block_tokens y
-        ++ ys → (x ≡ y) × (xs ≡ ys))
+    ++ ys → (x ≡ y) × (xs ≡ ys))
     (is_i : (x : List Stmt) → I x → (n : ℕ) × AreStatements d (IsFurtherBlock n d) x) (is_j : (y : List Stmt) → J y →
-        (n : ℕ) × AreStatements e (IsFurtherBlock n e) y) where
+    (n : ℕ) × AreStatements e (IsFurtherBlock n e) y) where
   no_mix : (x : Name) (low : Expr) (n : ℕ) → Fits n level.Sum low → (z ws : List Token) →
       token.Name x ∷ (token.Mark mark.Becomes ∷ z) ≡ tokens low ++ (token.Binary op.AtMost ∷ ws) → ⊥
   no_mix x low n h z ws eq = by (tokens low) refl eq
@@ -163,7 +163,7 @@ module _ (d e : ℕ) (I J : List Stmt → Type 0)
       let q = sym (spell_assign_element xs x i v) ∙ eq ∙ spell_assign_element ys y j w in
       let n : x ≡ y = cc in
       let a = further_same d e mark.CloseBracket i j refl h g (token.Mark mark.Becomes ∷ (tokens v ++ (token.Mark mark.Semicolon ∷ xs)))
-          (token.Mark mark.Becomes ∷ (tokens w ++ (token.Mark mark.Semicolon ∷ ys))) cc in
+      (token.Mark mark.Becomes ∷ (tokens w ++ (token.Mark mark.Semicolon ∷ ys))) cc in
       let r = a.1 in
       let b = upto_same d e mark.Semicolon v w refl k f xs ys cc in
       (ap (λ z. s.AssignElement z i v) n ∙ ap (λ z. s.AssignElement y z v) a.0 ∙ ap (s.AssignElement y j) b.0, b.1)
@@ -175,7 +175,7 @@ module _ (d e : ℕ) (I J : List Stmt → Type 0)
   same_statement _ _ (while at c body h k) (while there second_test second_body g f) xs ys eq =
       let q = sym (spell_while xs at c body) ∙ eq ∙ spell_while ys there second_test second_body in
       let a = upto_same d e mark.Do c second_test refl h g (block_tokens body ++ (token.Mark mark.End ∷ xs)) (block_tokens second_body
-          ++ (token.Mark mark.End ∷ ys)) cc in
+      ++ (token.Mark mark.End ∷ ys)) cc in
       let b = inner body second_body k f (token.Mark mark.End ∷ xs) (token.Mark mark.End ∷ ys) tt tt a.1 in
       let r = b.1 in
       let place : at ≡ there = cc in
@@ -183,7 +183,7 @@ module _ (d e : ℕ) (I J : List Stmt → Type 0)
   same_statement _ _ (if_then at c body h k) (if_then there second_test second_body g f) xs ys eq =
       let q = sym (spell_if_then xs at c body) ∙ eq ∙ spell_if_then ys there second_test second_body in
       let a = upto_same d e mark.Then c second_test refl h g (block_tokens body ++ (token.Mark mark.End ∷ xs)) (block_tokens second_body
-          ++ (token.Mark mark.End ∷ ys)) cc in
+      ++ (token.Mark mark.End ∷ ys)) cc in
       let b = inner body second_body k f (token.Mark mark.End ∷ xs) (token.Mark mark.End ∷ ys) tt tt a.1 in
       let r = b.1 in
       let place : at ≡ there = cc in
@@ -192,13 +192,13 @@ module _ (d e : ℕ) (I J : List Stmt → Type 0)
       let q = sym (spell_if_then xs at c body) ∙ eq ∙ spell_if_else ys there second_test second_body second_other in
       let tail = token.Mark mark.Else ∷ (block_tokens second_other ++ (token.Mark mark.End ∷ ys)) in
       let a = upto_same d e mark.Then c second_test refl h g (block_tokens body ++ (token.Mark mark.End ∷ xs)) (block_tokens second_body
-          ++ tail) cc in
+      ++ tail) cc in
       let r = (inner body second_body k f (token.Mark mark.End ∷ xs) tail tt tt a.1).1 in absurd cc
   same_statement _ _ (if_else at c body other h k l) (if_then there second_test second_body g f) xs ys eq =
       let q = sym (spell_if_else xs at c body other) ∙ eq ∙ spell_if_then ys there second_test second_body in
       let tail = token.Mark mark.Else ∷ (block_tokens other ++ (token.Mark mark.End ∷ xs)) in
       let a = upto_same d e mark.Then c second_test refl h g (block_tokens body ++ tail) (block_tokens second_body
-          ++ (token.Mark mark.End ∷ ys)) cc in
+      ++ (token.Mark mark.End ∷ ys)) cc in
       let r = (inner body second_body k f tail (token.Mark mark.End ∷ ys) tt tt a.1).1 in absurd cc
   same_statement _ _ (if_else at c body other h k l) (if_else there second_test second_body second_other g f m) xs ys eq =
       let q = sym (spell_if_else xs at c body other) ∙ eq ∙ spell_if_else ys there second_test second_body second_other in
@@ -222,7 +222,7 @@ module _ (d e : ℕ) (I J : List Stmt → Type 0)
       let second_tail = tokens second_high ++ (token.Mark mark.Do ∷ (block_tokens second_body ++ (token.Mark mark.End ∷ ys))) in
       let a = upto_same d e mark.To low second_low refl h g tail second_tail cc in
       let b = upto_same d e mark.Do high second_high refl k f (block_tokens body ++ (token.Mark mark.End ∷ xs)) (block_tokens second_body
-          ++ (token.Mark mark.End ∷ ys)) a.1 in
+      ++ (token.Mark mark.End ∷ ys)) a.1 in
       let o = inner body second_body l m (token.Mark mark.End ∷ xs) (token.Mark mark.End ∷ ys) tt tt b.1 in
       let t = o.1 in
       let place : at ≡ there = cc in (
@@ -232,17 +232,17 @@ module _ (d e : ℕ) (I J : List Stmt → Type 0)
       )
   same_statement _ _ (for_to at x low high body h k l) (pardo there second_low y second_high second_names second_body g f m) xs ys eq =
       let q = sym (spell_for xs at x low high body) ∙ eq ∙ spell_pardo ys there second_low y second_high second_names second_body in
-          absurd (no_mix x second_low e g (tokens low
-          ++ (token.Mark mark.To ∷ (tokens high ++ (token.Mark mark.Do ∷ (block_tokens body ++ (token.Mark mark.End ∷ xs))))))
+      absurd (no_mix x second_low e g (tokens low
+      ++ (token.Mark mark.To ∷ (tokens high ++ (token.Mark mark.Do ∷ (block_tokens body ++ (token.Mark mark.End ∷ xs))))))
       (token.Name y ∷ (token.Binary op.AtMost
-          ∷ (tokens second_high ++ (token.Mark mark.Pardo
-          ∷ (local_tokens second_names ++ (block_tokens second_body ++ (token.Mark mark.End ∷ ys))))))) cc)
+      ∷ (tokens second_high ++ (token.Mark mark.Pardo
+      ∷ (local_tokens second_names ++ (block_tokens second_body ++ (token.Mark mark.End ∷ ys))))))) cc)
   same_statement _ _ (pardo at low x high names body h k l) (for_to there y second_low second_high second_body g f m) xs ys eq =
       let q = sym (spell_pardo xs at low x high names body) ∙ eq ∙ spell_for ys there y second_low second_high second_body in
-          absurd (no_mix y low d h (tokens second_low
-          ++ (token.Mark mark.To ∷ (tokens second_high ++ (token.Mark mark.Do ∷ (block_tokens second_body ++ (token.Mark mark.End ∷ ys))))))
+      absurd (no_mix y low d h (tokens second_low
+      ++ (token.Mark mark.To ∷ (tokens second_high ++ (token.Mark mark.Do ∷ (block_tokens second_body ++ (token.Mark mark.End ∷ ys))))))
       (token.Name x ∷ (token.Binary op.AtMost
-          ∷ (tokens high ++ (token.Mark mark.Pardo ∷ (local_tokens names ++ (block_tokens body ++ (token.Mark mark.End ∷ xs))))))) cc)
+      ∷ (tokens high ++ (token.Mark mark.Pardo ∷ (local_tokens names ++ (block_tokens body ++ (token.Mark mark.End ∷ xs))))))) cc)
   same_statement _ _ (pardo at low x high names body h k l) (pardo there second_low y second_high second_names second_body g f m) xs ys eq =
       let q = sym (spell_pardo xs at low x high names body) ∙ eq ∙ spell_pardo ys there second_low y second_high second_names second_body in
       let inside = block_tokens body ++ (token.Mark mark.End ∷ xs) in
@@ -250,22 +250,22 @@ module _ (d e : ℕ) (I J : List Stmt → Type 0)
       let tail = tokens high ++ (token.Mark mark.Pardo ∷ (local_tokens names ++ inside)) in
       let second_tail = tokens second_high ++ (token.Mark mark.Pardo ∷ (local_tokens second_names ++ second_inside)) in
       let a = sum_same d e low second_low h g (token.Binary op.AtMost) (refl, (refl, refl)) (token.Name x
-          ∷ (token.Binary op.AtMost ∷ tail)) (token.Name y ∷ (token.Binary op.AtMost ∷ second_tail)) cc in
+      ∷ (token.Binary op.AtMost ∷ tail)) (token.Name y ∷ (token.Binary op.AtMost ∷ second_tail)) cc in
       let r = a.1 in
       let n : x ≡ y = cc in
       let b = sum_same d e high second_high k f (token.Mark mark.Pardo) (refl, (refl, refl)) (local_tokens names
-          ++ inside) (local_tokens second_names ++ second_inside) cc in
+      ++ inside) (local_tokens second_names ++ second_inside) cc in
       let known = is_i body l in
       let second_known = is_j second_body m in
       let c = same_locals names second_names inside second_inside (no_local d (IsFurtherBlock known.0 d) body known.1 xs)
-          (no_local e (IsFurtherBlock second_known.0 e) second_body second_known.1 ys) b.1 in
+      (no_local e (IsFurtherBlock second_known.0 e) second_body second_known.1 ys) b.1 in
       let o = inner body second_body l m (token.Mark mark.End ∷ xs) (token.Mark mark.End ∷ ys) tt tt c.1 in
       let t = o.1 in
       let place : at ≡ there = cc in (
         ap (λ z. s.Pardo z low x high names body) place ∙ ap (λ z. s.Pardo there z x high names body) a.0
             ∙ ap (λ z. s.Pardo there second_low z high names body) n
             ∙ ap (λ z. s.Pardo there second_low y z names body) b.0 ∙ ap (λ z. s.Pardo there second_low y second_high z body) c.0
-                ∙ ap (s.Pardo there second_low y second_high second_names) o.0,
+            ∙ ap (s.Pardo there second_low y second_high second_names) o.0,
         cc,
       )
   same_statement x y h g xs ys eq = let k = forms h g xs ys eq in absurd (omega (arith, k))
@@ -279,8 +279,8 @@ module _ (d e : ℕ) (I J : List Stmt → Type 0)
       absurd (no_statement h.0 ys (block_tokens a ++ xs) q (sym eq ∙ append_assoc (statement_tokens x) (block_tokens a) xs))
   same_block (x ∷ a) (y ∷ b) h g xs ys p q eq =
       let one = same_statement x y h.0 g.0 (block_tokens a ++ xs) (block_tokens b
-          ++ ys) (sym (append_assoc (statement_tokens x) (block_tokens a) xs) ∙ eq
-          ∙ append_assoc (statement_tokens y) (block_tokens b) ys) in
+      ++ ys) (sym (append_assoc (statement_tokens x) (block_tokens a) xs) ∙ eq
+      ∙ append_assoc (statement_tokens y) (block_tokens b) ys) in
       let more = same_block a b h.1 g.1 xs ys p q one.1 in
       (ap (λ z. z ∷ a) one.0 ∙ ap (λ l. y ∷ l) more.0, more.1)
 

@@ -100,7 +100,7 @@ more_blocks (suc c) b d body h =
     let e : suc (c + b) ≡ suc c + b = omega arith in
     subst (λ n. IsBlock n d body) e
     (statements_up d d (IsFurtherBlock (c + b) d) (IsFurtherBlock (suc (c + b)) d) (λ l x f. f) (λ l x f. f) (blocks_up (c + b) d) body
-        (more_blocks c b d body h))
+    (more_blocks c b d body h))
 
 pub more_levels : (c b d : ℕ) (body : List Stmt) → IsBlock b d body → IsBlock b (c + d) body
 more_levels zero b d body h = let e : d ≡ 0 + d = omega arith in subst (λ n. IsBlock b n body) e h
@@ -108,4 +108,4 @@ more_levels (suc c) b d body h =
     let e : suc (c + d) ≡ suc c + d = omega arith in
     subst (λ n. IsBlock b n body) e
     (statements_up (c + d) (suc (c + d)) (IsFurtherBlock b (c + d)) (IsFurtherBlock b (suc (c + d))) (fits_up (c + d)) (further_up (c + d))
-        (levels_up b (c + d)) body (more_levels c b d body h))
+    (levels_up b (c + d)) body (more_levels c b d body h))

@@ -46,7 +46,7 @@ statement_step (Stmt-F.While at c body) =
 -- "if" expr "then" stmt* [ "else" stmt* ] "end"
 statement_step (Stmt-F.If at c body other) =
     token.Opening opening.If at ∷ (tokens c
-        ++ (token.Mark mark.Then ∷ (joined_all body ++ (joined_else other ++ token.Mark mark.End ∷ []))))
+    ++ (token.Mark mark.Then ∷ (joined_all body ++ (joined_else other ++ token.Mark mark.End ∷ []))))
 -- "for" NAME ":=" expr "to" expr "do" stmt* "end"
 statement_step (Stmt-F.For at x low high body) =
     token.Opening opening.For at ∷ (token.Name x ∷ (token.Mark mark.Becomes ∷ (tokens low ++ (token.Mark mark.To ∷ (tokens high

@@ -85,7 +85,7 @@ IsRange ts = (b d : ℕ) (k : Stack) → verdict ts (ForHead b d ∷ k) ≡ verd
 abbrev pub FoundTurns : ℕ → List Token → Expr → Expr → List Token → Type 0
 FoundTurns d ts low high rest =
     Fits d level.Expression low × Fits d level.Expression high
-        × (ts ≡ tokens low ++ (token.Mark mark.To ∷ (tokens high ++ (token.Mark mark.Do ∷ rest))))
+    × (ts ≡ tokens low ++ (token.Mark mark.To ∷ (tokens high ++ (token.Mark mark.Do ∷ rest))))
 
 -- the bounds, the index and the locals of a pardo
 abbrev pub FoundBounds : ℕ → List Token → Expr → Name → Expr → List Name → List Token → Type 0

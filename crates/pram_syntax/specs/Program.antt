@@ -49,7 +49,7 @@ declarations_tokens (x ∷ rest) = declaration_tokens x ++ declarations_tokens r
 abbrev pub header_tokens : Rule → Location → Numeral → List Token → List Token
 header_tokens r at procs rest =
     token.Mark mark.Rule ∷ (rule_token r at
-        ∷ (token.Mark mark.Semicolon ∷ (token.Mark mark.Procs ∷ (token.Number procs ∷ (token.Mark mark.Semicolon ∷ rest)))))
+    ∷ (token.Mark mark.Semicolon ∷ (token.Mark mark.Procs ∷ (token.Number procs ∷ (token.Mark mark.Semicolon ∷ rest)))))
 
 -- program := "rule" RULE ";" "procs" NUMBER ";" decl* "begin" stmt* "end"
 abbrev pub program_tokens : ProgramTree → List Token

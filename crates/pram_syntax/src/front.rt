@@ -6,8 +6,8 @@ ghost use Rattle.pram_syntax.specs.Machine as machine;
 ghost use Rattle.pram_syntax.specs.Symbols as symbol;
 ghost use Rattle.pram_syntax.specs.Follows.{Follows, IsOperatorAt, NoOperatorAt, Skips};
 
-use crate::parse_error::ParseError;
 use crate::level::Level;
+use crate::parse_error::ParseError;
 use pram_tokens::token::{Binary, Mark, Name, Numeral, Token};
 use sqlite_items::Items;
 use std::alloc::{AllocError, Global};

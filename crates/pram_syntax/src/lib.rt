@@ -1,12 +1,12 @@
 //! The concrete syntax of PRAM programs.
 #![tactic(auto)]
 
-mod parse_error;
 mod front;
 pub mod level;
 pub mod one_tree;
 pub mod parse;
 mod parse_decl;
+mod parse_error;
 mod parse_expr;
 mod parse_for;
 mod parse_stmt;

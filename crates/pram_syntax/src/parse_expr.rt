@@ -6,13 +6,13 @@ ghost use Rattle.pram_syntax.specs.Machine as machine;
 ghost use Rattle.pram_syntax.specs.Symbols as symbol;
 ghost use Rattle.pram_syntax.specs.Follows.{Follows, Found, FoundInside, FoundNamed, FoundFurther, FoundThen, inside, further};
 
-use crate::parse_error::ParseError;
 use crate::front::{
     behind_mark, behind_minus, behind_not, copied, expect, next, operator_at, same_mark,
 };
 use crate::level::Level;
-use pram_tokens::token::{Binary, Mark, Name, Token};
+use crate::parse_error::ParseError;
 use crate::tree::{Expr, Prefix};
+use pram_tokens::token::{Binary, Mark, Name, Token};
 use sqlite_items::{Boxed, Items};
 use std::alloc::{AllocError, Global};
 

@@ -6,12 +6,12 @@ ghost use Rattle.pram_syntax.specs.Machine as machine;
 ghost use Rattle.pram_syntax.specs.Symbols as symbol;
 ghost use Rattle.pram_syntax.specs.Follows.{Follows, FoundBounds, FoundTurns, IsRange};
 
-use crate::parse_error::ParseError;
 use crate::front::{a_name, at_most, behind_mark, copied, expect, next};
 use crate::level::Level;
+use crate::parse_error::ParseError;
 use crate::parse_expr::{expression_then, operand};
-use pram_tokens::token::{Mark, Name, Token};
 use crate::tree::Expr;
+use pram_tokens::token::{Mark, Name, Token};
 use sqlite_items::Items;
 use std::alloc::Global;
 

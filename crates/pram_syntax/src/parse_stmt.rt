@@ -5,12 +5,12 @@ ghost use Rattle.pram_syntax.specs.Machine as machine;
 ghost use Rattle.pram_syntax.specs.Symbols as symbol;
 ghost use Rattle.pram_syntax.specs.Follows.{Follows, FoundBlock, FoundBody, FoundStatement};
 
-use crate::parse_error::ParseError;
 use crate::front::{behind_mark, copied, expect, next};
+use crate::parse_error::ParseError;
 use crate::parse_expr::expression_then;
 use crate::parse_for::{loop_head, loop_name, pardo_head};
-use pram_tokens::token::{Location, Mark, Name, Opening, Token};
 use crate::tree::Stmt;
+use pram_tokens::token::{Location, Mark, Name, Opening, Token};
 use sqlite_items::Items;
 use std::alloc::Global;
 

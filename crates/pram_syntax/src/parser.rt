@@ -9,12 +9,12 @@ ghost use Rattle.pram_syntax.specs.Program.{ProgramTree, IsTree, declarations_to
 ghost use Rattle.pram_syntax.specs.Symbols as symbol;
 ghost use Rattle.pram_tokens.specs.Tokens.{AreReal};
 
-use crate::parse_error::ParseError;
 use crate::front::expect;
 use crate::parse_decl::{Heading, declarations, header};
+use crate::parse_error::ParseError;
 use crate::parse_stmt::body;
-use pram_tokens::token::{Mark, Token};
 use crate::tree::{Declaration, Stmt, Tree};
+use pram_tokens::token::{Mark, Token};
 use sqlite_items::Items;
 use std::alloc::Global;
 

@@ -59,7 +59,7 @@ words-word at (b ∷ rest) n is = by (is_blank b) refl is (λ m e. words-word (a
     behind (suc m) e inner =
         ap (λ x. with_byte at b x (words (at + 1) rest)) (goes_on rest m e) ∙ ap (with_byte at b true) (inner m e)
         ∙ (let k : at + 1 + suc m ≡ at + suc (suc m) = omega arith in
-            ap (λ i. word at (b ∷ take (suc m) rest) ∷ words i (drop (suc m) rest)) k)
+        ap (λ i. word at (b ∷ take (suc m) rest) ∷ words i (drop (suc m) rest)) k)
 
     by : (x : Bool) → is_blank b ≡ x → front_len (b ∷ rest) ≡ suc n → ((m : ℕ) → front_len rest ≡ suc m → IsFront (at + 1) rest (suc m)) →
         words at (b ∷ rest) ≡ word at (b ∷ take n rest) ∷ words (at + suc n) (drop n rest)

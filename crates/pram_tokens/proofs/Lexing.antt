@@ -62,7 +62,7 @@ no_keyword word is =
     let q = neither (lookup program_words word) (lookup statement_words word) p.0 in
     none_of_two (spellings program_words) (spellings statement_words ++ spellings operator_words) word (unlisted program_words word q.0)
     (none_of_two (spellings statement_words) (spellings operator_words) word (unlisted statement_words word q.1)
-        (unlisted operator_words word p.1))
+    (unlisted operator_words word p.1))
 
 are_words-front : (b : Bool) (x n m : ℕ) (rest : List ℕ) → m ≡ suc n → is_word x ≡ b → are_words (take n rest) ≡ true →
     are_words (take (cond b m 0) (x ∷ rest)) ≡ true
@@ -97,8 +97,10 @@ number_real place digits rest = by (nat_lt largest (value_after 0 digits)) refl
 
     after : (b : Bool) → IsNumber (pos (value_after 0 digits))
         → IsRealLexeme (if b then lexeme.Bad else
-            lexeme.Token (Rattle.pram_tokens.specs.declared.token.Token.TheVariants.Number (record { value = pos (value_after 0 digits);
-            location = place })) (length digits))
+        lexeme.Token (Rattle.pram_tokens.specs.declared.token.Token.TheVariants.Number (record {
+          value = pos (value_after 0 digits);
+          location = place;
+        })) (length digits))
     after true h = tt
     after false h = h
 
@@ -131,5 +133,5 @@ lexeme_real place text =
     (λ _. choose (b == 35) _ _ (λ _. tt)
     (λ _. choose (is_digit b) _ _ (λ _. number_real place (take (span class.Digit text) text) (drop (span class.Digit text) text))
     (λ _. choose (is_letter b) _ _ (λ is. word_real place (take (span class.Word text) text) (keyword (take (span class.Word text) text))
-        (begins text is) (run text) refl)
+    (begins text is) (run text) refl)
     (λ _. wide_real place (wide_symbol (b ∷ slice_index text 1 ∷ [])) (narrow_symbol (b ∷ []))))))

@@ -120,7 +120,7 @@ scanned : (skip at line high : ℕ) (text : List ℕ) → at + length text ≡ h
 scanned skip at line high [] is = omega (arith, is)
 scanned zero at line high (b ∷ bs) is =
     by_lexeme at line high (lexeme_at (place at line) (b ∷ bs)) (λ n. scan n (at + 1) (next_line line b) bs)
-        (lexeme_there (place at line) (b ∷ bs))
+    (lexeme_there (place at line) (b ∷ bs))
     (λ n. scanned n (at + 1) (next_line line b) high bs (omega (arith, is)))
 scanned (suc n) at line high (b ∷ bs) is =
     earlier at high (scan n (at + 1) (next_line line b) bs) (scanned n (at + 1) (next_line line b) high bs (omega (arith, is)))
@@ -128,5 +128,5 @@ scanned (suc n) at line high (b ∷ bs) is =
 pub in_order : (text : List ℕ) (ts : List Token) (os : List ℕ) → cut_of text ≡ Ok (cut ts os) → StandInOrder (length text) ts
 in_order text ts os is =
     let there : AreThere 0 (length text) (Ok (cut ts os)) =
-        subst (AreThere 0 (length text)) is (scanned 0 0 1 (length text) text (omega arith)) in
+    subst (AreThere 0 (length text)) is (scanned 0 0 1 (length text) text (omega arith)) in
     record { ascend = increasing 0 (length text) (places ts) there; inside = inside 0 (length text) (places ts) there }

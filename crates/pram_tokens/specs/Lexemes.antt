@@ -26,16 +26,16 @@ lookup (entry ∷ rest) word = if same_text entry.0 word then Some entry.1 else 
 abbrev pub program_words : List (List ℕ × Fixed)
 program_words =
     (codes "rule", fixed.Mark mark.Rule) ∷ (codes "procs", fixed.Mark mark.Procs) ∷ (codes "shared", fixed.Mark mark.Shared)
-        ∷ (codes "var", fixed.Mark mark.Var)
+    ∷ (codes "var", fixed.Mark mark.Var)
     ∷ (codes "local", fixed.Mark mark.Local) ∷ (codes "begin", fixed.Mark mark.Begin) ∷ (codes "end", fixed.Mark mark.End) ∷ []
 
 -- the keywords of statements
 abbrev pub statement_words : List (List ℕ × Fixed)
 statement_words =
     (codes "for", fixed.Opening opening.For) ∷ (codes "to", fixed.Mark mark.To) ∷ (codes "do", fixed.Mark mark.Do)
-        ∷ (codes "pardo", fixed.Mark mark.Pardo)
+    ∷ (codes "pardo", fixed.Mark mark.Pardo)
     ∷ (codes "while", fixed.Opening opening.While) ∷ (codes "if", fixed.Opening opening.If) ∷ (codes "then", fixed.Mark mark.Then)
-        ∷ (codes "else", fixed.Mark mark.Else)
+    ∷ (codes "else", fixed.Mark mark.Else)
     ∷ (codes "print", fixed.Opening opening.Print) ∷ []
 
 -- the keywords that are operators
@@ -48,16 +48,16 @@ operator_words =
 abbrev pub wide_symbols : List (List ℕ × Fixed)
 wide_symbols =
     (codes ":=", fixed.Mark mark.Becomes) ∷ (codes "..", fixed.Mark mark.Range) ∷ (codes "<>", fixed.Binary op.Unequal)
-        ∷ (codes "<=", fixed.Binary op.AtMost)
+    ∷ (codes "<=", fixed.Binary op.AtMost)
     ∷ (codes ">=", fixed.Binary op.AtLeast) ∷ []
 
 -- the symbols of one byte
 abbrev pub narrow_symbols : List (List ℕ × Fixed)
 narrow_symbols =
     (codes ";", fixed.Mark mark.Semicolon) ∷ (codes "[", fixed.Mark mark.OpenBracket) ∷ (codes "]", fixed.Mark mark.CloseBracket)
-        ∷ (codes "(", fixed.Mark mark.OpenParen)
+    ∷ (codes "(", fixed.Mark mark.OpenParen)
     ∷ (codes ")", fixed.Mark mark.CloseParen) ∷ (codes "+", fixed.Binary op.Add) ∷ (codes "-", fixed.Binary op.Subtract)
-        ∷ (codes "*", fixed.Binary op.Multiply)
+    ∷ (codes "*", fixed.Binary op.Multiply)
     ∷ (codes "=", fixed.Binary op.Equal) ∷ (codes "<", fixed.Binary op.Less) ∷ (codes ">", fixed.Binary op.Greater) ∷ []
 
 -- the keyword of a spelling

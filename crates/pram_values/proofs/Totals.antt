@@ -23,7 +23,7 @@ pub total_within : {M : Type 0} (e : M) (op : M → M → M) (f g : ℕ → M) (
 total_within e op f g zero k h = refl
 total_within e op f g (suc n) k h =
     ap (λ a. op a (total e op f (range_with_len (k + 1) n))) (h k (omega arith))
-        ∙ ap (op (g k)) (total_within e op f g n (k + 1) (λ w l. h w (omega arith)))
+    ∙ ap (op (g k)) (total_within e op f g n (k + 1) (λ w l. h w (omega arith)))
 
 module _ {M : Type 0} (e : M) (op : M → M → M) (m : IsMonoid M e op) where
   pub neutral_right : (x : M) → op x e ≡ x
@@ -53,7 +53,7 @@ module _ {M : Type 0} (e : M) (op : M → M → M) (m : IsMonoid M e op) where
       let apart : eqb x k ≡ false = ne_eqb x k (omega arith) in
       let r = range_with_len (k + 1) n in
       ap (λ b. op (cond b a e) (total e op (λ w. cond (eqb x w) a e) r)) apart ∙ m.neutral (total e op (λ w. cond (eqb x w) a e) r)
-          ∙ total_past a x n (k + 1) (omega arith)
+      ∙ total_past a x n (k + 1) (omega arith)
 
   pub total_at : (a : M) (x n k : ℕ) → k ≤ x → x < k + n → total e op (λ w. cond (eqb x w) a e) (range_with_len k n) ≡ a
   total_at a x zero k low high = absurd (omega arith)
@@ -61,9 +61,9 @@ module _ {M : Type 0} (e : M) (op : M → M → M) (m : IsMonoid M e op) where
       let r = range_with_len (k + 1) n in
       ⊎_elim
       (λ here. ap (λ b. op (cond b a e) (total e op (λ w. cond (eqb x w) a e) r)) here.0
-          ∙ ap (op a) (total_past a x n (k + 1) (omega arith)) ∙ neutral_right a)
+      ∙ ap (op a) (total_past a x n (k + 1) (omega arith)) ∙ neutral_right a)
       (λ on. ap (λ b. op (cond b a e) (total e op (λ w. cond (eqb x w) a e) r)) on.0 ∙ m.neutral (total e op (λ w. cond (eqb x w) a e) r)
-          ∙ total_at a x n (k + 1) (omega arith) (omega arith))
+      ∙ total_at a x n (k + 1) (omega arith) (omega arith))
       (eqb_tells x k)
 
   total_cond : {A : Type 0} (f : A → M) (x : A) (xs : List A) (b : Bool) → total e op f (cond b (x ∷ xs) xs) ≡ op (cond b (f x) e)
@@ -78,11 +78,11 @@ module _ {M : Type 0} (e : M) (op : M → M → M) (m : IsMonoid M e op) where
   total_parts f class p (x ∷ xs) h =
       let part = λ (w : ℕ). in_class class w xs in
       total_same e op (λ w. total e op f (cond (eqb (class x) w) (x ∷ part w) (part w)))
-          (λ w. op (cond (eqb (class x) w) (f x) e) (total e op f (part w))) (λ w. total_cond f x (part w) (eqb (class x) w))
-          (range_with_len 0 p)
+      (λ w. op (cond (eqb (class x) w) (f x) e) (total e op f (part w))) (λ w. total_cond f x (part w) (eqb (class x) w))
+      (range_with_len 0 p)
       ∙ total_both (λ w. cond (eqb (class x) w) (f x) e) (λ w. total e op f (part w)) (range_with_len 0 p)
       ∙ ap (λ a. op a (total e op (λ w. total e op f (part w)) (range_with_len 0 p))) (total_at (f x) (class x) p 0 (omega arith) (let l =
-          h.0 in omega arith))
+      h.0 in omega arith))
       ∙ ap (op (f x)) (total_parts f class p xs h.1)
 
 -- the same term at each place, in a monoid where twice is once

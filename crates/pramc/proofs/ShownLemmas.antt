@@ -56,10 +56,10 @@ known_at layout i e P found known = subst (λ o. IfSome o P) found known
 pub memory_at : (layout : List SharedEntry) (i : ℕ) (rest values others : List ℤ) (name : List ℕ) (bounds : Option (ℤ × ℤ)) (count : ℕ) →
     i < length layout
     → IfSome (slice_get layout i) (λ e. name ≡ e.name) → IfSome (slice_get layout i) (λ e. bounds ≡ e.bounds) →
-        IfSome (slice_get layout i) (λ e. count ≡ size e.bounds)
+    IfSome (slice_get layout i) (λ e. count ≡ size e.bounds)
     → values ≡ take count rest → others ≡ drop count rest
     → memory_lines (drop i layout) rest ≡ entry_line record { name = name; bounds = bounds } values
-        ++ memory_lines (drop (i + 1) layout) others
+    ++ memory_lines (drop (i + 1) layout) others
 memory_at layout i rest values others name bounds count below named bounded counted first behind =
     let (e, found, split) = entry_at layout i below in
     let named' = known_at layout i e (λ e. name ≡ e.name) found named in
@@ -82,7 +82,7 @@ cell_here layout i k count P below counted inside written =
     let written' = known_at layout i e (λ e. P (e.name ++ subscript_text e.bounds k)) found written in
     let here : nat_lt k (size e.bounds) ≡ true = grind (arith, nat_tests, inside, counted') in
     subst P (sym (ap (λ l. cell_text l k) split
-        ∙ ap (λ b. if b then e.name ++ subscript_text e.bounds k else cell_text (drop (i + 1) layout) (k - size e.bounds)) here)) written'
+    ∙ ap (λ b. if b then e.name ++ subscript_text e.bounds k else cell_text (drop (i + 1) layout) (k - size e.bounds)) here)) written'
 
 -- a cell behind those of the declaration at i
 pub cell_behind : (layout : List SharedEntry) (i k count : ℕ) → i < length layout

@@ -20,8 +20,13 @@ cut_off status old new text tells stops = record { status = status; text = text;
 behind : (status : Status) (old mid new : OutState) (text : List ℕ) → Tells status text → mid ≡ with_bytes old text →
     new ≡ with_failure mid → IsStopped WriteFailed old new
 behind status old mid new text tells written failed =
-    cut_off status old new text tells (record { front = text; rest = []; whole = sym (append-nil text); stopped =
-        failed ∙ ap with_failure written })
+    cut_off status old new text tells (record {
+      front = text;
+      rest = [];
+      whole = sym (append-nil text);
+      stopped =
+          failed ∙ ap with_failure written;
+    })
 
 -- all of the text, and what the last flush said
 pub told : (status : Status) (old mid new : OutState) (text : List ℕ) (r : Result Status Stop) → Tells status text →

@@ -21,7 +21,7 @@ use Rattle.pramc.specs.declared.stop.Stop.TheVariants as stop
 abbrev pub accepted_line : Checked → List ℕ
 accepted_line program =
     line (codes "accepted cells " ++ (decimal (total_size program.layout)
-        ++ (codes " procs " ++ (decimal program.procs ++ (codes " rule " ++ rule_word program.rule)))))
+    ++ (codes " procs " ++ (decimal program.procs ++ (codes " rule " ++ rule_word program.rule)))))
 
 -- the texts that go with an exit status: of a text's program that it is accepted, or how it comes out
 pub data Tells : Status → List ℕ → Type 0 where

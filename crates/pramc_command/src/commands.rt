@@ -14,9 +14,9 @@ use itoa::Buffer;
 use pram_check::program::Program;
 use pram_syntax::input::read_input;
 use pram_syntax::layout::Layout;
-use pram_tokens::plain::LONGEST;
 use pram_syntax::rule::Rule;
 use pram_syntax::writer::{Out, WriteFault};
+use pram_tokens::plain::LONGEST;
 use pramc::{
     Refusal, Report, SourceFault, Sources, Status, Stop, compile, finish, mean_program,
     run_program, show, write_stop,

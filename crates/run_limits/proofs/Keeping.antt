@@ -131,8 +131,12 @@ module _ (code : SuperstepCode) (n : ℕ) (room : total_size code.layout ≤ n) 
     asks = h.asks;
     output = all_add (λ (item : ℕ × ℤ). FitsSigned w64 item.1) u.output _ h.output (h.values s);
   }
-  uniform_kept i a u h = record { values = result_if (is_of Uniform i) i u.registers u.registers a h.values h.values; indices = h.indices;
-      asks = h.asks; output = h.output }
+  uniform_kept i a u h = record {
+    values = result_if (is_of Uniform i) i u.registers u.registers a h.values h.values;
+    indices = h.indices;
+    asks = h.asks;
+    output = h.output;
+  }
 
   module _ (u : UniformPart) (k : IsUniformKept n u) (v : ℕ) (l : v < u.width) where
     active_kept : (i : Instr) → IsInstr i → (y : PrivatePart) → IsOwnKept n y → IsOwnKept n (on_active code i u v y)
@@ -191,7 +195,7 @@ module _ (t : Setting) (code : IsCode t.code) (room : IsMapFor t.code t.map) (w 
     numbered_kept : AllByRecursion (λ (y : ℕ × PrivatePart). (y.0 < x.uniform.width) × IsOwnKept count y.1) (numbered t w x)
     numbered_kept =
         all_zipped (λ v. v < x.uniform.width) (IsOwnKept count) (processors t w x.uniform.width) x.own (numbers_below t w x.uniform.width)
-            h.own
+        h.own
 
     uniform_writes_kept : (i : Instr) → AllByRecursion (IsWriteBelow count) (uniform_writes t w i x.uniform)
     uniform_writes_kept i = go (eqb w 0)
@@ -216,7 +220,7 @@ module _ (t : Setting) (code : IsCode t.code) (room : IsMapFor t.code t.map) (w 
         AllByRecursion (IsOwnKept count) (map (λ (y : ℕ × PrivatePart). on_own t.code i x.uniform y.0 y.1) (numbered t w x))
     parts_kept i a =
         all_map (λ (y : ℕ × PrivatePart). (y.0 < x.uniform.width) × IsOwnKept count y.1) (IsOwnKept count) (λ (y : ℕ × PrivatePart).
-            on_own t.code i x.uniform y.0 y.1)
+        on_own t.code i x.uniform y.0 y.1)
         (λ y k. own_kept t.code count room.room x.uniform h.uniform y.0 k.0 i a y.1 k.1) (numbered t w x) numbered_kept
 
     fresh_kept : (vs : List ℕ) → AllByRecursion (IsOwnKept count) (map (λ v. fresh) vs)
@@ -244,9 +248,9 @@ module _ (t : Setting) (code : IsCode t.code) (room : IsMapFor t.code t.map) (w 
         length (uniform_writes t w i x.uniform ++ own_writes t i x.uniform (numbered t w x)) ≤ share t
     put_few (Put Uniform e s v q) p l =
         few_writes (Put Uniform e s v q) (length-filter_map (λ (o : Option (ℕ × ℤ)). by_processor (pos 0) o)
-            ((if eqb w 0 then uniform_write t.code (Put Uniform e s v q) x.uniform else None) ∷ []))
+        ((if eqb w 0 then uniform_write t.code (Put Uniform e s v q) x.uniform else None) ∷ []))
         (none_filter_map (λ (y : ℕ × PrivatePart). by_processor (index_of x.uniform y.0) (own_write t.code (Put Uniform e s v q) y.1))
-            (λ y. refl) (numbered t w x)) l
+        (λ y. refl) (numbered t w x)) l
     put_few (Put Private e s v q) p l = go (eqb w 0)
       where
         own : List HeldWrite
@@ -255,7 +259,7 @@ module _ (t : Setting) (code : IsCode t.code) (room : IsMapFor t.code t.map) (w 
         short : length own ≤ share t
         short =
             let a = length-filter_map (λ (y : ℕ × PrivatePart).
-                by_processor (index_of x.uniform y.0) (own_write t.code (Put Private e s v q) y.1)) (numbered t w x) in
+            by_processor (index_of x.uniform y.0) (own_write t.code (Put Private e s v q) y.1)) (numbered t w x) in
             let b = numbered_few l in omega (arith, a, b)
 
         go : (b : Bool) → length (filter_map (λ (o : Option (ℕ × ℤ)). by_processor (pos 0) o) ((if b then None else None) ∷ [])
@@ -274,7 +278,7 @@ module _ (t : Setting) (code : IsCode t.code) (room : IsMapFor t.code t.map) (w 
           let n = or_empty (range_width t.code.procs (x.uniform.registers r) (x.uniform.registers s)) in
           let e = length-map (processors t w n) (λ (v : ℕ). fresh) in
           let f = few_processors t w n l (width_at_most t.code.procs (x.uniform.registers r) (x.uniform.registers s)) in
-              omega (arith, e, f);
+          omega (arith, e, f);
       few_held = h.few_held;
     }
     instr_kept Leave a = record {

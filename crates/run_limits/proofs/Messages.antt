@@ -61,7 +61,7 @@ length-puts rule [] = let z : 0 ≡ put_length rule * 0 = grind arith in z
 length-puts rule (x ∷ xs) =
     let z : put_length rule + put_length rule * length xs ≡ put_length rule * suc (length xs) = grind arith in
     length-append (put_words rule x) (flat_map (put_words rule) xs)
-        ∙ ap (λ n. n + length (flat_map (put_words rule) xs)) (put_long rule x)
+    ∙ ap (λ n. n + length (flat_map (put_words rule) xs)) (put_long rule x)
     ∙ ap (λ n. put_length rule + n) (length-puts rule xs) ∙ z
 
 length-ask_words : (xs : List CellAsk) → length (ask_words xs) ≡ length xs
@@ -90,8 +90,8 @@ few_words rule m n p a =
     let k = length-values_words m.values in
     let l = mul-le-mul_left (put_length rule) p in
     let z : words_for_each rule * n ≡ 8 * n + put_length rule * n =
-        (let y = for_each rule in ap (λ q. q * n) y ∙ (let x : (8 + put_length rule) * n ≡ 8 * n + put_length rule * n = grind arith in
-        x)) in
+    (let y = for_each rule in ap (λ q. q * n) y ∙ (let x : (8 + put_length rule) * n ≡ 8 * n + put_length rule * n = grind arith in
+    x)) in
     omega (arith, e, f, g, h, k, l, z, a)
 
 -- ---- one worker
@@ -148,7 +148,7 @@ module _ (t : Setting) where
         let ys = map (λ (y : PrivatePart). cell_at n y.asks) x.own in
         let f = length-firsts (present (read.cell ∷ ys)) in
         let p : length (present (read.cell ∷ ys)) ≤ length ys =
-            subst (λ (o : Option ℕ). length (present (o ∷ ys)) ≤ length ys) (sym e) (length-filter_map (λ (c : Option ℕ). c) ys) in
+        subst (λ (o : Option ℕ). length (present (o ∷ ys)) ≤ length ys) (sym e) (length-filter_map (λ (c : Option ℕ). c) ys) in
         let m = length-map x.own (λ (y : PrivatePart). cell_at n y.asks) in
         omega (arith, f, p, m)
 
@@ -157,7 +157,7 @@ module _ (t : Setting) where
         let f = length-firsts (present (read.cell ∷ map (λ (y : PrivatePart). cell_at n y.asks) x.own)) in
         let p : length (present (read.cell ∷ map (λ (y : PrivatePart). cell_at n y.asks) x.own)) ≤ 1 =
         subst (λ (own : List PrivatePart). length (present (read.cell ∷ map (λ (y : PrivatePart). cell_at n y.asks) own)) ≤ 1) (sym e)
-            (length-filter_map (λ (c : Option ℕ). c) (read.cell ∷ [])) in
+        (length-filter_map (λ (c : Option ℕ). c) (read.cell ∷ [])) in
         omega (arith, f, p)
 
     abbrev ask_of : ℕ → ℕ → CellAsk
@@ -189,7 +189,7 @@ module _ (t : Setting) where
         go false e =
             let none : x.own ≡ [] = none_of x.own (d.processors ∙ ap (λ n. length (processors t w n)) (d.outside e)) in
             asks_few (IsReadBelow t.map.count) (λ r n h. let a = by_one r n none in let b = one in
-                omega (arith, a, b)) 0 x.uniform.asks k.uniform.asks
+            omega (arith, a, b)) 0 x.uniform.asks k.uniform.asks
 
     puts_few : length (puts_held t.code.rule x) ≤ share t
     puts_few =
@@ -276,7 +276,7 @@ module _ (t : Setting) (code : IsCode t.code) (room : IsMapFor t.code t.map) (fo
             Fits j (ready_by t w s way) (message_for t (ready_by t w s way).purpose (ready_by t w s way).state.worker j)
         by_way On e =
             at_arrival s (stretch t w s) (follow t formed w t.enough s.place s.worker (a e))
-                (until_kept t code w (Holds w) (holds_instr w) t.enough s.place s.worker h)
+            (until_kept t code w (Holds w) (holds_instr w) t.enough s.place s.worker h)
         by_way (Ending ended) e = closes s.worker
         by_way (Past key ended) e = closes s.worker
         by_way (Refused mark) e = closes s.worker
@@ -296,7 +296,7 @@ module _ (t : Setting) (code : IsCode t.code) (room : IsMapFor t.code t.map) (fo
       TakenFew t (after_exchange t w p x messages)
   taken_few w Sends x messages f h =
       all_map (λ (m : Message). length m.asks ≤ 8 * share t) (λ (cells : List ℕ). length cells ≤ 8 * share t) (λ (m : Message).
-          map (λ (y : CellAsk). y.cell) m.asks)
+      map (λ (y : CellAsk). y.cell) m.asks)
       (λ m k. let e = length-map m.asks (λ (y : CellAsk). y.cell) in omega (arith, e, k)) messages f
   taken_few w Replies x messages f h = tt
   taken_few w (Votes d) x messages f h = h
@@ -317,8 +317,10 @@ module _ (t : Setting) (code : IsCode t.code) (room : IsMapFor t.code t.map) (fo
   after_holds w r messages h v f = marks (mark_of messages)
     where
       marks : (mark : HeaderMark) → Holds w (after_with t w r messages mark).worker
-      marks Clear = (exchange_kept t w r.state.worker h.0 messages v r.purpose,
-          λ l. taken_few w r.purpose r.state.worker messages f (h.1 l))
+      marks Clear = (
+        exchange_kept t w r.state.worker h.0 messages v r.purpose,
+        λ l. taken_few w r.purpose r.state.worker messages f (h.1 l),
+      )
       marks OutOfMemory = none_holds w
       marks OutOfReserve = none_holds w
 

@@ -58,9 +58,9 @@ state_at (s ∷ states) (suc w) h = state_at states w h.1
 outcome_fits : (t : Setting) (states : List State) → AllByRecursion IsStateOfValues states → IsMaybeOfValues (outcome_of t states)
 outcome_fits t states h =
     verdict_fits (state_of states 0).way (state_of states 0).worker.uniform.output (map (cell_in t states) (all_cells t))
-        (state_at states 0 h).output
+    (state_at states 0 h).output
     (values_fit (cell_in t states) (λ c. value_fits (state_of states (t.map.part c)).worker.cells (t.map.offset c)
-        (state_at states (t.map.part c) h).cells) (all_cells t))
+    (state_at states (t.map.part c) h).cells) (all_cells t))
 
 -- ---- whole runs
 
@@ -79,7 +79,7 @@ module _ (t : Setting) (code : IsCode t.code) (room : IsMapFor t.code t.map) (v 
 
       go : (run (bsp t) (workers t) n (phase (bsp t) (workers t) ws) ≡ Some (Some v) → IsVerdictOfValues v) → (b : Bool) →
           (if b then Some (outcome_of t states) else run (bsp t) (workers t) n (phase (bsp t) (workers t) ws)) ≡ Some (Some v) →
-              IsVerdictOfValues v
+          IsVerdictOfValues v
       go rest true f = subst IsMaybeOfValues (unsome (outcome_of t states) (Some v) f) (outcome_fits t states all)
       go rest false f = rest f
 

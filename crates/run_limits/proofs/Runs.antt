@@ -87,7 +87,7 @@ module _ (t : Setting) (code : IsCode t.code) (w : ℕ) (K : Worker → Type 0) 
   until_kept zero place x h = tt
   until_kept (suc n) place x h =
       goes KeptAt Nowhere tt (λ stop k y. At stop k y) (λ stop k y g. g) (until t.bound (λ (y : Worker). y.uniform) (after_instr t w)
-          t.code.instructions n) (until_kept n) place x h
+      t.code.instructions n) (until_kept n) place x h
       (slice_get t.code.instructions place) refl
 
   abbrev pub KeptThen : Option (ℕ × Worker) → Type 0
@@ -99,7 +99,7 @@ module _ (t : Setting) (code : IsCode t.code) (w : ℕ) (K : Worker → Type 0) 
   walked_kept zero place x h = h
   walked_kept (suc n) place x h =
       goes KeptThen None tt (λ stop k y. None) (λ stop k y g. tt) (walked t.bound (λ (y : Worker). y.uniform) (after_instr t w)
-          t.code.instructions n) (walked_kept n) place x h
+      t.code.instructions n) (walked_kept n) place x h
       (slice_get t.code.instructions place) refl
 
   -- up to an exchange
@@ -180,7 +180,7 @@ module _ (t : Setting) (w : ℕ) where
     came_fits : (k c : ℕ) → FitsSigned w64 (value_came t x messages k c)
     came_fits k c =
         look_up_fits k c _ (all_second (filter (λ (y : CellAsk). eqb (t.map.part y.cell) (t.map.part c)) x.wanted) _
-            (message_at messages (t.map.part c) m))
+        (message_at messages (t.map.part c) m))
 
     sent_kept : IsKept t w (after_send t w x messages)
     sent_kept = record {
@@ -206,8 +206,11 @@ module _ (t : Setting) (w : ℕ) where
         output = h.uniform.output;
       };
       own = all_map (IsOwnKept count) (IsOwnKept count) (own_answered (value_came t x messages) x.uniform.awaited)
-          (λ y k. record { values = answers_fit (value_came t x messages) came_fits 0 (zip (destinations x.uniform.awaited) y.awaited)
-              y.registers k.values; asks = k.asks }) x.own h.own;
+          (λ y k. record {
+            values = answers_fit (value_came t x messages) came_fits 0 (zip (destinations x.uniform.awaited) y.awaited)
+                y.registers k.values;
+            asks = k.asks;
+          }) x.own h.own;
       cells = h.cells;
       writes = h.writes;
       few_own = λ l. let a = length-map x.own (own_answered (value_came t x messages) x.uniform.awaited) in let b = h.few_own l in
@@ -286,7 +289,7 @@ module _ (t : Setting) (code : IsCode t.code) (room : IsMapFor t.code t.map) whe
   pub column_values : (ws : ℕ → State) → ((w : ℕ) → IsKept t w (ws w).worker) → (w : ℕ) → AreOfValues (column (bsp t) (workers t) ws w)
   column_values ws h w =
       all_made (λ (m : Message). AreValues m.values) (λ (i : ℕ). message_of t i (ws i) w)
-          (λ i. message_values t i (ws i) w (readies_kept i (ws i) (h i)))
+      (λ i. message_values t i (ws i) w (readies_kept i (ws i) (h i)))
       (range_with_len 0 (workers t))
 
   pub phase_kept : (ws : ℕ → State) → ((w : ℕ) → IsKept t w (ws w).worker) → (w : ℕ) → IsKept t w (phase (bsp t) (workers t) ws w).worker
@@ -318,5 +321,10 @@ values_fit_in_runs t input g n m w place x e =
     let s = worker_after t input n w in
     let k : IsKept t w x = subst (λ (o : Option (ℕ × Worker)). KeptThen t g.code w (IsKept t w) (keeps t g.code g.room w) o) e
     (walked_kept t g.code w (IsKept t w) (keeps t g.code g.room w) m s.place s.worker (kept_after t g.code g.room input g.values n w)) in
-    record { uniform = k.uniform.values; own = all_also (IsOwnKept t.map.count) (λ (y : PrivatePart). HaveValues y.registers)
-        (λ y h. h.values) x.own k.own; cells = k.cells; output = k.uniform.output }
+    record {
+      uniform = k.uniform.values;
+      own = all_also (IsOwnKept t.map.count) (λ (y : PrivatePart). HaveValues y.registers)
+          (λ y h. h.values) x.own k.own;
+      cells = k.cells;
+      output = k.uniform.output;
+    }

@@ -31,12 +31,12 @@ module _ (p : ℕ) (some : 0 < p) (w : ℕ) where
   few (suc n) a zero l h =
       let here : a % p ≡ w = ap (λ k. k % p) (let z : a ≡ a + 0 = omega arith in z) ∙ h in
       let next : (a + 1 + (p - 1)) % p ≡ w = ap (λ k. k % p) (let z : a + 1 + (p - 1) ≡ a + p = omega (arith, some) in z)
-          ∙ add-mod_right a p ∙ here in
+      ∙ add-mod_right a p ∙ here in
       let rest = few n (a + 1) (p - 1) (omega (arith, some)) next in
       let is : eqb (a % p) w ≡ true = grind (arith, nat_tests) in
       let x : p * suc (length (members (a + 1) n)) ≡ p + p * length (members (a + 1) n) = grind arith in
       subst (λ (b : Bool). p * length (cond b (a ∷ members (a + 1) n) (members (a + 1) n)) + 0 ≤ suc n + (p - 1)) (sym is)
-          (omega (arith, rest, x, some))
+      (omega (arith, rest, x, some))
   few (suc n) a (suc e) l h =
       let next : (a + 1 + e) % p ≡ w = ap (λ k. k % p) (let z : a + 1 + e ≡ a + suc e = omega arith in z) ∙ h in
       let rest = few n (a + 1) e (omega (arith, l)) next in

@@ -61,7 +61,7 @@ high_below v w low high same_low same_high h lt = grind (arith, ints)
 module _ (bytes word rest : List ℕ) (parts : IsCut 32 bytes word rest) where
   none_by : ((name : List ℕ) → IsName name → word ≡ codes "cell" → rest ≡ name → ⊥)
       → ((name : List ℕ) (low high : ℤ) → IsName name → AreBounds (Some (low, high)) → word ≡ codes "array" →
-          rest ≡ name ++ 32 ∷ (signed_decimal low ++ 32 ∷ signed_decimal high) → ⊥)
+      rest ≡ name ++ 32 ∷ (signed_decimal low ++ 32 ∷ signed_decimal high) → ⊥)
       → (name : List ℕ) (bounds : Option (ℤ × ℤ)) → IsName name → AreBounds bounds → bytes ≡ line (entry_words name bounds) → ⊥
   none_by no_cell no_array name None n h e = let is = cut_as (codes "cell") name parts (lacks_visible 32 (codes "cell") (lit≤ tt) refl) e in
       no_cell name n is.0 is.1
@@ -77,7 +77,7 @@ module _ (bytes word rest : List ℕ) (parts : IsCut 32 bytes word rest) where
 
   pub no_array : word ≡ codes "array"
       → ((name : List ℕ) (low high : ℤ) → IsName name → AreBounds (Some (low, high)) →
-          rest ≡ name ++ 32 ∷ (signed_decimal low ++ 32 ∷ signed_decimal high) → ⊥)
+      rest ≡ name ++ 32 ∷ (signed_decimal low ++ 32 ∷ signed_decimal high) → ⊥)
       → (e : SharedEntry) → IsEntry e → bytes ≡ entry_line e → ⊥
   no_array is_array none e is = none_by (λ name n w r. absurd (let both : codes "cell" ≡ codes "array" = sym w ∙ is_array in cc))
       (λ name low high n h w r. none name low high n h r) e.name e.bounds is.is_name is.are_bounds

@@ -218,5 +218,5 @@ pub split_body : (text word behind : List ℕ) (i : Instr) → text ≡ word ++ 
     → (word ≡ side_of i ++ stem_of i) × (behind ≡ spaced (numbers_of i))
 split_body text word behind i whole lacks follows e =
     one_cut 32 word (side_of i ++ stem_of i) behind (spaced (numbers_of i)) lacks (lacks_word 32 i (lit≤ tt)) follows
-        (follows_spaced (numbers_of i))
+    (follows_spaced (numbers_of i))
     (sym whole ∙ e ∙ sym (append_assoc (side_of i) (stem_of i) (spaced (numbers_of i))))

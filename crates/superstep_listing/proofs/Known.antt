@@ -71,5 +71,5 @@ pub known_more : (has now : List ℕ → Bool) (es all : List SharedEntry) (e : 
     ((q : List ℕ) → now q ≡ (bytes_eq e.name q || has q)) → AreKnown now all
 known_more has now es all e known same told q =
     told q ∙ ap (λ b. b || has q) (bytes_turned e.name q) ∙ ap (λ b. bytes_eq q e.name || b) (known q)
-        ∙ sym (any_more (names_of es) q e.name)
+    ∙ sym (any_more (names_of es) q e.name)
     ∙ ap (list_any (λ other. bytes_eq q other)) (sym (ap names_of same ∙ names-more es e))

@@ -78,7 +78,7 @@ go_on all [] back pa pf e = record { rest = all; whole = refl; left = sym e }
 go_on [] (f ∷ front) back pa pf e = absurd (no_end f (ended front) back e)
 go_on (a ∷ all) (f ∷ front) back pa pf e =
     let regroup = sym (append_assoc a (10 ∷ []) (ended all)) ∙ e ∙ append_assoc (f ++ 10 ∷ []) (ended front) back
-        ∙ append_assoc f (10 ∷ []) (ended front ++ back) in
+    ∙ append_assoc f (10 ∷ []) (ended front ++ back) in
     let both = one_cut 10 a f (10 ∷ ended all) (10 ∷ (ended front ++ back)) pa.0 pf.0 refl refl regroup in
     let rest : ended all ≡ ended front ++ back = (let h : 10 ∷ ended all ≡ 10 ∷ (ended front ++ back) = both.1 in cc) in
     let more = go_on all front back pa.1 pf.1 rest in
@@ -107,8 +107,11 @@ first_bad text left fits s = record {
   place = (let size : length text ≡ length (ended s.front) + length s.back = ap length s.whole ∙ length-append (ended s.front) s.back in
       let p = s.place in omega arith);
   begins = (let b = s.begins in record { code = b.code; stands = b.stands; more = s.more; same = b.same });
-  stops = λ bytes more e b. s.stuck (bytes ∷ b.more) (record { code = b.code; stands = b.stands;
-      same = b.same ∙ append_assoc s.front (bytes ∷ []) b.more }) more e;
+  stops = λ bytes more e b. s.stuck (bytes ∷ b.more) (record {
+    code = b.code;
+    stands = b.stands;
+    same = b.same ∙ append_assoc s.front (bytes ∷ []) b.more;
+  }) more e;
 }
 
 entries_once : (es ds : List SharedEntry) (u v : ℕ) (xs ys : List (List ℕ)) → AllByRecursion IsEntry es → AllByRecursion IsEntry ds
@@ -140,7 +143,7 @@ none_behind (x ∷ rest) e = absurd (no_end x (ended rest) [] (e ∙ sym (append
 pub listing_once : (text : List ℕ) (c d : SuperstepCode) → IsListing text c → IsListing text d → c ≡ d
 listing_once text c d lc ld =
     let g = go_on (lines_of c) (lines_of d) [] (plain_lines c lc.stands) (plain_lines d ld.stands) (sym lc.spelled ∙ ld.spelled
-        ∙ sym (append-nil (spelling d))) in
+    ∙ sym (append-nil (spelling d))) in
     let lines : lines_of c ≡ lines_of d = g.whole ∙ ap (λ l. lines_of d ++ l) (none_behind g.rest g.left) ∙ append-nil (lines_of d) in
     let one = tails (codes "bsp 1") (codes "bsp 1") _ _ lines in
     let two = tails (rule_line c.rule) (rule_line d.rule) _ _ one in
@@ -149,22 +152,22 @@ listing_once text c d lc ld =
     let sc = lc.stands in
     let sd = ld.stands in
     let procs = field_once (codes "procs") c.procs d.procs (lacks_visible 32 (codes "procs") (lit≤ tt) refl) (let f = sc.few_procs in
-        omega arith) (let f = sd.few_procs in omega arith) (heads _ _ _ _ two) in
+    omega arith) (let f = sd.few_procs in omega arith) (heads _ _ _ _ two) in
     let parts = entries_once c.layout d.layout c.uniform_registers d.uniform_registers _ _ sc.layout.entries sd.layout.entries three in
     let four = tails (line (field_words (codes "uniform") c.uniform_registers)) (line (field_words (codes "uniform") d.uniform_registers)) _
-        _ parts.1 in
+    _ parts.1 in
     let five = tails (line (field_words (codes "private") c.private_registers)) (line (field_words (codes "private") d.private_registers)) _
-        _ four in
+    _ four in
     let six = tails (line (field_words (codes "code") (length c.instructions))) (line (field_words (codes "code") (length d.instructions)))
-        _ _ five in
+    _ _ five in
     let uniform = field_once (codes "uniform") c.uniform_registers d.uniform_registers (lacks_visible 32 (codes "uniform") (lit≤ tt) refl)
-        (let f = sc.few_uniform in omega arith) (let f = sd.few_uniform in omega arith)
+    (let f = sc.few_uniform in omega arith) (let f = sd.few_uniform in omega arith)
     (heads _ _ _ _ parts.1) in
     let private = field_once (codes "private") c.private_registers d.private_registers (lacks_visible 32 (codes "private") (lit≤ tt) refl)
-        (let f = sc.few_private in omega arith) (let f = sd.few_private in omega arith)
+    (let f = sc.few_private in omega arith) (let f = sd.few_private in omega arith)
     (heads _ _ _ _ four) in
     let instrs = instrs_once 0 c.instructions d.instructions (let f = sc.few_instructions in
-        omega arith) sc.instructions sd.instructions six in
+    omega arith) sc.instructions sd.instructions six in
     λ i. record {
       rule = rules i;
       procs = procs i;

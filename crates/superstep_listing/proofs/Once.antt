@@ -65,8 +65,8 @@ bounds_once n m (Some (a, b)) (Some (x, y)) isn ism hb hd e =
     let names = one_cut 32 n m (32 ∷ lows) (32 ∷ others) (lacks_name 32 n (lit≤ tt) isn) (lacks_name 32 m (lit≤ tt) ism) refl refl tails in
     let bounds : lows ≡ others = (let h : 32 ∷ lows ≡ 32 ∷ others = names.1 in cc) in
     let parts = one_cut 32 (signed_decimal a) (signed_decimal x) (32 ∷ signed_decimal b) (32
-        ∷ signed_decimal y) (lacks_number 32 a (lit< tt) (low_fits a b hb)) (lacks_number 32 x (lit< tt) (low_fits x y hd)) refl refl
-        bounds in
+    ∷ signed_decimal y) (lacks_number 32 a (lit< tt) (low_fits a b hb)) (lacks_number 32 x (lit< tt) (low_fits x y hd)) refl refl
+    bounds in
     let high : signed_decimal b ≡ signed_decimal y = (let h : 32 ∷ signed_decimal b ≡ 32 ∷ signed_decimal y = parts.1 in cc) in
     let one = one_number a x (low_fits a b hb) (low_fits x y hd) parts.0 in
     let two = one_number b y (high_fits a b hb) (high_fits x y hd) high in
@@ -80,13 +80,13 @@ entry_once d e isd ise same =
 pub instr_once : (k : ℕ) (i j : Instr) → k < 2 ^ 64 → IsInstr i → IsInstr j → line (instr_words k i) ≡ line (instr_words k j) → i ≡ j
 instr_once k i j fits isi isj same =
     let bodies = one_cut 32 (decimal k) (decimal k) _ _ (lacks_decimal 32 k (lit< tt) fits) (lacks_decimal 32 k (lit< tt) fits) refl refl
-        (sym (line-instr k i) ∙ same ∙ line-instr k j) in
+    (sym (line-instr k i) ∙ same ∙ line-instr k j) in
     let text = side_of i ++ (stem_of i ++ spaced (numbers_of i)) in
     let other = side_of j ++ (stem_of j ++ spaced (numbers_of j)) in
     let e : text ≡ other = (let h : 32 ∷ text ≡ 32 ∷ other = bodies.1 in cc) in
     let parts = split_body text (side_of i ++ stem_of i) (spaced (numbers_of i)) j
-        (sym (append_assoc (side_of i) (stem_of i) (spaced (numbers_of i)))) (lacks_word 32 i (lit≤ tt)) (follows_spaced (numbers_of i))
-        e in
+    (sym (append_assoc (side_of i) (stem_of i) (spaced (numbers_of i)))) (lacks_word 32 i (lit≤ tt)) (follows_spaced (numbers_of i))
+    e in
     let found = sym (template_word i) ∙ ap template_of parts.0 ∙ template_word j in
     let start : blank i ≡ blank j = cc in
     let ns = spaced_once (numbers_of i) (numbers_of j) (numbers_fit i isi) (numbers_fit j isj) parts.1 in

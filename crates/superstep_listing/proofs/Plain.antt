@@ -59,7 +59,7 @@ plain_bounds name (Some (low, high)) n h =
     lacks-append 10 (codes "array") (32 ∷ (name ++ lows)) (lacks_visible 10 (codes "array") (lit≤ tt) refl) (behind_space (name ++ lows)
     (lacks-append 10 name lows (lacks_name 10 name (lit≤ tt) n) (behind_space (signed_decimal low ++ highs)
     (lacks-append 10 (signed_decimal low) highs (lacks_number 10 low (lit< tt) (low_fits low high h))
-        (behind_space (signed_decimal high) (lacks_number 10 high (lit< tt) (high_fits low high h)))))))
+    (behind_space (signed_decimal high) (lacks_number 10 high (lit< tt) (high_fits low high h)))))))
 
 pub plain_entry : (e : SharedEntry) → IsEntry e → Lacks 10 (entry_line e)
 plain_entry e is = plain_bounds e.name e.bounds is.is_name is.are_bounds

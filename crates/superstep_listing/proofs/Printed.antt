@@ -25,7 +25,7 @@ pub line-instr : (k : ℕ) (instr : Instr) → line (instr_words k instr) ≡ de
     ++ (32 ∷ (side_of instr ++ (stem_of instr ++ spaced (numbers_of instr))))
 line-instr k instr =
     ap (λ l. decimal k ++ 32 ∷ l) (line-spaced (side_of instr ++ stem_of instr) (numbers_of instr)
-        ∙ append_assoc (side_of instr) (stem_of instr) (spaced (numbers_of instr)))
+    ∙ append_assoc (side_of instr) (stem_of instr) (spaced (numbers_of instr)))
 
 -- the same with the end of the line, as they are printed
 pub printed-field : (name : List ℕ) (n : ℕ) → line (field_words name n) ++ 10 ∷ [] ≡ name
@@ -40,7 +40,7 @@ printed-instr k instr = ap (λ l. l ++ 10 ∷ []) (line-instr k instr) ∙ simp 
 pub printed_entry : {A : Type 0} (all : List A → List ℕ) (text : A → List ℕ) → ((y : A) (ys : List A) → all (y ∷ ys) ≡ text y ++ all ys) →
     (start now next : Printing) (xs : List A) (i : ℕ)
     → PrintedTo all start now xs i → i < length xs → IfSome (slice_get xs i) (λ e. Prints now next (text e)) →
-        PrintedTo all start next xs (i + 1)
+    PrintedTo all start next xs (i + 1)
 printed_entry all text more start now next xs i before within prints =
     elim (slice_get_cases xs i).1 [
       | inl h ↦ printed_more all text more start now next xs i h.0 before within (sym h.3)
@@ -78,13 +78,13 @@ pub instrs_all : (start now : Printing) (xs : List Instr) (i : ℕ) → length x
     Prints start now (ended (instr_lines 0 xs))
 instrs_all start now xs i past before =
     printed_as (sym before.whole ∙ ap (λ l. before.front ++ ended (instr_lines i l)) (drop_all i xs past)
-        ∙ append-nil before.front) before.prints
+    ∙ append-nil before.front) before.prints
 
 -- all the lines, part by part
 pub printed-code : (code : SuperstepCode) → spelling code
     ≡ ended (head_lines code.rule code.procs) ++ (ended (map entry_line code.layout)
     ++ (ended (size_lines code.uniform_registers code.private_registers (length code.instructions))
-        ++ ended (instr_lines 0 code.instructions)))
+    ++ ended (instr_lines 0 code.instructions)))
 printed-code code =
     let head = head_lines code.rule code.procs in
     let entries = map entry_line code.layout in
@@ -103,9 +103,9 @@ pub printed-head : (rule : Rule) (procs : ℕ) → ended (head_lines rule procs)
 printed-head rule procs =
     let last = line (field_words (codes "procs") procs) ++ 10 ∷ [] in
     ap (λ l. codes "bsp 1\nrule " ++ l) (ap (λ l. (rule_word rule ++ 10 ∷ []) ++ l) (append-nil last)
-        ∙ append_assoc (rule_word rule) (10 ∷ []) last)
+    ∙ append_assoc (rule_word rule) (10 ∷ []) last)
 
 pub printed-sizes : (uniform private count : ℕ) → ended (size_lines uniform private count)
     ≡ (line (field_words (codes "uniform") uniform) ++ 10 ∷ []) ++ ((line (field_words (codes "private") private) ++ 10 ∷ [])
-        ++ (line (field_words (codes "code") count) ++ 10 ∷ []))
+    ++ (line (field_words (codes "code") count) ++ 10 ∷ []))
 printed-sizes uniform private count = simp (append_assoc, append-nil)

@@ -48,7 +48,7 @@ goes_on (x ∷ xs) [] rest fx fz f e = absurd (cc)
 goes_on (x ∷ xs) (z ∷ zs) rest fx fz f e =
     let tails : signed_decimal x ++ spaced xs ++ rest ≡ signed_decimal z ++ spaced zs = cc in
     let both = one_cut 32 (signed_decimal x) (signed_decimal z) (spaced xs ++ rest) (spaced zs) (lacks_number 32 x (lit< tt) fx.0)
-        (lacks_number 32 z (lit< tt) fz.0)
+    (lacks_number 32 z (lit< tt) fz.0)
     (follows_joined xs rest f) (follows_spaced zs) (sym (append_assoc (signed_decimal x) (spaced xs) rest) ∙ tails) in
     let same : x ≡ z = one_number x z fx.0 fz.0 both.0 in
     let next = goes_on xs zs rest fx.1 fz.1 f both.1 in
@@ -59,9 +59,12 @@ first_of_them : (text word next : List ℕ) (more : List ℤ) → AllFit more �
     → (z : ℤ) × Fits (Wide z) × (word ≡ signed_decimal z)
 first_of_them text word next [] fit left whole lacks follows = absurd (cc)
 first_of_them text word next (z ∷ zs) fit left whole lacks follows =
-    let e : text ≡ signed_decimal z ++ spaced zs = cc in
-    (z, fit.0, (one_cut 32 word (signed_decimal z) next (spaced zs) lacks (lacks_number 32 z (lit< tt) fit.0) follows (follows_spaced zs)
-        (sym whole ∙ e)).0)
+    let e : text ≡ signed_decimal z ++ spaced zs = cc in (
+      z,
+      fit.0,
+      (one_cut 32 word (signed_decimal z) next (spaced zs) lacks (lacks_number 32 z (lit< tt) fit.0) follows (follows_spaced zs)
+          (sym whole ∙ e)).0,
+    )
 
 -- the next word is the next number
 pub next_number : (behind text word next : List ℕ) (xs zs : List ℤ) → behind ≡ spaced xs ++ 32 ∷ text → AllFit xs → text ≡ word ++ next →

@@ -24,13 +24,13 @@ pub line_then : (bytes text rest : List ℕ) (front : List (List ℕ)) (back : L
     rest ≡ ended front ++ back → text ≡ ended (bytes ∷ front) ++ back
 line_then bytes text rest front back first then =
     first ∙ ap (λ l. bytes ++ 10 ∷ l) then
-        ∙ sym (append_assoc (bytes ++ 10 ∷ []) (ended front) back ∙ append_assoc bytes (10 ∷ []) (ended front ++ back))
+    ∙ sym (append_assoc (bytes ++ 10 ∷ []) (ended front) back ∙ append_assoc bytes (10 ∷ []) (ended front ++ back))
 
 pub instr_lines-append : (k : ℕ) (a b : List Instr) → instr_lines k (a ++ b) ≡ instr_lines k a ++ instr_lines (k + length a) b
 instr_lines-append k [] b = ap (λ n. instr_lines n b) (let e : k ≡ k + 0 = omega arith in e)
 instr_lines-append k (x ∷ a) b =
     ap (λ l. line (instr_words k x) ∷ l) (instr_lines-append (k + 1) a b
-        ∙ ap (λ n. instr_lines (k + 1) a ++ instr_lines n b) (let e : k + 1 + length a ≡ k + suc (length a) = omega arith in e))
+    ∙ ap (λ n. instr_lines (k + 1) a ++ instr_lines n b) (let e : k + 1 + length a ≡ k + suc (length a) = omega arith in e))
 
 -- one more instruction is read
 pub read_more : (text rest behind : List ℕ) (is : List Instr) (place : ℕ) (i : Instr) → length is ≡ place → text ≡ ended (instr_lines 0 is)
@@ -40,7 +40,7 @@ read_more text rest behind is place i counted whole next =
     let bytes = line (instr_words place i) in
     let lines : instr_lines 0 (is ++ i ∷ []) ≡ instr_lines 0 is ++ bytes ∷ [] =
     instr_lines-append 0 is (i ∷ []) ∙ ap (λ n. instr_lines 0 is ++ line (instr_words n i) ∷ []) (let e : 0 + length is ≡ place =
-        omega arith in e) in
+    omega arith in e) in
     whole ∙ ap (λ l. ended (instr_lines 0 is) ++ l) (line_then bytes rest behind [] behind next refl)
     ∙ sym (append_assoc (ended (instr_lines 0 is)) (ended (bytes ∷ [])) behind)
     ∙ ap (λ l. l ++ behind) (sym (ended-append (instr_lines 0 is) (bytes ∷ [])) ∙ ap ended (sym lines))
@@ -106,7 +106,7 @@ after k (i ∷ is) [] lines fit e less = absurd (omega arith)
 after k (i ∷ is) (j ∷ js) lines fit e less =
     let tail = tails (line (instr_words k j)) (line (instr_words k i)) (instr_lines (k + 1) js) (instr_lines (k + 1) is ++ lines) e in
     subst (λ n. NextInstr n lines) (let h : k + 1 + length is ≡ k + suc (length is) = omega arith in
-        h) (after (k + 1) is js lines fit.1 tail (omega arith))
+    h) (after (k + 1) is js lines fit.1 tail (omega arith))
 
 nothing_after : (k : ℕ) (is js : List Instr) (lines : List (List ℕ)) → instr_lines k js ≡ instr_lines k is ++ lines →
     length js ≡ length is → lines ≡ []
@@ -115,13 +115,13 @@ nothing_after k [] (j ∷ js) lines e same = absurd (omega arith)
 nothing_after k (i ∷ is) [] lines e same = absurd (omega arith)
 nothing_after k (i ∷ is) (j ∷ js) lines e same =
     nothing_after (k + 1) is js lines (tails (line (instr_words k j)) (line (instr_words k i)) (instr_lines (k + 1) js)
-        (instr_lines (k + 1) is ++ lines) e) (omega arith)
+    (instr_lines (k + 1) is ++ lines) e) (omega arith)
 
 -- a line that is no instruction's
 pub stuck_instr : (count place : ℕ) (is : List Instr) (text rest : List ℕ) → length is ≡ place → place < count → AllByRecursion IsInstr is →
     text ≡ ended (instr_lines 0 is) ++ rest
     → ((i : Instr) (more : List ℕ) → IsInstr i → rest ≡ line (instr_words place i) ++ 10 ∷ more → ⊥) →
-        IsStuck (AreInstrs count) text (length rest)
+    IsStuck (AreInstrs count) text (length rest)
 stuck_instr count place is text rest counted less fit whole none =
     let n = count - place in
     let all : length (is ++ halts n) ≡ count = (let l = length-append is (halts n) in let h = length-halts n in omega arith) in
@@ -136,7 +136,7 @@ stuck_instr count place is text rest counted less fit whole none =
           let next = after 0 is a.instructions lines a.fit a.same (let c = a.counted in omega arith) in
           let is_place : 0 + length is ≡ place = omega arith in
           subst (λ ls. CannotBe ls rest) (sym next.same) (λ more e. none next.instr more next.fit (e
-              ∙ ap (λ k. line (instr_words k next.instr) ++ 10 ∷ more) is_place));
+          ∙ ap (λ k. line (instr_words k next.instr) ++ 10 ∷ more) is_place));
     }
 
 -- a text that goes on behind the last instruction
@@ -173,8 +173,16 @@ stuck_uniform text none = record {
   whole = refl;
   place = refl;
   more = size_lines 0 0 0;
-  begins = record { uniform = 0; private = 0; instructions = []; few_uniform = lit≤ tt; few_private = lit≤ tt; few = lit≤ tt; fit = tt;
-      same = refl };
+  begins = record {
+    uniform = 0;
+    private = 0;
+    instructions = [];
+    few_uniform = lit≤ tt;
+    few_private = lit≤ tt;
+    few = lit≤ tt;
+    fit = tt;
+    same = refl;
+  };
   stuck = λ lines a. subst (λ ls. CannotBe ls text) a.same (λ more e. none a.uniform more (omega arith) a.few_uniform e);
 }
 
@@ -186,8 +194,16 @@ stuck_private u text rest few whole none = record {
   whole = line_then (uniform_line u) text rest [] rest whole refl;
   place = refl;
   more = private_line 0 ∷ count_line 0 ∷ [];
-  begins = record { uniform = u; private = 0; instructions = []; few_uniform = few; few_private = lit≤ tt; few = lit≤ tt; fit = tt;
-      same = refl };
+  begins = record {
+    uniform = u;
+    private = 0;
+    instructions = [];
+    few_uniform = few;
+    few_private = lit≤ tt;
+    few = lit≤ tt;
+    fit = tt;
+    same = refl;
+  };
   stuck = λ lines a. subst (λ ls. CannotBe ls rest) (tails (uniform_line a.uniform) (uniform_line u) _ lines a.same)
       (λ more e. none a.private more (omega arith) a.few_private e);
 }
@@ -204,7 +220,7 @@ stuck_count u v text mid rest fu fv first second none = record {
   begins = record { uniform = u; private = v; instructions = []; few_uniform = fu; few_private = fv; few = lit≤ tt; fit = tt; same = refl };
   stuck = λ lines a.
       let same = tails (private_line a.private) (private_line v) _ lines (tails (uniform_line a.uniform) (uniform_line u) _ (private_line v
-          ∷ lines) a.same) in
+      ∷ lines) a.same) in
       subst (λ ls. CannotBe ls rest) same (λ more e. none (length a.instructions) more (omega arith) a.few e);
 }
 
@@ -212,7 +228,7 @@ stuck_count u v text mid rest fu fv first second none = record {
 pub stuck_rest : (u v count : ℕ) (text mid more lines : List ℕ) (left : ℕ) → u ≤ most_registers → v ≤ most_registers →
     count ≤ most_instructions
     → text ≡ uniform_line u ++ 10 ∷ mid → mid ≡ private_line v ++ 10 ∷ more → more ≡ count_line count ++ 10 ∷ lines →
-        IsStuck (AreInstrs count) lines left → IsStuck AreRest text left
+    IsStuck (AreInstrs count) lines left → IsStuck AreRest text left
 stuck_rest u v count text mid more lines left fu fv fc first second third s =
     let a = s.begins in
     record {
@@ -220,7 +236,7 @@ stuck_rest u v count text mid more lines left fu fv fc first second third s =
       back = s.back;
       whole = line_then (uniform_line u) text mid (private_line v ∷ count_line count ∷ s.front) s.back first
           (line_then (private_line v) mid more (count_line count
-              ∷ s.front) s.back second (line_then (count_line count) more lines s.front s.back third s.whole));
+          ∷ s.front) s.back second (line_then (count_line count) more lines s.front s.back third s.whole));
       place = s.place;
       more = s.more;
       begins = record {
@@ -239,9 +255,13 @@ stuck_rest u v count text mid more lines left fu fv fc first second third s =
           let is = heads (count_line (length b.instructions)) (count_line count) _ (s.front ++ ls) two in
           let few = b.few in
           let counted = field_once (codes "code") (length b.instructions) count (lacks_visible 32 (codes "code") (lit≤ tt) refl)
-              (omega arith) (omega arith) is in
-          s.stuck ls (record { instructions = b.instructions; counted = counted; fit = b.fit;
-              same = tails (count_line (length b.instructions)) (count_line count) _ (s.front ++ ls) two });
+          (omega arith) (omega arith) is in
+          s.stuck ls (record {
+            instructions = b.instructions;
+            counted = counted;
+            fit = b.fit;
+            same = tails (count_line (length b.instructions)) (count_line count) _ (s.front ++ ls) two;
+          });
     }
 
 -- an error of a part, as one of the whole

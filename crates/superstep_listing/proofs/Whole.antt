@@ -74,7 +74,7 @@ stuck_procs r text mid rest first second none = record {
   stuck = λ lines a.
       let same = tails (rule_line a.code.rule) (rule_line r) _ lines (tails version_line version_line _ (rule_line r ∷ lines) a.same) in
       subst (λ ls. CannotBe ls rest) same (λ more e. none a.code.procs more (let s = a.stands.some_procs in
-          omega arith) a.stands.few_procs e);
+      omega arith) a.stands.few_procs e);
 }
 
 -- A front of a layout is one.
@@ -128,12 +128,18 @@ split_entries (d ∷ es) [] u others lines fe fa e =
     absurd (no_field d.name d.bounds u (sym (heads (uniform_line u) (entry_line d) others (map entry_line es ++ lines) e)))
 split_entries (d ∷ es) (x ∷ all) u others lines fe fa e =
     let same = entry_once x d fa.0 fe.0 (heads (entry_line x) (entry_line d) (map entry_line all ++ uniform_line u
-        ∷ others) (map entry_line es ++ lines) e) in
+    ∷ others) (map entry_line es ++ lines) e) in
     let rest = tails (entry_line x) (entry_line d) (map entry_line all ++ uniform_line u ∷ others) (map entry_line es ++ lines) e in
     elim (split_entries es all u others lines fe.1 fa.1 rest) [
       | inl h ↦ inl h
-      | inr h ↦ inr (record { entry = h.entry; after = h.after; whole = ap (λ l. x ∷ l) h.whole
-          ∙ ap (λ y. y ∷ (es ++ h.entry ∷ h.after)) same; others = h.others; first = h.first })
+      | inr h ↦ inr (record {
+        entry = h.entry;
+        after = h.after;
+        whole = ap (λ l. x ∷ l) h.whole
+            ∙ ap (λ y. y ∷ (es ++ h.entry ∷ h.after)) same;
+        others = h.others;
+        first = h.first;
+      })
     ]
 
 -- lines that begin with a declaration's are no rest of code
@@ -155,8 +161,15 @@ module _ (r : Rule) (m : ℕ) (es : List SharedEntry) (some : 0 < m) (few : m �
 
   code_with : (lines : List (List ℕ)) → AreRest lines → AreCode (before lines)
   code_with lines a = record {
-    code = record { rule = r; procs = m; layout = es; uniform_registers = a.uniform; private_registers = a.private; instructions =
-        a.instructions };
+    code = record {
+      rule = r;
+      procs = m;
+      layout = es;
+      uniform_registers = a.uniform;
+      private_registers = a.private;
+      instructions =
+          a.instructions;
+    };
     stands = record {
       some_procs = some;
       few_procs = few;
@@ -171,7 +184,7 @@ module _ (r : Rule) (m : ℕ) (es : List SharedEntry) (some : 0 < m) (few : m �
 
   rest_with : (code : SuperstepCode) (lines : List (List ℕ)) → IsCode code
       → size_lines code.uniform_registers code.private_registers (length code.instructions) ++ instr_lines 0 code.instructions ≡ lines →
-          AreRest lines
+      AreRest lines
   rest_with code lines stands same = record {
     uniform = code.uniform_registers;
     private = code.private_registers;
@@ -186,19 +199,19 @@ module _ (r : Rule) (m : ℕ) (es : List SharedEntry) (some : 0 < m) (few : m �
   pub stuck_code : (text one two three lines : List ℕ) (left : ℕ) → text ≡ version_line ++ 10 ∷ one → one ≡ rule_line r ++ 10 ∷ two →
       two ≡ procs_line m ++ 10 ∷ three
       → three ≡ ended (map entry_line es) ++ lines → ((e : SharedEntry) (more : List ℕ) → IsLayout (es ++ e ∷ []) →
-          lines ≡ entry_line e ++ 10 ∷ more → ⊥)
+      lines ≡ entry_line e ++ 10 ∷ more → ⊥)
       → IsStuck AreRest lines left → IsStuck AreCode text left
   stuck_code text one two three lines left first second third fourth most s =
       let entries = map entry_line es in
       let whole : three ≡ ended (entries ++ s.front) ++ s.back =
       fourth ∙ ap (λ l. ended entries ++ l) s.whole ∙ sym (append_assoc (ended entries) (ended s.front) s.back)
-          ∙ ap (λ l. l ++ s.back) (sym (ended-append entries s.front)) in
+      ∙ ap (λ l. l ++ s.back) (sym (ended-append entries s.front)) in
       record {
         front = before s.front;
         back = s.back;
         whole = line_then version_line text one (rule_line r ∷ procs_line m ∷ (entries ++ s.front)) s.back first
             (line_then (rule_line r) one two (procs_line m ∷ (entries ++ s.front)) s.back second
-                (line_then (procs_line m) two three (entries ++ s.front) s.back third whole));
+            (line_then (procs_line m) two three (entries ++ s.front) s.back third whole));
         place = s.place;
         more = s.more;
         begins = subst AreCode (ap (λ l. head_lines r m ++ l) (sym (append_assoc entries s.front s.more)))
@@ -207,15 +220,15 @@ module _ (r : Rule) (m : ℕ) (es : List SharedEntry) (some : 0 < m) (few : m �
             let c = a.code in
             let past = tails (procs_line c.procs) (procs_line m) _ ((entries ++ s.front) ++ ls)
             (tails (rule_line c.rule) (rule_line r) _ (procs_line m
-                ∷ ((entries ++ s.front) ++ ls)) (tails version_line version_line _ (rule_line r ∷ procs_line m
-                ∷ ((entries ++ s.front) ++ ls)) a.same)) in
+            ∷ ((entries ++ s.front) ++ ls)) (tails version_line version_line _ (rule_line r ∷ procs_line m
+            ∷ ((entries ++ s.front) ++ ls)) a.same)) in
             elim (split_entries es c.layout c.uniform_registers _ (s.front ++ ls) layout.entries a.stands.layout.entries (past
-                ∙ append_assoc entries s.front ls)) [
+            ∙ append_assoc entries s.front ls)) [
               | inl h ↦ s.stuck ls (rest_with c (s.front ++ ls) a.stands (sym h))
               | inr h ↦ first_differs s.front ls h.others s.more h.entry s.back s.begins h.first
                   (λ rest none_before e.
                   let stands = layout_front (es ++ h.entry
-                      ∷ []) h.after (subst IsLayout (h.whole ∙ sym (append_assoc es (h.entry ∷ []) h.after)) a.stands.layout) in
+                  ∷ []) h.after (subst IsLayout (h.whole ∙ sym (append_assoc es (h.entry ∷ []) h.after)) a.stands.layout) in
                   most h.entry rest stands (s.whole ∙ ap (λ f. ended f ++ s.back) none_before ∙ e))
             ];
       }

@@ -19,30 +19,30 @@ lookup (entry ∷ rest) word = if same_text entry.0 word then Some entry.1 else 
 abbrev pub plain_words : List (List ℕ × Instr)
 plain_words =
     (codes "mark", Mark 0) ∷ (codes "pfrom", CopyUniform 0 0) ∷ (codes "pindex", Index 0) ∷ (codes "enter", Enter 0 0 0)
-        ∷ (codes "leave", Leave)
+    ∷ (codes "leave", Leave)
     ∷ (codes "mask", Mask 0) ∷ (codes "flip", Flip) ∷ (codes "unmask", Unmask) ∷ []
 
 abbrev pub control_words : List (List ℕ × Instr)
 control_words =
     (codes "send", Send) ∷ (codes "reply", Reply) ∷ (codes "vote", Vote 0) ∷ (codes "print", Print 0) ∷ (codes "jump", Jump 0)
-        ∷ (codes "jzero", JumpIfZero 0 0)
+    ∷ (codes "jzero", JumpIfZero 0 0)
     ∷ (codes "halt", Halt) ∷ []
 
 -- the words of those with a side, without its letter
 abbrev pub move_words : Side → List (List ℕ × Instr)
 move_words side =
     (codes "set", Set side 0 (pos 0)) ∷ (codes "copy", Copy side 0 0) ∷ (codes "neg", Negate side 0 0 0) ∷ (codes "not", Not side 0 0)
-        ∷ (codes "ask", Ask side 0 0 0 0)
+    ∷ (codes "ask", Ask side 0 0 0 0)
     ∷ (codes "put", Put side 0 0 0 0) ∷ []
 
 abbrev pub operation_words : Side → List (List ℕ × Instr)
 operation_words side =
     (codes "add", Calculate side arithmetic.Add 0 0 0 0) ∷ (codes "sub", Calculate side arithmetic.Subtract 0 0 0 0)
-        ∷ (codes "mul", Calculate side arithmetic.Multiply 0 0 0 0)
+    ∷ (codes "mul", Calculate side arithmetic.Multiply 0 0 0 0)
     ∷ (codes "div", Calculate side arithmetic.Divide 0 0 0 0) ∷ (codes "mod", Calculate side arithmetic.Remainder 0 0 0 0)
-        ∷ (codes "eq", Decide side truth.Equal 0 0 0)
+    ∷ (codes "eq", Decide side truth.Equal 0 0 0)
     ∷ (codes "lt", Decide side truth.Less 0 0 0) ∷ (codes "le", Decide side truth.AtMost 0 0 0) ∷ (codes "and", Decide side truth.And 0 0 0)
-        ∷ (codes "or", Decide side truth.Or 0 0 0) ∷ []
+    ∷ (codes "or", Decide side truth.Or 0 0 0) ∷ []
 
 -- the first of two that is there
 abbrev pub either : Option Instr → Option Instr → Option Instr

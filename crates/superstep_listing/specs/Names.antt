@@ -16,12 +16,12 @@ is_name text = begins_with_letter text && (are_words text && not (is_keyword tex
 abbrev pub early_keywords : List (List ℕ)
 early_keywords =
     codes "rule" ∷ codes "procs" ∷ codes "shared" ∷ codes "var" ∷ codes "local" ∷ codes "begin" ∷ codes "end" ∷ codes "for" ∷ codes "to"
-        ∷ codes "do" ∷ []
+    ∷ codes "do" ∷ []
 
 abbrev pub late_keywords : List (List ℕ)
 late_keywords =
     codes "pardo" ∷ codes "while" ∷ codes "if" ∷ codes "then" ∷ codes "else" ∷ codes "print" ∷ codes "and" ∷ codes "or" ∷ codes "not"
-        ∷ codes "div" ∷ codes "mod" ∷ []
+    ∷ codes "div" ∷ codes "mod" ∷ []
 
 -- the first word of a declaration
 abbrev pub kind_word : Kind → List ℕ

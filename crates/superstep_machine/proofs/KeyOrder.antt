@@ -157,7 +157,7 @@ first_passed a b c =
     (number_passed (class_of a.conflict) (class_of b.conflict) (class_of c.conflict) (by_places a b) (by_places b c) (by_places a c)
     (place_passed a.place b.place c.place (by_kind a b) (by_kind b c) (by_kind a c)
     (number_passed (rank a.kind) (rank b.kind) (rank c.kind) (by_line a b) (by_line b c) (by_line a c)
-        (line_passed a.line b.line c.line)))))
+    (line_passed a.line b.line c.line)))))
 
 pub first_same : (a b : Key) → is_first a b ≡ true → is_first b a ≡ true → a ≡ b
 first_same a b e f =
@@ -205,7 +205,7 @@ pub by_lesser_class : (a b : Key) → a.count ≡ b.count → a.position ≡ b.p
     is_first a b ≡ true
 by_lesser_class a b e f g h =
     number_here a.count b.count (by_position a b) e ∙ number_here a.position b.position (by_class a b) f
-        ∙ class_first a.conflict b.conflict (by_places a b) g h
+    ∙ class_first a.conflict b.conflict (by_places a b) g h
 
 pub by_earlier_place : (a b : Key) → a.count ≡ b.count → a.position ≡ b.position → a.conflict ≡ b.conflict →
     is_place_before a.place b.place ≡ true → is_first a b ≡ true

@@ -44,8 +44,11 @@ join_fits Erew a b f g = either (FitsSigned w64) true (is_first a b) a b f g
 join_fits Crew a b f g = either (FitsSigned w64) true (is_first a b) a b f g
 join_fits Common a b f g = either (FitsSigned w64) (differ a b) (is_first a b) a b f g
 join_fits Priority a b f g = either (FitsSigned w64) false (is_first a b) a b f g
-join_fits Sum a b f g = record { owner = least_fits (int_le a.owner b.owner) a.owner b.owner f.owner g.owner; value =
-    SFits-int_wrap w128 (a.value +ℤ b.value) }
+join_fits Sum a b f g = record {
+  owner = least_fits (int_le a.owner b.owner) a.owner b.owner f.owner g.owner;
+  value =
+      SFits-int_wrap w128 (a.value +ℤ b.value);
+}
 
 pub single_fits : (rule : Rule) (w : HeldWrite) → FitsWrite w → FitsEntry (FitsValue rule) ((combining rule).single w.processor w.value)
 single_fits Erew w f = record { owner = f.processor; value = f.value }
@@ -152,7 +155,7 @@ module _ (n : ℕ) (small : n ≤ 2 ^ 20) (s : Worker)
   cells_below : (read : Read) (k : ℕ) → IsCellBelow n read.cell → AllByRecursion (λ c. c < n) (cells_asked s read k)
   cells_below read k h =
       let each = all_map (λ (x : PrivatePart). AllByRecursion (IsCellBelow n) x.asks) (IsCellBelow n) (λ (x : PrivatePart).
-          cell_at k x.asks) (λ x f. cell_at_below n k x.asks f) s.own own in
+      cell_at k x.asks) (λ x f. cell_at_below n k x.asks f) s.own own in
       all_firsts (λ c. c < n) _ (all_present n (read.cell ∷ map (λ (x : PrivatePart). cell_at k x.asks) s.own) (h, each))
 
   asks_fit : (k : ℕ) (reads : List Read) → AllByRecursion (λ (read : Read). IsCellBelow n read.cell) reads → k + length reads ≤ 2 ^ 3 →
@@ -160,9 +163,9 @@ module _ (n : ℕ) (small : n ≤ 2 ^ 20) (s : Worker)
   asks_fit k [] h l = tt
   asks_fit k (read ∷ rest) h l =
       all_joined IsAskBelow (map (λ c. record { read = k; cell = c; twice = asked_twice s k c }) (cells_asked s read k))
-          (asks_from s (k + 1) rest)
+      (asks_from s (k + 1) rest)
       (all_map (λ c. c < n) IsAskBelow (λ c. record { read = k; cell = c; twice = asked_twice s k c })
-          (λ c b. (record { cell = omega (arith, b, small); read = omega (arith, l) }, b)) (cells_asked s read k) (cells_below read k h.0))
+      (λ c b. (record { cell = omega (arith, b, small); read = omega (arith, l) }, b)) (cells_asked s read k) (cells_below read k h.0))
       (asks_fit (k + 1) rest h.1 (omega (arith, l)))
 
 -- ---- values
@@ -190,9 +193,9 @@ sent_can t s j fits = (puts, asks, refl)
         all_passed (IsPutBelow t.code.rule t.map.count) (IsPutFor t.code.rule t.map j) (λ (x : CellPut). t.map.part x.cell) j
         (λ x f e. record { fits = f.0; of = record { below = f.1; here = e } }) (puts_held t.code.rule s)
         (puts_fit t.code.rule t.map.count fits.small (entry_held t.code.rule s) (λ c. held_fits t.code.rule c s.held fits.writes)
-            (firsts (map (λ (x : HeldWrite). x.cell) s.held))
+        (firsts (map (λ (x : HeldWrite). x.cell) s.held))
         (all_firsts (λ c. c < t.map.count) _ (all_map (λ (x : HeldWrite). x.cell < t.map.count) (λ c. c < t.map.count) (λ (x : HeldWrite).
-            x.cell) (λ x l. l) s.held fits.written)))
+        x.cell) (λ x l. l) s.held fits.written)))
 
     asks : AllByRecursion (IsAskFor t.map j) (filter (λ (x : CellAsk). eqb (t.map.part x.cell) j) (asks_held s))
     asks =
@@ -201,9 +204,12 @@ sent_can t s j fits = (puts, asks, refl)
         (asks_fit t.map.count fits.small s fits.own_asks 0 s.uniform.asks fits.asks (let l = fits.few in omega (arith, l)))
 
 pub replied_can : (t : Setting) (s : Worker) (j : ℕ) → FitsWorker t s → CanBeSent t.code.rule t.map j Replies (replied t s j)
-replied_can t s j fits =
-    (refl, refl, values_fit (λ c. slice_index_or s.cells (t.map.offset c) (pos 0)) (λ c. value_fits s.cells (t.map.offset c) fits.cells)
-        (slice_index_or s.taken j []))
+replied_can t s j fits = (
+  refl,
+  refl,
+  values_fit (λ c. slice_index_or s.cells (t.map.offset c) (pos 0)) (λ c. value_fits s.cells (t.map.offset c) fits.cells)
+      (slice_index_or s.taken j []),
+)
 
 pub sent_back : SentIsReadBack
 sent_back t s j fits = message_back t.code.rule t.map j Sends _ (sent_can t s j fits)

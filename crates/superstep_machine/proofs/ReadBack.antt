@@ -90,9 +90,9 @@ put_in_back : (rule : Rule) (m : Shape) (j : ℕ) (x : CellPut) → IsPutFor rul
 put_in_back rule m j x is =
     let back = put_alone rule x is.fits in
     let small : word (put_words rule x) 0 < 2 ^ 21 = (let f = first_word rule x in let b = bit_small x.entry.clash in let l =
-        is.fits.cell in omega arith) in
+    is.fits.cell in omega arith) in
     ap (λ (y : CellPut). if nat_lt (word (put_words rule x) 0) (2 ^ 21) && nat_lt y.cell m.count
-        && eqb (m.part y.cell) j then Some y else None) back
+    && eqb (m.part y.cell) j then Some y else None) back
     ∙ ap (λ (b : Bool). if b && nat_lt x.cell m.count && eqb (m.part x.cell) j then Some x else None) (lt-ltb _ _ small)
     ∙ ap (λ (b : Bool). if b && eqb (m.part x.cell) j then Some x else None) (lt-ltb _ _ is.of.below)
     ∙ ap (λ (b : Bool). if b then Some x else None) (eq-eqb _ _ is.of.here)
@@ -176,7 +176,7 @@ module _ (rule : Rule) (m : Shape) (j : ℕ) where
   message_back Sends x h =
       let rest : List ℕ = ask_words x.asks ++ [] in
       let e : words rule x ≡ flat_map (put_words rule) x.puts ++ rest =
-          ap (λ zs. flat_map (put_words rule) x.puts ++ (ask_words x.asks ++ values_words zs)) h.2 in
+      ap (λ zs. flat_map (put_words rule) x.puts ++ (ask_words x.asks ++ values_words zs)) h.2 in
       ap (read_message rule m j Sends (header_of x)) e
       ∙ (λ i. record {
         key = x.key;
@@ -188,10 +188,17 @@ module _ (rule : Rule) (m : Shape) (j : ℕ) where
       })
   message_back Replies x h =
       let e : words rule x ≡ values_words x.values =
-          (λ i. flat_map (put_words rule) (h.0 i) ++ (ask_words (h.1 i) ++ values_words x.values)) in
+      (λ i. flat_map (put_words rule) (h.0 i) ++ (ask_words (h.1 i) ++ values_words x.values)) in
       ap (read_message rule m j Replies (header_of x)) e
-      ∙ (λ i. record { key = x.key; mark = x.mark; active = x.active; puts = sym h.0 i; asks = sym h.1 i; values =
-          values_back x.values h.2 i })
+      ∙ (λ i. record {
+        key = x.key;
+        mark = x.mark;
+        active = x.active;
+        puts = sym h.0 i;
+        asks = sym h.1 i;
+        values =
+            values_back x.values h.2 i;
+      })
   message_back (Votes d) x h = empty_back x h
   message_back Closes x h = empty_back x h
 
@@ -199,11 +206,11 @@ module _ (rule : Rule) (m : Shape) (j : ℕ) where
 pub entries_of_words : EntriesOfWords
 entries_of_words rule m j received c =
     total_map None (join rule) (λ (x : Message). total None (join rule) (entry_in c) x.puts) (λ (r : MessageHeader × List ℕ).
-        read_message rule m j Sends r.0 r.1) received
+    read_message rule m j Sends r.0 r.1) received
     ∙ sym (total_map None (join rule) (entry_of_column rule m j c) (λ (r : MessageHeader × List ℕ). put_part rule r.0 r.1) received)
 
 pub askers_of_words : AskersOfWords
 askers_of_words rule m j received k c =
     total_map None several (λ (x : Message). total None several (asked_in k c) x.asks) (λ (r : MessageHeader × List ℕ).
-        read_message rule m j Sends r.0 r.1) received
+    read_message rule m j Sends r.0 r.1) received
     ∙ sym (total_map None several (askers_of_column m j k c) (λ (r : MessageHeader × List ℕ). ask_part rule r.0 r.1) received)

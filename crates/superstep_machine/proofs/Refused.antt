@@ -172,7 +172,7 @@ module _ (t : Setting) where
     marks_are w =
         total_map Clear worse (λ (m : Message). m.mark) (λ i. message_of t i (ws i) w) (range_with_len 0 (workers t))
         ∙ total_same Clear worse (λ i. (message_of t i (ws i) w).mark) (λ i. mark_now (ws i).refusals)
-            (λ i. with_mark (ready t i (ws i)) w (mark_now (ws i).refusals)) (range_with_len 0 (workers t))
+        (λ i. with_mark (ready t i (ws i)) w (mark_now (ws i).refusals)) (range_with_len 0 (workers t))
 
     -- a mark stops, whatever came
     by_a_mark : (w : ℕ) (r : Ready) (messages : List Message) (mark : HeaderMark) → (mark ≡ Clear → ⊥) →
@@ -195,7 +195,7 @@ module _ (t : Setting) where
   ends : (us : ℕ → State) (mark : HeaderMark) → ((w : ℕ) → us w ≡ stopped mark) → (n : ℕ) → run (bsp t) (workers t) (suc n) us ≡ Some None
   ends us mark h n =
       ap (λ (s : State). if is_over s.way then Some (outcome_of t (map us (range_with_len 0 (workers t)))) else run (bsp t) (workers t) n
-          (phase (bsp t) (workers t) us)) (h 0)
+      (phase (bsp t) (workers t) us)) (h 0)
       ∙ ap (λ o. Some o) (no_outcome (workers t) us mark h)
 
 pub marks_stop_all : MarksStopAll
@@ -204,7 +204,7 @@ marks_stop_all t ws h = all_stop t ws h
 pub marked_runs_end : MarkedRunsEnd
 marked_runs_end t ws h going n =
     ap (λ b. if b then Some (outcome_of t (map ws (range_with_len 0 (workers t)))) else run (bsp t) (workers t) (suc n)
-        (phase (bsp t) (workers t) ws)) going
+    (phase (bsp t) (workers t) ws)) going
     ∙ ends t (phase (bsp t) (workers t) ws) (mark_of_all t ws) (all_stop t ws h) n
 
 -- ---- whole runs
@@ -232,7 +232,7 @@ module _ (t : Setting) where
       mark_of_all t us ≡ mark_among (λ w. mark_now (marks w)) (range_with_len 0 (workers t))
   marks_then marks us ws h =
       total_within Clear worse (λ w. mark_now (us w).refusals) (λ w. mark_now (marks w)) (workers t) 0
-          (λ w l. ap (λ (s : State). mark_now s.refusals) (h w (omega (arith, l))).0)
+      (λ w l. ap (λ (s : State). mark_now s.refusals) (h w (omega (arith, l))).0)
 
   module _ (marks : ℕ → List HeaderMark) (us ws : ℕ → State) (h : AreSame marks us ws)
       (clear : (w : ℕ) → w < workers t → mark_now (marks w) ≡ Clear) where
@@ -240,7 +240,7 @@ module _ (t : Setting) where
     columns_same w =
         map_within (λ i. message_of t i (us i) w) (λ i. message_of t i (ws i) w) (workers t) 0
         (λ i l. let k : i < workers t = omega (arith, l) in ap (λ s. message_of t i s w) (h i k).0
-            ∙ message_same t i (marks i) (ws i) (clear i k) (h i k).1 w)
+        ∙ message_same t i (marks i) (ws i) (clear i k) (h i k).1 w)
 
     column_clear : (w : ℕ) → mark_of (column (bsp t) (workers t) ws w) ≡ Clear
     column_clear w = marks_are t ws w ∙ all_clear ws (λ v l. (h v l).1)
@@ -267,9 +267,11 @@ module _ (t : Setting) where
   phases_same zero marks us ws h c = h
   phases_same (suc n) marks us ws h c =
       let r = phases_same n (λ w. marks_later (marks w)) (phase (bsp t) (workers t) us) (phase (bsp t) (workers t) ws)
-          (step_same marks us ws h (λ w. c 0 w (omega arith))) (later_clear marks n c) in
-      λ w l. ((r w l).0 ∙ ap (λ ms. with_marks ms (phases (bsp t) (workers t) n (phase (bsp t) (workers t) ws) w)) (drop_later n (marks w)),
-          (r w l).1)
+      (step_same marks us ws h (λ w. c 0 w (omega arith))) (later_clear marks n c) in
+      λ w l. (
+        (r w l).0 ∙ ap (λ ms. with_marks ms (phases (bsp t) (workers t) n (phase (bsp t) (workers t) ws) w)) (drop_later n (marks w)),
+        (r w l).1,
+      )
 
   phases_last : (n : ℕ) (us : ℕ → State) → phases (bsp t) (workers t) (suc n) us ≡ phase (bsp t) (workers t)
       (phases (bsp t) (workers t) n us)
@@ -291,10 +293,10 @@ module _ (t : Setting) where
       outcome_of t (map us (range_with_len 0 (workers t))) ≡ outcome_of t (map ws (range_with_len 0 (workers t)))
   outcome_same marks us ws h =
       let e : (w : ℕ) → bare (state_of (map us (range_with_len 0 (workers t))) w) ≡ bare
-          (state_of (map ws (range_with_len 0 (workers t))) w) =
+      (state_of (map ws (range_with_len 0 (workers t))) w) =
       λ w. bare_same us ws (workers t) 0 w (λ v l. ap bare (h v (omega (arith, l))).0) in
       ap (λ (at : ℕ → State). verdict_by (at 0).way (at 0).worker.uniform.output
-          (map (λ c. slice_index_or (at (t.map.part c)).worker.cells (t.map.offset c) (pos 0)) (all_cells t))) (λ i w. e w i)
+      (map (λ c. slice_index_or (at (t.map.part c)).worker.cells (t.map.offset c) (pos 0)) (all_cells t))) (λ i w. e w i)
 
   module _ (some : 0 < workers t) where
     over_same : (marks : ℕ → List HeaderMark) (us ws : ℕ → State) → AreSame marks us ws → is_over (us 0).way ≡ is_over (ws 0).way
@@ -306,7 +308,7 @@ module _ (t : Setting) where
     run_same (suc n) marks us ws h c =
         λ i. if over_same marks us ws h i then Some (outcome_same marks us ws h i)
         else run_same n (λ w. marks_later (marks w)) (phase (bsp t) (workers t) us) (phase (bsp t) (workers t) ws)
-            (step_same marks us ws h (λ w. c 0 w (omega arith))) (later_clear marks n c) i
+        (step_same marks us ws h (λ w. c 0 w (omega arith))) (later_clear marks n c) i
 
     -- what isn't over goes on
     going : {A : Type 0} (b : Bool) (x : A) (y : Option A) → (if b then Some x else y) ≡ None → (b ≡ false) × (y ≡ None)
@@ -319,15 +321,15 @@ module _ (t : Setting) where
     no_end zero (suc zero) l marks us ws h c bad e = absurd (omega arith)
     no_end zero (suc (suc m)) l marks us ws h c bad e =
         marked_runs_end t us (λ k. bad (sym (marks_then marks us ws h) ∙ k)) (over_same marks us ws h
-            ∙ (going (is_over (ws 0).way) _ None e).0) m
+        ∙ (going (is_over (ws 0).way) _ None e).0) m
     no_end (suc n) (suc m) l marks us ws h c bad e =
         let g = going (is_over (ws 0).way) _ (run (bsp t) (workers t) (suc n) (phase (bsp t) (workers t) ws)) e in
         ap (λ b. if b then Some (outcome_of t (map us (range_with_len 0 (workers t)))) else run (bsp t) (workers t) m
-            (phase (bsp t) (workers t) us)) (over_same marks us ws h ∙ g.0)
+        (phase (bsp t) (workers t) us)) (over_same marks us ws h ∙ g.0)
         ∙ no_end n m (omega (arith, l)) (λ w. marks_later (marks w)) (phase (bsp t) (workers t) us) (phase (bsp t) (workers t) ws)
-            (step_same marks us ws h (λ w. c 0 w (omega arith))) (later_clear marks n c)
+        (step_same marks us ws h (λ w. c 0 w (omega arith))) (later_clear marks n c)
         (λ k. bad (ap (λ (f : ℕ → List HeaderMark). mark_among (λ w. mark_now (f w)) (range_with_len 0 (workers t)))
-            (sym (λ i w. drop_later n (marks w) i)) ∙ k)) g.1
+        (sym (λ i w. drop_later n (marks w) i)) ∙ k)) g.1
 
   opens : (input : List ℤ) (marks : ℕ → List HeaderMark) → AreSame marks (opening_with t input marks) (opening t input)
   opens input marks w l = (refl, refl)
@@ -345,7 +347,7 @@ all_stop_at_a_mark t input marks n c bad w =
     let us = opening_with t input marks in
     let e : mark_of_all t (phases (bsp t) (workers t) n us) ≡ mark_at t marks n =
     marks_then t (λ v. drop n (marks v)) (phases (bsp t) (workers t) n us) (phases (bsp t) (workers t) n (opening t input))
-        (phases_same t n marks us (opening t input) (opens t input marks) c) in
+    (phases_same t n marks us (opening t input) (opens t input marks) c) in
     ap (λ (f : ℕ → State). f w) (phases_last t n us) ∙ all_stop t (phases (bsp t) (workers t) n us) (λ k. bad (sym e ∙ k)) w ∙ ap stopped e
 
 pub no_outcome_at_a_mark : NoOutcomeAtAMark

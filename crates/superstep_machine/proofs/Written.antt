@@ -27,9 +27,9 @@ module _ (rule : Rule) where
     where
       go : (b : Bool) → total None (join rule) (entry_to rule c) writes ≡ sum (writers_of c writes)
           → join rule (if b then Some ((combining rule).single x.processor x.value) else None)
-              (total None (join rule) (entry_to rule c) writes)
+          (total None (join rule) (entry_to rule c) writes)
           ≡ sum (map (λ (y : HeldWrite). record { processor = y.processor; value = y.value })
-              (cond b (x ∷ filter (λ (y : HeldWrite). eqb y.cell c) writes) (filter (λ (y : HeldWrite). eqb y.cell c) writes)))
+          (cond b (x ∷ filter (λ (y : HeldWrite). eqb y.cell c) writes) (filter (λ (y : HeldWrite). eqb y.cell c) writes)))
       go true e = ap (join rule (Some ((combining rule).single x.processor x.value))) e
       go false e = e
 
@@ -48,7 +48,7 @@ entries_of_all rule c (s ∷ ss) =
 pub writers_get_the_rule : WritersGetTheRule
 writers_get_the_rule rule c writes w ws is apart =
     ap (verdict_on rule) (sum_is rule c writes ∙ ap (sum rule) is ∙ joined_is rule (one rule w) ws)
-        ∙ ap (λ v. Some v) ((combining_carries rule).meets w ws apart)
+    ∙ ap (λ v. Some v) ((combining_carries rule).meets w ws apart)
 
 pub no_writers_no_verdict : NoWritersNoVerdict
 no_writers_no_verdict rule c writes is = ap (verdict_on rule) (sum_is rule c writes ∙ ap (sum rule) is)

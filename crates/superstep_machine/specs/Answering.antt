@@ -49,8 +49,10 @@ abbrev pub destinations : List Read → List ℕ
 destinations = map (λ read. read.destination)
 
 abbrev pub uniform_answered : (ℕ → ℕ → ℤ) → UniformPart → UniformPart
-uniform_answered value u = record u { registers = answers value 0 (map (λ (x : Read). (x.destination, x.cell)) u.awaited) u.registers;
-    awaited = [] }
+uniform_answered value u = record u {
+  registers = answers value 0 (map (λ (x : Read). (x.destination, x.cell)) u.awaited) u.registers;
+  awaited = [];
+}
 
 abbrev pub own_answered : (ℕ → ℕ → ℤ) → List Read → PrivatePart → PrivatePart
 own_answered value awaited x = record x { registers = answers value 0 (zip (destinations awaited) x.awaited) x.registers; awaited = [] }

@@ -69,7 +69,7 @@ abbrev pub SameBeforeMarks : Type 0
 SameBeforeMarks = (t : Setting) (input : List ℤ) (marks : ℕ → List HeaderMark) (n : ℕ) → AreClearBefore t marks n → (w : ℕ) →
     w < workers t →
     phases (bsp t) (workers t) n (opening_with t input marks) w ≡ with_marks (drop n (marks w))
-        (phases (bsp t) (workers t) n (opening t input) w)
+    (phases (bsp t) (workers t) n (opening t input) w)
 
 -- .. with the outcome of that where it is over by then; ..
 abbrev pub SameOutcomeBefore : Type 0

@@ -144,7 +144,7 @@ is_private Uniform = false
 abbrev pub read_conflict : List Message → List ℕ → ℕ → Read → Option Key
 read_conflict column cells k read =
     total None least (λ c. if is_private read.side
-        && is_several (askers_came column k c) then Some (conflict_at read.moment c ReadConflict) else None) cells
+    && is_several (askers_came column k c) then Some (conflict_at read.moment c ReadConflict) else None) cells
 
 -- read by read from number k on
 abbrev pub read_conflicts : List Message → List ℕ → ℕ → List Read → Option Key

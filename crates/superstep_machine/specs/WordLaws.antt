@@ -41,9 +41,9 @@ messages_read rule m j = map (λ (r : MessageHeader × List ℕ). read_message r
 abbrev pub EntriesOfWords : Type 0
 EntriesOfWords = (rule : Rule) (m : Shape) (j : ℕ) (received : List (MessageHeader × List ℕ)) (c : ℕ) →
     entry_came rule (messages_read rule m j received) c ≡ entry_read rule m j (map (λ (r : MessageHeader × List ℕ). put_part rule r.0 r.1)
-        received) c
+    received) c
 
 abbrev pub AskersOfWords : Type 0
 AskersOfWords = (rule : Rule) (m : Shape) (j : ℕ) (received : List (MessageHeader × List ℕ)) (k c : ℕ) →
     askers_came (messages_read rule m j received) k c ≡ askers_read m j (map (λ (r : MessageHeader × List ℕ). ask_part rule r.0 r.1)
-        received) k c
+    received) k c

@@ -95,8 +95,15 @@ read_message rule m j Sends h words = record {
   asks = asks_in m j (ask_part rule h words);
   values = [];
 }
-read_message rule m j Replies h words = record { key = h.key; mark = h.mark; active = h.active; puts = []; asks = []; values =
-    map (cast_signed w64) words }
+read_message rule m j Replies h words = record {
+  key = h.key;
+  mark = h.mark;
+  active = h.active;
+  puts = [];
+  asks = [];
+  values =
+      map (cast_signed w64) words;
+}
 read_message rule m j purpose h words = record { key = h.key; mark = h.mark; active = h.active; puts = []; asks = []; values = [] }
 
 -- ---- what the words of some columns come to

@@ -58,7 +58,7 @@ module _ {A : Type 0} (all : List A → List ℕ) where
       Prints start now (all xs)
   printed_all start now xs i none past before =
       printed_as (sym before.whole ∙ ap (λ l. before.front ++ all l) (drop_all i xs past) ∙ ap (λ l. before.front ++ l) none
-          ∙ append-nil before.front) before.prints
+      ∙ append-nil before.front) before.prints
 
 -- what is known at the end of a printing that began with a writer that had not failed
 

@@ -28,7 +28,7 @@ pub stops : (old now new : OutState) (all left piece rest : List ℕ)
     → Progress old now all left → left ≡ piece ++ rest → StopsIn now new piece → StopsIn old new all
 stops old now new all left piece rest p next s =
     subst (StopsIn old new) (sym (p.whole ∙ ap (λ l. p.front ++ l) next)) (stops_behind old now new p.front (piece
-        ++ rest) p.taken (stops_before rest s))
+    ++ rest) p.taken (stops_before rest s))
 
 pub ends : (old new : OutState) (all left : List ℕ) → Progress old new all left → left ≡ [] → new ≡ with_bytes old all
 ends old new all left p over = p.taken ∙ ap (with_bytes old) (sym (p.whole ∙ ap (λ l. p.front ++ l) over ∙ append-nil p.front))
@@ -55,5 +55,10 @@ takes old now new all left rest n p next more =
 -- a writer that failed, and took nothing
 pub fails : (old now new : OutState) (all left : List ℕ) → Progress old now all left → new ≡ with_failure now → StopsIn old new all
 fails old now new all left p failed =
-    stops old now new all left [] left p refl (record { front = []; rest = []; whole = refl; stopped =
-        failed ∙ ap with_failure (with_bytes-nothing now) })
+    stops old now new all left [] left p refl (record {
+      front = [];
+      rest = [];
+      whole = refl;
+      stopped =
+          failed ∙ ap with_failure (with_bytes-nothing now);
+    })

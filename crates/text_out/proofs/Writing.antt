@@ -26,8 +26,13 @@ writes_then old mid new a b first second = second ∙ ap (λ s. with_bytes s b) 
 
 -- a writer that stops in the first of two texts stops in both
 pub stops_before : {old new : OutState} {a : List ℕ} (b : List ℕ) → StopsIn old new a → StopsIn old new (a ++ b)
-stops_before b s = record { front = s.front; rest = s.rest ++ b; whole = ap (λ l. l ++ b) s.whole ∙ append_assoc s.front s.rest b; stopped =
-    s.stopped }
+stops_before b s = record {
+  front = s.front;
+  rest = s.rest ++ b;
+  whole = ap (λ l. l ++ b) s.whole ∙ append_assoc s.front s.rest b;
+  stopped =
+      s.stopped;
+}
 
 -- and so does one that stops in the second
 pub stops_behind : (old mid new : OutState) (a b : List ℕ) → mid ≡ with_bytes old a → StopsIn mid new b → StopsIn old new (a ++ b)

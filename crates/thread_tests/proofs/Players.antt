@@ -16,8 +16,12 @@ only_one (y ∷ ys) x xs e n = absurd (let a = ap length e ∙ length-append (y 
 pub one_seat : (t : TurnstileShape) (xs : List RowState) (r : RowState) → xs ≡ r ∷ [] → t.workers ≡ 1 → r.table ≡ t.table → r.worker ≡ 0 →
     AreSeatsOf t xs
 one_seat t xs r e n table worker =
-    record { count = ap length e ∙ sym n; tables = λ k q h. tables_at k q (ap (λ l. slice_get l k) (sym e) ∙ h); order =
-    λ k q h. order_at k q (ap (λ l. slice_get l k) (sym e) ∙ h) }
+    record {
+      count = ap length e ∙ sym n;
+      tables = λ k q h. tables_at k q (ap (λ l. slice_get l k) (sym e) ∙ h);
+      order =
+          λ k q h. order_at k q (ap (λ l. slice_get l k) (sym e) ∙ h);
+    }
   where
     tables_at : (k : ℕ) (q : RowState) → slice_get (r ∷ []) k ≡ Some q → q.table ≡ t.table
     tables_at zero q h = let s : r ≡ q = (let g : Option.Some r ≡ Some q = h in cc) in ap (λ (z : RowState). z.table) (sym s) ∙ table

@@ -116,9 +116,9 @@ finishes_are_the_tables b s team slots w id row back v a long out valid leaves =
     let carried : Carried = loaded b.side w (phase (team w) + 1) 0 row back in
     let x : Worker = finished (team w) (map message row) in
     let seen : v ≡ seated x = ap (λ m. m.0) leaves
-        ∙ ap (λ ms. seated (finished (team w) ms)) (letters_of b.side w (phase (team w) + 1) 0 row back long) in
+    ∙ ap (λ ms. seated (finished (team w) ms)) (letters_of b.side w (phase (team w) + 1) 0 row back long) in
     let home : homes_after s.homes carried a ≡ homes_with s.homes carried = homes_are s.homes carried a out valid
-        ∙ ap (without (homes_with s.homes carried)) (ap (λ m. m.1) leaves) in
+    ∙ ap (without (homes_with s.homes carried)) (ap (λ m. m.1) leaves) in
     λ q. record {
       words = set s.words w (get_or s.words w 0 + 1);
       homes = home q;
@@ -127,7 +127,7 @@ finishes_are_the_tables b s team slots w id row back v a long out valid leaves =
 
 module _ (b : TwoBlocks) (s : State (Option PieceState) View) (team : ℕ → Worker) (slots w i id : ℕ) (carried : Carried) (v : View) (a : A)
     (at : (team w).at ≡ w) (of : (team w).workers ≡ b.side) (new : saw (team w) i ≡ false) (out : AreOut s.homes carried)
-        (valid : Valid s.homes carried a)
+    (valid : Valid s.homes carried a)
     (looks : looks_at (step slots i 0 0 none) (seated (team w), carried) (get_or s.words i 0) (v, carried_after carried a)) where
   abbrev x : Worker
   x = team w
@@ -143,7 +143,7 @@ module _ (b : TwoBlocks) (s : State (Option PieceState) View) (team : ℕ → Wo
   found_none early =
       let same = looks.0 early in
       let home : homes_after s.homes carried a ≡ s.homes = homes_are s.homes carried a out valid
-          ∙ ap (without (homes_with s.homes carried)) (ap (λ m. m.1) same) ∙ taken_out s.homes carried out in
+      ∙ ap (without (homes_with s.homes carried)) (ap (λ m. m.1) same) ∙ taken_out s.homes carried out in
       let members : changed team w v.mine ≡ team = same_worker team w v.mine (ap (λ m. m.0.mine) same) in
       λ q. record { words = set-get_or s.words i 0 q; homes = home q; team = members q }
 
@@ -156,11 +156,11 @@ module _ (b : TwoBlocks) (s : State (Option PieceState) View) (team : ℕ → Wo
       let left : carried_after carried a ≡ (slot b.side (phase x + 1) w i, Some got.1) ∷ (slot b.side (phase x) i w, Some got.0) ∷ carried =
       ap (λ m. m.1) got.2 ∙ (λ q. (second q, Some got.1) ∷ (first q, Some got.0) ∷ carried) in
       let was = was_home s.homes carried a (slot b.side (phase x) i w) (slot b.side (phase x + 1) w i) (Some got.0) (Some got.1) out valid
-          left in
+      left in
       let home : homes_after s.homes carried a ≡ set (set s.homes (slot b.side (phase x) i w) none) (slot b.side (phase x + 1) w i) none =
       homes_are s.homes carried a out valid ∙ ap (without (homes_with s.homes carried)) left
       ∙ ap (λ (z : Homes). set (set z (slot b.side (phase x) i w) none) (slot b.side (phase x + 1) w i) none)
-          (taken_out s.homes carried out) in
+      (taken_out s.homes carried out) in
       let member : v.mine ≡ looked x i (piece_in (get_elem? s.homes (slot b.side (phase x) i w))) =
       ap (λ m. m.0.mine) got.2 ∙ ap (looked x i) (ap piece_in (sym was)) in
       λ q. record { words = set-get_or s.words i 0 q; homes = home q; team = changed team w (member q) }

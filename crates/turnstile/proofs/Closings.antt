@@ -82,10 +82,10 @@ module _ (blocks : TwoBlocks) (p : ℕ) (ws : List ℕ) (ys : List (Option Piece
       dite (dec_le (suc s) b.round)
       (λ near. by_cases h near (entry (columns_of b) s i) refl)
       (λ far. let f : ℕ = b.round in let c : ℕ = length (columns_of b) in let l : ℕ = length (rows_of a) in let l' : ℕ =
-          length (rows_of b) in
+      length (rows_of b) in
       let c' : c ≡ f = length-map _ (map value) ∙ h.long in let m : l' ≡ f = h.made in let e : l ≡ l' = same in
       entry_beyond (columns_of b) s i (let r : c ≤ s = omega arith in r)
-          ∙ sym (entry_beyond (rows_of a) s j (let r : l ≤ s = omega arith in r)))
+      ∙ sym (entry_beyond (rows_of a) s j (let r : l ≤ s = omega arith in r)))
     where
       i_below : i < p
       i_below = let lt = get_below works i a ea in let c = works_count seats works of ∙ len in subst (λ (z : ℕ). i < z) c lt
@@ -103,12 +103,15 @@ module _ (blocks : TwoBlocks) (p : ℕ) (ws : List ℕ) (ys : List (Option Piece
   pub received_as_sent : ((k : ℕ) (w : Work) → slice_get works k ≡ Some w → w.workers ≡ p) → ReceivedAsSent seats
   received_as_sent wide i j a b ea eb s = let x = behind i a ea in let y = behind j b eb in
       ap (λ (r : RowState). entry r.received s i) (sym y.2) ∙ exchanged wide i j x.0 y.0 x.1 y.1 s
-          ∙ ap (λ (r : RowState). entry r.sent s j) x.2
+      ∙ ap (λ (r : RowState). entry r.sent s j) x.2
 
   pub all_whole : AreWhole seats
   all_whole k r e = let x = behind k r e in let h : Rested x.0 = of.rested k x.0 x.1 in
-      subst Rattle.turnstile.specs.Seats.IsWhole x.2 (record { phases = length-map _ (map value) ∙ h.long ∙ sym h.made; rows = h.rows;
-          columns = h.columns })
+      subst Rattle.turnstile.specs.Seats.IsWhole x.2 (record {
+        phases = length-map _ (map value) ∙ h.long ∙ sym h.made;
+        rows = h.rows;
+        columns = h.columns;
+      })
 
   -- each work has the table's number of workers
   pub workers_of : (id' : Rattle.atomic_table.specs.Seated.TableId) → id'.words ≡ p →

@@ -27,7 +27,7 @@ pub still_rests : (k l : Work) → Rested k → l.chair ≡ k.chair → l.column
     → RowPlaced (done k).blocks k.workers k.worker (k.round + 1) 0 l.row.items → Rested l
 still_rests k l h chair column wk ws rd len cap placed =
     let r : Rested record { chair = k.chair; row = l.row; column = k.column; worker = k.worker; workers = k.workers; round = k.round } =
-        record {
+    record {
       is_seated = h.is_seated;
       at = h.at;
       of = h.of;
@@ -50,14 +50,21 @@ still_rests k l h chair column wk ws rd len cap placed =
       rows = h.rows;
       columns = h.columns;
     } in
-    subst Rested (λ q. record { chair = sym chair q; row = l.row; column = sym column q; worker = sym wk q; workers = sym ws q; round =
-        sym rd q }) r
+    subst Rested (λ q. record {
+      chair = sym chair q;
+      row = l.row;
+      column = sym column q;
+      worker = sym wk q;
+      workers = sym ws q;
+      round =
+          sym rd q;
+    }) r
 
 pub all_blank : (n : ℕ) (xs : List PieceState) → length xs ≡ n → ((k : ℕ) → k < n → get_or (map message xs) k blank ≡ blank) →
     map message xs ≡ replicate n blank
 all_blank n xs len h = let a = length-map xs message ∙ len in let b = length-replicate n blank in
     ext_get_or blank (map message xs) (replicate n blank) (a ∙ sym b) (λ i lt. let lt' : i < n = subst (λ (z : ℕ). i < z) a lt in
-        h i lt' ∙ sym (get_or-replicate n i blank blank lt'))
+    h i lt' ∙ sym (get_or-replicate n i blank blank lt'))
 
 pub one_blank_more : (xs : List PieceState) (j : ℕ) (x : PieceState) → message x ≡ blank →
     ((k : ℕ) → k < j → get_or (map message xs) k blank ≡ blank) → (k : ℕ) → k < j + 1 → get_or (map message (set xs j x)) k blank ≡ blank

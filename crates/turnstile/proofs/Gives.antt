@@ -51,9 +51,12 @@ stays_at : (Q : Option PieceState → Type 0) (k : ℕ) (hs : Homes) (c : Carrie
     At Q k (homes_with hs c)
 stays_at Q k hs [] each at lt = at
 stays_at Q k hs (x ∷ xs) each at lt = stays_at Q k (set hs x.0 (some x.1)) xs each.1
-    (dite (ℕ_discrete k x.0) (λ (e : k ≡ x.0).
-        (x.1, subst (λ (z : ℕ). get_elem? (set hs x.0 (some x.1)) z ≡ some (some x.1)) (sym e)
-        (set_here hs x.0 (some x.1) (subst (λ (z : ℕ). z < length hs) e lt)), each.0 (sym e)))
+    (dite (ℕ_discrete k x.0) (λ (e : k ≡ x.0). (
+      x.1,
+      subst (λ (z : ℕ). get_elem? (set hs x.0 (some x.1)) z ≡ some (some x.1)) (sym e)
+          (set_here hs x.0 (some x.1) (subst (λ (z : ℕ). z < length hs) e lt)),
+      each.0 (sym e),
+    ))
     (λ n. (at.0, set_else hs x.0 k (some x.1) n ∙ at.1, at.2)))
     (rw (length-set hs x.0 (some x.1)) lt)
 
@@ -61,9 +64,12 @@ comes_at : (Q : Option PieceState → Type 0) (k : ℕ) (hs : Homes) (c : Carrie
     At Q k (homes_with hs c)
 comes_at Q k hs [] each named lt = absurd named
 comes_at Q k hs (x ∷ xs) each named lt = ⊎_elim
-    (λ (e : x.0 ≡ k). stays_at Q k (set hs x.0 (some x.1)) xs each.1 (x.1,
-        subst (λ (z : ℕ). get_elem? (set hs x.0 (some x.1)) z ≡ some (some x.1)) e
-        (set_here hs x.0 (some x.1) (subst (λ (z : ℕ). z < length hs) (sym e) lt)), each.0 e) (rw (length-set hs x.0 (some x.1)) lt))
+    (λ (e : x.0 ≡ k). stays_at Q k (set hs x.0 (some x.1)) xs each.1 (
+      x.1,
+      subst (λ (z : ℕ). get_elem? (set hs x.0 (some x.1)) z ≡ some (some x.1)) e
+          (set_here hs x.0 (some x.1) (subst (λ (z : ℕ). z < length hs) (sym e) lt)),
+      each.0 e,
+    ) (rw (length-set hs x.0 (some x.1)) lt))
     (λ later. comes_at Q k (set hs x.0 (some x.1)) xs each.1 later (rw (length-set hs x.0 (some x.1)) lt)) named
 
 unnamed : (k : ℕ) (hs : Homes) (c : Carried) → ¬ Names k c → get_elem? (homes_with hs c) k ≡ get_elem? hs k
@@ -78,13 +84,13 @@ letters_of p w s k (x ∷ xs) (y ∷ ys) e = ap (λ (z : List Message). message 
 
 pub loaded_end : (p w s k : ℕ) (xs ys : List PieceState) (x y : PieceState) → length xs ≡ length ys
     → loaded p w s k (xs ++ x ∷ []) (ys ++ y ∷ []) ≡ loaded p w s k xs ys ++ (slot p s w (k + length xs), Some x)
-        ∷ (slot p (s + 1) (k + length xs) w, Some y) ∷ []
+    ∷ (slot p (s + 1) (k + length xs) w, Some y) ∷ []
 loaded_end p w s k [] [] x y e = let z : k + 0 ≡ k = omega arith in rw z refl
 loaded_end p w s k [] (b ∷ ys) x y e = absurd (omega arith)
 loaded_end p w s k (a ∷ xs) [] x y e = absurd (omega arith)
 loaded_end p w s k (a ∷ xs) (b ∷ ys) x y e = let z : k + suc (length xs) ≡ suc k + length xs = omega arith in
     rw z (ap (λ (c : Carried). (slot p s w k, Some a) ∷ (slot p (s + 1) k w, Some b)
-        ∷ c) (loaded_end p w s (suc k) xs ys x y (omega arith)))
+    ∷ c) (loaded_end p w s (suc k) xs ys x y (omega arith)))
 
 pub emptied_end : (p w s k n : ℕ) → emptied p w s k (suc n) ≡ emptied p w s k n ++ (slot p s w (k + n), Option.None)
     ∷ (slot p (s + 1) (k + n) w, Option.None) ∷ []
@@ -108,9 +114,13 @@ module _ (blocks : TwoBlocks) (p w s : ℕ) (lw : w < p) where
   row_each j k all [] ys lj fits placed sub = tt
   row_each j k all (x ∷ xs) [] lj fits placed sub = tt
   row_each j k all (x ∷ xs) (y ∷ ys) lj fits placed sub = (
-    (λ e. let d = slots_apart p s w k s w j lw (omega arith) lw lj e in
-        (x, refl, placed.0 ∙ ap (λ (z : ℕ). piece_of blocks (slot p s w z)) d.2, (let z : k + 0 ≡ j = omega (arith, d.2) in
-            subst (λ (z : ℕ). get_elem? all z ≡ some x) z (sub 0 x refl)))),
+    (λ e. let d = slots_apart p s w k s w j lw (omega arith) lw lj e in (
+      x,
+      refl,
+      placed.0 ∙ ap (λ (z : ℕ). piece_of blocks (slot p s w z)) d.2,
+      (let z : k + 0 ≡ j = omega (arith, d.2) in
+          subst (λ (z : ℕ). get_elem? all z ≡ some x) z (sub 0 x refl)),
+    )),
     (
       (λ e. let d = slots_apart p (s + 1) k w s w j (omega arith) lw lw lj e in absurd (flips (sym d.0))),
       row_each j (suc k) all xs ys lj (omega arith) placed.1 (λ i z h. let q : k + suc i ≡ suc k + i = omega arith in
@@ -158,21 +168,21 @@ module _ (blocks : TwoBlocks) (p w s : ℕ) (lw : w < p) where
   pub row_home : (hs : Homes) (xs ys : List PieceState) → length hs ≡ 2 * p * p → length xs ≡ p → length ys ≡ p →
       RowPlaced blocks p w s 0 xs → (j : ℕ) → j < p
       → (x : PieceState) × (get_elem? (homes_with hs (loaded p w s 0 xs ys)) (slot p s w j) ≡ some (some (Some x)))
-          × BelongsIn blocks (slot p s w j) x × (get_elem? xs j ≡ some x)
+      × BelongsIn blocks (slot p s w j) x × (get_elem? xs j ≡ some x)
   row_home hs xs ys room lx ly placed j lj =
       let at = comes_at (Rowed j xs) (slot p s w j) hs (loaded p w s 0 xs ys)
-          (row_each j 0 xs xs ys lj (omega arith) placed (λ i x h. let z : i ≡ 0 + i = omega arith in
-          subst (λ (n : ℕ). get_elem? xs n ≡ some x) z h)) (row_named j 0 xs ys (omega arith) (omega arith) (omega arith))
-          (rw room (slot_below p s w j lw lj)) in
+      (row_each j 0 xs xs ys lj (omega arith) placed (λ i x h. let z : i ≡ 0 + i = omega arith in
+      subst (λ (n : ℕ). get_elem? xs n ≡ some x) z h)) (row_named j 0 xs ys (omega arith) (omega arith) (omega arith))
+      (rw room (slot_below p s w j lw lj)) in
       (at.2.0, at.1 ∙ ap (λ v. some (some v)) at.2.1, at.2.2, at.2.3)
 
   pub column_home : (hs : Homes) (xs ys : List PieceState) → length hs ≡ 2 * p * p → length xs ≡ p → length ys ≡ p →
       ColumnPlaced blocks p w (s + 1) 0 ys → (j : ℕ) → j < p
       → (y : PieceState) × (get_elem? (homes_with hs (loaded p w s 0 xs ys)) (slot p (s + 1) j w) ≡ some (some (Some y)))
-          × BelongsIn blocks (slot p (s + 1) j w) y
+      × BelongsIn blocks (slot p (s + 1) j w) y
   column_home hs xs ys room lx ly placed j lj =
       let at = comes_at (Columned j) (slot p (s + 1) j w) hs (loaded p w s 0 xs ys) (column_each j 0 xs ys lj (omega arith) placed)
-          (column_named j 0 xs ys (omega arith) (omega arith) (omega arith)) (rw room (slot_below p (s + 1) j w lj lw)) in
+      (column_named j 0 xs ys (omega arith) (omega arith) (omega arith)) (rw room (slot_below p (s + 1) j w lj lw)) in
       (at.2.0, at.1 ∙ ap (λ v. some (some v)) at.2.1, at.2.2)
 
   pub other_home : (hs : Homes) (xs ys : List PieceState) → length xs ≡ p → (n : ℕ) →
@@ -192,48 +202,48 @@ pub gives_keeps : (blocks : TwoBlocks) (p : ℕ) (words words' : List ℕ) (home
     → ((i : ℕ) → i < p → saw (team w) i ≡ true) → (team w).left ≡ false
     → length words' ≡ p → ((v : ℕ) → v < p → v ≢ w → get_or words' v 0 ≡ get_or words v 0) → get_or words' w 0 ≡ phase x'
     → length x'.received ≡ phase x' → length x'.seen ≡ p → ((i : ℕ) → i < p → taken x' i ≡ phase (team w) + 1) →
-        given x' ≡ phase (team w) + 2 → phase (team w) ≤ phase x'
+    given x' ≡ phase (team w) + 2 → phase (team w) ≤ phase x'
     → ((i : ℕ) → i < p → x'.left ≡ true → saw x' i ≡ true) → ((s i : ℕ) (m : Message) → entry (team w).sent s i ≡ some m →
-        entry x'.sent s i ≡ some m)
+    entry x'.sent s i ≡ some m)
     → ((s i : ℕ) (m : Message) → entry x'.received s i ≡ some (Some m) → entry (team w).received s i ≡ some (Some m))
     → All (λ r. length r ≡ p) x'.received → ((s i : ℕ) (m : Message) → entry (team w).received s i ≡ some (Some m) →
-        entry x'.received s i ≡ some (Some m))
+    entry x'.received s i ≡ some (Some m))
     → (phase (team w) + 1 ≤ phase x' → (j : ℕ) (m : Message) → get_elem? (map message xs) j ≡ some m →
-        entry x'.sent (phase (team w)) j ≡ some m)
+    entry x'.sent (phase (team w)) j ≡ some m)
     → Sound blocks p words' (homes_with homes (loaded p w (phase (team w) + 1) 0 xs ys)) (put team w x')
 gives_keeps blocks p words words' homes team ok w lw x' xs ys lx ly px py all here wide' others mine rows' looks' takes' gives' grows
     leaves' sent' received' columns' filled' new_row = record {
-  wide = wide';
-  room = length-homes_with homes (loaded p w (f + 1) 0 xs ys) ∙ ok.room;
-  counts = λ v lv. at_put team w x' (λ z y. get_or words' z 0 ≡ phase y) v (λ (e : v ≡ w).
-      subst (λ (z : ℕ). get_or words' z 0 ≡ phase x') (sym e) mine) (λ n. others v lv n ∙ ok.counts v lv);
-  rows = λ v lv. at_put team w x' (λ z y. length y.received ≡ phase y) v (λ _. rows') (λ _. ok.rows v lv);
-  looks = λ v lv. at_put team w x' (λ z y. length y.seen ≡ p) v (λ _. looks') (λ _. ok.looks v lv);
-  near = λ l k ll lk. let same = takes_same l k ll lk in let n = ok.near l k ll lk in let a : ℕ = taken (put team w x' l) k in let b : ℕ =
-      taken (team l) k in let same' : a ≡ b = same in
-      at_put team w x' (λ z y. a ≤ phase y + 1) k (λ (e : k ≡ w). let n' : b ≤ f + 1 = subst (λ (z : ℕ). b ≤ phase (team z) + 1) e n in
+      wide = wide';
+      room = length-homes_with homes (loaded p w (f + 1) 0 xs ys) ∙ ok.room;
+      counts = λ v lv. at_put team w x' (λ z y. get_or words' z 0 ≡ phase y) v (λ (e : v ≡ w).
+          subst (λ (z : ℕ). get_or words' z 0 ≡ phase x') (sym e) mine) (λ n. others v lv n ∙ ok.counts v lv);
+      rows = λ v lv. at_put team w x' (λ z y. length y.received ≡ phase y) v (λ _. rows') (λ _. ok.rows v lv);
+      looks = λ v lv. at_put team w x' (λ z y. length y.seen ≡ p) v (λ _. looks') (λ _. ok.looks v lv);
+      near = λ l k ll lk. let same = takes_same l k ll lk in let n = ok.near l k ll lk in let a : ℕ = taken (put team w x' l) k in let b : ℕ =
+          taken (team l) k in let same' : a ≡ b = same in
+          at_put team w x' (λ z y. a ≤ phase y + 1) k (λ (e : k ≡ w). let n' : b ≤ f + 1 = subst (λ (z : ℕ). b ≤ phase (team z) + 1) e n in
           let g : ℕ = phase x' in let h : f ≤ g = grows in let r : a ≤ g + 1 = omega arith in r)
-      (λ _. let g : ℕ = phase (team k) in let n' : b ≤ g + 1 = n in let r : a ≤ g + 1 = omega arith in r);
-  leaves = λ v k lv lk. at_put team w x' (λ z y. y.left ≡ true → saw y k ≡ true) v (λ _. leaves' k lk) (λ _. ok.leaves v k lv lk);
-  parcels = λ k l s lk ll h₀ h₁. dite (ℕ_discrete k w)
-      (λ (e : k ≡ w). dite (ℕ_discrete s (f + 1))
-      (λ (now : s ≡ f + 1). subst (λ (z : ℕ × ℕ). Parcel blocks p homes' (put team w x' z.0) z.0 l z.1) (λ q. (sym e q, sym now q))
+          (λ _. let g : ℕ = phase (team k) in let n' : b ≤ g + 1 = n in let r : a ≤ g + 1 = omega arith in r);
+      leaves = λ v k lv lk. at_put team w x' (λ z y. y.left ≡ true → saw y k ≡ true) v (λ _. leaves' k lk) (λ _. ok.leaves v k lv lk);
+      parcels = λ k l s lk ll h₀ h₁. dite (ℕ_discrete k w)
+          (λ (e : k ≡ w). dite (ℕ_discrete s (f + 1))
+          (λ (now : s ≡ f + 1). subst (λ (z : ℕ × ℕ). Parcel blocks p homes' (put team w x' z.0) z.0 l z.1) (λ q. (sym e q, sym now q))
           (new_parcel l ll))
-      (λ earlier. old_parcel k l s lk ll h₀ h₁ (let a : s < given x' = gives_now k e s h₁ in let g : ℕ = given x' in let g' : g ≡ f + 2 =
+          (λ earlier. old_parcel k l s lk ll h₀ h₁ (let a : s < given x' = gives_now k e s h₁ in let g : ℕ = given x' in let g' : g ≡ f + 2 =
           gives' in let l' : ℕ = weight (team w).left in let r : s < f + 1 + l' = omega arith in
           subst (λ (z : ℕ). s < given (team z)) (sym e) r) (λ _ now. earlier now)))
-      (λ other. old_parcel k l s lk ll h₀ h₁ (at_put team w x' (λ z y. s < given y →
+          (λ other. old_parcel k l s lk ll h₀ h₁ (at_put team w x' (λ z y. s < given y →
           s < given (team z)) k (λ e. absurd (other e)) (λ _ h. h) h₁) (λ e _. other e));
-  told = λ l k s m ll lk h. at_put team w x' (λ z y. entry y.sent s l ≡ some m) k (λ (e : k ≡ w).
-      sent' s l m (subst (λ (z : ℕ). entry (team z).sent s l ≡ some m) e (ok.told l k s m ll lk (heard l k s m h))))
-      (λ _. ok.told l k s m ll lk (heard l k s m h));
-  columns = λ v lv. at_put team w x' (λ z y. All (λ r. length r ≡ p) y.received) v (λ _. columns') (λ _. ok.columns v lv);
-  filled = λ l k s ll lk h. at_put team w x' (λ z y. (m : Message) × (entry y.received s k ≡ some (Some m))) l
-      (λ (e : l ≡ w). let old = ok.filled w k s lw lk
+      told = λ l k s m ll lk h. at_put team w x' (λ z y. entry y.sent s l ≡ some m) k (λ (e : k ≡ w).
+          sent' s l m (subst (λ (z : ℕ). entry (team z).sent s l ≡ some m) e (ok.told l k s m ll lk (heard l k s m h))))
+          (λ _. ok.told l k s m ll lk (heard l k s m h));
+      columns = λ v lv. at_put team w x' (λ z y. All (λ r. length r ≡ p) y.received) v (λ _. columns') (λ _. ok.columns v lv);
+      filled = λ l k s ll lk h. at_put team w x' (λ z y. (m : Message) × (entry y.received s k ≡ some (Some m))) l
+          (λ (e : l ≡ w). let old = ok.filled w k s lw lk
           (subst (λ (z : ℕ). HasTaken (team z) k s) e (subst (λ (z : ℕ). s + 1 < z) (takes_same l k ll lk) h)) in
           (old.0, filled' s k old.0 old.1))
-      (λ _. ok.filled l k s ll lk (subst (λ (z : ℕ). s + 1 < z) (takes_same l k ll lk) h));
-}
+          (λ _. ok.filled l k s ll lk (subst (λ (z : ℕ). s + 1 < z) (takes_same l k ll lk) h));
+    }
   where
     f : ℕ
     f = phase (team w)
@@ -247,7 +257,7 @@ gives_keeps blocks p words words' homes team ok w lw x' xs ys lx ly px py all he
     takes_same : (l k : ℕ) → l < p → k < p → taken (put team w x' l) k ≡ taken (team l) k
     takes_same l k ll lk = at_put team w x' (λ z y. taken y k ≡ taken (team z) k) l
         (λ (e : l ≡ w). subst (λ (z : ℕ). taken x' k ≡ taken (team z) k) (sym e) (takes' k lk
-            ∙ ap (λ b. phase (team w) + weight b) (sym (all k lk))))
+        ∙ ap (λ b. phase (team w) + weight b) (sym (all k lk))))
         (λ _. refl)
 
     gives_now : (k : ℕ) → k ≡ w → (s : ℕ) → s < given (put team w x' k) → s < given x'
@@ -282,13 +292,13 @@ gives_keeps blocks p words words' homes team ok w lw x' xs ys lx ly px py all he
           at_put team w x' (λ z y. given y ≤ a + 1) j
               (λ (e : j ≡ w). let t = takes' i li in let g : ℕ = given x' in let g' : g ≡ n + 2 = gives' in
               let t' : a ≡ n + 1 = at_put team w x' (λ z y. taken y i ≡ phase (team w) + 1) j (λ _. t) (λ other. absurd (other e)) in
-                  let r : g ≤ a + 1 = omega arith in r)
+              let r : g ≤ a + 1 = omega arith in r)
               (λ _. let g : ℕ = given (team j) in let o : g ≤ b + 1 = old.0 in let r : g ≤ a + 1 = omega arith in r),
           at_put team w x' (λ z y. given y ≤ a + 2) i
               (λ (e : i ≡ w). let g : ℕ = given x' in let g' : g ≡ n + 2 = gives' in let near = ok.near w j lw lj in let q : ℕ =
-                  phase (team j) in
+              phase (team j) in
               let t : taken (team w) j ≡ n + 1 = ap (λ b. phase (team w) + weight b) (all j lj) in let u : ℕ = taken (team w) j in
-                  let t' : u ≡ n + 1 = t in let near' : u ≤ q + 1 = near in
+              let t' : u ≡ n + 1 = t in let near' : u ≤ q + 1 = near in
               let s : ℕ = weight (saw (team j) i) in let b' : b ≡ q + s = refl in let r : g ≤ a + 2 = omega arith in r)
               (λ _. let g : ℕ = given (team i) in let o : g ≤ b + 2 = old.1 in let r : g ≤ a + 2 = omega arith in r),
         )
@@ -310,24 +320,29 @@ gives_keeps blocks p words words' homes team ok w lw x' xs ys lx ly px py all he
     old_parcel k l s lk ll h₀ h₁ h₂ differs =
         let old = ok.parcels k l s lk ll (subst (λ (z : ℕ). z ≤ s) (takes_same l k ll lk) h₀) h₂ in
         let T = takes_of (put team w x') in let G = gives_of (put team w x') in let n : ℕ = phase (team w) in let way : Way p T G k l s =
-            (lk, ll, h₀, h₁) in
+        (lk, ll, h₀, h₁) in
         let stays = λ (q : ℕ) (other : (j : ℕ) → j < p → (q ≢ slot p (n + 1) w j) × (q ≢ slot p (n + 1 + 1) j w)).
-            other_home blocks p w (n + 1) lw homes xs ys lx q other in
+        other_home blocks p w (n + 1) lw homes xs ys lx q other in
         record {
           piece = old.piece;
           back = old.back;
-          piece_home = stays (slot p s k l) (λ j lj. ((λ e. let d = rows_differ p T G paced' k l s w j (n + 1) way (sets_out j lj) e in
-              differs d.0 d.2), rows_and_columns_differ p T G paced' k l s w j (n + 1) way (sets_out j lj))) ∙ old.piece_home;
+          piece_home = stays (slot p s k l) (λ j lj. (
+            (λ e. let d = rows_differ p T G paced' k l s w j (n + 1) way (sets_out j lj) e in
+                differs d.0 d.2),
+            rows_and_columns_differ p T G paced' k l s w j (n + 1) way (sets_out j lj),
+          )) ∙ old.piece_home;
           back_home = stays (slot p (s + 1) l k)
-              (λ j lj. ((λ e. rows_and_columns_differ p T G paced' w j (n + 1) k l s (sets_out j lj) way (sym e)),
-              (λ e. let d = columns_differ p T G paced' k l s w j (n + 1) way (sets_out j lj) e in differs d.0 d.2))) ∙ old.back_home;
+              (λ j lj. (
+                (λ e. rows_and_columns_differ p T G paced' w j (n + 1) k l s (sets_out j lj) way (sym e)),
+                (λ e. let d = columns_differ p T G paced' k l s w j (n + 1) way (sets_out j lj) e in differs d.0 d.2),
+              )) ∙ old.back_home;
           piece_place = old.piece_place;
           back_place = old.back_place;
           carries = at_put team w x' (λ z y. 1 ≤ s → s ≤ phase y → entry y.sent (s - 1) l ≡ some (message old.piece)) k
               (λ (e : k ≡ w) one far. sent' (s - 1) l (message old.piece)
-                  (subst (λ (z : ℕ). entry (team z).sent (s - 1) l ≡ some (message old.piece)) e (old.carries one
+              (subst (λ (z : ℕ). entry (team z).sent (s - 1) l ≡ some (message old.piece)) e (old.carries one
               (let d = differs e in let a = subst (λ (z : ℕ). s < given (team z)) e h₂ in let z = ap weight here in let v : ℕ =
-                  weight (team w).left in let a' : s < n + 1 + v = a in let z' : v ≡ 0 = z in let r : s ≤ n = omega arith in
-                  subst (λ (z : ℕ). s ≤ phase (team z)) (sym e) r))))
+              weight (team w).left in let a' : s < n + 1 + v = a in let z' : v ≡ 0 = z in let r : s ≤ n = omega arith in
+              subst (λ (z : ℕ). s ≤ phase (team z)) (sym e) r))))
               (λ _. old.carries);
         }

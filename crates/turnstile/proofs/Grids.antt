@@ -97,8 +97,12 @@ module _ {A : Type 0} where
   set_keeps : (P : A → Type 0) (r : List A) (i j : ℕ) (a b : A) → get_elem? r j ≡ some b → P a → P b →
       (c : A) × (get_elem? (set r i a) j ≡ some c) × P c
   set_keeps P r i j a b e pa pb = dite (ℕ_discrete j i)
-      (λ (same : j ≡ i). (a, subst (λ (z : ℕ). get_elem? (set r i a) z ≡ some a) (sym same)
-          (set_here r i a (subst (λ (z : ℕ). z < length r) same (at_below r j b e))), pa))
+      (λ (same : j ≡ i). (
+        a,
+        subst (λ (z : ℕ). get_elem? (set r i a) z ≡ some a) (sym same)
+            (set_here r i a (subst (λ (z : ℕ). z < length r) same (at_below r j b e))),
+        pa,
+      ))
       (λ other. (b, set_else r i j a other ∙ e, pb))
 
   -- an entry that has P has it still where another that has P is written

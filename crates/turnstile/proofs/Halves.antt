@@ -18,8 +18,11 @@ use Rattle.turnstile.specs.Shelves.{Offers}
 pub apart : (b : TwoBlocks) (e o : BlockShape) → ◌≡◌ {A = TwoBlocks}
     (record { even = e.block; odd = o.block; side = e.side; room = e.room }) b → o.side ≡ e.side → o.room ≡ e.room →
     (even_block b ≡ e) × (odd_block b ≡ o)
-apart b e o seen side room = (ap even_block (sym seen), ap odd_block (sym seen)
-    ∙ (λ q. record { block = o.block; side = sym side q; room = sym room q }))
+apart b e o seen side room = (
+  ap even_block (sym seen),
+  ap odd_block (sym seen)
+      ∙ (λ q. record { block = o.block; side = sym side q; room = sym room q }),
+)
 
 pub in_even : (b : TwoBlocks) (k : ℕ) → k < b.side * b.side → piece_of b k ≡ piece_at (even_block b) k
 in_even b k lt = ap (λ (c : Bool). if c then piece_at (even_block b) k else piece_at (odd_block b) (k - b.side * b.side))
@@ -64,8 +67,8 @@ get_or_at b zero k lt = absurd (omega arith)
 get_or_at b (suc n) k lt = dite (dec_le (suc k) n)
     (λ old. Rattle.atomic_table.proofs.Lists.at_longer (first_pieces b n) (piece_at b n ∷ []) k (piece_at b k) (get_or_at b n k old))
     (λ new. let e : k ≡ n = omega arith in
-        subst (λ (z : ℕ). get_elem? (first_pieces b n ++ piece_at b n ∷ []) z ≡ some (piece_at b z)) (sym e)
-        (Rattle.atomic_table.proofs.Lists.at_last (first_pieces b n) (piece_at b n) n (length-first_pieces b n)))
+    subst (λ (z : ℕ). get_elem? (first_pieces b n ++ piece_at b n ∷ []) z ≡ some (piece_at b z)) (sym e)
+    (Rattle.atomic_table.proofs.Lists.at_last (first_pieces b n) (piece_at b n) n (length-first_pieces b n)))
 
 after : {A : Type 0} (xs ys : List A) (n k : ℕ) (a : A) → length xs ≡ n → get_elem? ys k ≡ some a → get_elem? (xs ++ ys) (n + k) ≡ some a
 after [] ys zero k a e h = let z : 0 + k ≡ k = omega arith in ap (get_elem? ys) z ∙ h
@@ -79,17 +82,22 @@ pub new_laid : (b : TwoBlocks) (xs : List (Option PieceState)) → xs ≡ map So
     ++ map Some (pieces_of (odd_block b)) → Laid b (2 * b.side * b.side) xs
 new_laid b xs e =
     let n : ℕ = b.side * b.side in let es : List (Option PieceState) = map Some (pieces_of (even_block b)) in
-        let os : List (Option PieceState) = map Some (pieces_of (odd_block b)) in
+    let os : List (Option PieceState) = map Some (pieces_of (odd_block b)) in
     let ec : length es ≡ n = pieces_count (even_block b) in let oc : length os ≡ n = pieces_count (odd_block b) in let t = twice b.side in (
       ap length e ∙ length-append es os ∙ (λ q. ec q + oc q) ∙ sym t,
       λ k lt. dite (dec_le (suc k) n)
-          (λ low. let x : PieceState = piece_at (even_block b) k in
-          (x, ap (λ l. get_elem? l k) e ∙ Rattle.atomic_table.proofs.Lists.at_longer es os k (Some x)
-              (at_map Some (pieces_of (even_block b)) k x (get_or_at (even_block b) n k low)), sym (in_even b k low)))
+          (λ low. let x : PieceState = piece_at (even_block b) k in (
+            x,
+            ap (λ l. get_elem? l k) e ∙ Rattle.atomic_table.proofs.Lists.at_longer es os k (Some x)
+                (at_map Some (pieces_of (even_block b)) k x (get_or_at (even_block b) n k low)),
+            sym (in_even b k low),
+          ))
           (λ high. let j : ℕ = k - n in let x : PieceState = piece_at (odd_block b) j in let s : n + j ≡ k = omega arith in let d : ℕ =
-              2 * b.side * b.side in let t' : d ≡ n + n = t in let l : k < d = lt in let lj : j < n = omega arith in
-          subst (λ (z : ℕ). (y : PieceState) × (get_elem? xs z ≡ some (Some y)) × BelongsIn b z y) s
-          (x, ap (λ l. get_elem? l (n + j)) e
-              ∙ after es os n j (Some x) ec (at_map Some (pieces_of (odd_block b)) j x (get_or_at (odd_block b) n j lj)),
-              sym (in_odd b j))),
+          2 * b.side * b.side in let t' : d ≡ n + n = t in let l : k < d = lt in let lj : j < n = omega arith in
+          subst (λ (z : ℕ). (y : PieceState) × (get_elem? xs z ≡ some (Some y)) × BelongsIn b z y) s (
+            x,
+            ap (λ l. get_elem? l (n + j)) e
+                ∙ after es os n j (Some x) ec (at_map Some (pieces_of (odd_block b)) j x (get_or_at (odd_block b) n j lj)),
+            sym (in_odd b j),
+          )),
     )

@@ -41,7 +41,7 @@ module _ {T : Type 0} where
   )
   others_fit p said h heard back first seats id w j x b is other Runner v f =
       let n : v.at ≢ w = λ e. other (sym f.1 ∙ ap seats e ∙ is) in
-          (f.0, f.1, put_else heard w x v.at n ∙ f.2, put_else back w b v.at n ∙ f.3)
+      (f.0, f.1, put_else heard w x v.at n ∙ f.2, put_else back w b v.at n ∙ f.3)
 
   module _ (p : ℕ) (s : State (Option T) (Part T)) (ok : Line p s) (id : ℕ) (v : Part T) (at : get_elem? s.views id ≡ some v) where
     pub as_runner : v.role ≡ Runner → FitsAs p ok.said ok.holds ok.heard ok.back ok.first ok.seats id Runner v
@@ -54,7 +54,7 @@ module _ {T : Type 0} where
     pub goes_on : v.role ≡ Runner → (x : Told T) (b : Bool) (homes' : List (maybe.Option (Option T))) → length homes' ≡ p →
         Hears ok.said v.at x → Lies ok.holds ok.said v.at x b (get_elem? homes' v.at)
         → ((w : ℕ) → w ≢ v.at → get_elem? homes' w ≡ get_elem? s.homes w) →
-            Line p record { words = s.words; homes = homes'; views = set s.views id (runner v.at x b) }
+        Line p record { words = s.words; homes = homes'; views = set s.views id (runner v.at x b) }
     goes_on is x b homes' room hears lies other = let f = as_runner is in let w : ℕ = v.at in record {
       said = ok.said;
       holds = ok.holds;
@@ -68,17 +68,17 @@ module _ {T : Type 0} where
       early = ok.early;
       hears = λ k lk. dite (ℕ_discrete k w)
           (λ (e : k ≡ w). subst (λ (z : ℕ). Hears ok.said z (put ok.heard w x z)) (sym e)
-              (subst (Hears ok.said w) (sym (put_here ok.heard w x)) hears))
+          (subst (Hears ok.said w) (sym (put_here ok.heard w x)) hears))
           (λ n. subst (Hears ok.said k) (sym (put_else ok.heard w x k n)) (ok.hears k lk));
       lies = λ k lk. dite (ℕ_discrete k w)
           (λ (e : k ≡ w). subst (λ (z : ℕ). Lies ok.holds ok.said z (put ok.heard w x z) (put ok.back w b z) (get_elem? homes' z)) (sym e)
           (subst (λ (z : Told T × Bool). Lies ok.holds ok.said w z.0 z.1 (get_elem? homes' w))
-              (λ q. (sym (put_here ok.heard w x) q, sym (put_here ok.back w b) q)) lies))
+          (λ q. (sym (put_here ok.heard w x) q, sym (put_here ok.back w b) q)) lies))
           (λ n. subst (λ (z : Told T × Bool × Home T). Lies ok.holds ok.said k z.0 z.1 z.2)
-              (λ q. (sym (put_else ok.heard w x k n) q, sym (put_else ok.back w b k n) q, sym (other k n) q)) (ok.lies k lk));
+          (λ q. (sym (put_else ok.heard w x k n) q, sym (put_else ok.back w b k n) q, sym (other k n) q)) (ok.lies k lk));
       fits = λ j u e. ⊎_elim
           (λ t. subst (λ (u' : Part T). FitsAs p ok.said ok.holds (put ok.heard w x) (put ok.back w b) ok.first ok.seats j u'.role u') t.1
-              (f.0, f.1 ∙ sym t.0, put_here ok.heard w x, put_here ok.back w b))
+          (f.0, f.1 ∙ sym t.0, put_here ok.heard w x, put_here ok.back w b))
           (λ t. others_fit p ok.said ok.holds ok.heard ok.back ok.first ok.seats id w j x b f.1 t.0 u.role u (ok.fits j u t.1))
           (at_set s.views id j (runner w x b) u e);
     }
@@ -118,18 +118,31 @@ module _ {T : Type 0} where
       not_holding false q xs r = q
 
       by_said : (said : Told (List T)) → ok.said ≡ said → Goal
-      by_said Nothing q = let n : ℕ = get_or s.words 0 0 in let z : n ≡ 0 = said_is Nothing q in
-          (me.0, keeps, tt, unchanged p s ok id me.0 at,
-              ((λ _. refl), (λ (h : n ≡ 1). absurd (omega arith)), (λ (h : n ≡ 2). absurd (omega arith)), (let r : n < 3 = omega arith in
-              r)))
+      by_said Nothing q = let n : ℕ = get_or s.words 0 0 in let z : n ≡ 0 = said_is Nothing q in (
+        me.0,
+        keeps,
+        tt,
+        unchanged p s ok id me.0 at,
+        (
+          (λ _. refl),
+          (λ (h : n ≡ 1). absurd (omega arith)),
+          (λ (h : n ≡ 2). absurd (omega arith)),
+          (let r : n < 3 = omega arith in
+              r),
+        ),
+      )
       by_said Stop q = let n : ℕ = get_or s.words 0 0 in let z : n ≡ 2 = said_is Stop q in (
         runner me.0.at Stop false,
         keeps,
         tt,
         same_words p s s.homes (set s.views id (runner me.0.at Stop false)) (goes_on p s ok id me.0 at role Stop false s.homes ok.room q
             (still q) (λ _ _. refl)),
-        ((λ (h : n ≡ 0). absurd (omega arith)), (λ (h : n ≡ 1). absurd (omega arith)), (λ _ i. (runner me.0.at Stop false, (e i).1)),
-            (let r : n < 3 = omega arith in r)),
+        (
+          (λ (h : n ≡ 0). absurd (omega arith)),
+          (λ (h : n ≡ 1). absurd (omega arith)),
+          (λ _ i. (runner me.0.at Stop false, (e i).1)),
+          (let r : n < 3 = omega arith in r),
+        ),
       )
         where
           lies_stop : (b : Bool) (h : Told T) (k : Bool) (home : Home T) → Lies b Stop me.0.at h k home →
@@ -140,13 +153,13 @@ module _ {T : Type 0} where
           still : ok.said ≡ Stop → Lies ok.holds ok.said me.0.at Stop false (get_elem? s.homes me.0.at)
           still r = subst (λ (z : Told (List T)). Lies ok.holds z me.0.at Stop false (get_elem? s.homes me.0.at)) (sym r)
               (lies_stop ok.holds (ok.heard me.0.at) (ok.back me.0.at) (get_elem? s.homes me.0.at)
-                  (subst (λ (z : Told (List T)). Lies ok.holds z me.0.at (ok.heard me.0.at) (ok.back me.0.at) (get_elem? s.homes me.0.at)) r
-                  (ok.lies me.0.at f.0)))
+              (subst (λ (z : Told (List T)). Lies ok.holds z me.0.at (ok.heard me.0.at) (ok.back me.0.at) (get_elem? s.homes me.0.at)) r
+              (ok.lies me.0.at f.0)))
       by_said (Go xs) q = let n : ℕ = get_or s.words 0 0 in let z : n ≡ 1 = said_is (Go xs) q in
           let h = not_holding ok.holds refl xs q in
           let heard : ok.heard me.0.at ≡ Nothing = f.2 ∙ ap (λ (u : Part T). u.heard) v_is in
           let l = subst (λ (u : Bool × Told (List T) × Told T). Lies u.0 u.1 me.0.at u.2 (ok.back me.0.at) (get_elem? s.homes me.0.at))
-              (λ i. (h i, q i, heard i)) (ok.lies me.0.at f.0) in
+          (λ i. (h i, q i, heard i)) (ok.lies me.0.at f.0) in
           let x : T = l.0 in (
             runner me.0.at (Go x) false,
             takes me.0.at (Some x),
@@ -155,7 +168,11 @@ module _ {T : Type 0} where
                 (goes_on p s ok id me.0 at role (Go x) false (set s.homes me.0.at none) (length-set s.homes me.0.at none
                 ∙ ok.room) (xs, q, l.1)
                 (subst (λ (u : Bool × Told (List T)). Lies u.0 u.1 me.0.at (Go x) false (get_elem? (set s.homes me.0.at none) me.0.at))
-                    (λ i. (sym h i, sym q i)) tt) (λ k other. set_else s.homes me.0.at k none other)),
-            ((λ (h : n ≡ 0). absurd (omega arith)), (λ _. (x, λ i. (runner me.0.at (Go x) false, (me.0.at, Some x) ∷ (e i).1))),
-                (λ (h : n ≡ 2). absurd (omega arith)), (let r : n < 3 = omega arith in r)),
+                (λ i. (sym h i, sym q i)) tt) (λ k other. set_else s.homes me.0.at k none other)),
+            (
+              (λ (h : n ≡ 0). absurd (omega arith)),
+              (λ _. (x, λ i. (runner me.0.at (Go x) false, (me.0.at, Some x) ∷ (e i).1))),
+              (λ (h : n ≡ 2). absurd (omega arith)),
+              (let r : n < 3 = omega arith in r),
+            ),
           )

@@ -38,7 +38,7 @@ module _ (blocks : TwoBlocks) (p : ℕ) (words : List ℕ) (homes : Homes) (team
       let a = paced_by (team j).left (saw (team j) i) (ok.leaves j i lj li) in
       let b = paced_by (team i).left (saw (team i) j) (ok.leaves i j li lj) in
       let n = ok.near i j li lj in let lf : ℕ = weight (team j).left in let lf' : ℕ = weight (team i).left in let s : ℕ =
-          weight (saw (team j) i) in let s' : ℕ = weight (saw (team i) j) in
+      weight (saw (team j) i) in let s' : ℕ = weight (saw (team i) j) in
       let f : ℕ = phase (team i) in let g : ℕ = phase (team j) in
       let a' : lf ≤ s = a in let b' : lf' ≤ s' = b in let n' : f + s' ≤ g + 1 = n in
       let one : g + 1 + lf ≤ g + s + 1 = omega arith in let two : f + 1 + lf' ≤ g + s + 2 = omega arith in (one, two)
@@ -49,7 +49,7 @@ module _ (blocks : TwoBlocks) (p : ℕ) (words : List ℕ) (homes : Homes) (team
   found w i lw li new le = let f : ℕ = phase (team w) in let g : ℕ = phase (team i) in
       let z : weight (saw (team w) i) ≡ 0 = ap weight new in let s : ℕ = weight (saw (team w) i) in
       ok.parcels i w f li lw (let h : f + s ≤ f = omega arith in h) (let l : ℕ = weight (team i).left in let h : f < g + 1 + l =
-          omega arith in h)
+      omega arith in h)
 
   module _ (w i : ℕ) (lw : w < p) (li : i < p) (new : saw (team w) i ≡ false) (le : phase (team w) ≤ phase (team i)) where
     abbrev got : Parcel blocks p homes (team i) i w (phase (team w))
@@ -91,16 +91,25 @@ module _ (blocks : TwoBlocks) (p : ℕ) (words : List ℕ) (homes : Homes) (team
         (gives_of team) k l s × ((k ≡ i) → (l ≡ w) → s ≢ phase (team w))
     before k l s lk ll h₀ h₁ =
         let h₁' : s < given (team k) =
-            at_put team w x' (λ m y. s < given y → s < given (team m)) k (λ (e : k ≡ w). rw e (λ h. h)) (λ _ h. h) h₁ in
+        at_put team w x' (λ m y. s < given y → s < given (team m)) k (λ (e : k ≡ w). rw e (λ h. h)) (λ _ h. h) h₁ in
         at_put team w x' (λ m y. taken y k ≤ s → Way p (takes_of team) (gives_of team) k m s × ((k ≡ i) → (m ≡ w) → s ≢ phase (team w))) l
         (λ (e : l ≡ w) h. dite (ℕ_discrete k i)
         (λ (same : k ≡ i). let t = takes_now in let n : ℕ = taken (team w) i in let m : ℕ = taken x' i in let t' : m ≡ suc n = t in
-            let h' : m ≤ s = subst (λ (z : ℕ). taken x' z ≤ s) same h in
-        let f : ℕ = phase (team w) in let q : ℕ = weight (saw (team w) i) in let n' : n ≡ f + q = refl in
-        ((lk, ll, subst (λ (z : ℕ). taken (team z) k ≤ s) (sym e) (subst (λ (z : ℕ). taken (team w) z ≤ s) (sym same) (let g : n ≤ s =
-            omega arith in g)), h₁'), λ _ _ z. let z' : s ≡ f = z in omega arith))
-        (λ other. ((lk, ll, subst (λ (z : ℕ). taken (team z) k ≤ s) (sym e) (subst (λ (z : ℕ). z ≤ s) (takes_else k other) h), h₁'),
-            λ y _ _. other y)))
+        let h' : m ≤ s = subst (λ (z : ℕ). taken x' z ≤ s) same h in
+        let f : ℕ = phase (team w) in let q : ℕ = weight (saw (team w) i) in let n' : n ≡ f + q = refl in (
+          (
+            lk,
+            ll,
+            subst (λ (z : ℕ). taken (team z) k ≤ s) (sym e) (subst (λ (z : ℕ). taken (team w) z ≤ s) (sym same) (let g : n ≤ s =
+                omega arith in g)),
+            h₁',
+          ),
+          λ _ _ z. let z' : s ≡ f = z in omega arith,
+        ))
+        (λ other. (
+          (lk, ll, subst (λ (z : ℕ). taken (team z) k ≤ s) (sym e) (subst (λ (z : ℕ). z ≤ s) (takes_else k other) h), h₁'),
+          λ y _ _. other y,
+        )))
         (λ other h. ((lk, ll, h, h₁'), λ _ y _. other y)) h₀
 
     keeps_slot : (k : ℕ) → k ≢ k₁ → k ≢ k₂ → get_elem? homes' k ≡ get_elem? homes k
@@ -150,23 +159,23 @@ module _ (blocks : TwoBlocks) (p : ℕ) (words : List ℕ) (homes : Homes) (team
         old_filled : (k s : ℕ) → k < p → HasTaken (team w) k s → (m : Message) × (entry x'.received s k ≡ some (Some m))
         old_filled k s lk h = let old = ok.filled w k s lw lk h in
             let kept = entry_keeps (λ (o : Option Message). (m : Message) × (o ≡ Some m)) (team w).received (phase (team w) - 1) i
-                (Some (message got.piece)) s k (Some old.0) old.1 (message got.piece, refl) (old.0, refl) in
+            (Some (message got.piece)) s k (Some old.0) old.1 (message got.piece, refl) (old.0, refl) in
             (kept.2.0, kept.1 ∙ ap some kept.2.1)
 
         filled_at : (k s : ℕ) → k < p → HasTaken x' k s → (m : Message) × (entry x'.received s k ≡ some (Some m))
         filled_at k s lk h = dite (ℕ_discrete k i)
             (λ (same : k ≡ i). dite (dec_le (suc (s + 1)) (taken (team w) i))
             (λ before. old_filled k s lk (subst (λ (z : ℕ). HasTaken (team w) z s) (sym same) (let n : ℕ = taken (team w) i in
-                let r : s + 1 < n = omega arith in r)))
+            let r : s + 1 < n = omega arith in r)))
             (λ now. let t = takes_now in let n : ℕ = taken (team w) i in let m : ℕ = taken x' i in let t' : m ≡ suc n = t in
-                let h' : s + 1 < m = subst (λ (z : ℕ). s + 1 < taken x' z) same h in
+            let h' : s + 1 < m = subst (λ (z : ℕ). s + 1 < taken x' z) same h in
             let f : ℕ = phase (team w) in let q : ℕ = weight (saw (team w) i) in let n' : n ≡ f + q = refl in let z : q ≡ 0 =
-                ap weight new in let last : f - 1 ≡ s = omega arith in
+            ap weight new in let last : f - 1 ≡ s = omega arith in
             let long : length (team w).received ≡ f = ok.rows w lw in (
               message got.piece,
               subst (λ (z : ℕ × ℕ). entry x'.received z.0 z.1 ≡ some (Some (message got.piece))) (λ e. (last e, sym same e))
                   (entry_here p (team w).received (f - 1) i (Some (message got.piece)) (ok.columns w lw)
-                      (subst (λ (z : ℕ). f - 1 < z) (sym long) (let r : f - 1 < f = omega arith in r)) li),
+                  (subst (λ (z : ℕ). f - 1 < z) (sym long) (let r : f - 1 < f = omega arith in r)) li),
             )))
             (λ other. old_filled k s lk (subst (λ (z : ℕ). s + 1 < z) (takes_else k other) h))
 
@@ -174,11 +183,11 @@ module _ (blocks : TwoBlocks) (p : ℕ) (words : List ℕ) (homes : Homes) (team
         near_at l k ll lk n is = at_put team w x' (λ z y. taken y k ≤ n + 1) l
             (λ _. dite (ℕ_discrete k i)
             (λ (e : k ≡ i). let t = takes_now in let z = ap weight new in let f : ℕ = phase (team w) in let g : ℕ = phase (team i) in
-                let s : ℕ = weight (saw (team w) i) in let m : ℕ = taken x' i in
+            let s : ℕ = weight (saw (team w) i) in let m : ℕ = taken x' i in
             let t' : m ≡ suc (f + s) = t in let z' : s ≡ 0 = z in let is' : g ≡ n = ap (λ z. phase (team z)) (sym e) ∙ is in
-                subst (λ (z : ℕ). taken x' z ≤ n + 1) (sym e) (let h : m ≤ n + 1 = omega arith in h))
+            subst (λ (z : ℕ). taken x' z ≤ n + 1) (sym e) (let h : m ≤ n + 1 = omega arith in h))
             (λ other. let a = ok.near w k lw lk in
-                subst (λ (z : ℕ). z ≤ n + 1) (sym (takes_else k other)) (subst (λ (z : ℕ). taken (team w) k ≤ z + 1) is a)))
+            subst (λ (z : ℕ). z ≤ n + 1) (sym (takes_else k other)) (subst (λ (z : ℕ). taken (team w) k ≤ z + 1) is a)))
             (λ _. subst (λ (z : ℕ). taken (team l) k ≤ z + 1) is (ok.near l k ll lk))
 
         told_at : (l k s : ℕ) (m : Message) → l < p → k < p → entry (put team w x' l).received s k ≡ some (Some m) →

@@ -29,17 +29,17 @@ module _ (p w s : ℕ) where
       m ≡ emptied p w s j (p - j) ++ loaded p w s 0 (take j xs) (take j ys)
       → drop j xs ≡ x ∷ xs' → drop j ys ≡ y ∷ ys' → m' ≡ rest (rest m) ++ (slot p s w j, Some x) ∷ (slot p (s + 1) j w, Some y) ∷ []
       → (m' ≡ emptied p w s (j + 1) (p - (j + 1)) ++ loaded p w s 0 (take (j + 1) xs) (take (j + 1) ys)) × (xs' ≡ drop (j + 1) xs)
-          × (ys' ≡ drop (j + 1) ys)
+      × (ys' ≡ drop (j + 1) ys)
   laid_more j xs ys xs' ys' x y m m' lt lx ly e dx dy f =
       let a = take_one xs xs' x j dx in let b = take_one ys ys' y j dy in let z : j + 1 ≡ suc j = omega arith in
       let l = loaded p w s 0 (take j xs) (take j ys) in
       let tx : length (take j xs) ≡ j = length-take-le j xs (omega arith) in let ty : length (take j ys) ≡ j =
-          length-take-le j ys (omega arith) in
+      length-take-le j ys (omega arith) in
       let m₁ : rest (rest m) ≡ emptied p w s (suc j) (p - suc j) ++ l = ap (λ (q : Carried). rest (rest q)) (e ∙ first_empty j l lt) in
       let grown : loaded p w s 0 (take (suc j) xs) (take (suc j) ys) ≡ l ++ (slot p s w j, Some x) ∷ (slot p (s + 1) j w, Some y) ∷ [] =
       (λ q. loaded p w s 0 (a.0 q) (b.0 q)) ∙ loaded_end p w s 0 (take j xs) (take j ys) x y (tx ∙ sym ty)
-          ∙ (let n : 0 + length (take j xs) ≡ j = omega arith in
-          ap (λ (k : ℕ). l ++ (slot p s w k, Some x) ∷ (slot p (s + 1) k w, Some y) ∷ []) n) in (
+      ∙ (let n : 0 + length (take j xs) ≡ j = omega arith in
+      ap (λ (k : ℕ). l ++ (slot p s w k, Some x) ∷ (slot p (s + 1) k w, Some y) ∷ []) n) in (
         rw z (f ∙ ap (λ (q : Carried). q ++ (slot p s w j, Some x) ∷ (slot p (s + 1) j w, Some y) ∷ []) m₁
             ∙ append_assoc (emptied p w s (suc j) (p - suc j)) l ((slot p s w j, Some x) ∷ (slot p (s + 1) j w, Some y) ∷ [])
             ∙ ap (λ (q : Carried). emptied p w s (suc j) (p - suc j) ++ q) (sym grown)),

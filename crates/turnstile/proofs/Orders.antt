@@ -74,22 +74,22 @@ module _ (blocks : TwoBlocks) (c : Core) (h : Stands blocks c) where
       Stands blocks (after blocks c (finish w row back))
   finishes_stand w row back may =
       let x : Worker = c.team w in let ms : List Message = map message row in let y : Worker = finished x ms in let f : ℕ = phase x in
-          let n : ℕ = get_or c.words w 0 in
+      let n : ℕ = get_or c.words w 0 in
       let count : n ≡ f = h.0.counts w may.0 in let longer : phase y ≡ f + 1 = length-append x.sent (ms ∷ []) in
-          let rows : length x.received ≡ f = h.0.rows w may.0 in let lw : w < p = may.0 in
+      let rows : length x.received ≡ f = h.0.rows w may.0 in let lw : w < p = may.0 in
       let sound = gives_keeps blocks p c.words (set c.words w (n + 1)) c.homes c.team h.0 w lw y row back may.2 may.3 may.4 may.5 may.1
-          (h.2 w)
+      (h.2 w)
       (length-set c.words w (n + 1) ∙ h.0.wide) (λ v lv other. get_or-set_other c.words w v (n + 1) 0 other)
-          (get_or-set_same c.words w (n + 1) 0 (rw (h.0.wide) lw) ∙ ap (λ (z : ℕ). z + 1) count ∙ sym longer)
+      (get_or-set_same c.words w (n + 1) 0 (rw (h.0.wide) lw) ∙ ap (λ (z : ℕ). z + 1) count ∙ sym longer)
       (length-append x.received (replicate x.workers None ∷ []) ∙ ap (λ (z : ℕ). z + 1) rows ∙ sym longer) (length-replicate x.workers false
-          ∙ h.1 w)
+      ∙ h.1 w)
       (λ i li. let z : weight (saw y i) ≡ 0 = ap weight (fresh_saw x.workers i) in let q : ℕ = weight (saw y i) in let g : ℕ = phase y in
-          let r : g + q ≡ f + 1 = omega arith in r)
+      let r : g + q ≡ f + 1 = omega arith in r)
       (let z : weight y.left ≡ 0 = ap weight (h.2 w) in let q : ℕ = weight y.left in let g : ℕ = phase y in let r : g + 1 + q ≡ f + 2 =
-          omega arith in r)
+      omega arith in r)
       (let g : ℕ = phase y in let r : f ≤ g = omega arith in r) (λ i li gone. absurd (differ (sym (h.2 w) ∙ gone)))
       (λ t i m e. entry_longer x.sent ms t i m e) (λ t i m e. ⊎_elim (λ q. q) (λ q. absurd (bare x.workers i m q))
-          (entry_end x.received (replicate x.workers None) t i (Some m) e))
+      (entry_end x.received (replicate x.workers None) t i (Some m) e))
       (All-push (λ r. length r ≡ p) x.received (replicate x.workers None) (h.0.columns w lw) (length-replicate x.workers None ∙ h.1 w))
       (λ t i m e. entry_longer x.received (replicate x.workers None) t i (Some m) e)
       (λ _ j m e. entry_last x.sent ms j m e) in (

@@ -54,13 +54,13 @@ pub sets_out : (k l : Work) (m : Me (Option PieceState) View) → k.round < 2 ^ 
     m ≡ (k.chair.me.0, loaded k.workers k.worker (k.round + 1) 0 k.row.items k.column.items) →
     l.chair.me ≡ (seated (finished m.0.mine (letters m.1)), []) → l.chair.table_id ≡ k.chair.table_id
     → l.worker ≡ k.worker → l.workers ≡ k.workers → l.round ≡ k.round + 1 → l.row.items ≡ [] → l.column.items ≡ [] →
-        deque_capacity l.row ≡ deque_capacity k.row → deque_capacity l.column ≡ deque_capacity k.column
+    deque_capacity l.row ≡ deque_capacity k.row → deque_capacity l.column ≡ deque_capacity k.column
     → Seeing 0 l × (before l ≡ told_all (columns_of k)) × (rows_of l ≡ rows_of k ++ map message k.row.items ∷ [])
-        × ((done l).blocks ≡ (done k).blocks)
+    × ((done l).blocks ≡ (done k).blocks)
 sets_out k l m early' h laid now table wk ws rd row column row_room column_room =
     let v : Worker = done k in let f : ℕ = k.round in let p : ℕ = k.workers in let ms : List Message = map message k.row.items in
     let said : letters m.1 ≡ ms = ap letters (ap (λ z. z.1) laid) ∙ letters_of p k.worker (f + 1) 0 k.row.items k.column.items (h.row
-        ∙ sym h.column) in
+    ∙ sym h.column) in
     let u : Worker = finished v ms in
     let l₀ : l.chair.me.0 ≡ seated u = ap (λ z. z.0) now ∙ (λ q. seated (finished (ap (λ z. z.0.mine) laid q) (said q))) in
     let D : done l ≡ u = ap (λ (z : View). z.mine) l₀ in
@@ -68,7 +68,7 @@ sets_out k l m early' h laid now table wk ws rd row column row_room column_room 
     let len : length v.received ≡ f = h.long in
     let nones : List (Option Message) = replicate v.workers None in
     let early : before l ≡ v.received = (λ q. take (next q - 1) (D q).received) ∙ (let z : suc f - 1 ≡ f = omega arith in
-        ap (λ (n : ℕ). take n (v.received ++ nones ∷ [])) z) ∙ take_at v.received (nones ∷ []) f len in (
+    ap (λ (n : ℕ). take n (v.received ++ nones ∷ [])) z) ∙ take_at v.received (nones ∷ []) f len in (
       record {
         is_seated = l₀ ∙ sym (ap seated D);
         at = ap (λ (z : Worker). z.at) D ∙ h.at ∙ sym wk;
@@ -94,7 +94,7 @@ sets_out k l m early' h laid now table wk ws rd row column row_room column_room 
         carries = ap (λ z. z.1) now;
         so_far = ap (λ (z : Worker). z.received) D
             ∙ (λ q. sym early q ++ replicate ((h.of ∙ sym ws ∙ (let n : ℕ = l.workers in let z : n ≡ n - 0 = omega arith in z)) q) None
-                ∷ [])
+            ∷ [])
             ∙ (λ q. opened (sym next q) (before l) (map Some (map message (sym column q)) ++ replicate (l.workers - 0) None));
         long = ap (λ (z : Worker). length z.received) D ∙ length-append v.received (nones ∷ []) ∙ ap (λ (z : ℕ). z + 1) len ∙ sym rd;
       },
@@ -138,11 +138,13 @@ module _ (k : Work) (h : Seeing k.workers k) where
   rests f rs next past rows old len =
       let p : ℕ = k.workers in let z : p - p ≡ 0 = omega arith in let ms : List Message = map message k.column.items in
       let all : (done k).received ≡ told_all (rs ++ ms ∷ []) =
-          h.so_far ∙ (λ q. opened (next q) (past q) (map Some ms ++ replicate (z q) None))
-          ∙ ap (λ (r : List (Option Message)). told_all rs ++ r ∷ []) (append-nil (map Some ms)) ∙ told_end rs ms in
-      let columns : columns_of k ≡ rs ++ ms ∷ [] = ap known all ∙ known_told (rs ++ ms ∷ []) in
-      (rests_with (all ∙ ap told_all (sym columns)) rows
-          (subst (Wide p) (sym columns) (All-push (λ r. length r ≡ p) rs ms old (length-map k.column.items message ∙ h.column))), columns)
+      h.so_far ∙ (λ q. opened (next q) (past q) (map Some ms ++ replicate (z q) None))
+      ∙ ap (λ (r : List (Option Message)). told_all rs ++ r ∷ []) (append-nil (map Some ms)) ∙ told_end rs ms in
+      let columns : columns_of k ≡ rs ++ ms ∷ [] = ap known all ∙ known_told (rs ++ ms ∷ []) in (
+        rests_with (all ∙ ap told_all (sym columns)) rows
+            (subst (Wide p) (sym columns) (All-push (λ r. length r ≡ p) rs ms old (length-map k.column.items message ∙ h.column))),
+        columns,
+      )
 
   no_more : {A : Type 0} (l : List A) → length l ≡ 0 → l ≡ []
   no_more [] e = refl
@@ -150,10 +152,12 @@ module _ (k : Work) (h : Seeing k.workers k) where
 
   pub rests_first : k.round ≡ 0 → Rested k × (columns_of k ≡ [])
   rests_first first = let none_yet : (done k).received ≡ [] = no_more (done k).received (h.long ∙ first) in let none_sent : rows_of k ≡ [] =
-      no_more (rows_of k) (h.made ∙ first) in
-      (rests_with (none_yet ∙ ap (λ z. told_all (known z)) (sym none_yet))
-          (subst (Wide k.workers) (sym none_sent) (All-nil (λ r. length r ≡ k.workers)))
-          (subst (Wide k.workers) (sym (ap known none_yet)) (All-nil (λ r. length r ≡ k.workers))), ap known none_yet)
+      no_more (rows_of k) (h.made ∙ first) in (
+        rests_with (none_yet ∙ ap (λ z. told_all (known z)) (sym none_yet))
+            (subst (Wide k.workers) (sym none_sent) (All-nil (λ r. length r ≡ k.workers)))
+            (subst (Wide k.workers) (sym (ap known none_yet)) (All-nil (λ r. length r ≡ k.workers))),
+        ap known none_yet,
+      )
 
 -- The whole of a crossing: a is k with its pieces laid, l has finished, and n has seen all
 pub passes : (k a l n : Work) → k.round < 2 ^ 63 → Rested k → IsSame k a →
@@ -161,19 +165,19 @@ pub passes : (k a l n : Work) → k.round < 2 ^ 63 → Rested k → IsSame k a �
     a.column.items ≡ []
     → deque_capacity a.row ≡ deque_capacity k.row → deque_capacity a.column ≡ deque_capacity k.column
     → l.chair.me ≡ (seated (finished a.chair.me.0.mine (letters a.chair.me.1)), []) → l.chair.table_id ≡ a.chair.table_id →
-        l.worker ≡ a.worker → l.workers ≡ a.workers → l.round ≡ a.round + 1 → l.row ≡ a.row → l.column ≡ a.column
+    l.worker ≡ a.worker → l.workers ≡ a.workers → l.round ≡ a.round + 1 → l.row ≡ a.row → l.column ≡ a.column
     → IsSame l n → before n ≡ before l → rows_of n ≡ rows_of l → (done n).blocks ≡ (done l).blocks → Seeing l.workers n
     → Rested n × (rows_of n ≡ rows_of k ++ map message k.row.items ∷ []) × (columns_of n ≡ columns_of k ++ map message n.column.items ∷ [])
-        × ((done n).blocks ≡ (done k).blocks)
+    × ((done n).blocks ≡ (done k).blocks)
 passes k a l n early h same laid row column row_room column_room now table wk ws rd same_row same_column same' before' rows' blocks' seen =
     let s = sets_out k l a.chair.me early h laid now (table ∙ same.0) (wk ∙ same.2) (ws ∙ same.3) (rd
-        ∙ ap (λ (z : ℕ). z + 1) same.4) (ap (λ z. z.items) same_row ∙ row) (ap (λ z. z.items) same_column
-        ∙ column) (ap deque_capacity same_row ∙ row_room) (ap deque_capacity same_column ∙ column_room) in
+    ∙ ap (λ (z : ℕ). z + 1) same.4) (ap (λ z. z.items) same_row ∙ row) (ap (λ z. z.items) same_column
+    ∙ column) (ap deque_capacity same_row ∙ row_room) (ap deque_capacity same_column ∙ column_room) in
     let of : n.workers ≡ k.workers = same'.3 ∙ ws ∙ same.3 in
     let next : n.round ≡ suc k.round = same'.4 ∙ rd ∙ ap (λ (z : ℕ). z + 1) same.4 ∙ (let f : ℕ = k.round in let z : f + 1 ≡ suc f =
-        omega arith in z) in
+    omega arith in z) in
     let r = rests n (subst (λ (z : ℕ). Seeing z n) (sym same'.3) seen) k.round (columns_of k) next (before' ∙ s.1)
     (subst (λ (z : ℕ × List (List Message)). Wide z.0 z.1) (λ q. (sym of q, sym (rows' ∙ s.2) q))
-        (All-push (λ r. length r ≡ k.workers) (rows_of k) (map message k.row.items) h.rows (length-map k.row.items message ∙ h.row)))
+    (All-push (λ r. length r ≡ k.workers) (rows_of k) (map message k.row.items) h.rows (length-map k.row.items message ∙ h.row)))
     (subst (λ (z : ℕ). Wide z (columns_of k)) (sym of) h.columns) (length-map (done k).received (map value) ∙ h.long) in
     (r.0, rows' ∙ s.2, r.1, blocks' ∙ s.3)

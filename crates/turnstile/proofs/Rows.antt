@@ -34,15 +34,17 @@ module _ {T : Type 0} where
       → (m₂ ≡ bare (j + 1) (p - (j + 1)) ++ slots_of 0 (map Some (take (j + 1) xs))) × (ys ≡ drop (j + 1) xs)
   laid_more j p xs ys x m m₁ m₂ lt len e d e₁ e₂ =
       let l : List (ℕ × Option T) = slots_of 0 (map Some (take j xs)) in let t = take_one xs ys x j d in let z : j + 1 ≡ suc j =
-          omega arith in
+      omega arith in
       let r : rest m ≡ bare (suc j) (p - suc j) ++ l = ap rest (e ∙ bare_first j p l lt) in
       let n : length (map Some (take j xs)) ≡ j = lib.ListN.length-map (take j xs) Some ∙ length-take-le j xs (omega arith) in
       let grown : slots_of 0 (map Some (take (suc j) xs)) ≡ l ++ (j, Some x) ∷ [] = ap (λ (q : List T). slots_of 0 (map Some q)) t.0
-          ∙ ap (slots_of 0) (map_end (take j xs) x) ∙ slots_end 0 (map Some (take j xs)) (Some x)
-      ∙ (let w : 0 + length (map Some (take j xs)) ≡ j = omega arith in ap (λ (k : ℕ). l ++ (k, Some x) ∷ []) w) in
-      (rw z (e₂ ∙ ap turned e₁ ∙ ap (λ (q : List (ℕ × Option T)). q ++ (j, Some x) ∷ []) r
-          ∙ append_assoc (bare (suc j) (p - suc j)) l ((j, Some x) ∷ [])
-          ∙ ap (λ (q : List (ℕ × Option T)). bare (suc j) (p - suc j) ++ q) (sym grown)), rw z (sym t.1))
+      ∙ ap (slots_of 0) (map_end (take j xs) x) ∙ slots_end 0 (map Some (take j xs)) (Some x)
+      ∙ (let w : 0 + length (map Some (take j xs)) ≡ j = omega arith in ap (λ (k : ℕ). l ++ (k, Some x) ∷ []) w) in (
+        rw z (e₂ ∙ ap turned e₁ ∙ ap (λ (q : List (ℕ × Option T)). q ++ (j, Some x) ∷ []) r
+            ∙ append_assoc (bare (suc j) (p - suc j)) l ((j, Some x) ∷ [])
+            ∙ ap (λ (q : List (ℕ × Option T)). bare (suc j) (p - suc j) ++ q) (sym grown)),
+        rw z (sym t.1),
+      )
 
   pub headed : (m l : List (ℕ × Option T)) (x : ℕ × Option T) → m ≡ x ∷ l → m ≡ x ∷ rest m
   headed m l x e = e ∙ ap (λ (z : List (ℕ × Option T)). x ∷ z) (sym (ap rest e))

@@ -60,7 +60,7 @@ module _ {T : Type 0} where
       ∙ set_here hs k (some a) (omega arith) ∙ ap (λ (y : Option T). some (some y)) (some-injective a o e)
   put_at hs (a ∷ os) k (suc j) o fits e = let z : k + suc j ≡ suc k + j = omega arith in let l = length-set hs k (some a) in
       ap (get_elem? (homes_with (set hs k (some a)) (slots_of (suc k) os))) z ∙ put_at (set hs k (some a)) os (suc k) j o (let n : ℕ =
-          length (set hs k (some a)) in let m : ℕ = length hs in let e' : n ≡ m = l in let r : suc k + length os ≤ n = omega arith in r) e
+      length (set hs k (some a)) in let m : ℕ = length hs in let e' : n ≡ m = l in let r : suc k + length os ≤ n = omega arith in r) e
 
   module _ (p : ℕ) (s : State (Option T) (Part T)) (ok : Line p s) (id : ℕ) (me : Chair T) (at : get_elem? s.views id ≡ some me.0) (k : ℕ)
       (ts : List (ℕ × Told T × Bool)) (os : List (Option T)) (me_is : me ≡ (starter k true Nothing ts, slots_of 0 os))
@@ -96,7 +96,7 @@ module _ {T : Type 0} where
       hears = λ w lw. subst (Hears new w) (sym (heard_nothing w lw)) tt;
       lies = λ w lw. let o = there os w (subst (λ (z : ℕ). w < z) (sym len) lw) in
           subst (λ (z : Told T × Home T). Lies false new w z.0 (ok.back w) z.1)
-              (λ q. (sym (heard_nothing w lw) q, sym (at_home w o.0 o.1) q)) (lies w o.0 lw o.1);
+          (λ q. (sym (heard_nothing w lw) q, sym (at_home w o.0 o.1) q)) (lies w o.0 lw o.1);
       fits = λ j u e. ⊎_elim
           (λ t. subst (λ (u' : Part T). FitsAs p new false ok.heard ok.back ok.first ok.seats j u'.role u') t.1 (
             mine.0 ∙ sym t.0,
@@ -125,7 +125,7 @@ module _ {T : Type 0} where
         at_home w o e = let z : w ≡ 0 + w = omega arith in ap (λ c. get_elem? (homes_with s.homes c.1) w) me_is
             ∙ ap (get_elem? (homes_with s.homes (slots_of 0 os))) z
             ∙ put_at s.homes os 0 w o (let a : ℕ = length s.homes in let a' : a ≡ p = ok.room in let b : ℕ = length os in let b' : b ≡ p =
-                len in let r : 0 + b ≤ a = omega arith in r) e
+            len in let r : 0 + b ≤ a = omega arith in r) e
 
         others : (j : ℕ) → j ≢ id → (role : Role) (u : Part T) → FitsAs p ok.said ok.holds ok.heard ok.back ok.first ok.seats j role u →
             FitsAs p new false ok.heard ok.back ok.first ok.seats j role u
@@ -153,16 +153,23 @@ module _ {T : Type 0} where
       (λ _. says_go (step slots 0 1 0 none) me 1)
   go_steps p slots id me k ts xs is len s ok wide at _ = let len' : length (map Some xs) ≡ p = length-map xs Some ∙ len in
       let new : Told (List T) = Go xs in (
-    starter k false new ts,
-    gives_all me.1,
-    all_valid s.homes me.1,
-    subst (λ (hs : List (maybe.Option (Option T))). Line p record { words = set s.words 0 1; homes = hs; views =
-        set s.views id (starter k false new ts) }) (sym (all_home s.homes me.1))
-        (says p s ok id me at k ts (map Some xs) is len' new 1 refl (λ w o lw e. let q = at_items xs w o e in
+        starter k false new ts,
+        gives_all me.1,
+        all_valid s.homes me.1,
+        subst (λ (hs : List (maybe.Option (Option T))). Line p record {
+          words = set s.words 0 1;
+          homes = hs;
+          views =
+              set s.views id (starter k false new ts);
+        }) (sym (all_home s.homes me.1))
+            (says p s ok id me at k ts (map Some xs) is len' new 1 refl (λ w o lw e. let q = at_items xs w o e in
             (q.0, q.1, ap (λ (y : Option T). some (some y)) q.2))),
-    (λ i. (starter (ap (λ z. z.0.at) (sym is) i) false (Go ((sym (ap (λ z. items_of z.1) is ∙ items_are 0 xs)) i))
-        (ap (λ z. z.0.taken) (sym is) i), none_left me.1 i)),
-  )
+        (λ i. (
+          starter (ap (λ z. z.0.at) (sym is) i) false (Go ((sym (ap (λ z. items_of z.1) is ∙ items_are 0 xs)) i))
+              (ap (λ z. z.0.taken) (sym is) i),
+          none_left me.1 i,
+        )),
+      )
 
   pub stop_steps : (p slots id : ℕ) (me : Chair T) (k : ℕ) (ts : List (ℕ × Told T × Bool)) →
       me ≡ (starter k true Nothing ts, slots_of 0 (nothings p)) → Allows (Line p) slots id me 0 (λ _. 2)
@@ -171,10 +178,14 @@ module _ {T : Type 0} where
     starter k false new ts,
     gives_all me.1,
     all_valid s.homes me.1,
-    subst (λ (hs : List (maybe.Option (Option T))). Line p record { words = set s.words 0 2; homes = hs; views =
-        set s.views id (starter k false new ts) }) (sym (all_home s.homes me.1))
+    subst (λ (hs : List (maybe.Option (Option T))). Line p record {
+      words = set s.words 0 2;
+      homes = hs;
+      views =
+          set s.views id (starter k false new ts);
+    }) (sym (all_home s.homes me.1))
         (says p s ok id me at k ts (nothings p) is (length-nothings T p) new 2 refl (λ w o lw e.
-            ap (λ (y : Option T). some (some y)) (at_nothings p w o e))),
+        ap (λ (y : Option T). some (some y)) (at_nothings p w o e))),
     (λ i. (starter (ap (λ z. z.0.at) (sym is) i) false new (ap (λ z. z.0.taken) (sym is) i), none_left me.1 i)),
   )
 
@@ -183,20 +194,24 @@ module _ {T : Type 0} where
       Allows (Line p) slots id me 0 (λ n. n) (comes_back (step slots 0 0 0 none) me)
   back_steps p slots id w me x e s ok wide at _ =
       let role : me.0.role ≡ Runner = ap (λ z. z.0.role) e in let f = as_runner p s ok id me.0 at role in let n : ℕ = me.0.at in
-          let n_is : n ≡ w = ap (λ z. z.0.at) e in
+      let n_is : n ≡ w = ap (λ z. z.0.at) e in
       let heard : ok.heard n ≡ Go x = f.2 ∙ ap (λ z. z.0.heard) e in let h = subst (Hears ok.said n) heard (ok.hears n f.0) in
-          let xs : List T = h.0 in
+      let xs : List T = h.0 in
       let near : n < length s.homes = subst (λ (z : ℕ). n < z) (sym ok.room) f.0 in
       let homes' = set s.homes n (some None) in (
         runner n (Go x) true,
         gives,
         tt,
-        same_words p s _ _ (subst (λ (hs : List (maybe.Option (Option T))). Line p record { words = s.words; homes = hs; views =
-            set s.views id (runner n (Go x) true) }) (λ i. put_one s.homes (e' i))
+        same_words p s _ _ (subst (λ (hs : List (maybe.Option (Option T))). Line p record {
+          words = s.words;
+          homes = hs;
+          views =
+              set s.views id (runner n (Go x) true);
+        }) (λ i. put_one s.homes (e' i))
             (goes_on p s ok id me.0 at role (Go x) true homes' (length-set s.homes n (some None) ∙ ok.room) h
             (subst (λ (z : Bool × Told (List T)). Lies z.0 z.1 n (Go x) true (get_elem? homes' n))
-                (λ i. (sym (not_holding ok.holds refl xs h.1) i, sym h.1 i)) (set_here s.homes n (some None) near))
-                (λ k other. set_else s.homes n k (some None) other))),
+            (λ i. (sym (not_holding ok.holds refl xs h.1) i, sym h.1 i)) (set_here s.homes n (some None) near))
+            (λ k other. set_else s.homes n k (some None) other))),
         (λ i. (runner n (ap (λ z. z.0.heard) (sym e) i) true, rest_is i)),
       )
     where
@@ -218,25 +233,25 @@ module _ {T : Type 0} where
   valid_all : (hs : List (maybe.Option (Option T))) (c : List (ℕ × Option T)) (k n : ℕ) →
       ((j : ℕ) → k ≤ j → j < k + n → get_elem? hs j ≡ empty)
       → Valid hs c (takes_all k n) × (carried_after c (takes_all k n) ≡ slots_of k (nothings n) ++ c)
-          × (length (homes_after hs c (takes_all k n)) ≡ length hs)
-          × ((j : ℕ) → j < k → get_elem? (homes_after hs c (takes_all k n)) j ≡ get_elem? hs j)
+      × (length (homes_after hs c (takes_all k n)) ≡ length hs)
+      × ((j : ℕ) → j < k → get_elem? (homes_after hs c (takes_all k n)) j ≡ get_elem? hs j)
   valid_all hs c k zero h = (tt, refl, refl, (λ j lt. refl))
   valid_all hs c k (suc n) h = let r = valid_all hs c (suc k) n (λ j lo hi. h j (omega arith) (omega arith)) in let hs' =
       homes_after hs c (takes_all (suc k) n) in (
-    (r.0, r.3 k (omega arith) ∙ h k (le_refl k) (omega arith)),
-    ap (λ (z : List (ℕ × Option T)). (k, None) ∷ z) r.1,
-    length-set hs' k none ∙ r.2,
-    (λ j lt. set_else hs' k j none (λ e. omega arith) ∙ r.3 j (omega arith)),
-  )
+        (r.0, r.3 k (omega arith) ∙ h k (le_refl k) (omega arith)),
+        ap (λ (z : List (ℕ × Option T)). (k, None) ∷ z) r.1,
+        length-set hs' k none ∙ r.2,
+        (λ j lt. set_else hs' k j none (λ e. omega arith) ∙ r.3 j (omega arith)),
+      )
 
   pub hold_steps : (p slots id : ℕ) (me : Chair T) (k : ℕ) (ts : List (ℕ × Told T × Bool)) → slots ≡ p →
       me ≡ (starter k false Nothing ts, []) → Allows (Line p) slots id me 0 (λ n. n) (holds_all (step slots 0 0 0 none) me)
   hold_steps p slots id me k ts count is s ok wide at _ =
       let mine = as_starter p s ok id me.0 at (ap (λ z. z.0.role) is) in let said : ok.said ≡ Nothing =
-          sym mine.1 ∙ ap (λ z. z.0.said) is in let free : ok.holds ≡ false = sym mine.2 ∙ ap (λ z. z.0.holds) is in
+      sym mine.1 ∙ ap (λ z. z.0.said) is in let free : ok.holds ≡ false = sym mine.2 ∙ ap (λ z. z.0.holds) is in
       let r = valid_all s.homes me.1 0 slots
-          (λ j lo hi. subst (λ (z : Bool × Told (List T)). Lies z.0 z.1 j (ok.heard j) (ok.back j) (get_elem? s.homes j))
-          (λ i. (free i, said i)) (ok.lies j (let a : 0 + slots ≡ p = omega arith in omega arith))) in
+      (λ j lo hi. subst (λ (z : Bool × Told (List T)). Lies z.0 z.1 j (ok.heard j) (ok.back j) (get_elem? s.homes j))
+      (λ i. (free i, said i)) (ok.lies j (let a : 0 + slots ≡ p = omega arith in omega arith))) in
       let view : Part T = starter me.0.at true me.0.said me.0.taken in
       let homes' = homes_after s.homes me.1 (takes_all 0 slots) in (
         view,
@@ -256,14 +271,23 @@ module _ {T : Type 0} where
           hears = ok.hears;
           lies = λ w lw. tt;
           fits = λ j u e. ⊎_elim
-              (λ t. subst (λ (u' : Part T). FitsAs p ok.said true ok.heard ok.back ok.first ok.seats j u'.role u') t.1 (mine.0
-                  ∙ sym t.0, mine.1, refl, mine.3, (λ l a b. let q = mine.4 l a b in (q.0 ∙ sym t.0, q.1, q.2)),
-                  (λ l y e. let q = mine.5 l y e in (q.0, q.1 ∙ sym t.0, q.2, q.3))))
+              (λ t. subst (λ (u' : Part T). FitsAs p ok.said true ok.heard ok.back ok.first ok.seats j u'.role u') t.1 (
+                mine.0
+                    ∙ sym t.0,
+                mine.1,
+                refl,
+                mine.3,
+                (λ l a b. let q = mine.4 l a b in (q.0 ∙ sym t.0, q.1, q.2)),
+                (λ l y e. let q = mine.5 l y e in (q.0, q.1 ∙ sym t.0, q.2, q.3)),
+              ))
               (λ t. others mine.0 j t.0 u.role u (ok.fits j u t.1))
               (at_set s.views id j view u e);
         },
-        (λ i. (view, (r.1 ∙ ap (λ (z : List (ℕ × Option T)). slots_of 0 (nothings slots) ++ z) (ap (λ z. z.1) is)
-            ∙ mathlib.Core.List.append-nil (slots_of 0 (nothings slots))) i)),
+        (λ i. (
+          view,
+          (r.1 ∙ ap (λ (z : List (ℕ × Option T)). slots_of 0 (nothings slots) ++ z) (ap (λ z. z.1) is)
+              ∙ mathlib.Core.List.append-nil (slots_of 0 (nothings slots))) i,
+        )),
       )
     where
       others : ok.first ≡ id → (j : ℕ) → j ≢ id → (role : Role) (u : Part T) →
@@ -284,16 +308,21 @@ module _ {T : Type 0} where
       (id k m j : ℕ) → seats k ≡ id → j ≢ id → (role : Role) (u : Part T) → FitsAs p said h heard back first seats j role u →
       FitsAs p said h heard back first (put seats k m) j role u
   others_seats p said h heard back first seats id k m j is other Spent u f = tt
-  others_seats p said h heard back first seats id k m j is other Starter u f =
-      (f.0, f.1, f.2, f.3, (λ l a b. let q = f.4 l a b in (put_else seats k m l (λ e. other (sym q.0 ∙ ap seats e ∙ is)) ∙ q.0, q.1, q.2)),
-          (λ l t e. let q = f.5 l t e in (q.0, put_else seats k m t.0 (λ e. other (sym q.1 ∙ ap seats e ∙ is)) ∙ q.1, q.2, q.3)))
+  others_seats p said h heard back first seats id k m j is other Starter u f = (
+    f.0,
+    f.1,
+    f.2,
+    f.3,
+    (λ l a b. let q = f.4 l a b in (put_else seats k m l (λ e. other (sym q.0 ∙ ap seats e ∙ is)) ∙ q.0, q.1, q.2)),
+    (λ l t e. let q = f.5 l t e in (q.0, put_else seats k m t.0 (λ e. other (sym q.1 ∙ ap seats e ∙ is)) ∙ q.1, q.2, q.3)),
+  )
   others_seats p said h heard back first seats id k m j is other Runner u f =
       (f.0, put_else seats k m u.at (λ e. other (sym f.1 ∙ ap seats e ∙ is)) ∙ f.1, f.2, f.3)
 
   pub splits : (p id : ℕ) (v : Part T) → v.role ≡ Starter → v.taken ≡ [] → v.at < p → Splits (Line p) id v (next_starter v) (next_runner v)
   splits p id v is alone more s ok at =
       let f = as_starter p s ok id v at is in let k : ℕ = v.at in let left : Part T = next_starter v in let right : Part T =
-          next_runner v in let vs = set s.views id left in let m : ℕ = length vs in let mine = f.4 k (le_refl k) more in
+      next_runner v in let vs = set s.views id left in let m : ℕ = length vs in let mine = f.4 k (le_refl k) more in
       record {
         said = ok.said;
         holds = ok.holds;
@@ -321,7 +350,7 @@ module _ {T : Type 0} where
             (λ t. others_seats p ok.said ok.holds ok.heard ok.back ok.first ok.seats id k m j mine.0 t.0 u.role u (ok.fits j u t.1))
             (at_set s.views id j left u old))
             (λ new. subst (λ (u' : Part T). FitsAs p ok.said ok.holds ok.heard ok.back ok.first (put ok.seats k m) j u'.role u') new.1
-                (more, put_here ok.seats k m ∙ sym new.0, mine.1, mine.2))
+            (more, put_here ok.seats k m ∙ sym new.0, mine.1, mine.2))
             (at_end vs right u j e);
       }
 
@@ -331,7 +360,7 @@ module _ {T : Type 0} where
       let both : Part T = takes_in v w in let old : get_elem? s.views other ≡ some w = sym (set_else s.views id other both two) ∙ at' in
       let f = as_starter p s ok id v at is in let g = as_runner p s ok other w old is' in let k : ℕ = w.at in
       let either = λ (l : ℕ) (h : ok.seats l ≡ id). dite (ℕ_discrete l k) (λ (e : l ≡ k). ap (put ok.seats k id) e
-          ∙ put_here ok.seats k id) (λ n. put_else ok.seats k id l n ∙ h) in
+      ∙ put_here ok.seats k id) (λ n. put_else ok.seats k id l n ∙ h) in
       record {
         said = ok.said;
         holds = ok.holds;
@@ -348,9 +377,14 @@ module _ {T : Type 0} where
         fits = λ j u e. ⊎_elim
             (λ t. subst (λ (u' : Part T). FitsAs p ok.said ok.holds ok.heard ok.back ok.first (put ok.seats k id) j u'.role u') t.1 tt)
             (λ t. ⊎_elim
-            (λ t'. subst (λ (u' : Part T). FitsAs p ok.said ok.holds ok.heard ok.back ok.first (put ok.seats k id) j u'.role u') t'.1
-            (f.0 ∙ sym t'.0, f.1, f.2, f.3, (λ l a b. let q = f.4 l a b in (either l q.0 ∙ sym t'.0, q.1, q.2)),
-                (λ l y e. all j t'.0 l y e)))
+            (λ t'. subst (λ (u' : Part T). FitsAs p ok.said ok.holds ok.heard ok.back ok.first (put ok.seats k id) j u'.role u') t'.1 (
+              f.0 ∙ sym t'.0,
+              f.1,
+              f.2,
+              f.3,
+              (λ l a b. let q = f.4 l a b in (either l q.0 ∙ sym t'.0, q.1, q.2)),
+              (λ l y e. all j t'.0 l y e),
+            ))
             (λ t'. others_seats p ok.said ok.holds ok.heard ok.back ok.first ok.seats other k id j g.1 t.0 u.role u (ok.fits j u t'.1))
             (at_set s.views id j both u t.1))
             (at_set (set s.views id both) other j spent u e);
@@ -360,13 +394,17 @@ module _ {T : Type 0} where
           (y.0 < p) × (put ok.seats w.at id y.0 ≡ j) × (ok.heard y.0 ≡ y.1) × (ok.back y.0 ≡ y.2)
       all j here zero y e =
           let old : get_elem? s.views other ≡ some w = sym (set_else s.views id other (takes_in v w) two) ∙ at' in let g =
-              as_runner p s ok other w old is' in
+          as_runner p s ok other w old is' in
           subst (λ (z : ℕ × Told T × Bool). (z.0 < p) × (put ok.seats w.at id z.0 ≡ j) × (ok.heard z.0 ≡ z.1)
-              × (ok.back z.0 ≡ z.2)) (some-injective (w.at, w.heard, w.back) y e) (g.0, put_here ok.seats w.at id ∙ sym here, g.2, g.3)
+          × (ok.back z.0 ≡ z.2)) (some-injective (w.at, w.heard, w.back) y e) (g.0, put_here ok.seats w.at id ∙ sym here, g.2, g.3)
       all j here (suc l) y e =
-          let f = as_starter p s ok id v at is in let q = f.5 l y e in
-          (q.0, dite (ℕ_discrete y.0 w.at) (λ (d : y.0 ≡ w.at). ap (put ok.seats w.at id) d
-              ∙ put_here ok.seats w.at id) (λ n. put_else ok.seats w.at id y.0 n ∙ q.1) ∙ sym here, q.2, q.3)
+          let f = as_starter p s ok id v at is in let q = f.5 l y e in (
+            q.0,
+            dite (ℕ_discrete y.0 w.at) (λ (d : y.0 ≡ w.at). ap (put ok.seats w.at id) d
+                ∙ put_here ok.seats w.at id) (λ n. put_else ok.seats w.at id y.0 n ∙ q.1) ∙ sym here,
+            q.2,
+            q.3,
+          )
 
   homes_open : (n w : ℕ) → w < n → get_elem? (map some (nothings {T = T} n)) w ≡ empty
   homes_open zero w lt = absurd (omega arith)
@@ -393,8 +431,14 @@ module _ {T : Type 0} where
       only : (id : ℕ) (v : Part T) → get_elem? (starter 0 false Nothing [] ∷ []) id ≡ some v → FitsAs p Nothing false (λ _. Nothing)
           (λ _. false) 0 (λ _. 0) id v.role v
       only zero v e = subst (λ (u : Part T). FitsAs p Nothing false (λ _. Nothing) (λ _. false) 0 (λ _. 0) 0 u.role u)
-          (some-injective _ v e) (refl, refl, refl, (let r : 0 ≤ p = omega arith in r), (λ k _ _. (refl, refl, refl)),
-          (λ k y h. absurd (some-ne-none y (sym h))))
+          (some-injective _ v e) (
+            refl,
+            refl,
+            refl,
+            (let r : 0 ≤ p = omega arith in r),
+            (λ k _ _. (refl, refl, refl)),
+            (λ k y h. absurd (some-ne-none y (sym h))),
+          )
       only (suc id) v e = absurd (some-ne-none v (sym e))
 
   -- what the starter knows at the end: each runner that was taken in heard what was said
@@ -428,14 +472,14 @@ module _ {T : Type 0} where
   pub all_empty : (p : ℕ) (ws : List ℕ) (ys : List (Option T)) (id : ℕ) (v : Part T) → v.role ≡ Starter → v.holds ≡ false →
       Final (Seen (Line p) id v) ws ys
       → (v.said ≡ Stop) ⊎ ((xs : List T) × (v.said ≡ Go xs)
-          × ((w : ℕ) → w < p → (n : ℕ) × (h : Told T) × (h ≢ Nothing) × (get_elem? v.taken n ≡ some (w, h, has_gone h)))) → (w : ℕ) →
-          w < p → get_elem? ys w ≡ some None
+      × ((w : ℕ) → w < p → (n : ℕ) × (h : Told T) × (h ≢ Nothing) × (get_elem? v.taken n ≡ some (w, h, has_gone h)))) → (w : ℕ) →
+      w < p → get_elem? ys w ≡ some None
   all_empty p ws ys id v is free end how w lw = let ok = end.1.0 in let f = as_starter p end.0 ok id v end.1.1 is in
       end.4 w None (⊎_elim
       (λ (stop : v.said ≡ Stop). subst (λ (z : Bool × Told (List T)). Lies z.0 z.1 w (ok.heard w) (ok.back w) (get_elem? end.0.homes w))
-          (λ i. ((sym f.2 ∙ free) i, (sym f.1 ∙ stop) i)) (ok.lies w lw))
+      (λ i. ((sym f.2 ∙ free) i, (sym f.1 ∙ stop) i)) (ok.lies w lw))
       (λ go. let t = go.2 w lw in let q = f.5 t.0 (w, t.1, has_gone t.1) t.3 in
-          by_heard go.0 (sym f.1 ∙ go.1) (sym f.2 ∙ free) t.1 t.2 q.2 q.3)
+      by_heard go.0 (sym f.1 ∙ go.1) (sym f.2 ∙ free) t.1 t.2 q.2 q.3)
       how)
     where
       by_heard : (xs : List T) → end.1.0.said ≡ Go xs → end.1.0.holds ≡ false → (h : Told T) → h ≢ Nothing → end.1.0.heard w ≡ h →
@@ -445,7 +489,7 @@ module _ {T : Type 0} where
           absurd (stop_go xs (sym (subst (Hears end.1.0.said w) heard (end.1.0.hears w lw)) ∙ said))
       by_heard xs said holds (Go x) told heard back =
           subst (λ (z : Bool × Told (List T) × Told T × Bool). Lies z.0 z.1 w z.2 z.3 (get_elem? end.0.homes w))
-              (λ i. (holds i, said i, heard i, back i)) (end.1.0.lies w lw)
+          (λ i. (holds i, said i, heard i, back i)) (end.1.0.lies w lw)
 
 pub nothings_are : (T : Type 0) (n : ℕ) → ◌≡◌ {A = List (Option T)} (Rattle.std.proofs.Common.replicate n None) (nothings n)
 nothings_are T zero = refl

@@ -11,13 +11,16 @@ further p a b j k near lt = let m : suc a * p ≤ b * p = mul-le-mul_right p lt 
 -- two numbers in rows of p
 pub rows_apart : (p a b j k : ℕ) → j < p → k < p → a * p + j ≡ b * p + k → (a ≡ b) × (j ≡ k)
 rows_apart p a b j k lj lk e = dite (ℕ_discrete a b)
-    (λ (same : a ≡ b). (same, (let m = ap (λ (z : ℕ). z * p) same in let x : ℕ = a * p in let y : ℕ = b * p in let m' : x ≡ y = m in
-        let e' : x + j ≡ y + k = e in omega arith)))
+    (λ (same : a ≡ b). (
+      same,
+      (let m = ap (λ (z : ℕ). z * p) same in let x : ℕ = a * p in let y : ℕ = b * p in let m' : x ≡ y = m in
+          let e' : x + j ≡ y + k = e in omega arith),
+    ))
     (λ other. dite (dec_le b a)
     (λ le. let h = further p b a k j lk (let g : b < a = omega arith in g) in let x : ℕ = a * p in let y : ℕ = b * p in
-        let h' : y + k < x + j = h in let e' : x + j ≡ y + k = e in absurd (omega arith))
+    let h' : y + k < x + j = h in let e' : x + j ≡ y + k = e in absurd (omega arith))
     (λ gt. let h = further p a b j k lj (lt_of_not-le gt) in let x : ℕ = a * p in let y : ℕ = b * p in let h' : x + j < y + k = h in
-        let e' : x + j ≡ y + k = e in absurd (omega arith)))
+    let e' : x + j ≡ y + k = e in absurd (omega arith)))
 
 pub slots_apart : (p s i j t k l : ℕ) → i < p → j < p → k < p → l < p → slot p s i j ≡ slot p t k l → (s % 2 ≡ t % 2) × (i ≡ k) × (j ≡ l)
 slots_apart p s i j t k l li lj lk ll e = let one = rows_apart p (s % 2 * p + i) (t % 2 * p + k) j l lj ll e in let two =

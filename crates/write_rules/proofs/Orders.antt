@@ -79,7 +79,7 @@ module _ (rule : Rule) (c : Combining) (carries : Carries rule c) where
       let one : Write → Entry = λ x. c.single x.processor x.value in
       let q = IsPermutation-map one (w ∷ ws) (v ∷ vs) p in
       ap (λ e. or_else e (one w)) (folded (one w) (map one ws) ∙ sym (reordered (map one (w ∷ ws)) (map one (v ∷ vs)) (one w) q)
-          ∙ sym (folded (one v) (map one vs)))
+      ∙ sym (folded (one v) (map one vs)))
 
 pub joined_again : (rule : Rule) (c : Combining) → Carries rule c → (w v : Write) (ws vs : List Write)
     → IsPermutation (w ∷ ws) (v ∷ vs) → joined c w ws ≡ joined c v vs

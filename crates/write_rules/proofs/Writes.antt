@@ -53,14 +53,18 @@ next_least first ws i now w b h is = b.same ∙ ap (least_writer now) (drop_more
 pub least_stays : (first : Write) (ws : List Write) (i : ℕ) (now w : Write) → InLeast first ws i now → i < length ws → w ≡ get_or ws i w →
     int_le now.processor w.processor ≡ true → InLeast first ws (i + 1) now
 least_stays first ws i now w b h is e =
-    record { same = next_least first ws i now w b h is
-    ∙ ap (λ c. if c then least_writer now (drop (i + 1) ws) else least_writer w (drop (i + 1) ws)) e }
+    record {
+      same = next_least first ws i now w b h is
+          ∙ ap (λ c. if c then least_writer now (drop (i + 1) ws) else least_writer w (drop (i + 1) ws)) e;
+    }
 
 pub least_goes : (first : Write) (ws : List Write) (i : ℕ) (now w : Write) → InLeast first ws i now → i < length ws → w ≡ get_or ws i w →
     int_le now.processor w.processor ≡ false → InLeast first ws (i + 1) w
 least_goes first ws i now w b h is e =
-    record { same = next_least first ws i now w b h is
-    ∙ ap (λ c. if c then least_writer now (drop (i + 1) ws) else least_writer w (drop (i + 1) ws)) e }
+    record {
+      same = next_least first ws i now w b h is
+          ∙ ap (λ c. if c then least_writer now (drop (i + 1) ws) else least_writer w (drop (i + 1) ws)) e;
+    }
 
 pub least_ends : (first : Write) (ws : List Write) (i : ℕ) (now : Write) → InLeast first ws i now → length ws ≤ i →
     now.value ≡ (least_writer first ws).value

@@ -70,8 +70,12 @@ priority = record { single = entry_of; join = first_of false; verdict = λ a. ch
 abbrev pub summed : Combining
 summed = record {
   single = entry_of;
-  join = λ a b. record { owner = if int_le a.owner b.owner then a.owner else b.owner; value = int_wrap w128 (a.value +ℤ b.value); clash =
-      false };
+  join = λ a b. record {
+    owner = if int_le a.owner b.owner then a.owner else b.owner;
+    value = int_wrap w128 (a.value +ℤ b.value);
+    clash =
+        false;
+  };
   verdict = λ a. checked a.value;
 }
 

@@ -31,7 +31,7 @@ differ_associates : (a b e : Entry) → differ (both a b) e ≡ differ a (both b
 differ_associates a b e =
     ap (λ k. k || e.clash || not (is_equal (both a b).value e.value)) (first_clash (differ a b) a b)
     ∙ same_mark a.clash b.clash e.clash a.value b.value e.value (both a b).value (both b e).value (first_value (differ a b) a b)
-        (first_value (differ b e) b e)
+    (first_value (differ b e) b e)
     ∙ sym (ap (λ k. a.clash || k || not (is_equal a.value (both b e).value)) (first_clash (differ b e) b e))
 
 -- ---- the value
@@ -58,13 +58,13 @@ common_by a v vs rest h f (inl e) =
     let s : Entry = entry_of v.processor v.value in
     let is : (both a s).value ≡ a.value = one_value a v e (first_value (differ a s) a s) in
     rest (both a s) (first_clash (differ a s) a s ∙ ap (λ c. c || s.clash || not (is_equal a.value s.value)) h
-        ∙ ap not e) (subst (FitsSigned w64) (sym is) f)
+    ∙ ap not e) (subst (FitsSigned w64) (sym is) f)
     ∙ ap (λ x. common_value x vs) is
     ∙ sym (ap (λ c. if c then common_value a.value vs else Err WriteConflict) e)
 common_by a v vs rest h f (inr e) =
     let s : Entry = entry_of v.processor v.value in
     clashes (fold both (both a s) (map (λ v. entry_of v.processor v.value) vs)) (stays (both a s) vs (first_clash (differ a s) a s
-        ∙ ap (λ c. c || s.clash || not (is_equal a.value s.value)) h ∙ ap not e))
+    ∙ ap (λ c. c || s.clash || not (is_equal a.value s.value)) h ∙ ap not e))
     ∙ sym (ap (λ c. if c then common_value a.value vs else Err WriteConflict) e)
 
 common_is : (vs : List Write) → CommonIs vs

@@ -22,7 +22,7 @@ meets w [] f = sym (checked_some w.value w.value f refl)
 meets w (v ∷ vs) f =
     let first : Entry = first_of true (entry_of w.processor w.value) (entry_of v.processor v.value) in
     clashes (fold (first_of true) first (map (λ v. entry_of v.processor v.value) vs))
-        (stays first vs (first_clash true (entry_of w.processor w.value) (entry_of v.processor v.value)))
+    (stays first vs (first_clash true (entry_of w.processor w.value) (entry_of v.processor v.value)))
 
 is_only : (shared : Bool) (w : Write) (ws : List Write) → only_value w ws ≡ rule_value (exclusive_rule shared) w ws
 is_only true w ws = refl

@@ -30,21 +30,26 @@ is_behind a v l = grind (arith, ints)
 
 abbrev LeastIs : List Write → Type 0
 LeastIs vs = (a : Entry) → All (λ v. a.owner ≢ v.processor) vs → Apart vs →
-    (fold (first_of false) a (map (λ v. entry_of v.processor v.value) vs)).value ≡ (least_writer (record { processor = a.owner; value =
-        a.value }) vs).value
+    (fold (first_of false) a (map (λ v. entry_of v.processor v.value) vs)).value ≡ (least_writer (record {
+      processor = a.owner;
+      value =
+          a.value;
+    }) vs).value
 
 least_by : (a : Entry) (v : Write) (vs : List Write) → LeastIs vs → All (λ v. a.owner ≢ v.processor) (v ∷ vs) → Apart (v ∷ vs) →
     (int_le a.owner v.processor ≡ true) ⊎ (int_le a.owner v.processor ≡ false) →
-    (fold (first_of false) a (map (λ v. entry_of v.processor v.value) (v ∷ vs))).value ≡ (least_writer (record { processor = a.owner;
-        value = a.value }) (v ∷ vs)).value
+    (fold (first_of false) a (map (λ v. entry_of v.processor v.value) (v ∷ vs))).value ≡ (least_writer (record {
+      processor = a.owner;
+      value = a.value;
+    }) (v ∷ vs)).value
 least_by a v vs rest h p (inl l) =
     ap (λ (x : Entry). (fold (first_of false) x (map (λ v. entry_of v.processor v.value) vs)).value)
-        (pick_first false a (entry_of v.processor v.value) (is_before a v (h 0 v (omega arith)) l))
+    (pick_first false a (entry_of v.processor v.value) (is_before a v (h 0 v (omega arith)) l))
     ∙ rest (marked false a) (λ k d m. h (suc k) d (omega arith)) (apart_tail v vs p)
     ∙ sym (ap (λ c. (if c then least_writer (record { processor = a.owner; value = a.value }) vs else least_writer v vs).value) l)
 least_by a v vs rest h p (inr l) =
     ap (λ (x : Entry). (fold (first_of false) x (map (λ v. entry_of v.processor v.value) vs)).value)
-        (pick_last false a (entry_of v.processor v.value) (is_behind a v l))
+    (pick_last false a (entry_of v.processor v.value) (is_behind a v l))
     ∙ rest (entry_of v.processor v.value) (apart_head v vs p) (apart_tail v vs p)
     ∙ sym (ap (λ c. (if c then least_writer (record { processor = a.owner; value = a.value }) vs else least_writer v vs).value) l)
 
@@ -62,7 +67,7 @@ least_fits : (w : Write) (ws : List Write) → FitsSigned w64 w.value → All (�
 least_fits w [] f h = f
 least_fits w (v ∷ vs) f h =
     fits_by w v (int_le w.processor v.processor) vs (least_fits w vs f (λ k d m. h (suc k) d (omega arith)))
-        (least_fits v vs (h 0 v (omega arith)).1 (λ k d m. h (suc k) d (omega arith)))
+    (least_fits v vs (h 0 v (omega arith)).1 (λ k d m. h (suc k) d (omega arith)))
 
 pub priority_carries : Carries Priority priority
 priority_carries = record {
@@ -71,6 +76,6 @@ priority_carries = record {
   meets = λ w ws h.
       sym (checked_some (joined priority w ws).value (least_writer w ws).value
       (subst (FitsSigned w64) (sym (least_is ws (entry_of w.processor w.value) (apart_head w ws h.apart) (apart_tail w ws h.apart)))
-          (least_fits w ws (first_fits w ws h) (λ k d m. h.fit (suc k) d (omega arith))))
+      (least_fits w ws (first_fits w ws h) (λ k d m. h.fit (suc k) d (omega arith))))
       (sym (least_is ws (entry_of w.processor w.value) (apart_head w ws h.apart) (apart_tail w ws h.apart))));
 }

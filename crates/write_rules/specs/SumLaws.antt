@@ -76,9 +76,9 @@ sum_is [] k a h l f = omega (arith, ints)
 sum_is (v ∷ vs) k a h l f =
     let g : IsWithin (suc k) (a.value +ℤ v.value) = more_within k a.value v.value h (f 0 v (omega arith)).1 in
     let e : int_wrap w128 (a.value +ℤ v.value) ≡ a.value +ℤ v.value =
-        int_wrap_fits w128 (a.value +ℤ v.value) (within_fits (suc k) (a.value +ℤ v.value) g (omega arith) (omega arith)) in
+    int_wrap_fits w128 (a.value +ℤ v.value) (within_fits (suc k) (a.value +ℤ v.value) g (omega arith) (omega arith)) in
     sum_is vs (suc k) (summed.join a (entry_of v.processor v.value)) (subst (IsWithin (suc k)) (sym e) g) (omega arith)
-        (λ i d m. f (suc i) d (omega arith))
+    (λ i d m. f (suc i) d (omega arith))
     ∙ ap (λ z. z +ℤ sum_of vs) e
     ∙ omega (arith, ints)
 
@@ -114,7 +114,7 @@ numbers_below : (ws : List Write) → AreFit ws → (q : ℕ) → list_any (eqb 
 numbers_below [] f q h = absurd (cc h)
 numbers_below (w ∷ ws) f q h =
     below_by q (number w.processor) (numbers ws) (number_below w.processor (f 0 w (omega arith)).0)
-        (numbers_below ws (λ i d m. f (suc i) d (omega arith)) q) h (eqb_tells q (number w.processor))
+    (numbers_below ws (λ i d m. f (suc i) d (omega arith)) q) h (eqb_tells q (number w.processor))
 
 nobody : Write
 nobody = record { processor = pos 0; value = pos 0 }
@@ -123,24 +123,27 @@ numbers_apart : (ws : List Write) → AreWriters ws → AllPairs (λ x y. x ≢ 
 numbers_apart ws h i j d a b e =
     let l : length (numbers ws) ≡ length ws = length-map ws (λ w. number w.processor) in
     let first : get_or (numbers ws) i d ≡ number (get_or ws i nobody).processor =
-        get_or-map (λ w. number w.processor) ws i nobody d (omega arith) in
+    get_or-map (λ w. number w.processor) ws i nobody d (omega arith) in
     let second : get_or (numbers ws) j d ≡ number (get_or ws j nobody).processor =
-        get_or-map (λ w. number w.processor) ws j nobody d (omega arith) in
+    get_or-map (λ w. number w.processor) ws j nobody d (omega arith) in
     h.apart i j nobody a (omega arith) (one_number (get_or ws i nobody).processor (get_or ws j nobody).processor
-        (h.fit i nobody (omega arith)).0 (h.fit j nobody (omega arith)).0 (sym first ∙ e ∙ second))
+    (h.fit i nobody (omega arith)).0 (h.fit j nobody (omega arith)).0 (sym first ∙ e ∙ second))
 
 few : (ws : List Write) → AreWriters ws → length ws ≤ 2 ^ 64
 few ws h =
     let l : length (numbers ws) ≡ length ws = length-map ws (λ w. number w.processor) in
     let m : length (numbers ws) ≤ 2 ^ 64 =
-        length-le_from_distinct_below (numbers ws) (2 ^ 64) (IsDistinct-from_AllPairs {eq =
-        eqb} Decides-eqb (numbers ws) (numbers_apart ws h)) (numbers_below ws h.fit) in
+    length-le_from_distinct_below (numbers ws) (2 ^ 64) (IsDistinct-from_AllPairs {eq =
+    eqb} Decides-eqb (numbers ws) (numbers_apart ws h)) (numbers_below ws h.fit) in
     omega arith
 
 pub summed_carries : Carries Sum summed
 summed_carries = record {
-  associative = λ a b e j. record { owner = least_associates a.owner b.owner e.owner j; value = wraps_associate a.value b.value e.value j;
-      clash = false };
+  associative = λ a b e j. record {
+    owner = least_associates a.owner b.owner e.owner j;
+    value = wraps_associate a.value b.value e.value j;
+    clash = false;
+  };
   commutative = λ a b j. record { owner = least_commutes a.owner b.owner j; value = wraps_commute a.value b.value j; clash = false };
   meets = λ w ws h. ap checked (sum_is ws 1 (entry_of w.processor w.value) (one_within w.value (h.fit 0 w (omega arith)).1)
       (let k : suc (length ws) ≤ 2 ^ 64 = few (w ∷ ws) h in omega arith) (λ i d m. h.fit (suc i) d (omega arith)));

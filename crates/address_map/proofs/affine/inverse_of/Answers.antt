@@ -39,4 +39,4 @@ returns c =
     let last = c.squares.invariant in
     let is : c.squares.power ≡ c.args.bits = (let end = c.squares.auto.power-end in let done = c.squares-test.false in omega arith) in
     last_inverse c.args.multiplier c.args.cells c.args.bits c.squares.square c.squares.inverse c.requires.odd c.requires.power
-        (rw (← is) last.power_of) last.short
+    (rw (← is) last.power_of) last.short

@@ -20,7 +20,7 @@ give-requires-in-JumpIfZero c =
 pub give-requires-then-give : goal.give-requires-then-give
 give-requires-then-give c =
     let h = c.requires.next (c.args.at + 1) (subst (λ (i : Instr). Leads i c.args.at (c.args.at + 1)) (sym c.in-JumpIfZero.is)
-        (inr refl)) in
+    (inr refl)) in
     subst (λ n. c.args.at + 1 < n) (sym (c.if-give.ensures.given refl).long) h
 
 -- first the target, then the next place

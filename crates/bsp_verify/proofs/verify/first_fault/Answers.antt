@@ -32,4 +32,4 @@ pub returns-clause-none : goal.returns-clause-none
 returns-clause-none c h = whole c.args.code.now c.count-count.result c.loop-at.table.items c.count-count.ensures
     (more c.count-count.result c.if-count-eq0.false)
     (subst (λ m. IsTable c.args.code.now m c.loop-at.table.items) (let a = c.loop-at-test.false in let b = c.loop-at.auto.at-end in
-        omega (arith, a, b)) c.loop-at.invariant)
+    omega (arith, a, b)) c.loop-at.invariant)

@@ -40,7 +40,7 @@ returns-then-pass_on-clause-none c h = kept_next c.args.code.now c.args.at c.arg
     (instr_read _ _ _ c.instructions.ensures.value c.requires.place) (state_read _ _ _ _ c.requires.place c.requires.kept.long c.in-Some.is)
     c.pass_on.new.table (sym c.first_reason.ensures ∙ c.in-None.is)
     (subst (λ (s : State). Adds c.args.table.now c.pass_on.new.table (λ t. Leads (get_or c.instructions.result.now c.args.at (Mark 0))
-        c.args.at t) s) c.state_after.ensures (c.if-pass_on.ensures.given refl))
+    c.args.at t) s) c.state_after.ensures (c.if-pass_on.ensures.given refl))
 
 pub returns-else-pass_on-clause-some : goal.returns-else-pass_on-clause-some
 returns-else-pass_on-clause-some c = bad_next c.args.code.now c.args.at c.args.table.now c.requires.kept
@@ -48,4 +48,4 @@ returns-else-pass_on-clause-some c = bad_next c.args.code.now c.args.at c.args.t
     (instr_read _ _ _ c.instructions.ensures.value c.requires.place) (state_read _ _ _ _ c.requires.place c.requires.kept.long c.in-Some.is)
     (sym c.first_reason.ensures ∙ c.in-None.is)
     (subst (λ (s : State). Clashes c.args.table.now (λ t. Leads (get_or c.instructions.result.now c.args.at (Mark 0)) c.args.at t) s)
-        c.state_after.ensures (c.if-pass_on.ensures.clash refl))
+    c.state_after.ensures (c.if-pass_on.ensures.clash refl))

@@ -18,7 +18,7 @@ pub is_due-requires : goal.is_due-requires
 is_due-requires g c =
     let m = g.M.AddressMap.shape c.args.map.now in
     all_keys ask_at (IsAskBelow m.count) (λ k. k % 2 ^ 20 < m.count) (λ k x h. h) c.args.keys.now c.args.asked.now c.loop-i.i
-        c.requires.long (omega arith) c.requires.cells
+    c.requires.long (omega arith) c.requires.cells
 
 pub loop-i-preserved : goal.loop-i-preserved
 loop-i-preserved g c =
@@ -40,7 +40,7 @@ loop-i-preserved g c =
     let held0 = paired ask_at ks xs0 in
     let p : k ≡ get_or ks i k = get_or_default ks i 0 k lk in
     let more : drop i held0 ≡ ask_at k x0 ∷ drop (i + 1) held0 =
-        paired_more ask_at ks xs0 i k x0 c.requires.long lk p (get_or_default xs0 i none x0 l0) in
+    paired_more ask_at ks xs0 i k x0 c.requires.long lk p (get_or_default xs0 i none x0 l0) in
     let both = same_item xs xs0 i none l1 l0 inv.rest in
     elim c.if-is_due.branch [
       | then-is_due w ↦
@@ -51,7 +51,7 @@ loop-i-preserved g c =
           let y : Asked = record { again = (get_or xs i none).again; value = to_z w64 (of_z w64 r) } in
           let v : to_z w64 (of_z w64 r) ≡ to_z w64 (get_or ws n 0) = to_z-of_z w64 r fits ∙ w.cast_signed.ensures in
           let made : y ≡ record { again = x0.again; value = to_z w64 (get_or ws n 0) } =
-              λ j. record { again = (both.0 j).again; value = v j } in
+          λ j. record { again = (both.0 j).again; value = v j } in
           rw (w.n-is, w.asked-is)
           (record {
             within = omega arith;
@@ -70,7 +70,7 @@ loop-i-preserved g c =
             rest = both.1;
             all = ap (λ z. take (i + 1) (paired ask_at ks z) ++ replied at j (drop n ws) (drop (i + 1) held0)) (sym (set-get_or xs i none))
                 ∙ ap (λ z. z ++ replied at j (drop n ws) (drop (i + 1) held0)) (take_paired_set ask_at ks xs i k (get_or xs i none) long lk
-                    p ∙ ap (λ (z : Asked). take i (paired ask_at ks xs) ++ ask_at k z ∷ []) both.0)
+                p ∙ ap (λ (z : Asked). take i (paired ask_at ks xs) ++ ask_at k z ∷ []) both.0)
                 ∙ reply_not at j ws n i (take i (paired ask_at ks xs)) held0 (ask_at k x0) more _ inv.all f;
           }))
     ]
@@ -86,9 +86,9 @@ returns-clause-held g c =
     let b = length_paired ask_at ks c.args.asked.now c.requires.long in
     let v = inv.long in
     let e : take i (paired ask_at ks c.loop-i.asked) ≡ paired ask_at ks c.loop-i.asked =
-        take_all i (paired ask_at ks c.loop-i.asked) (let r = c.requires.long in omega arith) in
+    take_all i (paired ask_at ks c.loop-i.asked) (let r = c.requires.long in omega arith) in
     let d : drop i (paired ask_at ks c.args.asked.now) ≡ [] = drop_all i (paired ask_at ks c.args.asked.now) (let r = c.requires.long in
-        omega arith) in
+    omega arith) in
     sym (ap (λ z. z ++ replied at j (drop c.loop-i.n c.args.words.now) (drop i (paired ask_at ks c.args.asked.now))) e
-        ∙ ap (λ z. paired ask_at ks c.loop-i.asked ++ replied at j (drop c.loop-i.n c.args.words.now) z) d
-        ∙ append-nil (paired ask_at ks c.loop-i.asked)) ∙ inv.all
+    ∙ ap (λ z. paired ask_at ks c.loop-i.asked ++ replied at j (drop c.loop-i.n c.args.words.now) z) d
+    ∙ append-nil (paired ask_at ks c.loop-i.asked)) ∙ inv.all

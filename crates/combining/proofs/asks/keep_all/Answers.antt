@@ -20,14 +20,19 @@ pub loop-i-init : goal.loop-i-init
 loop-i-init g c =
     let at = (g.M.AddressMap.shape c.args.map.now).part in
     let held = paired ask_at c.args.keys.now c.args.asked.now in
-    record { size = refl; long = refl; rest = refl; all = ap (λ columns. all_replied at 0 columns held)
-        (all_left 32 0 (map (λ x. x.now) c.args.replies.now)) }
+    record {
+      size = refl;
+      long = refl;
+      rest = refl;
+      all = ap (λ columns. all_replied at 0 columns held)
+          (all_left 32 0 (map (λ x. x.now) c.args.replies.now));
+    }
 
 pub place-home-requires : goal.place-home-requires
 place-home-requires g c =
     let m = g.M.AddressMap.shape c.args.map.now in
     rw c.cell_of.ensures (all_keys ask_at (IsAskBelow m.count) (λ k. k % 2 ^ 20 < m.count) (λ k x h. h) c.args.keys.now c.args.asked.now
-        c.loop-i.i
+    c.loop-i.i
     c.requires.long (let l = c.loop-i.invariant.long in omega arith) c.requires.cells)
 
 pub bounds-replies-at : goal.bounds-replies-at
@@ -35,7 +40,7 @@ bounds-replies-at g c =
     let m = g.M.AddressMap.shape c.args.map.now in
     let below : c.cell_of.result < m.count =
     rw c.cell_of.ensures (all_keys ask_at (IsAskBelow m.count) (λ k. k % 2 ^ 20 < m.count) (λ k x h. h) c.args.keys.now c.args.asked.now
-        c.loop-i.i
+    c.loop-i.i
     c.requires.long (let l = c.loop-i.invariant.long in omega arith) c.requires.cells) in
     let there = (g.met.M.AddressMap.lawful c.args.map.now).part_below c.cell_of.result below in
     let is = c.place-home.ensures.part in
@@ -48,7 +53,7 @@ bounds-taken-at g c =
     let lawful = g.met.M.AddressMap.lawful c.args.map.now in
     let below : c.cell_of.result < m.count =
     rw c.cell_of.ensures (all_keys ask_at (IsAskBelow m.count) (λ k. k % 2 ^ 20 < m.count) (λ k x h. h) c.args.keys.now c.args.asked.now
-        c.loop-i.i
+    c.loop-i.i
     c.requires.long (let l = c.loop-i.invariant.long in omega arith) c.requires.cells) in
     let there = lawful.part_below c.cell_of.result below in
     let is = c.place-home.ensures.part in
@@ -77,7 +82,7 @@ loop-i-preserved g c =
     let held0 = paired ask_at ks xs0 in
     let p : k ≡ get_or ks i k = get_or_default ks i 0 k lk in
     let more : drop i held0 ≡ ask_at k x0 ∷ drop (i + 1) held0 =
-        paired_more ask_at ks xs0 i k x0 c.requires.long lk p (get_or_default xs0 i none x0 l0) in
+    paired_more ask_at ks xs0 i k x0 c.requires.long lk p (get_or_default xs0 i none x0 l0) in
     let both = same_item xs xs0 i none l1 l0 inv.rest in
     let home = c.place-home.result.0 in
     let below : k % 2 ^ 20 < m.count =
@@ -102,7 +107,7 @@ loop-i-preserved g c =
           let value : to_z w64 (of_z w64 r) ≡ cast_signed w64 (get_or words n 0) =
           to_z-of_z w64 r fits ∙ w.in-Some.ensures.some.1 ∙ ap (λ us. cast_signed w64 (get_or us n 0)) same in
           let made : y ≡ record { again = x0.again; value = cast_signed w64 (get_or words n 0) } =
-              λ j. record { again = (both.0 j).again; value = value j } in
+          λ j. record { again = (both.0 j).again; value = value j } in
           let others = all_replied at 0 (left (set taken home (n + 1)) 0 replies) behind in
           rw (w.asked-is, w.taken-is)
           (record {
@@ -129,7 +134,7 @@ loop-i-preserved g c =
             all =
                 ap (λ z. take (i + 1) (paired ask_at ks z) ++ others) (sym (set-get_or xs i none))
                 ∙ ap (λ z. z ++ others) (take_paired_set ask_at ks xs i k (get_or xs i none) long lk p
-                    ∙ ap (λ (z : Asked). before ++ ask_at k z ∷ []) both.0)
+                ∙ ap (λ (z : Asked). before ++ ask_at k z ∷ []) both.0)
                 ∙ append_assoc before (q ∷ []) others
                 ∙ sym (ap (λ z. before ++ z) (ap (all_replied at 0 (left taken 0 replies)) more
                 ∙ none_left at home taken n refl q here replies 0
@@ -151,7 +156,7 @@ returns-clause-held g c =
     let v = inv.long in
     let r = c.requires.long in
     let e : take i (paired ask_at ks c.loop-i.asked) ≡ paired ask_at ks c.loop-i.asked =
-        take_all i (paired ask_at ks c.loop-i.asked) (omega arith) in
+    take_all i (paired ask_at ks c.loop-i.asked) (omega arith) in
     let d : drop i (paired ask_at ks c.args.asked.now) ≡ [] = drop_all i (paired ask_at ks c.args.asked.now) (omega arith) in
     sym (ap (λ z. z ++ all_replied at 0 columns (drop i (paired ask_at ks c.args.asked.now))) e
     ∙ ap (λ z. paired ask_at ks c.loop-i.asked ++ z) (ap (all_replied at 0 columns) d ∙ nothing_held at columns 0)

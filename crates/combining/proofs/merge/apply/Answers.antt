@@ -23,11 +23,11 @@ returns-clause-merged g c =
     let slots1 = c.gather.new.entries in
     let slots2 = c.settle_all.new.entries in
     let collected = held (join rule) (entries_are_monoid rule) m lawful j c.requires.part judge refl all slots0 slots1 slots2 size
-        c.requires.empty c.gather.ensures.gathered c.settle_all.result (c.settle_all.ensures.noted all) in
+    c.requires.empty c.gather.ensures.gathered c.settle_all.result (c.settle_all.ensures.noted all) in
     let left = nothing_left (join rule) (entries_are_monoid rule) m lawful j c.requires.part judge refl all slots0 slots1 slots2 size
-        c.requires.empty c.gather.ensures.gathered c.settle_all.result (c.settle_all.ensures.noted all) in
+    c.requires.empty c.gather.ensures.gathered c.settle_all.result (c.settle_all.ensures.noted all) in
     let owed = c.settle_all.ensures.owed due (λ d p. ap (λ (x : Option Entry). settled (verdict_on rule x) (value_at old (m.offset d)))
-        (collected d p)) in
+    (collected d p)) in
     record {
       long = c.settle_all.ensures.values;
       each = λ d p. sym (ap (λ (x : Option Entry). settled (verdict_on rule x) (value_at c.settle_all.new.values (m.offset d))) (left d p))
@@ -46,5 +46,5 @@ returns-clause-empty g c =
     let all : ℕ → Option Entry = entry_read rule m c.args.part (map (λ x. x.now) c.args.columns.now) in
     let size = c.settle_all.ensures.entries ∙ c.gather.ensures.length ∙ c.requires.entries in
     is_empty (join rule) (entries_are_monoid rule) m lawful c.args.part c.requires.part (λ x. refusal (verdict_on rule x)) refl all
-        c.args.entries.now c.gather.new.entries c.settle_all.new.entries size c.requires.empty
+    c.args.entries.now c.gather.new.entries c.settle_all.new.entries size c.requires.empty
     c.gather.ensures.gathered c.settle_all.result (c.settle_all.ensures.noted all)

@@ -33,4 +33,4 @@ returns-clause-gathered g c whole known =
     Gathers_same (join rule) (entries_are_monoid rule) m (g.met.M.AddressMap.lawful c.args.map.now) c.args.part whole c.loop-words.entries
     (entry_read rule m c.args.part (map (λ x. x.now) (drop i columns))) (λ d. None)
     (λ d. columns_end (join rule) (entry_of_column rule m c.args.part d) columns i (omega arith))
-        (c.loop-words.invariant.gathered whole known)
+    (c.loop-words.invariant.gathered whole known)

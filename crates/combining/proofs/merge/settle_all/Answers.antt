@@ -23,7 +23,7 @@ loop-words-preserved g c =
       long = c.settle_column-noted.ensures.values ∙ inv.long;
       notes = λ start known. c.settle_column-noted.ensures.noted start (left (i + 1))
           (Notes_same (join rule) (entries_are_monoid rule) m lawful c.args.part (λ x. refusal (verdict_on rule x)) start
-              c.loop-words.entries c.loop-words.noted (left i) _
+          c.loop-words.entries c.loop-words.noted (left i) _
           (λ d. columns_more (join rule) (entry_of_column rule m c.args.part d) columns i _ l) (inv.notes start known));
       owes = λ due known. c.settle_column-noted.ensures.owed due (inv.owes due known);
     }
@@ -35,6 +35,6 @@ returns-clause-noted g c start known =
     let columns = c.args.columns.now in
     let i = c.loop-words.words-index in
     Notes_same (join rule) (entries_are_monoid rule) m (g.met.M.AddressMap.lawful c.args.map.now) c.args.part
-        (λ x. refusal (verdict_on rule x)) start c.loop-words.entries c.loop-words.noted
+    (λ x. refusal (verdict_on rule x)) start c.loop-words.entries c.loop-words.noted
     (entry_read rule m c.args.part (map (λ x. x.now) (drop i columns))) (λ d. None)
     (λ d. columns_end (join rule) (entry_of_column rule m c.args.part d) columns i (omega arith)) (c.loop-words.invariant.notes start known)

@@ -16,6 +16,6 @@ invariant-loop-words g l =
       notes : (start : ℕ → Option Entry) →
           Notes m l.part (λ x. refusal (verdict_on rule x)) start l.fn.entries None (entry_read rule m l.part (map (λ x. x.now) l.columns))
           → Notes m l.part (λ x. refusal (verdict_on rule x)) start l.entries l.noted
-              (entry_read rule m l.part (map (λ x. x.now) (drop l.words-index l.columns)));
+          (entry_read rule m l.part (map (λ x. x.now) (drop l.words-index l.columns)));
       owes : (due : ℕ → ℤ) → Owes m rule l.part due l.fn.entries l.fn.values → Owes m rule l.part due l.entries l.values;
     }

@@ -30,10 +30,10 @@ loop-put-preserved g c =
       long = ap length done.values ∙ length-set _ _ _ ∙ inv.long;
       notes = λ start rest known. rw (done.entries, done.noted, placed.is)
           (note_taken op monoid m lawful j c.loop-put.entries (inv.as_many ∙ c.requires.entries) x.cell placed.of (λ d. entry_in d e)
-              (after rest)
+          (after rest)
           (λ d ne. entry_other d e ne) judge refl start c.loop-put.noted
           (Notes_same op monoid m lawful j judge start c.loop-put.entries c.loop-put.noted (before rest)
-              (λ d. op (entry_in d e) (after rest d))
+          (λ d. op (entry_in d e) (after rest d))
           (column_next rule m j c.loop-put.rest.now c.in-Some.behind.now x c.in-Some.ensures.item rest) (inv.notes start rest known)));
       owes = λ due known. rw (done.entries, done.values, placed.is)
           (settle_one m lawful rule j c.loop-put.entries (inv.as_many ∙ c.requires.entries) c.loop-put.values (inv.long ∙ c.requires.values)
@@ -47,6 +47,6 @@ returns-clause-noted g c start rest known =
     let op = join rule in
     let ws = c.loop-put.rest.now in
     Notes_same op (entries_are_monoid rule) m (g.met.M.AddressMap.lawful c.args.map.now) c.args.part (λ x. refusal (verdict_on rule x))
-        start
+    start
     c.loop-put.entries c.loop-put.noted (λ d. op (entry_of_column rule m c.args.part d ws) (rest d)) rest
     (column_end rule m c.args.part ws (c.next.ensures.none c.in_default.is) rest) (c.loop-put.invariant.notes start rest known)

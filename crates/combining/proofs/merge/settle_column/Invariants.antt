@@ -17,7 +17,7 @@ invariant-loop-put g l =
           Notes m l.part (λ x. refusal (verdict_on rule x)) start l.fn.entries l.fn.before
           (λ c. join rule (entry_of_column rule m l.part c l.words) (rest c))
           → Notes m l.part (λ x. refusal (verdict_on rule x)) start l.entries l.noted
-              (λ c. join rule (entry_of_column rule m l.part c l.rest) (rest c));
+          (λ c. join rule (entry_of_column rule m l.part c l.rest) (rest c));
       owes : (due : ℕ → ℤ) → Owes m rule l.part due l.fn.entries l.fn.values → Owes m rule l.part due l.entries l.values;
     }
 

@@ -18,7 +18,7 @@ loop-words-preserved g c =
       long = c.count_column.ensures.length ∙ inv.long;
       gathered = λ whole known. c.count_column.ensures.gathered whole (left (i + 1))
           (Gathers_same several askers_are_monoid m (g.met.M.AddressMap.lawful c.args.map.now) c.args.part whole c.loop-words.askers
-              (left i) _
+          (left i) _
           (λ d. columns_more several (askers_of_column m c.args.part c.args.k d) columns i _ l) (inv.gathered whole known));
     }
 
@@ -30,4 +30,4 @@ returns-clause-gathered g c whole known =
     Gathers_same several askers_are_monoid m (g.met.M.AddressMap.lawful c.args.map.now) c.args.part whole c.loop-words.askers
     (askers_read m c.args.part (map (λ x. x.now) (drop i columns)) c.args.k) (λ d. None)
     (λ d. columns_end several (askers_of_column m c.args.part c.args.k d) columns i (omega arith))
-        (c.loop-words.invariant.gathered whole known)
+    (c.loop-words.invariant.gathered whole known)

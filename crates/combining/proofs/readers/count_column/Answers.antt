@@ -22,12 +22,12 @@ loop-ask-preserved-then-ask-k g c =
       long = length-set _ _ _ ∙ inv.long;
       gathered = λ whole rest known. rw placed.is
           (gather_one several askers_are_monoid m lawful j c.loop-ask.askers (inv.long ∙ c.requires) x.cell placed.of (λ d. here m j k d x)
-              (after rest)
+          (after rest)
           (asked_others m j k x c.if-ask-k.true) whole c.counted.result
           (c.counted.ensures ∙ ap (λ o. several (slot c.loop-ask.askers o) (Some x.twice)) placed.is
           ∙ ap (several (slot c.loop-ask.askers (m.offset x.cell))) (sym (asked_here m j k x c.if-ask-k.true)))
           (Gathers_same several askers_are_monoid m lawful j whole c.loop-ask.askers (before rest)
-              (λ d. several (here m j k d x) (after rest d))
+          (λ d. several (here m j k d x) (after rest d))
           (askers_next m j k c.loop-ask.rest.now c.in-Some.behind.now x c.in-Some.ensures.item rest) (inv.gathered whole rest known)));
     }
 
@@ -45,9 +45,9 @@ loop-ask-preserved g c =
       long = inv.long;
       gathered = λ whole rest known.
           gather_none several askers_are_monoid m lawful j (λ d. here m j k d x) (after rest) (nothing_asked m j k x c.if-ask-k.false) whole
-              c.loop-ask.askers
+          c.loop-ask.askers
           (Gathers_same several askers_are_monoid m lawful j whole c.loop-ask.askers (before rest)
-              (λ d. several (here m j k d x) (after rest d))
+          (λ d. several (here m j k d x) (after rest d))
           (askers_next m j k c.loop-ask.rest.now c.in-Some.behind.now x c.in-Some.ensures.item rest) (inv.gathered whole rest known));
     }
 

@@ -20,9 +20,9 @@ returns-clause-least g c =
     rw c.cell_of.ensures
     (least_shared m j columns c.args.k c.note_all.result
     (none_noted several askers_are_monoid m lawful j c.requires.part shared refl all c.args.askers.now slots1 slots2 size c.requires.empty
-        c.count_all.ensures.gathered c.note_all.result (c.note_all.ensures.noted all))
+    c.count_all.ensures.gathered c.note_all.result (c.note_all.ensures.noted all))
     (least_noted several askers_are_monoid m lawful j c.requires.part shared refl all c.args.askers.now slots1 slots2 size c.requires.empty
-        c.count_all.ensures.gathered c.note_all.result (c.note_all.ensures.noted all)))
+    c.count_all.ensures.gathered c.note_all.result (c.note_all.ensures.noted all)))
 
 pub returns-clause-empty : goal.returns-clause-empty
 returns-clause-empty g c =
@@ -32,4 +32,4 @@ returns-clause-empty g c =
     let all : ℕ → Option Bool = askers_read m j (map (λ x. x.now) c.args.columns.now) c.args.k in
     let size = c.note_all.ensures.length ∙ c.count_all.ensures.length ∙ c.requires.size in
     is_empty several askers_are_monoid m lawful j c.requires.part shared refl all c.args.askers.now c.count_all.new.askers
-        c.note_all.new.askers size c.requires.empty c.count_all.ensures.gathered c.note_all.result (c.note_all.ensures.noted all)
+    c.note_all.new.askers size c.requires.empty c.count_all.ensures.gathered c.note_all.result (c.note_all.ensures.noted all)

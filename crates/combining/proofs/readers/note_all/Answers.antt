@@ -19,7 +19,7 @@ loop-words-preserved g c =
       long = c.note_column-noted.ensures.length ∙ inv.long;
       notes = λ start known. c.note_column-noted.ensures.noted start (left (i + 1))
           (Notes_same several askers_are_monoid m (g.met.M.AddressMap.lawful c.args.map.now) c.args.part shared start c.loop-words.askers
-              c.loop-words.noted (left i) _
+          c.loop-words.noted (left i) _
           (λ d. columns_more several (askers_of_column m c.args.part c.args.k d) columns i _ l) (inv.notes start known));
     }
 
@@ -29,7 +29,7 @@ returns-clause-noted g c start known =
     let columns = c.args.columns.now in
     let i = c.loop-words.words-index in
     Notes_same several askers_are_monoid m (g.met.M.AddressMap.lawful c.args.map.now) c.args.part shared start c.loop-words.askers
-        c.loop-words.noted
+    c.loop-words.noted
     (askers_read m c.args.part (map (λ x. x.now) (drop i columns)) c.args.k) (λ d. None)
     (λ d. columns_end several (askers_of_column m c.args.part c.args.k d) columns i (omega arith))
-        (c.loop-words.invariant.notes start known)
+    (c.loop-words.invariant.notes start known)

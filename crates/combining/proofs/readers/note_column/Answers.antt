@@ -23,7 +23,7 @@ loop-ask-preserved-then-ask-k g c =
       long = ap length done.askers ∙ length-set _ _ _ ∙ inv.long;
       notes = λ start rest known. rw (done.askers, done.noted, placed.is)
           (note_taken several askers_are_monoid m lawful j c.loop-ask.askers (inv.long ∙ c.requires) x.cell placed.of (λ d. here m j k d x)
-              (after rest)
+          (after rest)
           (asked_others m j k x c.if-ask-k.true) shared refl start c.loop-ask.noted
           (Notes_same several askers_are_monoid m lawful j shared start c.loop-ask.askers c.loop-ask.noted (before rest)
           (λ d. several (here m j k d x) (after rest d))
@@ -44,7 +44,7 @@ loop-ask-preserved g c =
       long = inv.long;
       notes = λ start rest known.
           note_none several askers_are_monoid m lawful j (λ d. here m j k d x) (after rest) (nothing_asked m j k x c.if-ask-k.false) shared
-              start
+          start
           c.loop-ask.askers c.loop-ask.noted
           (Notes_same several askers_are_monoid m lawful j shared start c.loop-ask.askers c.loop-ask.noted (before rest)
           (λ d. several (here m j k d x) (after rest d))
@@ -56,6 +56,6 @@ returns-clause-noted g c start rest known =
     let m = g.M.AddressMap.shape c.args.map.now in
     let ws = c.loop-ask.rest.now in
     Notes_same several askers_are_monoid m (g.met.M.AddressMap.lawful c.args.map.now) c.args.part shared start c.loop-ask.askers
-        c.loop-ask.noted
+    c.loop-ask.noted
     (λ d. several (askers_of_column m c.args.part c.args.k d ws) (rest d)) rest
     (askers_end m c.args.part c.args.k ws (c.next.ensures.none c.in_default.is) rest) (c.loop-ask.invariant.notes start rest known)

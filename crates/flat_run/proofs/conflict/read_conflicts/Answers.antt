@@ -12,6 +12,6 @@ reads-preserved c =
       omega (arith, h),
       c.least-noted.ensures ∙ ap (λ a. least a c.reads.noted) c.read_conflict.ensures
           ∙ reads_go c.args.code.now (flat_of m) m.uniform.asks.items k c.reads.k c.index-read.result.now c.reads.noted
-              (omega (arith, c.reads-test.true))
+          (omega (arith, c.reads-test.true))
           (omega (arith, h, c.reads-test.true)) c.index-read.ensures c.reads.invariant.1,
     )

@@ -16,6 +16,6 @@ returns-in_ok-machine-clause-held c =
     λ k. ⊎_elim
     (λ (m : k < total_size code.layout). c.in_ok-machine.ensures.each k m)
     (λ (m : total_size code.layout ≤ k). past_held held k (omega (arith, m, c.in_ok-machine.ensures.cells))
-        ∙ sym (none_written code c.args.instr f k m))
+    ∙ sym (none_written code c.args.instr f k m))
     (below_or_past k (total_size code.layout)) in
     λ i k. (by_cell k ∙ sym (ap (λ b. cond b (written code c.args.instr f k) (f.held k)) (sym c.is_put.ensures ∙ c.if-is_put.true))) i

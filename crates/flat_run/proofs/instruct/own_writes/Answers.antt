@@ -25,9 +25,9 @@ processors-preserved c =
           ∙ ap (λ i. join c.rule.result (single_to c.rule.result cell i c.own_write-write.result) (held_of c.processors.held.items cell))
           (to_z-of_z w64 c.index_of.result c.index_of.ensures.fits)
           ∙ ap (λ r. join r (single_to r cell c.index_of.result c.own_write-write.result) (held_of c.processors.held.items cell))
-              c.rule.ensures.value
+          c.rule.ensures.value
           ∙ ap (λ i. join code.rule (single_to code.rule cell i c.own_write-write.result) (held_of c.processors.held.items cell))
-              c.index_of.ensures.value
+          c.index_of.ensures.value
           ∙ ap (λ w. join code.rule (single_to code.rule cell (index_of u v) w) (held_of c.processors.held.items cell))
           (c.own_write-write.ensures ∙ ap (own_write code c.args.instr)
           (own_is ps v c.index.result.now (omega (arith, h, c.processors-test.true, c.requires.room)) c.index.ensures)))),

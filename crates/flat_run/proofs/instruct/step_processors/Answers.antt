@@ -11,7 +11,7 @@ pub processors-preserved : goal.processors-preserved
 processors-preserved c =
     let h = c.processors.invariant in
     each_goes (on_own c.args.code.now c.args.instr (uniform_of c.args.u.now)) c.args.processors.now.items c.processors.processors.items
-        c.processors.v c.index_mut.result.now c.step_own.new.x
+    c.processors.v c.index_mut.result.now c.step_own.new.x
     h (omega (arith, h.count, c.requires, c.processors-test.true)) c.index_mut.ensures.value c.in_ok-step_own.ensures
 
 pub returns-clause-each : goal.returns-clause-each

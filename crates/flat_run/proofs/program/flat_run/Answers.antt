@@ -23,13 +23,13 @@ returns c =
     let last = state_of c.advance.new.run in
     let found = λ (o : Option Outcome) (h : verdict_in o ≡ outcome_of code last).
     h ∙ outcome_comes code bound c.enough.result most input first last c.enough.ensures c.in_ok-run.ensures.state
-        c.in_ok-advance.ensures.state in
+    c.in_ok-advance.ensures.state in
     record {
       well_formed = weaker c.outcome.result
           (λ (o : Option Outcome). verdict_in o ≡ outcome_of code last)
           (λ (o : Option Outcome). IsWellFormed code → (v : Verdict) × (verdict_in o ≡ Some v) × IsFlatOutcome code input bound v)
           (λ o h formed. let a = arrives code formed bound everywhere input in
-              (a.0, found o h ∙ a.1, record { instructions = most; ends = a.1 }))
+          (a.0, found o h ∙ a.1, record { instructions = most; ends = a.1 }))
           c.outcome.ensures;
       found = weaker c.outcome.result
           (λ (o : Option Outcome). verdict_in o ≡ outcome_of code last)

@@ -11,7 +11,7 @@ reads-preserved c =
     ap (own_left value reads cells (c.reads.k + 1)) c.in_ok-answer.ensures
     ∙ sym (own_goes value reads cells c.reads.k c.index.result.now c.index-in-reads.result.now (registers_of c.reads.registers.items)
     (omega (arith, c.reads-test.true, c.len.ensures)) (omega (arith, c.if-k-len.true, c.len-in-reads.ensures)) c.index.ensures
-        c.index-in-reads.ensures)
+    c.index-in-reads.ensures)
     ∙ c.reads.invariant
 
 pub returns-else-k-len : goal.returns-else-k-len

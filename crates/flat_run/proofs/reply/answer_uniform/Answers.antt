@@ -16,5 +16,5 @@ pub returns : goal.returns
 returns c =
     let value : ℕ → ℕ → ℤ = λ k. registers_of c.args.memory.now.items in
     sym (uniform_ends value c.args.awaited.now.items c.reads.k (registers_of c.reads.registers.items)
-        (omega (arith, c.reads-test.false, c.len.ensures)))
+    (omega (arith, c.reads-test.false, c.len.ensures)))
     ∙ c.reads.invariant

@@ -12,7 +12,7 @@ pub processors-preserved : goal.processors-preserved
 processors-preserved c =
     each_goes (λ v. own_answered (λ k a. registers_of c.args.memory.now.items a)
     (map read_is c.args.awaited.now.items)) c.args.processors.now.items c.processors.processors.items c.processors.v c.index_mut.result.now
-        c.reply_own.new.x
+    c.reply_own.new.x
     c.processors.invariant (omega (arith, c.processors-test.true, c.len.ensures)) c.index_mut.ensures.value c.in_ok-reply_own.ensures
 
 pub returns-clause-each : goal.returns-clause-each

@@ -9,7 +9,7 @@ processors-init c = each_starts (λ v. own_sent) c.args.processors.now.items
 pub processors-preserved : goal.processors-preserved
 processors-preserved c =
     each_goes (λ v. own_sent) c.args.processors.now.items c.processors.processors.items c.processors.v c.index_mut.result.now
-        c.send_own.new.x
+    c.send_own.new.x
     c.processors.invariant (omega (arith, c.processors-test.true, c.len.ensures)) c.index_mut.ensures.value c.send_own.ensures
 
 pub returns-clause-each : goal.returns-clause-each

@@ -16,7 +16,7 @@ cells-preserved c =
     let old = c.cells.memory.items in
     rw (to_z-of_z w64 c.settled.result c.settled.ensures.fits)
     (settles_go rule held c.args.memory.now.items old c.cells.c c.settled.result c.cells.invariant
-        (omega (arith, c.cells-test.true, c.len.ensures, c.requires))
+    (omega (arith, c.cells-test.true, c.len.ensures, c.requires))
     (c.settled.ensures.value
     ∙ ap (settled c.verdict_on.result) (to_z-of_z w64 c.value_at.result c.value_at.ensures.fits ∙ c.value_at.ensures.value
     ∙ ap (λ values. registers_of values c.cells.c) c.deref.ensures.value)

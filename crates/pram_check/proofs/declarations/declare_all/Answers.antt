@@ -17,7 +17,7 @@ returns-in_err-uniforms c =
     let u = c.loop-d.uniforms in
     exit _ _ _ c.from_residual.result _ c.from_residual.ensures.1 c.in_err-uniforms.ensures
     (λ b h. c.loop-d.invariant.first
-        ∙ (ap (λ l. first (declaration_breaches s (length es) u (total_size es) l)) (rest_is ds i d c.loop-d-test.true c.d-item.is)
+    ∙ (ap (λ l. first (declaration_breaches s (length es) u (total_size es) l)) (rest_is ds i d c.loop-d-test.true c.d-item.is)
     ∙ leads_declaration s (length es) u (total_size es) d (drop (i + 1) ds) b h))
 
 pub loop-d-preserved : goal.loop-d-preserved

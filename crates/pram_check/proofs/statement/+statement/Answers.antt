@@ -18,15 +18,15 @@ statement-returns-in_err-test-in-While-clause-is t c =
     let k = outside_of c.args.scope.now c.args.loops.now in
     exit _ _ _ c.from_residual-in_err-test-in-While.result _ c.from_residual-in_err-test-in-While.ensures.1 c.in_err-test-in-While.ensures
     (to_front _ _ _ (while_parts k c.args.statement.now c.in-While.location c.in-While.test c.in-While.body c.in-While.body c.in-While.is
-        refl))
+    refl))
 
 pub statement-returns-in_err-body-in-While-clause-is : goal.statement-returns-in_err-body-in-While-clause-is
 statement-returns-in_err-body-in-While-clause-is t c =
     let k = outside_of c.args.scope.now c.args.loops.now in
     exit _ _ _ c.from_residual-in_err-body-in-While.result _ c.from_residual-in_err-body-in-While.ensures.1
-        c.in_err-body-in-While.ensures.is
+    c.in_err-body-in-While.ensures.is
     (to_back _ _ _ (while_parts k c.args.statement.now c.in-While.location c.in-While.test c.in-While.body c.as_slice.result.now
-        c.in-While.is c.as_slice.ensures)
+    c.in-While.is c.as_slice.ensures)
     c.in_ok-test-in-While.ensures.0)
 
 pub statement-returns-in_err-test-in-If-clause-is : goal.statement-returns-in_err-test-in-If-clause-is
@@ -34,18 +34,18 @@ statement-returns-in_err-test-in-If-clause-is t c =
     let k = outside_of c.args.scope.now c.args.loops.now in
     exit _ _ _ c.from_residual-in_err-test-in-If.result _ c.from_residual-in_err-test-in-If.ensures.1 c.in_err-test-in-If.ensures
     (to_front _ _ _ (if_parts k c.args.statement.now c.in-If.location c.in-If.test c.in-If.then_part c.in-If.then_part c.in-If.else_part
-        c.in-If.else_part c.in-If.is refl refl))
+    c.in-If.else_part c.in-If.is refl refl))
 
 pub statement-returns-in_err-then_part-in-If-clause-is : goal.statement-returns-in_err-then_part-in-If-clause-is
 statement-returns-in_err-then_part-in-If-clause-is t c =
     let k = outside_of c.args.scope.now c.args.loops.now in
     let given = c.as_slice-in-If.result.now in
     let parts = if_parts k c.args.statement.now c.in-If.location c.in-If.test c.in-If.then_part given c.in-If.else_part c.in-If.else_part
-        c.in-If.is c.as_slice-in-If.ensures refl in
+    c.in-If.is c.as_slice-in-If.ensures refl in
     exit _ _ _ c.from_residual-in_err-then_part-in-If.result _ c.from_residual-in_err-then_part-in-If.ensures.1
-        c.in_err-then_part-in-If.ensures.is
+    c.in_err-then_part-in-If.ensures.is
     (λ b h. to_back _ _ _ parts c.in_ok-test-in-If.ensures.0 b (first_front (block_breaches given k) (else_breaches c.in-If.else_part k) b
-        h))
+    h))
 
 pub statement-returns-in_err-other-in-Some-clause-is : goal.statement-returns-in_err-other-in-Some-clause-is
 statement-returns-in_err-other-in-Some-clause-is t c =
@@ -54,10 +54,10 @@ statement-returns-in_err-other-in-Some-clause-is t c =
     let other = c.as_slice-in-Some.result.now in
     let one = c.in_ok-then_part-in-If.ensures in
     let parts = if_parts k c.args.statement.now c.in-If.location c.in-If.test c.in-If.then_part given c.in-If.else_part (Some other)
-        c.in-If.is c.as_slice-in-If.ensures
+    c.in-If.is c.as_slice-in-If.ensures
     (ap Some c.as_slice-in-Some.ensures ∙ sym c.in-Some.is) in
     exit _ _ _ c.from_residual-in_err-other-in-Some.result _ c.from_residual-in_err-other-in-Some.ensures.1
-        c.in_err-other-in-Some.ensures.is
+    c.in_err-other-in-Some.ensures.is
     (λ b h. to_back _ _ _ parts c.in_ok-test-in-If.ensures.0 b
     (first_behind (block_breaches given k) (block_breaches other k) one.is.0
     ∙ (ap (λ s. first (block_breaches other (outside_of s c.args.loops.now))) (sym one.scope) ∙ h)))
@@ -66,9 +66,9 @@ pub statement-returns-in_err-variable-in-For-clause-is : goal.statement-returns-
 statement-returns-in_err-variable-in-For-clause-is t c =
     let k = outside_of c.args.scope.now c.args.loops.now in
     exit _ _ _ c.from_residual-in_err-variable-in-For.result _ c.from_residual-in_err-variable-in-For.ensures.1
-        c.in_err-variable-in-For.ensures
+    c.in_err-variable-in-For.ensures
     (to_front _ _ _ (for_parts k c.args.statement.now c.in-For.location c.in-For.x c.in-For.low c.in-For.high c.in-For.body c.in-For.body
-        c.in-For.is refl))
+    c.in-For.is refl))
 
 pub statement-returns-in_err-low-in-For-clause-is : goal.statement-returns-in_err-low-in-For-clause-is
 statement-returns-in_err-low-in-For-clause-is t c =
@@ -76,7 +76,7 @@ statement-returns-in_err-low-in-For-clause-is t c =
     let variable = c.in_ok-variable-in-For.ensures in
     exit _ _ _ c.from_residual-in_err-low-in-For.result _ c.from_residual-in_err-low-in-For.ensures.1 c.in_err-low-in-For.ensures
     (leads_bounds c.args.scope.now c.args.loops.now _ c.args.statement.now c.in-For.location c.in-For.x c.in-For.low c.in-For.high
-        c.in-For.body c.in-For.body c.in-For.is refl
+    c.in-For.body c.in-For.body c.in-For.is refl
     _ variable.1 refl variable.0)
 
 pub statement-returns-in_err-body-in-For-clause-is : goal.statement-returns-in_err-body-in-For-clause-is
@@ -85,10 +85,10 @@ statement-returns-in_err-body-in-For-clause-is t c =
     let variable = c.in_ok-variable-in-For.ensures in
     let bounds = c.in_ok-low-in-For.ensures in
     let grown = c.as_slice-in-For.ensures.value
-        ∙ (c.in_ok-push-in-For.ensures.items ∙ ap (λ l. l ++ c.in_ok-variable-in-For.variable ∷ []) c.in_ok-inner-in-For.ensures.items) in
+    ∙ (c.in_ok-push-in-For.ensures.items ∙ ap (λ l. l ++ c.in_ok-variable-in-For.variable ∷ []) c.in_ok-inner-in-For.ensures.items) in
     exit _ _ _ c.from_residual-in_err-body-in-For.result _ c.from_residual-in_err-body-in-For.ensures.1 c.in_err-body-in-For.ensures.is
     (leads_inner c.args.scope.now c.args.loops.now c.as_slice-in-For.result.now c.args.statement.now c.in-For.location c.in-For.x
-        c.in-For.low c.in-For.high c.in-For.body c.as_slice-in-For-2.result.now c.in-For.is c.as_slice-in-For-2.ensures
+    c.in-For.low c.in-For.high c.in-For.body c.as_slice-in-For-2.result.now c.in-For.is c.as_slice-in-For-2.ensures
     c.in_ok-variable-in-For.variable variable.1 grown variable.0 bounds.0)
 
 pub statement-returns-in_ok-item-in-Print-clause-is : goal.statement-returns-in_ok-item-in-Print-clause-is
@@ -149,7 +149,7 @@ statement-returns-in_ok-body-in-For-clause-is t c =
     let variable = c.in_ok-variable-in-For.ensures in
     let bounds = c.in_ok-low-in-For.ensures in
     let grown = c.as_slice-in-For.ensures.value
-        ∙ (c.in_ok-push-in-For.ensures.items ∙ ap (λ l. l ++ c.in_ok-variable-in-For.variable ∷ []) c.in_ok-inner-in-For.ensures.items) in
+    ∙ (c.in_ok-push-in-For.ensures.items ∙ ap (λ l. l ++ c.in_ok-variable-in-For.variable ∷ []) c.in_ok-inner-in-For.ensures.items) in
     let inside = c.in_ok-body-in-For.ensures.is in (
       none_for c.args.scope.now c.args.loops.now c.as_slice-in-For.result.now c.args.statement.now c.in-For.location c.in-For.x c.in-For.low
           c.in-For.high c.in-For.body c.as_slice-in-For-2.result.now c.in-For.is c.as_slice-in-For-2.ensures
@@ -174,8 +174,11 @@ statements-returns-in_err-statement-clause-is t c =
 pub statements-loop-x-init : goal.statements-loop-x-init
 statements-loop-x-init t c =
     let k = outside_of c.args.scope.now c.args.loops.now in
-    record { scope = refl; says = subst (λ l. says.SayStatements c.args.scope.now [] l) (sym c.new-found.ensures.items) says.none;
-        none = refl }
+    record {
+      scope = refl;
+      says = subst (λ l. says.SayStatements c.args.scope.now [] l) (sym c.new-found.ensures.items) says.none;
+      none = refl;
+    }
 
 pub statements-loop-x-preserved : goal.statements-loop-x-preserved
 statements-loop-x-preserved t c =

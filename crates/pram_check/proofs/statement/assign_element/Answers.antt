@@ -15,7 +15,7 @@ pub returns-in_err-subscript : goal.returns-in_err-subscript
 returns-in_err-subscript c =
     exit _ _ _ c.from_residual-in_err-subscript.result _ c.from_residual-in_err-subscript.ensures.1 c.in_err-subscript.ensures
     (to_back _ _ _ (element_parts (outside_of c.args.scope.now c.args.loops.now) _ c.args.x.now c.args.subscript.now c.args.e.now refl)
-        c.in_ok-array.ensures.0)
+    c.in_ok-array.ensures.0)
 
 pub returns : goal.returns
 returns c =

@@ -13,29 +13,29 @@ pub step-returns-in_err-test-in-While : goal.step-returns-in_err-test-in-While
 step-returns-in_err-test-in-While t c =
     exit _ _ _ c.from_residual.result _ c.from_residual.ensures.1 c.in_err-test-in-While.ensures
     (to_front _ _ _ (while_parts (inside_of c.args.scope.now) c.args.statement.now c.in-While.location c.in-While.test c.in-While.body
-        c.in-While.body c.in-While.is refl))
+    c.in-While.body c.in-While.is refl))
 
 pub step-returns-in_err-body-in-While : goal.step-returns-in_err-body-in-While
 step-returns-in_err-body-in-While t c =
     exit _ _ _ c.from_residual-in_err-body-in-While.result _ c.from_residual-in_err-body-in-While.ensures.1 c.in_err-body-in-While.ensures
     (to_back _ _ _ (while_parts (inside_of c.args.scope.now) c.args.statement.now c.in-While.location c.in-While.test c.in-While.body
-        c.as_slice.result.now c.in-While.is c.as_slice.ensures)
+    c.as_slice.result.now c.in-While.is c.as_slice.ensures)
     c.in_ok-test-in-While.ensures.0)
 
 pub step-returns-in_err-test-in-If : goal.step-returns-in_err-test-in-If
 step-returns-in_err-test-in-If t c =
     exit _ _ _ c.from_residual-in_err-test-in-If.result _ c.from_residual-in_err-test-in-If.ensures.1 c.in_err-test-in-If.ensures
     (to_front _ _ _ (if_parts (inside_of c.args.scope.now) c.args.statement.now c.in-If.location c.in-If.test c.in-If.then_part
-        c.in-If.then_part c.in-If.else_part c.in-If.else_part c.in-If.is refl refl))
+    c.in-If.then_part c.in-If.else_part c.in-If.else_part c.in-If.is refl refl))
 
 pub step-returns-in_err-then_part-in-If : goal.step-returns-in_err-then_part-in-If
 step-returns-in_err-then_part-in-If t c =
     let k = inside_of c.args.scope.now in
     let given = c.as_slice-in-If.result.now in
     exit _ _ _ c.from_residual-in_err-then_part-in-If.result _ c.from_residual-in_err-then_part-in-If.ensures.1
-        c.in_err-then_part-in-If.ensures
+    c.in_err-then_part-in-If.ensures
     (λ b h. to_back _ _ _ (if_parts k c.args.statement.now c.in-If.location c.in-If.test c.in-If.then_part given c.in-If.else_part
-        c.in-If.else_part c.in-If.is c.as_slice-in-If.ensures refl)
+    c.in-If.else_part c.in-If.is c.as_slice-in-If.ensures refl)
     c.in_ok-test-in-If.ensures.0 b (first_front (block_breaches given k) (else_breaches c.in-If.else_part k) b h))
 
 pub step-returns-in_err-other-in-Some : goal.step-returns-in_err-other-in-Some
@@ -45,7 +45,7 @@ step-returns-in_err-other-in-Some t c =
     let other = c.as_slice-in-Some.result.now in
     exit _ _ _ c.from_residual-in_err-other-in-Some.result _ c.from_residual-in_err-other-in-Some.ensures.1 c.in_err-other-in-Some.ensures
     (λ b h. to_back _ _ _ (if_parts k c.args.statement.now c.in-If.location c.in-If.test c.in-If.then_part given c.in-If.else_part
-        (Some other) c.in-If.is c.as_slice-in-If.ensures
+    (Some other) c.in-If.is c.as_slice-in-If.ensures
     (ap Some c.as_slice-in-Some.ensures ∙ sym c.in-Some.is))
     c.in_ok-test-in-If.ensures.0 b (first_behind (block_breaches given k) (block_breaches other k) c.in_ok-then_part-in-If.ensures.0 ∙ h))
 
@@ -99,18 +99,20 @@ pub step-returns-in-For : goal.step-returns-in-For
 step-returns-in-For t c =
     refused _ c.in-For.location _ c.breach-in-For.result
     (for_parts (inside_of c.args.scope.now) c.args.statement.now c.in-For.location c.in-For.variable c.in-For.low c.in-For.high
-        c.in-For.body c.in-For.body c.in-For.is refl) c.breach-in-For.ensures
+    c.in-For.body c.in-For.body c.in-For.is refl) c.breach-in-For.ensures
 
 pub step-returns-in-Pardo : goal.step-returns-in-Pardo
 step-returns-in-Pardo t c =
     refused _ c.in-Pardo.location _ c.breach-in-Pardo.result
     (pardo_parts (inside_of c.args.scope.now) c.args.statement.now c.in-Pardo.location c.in-Pardo.low c.in-Pardo.index c.in-Pardo.high
-        c.in-Pardo.locals c.in-Pardo.locals c.in-Pardo.body c.in-Pardo.body
+    c.in-Pardo.locals c.in-Pardo.locals c.in-Pardo.body c.in-Pardo.body
     c.in-Pardo.is refl refl) c.breach-in-Pardo.ensures
 
 pub steps-loop-statement-init : goal.steps-loop-statement-init
-steps-loop-statement-init t c = record { says = subst (λ l. SaySteps c.args.scope.now [] l) (sym c.new-found.ensures.items) says.none;
-    none = refl }
+steps-loop-statement-init t c = record {
+  says = subst (λ l. SaySteps c.args.scope.now [] l) (sym c.new-found.ensures.items) says.none;
+  none = refl;
+}
 
 pub steps-returns-in_err-step : goal.steps-returns-in_err-step
 steps-returns-in_err-step t c =

@@ -13,5 +13,5 @@ loop-one-preserved c =
 pub returns : goal.returns
 returns c =
     over_ends c.args.rule (map part_is c.args.parts.now.items) c.deref-one-items.result.now c.loop-one.one-index c.args.cells.now.items
-        c.loop-one.cells.items
+    c.loop-one.cells.items
     c.loop-one.invariant (c.deref-one-items.ensures.value ∙ c.in_ok-said.ensures) c.loop-one-test.false

@@ -7,4 +7,4 @@ use Rattle.pram_meaning.proofs.together.overwrite.Given as goal
 abbrev pub invariant-loop-one : goal.invariant-loop-one
 invariant-loop-one l =
     InOver l.fn.rule (writes_made (map part_is l.fn.parts.items)) (drop l.one-index (writes_made (map part_is l.fn.parts.items)))
-        l.fn.cells.items l.cells.items
+    l.fn.cells.items l.cells.items

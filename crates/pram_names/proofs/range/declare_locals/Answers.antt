@@ -10,7 +10,7 @@ returns-in_err-new_name c =
     let l = c.loop-x.invariant in
     exit _ _ _ c.from_residual.result _ c.from_residual.ensures.1 c.in_err-new_name.ensures
     (leads_local c.args.scope.now c.loop-x.scope c.args.locals.now c.loop-x.x-index c.loop-x.count c.x-item.result c.loop-x-test.true
-        c.x-item.is l.count l.scope l.none)
+    c.x-item.is l.count l.scope l.none)
 
 pub loop-x-preserved : goal.loop-x-preserved
 loop-x-preserved c =

@@ -12,7 +12,7 @@ pub atom-returns-in_err-inner-in-Mark-clause-follows : goal.atom-returns-in_err-
 atom-returns-in_err-inner-in-Mark-clause-follows t c =
     exit rest_of rest_of c.from_residual.result _ c.from_residual.ensures.1 c.in_err-inner-in-Mark.ensures.follows
     (parts.lead_paren c.args.depth c.in-Mark.mark c.in-Some.first.now c.args.tokens.now c.in-Some.rest.now c.in-Some.ensures.front
-        c.in-Mark.is (sym c.if-not-same_mark.ensures.value))
+    c.in-Mark.is (sym c.if-not-same_mark.ensures.value))
 
 pub atom-returns-in-Number-clause-found : goal.atom-returns-in-Number-clause-found
 atom-returns-in-Number-clause-found t c = parts.found_number _ _ _ _ _ c.in-Some.ensures.front c.in-Number.is
@@ -20,7 +20,7 @@ atom-returns-in-Number-clause-found t c = parts.found_number _ _ _ _ _ c.in-Some
 pub atom-returns-in_ok-new-in-Mark-clause-found : goal.atom-returns-in_ok-new-in-Mark-clause-found
 atom-returns-in_ok-new-in-Mark-clause-found t c =
     parts.found_paren _ _ _ _ _ _ _ _ c.in-Some.ensures.front c.in-Mark.is (sym c.if-not-same_mark.ensures.value)
-        c.in_ok-inner-in-Mark.ensures.found c.in_ok-new-in-Mark.ensures
+    c.in_ok-inner-in-Mark.ensures.found c.in_ok-new-in-Mark.ensures
 
 pub named-returns-clause-found : goal.named-returns-clause-found
 named-returns-clause-found t c =
@@ -113,7 +113,7 @@ comparison-returns-in_err-second-clause-follows t c =
       parts.widen level.Comparison tt c.args.depth c.args.tokens.now k
           ∙ c.in_ok-first.ensures.follows (Rest level.Comparison c.args.depth ∷ k)
           ∙ parts.at_operator level.Comparison c.args.depth c.in-Some.op c.in_ok-first.rest.now c.in-Some.rest.now c.in-Some.ensures.front
-              k,
+          k,
     ))
 
 pub comparison-returns-clause-follows : goal.comparison-returns-clause-follows
@@ -126,9 +126,9 @@ comparison-returns-clause-follows t c = λ k.
 pub comparison-returns-clause-found : goal.comparison-returns-clause-found
 comparison-returns-clause-found t c =
     parts.found_compared c.args.depth c.in-Some.op c.in_ok-first.first c.in_ok-second.second _ _ c.args.tokens.now c.in_ok-first.rest.now
-        c.in-Some.rest.now c.in_ok-second.rest.now
+    c.in-Some.rest.now c.in_ok-second.rest.now
     c.in_ok-first.ensures.found c.in-Some.ensures.front c.in_ok-second.ensures.found c.in_ok-new.ensures (c.in_ok-push.ensures.ok
-        ∙ rw c.new-steps.ensures refl)
+    ∙ rw c.new-steps.ensures refl)
 
 pub chained-returns-in_err-first-clause-follows : goal.chained-returns-in_err-first-clause-follows
 chained-returns-in_err-first-clause-follows t c =
@@ -137,7 +137,7 @@ chained-returns-in_err-first-clause-follows t c =
       Rest c.args.level c.args.depth ∷ k,
       parts.widen c.args.level (parts.joining c.args.level c.requires.chain) c.args.depth c.args.tokens.now k
           ∙ ap (λ l. verdict c.args.tokens.now (Operand l c.args.depth ∷ (Rest c.args.level c.args.depth ∷ k)))
-              (sym c.tighter.ensures.value),
+          (sym c.tighter.ensures.value),
     ))
 
 pub chained-loop-op-init : goal.chained-loop-op-init
@@ -149,7 +149,7 @@ chained-loop-op-init t c =
       spelt = rw c.new-steps.ensures (found.1 ∙ ap (λ v. v ++ c.in_ok-first.rest.now) (sym (append-nil (tokens c.in_ok-first.first))));
       moves = λ k. parts.widen c.args.level (parts.joining c.args.level c.requires.chain) c.args.depth c.args.tokens.now k
           ∙ ap (λ l. verdict c.args.tokens.now (Operand l c.args.depth ∷ (Rest c.args.level c.args.depth ∷ k)))
-              (sym c.tighter.ensures.value)
+          (sym c.tighter.ensures.value)
           ∙ c.in_ok-first.ensures.follows (Rest c.args.level c.args.depth ∷ k);
     }
 
@@ -157,7 +157,7 @@ pub chained-loop-op-preserved : goal.chained-loop-op-preserved
 chained-loop-op-preserved t c =
     let found = c.in_ok-next.ensures.found in
     let one : Fits c.args.depth (tighter c.args.level) c.in_ok-next.next =
-        subst (λ l. Fits c.args.depth l c.in_ok-next.next) c.tighter-in-Some.ensures.value found.0 in
+    subst (λ l. Fits c.args.depth l c.in_ok-next.next) c.tighter-in-Some.ensures.value found.0 in
     record {
       one = c.loop-op.invariant.one;
       more = rw c.in_ok-push.ensures.ok (parts.AreSteps-push c.args.level (Fits c.args.depth (tighter c.args.level)) c.loop-op.steps
@@ -167,14 +167,14 @@ chained-loop-op-preserved t c =
       moves = λ k. c.loop-op.invariant.moves k
           ∙ parts.at_operator c.args.level c.args.depth c.in-Some.op c.loop-op.rest.now c.in-Some.behind.now c.in-Some.ensures.front k
           ∙ ap (λ j. verdict c.in-Some.behind.now (Operand (tighter c.args.level) c.args.depth ∷ j))
-              (parts.again_is c.args.level c.requires.chain c.args.depth k)
+          (parts.again_is c.args.level c.requires.chain c.args.depth k)
           ∙ ap (λ l. verdict c.in-Some.behind.now (Operand l c.args.depth ∷ (Rest c.args.level c.args.depth ∷ k)))
-              (sym c.tighter-in-Some.ensures.value)
+          (sym c.tighter-in-Some.ensures.value)
           ∙ c.in_ok-next.ensures.follows (Rest c.args.level c.args.depth ∷ k);
     }
 
 pub chained-returns-clause-found : goal.chained-returns-clause-found
 chained-returns-clause-found t c =
     parts.found_chain c.args.level c.requires.chain c.args.depth _ c.in_ok-chain.field-0 c.loop-op.steps c.args.tokens.now
-        c.loop-op.rest.now
+    c.loop-op.rest.now
     c.loop-op.invariant.one c.loop-op.invariant.more c.loop-op.invariant.spelt c.in_ok-chain.ensures.value

@@ -9,8 +9,11 @@ use Rattle.pram_syntax.proofs.parse_stmt.+block.Goals as goal
 pub block-returns-in_err-found-clause-follows : goal.block-returns-in_err-found-clause-follows
 block-returns-in_err-found-clause-follows t c =
     exit block_rest statement_rest c.from_residual.result _ c.from_residual.ensures.1 c.in_err-found.ensures.follows
-    (λ k. (Statements c.args.blocks c.args.depth ∷ k, c.more.invariant.moves k
-        ∙ parts.statement_first c.args.blocks c.args.depth c.more.rest.now (sym c.more-test.ensures.value) k))
+    (λ k. (
+      Statements c.args.blocks c.args.depth ∷ k,
+      c.more.invariant.moves k
+          ∙ parts.statement_first c.args.blocks c.args.depth c.more.rest.now (sym c.more-test.ensures.value) k,
+    ))
 
 pub block-more-preserved : goal.block-more-preserved
 block-more-preserved t c =
@@ -47,26 +50,26 @@ while_loop-returns-in_err-turn-clause-follows t c =
 pub choice-returns-in_err-then_part-clause-follows : goal.choice-returns-in_err-then_part-clause-follows
 choice-returns-in_err-then_part-clause-follows t c =
     exit statement_rest block_rest c.from_residual-in_err-then_part.result _ c.from_residual-in_err-then_part.ensures.1
-        c.in_err-then_part.ensures.follows
+    c.in_err-then_part.ensures.follows
     (λ k. (
       Else (c.args.blocks - 1) c.args.depth ∷ (Want mark.End ∷ k),
       parts.into_if c.args.blocks c.args.depth 0 c.args.tokens.now c.requires.room k
           ∙ c.in_ok-test.ensures.follows (Statements (c.args.blocks - 1) c.args.depth
-              ∷ (Else (c.args.blocks - 1) c.args.depth ∷ (Want mark.End ∷ k))),
+          ∷ (Else (c.args.blocks - 1) c.args.depth ∷ (Want mark.End ∷ k))),
     ))
 
 pub choice-returns-in_err-second-clause-follows : goal.choice-returns-in_err-second-clause-follows
 choice-returns-in_err-second-clause-follows t c =
     exit statement_rest block_rest c.from_residual-in_err-second.result _ c.from_residual-in_err-second.ensures.1
-        c.in_err-second.ensures.follows
+    c.in_err-second.ensures.follows
     (λ k. (
       k,
       parts.into_if c.args.blocks c.args.depth 0 c.args.tokens.now c.requires.room k
           ∙ c.in_ok-test.ensures.follows (Statements (c.args.blocks - 1) c.args.depth
-              ∷ (Else (c.args.blocks - 1) c.args.depth ∷ (Want mark.End ∷ k)))
+          ∷ (Else (c.args.blocks - 1) c.args.depth ∷ (Want mark.End ∷ k)))
           ∙ c.in_ok-then_part.ensures.follows (Else (c.args.blocks - 1) c.args.depth ∷ (Want mark.End ∷ k))
           ∙ parts.at_else (c.args.blocks - 1) c.args.depth c.in_ok-then_part.rest.now c.in-Some.behind.now c.in-Some.ensures.front
-              (Want mark.End ∷ k),
+          (Want mark.End ∷ k),
     ))
 
 pub choice-returns-in_err-rest-clause-follows : goal.choice-returns-in_err-rest-clause-follows
@@ -76,7 +79,7 @@ choice-returns-in_err-rest-clause-follows t c =
       k,
       parts.into_if c.args.blocks c.args.depth 0 c.args.tokens.now c.requires.room k
           ∙ c.in_ok-test.ensures.follows (Statements (c.args.blocks - 1) c.args.depth
-              ∷ (Else (c.args.blocks - 1) c.args.depth ∷ (Want mark.End ∷ k)))
+          ∷ (Else (c.args.blocks - 1) c.args.depth ∷ (Want mark.End ∷ k)))
           ∙ c.in_ok-then_part.ensures.follows (Else (c.args.blocks - 1) c.args.depth ∷ (Want mark.End ∷ k))
           ∙ parts.no_else (c.args.blocks - 1) c.args.depth c.in_ok-then_part.rest.now c.in_default.ensures.front (Want mark.End ∷ k),
     ))
@@ -85,7 +88,7 @@ pub choice-returns-clause-follows : goal.choice-returns-clause-follows
 choice-returns-clause-follows t c = λ k.
     parts.into_if c.args.blocks c.args.depth 0 c.args.tokens.now c.requires.room k
     ∙ c.in_ok-test.ensures.follows (Statements (c.args.blocks - 1) c.args.depth
-        ∷ (Else (c.args.blocks - 1) c.args.depth ∷ (Want mark.End ∷ k)))
+    ∷ (Else (c.args.blocks - 1) c.args.depth ∷ (Want mark.End ∷ k)))
     ∙ c.in_ok-then_part.ensures.follows (Else (c.args.blocks - 1) c.args.depth ∷ (Want mark.End ∷ k))
     ∙ parts.no_else (c.args.blocks - 1) c.args.depth c.in_ok-then_part.rest.now c.in_default.ensures.front (Want mark.End ∷ k)
     ∙ c.in_ok-rest.ensures.follows k
@@ -98,18 +101,18 @@ choice-returns-clause-found t c =
 pub choice-returns-in-Some-clause-found : goal.choice-returns-in-Some-clause-found
 choice-returns-in-Some-clause-found t c =
     parts.found_if_else _ _ _ _ _ _ _ _ _ _ _ c.requires.room c.in_ok-test.ensures.found c.in_ok-then_part.ensures.found
-        c.in-Some.ensures.front c.in_ok-second.ensures.found
+    c.in-Some.ensures.front c.in_ok-second.ensures.found
 
 pub for_loop-returns-clause-found : goal.for_loop-returns-clause-found
 for_loop-returns-clause-found t c =
     parts.found_for _ _ _ _ _ _ _ _ _ _ _ _ c.in_ok-copied.ensures.same c.requires.room c.in-Some.ensures.front c.in_ok-low.ensures.found
-        c.in_ok-turn.ensures.found
+    c.in_ok-turn.ensures.found
 
 pub for_loop-returns-in_default-clause-follows : goal.for_loop-returns-in_default-clause-follows
 for_loop-returns-in_default-clause-follows t c =
     along statement_rest c.range.result c.range.ensures.follows
     (λ k. parts.into_for c.args.blocks c.args.depth 0 c.args.tokens.now c.requires.room k
-        ∙ c.in_default.ensures.front (c.args.blocks - 1) c.args.depth k)
+    ∙ c.in_default.ensures.front (c.args.blocks - 1) c.args.depth k)
 
 pub for_loop-returns-in_err-turn-clause-follows : goal.for_loop-returns-in_err-turn-clause-follows
 for_loop-returns-in_err-turn-clause-follows t c =

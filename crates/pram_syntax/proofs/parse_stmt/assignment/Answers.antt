@@ -13,14 +13,17 @@ returns-clause-found c = parts.found_assign _ _ _ _ _ _ _ _ c.in_ok-target.ensur
 pub returns-in-Some-clause-found : goal.returns-in-Some-clause-found
 returns-in-Some-clause-found c =
     parts.found_assign_element _ _ _ _ _ _ _ _ _ _ _ c.in_ok-target.ensures.same c.if-depth-eq0.false c.in-Some.ensures.front
-        c.in_ok-subscript.ensures.found c.in_ok-rest.ensures.found c.in_ok-value.ensures.found
+    c.in_ok-subscript.ensures.found c.in_ok-rest.ensures.found c.in_ok-value.ensures.found
 
 pub returns-in_err-subscript-clause-follows : goal.returns-in_err-subscript-clause-follows
 returns-in_err-subscript-clause-follows c =
     exit statement_rest rest_of c.from_residual-in_err-subscript.result _ c.from_residual-in_err-subscript.ensures.1
-        c.in_err-subscript.ensures.follows
-    (λ k. (assignment c.args.depth k, parts.into_element c.args.blocks c.args.depth c.args.tokens.now c.in-Some.inside.now
-        c.if-depth-eq0.false c.in-Some.ensures.front k))
+    c.in_err-subscript.ensures.follows
+    (λ k. (
+      assignment c.args.depth k,
+      parts.into_element c.args.blocks c.args.depth c.args.tokens.now c.in-Some.inside.now
+          c.if-depth-eq0.false c.in-Some.ensures.front k,
+    ))
 
 pub returns-in_err-rest-clause-follows : goal.returns-in_err-rest-clause-follows
 returns-in_err-rest-clause-follows c =
@@ -44,6 +47,8 @@ returns-in_err-value-clause-follows c =
 pub returns-in_err-rest-2-clause-follows : goal.returns-in_err-rest-2-clause-follows
 returns-in_err-rest-2-clause-follows c =
     exit statement_rest all_of c.from_residual-in_err-rest-2.result _ c.from_residual-in_err-rest-2.ensures.1
-        c.in_err-rest-2.ensures.follows
-    (λ k. (Operand level.Expression c.args.depth ∷ (Want mark.Semicolon ∷ k),
-        parts.no_element c.args.blocks c.args.depth c.args.tokens.now c.in_default.ensures.front k))
+    c.in_err-rest-2.ensures.follows
+    (λ k. (
+      Operand level.Expression c.args.depth ∷ (Want mark.Semicolon ∷ k),
+      parts.no_element c.args.blocks c.args.depth c.args.tokens.now c.in_default.ensures.front k,
+    ))

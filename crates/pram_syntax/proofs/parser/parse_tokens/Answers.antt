@@ -35,8 +35,13 @@ returns-then-not-is_empty-clause-refused c =
 pub returns-clause-only : goal.returns-clause-only
 returns-clause-only c = λ other h is.
     let parts = c.in_ok-parts.parts in
-    let tree : ProgramTree = record { rule = parts.header.rule; rule_location = parts.header.rule_location; procs = parts.header.procs;
-        declarations = parts.declarations; body = parts.body } in
+    let tree : ProgramTree = record {
+      rule = parts.header.rule;
+      rule_location = parts.header.rule_location;
+      procs = parts.header.procs;
+      declarations = parts.declarations;
+      body = parts.body;
+    } in
     c.new.ensures.value
     ∙ only c.args.tokens.now c.in_ok-parts.rest.now tree other (sym c.is_empty.ensures
-        ∙ c.if-not-is_empty.false) c.in_ok-parts.ensures.within c.in_ok-parts.ensures.found h is
+    ∙ c.if-not-is_empty.false) c.in_ok-parts.ensures.within c.in_ok-parts.ensures.found h is

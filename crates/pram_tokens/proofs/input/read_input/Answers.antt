@@ -9,4 +9,4 @@ returns-in-Ok-clause-only c = λ values input. one_list c.in-Ok.found.items valu
 pub returns-in-BadToken-clause-only : goal.returns-in-BadToken-clause-only
 returns-in-BadToken-clause-only c = λ values input.
     absurd (not_wrong c.args.text.now values c.in-BadToken.at input
-        (subst (IsWrong c.args.text.now) c.in-BadToken.is c.in-Err.ensures.wrong))
+    (subst (IsWrong c.args.text.now) c.in-BadToken.is c.in-Err.ensures.wrong))

@@ -7,8 +7,10 @@ use Rattle.pramc.proofs.show_parts.write_values.Goals as goal
 pub returns-in_err-write_parts : goal.returns-in_err-write_parts
 returns-in_err-write_parts g c =
     let at = values_at c.args.values.now c.loop-value.value-index _ _ c.loop-value-test.true c.decimal.ensures in
-    record { written = writes_stopped _ _ _ c.from_residual.result _ c.from_residual.ensures.1
-        (stops _ _ _ _ _ _ _ c.loop-value.invariant at c.in_err-write_parts.ensures.written) }
+    record {
+      written = writes_stopped _ _ _ c.from_residual.result _ c.from_residual.ensures.1
+          (stops _ _ _ _ _ _ _ c.loop-value.invariant at c.in_err-write_parts.ensures.written);
+    }
 
 pub loop-value-preserved : goal.loop-value-preserved
 loop-value-preserved g c =

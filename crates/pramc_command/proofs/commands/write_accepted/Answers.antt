@@ -3,8 +3,10 @@ use Rattle.pramc_command.proofs.Answering.{cut_off, told}
 use Rattle.pramc_command.proofs.commands.write_accepted.Goals as goal
 
 pub returns-in-Ok : goal.returns-in-Ok
-returns-in-Ok g c = record { answers =
-    λ text program. told _ _ _ _ _ _ (Accepted text _ program) c.in-Ok.ensures.written c.finish.ensures.ok c.finish.ensures.failed }
+returns-in-Ok g c = record {
+  answers =
+      λ text program. told _ _ _ _ _ _ (Accepted text _ program) c.in-Ok.ensures.written c.finish.ensures.ok c.finish.ensures.failed;
+}
 
 pub returns-in-Err : goal.returns-in-Err
 returns-in-Err g c = record { answers = λ text program. cut_off _ _ _ _ (Accepted text _ program) c.in-Err.ensures.written }

@@ -11,7 +11,7 @@ returns-in-Ok g c =
     record {
       answers = λ text input n run.
           told c.of-status.result _ _ _ all _ (subst (λ s. Tells s all) (sym c.of-status.ensures) (Ran text input n _ _ run))
-              c.in-Ok.ensures.written c.finish.ensures.ok c.finish.ensures.failed;
+          c.in-Ok.ensures.written c.finish.ensures.ok c.finish.ensures.failed;
     }
 
 pub returns-in-Err : goal.returns-in-Err

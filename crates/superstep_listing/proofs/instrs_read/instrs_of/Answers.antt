@@ -9,7 +9,7 @@ pub returns-in_default-clause-wrong : goal.returns-in_default-clause-wrong
 returns-in_default-clause-wrong c =
     let i = c.loop-place.invariant in
     stuck_instr c.args.count c.loop-place.place c.loop-place.found.items c.args.text.now c.loop-place.rest.now i.counted
-        c.loop-place-test.true i.fit i.whole c.in_default.ensures.value
+    c.loop-place-test.true i.fit i.whole c.in_default.ensures.value
 
 pub loop-place-preserved : goal.loop-place-preserved
 loop-place-preserved c =

@@ -26,7 +26,7 @@ returns-clause-ok c =
     let e : SharedEntry = record { name = c.args.entry.name.now; bounds = c.args.entry.bounds } in
     let new = c.in_ok-push.ensures.ok in
     let is_new = known_new (λ q. contains_by (λ k. bytes_eq q k.now) c.args.names.now) c.args.layout.now c.args.entry.name.now
-        c.is_new.result c.requires.known c.is_new.ensures.value c.if-not-is_new.false in
+    c.is_new.result c.requires.known c.is_new.ensures.value c.if-not-is_new.false in
     let stands = layout_more c.args.layout.now e c.requires.layout c.requires.entry is_new c.if-not-has_room.ensures.value in
     (subst IsLayout (sym new) stands, new)
 
@@ -34,4 +34,4 @@ pub returns-clause-known : goal.returns-clause-known
 returns-clause-known c =
     let e : SharedEntry = record { name = c.args.entry.name.now; bounds = c.args.entry.bounds } in
     known_more (λ q. contains_by (λ k. bytes_eq q k.now) c.args.names.now) (λ q. contains_by (λ k. bytes_eq q k.now) c.take_name.new.names)
-        c.args.layout.now _ e c.requires.known c.in_ok-push.ensures.ok c.in_ok-take_name.ensures.ok
+    c.args.layout.now _ e c.requires.known c.in_ok-push.ensures.ok c.in_ok-take_name.ensures.ok

@@ -20,7 +20,7 @@ returns-then-not-branch-clause-most c =
     λ e more l r.
     let is = layout_entry new e l in
     let lines = one_cut 10 (entry_line d) (entry_line e) (10 ∷ c.in-Some.behind.now) (10 ∷ more) (plain_entry d was.0) (plain_entry e is)
-        refl refl (sym was.1 ∙ r) in
+    refl refl (sym was.1 ∙ r) in
     let same = entry_once e d is was.0 (sym lines.0) in
     told.1 (subst IsLayout (ap (λ es. es ++ e ∷ []) told.0 ∙ ap (λ x. old ++ x ∷ []) same) l)
 

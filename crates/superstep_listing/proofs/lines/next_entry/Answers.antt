@@ -8,5 +8,7 @@ returns-in_default c = record { value = λ x more is e. not_cut 10 _ (entry_line
 
 pub returns-in_default-entry_of : goal.returns-in_default-entry_of
 returns-in_default-entry_of c =
-    record { value = λ x more is e.
-    c.in_default-entry_of.ensures.value x is (cut_as (entry_line x) more c.in-Some.ensures.parts (plain_entry x is) e).0 }
+    record {
+      value = λ x more is e.
+          c.in_default-entry_of.ensures.value x is (cut_as (entry_line x) more c.in-Some.ensures.parts (plain_entry x is) e).0;
+    }

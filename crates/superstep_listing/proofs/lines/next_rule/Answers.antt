@@ -8,5 +8,7 @@ returns-in_default c = record { value = λ r more e. not_cut 10 _ (rule_line r) 
 
 pub returns-in_default-rule_of : goal.returns-in_default-rule_of
 returns-in_default-rule_of c =
-    record { value = λ r more e. c.in_default-rule_of.ensures.value r (cut_as (rule_line r) more c.in-Some.ensures.parts (plain_rule r)
-    e).0 }
+    record {
+      value = λ r more e. c.in_default-rule_of.ensures.value r (cut_as (rule_line r) more c.in-Some.ensures.parts (plain_rule r)
+          e).0;
+    }

@@ -13,7 +13,7 @@ returns-in_default-next_rule-clause-wrong c =
 pub returns-in_default-next_field-clause-wrong : goal.returns-in_default-next_field-clause-wrong
 returns-in_default-next_field-clause-wrong c =
     stuck_procs c.in-Some-next_rule.rule c.args.text.now c.in-Some.behind.now c.in-Some-next_rule.body.now c.in-Some.ensures.value
-        c.in-Some-next_rule.ensures.value c.in_default-next_field.ensures.value
+    c.in-Some-next_rule.ensures.value c.in_default-next_field.ensures.value
 
 pub returns-in-Err-clause-wrong : goal.returns-in-Err-clause-wrong
 returns-in-Err-clause-wrong c =
@@ -23,6 +23,6 @@ returns-in-Err-clause-wrong c =
     let lines = c.in_ok-layout.lines.now in
     lifted AreRest AreCode lines c.args.text.now
     (λ left s. stuck_code c.in-Some-next_rule.rule c.in-Some-next_field.procs es m.0 m.1 l.layout c.args.text.now c.in-Some.behind.now
-        c.in-Some-next_rule.body.now c.in-Some-next_field.entries.now lines left
+    c.in-Some-next_rule.body.now c.in-Some-next_field.entries.now lines left
     c.in-Some.ensures.value c.in-Some-next_rule.ensures.value m.2 l.whole l.most s)
     c.in-Err.fault c.in-Err.ensures.wrong

@@ -22,7 +22,7 @@ returns-else-eq c = record {
       let r : c.parse.result ≡ Ok z = parsed_as _ c.parse.result c.parse.ensures.value.0 z fits (c.in-Ok.ensures.cases.0 ∙ e) in
       let same : z ≡ c.in-Ok-parse.value = (let is = c.in-Ok-parse.is in cc) in
       let text = c.format.ensures.text ∙ ap signed_decimal (read_back c.in-Ok-parse.value (subst (λ v. Fits (Wide v)) same fits)
-          ∙ sym same) in
+      ∙ sym same) in
       let test = same_bytes c.as_bytes.result.now c.args.word.now (c.as_bytes.ensures.value ∙ text ∙ sym e) in
       let told = c.eq.ensures in let other = c.if-eq.false in cc;
 }

@@ -8,7 +8,7 @@ returns-in_default-number c = record {
   value = λ zs few fit e.
       let read = c.loop-left.invariant.read ∙ ap (λ o. spaced c.loop-left.found.items ++ behind_word o) c.in-Some.is in
       let z = next_number _ _ _ _ c.loop-left.found.items zs read c.loop-left.invariant.fit c.first_word.ensures.whole
-          c.first_word.ensures.lacks
+      c.first_word.ensures.lacks
       (follows_behind c.first_word.result.1) fit e in
       c.in_default-number.ensures.value z.0 z.1 z.2;
 }

@@ -8,6 +8,9 @@ close-requires-clause-runners g c =
 
 pub close-requires-clause-over : goal.close-requires-clause-over
 close-requires-clause-over g c =
-    inr (c.args.items.items, c.join-runners.ensures.second.1,
-    all_waited c.args.line.table c.args.line.runners c.args.runners.items c.join-runners.result.0.items c.requires.runners
-    c.join-runners.ensures.first.0 c.join-runners.ensures.first.1)
+    inr (
+      c.args.items.items,
+      c.join-runners.ensures.second.1,
+      all_waited c.args.line.table c.args.line.runners c.args.runners.items c.join-runners.result.0.items c.requires.runners
+          c.join-runners.ensures.first.0 c.join-runners.ensures.first.1,
+    )

@@ -6,7 +6,7 @@ use Rattle.turnstile.proofs.closing.take_in.Goals as goal
 pub join_seat-requires : goal.join_seat-requires
 join_seat-requires c =
     let v = c.args.root.now.me.0 in let w = c.depart.new.chair.me.0 in let root = c.requires.root in let v_is = ap (λ z. z.0) root.1 in
-        let w_is = ap (λ z. z.0) c.depart.ensures.departed in
+    let w_is = ap (λ z. z.0) c.depart.ensures.departed in
     let laid = ap (λ z. z.0.mine.at) c.lay_all.ensures.laid.2 in
     let at : w.mine.at ≡ c.args.work.worker = ap (λ (z : View). z.mine.at) w_is ∙ laid ∙ c.requires.rested.at in
     let made : v.mine.at ≡ c.args.work.workers = ap (λ (z : View). z.mine.at) v_is in

@@ -10,7 +10,7 @@ loop-j-preserved c = let k = c.loop-j.work in let now = c.loop-j.invariant in le
   rested = still_rests k _ h refl refl refl refl refl (length-set k.row.items c.loop-j.j _) refl
       (row_set (done k).blocks _ _ _ _ k.row.items c.loop-j.j _ c.index_mut.result.now h.row_placed
       (let a = c.loop-j-test.true in let b = c.len-j-end.ensures in let d = h.row in let e = c.requires.rested.row in let f =
-          same.workers in omega arith) c.index_mut.ensures.value (ap emptied_piece c.clear.ensures.emptied));
+      same.workers in omega arith) c.index_mut.ensures.value (ap emptied_piece c.clear.ensures.emptied));
   same = record { chair = same.chair; column = same.column; worker = same.worker; workers = same.workers; round = same.round };
   empty = one_blank_more k.row.items c.loop-j.j _ (ap message c.clear.ensures.emptied) now.empty;
 }
@@ -18,4 +18,4 @@ loop-j-preserved c = let k = c.loop-j.work in let now = c.loop-j.invariant in le
 pub returns-clause-row : goal.returns-clause-row
 returns-clause-row c = let now = c.loop-j.invariant in let k = c.loop-j.work in
     all_blank c.args.work.now.workers k.row.items (now.rested.row ∙ now.same.workers) (λ j lj. now.empty j (let a = c.loop-j-test.false in
-        let b = c.len-j-end.ensures in let e = c.requires.rested.row in omega arith))
+    let b = c.len-j-end.ensures in let e = c.requires.rested.row in omega arith))

@@ -12,5 +12,5 @@ fetch_add-requires c = let chair = c.args.chair.now in let board = c.args.board.
   subst (λ (w : ℕ). Allows (Holds board.key board.key.side) board.table_id.slots chair.id chair.me w (λ n. (n + 1) % 2 ^ 64)
       (finishes (step board.table_id.slots w 1 0 none) chair.me)) (sym c.requires.seat.1)
       (finish_steps board.key board.key.side board.table_id.slots chair.id chair.me c.requires.ready.0 c.requires.ready.1 c.requires.ready.2
-          c.requires.few),
+      c.requires.few),
 )

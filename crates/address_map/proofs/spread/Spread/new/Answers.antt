@@ -10,8 +10,11 @@ unfolding IsFault
 returns-then-modules-eq0-clause-err c = λ p.
     let least = p.0 in
     let most = p.1 in
-    elim c.then-modules-eq0.branch [ then-modules-eq0-via-then-modules-eq0 w ↦ (let e = w.if-modules-eq0.true in
-        omega arith) | then-modules-eq0-via-else-modules-eq0+then-modules-gt32 w ↦ (let e = w.if-modules-gt32.true in omega arith) ]
+    elim c.then-modules-eq0.branch [
+      | then-modules-eq0-via-then-modules-eq0 w ↦ (let e = w.if-modules-eq0.true in
+          omega arith)
+      | then-modules-eq0-via-else-modules-eq0+then-modules-gt32 w ↦ (let e = w.if-modules-gt32.true in omega arith)
+    ]
 
 -- no power of two
 pub returns-in-None-clause-err : goal.returns-in-None-clause-err

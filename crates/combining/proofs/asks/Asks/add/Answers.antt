@@ -53,7 +53,7 @@ returns-then-i-len-clause-held c =
     let small = c.requires.cell in
     rw (f, ← c.self.view_is)
     (hold_at ask_at (λ (x : HeldAsk). eqb (key_of x.ask) key) marked_twice again key none (meant_at read cell) (λ k x. refl) ks xs x _ n l
-        is (λ i. record { again = true; value = to_z-of_z w64 x.value fits i })
+    is (λ i. record { again = true; value = to_z-of_z w64 x.value fits i })
     ∙ ap (λ (y : HeldAsk). hold (λ (x : HeldAsk). eqb (key_of x.ask) key) marked_twice y (paired ask_at ks xs)) (fresh_at read cell small))
 
 pub returns-else-i-len-clause-held : goal.returns-else-i-len-clause-held
@@ -66,8 +66,8 @@ returns-else-i-len-clause-held c =
     let n : length xs ≡ length ks = c.self.invariant.1 in
     let b = place_bound key ks in
     let p : place_of key ks ≡ length ks =
-        (let v = c.self.inside.asked.ok.0 in let f = c.find-i.ensures.place ∙ ap (λ k. place_of k ks) c.ask_key-key.ensures in
-        omega arith) in
+    (let v = c.self.inside.asked.ok.0 in let f = c.find-i.ensures.place ∙ ap (λ k. place_of k ks) c.ask_key-key.ensures in
+    omega arith) in
     let small = c.requires.cell in
     rw (c.push.ensures.keys, c.ask_key-key.ensures, c.push_reserved.ensures.items, ← c.self.view_is)
     (hold_new ask_at (λ (x : HeldAsk). eqb (key_of x.ask) key) marked_twice again key none (meant_at read cell) (λ k x. refl) ks xs n p
@@ -77,9 +77,9 @@ returns-else-i-len-clause-held c =
 pub returns-then-i-len-clause-place : goal.returns-then-i-len-clause-place
 returns-then-i-len-clause-place c =
     rw (← c.self.view_is) (c.find-i.ensures.place ∙ ap (λ k. place_of k c.self.inside.index.keys) c.ask_key-key.ensures
-        ∙ sym (place_paired c.args.ordinal c.args.cell c.self.inside.index.keys c.self.inside.asked.items c.self.invariant.1))
+    ∙ sym (place_paired c.args.ordinal c.args.cell c.self.inside.index.keys c.self.inside.asked.items c.self.invariant.1))
 
 pub returns-else-i-len-clause-place : goal.returns-else-i-len-clause-place
 returns-else-i-len-clause-place c =
     rw (← c.self.view_is) (c.find-i.ensures.place ∙ ap (λ k. place_of k c.self.inside.index.keys) c.ask_key-key.ensures
-        ∙ sym (place_paired c.args.ordinal c.args.cell c.self.inside.index.keys c.self.inside.asked.items c.self.invariant.1))
+    ∙ sym (place_paired c.args.ordinal c.args.cell c.self.inside.index.keys c.self.inside.asked.items c.self.invariant.1))

@@ -6,5 +6,7 @@ use Rattle.combining.proofs.asks.Asks.len.Goals as goal
 pub returns : goal.returns
 returns c =
     let x = c.self.inside in
-    record { length = rw (← c.self.view_is)
-        (c.len.ensures.length ∙ sym (length_paired ask_at x.index.keys x.asked.items c.self.invariant.1)) }
+    record {
+      length = rw (← c.self.view_is)
+          (c.len.ensures.length ∙ sym (length_paired ask_at x.index.keys x.asked.items c.self.invariant.1));
+    }

@@ -17,7 +17,7 @@ place-requires g c =
     let n : length xs ≡ length ks = c.self.invariant.1 in
     let l : c.loop-i.i < length ks = (let v = c.self.inside.asked.ok.0 in omega arith) in
     rw (c.cell_of.ensures, c.keys-keys.ensures.keys) (all_keys ask_at (IsAskBelow m.count) (λ k. k % 2 ^ 20 < m.count) (λ k x h. h) ks xs
-        c.loop-i.i n l (rw (← c.self.view_is) at c.requires.cells))
+    c.loop-i.i n l (rw (← c.self.view_is) at c.requires.cells))
 
 pub write_ask-n-requires : goal.write_ask-n-requires
 write_ask-n-requires g c =
@@ -32,11 +32,11 @@ write_ask-n-requires g c =
     let held = c.args.self.now.held in
     let x = c.index.result.now in
     let more : drop i held ≡ ask_at k x ∷ drop (i + 1) held =
-        rw (← c.self.view_is) (paired_more ask_at ks xs i k x n l p c.index.ensures) in
+    rw (← c.self.view_is) (paired_more ask_at ks xs i k x n l p c.index.ensures) in
     let yes : mine (ask_at k x) ≡ true =
-        eq-eqb _ _ (sym (c.place.ensures.part ∙ ap (g.M.AddressMap.shape c.args.map.now).part c.cell_of.ensures) ∙ c.if-place-part.true) in
+    eq-eqb _ _ (sym (c.place.ensures.part ∙ ap (g.M.AddressMap.shape c.args.map.now).part c.cell_of.ensures) ∙ c.if-place-part.true) in
     let r = pack_room words_of mine held i (ask_at k x) more (take c.loop-i.n c.loop-i.out) (packed words_of mine held)
-        c.loop-i.invariant.all c.loop-i.n yes (length-take-le c.loop-i.n c.loop-i.out c.loop-i.invariant.within) in
+    c.loop-i.invariant.all c.loop-i.n yes (length-take-le c.loop-i.n c.loop-i.out c.loop-i.invariant.within) in
     let w = ap length (words_for (g.M.AddressMap.shape c.args.map.now).part c.args.part held) in
     let long = c.requires.long in
     let q = c.loop-i.invariant.long in
@@ -58,12 +58,12 @@ loop-i-preserved g c =
       | then-place-part w ↦
           (let x = w.index.result.now in
           let more : drop i held ≡ ask_at k x ∷ drop (i + 1) held =
-              rw (← c.self.view_is) (paired_more ask_at ks xs i k x n l p w.index.ensures) in
+          rw (← c.self.view_is) (paired_more ask_at ks xs i k x n l p w.index.ensures) in
           let yes : mine (ask_at k x) ≡ true =
-              eq-eqb _ _ (sym (c.place.ensures.part ∙ ap (g.M.AddressMap.shape c.args.map.now).part c.cell_of.ensures)
-              ∙ w.if-place-part.true) in
+          eq-eqb _ _ (sym (c.place.ensures.part ∙ ap (g.M.AddressMap.shape c.args.map.now).part c.cell_of.ensures)
+          ∙ w.if-place-part.true) in
           let room = pack_room words_of mine held i (ask_at k x) more before (packed words_of mine held) c.loop-i.invariant.all c.loop-i.n
-              yes (length-take-le c.loop-i.n c.loop-i.out c.loop-i.invariant.within) in
+          yes (length-take-le c.loop-i.n c.loop-i.out c.loop-i.invariant.within) in
           let all = ap length (words_for (g.M.AddressMap.shape c.args.map.now).part c.args.part held) in
           rw (w.out-is, w.n-is)
           (record {
@@ -79,8 +79,8 @@ loop-i-preserved g c =
           (let there = item_at ask_at ks xs i k n l p in
           let more : drop i held ≡ ask_at k there.0 ∷ drop (i + 1) held = rw (← c.self.view_is) there.1 in
           let not_mine : mine (ask_at k there.0) ≡ false =
-              ne_eqb _ _ (λ e. w.if-place-part.false (c.place.ensures.part ∙ ap (g.M.AddressMap.shape c.args.map.now).part c.cell_of.ensures
-              ∙ e)) in
+          ne_eqb _ _ (λ e. w.if-place-part.false (c.place.ensures.part ∙ ap (g.M.AddressMap.shape c.args.map.now).part c.cell_of.ensures
+          ∙ e)) in
           rw (w.out-is, w.n-is)
           (record {
             within = c.loop-i.invariant.within;
@@ -96,7 +96,7 @@ returns-clause-words g c =
     let n = length_paired ask_at c.self.inside.index.keys c.self.inside.asked.items c.self.invariant.1 in
     let h = ap (λ (v : HeldAsks). length v.held) c.self.view_is in
     pack_end words_of (is_for at c.args.part) c.args.self.now.held c.loop-i.i _ _ (let v = c.self.inside.asked.ok.0 in
-        omega arith) c.loop-i.invariant.all ∙ sym (words_for at c.args.part c.args.self.now.held)
+    omega arith) c.loop-i.invariant.all ∙ sym (words_for at c.args.part c.args.self.now.held)
 
 pub returns-clause-count : goal.returns-clause-count
 returns-clause-count g c =

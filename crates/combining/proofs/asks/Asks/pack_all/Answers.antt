@@ -16,7 +16,7 @@ place-home-requires g c =
     let n : length xs ≡ length ks = c.self.invariant.1 in
     let l : c.loop-i.i < length ks = (let v = c.self.inside.asked.ok.0 in omega arith) in
     rw (c.cell_of.ensures, c.keys-keys.ensures.keys) (all_keys ask_at (IsAskBelow m.count) (λ k. k % 2 ^ 20 < m.count) (λ k x h. h) ks xs
-        c.loop-i.i n l (rw (← c.self.view_is) at c.requires.cells))
+    c.loop-i.i n l (rw (← c.self.view_is) at c.requires.cells))
 
 pub bounds-columns-home : goal.bounds-columns-home
 bounds-columns-home g c =
@@ -28,7 +28,7 @@ bounds-columns-home g c =
     let k = get_or c.keys-keys.result.now c.loop-i.i 0 in
     let below : k % 2 ^ 20 < m.count =
     rw c.keys-keys.ensures.keys (all_keys ask_at (IsAskBelow m.count) (λ k. k % 2 ^ 20 < m.count) (λ k x h. h) ks xs c.loop-i.i n l
-        (rw (← c.self.view_is) at c.requires.cells)) in
+    (rw (← c.self.view_is) at c.requires.cells)) in
     let part = (g.met.M.AddressMap.lawful c.args.map.now).part_below (k % 2 ^ 20) below in
     let long = as_long vec_capacity c.loop-i.columns c.args.columns.now c.loop-i.invariant.rooms in
     let is = c.place-home.ensures.part ∙ ap m.part c.cell_of.ensures in
@@ -48,14 +48,14 @@ push_ask-requires g c =
     let held = c.args.self.now.held in
     let x = c.index.result.now in
     let more : drop i held ≡ ask_at k x ∷ drop (i + 1) held =
-        rw (← c.self.view_is) (paired_more ask_at ks xs i k x n l p c.index.ensures) in
+    rw (← c.self.view_is) (paired_more ask_at ks xs i k x n l p c.index.ensures) in
     let row = c.loop-i.columns in
     let home = c.place-home.result.0 in
     let v = c.index-columns-home.result in
     let part : home ≡ m.part (k % 2 ^ 20) = c.place-home.ensures.part ∙ ap m.part c.cell_of.ensures in
     let below : k % 2 ^ 20 < m.count =
     rw c.keys-keys.ensures.keys (all_keys ask_at (IsAskBelow m.count) (λ k. k % 2 ^ 20 < m.count) (λ k x h. h) ks xs i n l
-        (rw (← c.self.view_is) at c.requires.cells)) in
+    (rw (← c.self.view_is) at c.requires.cells)) in
     let there : home < m.parts = rw part ((g.met.M.AddressMap.lawful c.args.map.now).part_below (k % 2 ^ 20) below) in
     let long = as_long vec_capacity row c.args.columns.now c.loop-i.invariant.rooms in
     let within : home < length row = (let all = c.requires.modules in omega (arith, there, long, all)) in
@@ -63,8 +63,8 @@ push_ask-requires g c =
     let all = packed_for words_of (λ (y : HeldAsk). m.part y.ask.cell) home held in
     let one = room_for_one words_of (λ (y : HeldAsk). m.part y.ask.cell) held i (ask_at k x) more (column (map (λ v. v.items) row) home) _
     (subst (λ j. column (map (λ v. v.items) row) home
-        ++ packed_for words_of (λ (y : HeldAsk). m.part y.ask.cell) j (drop i held) ≡ column (map (λ v. v.items) c.args.columns.now) home
-        ++ all) part
+    ++ packed_for words_of (λ (y : HeldAsk). m.part y.ask.cell) j (drop i held) ≡ column (map (λ v. v.items) c.args.columns.now) home
+    ++ all) part
     (c.loop-i.invariant.got home there)) in
     let same = ap length (words_for m.part home held) in
     let room = c.requires.room home there in
@@ -83,14 +83,14 @@ loop-i-preserved g c =
     let held = c.args.self.now.held in
     let x = c.index.result.now in
     let more : drop i held ≡ ask_at k x ∷ drop (i + 1) held =
-        rw (← c.self.view_is) (paired_more ask_at ks xs i k x n l p c.index.ensures) in
+    rw (← c.self.view_is) (paired_more ask_at ks xs i k x n l p c.index.ensures) in
     let row = c.loop-i.columns in
     let home = c.place-home.result.0 in
     let v = c.index-columns-home.result in
     let part : home ≡ m.part (k % 2 ^ 20) = c.place-home.ensures.part ∙ ap m.part c.cell_of.ensures in
     let below : k % 2 ^ 20 < m.count =
     rw c.keys-keys.ensures.keys (all_keys ask_at (IsAskBelow m.count) (λ k. k % 2 ^ 20 < m.count) (λ k x h. h) ks xs i n l
-        (rw (← c.self.view_is) at c.requires.cells)) in
+    (rw (← c.self.view_is) at c.requires.cells)) in
     let there : home < m.parts = rw part ((g.met.M.AddressMap.lawful c.args.map.now).part_below (k % 2 ^ 20) below) in
     let long = as_long vec_capacity row c.args.columns.now c.loop-i.invariant.rooms in
     let within : home < length row = (let all = c.requires.modules in omega (arith, there, long, all)) in
@@ -101,9 +101,9 @@ loop-i-preserved g c =
       rooms = rooms_stay row home v w within is (words_of (ask_at k x)) words c.push_ask.ensures.room ∙ c.loop-i.invariant.rooms;
       got = λ j low.
           one_more words_of (λ (y : HeldAsk). m.part y.ask.cell) held i (ask_at k x) more (map (λ v. v.items) row)
-              (map (λ v. v.items) (slice_set row home w))
+          (map (λ v. v.items) (slice_set row home w))
           (subst (λ j. column (map (λ v. v.items) (slice_set row home w)) j ≡ column (map (λ v. v.items) row) j
-              ++ words_of (ask_at k x)) part
+          ++ words_of (ask_at k x)) part
           (added_here row home v w within is (words_of (ask_at k x)) words))
           (λ j apart. others_stay row home v w within is (words_of (ask_at k x)) words j (λ e. apart (sym part ∙ e)))
           j _ (c.loop-i.invariant.got j low);

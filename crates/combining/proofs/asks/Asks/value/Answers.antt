@@ -15,8 +15,10 @@ returns-then-i-len c =
     let l : place_of key ks < length xs = (let v = c.self.inside.asked.ok.0 in omega arith) in
     let x = c.index.result.now in
     let fits : FitsSigned w64 x.value = search rules in
-    record { value = rw (← c.self.view_is)
-        (to_z-of_z w64 x.value fits ∙ value_here c.args.ordinal c.args.cell ks xs x n l (rw f at c.index.ensures)) }
+    record {
+      value = rw (← c.self.view_is)
+          (to_z-of_z w64 x.value fits ∙ value_here c.args.ordinal c.args.cell ks xs x n l (rw f at c.index.ensures));
+    }
 
 pub returns-else-i-len : goal.returns-else-i-len
 returns-else-i-len c =
@@ -25,5 +27,5 @@ returns-else-i-len c =
     let key = ask_key c.args.ordinal c.args.cell in
     let n : length xs ≡ length ks = c.self.invariant.1 in
     let l : length xs ≤ place_of key ks = (let f = c.find-i.ensures.place ∙ ap (λ k. place_of k ks) c.ask_key.ensures in let v =
-        c.self.inside.asked.ok.0 in omega arith) in
+    c.self.inside.asked.ok.0 in omega arith) in
     record { value = rw (← c.self.view_is) (value_nowhere c.args.ordinal c.args.cell ks xs n l) }

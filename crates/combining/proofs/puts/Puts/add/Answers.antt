@@ -43,7 +43,7 @@ returns-then-i-len-clause-held g c =
     let single = (g.R.WriteRule.combining c.args.rule.now).single in
     let s : c.single-entry.result ≡ e = c.single-entry.ensures
     ∙ ap (λ z. single z (to_z w64 (of_z w64 c.args.value))) (to_z-of_z w64 c.args.processor c.ranges.processor)
-        ∙ ap (single c.args.processor) (to_z-of_z w64 c.args.value c.ranges.value)
+    ∙ ap (single c.args.processor) (to_z-of_z w64 c.args.value c.ranges.value)
     ∙ ap (λ (k : Combining). k.single c.args.processor c.args.value) known in
     let f : c.find-i.result ≡ place_of c.args.cell ks = c.find-i.ensures.place in
     let n : length xs ≡ length ks = c.self.invariant.1 in
@@ -51,10 +51,10 @@ returns-then-i-len-clause-held g c =
     let x = c.index.result.now in
     let is = rw f at c.index.ensures in
     let joined : c.join.result ≡ (combining rule).join x e = c.join.ensures ∙ ap (λ (k : Combining). k.join x c.single-entry.result) known
-        ∙ ap ((combining rule).join x) s in
+    ∙ ap ((combining rule).join x) s in
     rw (f, ← c.self.view_is)
     (hold_at put_at (λ (x : CellPut). eqb x.cell c.args.cell) (λ (x : CellPut). put_at x.cell ((combining rule).join x.entry e))
-        (λ (x : Entry). (combining rule).join x e) c.args.cell e (λ k x. refl) (λ k x. refl) ks xs x c.join.result n l is joined)
+    (λ (x : Entry). (combining rule).join x e) c.args.cell e (λ k x. refl) (λ k x. refl) ks xs x c.join.result n l is joined)
 
 pub returns-else-i-len-clause-held : goal.returns-else-i-len-clause-held
 returns-else-i-len-clause-held g c =
@@ -67,11 +67,11 @@ returns-else-i-len-clause-held g c =
     let single = (g.R.WriteRule.combining c.args.rule.now).single in
     let s : c.single-entry.result ≡ e = c.single-entry.ensures
     ∙ ap (λ z. single z (to_z w64 (of_z w64 c.args.value))) (to_z-of_z w64 c.args.processor c.ranges.processor)
-        ∙ ap (single c.args.processor) (to_z-of_z w64 c.args.value c.ranges.value)
+    ∙ ap (single c.args.processor) (to_z-of_z w64 c.args.value c.ranges.value)
     ∙ ap (λ (k : Combining). k.single c.args.processor c.args.value) known in
     let n : length xs ≡ length ks = c.self.invariant.1 in
     let b = place_bound c.args.cell ks in
     let p : place_of c.args.cell ks ≡ length ks = (let v = c.self.inside.entries.ok.0 in let f = c.find-i.ensures.place in omega arith) in
     rw (c.push.ensures.keys, c.push_reserved.ensures.items, s, ← c.self.view_is)
     (hold_new put_at (λ (x : CellPut). eqb x.cell c.args.cell) (λ (x : CellPut). put_at x.cell ((combining rule).join x.entry e))
-        (λ (x : Entry). (combining rule).join x e) c.args.cell e (λ k x. refl) (λ k x. refl) ks xs n p)
+    (λ (x : Entry). (combining rule).join x e) c.args.cell e (λ k x. refl) (λ k x. refl) ks xs n p)

@@ -20,7 +20,7 @@ place-requires g c =
     let n : length xs ≡ length ks = c.self.invariant.1 in
     let l : c.loop-i.i < length ks = (let v = c.self.inside.entries.ok.0 in omega arith) in
     rw c.keys-keys.ensures.keys (all_keys put_at (IsPutBelow m.count) (λ k. k < m.count) (λ k x h. h) ks xs c.loop-i.i n l
-        (rw (← c.self.view_is) at c.requires.cells))
+    (rw (← c.self.view_is) at c.requires.cells))
 
 pub write_put-n-requires-clause-room : goal.write_put-n-requires-clause-room
 write_put-n-requires-clause-room g c =
@@ -36,11 +36,11 @@ write_put-n-requires-clause-room g c =
     let held = c.args.self.now.held in
     let x = c.index.result.now in
     let more : drop i held ≡ put_at k x ∷ drop (i + 1) held =
-        rw (← c.self.view_is) (paired_more put_at ks xs i k x n l p c.index.ensures) in
+    rw (← c.self.view_is) (paired_more put_at ks xs i k x n l p c.index.ensures) in
     let yes : mine (put_at k x) ≡ true = eq-eqb _ _ (sym c.place.ensures.part ∙ c.if-place-part.true) in
     let before = take c.loop-i.n c.loop-i.out in
     let r = pack_room (put_words rule) mine held i (put_at k x) more before (packed_puts rule (g.M.AddressMap.shape c.args.map.now).part
-        c.args.part held) c.loop-i.invariant.all c.loop-i.n yes (length-take-le c.loop-i.n c.loop-i.out c.loop-i.invariant.within) in
+    c.args.part held) c.loop-i.invariant.all c.loop-i.n yes (length-take-le c.loop-i.n c.loop-i.out c.loop-i.invariant.within) in
     let w = put_long rule (put_at k x) in
     omega arith
 
@@ -76,11 +76,11 @@ loop-i-preserved g c =
       | then-place-part w ↦
           (let x = w.index.result.now in
           let more : drop i held ≡ put_at k x ∷ drop (i + 1) held =
-              rw (← c.self.view_is) (paired_more put_at ks xs i k x n l p w.index.ensures) in
+          rw (← c.self.view_is) (paired_more put_at ks xs i k x n l p w.index.ensures) in
           let yes : mine (put_at k x) ≡ true = eq-eqb _ _ (sym c.place.ensures.part ∙ w.if-place-part.true) in
           let room = pack_room (put_words rule) mine held i (put_at k x) more before
-              (packed_puts rule (g.M.AddressMap.shape c.args.map.now).part c.args.part held) c.loop-i.invariant.all c.loop-i.n yes
-              (length-take-le c.loop-i.n c.loop-i.out c.loop-i.invariant.within) in
+          (packed_puts rule (g.M.AddressMap.shape c.args.map.now).part c.args.part held) c.loop-i.invariant.all c.loop-i.n yes
+          (length-take-le c.loop-i.n c.loop-i.out c.loop-i.invariant.within) in
           let long = put_long rule (put_at k x) in
           rw (w.out-is, w.n-is)
           (record {
@@ -112,7 +112,7 @@ returns-clause-words g c =
     let n = length_paired put_at c.self.inside.index.keys c.self.inside.entries.items c.self.invariant.1 in
     let h = ap (λ (v : HeldPuts). length v.held) c.self.view_is in
     pack_end (put_words rule) mine c.args.self.now.held c.loop-i.i _ _ (let v = c.self.inside.entries.ok.0 in
-        omega arith) c.loop-i.invariant.all
+    omega arith) c.loop-i.invariant.all
 
 pub returns-clause-count : goal.returns-clause-count
 returns-clause-count g c =

@@ -18,7 +18,7 @@ place-home-requires g c =
     let n : length xs ≡ length ks = c.self.invariant.1 in
     let l : c.loop-i.i < length ks = (let v = c.self.inside.entries.ok.0 in omega arith) in
     rw c.keys-keys.ensures.keys (all_keys put_at (IsPutBelow m.count) (λ k. k < m.count) (λ k x h. h) ks xs c.loop-i.i n l
-        (rw (← c.self.view_is) at c.requires.cells))
+    (rw (← c.self.view_is) at c.requires.cells))
 
 pub bounds-columns-home : goal.bounds-columns-home
 bounds-columns-home g c =
@@ -29,7 +29,7 @@ bounds-columns-home g c =
     let l : c.loop-i.i < length ks = (let v = c.self.inside.entries.ok.0 in omega arith) in
     let below : get_or c.keys-keys.result.now c.loop-i.i 0 < m.count =
     rw c.keys-keys.ensures.keys (all_keys put_at (IsPutBelow m.count) (λ k. k < m.count) (λ k x h. h) ks xs c.loop-i.i n l
-        (rw (← c.self.view_is) at c.requires.cells)) in
+    (rw (← c.self.view_is) at c.requires.cells)) in
     let part = (g.met.M.AddressMap.lawful c.args.map.now).part_below (get_or c.keys-keys.result.now c.loop-i.i 0) below in
     let long = as_long vec_capacity c.loop-i.columns c.args.columns.now c.loop-i.invariant.rooms in
     let is = c.place-home.ensures.part in
@@ -50,23 +50,23 @@ push_put-requires-clause-room g c =
     let held = c.args.self.now.held in
     let x = c.index.result.now in
     let more : drop i held ≡ put_at k x ∷ drop (i + 1) held =
-        rw (← c.self.view_is) (paired_more put_at ks xs i k x n l p c.index.ensures) in
+    rw (← c.self.view_is) (paired_more put_at ks xs i k x n l p c.index.ensures) in
     let row = c.loop-i.columns in
     let home = c.place-home.result.0 in
     let v = c.index-columns-home.result in
     let part : home ≡ m.part k = c.place-home.ensures.part in
     let below : k < m.count =
     rw c.keys-keys.ensures.keys (all_keys put_at (IsPutBelow m.count) (λ k. k < m.count) (λ k x h. h) ks xs i n l
-        (rw (← c.self.view_is) at c.requires.cells)) in
+    (rw (← c.self.view_is) at c.requires.cells)) in
     let there : home < m.parts = rw part ((g.met.M.AddressMap.lawful c.args.map.now).part_below k below) in
     let long = as_long vec_capacity row c.args.columns.now c.loop-i.invariant.rooms in
     let within : home < length row = (let all = c.requires.modules in omega (arith, there, long, all)) in
     let is : v ≡ get_or row home v = c.index-columns-home.is in
     let all = packed_puts rule m.part home held in
     let one = room_for_one (put_words rule) (λ (y : CellPut). m.part y.cell) held i (put_at k x) more (column (map (λ v. v.items) row) home)
-        _
+    _
     (subst (λ j. column (map (λ v. v.items) row) home
-        ++ packed_puts rule m.part j (drop i held) ≡ column (map (λ v. v.items) c.args.columns.now) home ++ all) part
+    ++ packed_puts rule m.part j (drop i held) ≡ column (map (λ v. v.items) c.args.columns.now) home ++ all) part
     (c.loop-i.invariant.got home there)) in
     let size = put_long rule (put_at k x) in
     room_here row c.args.columns.now home (put_length rule) v all within is c.loop-i.invariant.rooms (c.requires.room home there)
@@ -99,14 +99,14 @@ loop-i-preserved g c =
     let held = c.args.self.now.held in
     let x = c.index.result.now in
     let more : drop i held ≡ put_at k x ∷ drop (i + 1) held =
-        rw (← c.self.view_is) (paired_more put_at ks xs i k x n l p c.index.ensures) in
+    rw (← c.self.view_is) (paired_more put_at ks xs i k x n l p c.index.ensures) in
     let row = c.loop-i.columns in
     let home = c.place-home.result.0 in
     let v = c.index-columns-home.result in
     let part : home ≡ m.part k = c.place-home.ensures.part in
     let below : k < m.count =
     rw c.keys-keys.ensures.keys (all_keys put_at (IsPutBelow m.count) (λ k. k < m.count) (λ k x h. h) ks xs i n l
-        (rw (← c.self.view_is) at c.requires.cells)) in
+    (rw (← c.self.view_is) at c.requires.cells)) in
     let there : home < m.parts = rw part ((g.met.M.AddressMap.lawful c.args.map.now).part_below k below) in
     let long = as_long vec_capacity row c.args.columns.now c.loop-i.invariant.rooms in
     let within : home < length row = (let all = c.requires.modules in omega (arith, there, long, all)) in
@@ -117,9 +117,9 @@ loop-i-preserved g c =
       rooms = rooms_stay row home v w within is (put_words rule (put_at k x)) words c.push_put.ensures.room ∙ c.loop-i.invariant.rooms;
       got = λ j low.
           one_more (put_words rule) (λ (y : CellPut). m.part y.cell) held i (put_at k x) more (map (λ v. v.items) row)
-              (map (λ v. v.items) (slice_set row home w))
+          (map (λ v. v.items) (slice_set row home w))
           (subst (λ j. column (map (λ v. v.items) (slice_set row home w)) j ≡ column (map (λ v. v.items) row) j
-              ++ put_words rule (put_at k x)) part
+          ++ put_words rule (put_at k x)) part
           (added_here row home v w within is (put_words rule (put_at k x)) words))
           (λ j apart. others_stay row home v w within is (put_words rule (put_at k x)) words j (λ e. apart (sym part ∙ e)))
           j _ (c.loop-i.invariant.got j low);

@@ -13,6 +13,7 @@ use Rattle.exchange_arena.proofs.deed.Deed.TheLaw.Statement.{statement}
 pub shares : (A : RattleType) (g : Ghosts A.Denot) (P : Laws A) → statement A g P
 shares A g P =
     of_Lends (C.struct A g) (C.the_codes A.Denot A.coded (marker.the_row A).coded) (C.the_heap A g) (C.the_lent A g)
-        (λ d p. nothing_shr_laws)
-    (copy_shared (marker.the_field A) (field_copy (marker.the_type A) tt),
-        tt) (λ M 𝓤 𝓛 d p. Lends-nothing 𝓛 (C.the_heap A g d) (C.the_row A g).lives)
+    (λ d p. nothing_shr_laws) (
+      copy_shared (marker.the_field A) (field_copy (marker.the_type A) tt),
+      tt,
+    ) (λ M 𝓤 𝓛 d p. Lends-nothing 𝓛 (C.the_heap A g d) (C.the_row A g).lives)

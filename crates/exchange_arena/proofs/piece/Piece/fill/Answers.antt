@@ -12,5 +12,10 @@ returns-clause-filled c =
     let back : drop 4 c.write.new.run.items ≡ ws = ap (drop 4) run.items ∙ drop_at h ws 4 (search rules) in
     let base = run.base ∙ ap (λ (x : PieceState). x.block) same in
     let place = ap (λ (j : ℕ). j / stride c.self.inside.room) run.start ∙ ap (λ (x : PieceState). x.place) same in
-    let room = ap (λ (x : PieceState). x.room) same in λ i. record { header = front i; words = back i; block = base i; place = place i;
-        room = room i }
+    let room = ap (λ (x : PieceState). x.room) same in λ i. record {
+      header = front i;
+      words = back i;
+      block = base i;
+      place = place i;
+      room = room i;
+    }

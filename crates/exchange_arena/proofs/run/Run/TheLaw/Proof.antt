@@ -24,5 +24,5 @@ shares = of_Lends C.struct C.the_codes C.the_heap C.the_lent
     (λ M 𝓤 𝓛 d p.
     let n = length d.items in let l = (C.the_row).lives in
     Lends-first 𝓛 (lies_at (Array u64 n) full_share d.ptr d.items) (room_for (words (d.room - n)) (d.ptr +ₚ (n * 8)))
-        (lent_at (Array u64 n) d.ptr d.items) l
+    (lent_at (Array u64 n) d.ptr d.items) l
     (Lends-lies 𝓛 (Array u64 n) l d.ptr d.items (Shares-Array 𝓛 u64 tt n l ((uint_Copied 𝓛 w64).shares full_share l) d.items)))

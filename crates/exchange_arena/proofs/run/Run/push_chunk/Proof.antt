@@ -51,59 +51,79 @@ module _ (N : ℕ) where
   En₀ = ended (number N)
 
   abbrev stayed : Stays En₀.signature.params En₀.kept
-  stayed = (stay_ref (0 ∷ []) tt (plain (λ _. run.the_row)),
-      (stay_dropped (plain (λ _. usize)) En₀.kept.1.0, (stay_dropped (plain (λ _. Chunk)) En₀.kept.1.1.0, tt)))
+  stayed = (
+    stay_ref (0 ∷ []) tt (plain (λ _. run.the_row)),
+    (stay_dropped (plain (λ _. usize)) En₀.kept.1.0, (stay_dropped (plain (λ _. Chunk)) En₀.kept.1.1.0, tt)),
+  )
 
 pub push_chunk_spec : {M : Type 1} → statement M
 push_chunk_spec 𝓤 𝓛 𝓜 𝓡 wired N number_fits =
     let H = 𝓛.H in let c = clauses (number N) 𝓛 𝓜.mem 𝓡.returns in let fn : Fn = inst_fn (args N) code.function in let Row = run.the_row in
     let C = (tables 𝓤 H 𝓜 𝓡 𝓡.env).C in let Λ = (tables 𝓤 H 𝓜 𝓡 𝓡.env).Λ in let W = walk_of 𝓛 (En₀ N) (stayed N) c in
-    proved 𝓛 (En₀ N) (stayed N) c 𝓜 𝓡
-    (Goes-ref 𝓛 2 0 tt (plain (λ _. Row)), (Goes-dropped 𝓛 2 (plain (λ _. usize)) (En₀ N).kept.1.0 (λ κs x f. refl),
-        (Goes-dropped 𝓛 2 (plain (λ _. Chunk N)) (En₀ N).kept.1.1.0 (λ κs x f. refl), tt)))
+    proved 𝓛 (En₀ N) (stayed N) c 𝓜 𝓡 (
+      Goes-ref 𝓛 2 0 tt (plain (λ _. Row)),
+      (
+        Goes-dropped 𝓛 2 (plain (λ _. usize)) (En₀ N).kept.1.0 (λ κs x f. refl),
+        (Goes-dropped 𝓛 2 (plain (λ _. Chunk N)) (En₀ N).kept.1.1.0 (λ κs x f. refl), tt),
+      ),
+    )
     (#self (args N)) fn (code.unfolded 𝓤 H 𝓜 𝓡 wired (number N, tt)) (λ κs. (mut_vals, (uint_vals w64, (array_vals (uint_vals w64), tt))))
-        (λ κs. (mut_Tells (named 0) κs.0 Row, (uint_Tells w64, (Array-Tells u64 (uint_vals w64) (uint_Tells w64) N, tt))))
-        (λ κs qs bounds a g are.
+    (λ κs. (mut_Tells (named 0) κs.0 Row, (uint_Tells w64, (Array-Tells u64 (uint_vals w64) (uint_Tells w64) N, tt))))
+    (λ κs qs bounds a g are.
     let b = a.0.ref_ptr.0 in let o = a.0.ref_ptr.1 in let h = a.0.now in let n = a.1.0 in let ys = a.1.1.0 in let k = length h.items in
     let y : W.Ghost = ((κs, qs, bounds, a, (mut_vals a.0, (uint_vals w64 n, (array_vals (uint_vals w64) ys, tt)))), g) in
     let v : Val = array_val (map (λ (x : ℕ). vint w64 x) ys) in let typed =
-        (Array-Typed u64 (λ x vs p. subst (Typed (ty_int w64 ∷ [])) (sym p.0) ((tt, record { fits = p.1 }), tt)) N ys (v
-        ∷ []) are.1.1.0).0 in let count : length ys ≡ N = are.1.1.0.1.0.1 in
+    (Array-Typed u64 (λ x vs p. subst (Typed (ty_int w64 ∷ [])) (sym p.0) ((tt, record { fits = p.1 }), tt)) N ys (v
+    ∷ []) are.1.1.0).0 in let count : length ys ≡ N = are.1.1.0.1.0.1 in
     let Asked : Type 0 = (n ≡ k) × (n + N ≤ h.room) in
     qed 𝓛 (((‵ (flft κs.0 qs.0) ⊛ ‵ (flft κs.1.0 qs.1.0) ⊛ ‵ ftrue) ⊛ ‵ (owns (types_at (En₀ N).signature.params κs) a y.0.4))
-        ∷ (raw (fact 𝓤 (κs.1.0 ⊑ [])) ⊛ raw (fact 𝓤 (N * 8 < 2 ^ 63)) ⊛ raw (fact 𝓤 Asked)) ∷ []) ∵
+    ∷ (raw (fact 𝓤 (κs.1.0 ⊑ [])) ⊛ raw (fact 𝓤 (N * 8 < 2 ^ 63)) ⊛ raw (fact 𝓤 Asked)) ∷ []) ∵
     move ! (1 ∷ []) $ split ! $ drop ! $ split ! $ drop ! $ heard ! Asked (λ asked. split ! $ split ! $ move ! (2
-        ∷ []) $ fsplit ! $ move ! (1 ∷ []) $ fsplit ! $ drop ! $ fsplit ! $ keep ! (2 ∷ 3 ∷ 0 ∷ 4 ∷ []) $
+    ∷ []) $ fsplit ! $ move ! (1 ∷ []) $ fsplit ! $ drop ! $ fsplit ! $ keep ! (2 ∷ 3 ∷ 0 ∷ 4 ∷ []) $
     enter ! _ _ _ _ _ $ alloc_all ! (λ l. pass_all ! refl ((tt, tt), ((tt, record { fits = are.1.0.1 }), (typed, tt))) $ let En : Env 𝓤 H =
-        env fn.locals l in
+    env fn.locals l in
     fsplit3 ! $ move ! (1 ∷ 2 ∷ 3 ∷ []) $ opens ! tt Row b o (λ us.
     move ! (1 ∷ []) $ peeks ! Row _ (shows 𝓛 Row) h us (λ is. fsplit ! $ move ! (1 ∷ []) $
     in_a_block ! h.ptr (λ p. run_owns p h.room h.items) (none_at_null 𝓛 h.room h.items) (λ b' o' e.
     let byte : n * 8 < 2 ^ 64 = omega (arith, h.small, asked.1) in
     let word = word_told h.ptr us is.0 ∙ ap (λ (p : Ptr). word_val p ∷ []) e in
     let Cell = λ (ws : List Val). ‵ (cell_at full_share Row.mir ws b o) in
-    let new : Row.Denot = record { ptr = h.ptr; base = h.base; start = h.start; room = h.room; items = h.items ++ ys; placed = h.placed;
-        fits = omega (arith, length-append h.items ys, count, asked.0, asked.1); small = h.small } in
+    let new : Row.Denot = record {
+      ptr = h.ptr;
+      base = h.base;
+      start = h.start;
+      room = h.room;
+      items = h.items ++ ys;
+      placed = h.placed;
+      fits = omega (arith, length-append h.items ys, count, asked.0, asked.1);
+      small = h.small;
+    } in
     let within : k + N ≤ h.room = omega (arith, asked.0, asked.1) in
     use1 𝓛 (‵ (froom (words N) b' (k * 8 + o')) ⊛ ‵ (Around 𝓛 b' h.items N h.room o')) (chunk_out 𝓛 b' h.items N h.room o' within) $
-        split ! $
+    split ! $
     rewrite ! 0 (λ (j : ℕ). ‵ (froom (words N) b' (j * 8 + o'))) (sym asked.0) refl $ rewrite ! 3 Cell word refl $
     -- [the room; the other words; what the fields own; the struct's cell; the open borrow, in three entries]
-    first ! $ blocks ! $ sets ! (of_opd ! (load ! (through ! refl (fld ! refl (stop !))) (look_in ! 3 (sub ! 0 refl (whole !))))) refl (tt,
-        tt) $
+    first ! $ blocks ! $ sets ! (of_opd ! (load ! (through ! refl (fld ! refl (stop !))) (look_in ! 3 (sub ! 0 refl (whole !))))) refl (
+      tt,
+      tt,
+    ) $
     sets ! (bin ! (get ! refl) (lit ! tt) (record { fits = byte })) refl (tt, record { fits = byte }) $ sets !
-        (bin ! (get ! refl) (get ! refl) tt) refl (tt, tt) $ sets ! (of_opd ! (get ! refl)) refl (tt, tt) $
+    (bin ! (get ! refl) (get ! refl) tt) refl (tt, tt) $ sets ! (of_opd ! (get ! refl)) refl (tt, tt) $
     assigns_last ! (of_opd ! (get ! refl)) (through ! refl (stop !)) (init ! 0 refl typed) $
     exec ! C Λ En (after 1 fn.body) (at_ret En (W.post y)) $ sets ! (of_opd ! (unit_lit !)) refl (tt, tt) $
     move ! (0 ∷ 8 ∷ []) $ use2 𝓛 (‵ (part_at (Array u64 N) full_share ys b' (n * 8 + o')))
-        (part_in 𝓛 (Array u64 N) refl full_share ys b' (n * 8 + o') v) $
+    (part_in 𝓛 (Array u64 N) refl full_share ys b' (n * 8 + o') v) $
     rewrite ! 0 (λ (j : ℕ). ‵ (part_at (Array u64 N) full_share ys b' (j * 8 + o'))) asked.0 refl $
     use2 𝓛 (‵ (run_owns (block_ptr b' o') h.room (h.items ++ ys))) (chunk_in 𝓛 b' h.items ys N h.room o' count within) $
     rewrite ! 0 (λ (p : Ptr). ‵ (run_owns p h.room (h.items ++ ys))) (sym e) refl $ rewrite ! 2 Cell (sym word) refl $
     move ! (1 ∷ []) $ fjoin ! $ move ! (1 ∷ []) $ closes ! tt Row new us b o $
     returns ! (look_at ! 0 refl) $ free_all ! refl $ move ! (3 ∷ []) $
-    suffices ! _ (ends_at 𝓛 (En₀ N) (stayed N) c y vunit tt (new, (tt, (tt, tt))) (tt, (tt, (tt, tt)))) $ says ! (record { base = refl;
-        start = refl; room = refl; items = refl }) $
+    suffices ! _ (ends_at 𝓛 (En₀ N) (stayed N) c y vunit tt (new, (tt, (tt, tt))) (tt, (tt, (tt, tt)))) $ says ! (record {
+      base = refl;
+      start = refl;
+      room = refl;
+      items = refl;
+    }) $
     fjoin3 ! $ nothing ! $ nothing ! $ fjoin ! $ nothing ! $ fjoin ! $ move ! (1 ∷ 0 ∷ []) $ fjoin ! $ move ! (1 ∷ 2
-        ∷ []) $ join ! $ frame ! $ frame ! $
+    ∷ []) $ join ! $ frame ! $ frame ! $
     feq_i ! (List Val) (vunit ∷ []) _ refl $ done !))))))

@@ -4,5 +4,7 @@ use Rattle.pram_check.proofs.BoundedPrograms.{bounded}
 use Rattle.pram_check.proofs.program.Program.bounded.Goals as goal
 
 pub returns : goal.returns
-returns c = record { bounded =
-    subst IsBounded c.self.view_is (bounded _ c.token_count-count.ensures.stands c.self.invariant.0 c.self.invariant.1) }
+returns c = record {
+  bounded =
+      subst IsBounded c.self.view_is (bounded _ c.token_count-count.ensures.stands c.self.invariant.0 c.self.invariant.1);
+}

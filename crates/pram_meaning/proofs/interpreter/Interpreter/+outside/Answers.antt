@@ -17,13 +17,13 @@ pub run_statement-returns-in-Pardo-clause-value : goal.run_statement-returns-in-
 run_statement-returns-in-Pardo-clause-value t c =
     let p = c.in-Pardo in
     pardo_arm c.args.self.now.program.now c.args.self.now.bound p.line p.locals c.args.s.now p.low p.high p.body (state_of c.args.run.now)
-        (state_of c.run_pardo.new.run) c.run_pardo.result p.is c.run_pardo.ensures.value
+    (state_of c.run_pardo.new.run) c.run_pardo.result p.is c.run_pardo.ensures.value
 
 pub run_statement-returns-in-For-clause-value : goal.run_statement-returns-in-For-clause-value
 run_statement-returns-in-For-clause-value t c =
     let p = c.in-For in
     for_arm c.args.self.now.program.now c.args.self.now.bound p.line p.variable c.args.s.now p.low p.high p.body (state_of c.args.run.now)
-        (state_of c.run_for.new.run) c.run_for.result p.is c.run_for.ensures.value
+    (state_of c.run_for.new.run) c.run_for.result p.is c.run_for.ensures.value
 
 pub run_turns-turns-preserved : goal.run_turns-turns-preserved
 run_turns-turns-preserved t c =
@@ -32,7 +32,7 @@ run_turns-turns-preserved t c =
     let d = c.in_ok-run_block.ensures.grows in
     let e : c.set_next.new.run.count ≡ c.begin.new.run.count = ap (λ (m : State). m.count) c.set_next.ensures in
     turn_goes c.args.self.now.program.now c.args.self.now.bound c.args.variable c.args.body.now.items c.args.numbers.now.next
-        c.args.numbers.now.last c.turns.left.next c.turns.left.last c.advance.new.self.next c.advance.new.self.last
+    c.args.numbers.now.last c.turns.left.next c.turns.left.last c.advance.new.self.next c.advance.new.self.last
     (state_of c.args.run.now) (state_of c.turns.run) (state_of c.begin.new.run) (state_of c.set_next.new.run) (state_of c.run_block.new.run)
     c.turns.invariant c.in_ok-begin.ensures.counts c.set_next.ensures c.in_ok-run_block.ensures.value c.advance.ensures.next
-        c.advance.ensures.last (c.is_at_end.ensures.more c.if-is_at_end.false) (omega (arith, a, b, d, e))
+    c.advance.ensures.last (c.is_at_end.ensures.more c.if-is_at_end.false) (omega (arith, a, b, d, e))

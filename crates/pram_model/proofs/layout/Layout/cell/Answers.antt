@@ -11,7 +11,7 @@ returns-in-None c =
     let nothing : slice_get c.self.inside.entries.items c.args.entry ≡ None =
     ap (λ l. slice_get l c.args.entry) (sym c.as_slice.ensures.value) ∙ sym c.in-None.ensures in
     sym (no_cell 0 c.self.inside.entries.items c.args.entry c.args.subscript nothing)
-        ∙ ap (λ l. cell_of l c.args.entry c.args.subscript) c.self.view_is
+    ∙ ap (λ l. cell_of l c.args.entry c.args.subscript) c.self.view_is
 
 pub returns-in-Some : goal.returns-in-Some
 returns-in-Some c =
@@ -22,5 +22,5 @@ returns-in-Some c =
     c.cell.ensures ∙ ap (λ z. cell_at range.first range.low range.high z) (to_z-of_z w64 c.args.subscript c.ranges.subscript) in
     same
     ∙ (sym (found_cell 0 c.self.inside.entries.items c.self.inside.cells c.args.entry c.args.subscript c.in-Some.entry.now
-        c.self.invariant.0 there)
+    c.self.invariant.0 there)
     ∙ ap (λ l. cell_of l c.args.entry c.args.subscript) c.self.view_is)

@@ -9,4 +9,4 @@ abbrev pub invariant-statements-loop-statement : goal.invariant-statements-loop-
 invariant-statements-loop-statement g l =
     (l.self.out.ghost_name ≡ l.fn.self.out.ghost_name)
     × PrintedTo (λ xs. spelling (block_tokens xs)) (printing (g.W.Out.state l.fn.self.out.now) l.fn.self.failed)
-        (printing (g.W.Out.state l.self.out.now) l.self.failed) l.statements l.statement-index
+    (printing (g.W.Out.state l.self.out.now) l.self.failed) l.statements l.statement-index

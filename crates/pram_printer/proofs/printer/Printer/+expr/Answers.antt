@@ -17,12 +17,12 @@ expr-returns-in-Paren-clause-prints g t c =
 pub expr-returns-in-Prefix-clause-prints : goal.expr-returns-in-Prefix-clause-prints
 expr-returns-in-Prefix-clause-prints g t c =
     printed_as (as_prefix c.args.e.now c.in-Prefix.prefix _ _ c.in-Prefix.is c.get-in-Prefix.ensures)
-        (prints_then c.prefix.ensures.prints c.expr-in-Prefix.ensures.prints)
+    (prints_then c.prefix.ensures.prints c.expr-in-Prefix.ensures.prints)
 
 pub expr-returns-in-Chain-clause-prints : goal.expr-returns-in-Chain-clause-prints
 expr-returns-in-Chain-clause-prints g t c =
     printed_as (as_chain c.args.e.now _ _ _ _ c.in-Chain.is c.get-in-Chain.ensures c.as_slice.ensures)
-        (prints_then c.expr-in-Chain.ensures.prints c.steps.ensures.prints)
+    (prints_then c.expr-in-Chain.ensures.prints c.steps.ensures.prints)
 
 pub steps-loop-step-preserved : goal.steps-loop-step-preserved
 steps-loop-step-preserved g t c = (

@@ -11,5 +11,5 @@ loop-declaration-preserved g c = (
   printed_more (λ xs. spelling (declarations_tokens xs)) (λ x. spelling (declaration_tokens x))
       (λ y ys. spelling-append (declaration_tokens y) (declarations_tokens ys)) _ _ _
       c.args.declarations.now c.loop-declaration.declaration-index c.declaration-item.result c.loop-declaration.invariant.1
-          c.loop-declaration-test.true c.declaration-item.is c.declaration.ensures.prints,
+      c.loop-declaration-test.true c.declaration-item.is c.declaration.ensures.prints,
 )

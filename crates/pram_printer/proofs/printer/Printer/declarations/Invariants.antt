@@ -9,4 +9,4 @@ abbrev pub invariant-loop-declaration : goal.invariant-loop-declaration
 invariant-loop-declaration g l =
     (l.self.out.ghost_name ≡ l.fn.self.out.ghost_name)
     × PrintedTo (λ xs. spelling (declarations_tokens xs)) (printing (g.W.Out.state l.fn.self.out.now) l.fn.self.failed)
-        (printing (g.W.Out.state l.self.out.now) l.self.failed) l.declarations l.declaration-index
+    (printing (g.W.Out.state l.self.out.now) l.self.failed) l.declarations l.declaration-index

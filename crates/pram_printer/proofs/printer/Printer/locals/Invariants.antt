@@ -9,4 +9,4 @@ abbrev pub invariant-loop-local : goal.invariant-loop-local
 invariant-loop-local g l =
     (l.self.out.ghost_name ≡ l.fn.self.out.ghost_name)
     × PrintedTo (λ xs. spelling (local_tokens xs)) (printing (g.W.Out.state l.fn.self.out.now) l.fn.self.failed)
-        (printing (g.W.Out.state l.self.out.now) l.self.failed) l.locals l.local-index
+    (printing (g.W.Out.state l.self.out.now) l.self.failed) l.locals l.local-index

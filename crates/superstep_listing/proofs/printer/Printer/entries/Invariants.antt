@@ -8,4 +8,4 @@ abbrev pub invariant-loop-i : goal.invariant-loop-i
 invariant-loop-i g l =
     (l.self.out.ghost_name ≡ l.fn.self.out.ghost_name)
     × PrintedTo (λ xs. ended (map entry_line xs)) (printing (g.W.Out.state l.fn.self.out.now) l.fn.self.failed)
-        (printing (g.W.Out.state l.self.out.now) l.self.failed) l.layout l.i
+    (printing (g.W.Out.state l.self.out.now) l.self.failed) l.layout l.i

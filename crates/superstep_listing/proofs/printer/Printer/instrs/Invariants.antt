@@ -7,4 +7,4 @@ abbrev pub invariant-loop-place : goal.invariant-loop-place
 invariant-loop-place g l =
     (l.self.out.ghost_name ≡ l.fn.self.out.ghost_name)
     × InstrsTo (printing (g.W.Out.state l.fn.self.out.now) l.fn.self.failed) (printing (g.W.Out.state l.self.out.now) l.self.failed)
-        l.instrs l.place
+    l.instrs l.place

@@ -17,6 +17,6 @@ loop-number-preserved g c = (
       let fits : SFits w64 (get_or xs i (pos 0)) = search rules in
       let number = printed_as (ap signed_decimal (sym (to_z-of_z fits))) c.number.ensures.prints in
       printed_more spaced (λ z. 32 ∷ signed_decimal z) (λ y ys. refl) _ _ _ xs i (get_or xs i (pos 0)) c.loop-number.invariant.1
-          c.loop-number-test.true
+      c.loop-number-test.true
       (get_or_default xs i (pos 0) _ c.loop-number-test.true) (prints_then c.text.ensures.prints number),
 )

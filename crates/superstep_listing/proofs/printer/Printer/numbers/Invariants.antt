@@ -8,4 +8,4 @@ abbrev pub invariant-loop-number : goal.invariant-loop-number
 invariant-loop-number g l =
     (l.self.out.ghost_name ≡ l.fn.self.out.ghost_name)
     × PrintedTo spaced (printing (g.W.Out.state l.fn.self.out.now) l.fn.self.failed) (printing (g.W.Out.state l.self.out.now) l.self.failed)
-        l.numbers l.number-index
+    l.numbers l.number-index

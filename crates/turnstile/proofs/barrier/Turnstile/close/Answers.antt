@@ -15,22 +15,22 @@ load_new_seat-root-requires c = let t = c.self.inside in let inv = c.self.invari
 pub collect-requires-clause-laid : goal.collect-requires-clause-laid
 collect-requires-clause-laid c =
     let t = c.self.inside in let inv = c.self.invariant in let e = c.close_with.ensures in let root = c.take_all.new.root in let taken =
-        c.take_all.ensures.root in
+    c.take_all.ensures.root in
     let b = t.table.shared.key in let p : ℕ = t.workers in let ws = slots_items c.close_with.result.words in let ys =
-        slots_items c.close_with.result.slots in
+    slots_items c.close_with.result.slots in
     let end = subst (λ (k : ℕ). Final (Seen (Holds b k) root.id root.me.0) ws ys) inv.1 e.values.2 in
     let count = c.requires.seats.count ∙ ap (λ (s : TurnstileShape). s.workers) (sym c.self.view_is) in
     let same = inv.0 ∙ sym c.into_inner.ensures in
     subst (λ (z : TwoBlocks). Laid z (2 * z.side * z.side) ys) same
-        (subst (λ (n : ℕ). Laid b (2 * n * n) ys) (sym inv.1) (laid_out b p ws ys root.id root.me.0 c.args.seats.items taken.0 taken.1
-        (ap (λ z. z.0) taken.2) count end))
+    (subst (λ (n : ℕ). Laid b (2 * n * n) ys) (sym inv.1) (laid_out b p ws ys root.id root.me.0 c.args.seats.items taken.0 taken.1
+    (ap (λ z. z.0) taken.2) count end))
 
 pub returns-clause-phases : goal.returns-clause-phases
 returns-clause-phases c =
     let t = c.self.inside in let inv = c.self.invariant in let e = c.close_with.ensures in let root = c.take_all.new.root in let taken =
-        c.take_all.ensures.root in
+    c.take_all.ensures.root in
     let b = t.table.shared.key in let p : ℕ = t.workers in let ws = slots_items c.close_with.result.words in let ys =
-        slots_items c.close_with.result.slots in
+    slots_items c.close_with.result.slots in
     let end = subst (λ (k : ℕ). Final (Seen (Holds b k) root.id root.me.0) ws ys) inv.1 e.values.2 in
     let count = c.requires.seats.count ∙ ap (λ (s : TurnstileShape). s.workers) (sym c.self.view_is) in
     phases_same b p ws ys root.id root.me.0 c.args.seats.items taken.0 taken.1 (ap (λ z. z.0) taken.2) count end
@@ -38,21 +38,21 @@ returns-clause-phases c =
 pub returns-clause-exchanged : goal.returns-clause-exchanged
 returns-clause-exchanged c =
     let t = c.self.inside in let inv = c.self.invariant in let e = c.close_with.ensures in let root = c.take_all.new.root in let taken =
-        c.take_all.ensures.root in
+    c.take_all.ensures.root in
     let b = t.table.shared.key in let p : ℕ = t.workers in let ws = slots_items c.close_with.result.words in let ys =
-        slots_items c.close_with.result.slots in
+    slots_items c.close_with.result.slots in
     let end = subst (λ (k : ℕ). Final (Seen (Holds b k) root.id root.me.0) ws ys) inv.1 e.values.2 in
     let count = c.requires.seats.count ∙ ap (λ (s : TurnstileShape). s.workers) (sym c.self.view_is) in
     received_as_sent b p ws ys root.id root.me.0 c.args.seats.items taken.0 taken.1 (ap (λ z. z.0) taken.2) count end
     (workers_of b p ws ys root.id root.me.0 c.args.seats.items taken.0 taken.1 (ap (λ z. z.0) taken.2) count end t.table.shared.table_id
-        inv.2 (λ k r got. c.requires.seats.tables k r got ∙ ap (λ (s : TurnstileShape). s.table) (sym c.self.view_is)))
+    inv.2 (λ k r got. c.requires.seats.tables k r got ∙ ap (λ (s : TurnstileShape). s.table) (sym c.self.view_is)))
 
 pub returns-clause-whole : goal.returns-clause-whole
 returns-clause-whole c =
     let t = c.self.inside in let inv = c.self.invariant in let e = c.close_with.ensures in let root = c.take_all.new.root in let taken =
-        c.take_all.ensures.root in
+    c.take_all.ensures.root in
     let b = t.table.shared.key in let p : ℕ = t.workers in let ws = slots_items c.close_with.result.words in let ys =
-        slots_items c.close_with.result.slots in
+    slots_items c.close_with.result.slots in
     let end = subst (λ (k : ℕ). Final (Seen (Holds b k) root.id root.me.0) ws ys) inv.1 e.values.2 in
     let count = c.requires.seats.count ∙ ap (λ (s : TurnstileShape). s.workers) (sym c.self.view_is) in
     all_whole b p ws ys root.id root.me.0 c.args.seats.items taken.0 taken.1 (ap (λ z. z.0) taken.2) count end

@@ -11,22 +11,22 @@ pub unwrap-letter-requires : goal.unwrap-letter-requires
 unwrap-letter-requires c =
     let b = c.self.inside.block in let now = c.loop-k.invariant in let side = c.self.invariant.2 in let k : ℕ = c.loop-k.k in
     let offers = subst (λ (z : BlockShape). Offers z c.args.first (slots_items c.args.closed.now.slots)) (sym c.self.view_is)
-        c.requires.pieces in
+    c.requires.pieces in
     let within : k < b.side * b.side = subst (λ (n : ℕ). k < n * n) (sym side) c.loop-k-test.true in
     let got = offered b c.args.first k (slots_items c.args.closed.now.slots) c.take.result offers within
-        (ap (λ l. get_elem? l (c.args.first + k)) (sym now.items) ∙ c.take.ensures.value) in
+    (ap (λ l. get_elem? l (c.args.first + k)) (sym now.items) ∙ c.take.ensures.value) in
     is_some_of c.take.result got.0 got.1
 
 pub loop-k-preserved : goal.loop-k-preserved
 loop-k-preserved c =
     let b = c.self.inside.block in let now = c.loop-k.invariant in let side = c.self.invariant.2 in let k : ℕ = c.loop-k.k in let n : ℕ =
-        c.args.first + k in
+    c.args.first + k in
     let others = c.take.ensures.others in let pushed = c.push_reserved.ensures in
     let offers = subst (λ (z : BlockShape). Offers z c.args.first (slots_items c.args.closed.now.slots)) (sym c.self.view_is)
-        c.requires.pieces in
+    c.requires.pieces in
     let within : k < b.side * b.side = subst (λ (m : ℕ). k < m * m) (sym side) c.loop-k-test.true in
     let got = offered b c.args.first k (slots_items c.args.closed.now.slots) c.take.result offers within
-        (ap (λ l. get_elem? l (c.args.first + k)) (sym now.items) ∙ c.take.ensures.value) in
+    (ap (λ l. get_elem? l (c.args.first + k)) (sym now.items) ∙ c.take.ensures.value) in
     let x : PieceState = c.unwrap-letter.result in let y : PieceState = got.0 in
     let e : Option.Some x ≡ Some y = sym c.unwrap-letter.ensures ∙ got.1 in let same : x ≡ y = cc in
     let next : n + 1 ≡ c.args.first + (k + 1) = omega arith in record {
@@ -44,5 +44,7 @@ loop-k-preserved c =
 pub join-requires : goal.join-requires
 join-requires c = let b = c.self.inside.block in let now = c.loop-k.invariant in let side = c.self.invariant.2 in
     let same : b.side * b.side ≡ c.self.inside.side * c.self.inside.side = ap (λ (m : ℕ). m * m) side in
-    record { covered = all_stand b c.loop-k.k c.loop-k.list.items (let e = c.loop-k-test.false in let m = c.loop-k.auto.k-end in
-        omega arith) now.stand }
+    record {
+      covered = all_stand b c.loop-k.k c.loop-k.list.items (let e = c.loop-k-test.false in let m = c.loop-k.auto.k-end in
+          omega arith) now.stand;
+    }

@@ -11,10 +11,10 @@ unwrap-requires c =
     let all = now.moved ∙ given.1 ∙ ap (λ (z : BlockShape). map Some (pieces_of z) ++ given.0) (sym c.self.view_is) in
     let same : b.side * b.side ≡ c.self.inside.side * c.self.inside.side = ap (λ (m : ℕ). m * m) side in
     let more : length c.loop.list.items < length (pieces_of b) =
-        (let t = c.loop-test.true in let n = now.count in let l = length-first_pieces b (b.side * b.side) in omega arith) in
+    (let t = c.loop-test.true in let n = now.count in let l = length-first_pieces b (b.side * b.side) in omega arith) in
     let left = some_left c.loop.list.items (pieces_of b) c.loop.slots.items given.0 all more in
     is_some_of c.pop_front.result (Some left.0) (c.pop_front.ensures.value (Some left.0) (let f = c.loop.slots.ok in let l =
-        ap length left.2 in omega (arith, f.0, l)) ∙ ap (λ l. Some (get_or l 0 (Some left.0))) left.2)
+    ap length left.2 in omega (arith, f.0, l)) ∙ ap (λ l. Some (get_or l 0 (Some left.0))) left.2)
 
 pub unwrap-letter-requires : goal.unwrap-letter-requires
 unwrap-letter-requires c =
@@ -22,12 +22,12 @@ unwrap-letter-requires c =
     let all = now.moved ∙ given.1 ∙ ap (λ (z : BlockShape). map Some (pieces_of z) ++ given.0) (sym c.self.view_is) in
     let same : b.side * b.side ≡ c.self.inside.side * c.self.inside.side = ap (λ (m : ℕ). m * m) side in
     let more : length c.loop.list.items < length (pieces_of b) =
-        (let t = c.loop-test.true in let n = now.count in let l = length-first_pieces b (b.side * b.side) in omega arith) in
+    (let t = c.loop-test.true in let n = now.count in let l = length-first_pieces b (b.side * b.side) in omega arith) in
     let left = some_left c.loop.list.items (pieces_of b) c.loop.slots.items given.0 all more in
     let first = c.pop_front.ensures.value (Some left.0) (let f = c.loop.slots.ok in let l = ap length left.2 in omega (arith, f.0, l))
-        ∙ ap (λ l. Some (get_or l 0 (Some left.0))) left.2 in
+    ∙ ap (λ l. Some (get_or l 0 (Some left.0))) left.2 in
     let o : Option PieceState = c.unwrap.result in let e : Option.Some o ≡ Some (Some left.0) = sym c.unwrap.ensures ∙ first in
-        let same : o ≡ Some left.0 = cc in
+    let same : o ≡ Some left.0 = cc in
     is_some_of o left.0 same
 
 pub join-requires : goal.join-requires
@@ -36,6 +36,8 @@ join-requires c =
     let all = now.moved ∙ given.1 ∙ ap (λ (z : BlockShape). map Some (pieces_of z) ++ given.0) (sym c.self.view_is) in
     let same : b.side * b.side ≡ c.self.inside.side * c.self.inside.side = ap (λ (m : ℕ). m * m) side in
     let count : length c.loop.list.items ≡ length (pieces_of b) = (let t = c.loop-test.false in let m = c.loop.auto.counter-end in let n =
-        now.count in let l = length-first_pieces b (b.side * b.side) in omega arith) in
-    record { covered = cover_themselves b c.loop.list.items (all_moved c.loop.list.items (pieces_of b) c.loop.slots.items given.0 all
-        count).0 }
+    now.count in let l = length-first_pieces b (b.side * b.side) in omega arith) in
+    record {
+      covered = cover_themselves b c.loop.list.items (all_moved c.loop.list.items (pieces_of b) c.loop.slots.items given.0 all
+          count).0;
+    }

@@ -7,4 +7,4 @@ abbrev pub invariant-loop-k : goal.invariant-loop-k
 invariant-loop-k g l = (slots_items l.closed.slots ≡ slots_items l.initial.closed.slots)
     × (slots_len l.closed.slots ≡ slots_len l.initial.closed.slots)
     × Filled (slots_filled l.closed.slots) l.k (slots_len l.closed.slots)
-        × ((j : ℕ) → j < l.k → get_or (slots_filled l.closed.slots) j false ≡ false)
+    × ((j : ℕ) → j < l.k → get_or (slots_filled l.closed.slots) j false ≡ false)
