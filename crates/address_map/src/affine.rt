@@ -42,7 +42,8 @@ impl Affine {
     /// 1,048,576, or the multiplier is even.
     #[tactic(auto, using(crate::proofs::Faults::fault_more))]
     pub fn new(cells: u32, modules: u32, multiplier: u32, shift: u32) -> Result<Affine, MapFault>
-        ensures ok { IfOk result (λ m. IsWorkers modules × IsCells cells × IsOdd multiplier × Spreads (⟦<Affine as AddressMap>⟧.shape m) cells modules (affine cells multiplier shift)) }
+        ensures ok { IfOk result (λ m. IsWorkers modules × IsCells cells × IsOdd multiplier
+            × Spreads (⟦<Affine as AddressMap>⟧.shape m) cells modules (affine cells multiplier shift)) }
         ensures err { IfErr result (IsFault (IsCells cells × IsOdd multiplier) modules) }
     {
         let spread = Spread::new(cells, modules)?;
@@ -60,7 +61,8 @@ impl Affine {
 }
 
 impl AddressMap for Affine {
-    ghost shape = { λ m. spread m.spread.cells m.spread.modules (affine m.spread.cells m.multiplier m.shift) (affine_back m.spread.cells m.inverse m.shift) };
+    ghost shape = { λ m. spread m.spread.cells m.spread.modules (affine m.spread.cells m.multiplier m.shift)
+        (affine_back m.spread.cells m.inverse m.shift) };
 
     fn cells(&self) -> u32 {
         self.spread.cells
@@ -87,5 +89,8 @@ impl AddressMap for Affine {
         Some(self.spread.reduce(product))
     }
 
-    ghost lawful = { λ m. spread_lawful m.spread.cells m.spread.modules (affine m.spread.cells m.multiplier m.shift) (affine_back m.spread.cells m.inverse m.shift) m.spread.fits m.spread.one m.spread.few (affine_inverse m.spread.cells m.multiplier m.inverse m.shift m.undoes (cells_positive m.spread.cells m.spread.bits m.spread.power)) };
+    ghost lawful = { λ m. spread_lawful m.spread.cells m.spread.modules (affine m.spread.cells m.multiplier m.shift)
+        (affine_back m.spread.cells m.inverse m.shift) m.spread.fits m.spread.one m.spread.few
+        (affine_inverse m.spread.cells m.multiplier m.inverse m.shift m.undoes
+        (cells_positive m.spread.cells m.spread.bits m.spread.power)) };
 }

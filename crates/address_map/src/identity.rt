@@ -16,9 +16,11 @@ pub struct Identity {
 }
 
 impl Identity {
-    /// For that many cells and modules. `BadWorkers`: the modules are not 1 to 32. `BadMap`: the cells are no power of two from 1 to 1,048,576.
+    /// For that many cells and modules. `BadWorkers`: the modules are not 1 to 32. `BadMap`: the cells are no power of two from 1
+    /// to 1,048,576.
     pub fn new(cells: u32, modules: u32) -> Result<Identity, MapFault>
-        ensures ok { IfOk result (λ m. IsWorkers modules × IsCells cells × Spreads (⟦<Identity as AddressMap>⟧.shape m) cells modules same) }
+        ensures ok { IfOk result (λ m. IsWorkers modules × IsCells cells
+            × Spreads (⟦<Identity as AddressMap>⟧.shape m) cells modules same) }
         ensures err { IfErr result (IsFault (IsCells cells) modules) }
     {
         let spread = Spread::new(cells, modules)?;
@@ -49,5 +51,6 @@ impl AddressMap for Identity {
         self.spread.number(module, offset)
     }
 
-    ghost lawful = { λ m. spread_lawful m.spread.cells m.spread.modules same same m.spread.fits m.spread.one m.spread.few (same_inverse m.spread.cells) };
+    ghost lawful = { λ m. spread_lawful m.spread.cells m.spread.modules same same m.spread.fits m.spread.one m.spread.few
+        (same_inverse m.spread.cells) };
 }

@@ -39,7 +39,8 @@ impl Rounds {
     /// shift is not from 1 to 31.
     #[tactic(auto, using(crate::proofs::Faults::fault_more, crate::proofs::RoundSteps::made_starts, crate::proofs::RoundSteps::made_goes))]
     pub fn new(cells: u32, modules: u32, rounds: &[(u32, u32)]) -> Result<Rounds, MapFault>
-        ensures ok { IfOk result (λ m. IsWorkers modules × IsCells cells × AreRounds rounds.now × Spreads (⟦<Rounds as AddressMap>⟧.shape m) cells modules (permutation.rounds cells rounds.now)) }
+        ensures ok { IfOk result (λ m. IsWorkers modules × IsCells cells × AreRounds rounds.now
+            × Spreads (⟦<Rounds as AddressMap>⟧.shape m) cells modules (permutation.rounds cells rounds.now)) }
         ensures err { IfErr result (IsFault (IsCells cells × AreRounds rounds.now) modules) }
     {
         let spread = Spread::new(cells, modules)?;
@@ -98,7 +99,8 @@ impl Rounds {
 }
 
 impl AddressMap for Rounds {
-    ghost shape = { λ m. spread m.spread.cells m.spread.modules (rounds_of m.spread.cells (take m.count m.rounds)) (rounds_back m.spread.cells (take m.count m.rounds)) };
+    ghost shape = { λ m. spread m.spread.cells m.spread.modules (rounds_of m.spread.cells (take m.count m.rounds))
+        (rounds_back m.spread.cells (take m.count m.rounds)) };
 
     fn cells(&self) -> u32 {
         self.spread.cells
@@ -121,5 +123,7 @@ impl AddressMap for Rounds {
         Some(self.back(number))
     }
 
-    ghost lawful = { λ m. spread_lawful m.spread.cells m.spread.modules (rounds_of m.spread.cells (take m.count m.rounds)) (rounds_back m.spread.cells (take m.count m.rounds)) m.spread.fits m.spread.one m.spread.few (rounds_inverse_at m.spread.cells m.spread.bits (take m.count m.rounds) m.spread.power m.spread.small m.undone) };
+    ghost lawful = { λ m. spread_lawful m.spread.cells m.spread.modules (rounds_of m.spread.cells (take m.count m.rounds))
+        (rounds_back m.spread.cells (take m.count m.rounds)) m.spread.fits m.spread.one m.spread.few
+        (rounds_inverse_at m.spread.cells m.spread.bits (take m.count m.rounds) m.spread.power m.spread.small m.undone) };
 }

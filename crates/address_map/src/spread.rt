@@ -1,5 +1,6 @@
 //! Numbers below a power of two, dealt to the modules in turn.
-ghost use Rattle.std.specs.Prelude.{◌≡◌, ◌<◌, ◌≤◌, ◌^◌, ◌*◌, ◌+◌, ◌/◌, ◌%◌, Some, None, if◌then◌else◌, nat_lt, ◌&&◌, IfOk, IfErr, IfSome, MatchOption};
+ghost use Rattle.std.specs.Prelude.{◌≡◌, ◌<◌, ◌≤◌, ◌^◌, ◌*◌, ◌+◌, ◌/◌, ◌%◌, Some, None, if◌then◌else◌, nat_lt, ◌&&◌, IfOk, IfErr, IfSome};
+ghost use Rattle.std.specs.Prelude.{MatchOption};
 ghost use Rattle.std.specs.Option.{ForSome};
 ghost use Rattle.address_map.specs.Lawful.{rows};
 ghost use Rattle.address_map.specs.Outcome.{IsWorkers, IsCells, IsFault};
@@ -87,7 +88,8 @@ impl Spread {
 
     // The number at an offset of a module.
     pub(crate) fn number(self, module: u32, offset: u32) -> Option<u32>
-        ensures number { result ≡ (if nat_lt «module» self.modules && nat_lt offset (rows self.cells self.modules «module») then Some (offset * self.modules + «module») else None) }
+        ensures number { result ≡ (if nat_lt «module» self.modules
+            && nat_lt offset (rows self.cells self.modules «module») then Some (offset * self.modules + «module») else None) }
         ensures below { IfSome result (λ n. n < self.cells) }
     {
         if module >= self.modules {

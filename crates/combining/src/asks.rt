@@ -1,6 +1,8 @@
 //! Held asks.
 
-ghost use Rattle.std.specs.Prelude.{◌≡◌, ◌≤◌, ◌<◌, ◌+◌, ◌%◌, ◌++◌, ◌^◌, ◌&&◌, [], ◌∷◌, length, IfOk, IfSome, None, get_or, take, drop, nat_lt, vec_capacity, map as each};
+ghost use Rattle.std.specs.Prelude.{◌≡◌, ◌≤◌, ◌<◌, ◌+◌, ◌%◌, ◌++◌, ◌^◌, ◌&&◌, [], ◌∷◌, length, IfOk, IfSome, None, get_or, take, drop};
+ghost use Rattle.std.specs.Prelude.{nat_lt};
+ghost use Rattle.std.specs.Prelude.{vec_capacity, map as each};
 ghost use Rattle.std.specs.Int.{cast_signed, w64};
 ghost use Rattle.std.specs.List.{AllByRecursion};
 ghost use Rattle.std.proofs.Common.{eqb};
@@ -65,7 +67,8 @@ fn keep_all<M: AddressMap>(map: &M, replies: &[&[u64]], keys: &[u32], asked: &mu
     requires cells { AllByRecursion (IsAskBelow (M.shape map.now).count) (paired ask_at keys.now asked.old) }
     requires long { length asked.old ≡ length keys.now }
     requires modules { length replies.now ≡ (M.shape map.now).parts }
-    ensures held { paired ask_at keys.now asked.new ≡ all_replied (M.shape map.now).part 0 (each (λ x. x.now) replies.now) (paired ask_at keys.now asked.old) }
+    ensures held { paired ask_at keys.now asked.new ≡ all_replied (M.shape map.now).part 0 (each (λ x. x.now) replies.now)
+        (paired ask_at keys.now asked.old) }
     ensures length { length asked.new ≡ length asked.old }
 {
     let mut taken = [0; 32];
@@ -176,8 +179,10 @@ impl Asks {
     pub fn pack_all<M: AddressMap>(&self, map: &M, columns: &mut [Vec<u64>])
         requires cells { AllByRecursion (IsAskBelow (M.shape map.now).count) self.now.held }
         requires modules { length columns.old ≡ (M.shape map.now).parts }
-        requires room { HasRoomFor (M.shape map.now).parts (λ j. ask_words (asks_for (M.shape map.now).part j self.now.held)) (each (λ v. v.items) columns.old) (each vec_capacity columns.old) }
-        ensures words { HasGot (M.shape map.now).parts (λ j. ask_words (asks_for (M.shape map.now).part j self.now.held)) (each (λ v. v.items) columns.old) (each (λ v. v.items) columns.new) }
+        requires room { HasRoomFor (M.shape map.now).parts (λ j. ask_words (asks_for (M.shape map.now).part j self.now.held))
+            (each (λ v. v.items) columns.old) (each vec_capacity columns.old) }
+        ensures words { HasGot (M.shape map.now).parts (λ j. ask_words (asks_for (M.shape map.now).part j self.now.held))
+            (each (λ v. v.items) columns.old) (each (λ v. v.items) columns.new) }
         ensures rooms { each vec_capacity columns.new ≡ each vec_capacity columns.old }
     {
         let keys = self.index.keys();

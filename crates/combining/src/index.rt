@@ -22,7 +22,8 @@ impl Model for Index {
 
     ghost view = { λ x. record { keys = x.keys.items; room = vec_capacity x.keys } };
 
-    ghost invariant = { λ x. (vec_capacity x.links ≡ vec_capacity x.keys) × (vec_capacity x.keys < 2 ^ 31) × IsLinked x.mask x.keys.items x.links.items x.heads.items };
+    ghost invariant = { λ x. (vec_capacity x.links ≡ vec_capacity x.keys) × (vec_capacity x.keys < 2 ^ 31)
+        × IsLinked x.mask x.keys.items x.links.items x.heads.items };
 }
 
 /// The head of a chain, if it is one of the keys that are held now.

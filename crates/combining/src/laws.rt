@@ -22,9 +22,11 @@ ghost use Rattle.combining.specs.Held.{held_after, packed_puts, puts_for, IsPutB
 /// each with what its writers come to. They fit in words if the writes do.
 pub fn held_puts_are_the_machines()
     ensures held { (rule : RuleName) (writes : List HeldWrite)
-        → held_after rule writes [] ≡ filter_map (λ c. put_of c (total None (join rule) (entry_to rule c) writes)) (firsts (map (λ (w : HeldWrite). w.cell) writes)) }
+        → held_after rule writes [] ≡ filter_map (λ c. put_of c (total None (join rule) (entry_to rule c) writes))
+        (firsts (map (λ (w : HeldWrite). w.cell) writes)) }
     ensures worker { (rule : RuleName) (s : Worker) → held_after rule s.held [] ≡ puts_held rule s }
-    ensures fit { (rule : RuleName) (writes : List HeldWrite) → AllByRecursion FitsWrite writes → AllByRecursion (FitsPut rule) (held_after rule writes []) }
+    ensures fit { (rule : RuleName) (writes : List HeldWrite) → AllByRecursion FitsWrite writes →
+        AllByRecursion (FitsPut rule) (held_after rule writes []) }
 {}
 
 /// What the reads of a worker ask for, added read by read to nothing, each time first the uniform part's cell and then those of the
@@ -40,12 +42,15 @@ pub fn held_asks_are_the_machines()
 /// The words that were packed for a module are read as the puts and the asks that they were packed from; so what is read from columns
 /// of messages for a module comes to what the machine's definition makes of these messages.
 pub fn packed_words_are_read_back()
-    ensures puts { (rule : RuleName) (m : Shape) (j : ℕ) (held : List CellPut) → AllByRecursion (FitsPut rule) held → AllByRecursion (IsPutBelow m.count) held
+    ensures puts { (rule : RuleName) (m : Shape) (j : ℕ) (held : List CellPut) → AllByRecursion (FitsPut rule) held →
+        AllByRecursion (IsPutBelow m.count) held
         → puts_in rule m j (packed_puts rule m.part j held) ≡ puts_for m.part j held }
     ensures asks { (m : Shape) (j : ℕ) (asks : List CellAsk) → AllByRecursion (IsAskFor m j) asks → asks_in m j (ask_words asks) ≡ asks }
-    ensures entries { (rule : RuleName) (m : Shape) (j : ℕ) (column : List Message) → AllByRecursion (λ (x : Message). AllByRecursion (IsPutFor rule m j) x.puts) column
+    ensures entries { (rule : RuleName) (m : Shape) (j : ℕ) (column : List Message) →
+        AllByRecursion (λ (x : Message). AllByRecursion (IsPutFor rule m j) x.puts) column
         → (c : ℕ) → entry_read rule m j (map (λ (x : Message). flat_map (put_words rule) x.puts) column) c ≡ entry_came rule column c }
-    ensures askers { (m : Shape) (j : ℕ) (column : List Message) → AllByRecursion (λ (x : Message). AllByRecursion (IsAskFor m j) x.asks) column
+    ensures askers { (m : Shape) (j : ℕ) (column : List Message) →
+        AllByRecursion (λ (x : Message). AllByRecursion (IsAskFor m j) x.asks) column
         → (k c : ℕ) → askers_read m j (map (λ (x : Message). ask_words x.asks) column) k c ≡ askers_came column k c }
 {}
 

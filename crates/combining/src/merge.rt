@@ -32,7 +32,8 @@ fn gather_column<R: WriteRule, M: AddressMap>(
     entries: &mut [Option<Entry>],
 )
     requires { length entries.old ≡ (M.shape map.now).width part }
-    ensures gathered { Collects (M.shape map.now) part (join (R.WriteRule.rule rule.now)) (λ c. entry_of_column (R.WriteRule.rule rule.now) (M.shape map.now) part c words.now) entries.old entries.new }
+    ensures gathered { Collects (M.shape map.now) part (join (R.WriteRule.rule rule.now))
+        (λ c. entry_of_column (R.WriteRule.rule rule.now) (M.shape map.now) part c words.now) entries.old entries.new }
     ensures length { length entries.new ≡ length entries.old }
 {
     let format = PutWords { rule, map, part };
@@ -53,7 +54,8 @@ fn gather<R: WriteRule, M: AddressMap>(
     entries: &mut [Option<Entry>],
 )
     requires { length entries.old ≡ (M.shape map.now).width part }
-    ensures gathered { CollectsAll (M.shape map.now) part (join (R.WriteRule.rule rule.now)) (entry_read (R.WriteRule.rule rule.now) (M.shape map.now) part (each (λ x. x.now) columns.now)) entries.old entries.new }
+    ensures gathered { CollectsAll (M.shape map.now) part (join (R.WriteRule.rule rule.now))
+        (entry_read (R.WriteRule.rule rule.now) (M.shape map.now) part (each (λ x. x.now) columns.now)) entries.old entries.new }
     ensures length { length entries.new ≡ length entries.old }
 {
     for words in columns {
@@ -83,7 +85,8 @@ fn settle_at<R: WriteRule>(
     requires entry { at < length entries.old }
     requires value { at < length values.old }
     ensures entries { entries.new ≡ set entries.old at None }
-    ensures values { values.new ≡ set values.old at (settled (verdict_on (R.WriteRule.rule rule.now) (slot entries.old at)) (value_at values.old at)) }
+    ensures values { values.new ≡ set values.old at (settled (verdict_on (R.WriteRule.rule rule.now) (slot entries.old at))
+        (value_at values.old at)) }
     ensures noted { result ≡ note cell (refusal (verdict_on (R.WriteRule.rule rule.now) (slot entries.old at))) noted }
 {
     let Some(entry) = entries[at] else {
@@ -111,7 +114,9 @@ fn settle_column<R: WriteRule, M: AddressMap>(
 ) -> Option<(u32, Kind)>
     requires entries { length entries.old ≡ (M.shape map.now).width part }
     requires values { length values.old ≡ (M.shape map.now).width part }
-    ensures noted { TakesOut (M.shape map.now) part (join (R.WriteRule.rule rule.now)) (λ x. refusal (verdict_on (R.WriteRule.rule rule.now) x)) (λ c. entry_of_column (R.WriteRule.rule rule.now) (M.shape map.now) part c words.now) entries.old before entries.new result }
+    ensures noted { TakesOut (M.shape map.now) part (join (R.WriteRule.rule rule.now))
+        (λ x. refusal (verdict_on (R.WriteRule.rule rule.now) x)) (λ c. entry_of_column (R.WriteRule.rule rule.now) (M.shape map.now) part c
+        words.now) entries.old before entries.new result }
     ensures owed { Settles (M.shape map.now) (R.WriteRule.rule rule.now) part entries.old values.old entries.new values.new }
     ensures entries { length entries.new ≡ length entries.old }
     ensures values { length values.new ≡ length values.old }
@@ -137,7 +142,8 @@ fn settle_all<R: WriteRule, M: AddressMap>(
 ) -> Option<(u32, Kind)>
     requires entries { length entries.old ≡ (M.shape map.now).width part }
     requires values { length values.old ≡ (M.shape map.now).width part }
-    ensures noted { TakesAllOut (M.shape map.now) part (λ x. refusal (verdict_on (R.WriteRule.rule rule.now) x)) (entry_read (R.WriteRule.rule rule.now) (M.shape map.now) part (each (λ x. x.now) columns.now)) entries.old entries.new result }
+    ensures noted { TakesAllOut (M.shape map.now) part (λ x. refusal (verdict_on (R.WriteRule.rule rule.now) x))
+        (entry_read (R.WriteRule.rule rule.now) (M.shape map.now) part (each (λ x. x.now) columns.now)) entries.old entries.new result }
     ensures owed { Settles (M.shape map.now) (R.WriteRule.rule rule.now) part entries.old values.old entries.new values.new }
     ensures entries { length entries.new ≡ length entries.old }
     ensures values { length values.new ≡ length values.old }
@@ -162,7 +168,8 @@ fn apply<R: WriteRule, M: AddressMap>(
     requires entries { length entries.old ≡ (M.shape map.now).width part }
     requires values { length values.old ≡ (M.shape map.now).width part }
     requires empty { (o : ℕ) → slot entries.old o ≡ None }
-    ensures merged { IsMerged (M.shape map.now) (R.WriteRule.rule rule.now) part (each (λ x. x.now) columns.now) values.old values.new result }
+    ensures merged { IsMerged (M.shape map.now) (R.WriteRule.rule rule.now) part (each (λ x. x.now) columns.now) values.old values.new
+        result }
     ensures empty { (o : ℕ) → slot entries.new o ≡ None }
     ensures length { length entries.new ≡ length entries.old }
 {
@@ -181,7 +188,8 @@ pub fn merge_at_module<R: WriteRule, M: AddressMap>(
 ) -> Option<(u32, Kind)>
     requires part { part < (M.shape map.now).parts }
     requires size { length cells.old ≡ (M.shape map.now).width part }
-    ensures merged { IsMerged (M.shape map.now) (R.WriteRule.rule rule.now) part (each (λ x. x.now) columns.now) cells.old cells.new result }
+    ensures merged { IsMerged (M.shape map.now) (R.WriteRule.rule rule.now) part (each (λ x. x.now) columns.now) cells.old cells.new
+        result }
 {
     apply(
         rule,

@@ -63,7 +63,8 @@ impl Puts {
     /// Holds a write, joined to what is held for its cell.
     pub fn add<R: WriteRule>(&mut self, rule: &R, cell: u32, processor: i64, value: i64)
         requires { length self.old.held < self.old.room }
-        ensures held { self.new.held ≡ put (R.WriteRule.rule rule.now) (record { processor = processor; cell = cell; value = value }) self.old.held }
+        ensures held { self.new.held ≡ put (R.WriteRule.rule rule.now) (record { processor = processor; cell = cell; value = value })
+            self.old.held }
         ensures room { self.new.room ≡ self.old.room }
     {
         let entry = rule.single(processor, value);
@@ -109,8 +110,10 @@ impl Puts {
         requires cells { AllByRecursion (IsPutBelow (M.shape map.now).count) self.now.held }
         requires fit { AllByRecursion (FitsPut (R.WriteRule.rule rule.now)) self.now.held }
         requires modules { length columns.old ≡ (M.shape map.now).parts }
-        requires room { HasRoomFor (M.shape map.now).parts (λ j. packed_puts (R.WriteRule.rule rule.now) (M.shape map.now).part j self.now.held) (each (λ v. v.items) columns.old) (each vec_capacity columns.old) }
-        ensures words { HasGot (M.shape map.now).parts (λ j. packed_puts (R.WriteRule.rule rule.now) (M.shape map.now).part j self.now.held) (each (λ v. v.items) columns.old) (each (λ v. v.items) columns.new) }
+        requires room { HasRoomFor (M.shape map.now).parts (λ j. packed_puts (R.WriteRule.rule rule.now) (M.shape map.now).part j
+            self.now.held) (each (λ v. v.items) columns.old) (each vec_capacity columns.old) }
+        ensures words { HasGot (M.shape map.now).parts (λ j. packed_puts (R.WriteRule.rule rule.now) (M.shape map.now).part j self.now.held)
+            (each (λ v. v.items) columns.old) (each (λ v. v.items) columns.new) }
         ensures rooms { each vec_capacity columns.new ≡ each vec_capacity columns.old }
     {
         let keys = self.index.keys();

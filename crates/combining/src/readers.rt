@@ -31,7 +31,8 @@ fn count_column<M: AddressMap>(
     askers: &mut [Option<bool>],
 )
     requires { length askers.old ≡ (M.shape map.now).width part }
-    ensures gathered { Collects (M.shape map.now) part several (λ c. askers_of_column (M.shape map.now) part k c words.now) askers.old askers.new }
+    ensures gathered { Collects (M.shape map.now) part several (λ c. askers_of_column (M.shape map.now) part k c words.now) askers.old
+        askers.new }
     ensures length { length askers.new ≡ length askers.old }
 {
     let format = AskWords { map, part };
@@ -54,7 +55,8 @@ fn count_all<M: AddressMap>(
     askers: &mut [Option<bool>],
 )
     requires { length askers.old ≡ (M.shape map.now).width part }
-    ensures gathered { CollectsAll (M.shape map.now) part several (askers_read (M.shape map.now) part (each (λ x. x.now) columns.now) k) askers.old askers.new }
+    ensures gathered { CollectsAll (M.shape map.now) part several (askers_read (M.shape map.now) part (each (λ x. x.now) columns.now) k)
+        askers.old askers.new }
     ensures length { length askers.new ≡ length askers.old }
 {
     for words in columns {
@@ -91,7 +93,8 @@ fn note_column<M: AddressMap>(
     before: Option<(u32, Kind)>,
 ) -> Option<(u32, Kind)>
     requires { length askers.old ≡ (M.shape map.now).width part }
-    ensures noted { TakesOut (M.shape map.now) part several shared (λ c. askers_of_column (M.shape map.now) part k c words.now) askers.old before askers.new result }
+    ensures noted { TakesOut (M.shape map.now) part several shared (λ c. askers_of_column (M.shape map.now) part k c words.now) askers.old
+        before askers.new result }
     ensures length { length askers.new ≡ length askers.old }
 {
     let format = AskWords { map, part };
@@ -115,7 +118,8 @@ fn note_all<M: AddressMap>(
     askers: &mut [Option<bool>],
 ) -> Option<(u32, Kind)>
     requires { length askers.old ≡ (M.shape map.now).width part }
-    ensures noted { TakesAllOut (M.shape map.now) part shared (askers_read (M.shape map.now) part (each (λ x. x.now) columns.now) k) askers.old askers.new result }
+    ensures noted { TakesAllOut (M.shape map.now) part shared (askers_read (M.shape map.now) part (each (λ x. x.now) columns.now) k)
+        askers.old askers.new result }
     ensures length { length askers.new ≡ length askers.old }
 {
     let mut noted = None;

@@ -1,6 +1,7 @@
 //! The words of puts and asks: how they are written, and how any words are read.
 
-ghost use Rattle.std.specs.Prelude.{◌≡◌, ◌≤◌, ◌<◌, ◌+◌, ◌*◌, ◌%◌, ◌++◌, ◌^◌, [], ◌∷◌, length, take, drop, FitsSigned, IfSome, None, Some, vec_capacity};
+ghost use Rattle.std.specs.Prelude.{◌≡◌, ◌≤◌, ◌<◌, ◌+◌, ◌*◌, ◌%◌, ◌++◌, ◌^◌, [], ◌∷◌, length, take, drop, FitsSigned, IfSome, None, Some};
+ghost use Rattle.std.specs.Prelude.{vec_capacity};
 ghost use Rattle.std.specs.Int.{w64};
 ghost use Rattle.superstep_machine.specs.Words.{put_words, ask_word, bit, word_of, low_word, high_word};
 ghost use Rattle.superstep_machine.specs.WordReading.{put_length as length_of_put, read_value as value_of_words};
@@ -58,7 +59,8 @@ fn high(sum: i128) -> u64
 fn write_value(out: &mut [u64], n: usize, cell: u32, entry: Entry) -> usize
     requires room { n + 3 ≤ length out.old }
     requires fits { FitsSigned w64 entry.value }
-    ensures done { take result out.new ≡ take n out.old ++ (cell + 2 ^ 20 * bit entry.clash) ∷ word_of entry.owner ∷ word_of entry.value ∷ [] }
+    ensures done { take result out.new ≡ take n out.old ++ (cell + 2 ^ 20 * bit entry.clash) ∷ word_of entry.owner ∷ word_of entry.value
+        ∷ [] }
     ensures rest { drop result out.new ≡ drop result out.old }
     ensures length { length out.new ≡ length out.old }
     ensures count { result ≡ n + 3 }
@@ -72,7 +74,8 @@ fn write_value(out: &mut [u64], n: usize, cell: u32, entry: Entry) -> usize
 // Writes a put whose value is a sum, from n on.
 fn write_sum(out: &mut [u64], n: usize, cell: u32, entry: Entry) -> usize
     requires { n + 4 ≤ length out.old }
-    ensures done { take result out.new ≡ take n out.old ++ (cell + 2 ^ 20 * bit entry.clash) ∷ word_of entry.owner ∷ low_word entry.value ∷ high_word entry.value ∷ [] }
+    ensures done { take result out.new ≡ take n out.old ++ (cell + 2 ^ 20 * bit entry.clash) ∷ word_of entry.owner ∷ low_word entry.value
+        ∷ high_word entry.value ∷ [] }
     ensures rest { drop result out.new ≡ drop result out.old }
     ensures length { length out.new ≡ length out.old }
     ensures count { result ≡ n + 4 }
@@ -213,7 +216,8 @@ pub(crate) trait Format {
         ensures read { result ≡ reads self.now words.now }
         ensures fits { IfSome result (fits self.now) };
 
-    ghost more: { (f : Self) (ws : List ℕ) → size f ≤ length ws → listed f ws ≡ cons_option (reads f (take (size f) ws)) (listed f (drop (size f) ws)) };
+    ghost more: { (f : Self) (ws : List ℕ) → size f ≤ length ws →
+        listed f ws ≡ cons_option (reads f (take (size f) ws)) (listed f (drop (size f) ws)) };
 
     ghost short: { (f : Self) (ws : List ℕ) → length ws < size f → listed f ws ≡ [] };
 }

@@ -49,7 +49,8 @@ fn put_conflict(put: Option<Moment>, cell: u32, verdict: Option<Result<i64, Kind
 #[tactic(auto, using(crate::proofs::PartLemmas::held_is))]
 fn owed_at(code: &Code, machine: &Machine, c: u32) -> Option<Key>
     requires { c < length machine.now.held.items }
-    ensures { result ≡ spec.put_conflict (put_is machine.now.uniform.put) c (spec.verdict_on code.now.rule (held_of machine.now.held.items c)) }
+    ensures { result ≡ spec.put_conflict (put_is machine.now.uniform.put) c
+        (spec.verdict_on code.now.rule (held_of machine.now.held.items c)) }
 {
     let verdict = verdict_on(code.rule(), machine.held[c as usize]);
     put_conflict(machine.uniform.put, c, verdict)
@@ -108,7 +109,8 @@ fn asks(x: &ProcessorState, k: usize, cell: u32) -> Option<bool>
 
 // How many processors ask for a cell by read k: none, one, or two and more.
 fn askers(processors: &Vec<ProcessorState>, k: usize, cell: u32) -> Option<bool>
-    ensures { result ≡ total None spec.several (λ v. spec.asks_for cell (spec.cell_at k (own_of processors.now.items v).asks)) (range_with_len 0 (length processors.now.items)) }
+    ensures { result ≡ total None spec.several (λ v. spec.asks_for cell (spec.cell_at k (own_of processors.now.items v).asks))
+        (range_with_len 0 (length processors.now.items)) }
 {
     let mut came = None;
     let mut v = processors.len();
@@ -121,7 +123,8 @@ fn askers(processors: &Vec<ProcessorState>, k: usize, cell: u32) -> Option<bool>
 
 // The conflict of one private read at a cell.
 fn conflict_of(read: Read, cell: u32, came: Option<bool>) -> Option<Key>
-    ensures { result ≡ (if spec.is_private (read_is read).side && spec.is_several came then Some (spec.conflict_at (read_is read).moment cell kind_is.ReadConflict) else None) }
+    ensures { result ≡ (if spec.is_private (read_is read).side
+        && spec.is_several came then Some (spec.conflict_at (read_is read).moment cell kind_is.ReadConflict) else None) }
 {
     match (read.side, came) {
         (Side::Private, Some(true)) => { Some(conflict_at(read.moment, cell, Kind::ReadConflict)) }

@@ -33,7 +33,8 @@ fn own_keys(
     processors: &Vec<ProcessorState>,
 ) -> Option<Key>
     requires { length processors.now.items ≡ u.now.width }
-    ensures { result ≡ total None spec_least (λ v. spec.own_key code.now instr (uniform_of u.now) v (own_of processors.now.items v)) (range_with_len 0 u.now.width) }
+    ensures { result ≡ total None spec_least (λ v. spec.own_key code.now instr (uniform_of u.now) v (own_of processors.now.items v))
+        (range_with_len 0 u.now.width) }
 {
     let mut noted = None;
     let mut v = u.width;
@@ -47,7 +48,8 @@ fn own_keys(
 // One write more, as far as there is one and its cell.
 fn add_write(rule: Rule, held: &mut Vec<Option<Entry>>, processor: i64, write: Option<(u32, i64)>)
     ensures cells { length held.new.items ≡ length held.old.items }
-    ensures written { (c : ℕ) → c < length held.old.items → held_of held.new.items c ≡ spec_join rule (single_to rule c processor write) (held_of held.old.items c) }
+    ensures written { (c : ℕ) → c < length held.old.items →
+        held_of held.new.items c ≡ spec_join rule (single_to rule c processor write) (held_of held.old.items c) }
 {
     if let Some((cell, value)) = write {
         let place = cell as usize;
@@ -69,7 +71,8 @@ fn own_writes(
     requires none { (c : ℕ) → held_of held.old.items c ≡ None }
     ensures cells { length held.new.items ≡ length held.old.items }
     ensures written { (c : ℕ) → c < length held.old.items → held_of held.new.items c
-        ≡ total None (spec_join code.now.rule) (λ v. single_to code.now.rule c (spec.index_of (uniform_of u.now) v) (spec.own_write code.now instr (own_of processors.now.items v))) (range_with_len 0 u.now.width) }
+        ≡ total None (spec_join code.now.rule) (λ v. single_to code.now.rule c (spec.index_of (uniform_of u.now) v)
+        (spec.own_write code.now instr (own_of processors.now.items v))) (range_with_len 0 u.now.width) }
 {
     let mut v = u.width;
     'processors: while v > 0 {
@@ -96,7 +99,8 @@ fn step_processors(
 ) -> Result<(), AllocError>
     requires { length processors.old.items ≡ u.now.width }
     ensures count { OnOk result (length processors.new.items ≡ u.now.width) }
-    ensures each { OnOk result ((v : ℕ) → v < u.now.width → own_of processors.new.items v ≡ spec.on_own code.now instr (uniform_of u.now) v (own_of processors.old.items v)) }
+    ensures each { OnOk result ((v : ℕ) → v < u.now.width →
+        own_of processors.new.items v ≡ spec.on_own code.now instr (uniform_of u.now) v (own_of processors.old.items v)) }
 {
     'processors: for v in 0..u.width {
         step_own(code, instr, u, v, &mut processors[v as usize])?;
@@ -155,7 +159,8 @@ fn written(
 ) -> Result<Vec<Option<Entry>>, AllocError>
     requires { IsSized code.now machine.now }
     ensures cells { IfOk result (λ held. length held.items ≡ total_size code.now.layout) }
-    ensures each { IfOk result (λ held. (c : ℕ) → c < total_size code.now.layout → held_of held.items c ≡ spec_written code.now instr (flat_of machine.now) c) }
+    ensures each { IfOk result (λ held. (c : ℕ) → c < total_size code.now.layout →
+        held_of held.items c ≡ spec_written code.now instr (flat_of machine.now) c) }
 {
     let mut held = none_held(alloc, code.layout().cells())?;
     own_writes(

@@ -138,7 +138,10 @@ fn step_active(
 
 // A mask is laid on it.
 fn mask(x: &mut ProcessorState, source: u16) -> Result<(), AllocError>
-    ensures { OnOk result (part_of x.new ≡ record (part_of x.old) { masks = (spec.is_active (part_of x.old) && is_nonzero ((part_of x.old).registers source)) ∷ (part_of x.old).masks }) }
+    ensures { OnOk result (part_of x.new ≡ record (part_of x.old) {
+      masks =
+          (spec.is_active (part_of x.old) && is_nonzero ((part_of x.old).registers source)) ∷ (part_of x.old).masks;
+    }) }
 {
     let active = is_active(x) && is_true(register(&x.registers, source));
     x.masks.push(active)?;

@@ -102,8 +102,10 @@ pub fn flat_run(
     bound: u32,
 ) -> Result<Option<Outcome>, AllocError>
     // Of well-formed code that is its outcome, and there is one.
-    ensures well_formed { IfOk result (λ found. IsWellFormed code.now → (v : Verdict) × (verdict_in found ≡ Some v) × IsFlatOutcome code.now input.now bound v) }
-    ensures found { IfOk result (λ found. verdict_in found ≡ outcome_within code.now bound everywhere ((bound + 1) * length code.now.instructions) input.now) }
+    ensures well_formed { IfOk result (λ found. IsWellFormed code.now → (v : Verdict) × (verdict_in found ≡ Some v)
+        × IsFlatOutcome code.now input.now bound v) }
+    ensures found { IfOk result (λ found. verdict_in found ≡ outcome_within code.now bound everywhere
+        ((bound + 1) * length code.now.instructions) input.now) }
 {
     let mut run = open(alloc, code, bound, input)?;
     advance(alloc, code, bound, &mut run, enough(code, bound))?;

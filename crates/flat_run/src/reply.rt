@@ -21,7 +21,8 @@ fn answer(
     destination: u16,
     cell: Option<u32>,
 ) -> Result<(), AllocError>
-    ensures { OnOk result (registers_of registers.new.items ≡ spec.answer (λ c. registers_of memory.now.items c) destination cell (registers_of registers.old.items)) }
+    ensures { OnOk result (registers_of registers.new.items ≡ spec.answer (λ c. registers_of memory.now.items c) destination cell
+        (registers_of registers.old.items)) }
 {
     match cell {
         None => Ok(()),
@@ -36,7 +37,8 @@ fn answer_uniform(
     awaited: &Vec<Read>,
 ) -> Result<(), AllocError>
     ensures { OnOk result (registers_of registers.new.items
-        ≡ spec.answers (λ k c. registers_of memory.now.items c) 0 (map (λ (x : SpecRead). (x.destination, x.cell)) (map read_is awaited.now.items)) (registers_of registers.old.items)) }
+        ≡ spec.answers (λ k c. registers_of memory.now.items c) 0
+        (map (λ (x : SpecRead). (x.destination, x.cell)) (map read_is awaited.now.items)) (registers_of registers.old.items)) }
 {
     let mut k = 0;
     'reads: while k < awaited.len() {
@@ -55,7 +57,8 @@ fn answer_own(
     cells: &Vec<Option<u32>>,
 ) -> Result<(), AllocError>
     ensures { OnOk result (registers_of registers.new.items
-        ≡ spec.answers (λ k c. registers_of memory.now.items c) 0 (zip (spec.destinations (map read_is awaited.now.items)) cells.now.items) (registers_of registers.old.items)) }
+        ≡ spec.answers (λ k c. registers_of memory.now.items c) 0 (zip (spec.destinations (map read_is awaited.now.items)) cells.now.items)
+        (registers_of registers.old.items)) }
 {
     let mut k = 0;
     'reads: while k < awaited.len() && k < cells.len() {
@@ -70,7 +73,8 @@ fn reply_own(
     awaited: &Vec<Read>,
     x: &mut ProcessorState,
 ) -> Result<(), AllocError>
-    ensures { OnOk result (part_of x.new ≡ spec.own_answered (λ k c. registers_of memory.now.items c) (map read_is awaited.now.items) (part_of x.old)) }
+    ensures { OnOk result (part_of x.new ≡ spec.own_answered (λ k c. registers_of memory.now.items c) (map read_is awaited.now.items)
+        (part_of x.old)) }
 {
     answer_own(memory, &mut x.registers, awaited, &x.awaited)?;
     x.awaited.clear();

@@ -35,7 +35,8 @@ fn settled(verdict: Option<Result<i64, Kind>>, old: i64) -> i64
 fn settle(rule: Rule, held: &Vec<Option<Entry>>, memory: &mut Vec<i64>)
     requires { length held.now.items ≤ length memory.old.items }
     ensures cells { length memory.new.items ≡ length memory.old.items }
-    ensures each { (c : ℕ) → registers_of memory.new.items c ≡ spec.settled (spec.verdict_on rule (held_of held.now.items c)) (registers_of memory.old.items c) }
+    ensures each { (c : ℕ) → registers_of memory.new.items c ≡ spec.settled (spec.verdict_on rule (held_of held.now.items c))
+        (registers_of memory.old.items c) }
 {
     let mut c = 0;
     'cells: while c < held.len() {
@@ -61,7 +62,8 @@ fn send_own(alloc: Global, x: &mut ProcessorState)
 
 fn send_processors(alloc: Global, processors: &mut Vec<ProcessorState>)
     ensures count { length processors.new.items ≡ length processors.old.items }
-    ensures each { (v : ℕ) → v < length processors.old.items → own_of processors.new.items v ≡ spec.own_sent (own_of processors.old.items v) }
+    ensures each { (v : ℕ) → v < length processors.old.items →
+        own_of processors.new.items v ≡ spec.own_sent (own_of processors.old.items v) }
 {
     let mut v = 0;
     'processors: while v < processors.len() {

@@ -63,7 +63,8 @@ fn exchange_send(alloc: Global, code: &Code, bound: u32, run: &mut Run) -> Resul
     requires run { IsRun code.now bound run.old }
     requires place { run.old.place < 2 ^ 16 }
     ensures run { OnOk result (IsRun code.now bound run.new) }
-    ensures state { OnOk result (AreSameStates (state_of run.new) (exchanged code.now everywhere spec.Sends run.old.place (flat_of run.old.machine))) }
+    ensures state { OnOk result (AreSameStates (state_of run.new)
+        (exchanged code.now everywhere spec.Sends run.old.place (flat_of run.old.machine))) }
 {
     let stand = decided_by_send(&run.machine);
     send(alloc, code, &mut run.machine)?;
@@ -76,7 +77,8 @@ fn exchange_reply(code: &Code, bound: u32, run: &mut Run) -> Result<(), AllocErr
     requires run { IsRun code.now bound run.old }
     requires place { run.old.place < 2 ^ 16 }
     ensures run { OnOk result (IsRun code.now bound run.new) }
-    ensures state { OnOk result (AreSameStates (state_of run.new) (exchanged code.now everywhere spec.Replies run.old.place (flat_of run.old.machine))) }
+    ensures state { OnOk result (AreSameStates (state_of run.new)
+        (exchanged code.now everywhere spec.Replies run.old.place (flat_of run.old.machine))) }
 {
     let stand = unless_due(run.machine.key, run.machine.uniform.count);
     reply(code, &mut run.machine)?;
@@ -89,7 +91,8 @@ fn exchange_vote(code: &Code, bound: u32, run: &mut Run, destination: u16) -> Re
     requires run { IsRun code.now bound run.old }
     requires place { run.old.place < 2 ^ 16 }
     ensures run { OnOk result (IsRun code.now bound run.new) }
-    ensures state { OnOk result (AreSameStates (state_of run.new) (exchanged code.now everywhere (spec.Votes destination) run.old.place (flat_of run.old.machine))) }
+    ensures state { OnOk result (AreSameStates (state_of run.new) (exchanged code.now everywhere (spec.Votes destination) run.old.place
+        (flat_of run.old.machine))) }
 {
     let stand = unless_due(run.machine.key, run.machine.uniform.count);
     vote(code, &mut run.machine, destination)?;
@@ -133,7 +136,8 @@ fn go_on(
     requires room { IsCounted instr run.old.machine.uniform.count bound }
     requires on { way_is run.old.stand ≡ spec.On }
     ensures run { OnOk result (IsRun code.now bound run.new) }
-    ensures state { OnOk result (AreSameStates (state_of run.new) (going (run.old.place + 1) (after_instr code.now instr (flat_of run.old.machine)))) }
+    ensures state { OnOk result (AreSameStates (state_of run.new)
+        (going (run.old.place + 1) (after_instr code.now instr (flat_of run.old.machine)))) }
 {
     instruct(alloc, code, instr, &mut run.machine)?;
     run.place += 1;
@@ -154,7 +158,8 @@ fn mark(
     requires mark { instr ≡ instr_is.Mark line }
     requires on { way_is run.old.stand ≡ spec.On }
     ensures run { OnOk result (IsRun code.now bound run.new) }
-    ensures state { OnOk result (AreSameStates (state_of run.new) (led code.now bound (Some instr) run.old.place (flat_of run.old.machine))) }
+    ensures state { OnOk result (AreSameStates (state_of run.new)
+        (led code.now bound (Some instr) run.old.place (flat_of run.old.machine))) }
 {
     if run.machine.uniform.count == bound {
         close(alloc, code, bound, run, false)
@@ -169,7 +174,8 @@ fn jump_if_zero(code: &Code, bound: u32, run: &mut Run, source: u16, target: u16
     requires place { run.old.place < 2 ^ 16 }
     requires on { way_is run.old.stand ≡ spec.On }
     ensures run { IsRun code.now bound run.new }
-    ensures state { AreSameStates (state_of run.new) (led code.now bound (Some (instr_is.JumpIfZero source target)) run.old.place (flat_of run.old.machine)) }
+    ensures state { AreSameStates (state_of run.new) (led code.now bound (Some (instr_is.JumpIfZero source target)) run.old.place
+        (flat_of run.old.machine)) }
 {
     if is_true(register(&run.machine.uniform.registers, source)) {
         run.place += 1;
@@ -190,7 +196,8 @@ fn obey(
     requires place { run.old.place < 2 ^ 16 }
     requires on { way_is run.old.stand ≡ spec.On }
     ensures run { OnOk result (IsRun code.now bound run.new) }
-    ensures state { OnOk result (AreSameStates (state_of run.new) (led code.now bound (Some instr) run.old.place (flat_of run.old.machine))) }
+    ensures state { OnOk result (AreSameStates (state_of run.new)
+        (led code.now bound (Some instr) run.old.place (flat_of run.old.machine))) }
 {
     match instr {
         Instr::Mark { line } => mark(alloc, code, bound, run, instr, line),
@@ -215,7 +222,8 @@ pub fn step(alloc: Global, code: &Code, bound: u32, run: &mut Run) -> Result<(),
     requires run { IsRun code.now bound run.old }
     requires on { way_is run.old.stand ≡ spec.On }
     ensures run { OnOk result (IsRun code.now bound run.new) }
-    ensures state { OnOk result (AreSameStates (state_of run.new) (instructed code.now bound everywhere run.old.place (flat_of run.old.machine))) }
+    ensures state { OnOk result (AreSameStates (state_of run.new)
+        (instructed code.now bound everywhere run.old.place (flat_of run.old.machine))) }
 {
     match code.instructions().get(run.place as usize) {
         Some(instr) => obey(alloc, code, bound, run, *instr),

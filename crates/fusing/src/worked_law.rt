@@ -13,7 +13,8 @@ ghost use Rattle.fusing.specs.Worked.{dividing, dividing_fused, writing, writing
 pub fn a_fault_is_told_later()
     ensures told { outcome_within dividing 9 everywhere 4 [] ≡ Some (Faulted (record { kind = DivideByZero; line = 4; place = All }) []) }
     ensures goes_on { outcome_within dividing_fused 9 everywhere 4 [] ≡ None }
-    ensures told_later { outcome_within dividing_fused 9 everywhere 5 [] ≡ Some (Faulted (record { kind = DivideByZero; line = 4; place = All }) []) }
+    ensures told_later { outcome_within dividing_fused 9 everywhere 5 [] ≡ Some
+        (Faulted (record { kind = DivideByZero; line = 4; place = All }) []) }
     ensures exchanges { exchanges_of dividing 2 [] ≡ record { purpose = Sends; held = false } ∷ [] }
     ensures exchanges_later { exchanges_of dividing_fused 2 [] ≡ record { purpose = Closes; held = false } ∷ [] }
 {}

@@ -9,7 +9,8 @@ ghost use Rattle.superstep_machine.specs.Run.{IsBspOutcome, Sends, Replies, Vote
 ghost use Rattle.superstep_machine.specs.Trace.{AreBspExchanges};
 ghost use Rattle.machine_examples.specs.Examples.{in_turn};
 ghost use Rattle.machine_examples.specs.WorkedExamples.{three_turns, crossed_reads, added_up, counting_down, uniform_puts, three_parts};
-ghost use Rattle.machine_examples.specs.SmallExamples.{inactive_division, wide_writes, vote_behind, second_range, send_behind_fault, vote_behind_fault, vote_beside_fault, conflict_read};
+ghost use Rattle.machine_examples.specs.SmallExamples.{inactive_division, wide_writes, vote_behind, second_range, send_behind_fault};
+ghost use Rattle.machine_examples.specs.SmallExamples.{vote_behind_fault, vote_beside_fault, conflict_read};
 
 /// Each range begins with registers of 0, and behind it there is none.
 pub fn ranges_begin_anew()

@@ -65,7 +65,8 @@ impl<'a> Interpreter<'a> {
         target: &Target,
         e: &Expression,
     ) -> Result<Effect, Halt>
-        ensures { IsValue effect_is result (spec.alone line (attempt_assign (seen self.now.program.now (state_of run.now)) target.now e.now)) }
+        ensures { IsValue effect_is result
+            (spec.alone line (attempt_assign (seen self.now.program.now (state_of run.now)) target.now e.now)) }
     {
         let no_locals: Vec<i64> = Vec::new(self.alloc);
         let view = view_of(self.program, run, &no_locals);
@@ -85,7 +86,8 @@ impl<'a> Interpreter<'a> {
         low: &Expression,
         high: &Expression,
     ) -> Result<(i64, i64), Halt>
-        ensures { IsValue (λ r. (r.0, r.1)) result (spec.alone line (attempt_bounds (seen self.now.program.now (state_of run.now)) low.now high.now)) }
+        ensures { IsValue (λ r. (r.0, r.1)) result
+            (spec.alone line (attempt_bounds (seen self.now.program.now (state_of run.now)) low.now high.now)) }
     {
         let no_locals: Vec<i64> = Vec::new(self.alloc);
         let view = view_of(self.program, run, &no_locals);
@@ -105,7 +107,8 @@ impl<'a> Interpreter<'a> {
         low: &Expression,
         high: &Expression,
     ) -> Result<(i64, u32), Halt>
-        ensures value { IsValue (λ r. (r.0, r.1)) result (spec.alone line (attempt_range self.now.program.now.procs (seen self.now.program.now (state_of run.now)) low.now high.now)) }
+        ensures value { IsValue (λ r. (r.0, r.1)) result
+            (spec.alone line (attempt_range self.now.program.now.procs (seen self.now.program.now (state_of run.now)) low.now high.now)) }
         // The last index is an i64.
         ensures fits { IfOk result (λ r. FitsSigned w64 (r.0 +ℤ pos (r.1 - 1))) }
     {

@@ -103,7 +103,8 @@ fn add_conflicts_at(
     parts: &Vec<Part>,
     at: usize,
 ) -> Result<Option<Key>, AllocError>
-    ensures { IfOk result (λ b. b ≡ fold lesser best (flat_map shared_key (judged Rule.Common (reads_at at (map part_is parts.now.items))))) }
+    ensures { IfOk result (λ b. b ≡ fold lesser best
+        (flat_map shared_key (judged Rule.Common (reads_at at (map part_is parts.now.items))))) }
 {
     let reads = collect_reads(alloc, parts, at)?;
     let said = slate.judge(alloc, Rule::Common, &reads)?;
@@ -122,7 +123,8 @@ fn add_conflicts(
     best: Option<Key>,
     parts: &Vec<Part>,
 ) -> Result<Option<Key>, AllocError>
-    ensures { IfOk result (λ b. b ≡ fold lesser best (flat_map (conflict_of (reads_of (map part_is parts.now.items))) (reads_of (map part_is parts.now.items)))) }
+    ensures { IfOk result (λ b. b ≡ fold lesser best (flat_map (conflict_of (reads_of (map part_is parts.now.items)))
+        (reads_of (map part_is parts.now.items)))) }
 {
     let mut best = best;
     for at in 0..last_position(parts) {
@@ -157,7 +159,8 @@ fn add_writes(
     best: Option<Key>,
     parts: &Vec<Part>,
 ) -> Result<Option<Key>, AllocError>
-    ensures { IfOk result (λ b. b ≡ fold lesser best (flat_map (λ x. write_conflict rule (map part_is parts.now.items) x.attempt) (map part_is parts.now.items))) }
+    ensures { IfOk result (λ b. b ≡ fold lesser best (flat_map (λ x. write_conflict rule (map part_is parts.now.items) x.attempt)
+        (map part_is parts.now.items))) }
 {
     let said = slate.judge_writes(alloc, rule, parts)?;
     let mut best = best;

@@ -23,7 +23,8 @@ impl<'a> Interpreter<'a> {
         active: &Vec<u32>,
         s: &Step,
     ) -> Result<(), Halt>
-        ensures value { IsBehaviour result (state_in run.new team.new.items) (perform_on self.now.program.now self.now.bound s.now active.now.items (state_in run.old team.old.items)) }
+        ensures value { IsBehaviour result (state_in run.new team.new.items)
+            (perform_on self.now.program.now self.now.bound s.now active.now.items (state_in run.old team.old.items)) }
         ensures grows { OnOk result (run.old.count ≤ run.new.count) }
     {
         match s {
@@ -65,7 +66,9 @@ impl<'a> Interpreter<'a> {
         line: u32,
         test: &Expression,
     ) -> Result<(), Halt>
-        ensures value { IsBehaviour result (state_in run.new team.new.items) (turns_on (self.now.bound + 1) (tested_on self.now.program.now self.now.bound line test.now) (perform_list_on self.now.program.now self.now.bound body.now.items) active.now.items (state_in run.old team.old.items)) }
+        ensures value { IsBehaviour result (state_in run.new team.new.items)
+            (turns_on (self.now.bound + 1) (tested_on self.now.program.now self.now.bound line test.now)
+            (perform_list_on self.now.program.now self.now.bound body.now.items) active.now.items (state_in run.old team.old.items)) }
         ensures grows { OnOk result (run.old.count ≤ run.new.count) }
     {
         let Ok(mut current) = Vec::from_slice(self.alloc, active) else {
@@ -94,7 +97,8 @@ impl<'a> Interpreter<'a> {
         active: &Vec<u32>,
         body: &Vec<Step>,
     ) -> Result<(), Halt>
-        ensures value { IsBehaviour result (state_in run.new team.new.items) (perform_list_on self.now.program.now self.now.bound body.now.items active.now.items (state_in run.old team.old.items)) }
+        ensures value { IsBehaviour result (state_in run.new team.new.items)
+            (perform_list_on self.now.program.now self.now.bound body.now.items active.now.items (state_in run.old team.old.items)) }
         ensures grows { OnOk result (run.old.count ≤ run.new.count) }
     {
         for s in body {
@@ -113,7 +117,8 @@ impl<'a> Interpreter<'a> {
         body: &Vec<Step>,
     ) -> Result<(), Halt>
         requires { FitsSigned w64 (low +ℤ pos (count - 1)) }
-        ensures value { IsBehaviour result (state_of run.new) (pardo_done self.now.program.now self.now.bound locals body.now.items low count (state_of run.old)) }
+        ensures value { IsBehaviour result (state_of run.new) (pardo_done self.now.program.now self.now.bound locals body.now.items low
+            count (state_of run.old)) }
         ensures grows { OnOk result (run.old.count ≤ run.new.count) }
     {
         let Ok(mut team) = gather(self.alloc, low, count, locals) else {

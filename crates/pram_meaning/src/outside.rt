@@ -80,7 +80,8 @@ impl<'a> Interpreter<'a> {
 
     #[tactic(auto, using(crate::proofs::Halts::halts, crate::proofs::Halts::then_is))]
     fn run_test(&self, run: &mut Run, line: u32, test: &Expression) -> Result<bool, Halt>
-        ensures value { IsBehaviour result (state_of run.new) (tested self.now.program.now self.now.bound line test.now (state_of run.old)) }
+        ensures value { IsBehaviour result (state_of run.new)
+            (tested self.now.program.now self.now.bound line test.now (state_of run.old)) }
         ensures more { OnOk result (run.new.count ≡ run.old.count + 1) }
         ensures below { OnOk result (run.old.count < self.now.bound) }
     {
@@ -96,7 +97,8 @@ impl<'a> Interpreter<'a> {
         target: &Target,
         value: &Expression,
     ) -> Result<(), Halt>
-        ensures value { IsBehaviour result (state_of run.new) (spec.assign self.now.program.now self.now.bound line target.now value.now (state_of run.old)) }
+        ensures value { IsBehaviour result (state_of run.new) (spec.assign self.now.program.now self.now.bound line target.now value.now
+            (state_of run.old)) }
         ensures grows { OnOk result (run.old.count ≤ run.new.count) }
     {
         self.begin(run)?;
@@ -114,7 +116,8 @@ impl<'a> Interpreter<'a> {
 
     #[tactic(auto, using(crate::proofs::Halts::halts, crate::proofs::Halts::then_is))]
     fn print(&self, run: &mut Run, line: u32, value: &Expression) -> Result<(), Halt>
-        ensures value { IsBehaviour result (state_of run.new) (spec.print self.now.program.now self.now.bound line value.now (state_of run.old)) }
+        ensures value { IsBehaviour result (state_of run.new) (spec.print self.now.program.now self.now.bound line value.now
+            (state_of run.old)) }
         ensures grows { OnOk result (run.old.count ≤ run.new.count) }
     {
         let item = self.run_value(run, line, value)?;
@@ -133,7 +136,8 @@ impl<'a> Interpreter<'a> {
         low: &Expression,
         high: &Expression,
     ) -> Result<(i64, i64), Halt>
-        ensures value { IsBehaviour result (state_of run.new) (evaluated self.now.bound line (λ m. attempt_bounds (seen self.now.program.now m) low.now high.now) (state_of run.old)) }
+        ensures value { IsBehaviour result (state_of run.new)
+            (evaluated self.now.bound line (λ m. attempt_bounds (seen self.now.program.now m) low.now high.now) (state_of run.old)) }
         ensures more { OnOk result (run.new.count ≡ run.old.count + 1) }
     {
         self.begin(run)?;
@@ -150,7 +154,8 @@ impl<'a> Interpreter<'a> {
         high: &Expression,
         locals: usize,
     ) -> Result<(), Halt>
-        ensures value { IsBehaviour result (state_of run.new) (pardo self.now.program.now self.now.bound line low.now high.now locals body.now.items (state_of run.old)) }
+        ensures value { IsBehaviour result (state_of run.new) (pardo self.now.program.now self.now.bound line low.now high.now locals
+            body.now.items (state_of run.old)) }
         ensures grows { OnOk result (run.old.count ≤ run.new.count) }
     {
         self.begin(run)?;
@@ -212,7 +217,9 @@ impl<'a> Interpreter<'a> {
         line: u32,
         test: &Expression,
     ) -> Result<(), Halt>
-        ensures value { IsBehaviour result (state_of run.new) (turns (self.now.bound + 1) (tested self.now.program.now self.now.bound line test.now) (perform_list self.now.program.now self.now.bound body.now.items) (state_of run.old)) }
+        ensures value { IsBehaviour result (state_of run.new)
+            (turns (self.now.bound + 1) (tested self.now.program.now self.now.bound line test.now)
+            (perform_list self.now.program.now self.now.bound body.now.items) (state_of run.old)) }
         ensures grows { OnOk result (run.old.count ≤ run.new.count) }
     {
         'turns: while self.run_test(run, line, test)? {
@@ -232,7 +239,8 @@ impl<'a> Interpreter<'a> {
         low: &Expression,
         high: &Expression,
     ) -> Result<(), Halt>
-        ensures value { IsBehaviour result (state_of run.new) (for_all self.now.program.now self.now.bound line variable low.now high.now (perform_list self.now.program.now self.now.bound body.now.items) (state_of run.old)) }
+        ensures value { IsBehaviour result (state_of run.new) (for_all self.now.program.now self.now.bound line variable low.now high.now
+            (perform_list self.now.program.now self.now.bound body.now.items) (state_of run.old)) }
         ensures grows { OnOk result (run.old.count ≤ run.new.count) }
     {
         let (first, last) = self.run_bounds(run, line, low, high)?;
@@ -250,7 +258,8 @@ impl<'a> Interpreter<'a> {
         variable: usize,
         numbers: &Numbers,
     ) -> Result<(), Halt>
-        ensures value { IsBehaviour result (state_of run.new) (for_turns self.now.bound (width numbers.now.next numbers.now.last) variable numbers.now.next (perform_list self.now.program.now self.now.bound body.now.items) (state_of run.old)) }
+        ensures value { IsBehaviour result (state_of run.new) (for_turns self.now.bound (width numbers.now.next numbers.now.last) variable
+            numbers.now.next (perform_list self.now.program.now self.now.bound body.now.items) (state_of run.old)) }
         ensures grows { OnOk result (run.old.count ≤ run.new.count) }
     {
         if numbers.is_empty() {
@@ -272,7 +281,8 @@ impl<'a> Interpreter<'a> {
     #[cycle(outside)]
     #[tactic(auto, using(crate::proofs::Loops::block_starts, crate::proofs::Loops::block_halts, crate::proofs::Loops::block_goes, crate::proofs::Loops::block_ends))]
     fn run_block(&self, run: &mut Run, body: &Vec<Statement>) -> Result<(), Halt>
-        ensures value { IsBehaviour result (state_of run.new) (perform_list self.now.program.now self.now.bound body.now.items (state_of run.old)) }
+        ensures value { IsBehaviour result (state_of run.new) (perform_list self.now.program.now self.now.bound body.now.items
+            (state_of run.old)) }
         ensures grows { OnOk result (run.old.count ≤ run.new.count) }
     {
         for s in body {
@@ -284,7 +294,8 @@ impl<'a> Interpreter<'a> {
     /// The whole body of a program.
     #[tactic(auto, using(crate::proofs::Loops::block_starts, crate::proofs::Loops::block_halts, crate::proofs::Loops::block_goes, crate::proofs::Loops::block_ends))]
     pub fn run_body(&self, run: &mut Run) -> Result<(), Halt>
-        ensures { IsBehaviour result (state_of run.new) (perform_list self.now.program.now self.now.bound self.now.program.now.body (state_of run.old)) }
+        ensures { IsBehaviour result (state_of run.new) (perform_list self.now.program.now self.now.bound self.now.program.now.body
+            (state_of run.old)) }
     {
         for s in self.program.body() {
             self.run_statement(run, s)?;

@@ -30,7 +30,8 @@ fn open(alloc: Global, program: &Program, input: &[i64]) -> Result<Run, AllocErr
     ensures count { IfOk result (λ run. run.count ≡ 0) }
     ensures output { IfOk result (λ run. run.output.items ≡ []) }
     ensures uniforms { IfOk result (λ run. run.uniforms.items ≡ replicate program.now.uniforms (pos 0)) }
-    ensures cells { IfOk result (λ run. run.cells.items ≡ input.now ++ replicate (total_size program.now.layout - length input.now) (pos 0)) }
+    ensures cells { IfOk result (λ run. run.cells.items ≡ input.now
+        ++ replicate (total_size program.now.layout - length input.now) (pos 0)) }
 {
     let uniforms = zeros(alloc, program.uniforms())?;
     let mut cells = Vec::from_slice(alloc, input)?;

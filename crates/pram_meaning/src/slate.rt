@@ -144,7 +144,8 @@ impl Slate {
     // What the rule says to the writes to a cell.
     #[tactic(auto, using(crate::proofs::Gathers::verdict_there, crate::proofs::Gathers::verdict_past, crate::proofs::Gathers::verdict_none))]
     fn verdict_on(&self, verdicts: &Vec<Result<i64, Kind>>, cell: u32) -> Result<i64, Kind>
-        ensures { (rule : Rule) → verdicts.now.items ≡ map (λ g. written rule (pos 0) g.writes) (groups_of self.now) → result ≡ written rule (pos 0) (kept self.now cell) }
+        ensures { (rule : Rule) → verdicts.now.items ≡ map (λ g. written rule (pos 0) g.writes) (groups_of self.now) →
+            result ≡ written rule (pos 0) (kept self.now cell) }
     {
         match self.find(cell) {
             Some(place) => match verdicts.get(place) {

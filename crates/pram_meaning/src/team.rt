@@ -70,7 +70,8 @@ pub fn value_in(x: &Part) -> i64
 // One processor's local gets its value.
 #[tactic(auto, using(crate::proofs::Sets::local_is, crate::proofs::Sets::local_none))]
 fn set_local(team: &mut Vec<Member>, place: usize, x: &Part)
-    ensures { map member_is team.new.items ≡ with_local place (part_is x.now).member (spec.value_in (part_is x.now).attempt) (map member_is team.old.items) }
+    ensures { map member_is team.new.items ≡ with_local place (part_is x.now).member (spec.value_in (part_is x.now).attempt)
+        (map member_is team.old.items) }
 {
     let value = value_in(x);
     if let Some(member) = team.get_mut(x.member as usize) {

@@ -34,7 +34,8 @@ impl<'a> Interpreter<'a> {
         target: &StepTarget,
         e: &Expression,
     ) -> Option<Part>
-        ensures { IfSome result (λ x. part_is x ≡ part_of self.now.program.now (state_in run.now team.now.items) (λ s. attempt_step s target.now e.now) v) }
+        ensures { IfSome result (λ x. part_is x ≡ part_of self.now.program.now (state_in run.now team.now.items)
+            (λ s. attempt_step s target.now e.now) v) }
     {
         let no_locals: Vec<i64> = Vec::new(self.alloc);
         let (index, locals) = match team.get(v as usize) {
@@ -72,7 +73,8 @@ impl<'a> Interpreter<'a> {
         target: &StepTarget,
         e: &Expression,
     ) -> Option<Vec<Part>>
-        ensures { IfSome result (λ xs. map part_is xs.items ≡ parts self.now.program.now (state_in run.now team.now.items) (λ s. attempt_step s target.now e.now) active.now.items) }
+        ensures { IfSome result (λ xs. map part_is xs.items ≡ parts self.now.program.now (state_in run.now team.now.items)
+            (λ s. attempt_step s target.now e.now) active.now.items) }
     {
         let mut all = Vec::new(self.alloc);
         for v in active {
@@ -108,7 +110,9 @@ impl<'a> Interpreter<'a> {
         target: &StepTarget,
         e: &Expression,
     ) -> Result<Vec<Part>, Halt>
-        ensures value { IsParts result (state_in run.new team.now.items) (attempted_on self.now.program.now self.now.bound line (λ s. attempt_step s target.now e.now) active.now.items (state_in run.old team.now.items)) }
+        ensures value { IsParts result (state_in run.new team.now.items)
+            (attempted_on self.now.program.now self.now.bound line (λ s. attempt_step s target.now e.now) active.now.items
+            (state_in run.old team.now.items)) }
         ensures more { OnOk result (run.new.count ≡ run.old.count + 1) }
         ensures below { OnOk result (run.old.count < self.now.bound) }
     {
@@ -188,7 +192,8 @@ impl<'a> Interpreter<'a> {
         target: &StepTarget,
         e: &Expression,
     ) -> Result<(), Halt>
-        ensures value { IsBehaviour result (state_in run.new team.new.items) (spec.assign_on self.now.program.now self.now.bound line target.now e.now active.now.items (state_in run.old team.old.items)) }
+        ensures value { IsBehaviour result (state_in run.new team.new.items)
+            (spec.assign_on self.now.program.now self.now.bound line target.now e.now active.now.items (state_in run.old team.old.items)) }
         ensures grows { OnOk result (run.old.count ≤ run.new.count) }
     {
         let all = self.attempt_on(run, team, active, line, target, e)?;
@@ -220,7 +225,8 @@ impl<'a> Interpreter<'a> {
         line: u32,
         test: &Expression,
     ) -> Result<Vec<Part>, Halt>
-        ensures value { IsParts result (state_in run.new team.now.items) (tested_on self.now.program.now self.now.bound line test.now active.now.items (state_in run.old team.now.items)) }
+        ensures value { IsParts result (state_in run.new team.now.items) (tested_on self.now.program.now self.now.bound line test.now
+            active.now.items (state_in run.old team.now.items)) }
         ensures more { OnOk result (run.new.count ≡ run.old.count + 1) }
         ensures below { OnOk result (run.old.count < self.now.bound) }
     {

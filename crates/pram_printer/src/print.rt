@@ -50,7 +50,8 @@ impl<'a, W: Out> Printer<'a, W> {
         ensures same_out { self.new.out.ghost_name ≡ self.old.out.ghost_name }
         ensures prints { Prints (printing (W.Out.state self.old.out.now) self.old.failed)
             (printing (W.Out.state self.new.out.now) self.new.failed)
-            (spelled (Token.Name name.now) ++ (spelled (Token.Mark Mark.OpenBracket) ++ (spelling (tokens subscript.now) ++ spelled (Token.Mark Mark.CloseBracket)))) }
+            (spelled (Token.Name name.now)
+            ++ (spelled (Token.Mark Mark.OpenBracket) ++ (spelling (tokens subscript.now) ++ spelled (Token.Mark Mark.CloseBracket)))) }
     {
         self.name(name);
         self.mark(Mark::OpenBracket);
@@ -185,7 +186,10 @@ impl<'a, W: Out> Printer<'a, W> {
         ensures same_out { self.new.out.ghost_name ≡ self.old.out.ghost_name }
         ensures prints { Prints (printing (W.Out.state self.old.out.now) self.old.failed)
             (printing (W.Out.state self.new.out.now) self.new.failed)
-            (spelled (Token.Name variable.now) ++ (spelled (Token.Mark Mark.Becomes) ++ (spelling (tokens low.now) ++ (spelled (Token.Mark Mark.To) ++ (spelling (tokens high.now) ++ spelled (Token.Mark Mark.Do)))))) }
+            (spelled (Token.Name variable.now)
+            ++ (spelled (Token.Mark Mark.Becomes)
+            ++ (spelling (tokens low.now) ++ (spelled (Token.Mark Mark.To)
+            ++ (spelling (tokens high.now) ++ spelled (Token.Mark Mark.Do)))))) }
     {
         self.name(variable);
         self.mark(Mark::Becomes);
@@ -200,7 +204,9 @@ impl<'a, W: Out> Printer<'a, W> {
         ensures same_out { self.new.out.ghost_name ≡ self.old.out.ghost_name }
         ensures prints { Prints (printing (W.Out.state self.old.out.now) self.old.failed)
             (printing (W.Out.state self.new.out.now) self.new.failed)
-            (spelling (tokens low.now) ++ (spelled (Token.Binary Binary.AtMost) ++ (spelled (Token.Name index.now) ++ (spelled (Token.Binary Binary.AtMost) ++ (spelling (tokens high.now) ++ spelled (Token.Mark Mark.Pardo)))))) }
+            (spelling (tokens low.now) ++ (spelled (Token.Binary Binary.AtMost)
+            ++ (spelled (Token.Name index.now)
+            ++ (spelled (Token.Binary Binary.AtMost) ++ (spelling (tokens high.now) ++ spelled (Token.Mark Mark.Pardo)))))) }
     {
         self.expr(low);
         self.binary(Binary::AtMost);

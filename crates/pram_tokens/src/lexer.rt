@@ -1,6 +1,7 @@
 //! The tokenizer: the longest token at each place of a text.
 
-ghost use Rattle.std.specs.Prelude.{◌≡◌, ℕ, pos, ◌+◌, ◌≤◌, ◌<◌, true, false, Some, None, Ok, Err, take, drop, length, slice_index, IfOk, MatchOption};
+ghost use Rattle.std.specs.Prelude.{◌≡◌, ℕ, pos, ◌+◌, ◌≤◌, ◌<◌, true, false, Some, None, Ok, Err, take, drop, length, slice_index, IfOk};
+ghost use Rattle.std.specs.Prelude.{MatchOption};
 ghost use Rattle.pram_tokens.specs.Lexemes as lexemes;
 ghost use Rattle.pram_tokens.specs.Scanning as scanning;
 ghost use Rattle.pram_model.specs.Names.{is_digit, is_letter};
@@ -97,7 +98,8 @@ fn number(location: Location, text: &[u8]) -> Lexeme
     requires some { 0 < length text.now }
     requires digit { is_digit (slice_index text.now 0) ≡ true }
     ensures within { lexemes.IsWithin result text.now }
-    ensures value { result ≡ lexemes.number_lexeme location (take (lexemes.span Class.Digit text.now) text.now) (drop (lexemes.span Class.Digit text.now) text.now) }
+    ensures value { result ≡ lexemes.number_lexeme location (take (lexemes.span Class.Digit text.now) text.now)
+        (drop (lexemes.span Class.Digit text.now) text.now) }
 {
     let (digits, rest) = text.split_at(span(Class::Digit, text));
     if is_in(Class::Word, byte_at(rest, 0)) {

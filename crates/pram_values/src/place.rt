@@ -35,6 +35,7 @@ impl Place {
 #[tactic(auto, using(crate::proofs::PlaceOrder::never_before_itself, crate::proofs::PlaceOrder::before_is_passed_on, crate::proofs::PlaceOrder::one_is_before))]
 pub fn place_order()
     ensures irreflexive { (p : specification.Place) → is_place_before p p ≡ false }
-    ensures transitive { (p q r : specification.Place) → is_place_before p q ≡ true → is_place_before q r ≡ true → is_place_before p r ≡ true }
+    ensures transitive { (p q r : specification.Place) → is_place_before p q ≡ true → is_place_before q r ≡ true →
+        is_place_before p r ≡ true }
     ensures connected { (p q : specification.Place) → is_place_before p q ≡ false → is_place_before q p ≡ false → p ≡ q }
 {}

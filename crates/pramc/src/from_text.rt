@@ -71,7 +71,8 @@ pub fn mean_program(
     input: &[i64],
     bound: u32,
 ) -> Result<Outcome, Refusal>
-    ensures outcome { IfOk result (λ o. (text : List ℕ) → IsProgramOf text program.now → IsRunOf text input.now bound program.now.layout (verdict_of o)) }
+    ensures outcome { IfOk result (λ o. (text : List ℕ) → IsProgramOf text program.now →
+        IsRunOf text input.now bound program.now.layout (verdict_of o)) }
     ensures refused { (text : List ℕ) → IsProgramOf text program.now → IsRefusedRightly text input.now result }
 {
     match reference_run(alloc, program, input, bound) {
@@ -89,7 +90,8 @@ pub fn run_program(
     input: &[i64],
     bound: u32,
 ) -> Result<Report, Refusal>
-    ensures outcome { IfOk result (λ r. (text : List ℕ) → IsProgramOf text program → IsRunOf text input.now bound r.layout (verdict_of r.outcome)) }
+    ensures outcome { IfOk result (λ r. (text : List ℕ) → IsProgramOf text program →
+        IsRunOf text input.now bound r.layout (verdict_of r.outcome)) }
     ensures refused { (text : List ℕ) → IsProgramOf text program → IsRefusedRightly text input.now result }
 {
     match mean_program(alloc, &program, input, bound) {

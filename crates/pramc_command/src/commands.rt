@@ -135,7 +135,8 @@ fn mean<'a>(
     input: &[i64],
     bound: u32,
 ) -> Result<Outcome, Stop<'a>>
-    ensures outcome { IfOk result (λ o. (text : List ℕ) → IsProgramOf text program.now → IsRunOf text input.now bound program.now.layout (verdict_of o)) }
+    ensures outcome { IfOk result (λ o. (text : List ℕ) → IsProgramOf text program.now →
+        IsRunOf text input.now bound program.now.layout (verdict_of o)) }
     ensures refused { (text : List ℕ) → IsProgramOf text program.now → IfErr result IsNoFailure }
 {
     match mean_program(alloc, program, input, bound) {
@@ -146,7 +147,8 @@ fn mean<'a>(
 
 // How a run of the program came out.
 fn run<'a>(alloc: Global, program: Program, input: &[i64], bound: u32) -> Result<Report, Stop<'a>>
-    ensures outcome { IfOk result (λ r. (text : List ℕ) → IsProgramOf text program → IsRunOf text input.now bound r.layout (verdict_of r.outcome)) }
+    ensures outcome { IfOk result (λ r. (text : List ℕ) → IsProgramOf text program →
+        IsRunOf text input.now bound r.layout (verdict_of r.outcome)) }
     ensures refused { (text : List ℕ) → IsProgramOf text program → IfErr result IsNoFailure }
 {
     match run_program(alloc, program, input, bound) {
@@ -162,7 +164,8 @@ fn write_outcome<'a, O: Out>(
     outcome: &Outcome,
 ) -> Result<Status, Stop<'a>>
     requires out { (O.Out.state out.old).failures < 2 ^ 62 }
-    ensures answers { (text : List ℕ) (input : List ℤ) (n : ℕ) → IsRunOf text input n layout.now (verdict_of outcome.now) → Answers (O.Out.state out.old) (O.Out.state out.new) result }
+    ensures answers { (text : List ℕ) (input : List ℤ) (n : ℕ) → IsRunOf text input n layout.now (verdict_of outcome.now) →
+        Answers (O.Out.state out.old) (O.Out.state out.new) result }
 {
     match show(layout, outcome, out) {
         Ok(()) => {

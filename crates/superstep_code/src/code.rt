@@ -52,7 +52,14 @@ impl Code {
         requires layout { IsLayout layout }
         requires few_uniform { uniform_registers ≤ most_registers }
         requires few_private { private_registers ≤ most_registers }
-        ensures value { result ≡ record { rule = rule; procs = procs; layout = layout; uniform_registers = uniform_registers; private_registers = private_registers; instructions = [] } }
+        ensures value { result ≡ record {
+          rule = rule;
+          procs = procs;
+          layout = layout;
+          uniform_registers = uniform_registers;
+          private_registers = private_registers;
+          instructions = [];
+        } }
     {
         Code {
             rule,
@@ -80,7 +87,14 @@ impl Code {
         requires few_private { private_registers ≤ most_registers }
         requires few { length instructions.items ≤ most_instructions }
         requires fit { AllByRecursion IsInstr instructions.items }
-        ensures value { result ≡ record { rule = rule; procs = procs; layout = layout; uniform_registers = uniform_registers; private_registers = private_registers; instructions = instructions.items } }
+        ensures value { result ≡ record {
+          rule = rule;
+          procs = procs;
+          layout = layout;
+          uniform_registers = uniform_registers;
+          private_registers = private_registers;
+          instructions = instructions.items;
+        } }
     {
         Code {
             rule,

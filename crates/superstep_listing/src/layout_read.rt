@@ -70,7 +70,8 @@ fn add<'a>(
     requires entry { IsEntry (record { name = entry.name.now; bounds = entry.bounds }) }
     ensures ok { IfOk result (λ b. MatchBool b
         (IsLayout layout.new × (layout.new ≡ layout.old ++ record { name = entry.entry.name.now; bounds = entry.entry.bounds } ∷ []))
-        ((layout.new ≡ layout.old) × (IsLayout (layout.old ++ record { name = entry.entry.name.now; bounds = entry.entry.bounds } ∷ []) → ⊥))) }
+        ((layout.new ≡ layout.old) × (IsLayout (layout.old ++ record { name = entry.entry.name.now; bounds = entry.entry.bounds } ∷ []) →
+        ⊥))) }
     ensures known { OnOk result (AreKnown (λ q. contains_by (λ k. bytes_eq q k.now) names.new) layout.new) }
 {
     if !is_new(names, entry.name) || !has_room(layout, entry.bounds) {

@@ -17,7 +17,8 @@ ghost use Rattle.superstep_machine.specs.WrittenCells.{EntriesOfAll, EntriesThat
 pub fn order_of_keys()
     ensures statement { (a b : FaultKey) → a.count < b.count → is_first a b ≡ true }
     ensures position { (a b : FaultKey) → a.count ≡ b.count → a.position < b.position → is_first a b ≡ true }
-    ensures class { (a b : FaultKey) → a.count ≡ b.count → a.position ≡ b.position → a.conflict ≡ false → b.conflict ≡ true → is_first a b ≡ true }
+    ensures class { (a b : FaultKey) → a.count ≡ b.count → a.position ≡ b.position → a.conflict ≡ false → b.conflict ≡ true →
+        is_first a b ≡ true }
     ensures place { (a b : FaultKey) → a.count ≡ b.count → a.position ≡ b.position → a.conflict ≡ b.conflict
         → is_place_before a.place b.place ≡ true → is_first a b ≡ true }
     // Of two different keys one alone is told.

@@ -1,6 +1,7 @@
 //! A mark of any worker stops all.
 
-ghost use Rattle.superstep_machine.specs.Refusals.{FirstIsSent, RestIsLeft, AnyMarkCounts, MemoryGoesFirst, MarkIsAWorkers, MarksStopAll, MarkedRunsEnd};
+ghost use Rattle.superstep_machine.specs.Refusals.{FirstIsSent, RestIsLeft, AnyMarkCounts, MemoryGoesFirst, MarkIsAWorkers, MarksStopAll};
+ghost use Rattle.superstep_machine.specs.Refusals.{MarkedRunsEnd};
 ghost use Rattle.superstep_machine.specs.Refusals.{SameBeforeMarks, SameOutcomeBefore, AllStopAtAMark, NoOutcomeAtAMark};
 
 /// Of the marks that a worker's stretches are to have, the first alone befalls the next stretch, and

@@ -3,7 +3,8 @@
 ghost use Rattle.std.specs.Prelude.{◌≡◌, ◌∷◌, [], ◌+◌, ◌-◌, ◌^◌, pos, negsuc, true, false};
 ghost use Rattle.pram_model.specs.declared.rule.Rule.TheVariants.{Common, Sum};
 ghost use Rattle.superstep_machine.specs.Words.{words, blank};
-ghost use Rattle.superstep_machine.specs.WordLaws.{WordsReadBack, SentIsReadBack, RepliedIsReadBack, VotedIsReadBack, ClosingIsReadBack, EntriesOfWords, AskersOfWords};
+ghost use Rattle.superstep_machine.specs.WordLaws.{WordsReadBack, SentIsReadBack, RepliedIsReadBack, VotedIsReadBack, ClosingIsReadBack};
+ghost use Rattle.superstep_machine.specs.WordLaws.{EntriesOfWords, AskersOfWords};
 
 /// The words of a message and its header give it back, at the module that it is for.
 pub fn words_read_back()

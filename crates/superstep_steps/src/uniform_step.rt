@@ -81,7 +81,8 @@ fn ask_uniform(
     subscript: u16,
     position: u32,
 ) -> Result<(), AllocError>
-    ensures { OnOk result (uniform_of u.new ≡ spec.on_uniform code.now (instr_is.Ask side_is.Uniform destination entry subscript position) (uniform_of u.old)) }
+    ensures { OnOk result (uniform_of u.new ≡ spec.on_uniform code.now (instr_is.Ask side_is.Uniform destination entry subscript position)
+        (uniform_of u.old)) }
 {
     let cell = code
         .layout()
@@ -99,7 +100,12 @@ fn ask_uniform(
 
 // A read of the processors is held.
 fn ask_private(u: &mut UniformState, destination: u16, position: u32) -> Result<(), AllocError>
-    ensures { OnOk result (uniform_of u.new ≡ spec.held_read (uniform_of u.old) (record { side = side_is.Private; destination = destination; moment = spec.moment_of (uniform_of u.old) position; cell = None })) }
+    ensures { OnOk result (uniform_of u.new ≡ spec.held_read (uniform_of u.old) (record {
+      side = side_is.Private;
+      destination = destination;
+      moment = spec.moment_of (uniform_of u.old) position;
+      cell = None;
+    })) }
 {
     let moment = moment_of(u, position);
     u.asks.push(Read {
@@ -113,7 +119,10 @@ fn ask_private(u: &mut UniformState, destination: u16, position: u32) -> Result<
 
 // An item of the output.
 fn print(u: &mut UniformState, source: u16) -> Result<(), AllocError>
-    ensures { OnOk result (uniform_of u.new ≡ record (uniform_of u.old) { output = (uniform_of u.old).output ++ (u.old.count, (uniform_of u.old).registers source) ∷ [] }) }
+    ensures { OnOk result (uniform_of u.new ≡ record (uniform_of u.old) {
+      output = (uniform_of u.old).output
+          ++ (u.old.count, (uniform_of u.old).registers source) ∷ [];
+    }) }
 {
     let value = register(&u.registers, source);
     let count = u.count;

@@ -1,5 +1,6 @@
 // The law of the turnstile.
-ghost use Rattle.turnstile.specs.Interleavings.{FinishesAreTheTables, LooksAreTheTables, ReceivesWhatWasSent, ReceivesFromEach, HasWholeColumns};
+ghost use Rattle.turnstile.specs.Interleavings.{FinishesAreTheTables, LooksAreTheTables, ReceivesWhatWasSent, ReceivesFromEach};
+ghost use Rattle.turnstile.specs.Interleavings.{HasWholeColumns};
 
 /// What the workers have received, in whatever order they make their steps: a Finish or a Look of any worker, one at a
 /// time. The body is empty: this is a law, for proofs.

@@ -1,6 +1,7 @@
 // What each step tells. These types are for the proofs alone.
 ghost use Rattle.std.specs.Prelude.{[]};
-ghost use Rattle.turnstile.specs.Turns.{Holds, keeper, looks_at, finishes, departs, next_keeper, next_worker, taken_in, spent_view, collects};
+ghost use Rattle.turnstile.specs.Turns.{Holds, keeper, looks_at, finishes, departs, next_keeper, next_worker, taken_in, spent_view};
+ghost use Rattle.turnstile.specs.Turns.{collects};
 
 use crate::blocks::Blocks;
 use crate::letter::Letter;

@@ -1,5 +1,6 @@
 // What is left of a block while its pieces are out.
-ghost use Rattle.std.specs.Prelude.{◌≡◌, ℕ, ◌+◌, ◌*◌, ◌<◌, ◌≤◌, ◌++◌, List, [], map, length, drop, vec_capacity, IfOk, MatchResult, Option, Some};
+ghost use Rattle.std.specs.Prelude.{◌≡◌, ℕ, ◌+◌, ◌*◌, ◌<◌, ◌≤◌, ◌++◌, List, [], map, length, drop, vec_capacity, IfOk, MatchResult};
+ghost use Rattle.std.specs.Prelude.{Option, Some};
 ghost use Rattle.std.specs.VecDeque.{deque_capacity};
 ghost use Rattle.std.specs.Slots.{slots_items, slots_len, slots_filled};
 ghost use Rattle.exchange_arena.specs.Piece.{PieceState};

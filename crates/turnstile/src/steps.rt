@@ -1,5 +1,6 @@
 // What a worker does at the table.
-ghost use Rattle.std.specs.Prelude.{◌≡◌, ℕ, ◌+◌, ◌*◌, ◌%◌, ◌^◌, ◌<◌, ◌≤◌, List, [], ◌∷◌, ◌++◌, length, map, Some, None, IsTrue, ◌↔◌, false, Option};
+ghost use Rattle.std.specs.Prelude.{◌≡◌, ℕ, ◌+◌, ◌*◌, ◌%◌, ◌^◌, ◌<◌, ◌≤◌, List, [], ◌∷◌, ◌++◌, length, map, Some, None, IsTrue, ◌↔◌, false};
+ghost use Rattle.std.specs.Prelude.{Option};
 ghost use Rattle.exchange_arena.specs.Piece.{PieceState};
 ghost use Rattle.atomic_table.specs.Table.{rest};
 ghost use Rattle.turnstile.specs.declared.views.Kind.TheVariants.{Seated};
