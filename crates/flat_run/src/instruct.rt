@@ -15,15 +15,16 @@ ghost use Rattle.flat_run.specs.Views.{own_of, held_of, flat_of, IsSized, AreSam
 use crate::machine::Machine;
 use crate::processor::{ProcessorState, fresh, step_own};
 use crate::processor_fault::{own_key, own_write};
-use pram_model::rule::Rule;
 use std::alloc::{AllocError, Global};
 use superstep_code::code::Code;
 use superstep_code::instr::Instr;
 use superstep_machine::key::{Key, least};
 use superstep_steps::{
-    UniformState, index_of, join, single, step_uniform, uniform_key, uniform_write,
+    UniformState, index_of, step_uniform, uniform_key, uniform_write, with_writer,
 };
 use write_rules::entry::Entry;
+use write_rules::under::{RuleBody, under};
+use write_rules::write_rule::WriteRule;
 
 // The least key that is noted on the processors.
 fn own_keys(
@@ -46,21 +47,28 @@ fn own_keys(
 }
 
 // One write more, as far as there is one and its cell.
-fn add_write(rule: Rule, held: &mut Vec<Option<Entry>>, processor: i64, write: Option<(u32, i64)>)
+fn add_write<R: WriteRule>(
+    rule: &R,
+    held: &mut Vec<Option<Entry>>,
+    processor: i64,
+    write: Option<(u32, i64)>,
+)
     ensures cells { length held.new.items ≡ length held.old.items }
     ensures written { (c : ℕ) → c < length held.old.items →
-        held_of held.new.items c ≡ spec_join rule (single_to rule c processor write) (held_of held.old.items c) }
+        held_of held.new.items c
+        ≡ spec_join (R.rule rule.now) (single_to (R.rule rule.now) c processor write) (held_of held.old.items c) }
 {
     if let Some((cell, value)) = write {
         let place = cell as usize;
         if place < held.len() {
-            held[place] = join(rule, Some(single(rule, processor, value)), held[place]);
+            held[place] = with_writer(rule, processor, value, held[place]);
         }
     }
 }
 
 // What the processors write, cell by cell.
-fn own_writes(
+fn own_writes<R: WriteRule>(
+    rule: &R,
     code: &Code,
     instr: Instr,
     u: &UniformState,
@@ -71,14 +79,49 @@ fn own_writes(
     requires none { (c : ℕ) → held_of held.old.items c ≡ None }
     ensures cells { length held.new.items ≡ length held.old.items }
     ensures written { (c : ℕ) → c < length held.old.items → held_of held.new.items c
-        ≡ total None (spec_join code.now.rule) (λ v. single_to code.now.rule c (spec.index_of (uniform_of u.now) v)
+        ≡ total None (spec_join (R.rule rule.now)) (λ v. single_to (R.rule rule.now) c (spec.index_of (uniform_of u.now) v)
         (spec.own_write code.now instr (own_of processors.now.items v))) (range_with_len 0 u.now.width) }
 {
     let mut v = u.width;
     'processors: while v > 0 {
         v -= 1;
         let write = own_write(code, instr, &processors[v as usize]);
-        add_write(code.rule(), held, index_of(u, v), write);
+        add_write(rule, held, index_of(u, v), write);
+    }
+}
+
+// All writes of an instruction. It is run under the rule of the code, which is matched once for all of them.
+struct Writes<'a> {
+    code: &'a Code,
+    instr: Instr,
+    machine: &'a Machine,
+    held: Vec<Option<Entry>>,
+}
+
+impl<'a> RuleBody for Writes<'a> {
+    ghost use Rattle.std.specs.Prelude.{◌≡◌, ◌<◌, ℕ, None, length};
+    ghost use Rattle.flat_machine.specs.Flat.{written as spec_written};
+    ghost use Rattle.flat_run.specs.Views.{flat_of, held_of, IsSized};
+
+    type Answer = Vec<Option<Entry>>;
+
+    ghost can_run = { λ b rule. (rule ≡ b.code.now.rule) × IsSized b.code.now b.machine.now × ((c : ℕ) → held_of b.held.items c ≡ None) };
+
+    ghost gives = { λ b rule held. (length held.items ≡ length b.held.items) × ((c : ℕ) → c < length b.held.items →
+        held_of held.items c ≡ spec_written b.code.now b.instr (flat_of b.machine.now) c) };
+
+    fn run<R: WriteRule>(self, rule: &R) -> Vec<Option<Entry>> {
+        let Writes {
+            code,
+            instr,
+            machine,
+            mut held,
+        } = self;
+        let u = &machine.uniform;
+        own_writes(rule, code, instr, u, &machine.processors, &mut held);
+        let write = uniform_write(code, instr, u);
+        add_write(rule, &mut held, 0, write);
+        held
     }
 }
 
@@ -162,17 +205,16 @@ fn written(
     ensures each { IfOk result (λ held. (c : ℕ) → c < total_size code.now.layout →
         held_of held.items c ≡ spec_written code.now instr (flat_of machine.now) c) }
 {
-    let mut held = none_held(alloc, code.layout().cells())?;
-    own_writes(
-        code,
-        instr,
-        &machine.uniform,
-        &machine.processors,
-        &mut held,
-    );
-    let write = uniform_write(code, instr, &machine.uniform);
-    add_write(code.rule(), &mut held, 0, write);
-    Ok(held)
+    let held = none_held(alloc, code.layout().cells())?;
+    Ok(under(
+        code.rule(),
+        Writes {
+            code,
+            instr,
+            machine,
+            held,
+        },
+    ))
 }
 
 // What an instruction does to the uniform part and to the processors.

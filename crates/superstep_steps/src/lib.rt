@@ -14,7 +14,7 @@ pub use arithmetic::{computed, computed_on, is_of, position_of, wrong_in};
 pub use range::range_width;
 pub use read::{Moment, Read};
 pub use registers::{make_room, register, set_number, set_result, value_at, zero_without};
-pub use rule::{join, single, verdict_on};
+pub use rule::{join, single, verdict_on, with_writer};
 pub use uniform::UniformState;
 pub use uniform_fault::{fault_at, missing, uniform_key, uniform_write, write_to};
 pub use uniform_step::{index_of, moment_of, open_uniform, step_uniform};

@@ -1,6 +1,6 @@
 //! How the writers of one cell are combined, by the rule of the code.
 
-ghost use Rattle.std.specs.Prelude.{◌≡◌};
+ghost use Rattle.std.specs.Prelude.{◌≡◌, Some};
 ghost use Rattle.superstep_machine.specs.Setting.{combining};
 ghost use Rattle.superstep_machine.specs.Sending as spec;
 
@@ -96,6 +96,36 @@ pub fn join(rule: Rule, a: Option<Entry>, b: Option<Entry>) -> Option<Entry>
                 second: y,
             },
         )),
+    }
+}
+
+// The entry of one writer, under a rule that is known by its type.
+fn one<R: WriteRule>(rule: &R, processor: i64, value: i64) -> Entry
+    ensures { result ≡ (combining (R.rule rule.now)).single processor value }
+{
+    rule.single(processor, value)
+}
+
+// Two entries as one.
+fn both<R: WriteRule>(rule: &R, a: Entry, b: Entry) -> Entry
+    ensures { result ≡ (combining (R.rule rule.now)).join a b }
+{
+    rule.join(a, b)
+}
+
+/// One writer more of a cell, under a rule that is known by its type.
+pub fn with_writer<R: WriteRule>(
+    rule: &R,
+    processor: i64,
+    value: i64,
+    held: Option<Entry>,
+) -> Option<Entry>
+    ensures { result ≡ spec.join (R.rule rule.now) (Some ((combining (R.rule rule.now)).single processor value)) held }
+{
+    let writer = one(rule, processor, value);
+    match held {
+        None => Some(writer),
+        Some(entry) => Some(both(rule, writer, entry)),
     }
 }
 

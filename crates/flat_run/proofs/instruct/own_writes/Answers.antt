@@ -10,25 +10,24 @@ use Rattle.flat_run.proofs.SumLemmas.{sum_goes}
 use Rattle.flat_run.proofs.instruct.own_writes.Goals as goal
 
 pub processors-preserved : goal.processors-preserved
-processors-preserved c =
+processors-preserved g c =
     let old = c.processors.invariant in
     let h = old.2 in
     let v = c.processors.v - 1 in
     let u = uniform_of c.args.u.now in
     let code = c.args.code.now in
+    let rule = g.R.WriteRule.rule c.args.rule.now in
     let ps = c.args.processors.now.items in (
       c.add_write.ensures.cells ∙ old.0,
-      (λ cell l. sum_goes None (join code.rule) (λ k. single_to code.rule cell (index_of u k)
+      (λ cell l. sum_goes None (join rule) (λ k. single_to rule cell (index_of u k)
           (own_write code c.args.instr (own_of ps k))) c.args.u.now.width c.processors.v v _ _
           (old.1 cell l) (omega (arith, c.processors-test.true))
           (c.add_write.ensures.written cell (omega (arith, l, old.0))
-          ∙ ap (λ i. join c.rule.result (single_to c.rule.result cell i c.own_write-write.result) (held_of c.processors.held.items cell))
+          ∙ ap (λ i. join rule (single_to rule cell i c.own_write-write.result) (held_of c.processors.held.items cell))
           (to_z-of_z w64 c.index_of.result c.index_of.ensures.fits)
-          ∙ ap (λ r. join r (single_to r cell c.index_of.result c.own_write-write.result) (held_of c.processors.held.items cell))
-          c.rule.ensures.value
-          ∙ ap (λ i. join code.rule (single_to code.rule cell i c.own_write-write.result) (held_of c.processors.held.items cell))
+          ∙ ap (λ i. join rule (single_to rule cell i c.own_write-write.result) (held_of c.processors.held.items cell))
           c.index_of.ensures.value
-          ∙ ap (λ w. join code.rule (single_to code.rule cell (index_of u v) w) (held_of c.processors.held.items cell))
+          ∙ ap (λ w. join rule (single_to rule cell (index_of u v) w) (held_of c.processors.held.items cell))
           (c.own_write-write.ensures ∙ ap (own_write code c.args.instr)
           (own_is ps v c.index.result.now (omega (arith, h, c.processors-test.true, c.requires.room)) c.index.ensures)))),
       omega (arith, h),

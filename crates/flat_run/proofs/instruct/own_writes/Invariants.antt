@@ -8,12 +8,12 @@ use Rattle.flat_run.proofs.SumLemmas.{IsSumFrom}
 use Rattle.flat_run.proofs.instruct.own_writes.Given as goal
 
 abbrev pub invariant-processors : goal.invariant-processors
-invariant-processors l =
+invariant-processors g l =
     (length l.held.items ≡ length l.fn.held.items)
-    × ((c : ℕ) → c < length l.fn.held.items → IsSumFrom None (join l.code.rule)
-    (λ v. single_to l.code.rule c (index_of (uniform_of l.u) v) (own_write l.code l.instr (own_of l.processors.items v))) l.u.width l.v
+    × ((c : ℕ) → c < length l.fn.held.items → IsSumFrom None (join (g.R.WriteRule.rule l.rule))
+    (λ v. single_to (g.R.WriteRule.rule l.rule) c (index_of (uniform_of l.u) v) (own_write l.code l.instr (own_of l.processors.items v))) l.u.width l.v
     (held_of l.held.items c))
     × (l.v ≤ l.u.width)
 
 abbrev pub decreases-processors : goal.decreases-processors
-decreases-processors l = l.v
+decreases-processors g l = l.v
