@@ -2,6 +2,8 @@
 
 ghost use Rattle.stretches.specs.Applied.{InstructionsApply, WritesApply, SendsAreSame, SendsLeaveMemory, SendsOfWritesApply};
 ghost use Rattle.stretches.specs.Applied.{RepliesApply, VotesApply, BareIsApplied};
+ghost use Rattle.stretches.specs.Along.{RunsBegin, WorkGoesOn, MarksGoOn, SendsGoOn, RepliesGoOn, VotesGoOn, JumpsGoOn};
+ghost use Rattle.stretches.specs.Along.{ForksGoOn, NothingDecides};
 
 /// The machine may be seen with the write that it holds applied at once: each instruction, a send, a
 /// reply and a vote do the same to that state, and a write is applied where it stands. This holds for every
@@ -15,4 +17,20 @@ pub fn held_writes_apply()
     ensures replies { RepliesApply }
     ensures votes { VotesApply }
     ensures bare { BareIsApplied }
+{}
+
+/// Where a run comes to, one instruction after another, and with how many exchanges: none for an
+/// instruction on registers, a mark below the bound and a jump; one for a reply, a vote, and a send at
+/// which anything is held. An exchange goes on that decides nothing, and none does while each key that
+/// is told is of the running statement.
+pub fn runs_go_on()
+    ensures begin { RunsBegin }
+    ensures work { WorkGoesOn }
+    ensures marks { MarksGoOn }
+    ensures sends { SendsGoOn }
+    ensures replies { RepliesGoOn }
+    ensures votes { VotesGoOn }
+    ensures jumps { JumpsGoOn }
+    ensures forks { ForksGoOn }
+    ensures undecided { NothingDecides }
 {}
