@@ -1,0 +1,16 @@
+//! The processors of a worker by columns: a private register is a column of values, one for each of its processors.
+#![tactic(auto)]
+
+mod all;
+mod arithmetic;
+mod decisions;
+mod listed;
+mod operation;
+mod values;
+
+pub use all::calculate_all;
+pub use arithmetic::{Difference, Negative, Product, Quotient, Remainder, Sum};
+pub use decisions::{AtMost, Below, Both, Either, Equal, Negation};
+pub use listed::calculate_listed;
+pub use operation::Operation;
+pub use values::{Above, Constant, Same};
