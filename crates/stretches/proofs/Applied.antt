@@ -40,7 +40,7 @@ uniform_same code (Put side c s v q) u h = cc
 uniform_same code (Print s) u h = refl
 uniform_same code i u h = refl
 
-put_stays : (code : SuperstepCode) (i : Instr) (u : UniformPart) → is_put i ≡ false → (on_uniform code i u).put ≡ u.put
+pub put_stays : (code : SuperstepCode) (i : Instr) (u : UniformPart) → is_put i ≡ false → (on_uniform code i u).put ≡ u.put
 put_stays code (Mark line) u h = refl
 put_stays code (Enter a b q) u h = refl
 put_stays code Leave u h = refl
@@ -92,7 +92,7 @@ module _ (code : SuperstepCode) where
       (total None least (λ v. own_key_same code i f.uniform v (f.own v) z) (range f))
 
   -- what an instruction that is no put leaves held
-  held_stays : (i : Instr) (f : Flat) → is_put i ≡ false → (after_instr code i f).held ≡ f.held
+  pub held_stays : (i : Instr) (f : Flat) → is_put i ≡ false → (after_instr code i f).held ≡ f.held
   held_stays i f h = ap (λ b. let x : ℕ → Option Entry = λ c. if b then written code i f c else f.held c in x) h
 
   owed_stays : (i : Instr) (f : Flat) → is_put i ≡ false → owed code (after_instr code i f) ≡ owed code f
@@ -164,7 +164,7 @@ writes_apply code i f h b = cc
 -- ---- exchanges
 
 module _ (code : SuperstepCode) where
-  send_same : (f : Flat) → after_send code (applied code f) ≡ after_send code f
+  pub send_same : (f : Flat) → after_send code (applied code f) ≡ after_send code f
   send_same f =
       let key = ap (λ k. least (told code f) (least k (read_keys code f))) (none_owed code (applied code f) refl)
       ∙ sym (told_sent code f) in

@@ -1,2 +1,4 @@
 pub mod Applied
 pub mod Along
+pub mod Running
+pub mod Folds

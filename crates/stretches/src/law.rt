@@ -4,6 +4,7 @@ ghost use Rattle.stretches.specs.Applied.{InstructionsApply, WritesApply, SendsA
 ghost use Rattle.stretches.specs.Applied.{RepliesApply, VotesApply, BareIsApplied};
 ghost use Rattle.stretches.specs.Along.{RunsBegin, WorkGoesOn, MarksGoOn, SendsGoOn, RepliesGoOn, VotesGoOn, JumpsGoOn};
 ghost use Rattle.stretches.specs.Along.{ForksGoOn, NothingDecides};
+ghost use Rattle.stretches.specs.Folds.{StretchesAreFolds, CostsAreCounted};
 
 /// The machine may be seen with the write that it holds applied at once: each instruction, a send, a
 /// reply and a vote do the same to that state, and a write is applied where it stands. This holds for every
@@ -33,4 +34,13 @@ pub fn runs_go_on()
     ensures jumps { JumpsGoOn }
     ensures forks { ForksGoOn }
     ensures undecided { NothingDecides }
+{}
+
+/// A stretch of code without marks and jumps, in which a write or a reply stands only where no write is
+/// held, is run as a fold over its instructions, while what is told is of the running statement; and
+/// with each write applied at once the fold gives the same. Its exchanges are at most those that stand
+/// in it.
+pub fn stretches_are_folds()
+    ensures folds { StretchesAreFolds }
+    ensures counted { CostsAreCounted }
 {}
