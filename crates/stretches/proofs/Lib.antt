@@ -2,3 +2,5 @@ pub mod Applied
 pub mod Along
 pub mod Running
 pub mod Folds
+pub mod Tells
+pub mod Closes

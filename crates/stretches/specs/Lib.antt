@@ -1,3 +1,5 @@
 pub mod Applied
 pub mod Along
 pub mod Folds
+pub mod Tells
+pub mod Closes

@@ -5,6 +5,8 @@ ghost use Rattle.stretches.specs.Applied.{RepliesApply, VotesApply, BareIsApplie
 ghost use Rattle.stretches.specs.Along.{RunsBegin, WorkGoesOn, MarksGoOn, SendsGoOn, RepliesGoOn, VotesGoOn, JumpsGoOn};
 ghost use Rattle.stretches.specs.Along.{ForksGoOn, NothingDecides};
 ghost use Rattle.stretches.specs.Folds.{StretchesAreFolds, CostsAreCounted};
+ghost use Rattle.stretches.specs.Tells.{EndsTell, QuietPlacesTell, QuietStretchesTell, JumpsTell, ForksTell};
+ghost use Rattle.stretches.specs.Closes.{HaltsEnd, BoundsEnd};
 
 /// The machine may be seen with the write that it holds applied at once: each instruction, a send, a
 /// reply and a vote do the same to that state, and a write is applied where it stands. This holds for every
@@ -43,4 +45,23 @@ pub fn runs_go_on()
 pub fn stretches_are_folds()
     ensures folds { StretchesAreFolds }
     ensures counted { CostsAreCounted }
+{}
+
+/// When a fault of the running statement is the outcome, once it is told and no read is held: at a mark
+/// and at a halt of well-formed code; and at each place before them from which nothing is noted on the
+/// way there, whatever the registers hold.
+pub fn faults_are_told()
+    ensures ends { EndsTell }
+    ensures quiet { QuietPlacesTell }
+    ensures stretches { QuietStretchesTell }
+    ensures jumps { JumpsTell }
+    ensures forks { ForksTell }
+{}
+
+/// How a run of well-formed code comes out that comes to a halt, or to a mark at its bound, with no
+/// fault told: with the output, at a halt with the memory in which the held write is applied, and with
+/// one exchange more, or two where a write is held.
+pub fn runs_close()
+    ensures halt { HaltsEnd }
+    ensures bound { BoundsEnd }
 {}

@@ -1,0 +1,11 @@
+use Rattle.stretches.proofs.Tells.{ends_tell, quiet_places_tell, quiet_stretches_tell, jumps_tell, forks_tell}
+use Rattle.stretches.proofs.law.faults_are_told.Goals as goal
+
+pub returns : goal.returns
+returns c = record {
+  ends = ends_tell;
+  quiet = quiet_places_tell;
+  stretches = quiet_stretches_tell;
+  jumps = jumps_tell;
+  forks = forks_tell;
+}
