@@ -18,8 +18,8 @@ use Rattle.flat_machine.specs.ByInstructions.{going, stopped, step, everywhere}
 use Rattle.flat_machine.specs.Exchanges.{Exchange, is_holding, exchanges_at, exchanges_from, but_empty}
 use Rattle.flat_machine.proofs.Stepping.{carried_out, steps_more}
 use Rattle.flat_machine.proofs.ExchangeLists.{but_empty_append, sum_from}
-use Rattle.stretches.specs.Along.{Run, Comes, IsAt, works, send_cost, IsUndecided, IsOf, NothingDecides, RunsBegin, WorkGoesOn}
-use Rattle.stretches.specs.Along.{MarksGoOn, SendsGoOn, RepliesGoOn, VotesGoOn, JumpsGoOn, ForksGoOn}
+use Rattle.stretches.specs.Along.{Run, Comes, IsAt, works, send_cost, IsUndecided, IsOf, NothingDecides, MoreMayBeSpent, RunsBegin}
+use Rattle.stretches.specs.Along.{WorkGoesOn, MarksGoOn, SendsGoOn, RepliesGoOn, VotesGoOn, JumpsGoOn, ForksGoOn}
 
 -- ---- when nothing decides
 
@@ -55,7 +55,7 @@ undecided f h (Votes d) = ap (λ k. unless k On) h
 undecided f h Closes = refl
 
 pub nothing_decides : NothingDecides
-nothing_decides code f r purpose = undecided f (none_due f.uniform.count f.key (owed code f) r.told) purpose
+nothing_decides code f h purpose = undecided f (none_due f.uniform.count f.key (owed code f) h) purpose
 
 -- ---- one instruction
 
@@ -163,6 +163,13 @@ module _ (t : Run) (place : ℕ) (f : Flat) (spent : ℕ) (c : Comes t (going pl
       either : (b : Bool) → (let none : List Exchange = [] in if b then none else none) ≡ []
       either true = refl
       either false = refl
+
+pub more_may_be_spent : MoreMayBeSpent
+more_may_be_spent t s spent more c l = record {
+  instructions = c.instructions;
+  here = c.here;
+  few = (let h = c.few in omega (arith, h, l));
+}
 
 pub runs_begin : RunsBegin
 runs_begin t = record { instructions = 0; here = refl; few = omega arith }

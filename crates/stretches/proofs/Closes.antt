@@ -80,11 +80,11 @@ close_outcome code ended place f none bare quiet = go (is_held f.uniform.put) re
 
 module _ (t : Run) (formed : IsWellFormed t.code) (place : ℕ) (f : Flat) (spent : ℕ) (c : Comes t (going place f) spent) where
   -- a path of control comes here
-  agrees : paths.IsAt t.code place f
+  pub agrees : paths.IsAt t.code place f
   agrees = subst (λ (s : State). paths.Agrees t.code s) c.here
       (paths.states_describe t.code formed t.bound everywhere t.input c.instructions) refl
 
-  fits : (i : Instr) → IsAt t place i → paths.Fits t.code place f agrees i
+  pub fits : (i : Instr) → IsAt t place i → paths.Fits t.code place f agrees i
   fits i at =
       let x = paths.found t.code formed place f agrees in
       subst (λ (j : Instr). paths.Fits t.code place f agrees j) (unsome x.instr i (sym x.is ∙ at)) x.fits

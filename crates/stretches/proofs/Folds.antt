@@ -80,9 +80,9 @@ act_goes_on t place f spent c (Mark line) at h m r = cc
 act_goes_on t place f spent c (Jump target) at h m r = cc
 act_goes_on t place f spent c (JumpIfZero k target) at h m r = cc
 act_goes_on t place f spent c Halt at h m r = cc
-act_goes_on t place f spent c Send at h m r = send_goes_on t place f spent c at (nothing_decides t.code f r Sends)
-act_goes_on t place f spent c Reply at h m r = reply_goes_on t place f spent c at (nothing_decides t.code f r Replies)
-act_goes_on t place f spent c (Vote d) at h m r = vote_goes_on t place f spent c d at (nothing_decides t.code f r (Votes d))
+act_goes_on t place f spent c Send at h m r = send_goes_on t place f spent c at (nothing_decides t.code f r.told Sends)
+act_goes_on t place f spent c Reply at h m r = reply_goes_on t place f spent c at (nothing_decides t.code f r.told Replies)
+act_goes_on t place f spent c (Vote d) at h m r = vote_goes_on t place f spent c d at (nothing_decides t.code f r.told (Votes d))
 act_goes_on t place f spent c i at h m r =
     subst (Comes t (going (place + 1) (act t.code i f))) (let e : spent ≡ spent + 0 = omega arith in e)
     (work_goes_on_here t place f spent c i at refl)

@@ -2,5 +2,7 @@ pub mod Applied
 pub mod Along
 pub mod Running
 pub mod Folds
+pub mod Joins
 pub mod Tells
 pub mod Closes
+pub mod Statements

@@ -62,11 +62,15 @@ pub record IsRunning (code : SuperstepCode) (f : Flat) : Type 0 where
   pub told : IsOf f.uniform.count (told code f)
   pub asks : AllByRecursion (λ (x : Read). x.moment.count ≡ f.uniform.count) f.uniform.asks
 
--- then no exchange ends the run
+-- While what is told is of the running statement no exchange ends the run; so none does without a fault.
 abbrev pub NothingDecides : Type 0
-NothingDecides = (code : SuperstepCode) (f : Flat) → IsRunning code f → (purpose : Purpose) → IsUndecided purpose f
+NothingDecides = (code : SuperstepCode) (f : Flat) → IsOf f.uniform.count (told code f) → (purpose : Purpose) → IsUndecided purpose f
 
 -- ---- from one instruction to the next, for every code
+
+-- what was spent is at most what may be
+abbrev pub MoreMayBeSpent : Type 0
+MoreMayBeSpent = (t : Run) (s : State) (spent more : ℕ) → Comes t s spent → spent ≤ more → Comes t s more
 
 -- a run begins without an exchange
 abbrev pub RunsBegin : Type 0

@@ -3,8 +3,10 @@
 ghost use Rattle.stretches.specs.Applied.{InstructionsApply, WritesApply, SendsAreSame, SendsLeaveMemory, SendsOfWritesApply};
 ghost use Rattle.stretches.specs.Applied.{RepliesApply, VotesApply, BareIsApplied};
 ghost use Rattle.stretches.specs.Along.{RunsBegin, WorkGoesOn, MarksGoOn, SendsGoOn, RepliesGoOn, VotesGoOn, JumpsGoOn};
-ghost use Rattle.stretches.specs.Along.{ForksGoOn, NothingDecides};
+ghost use Rattle.stretches.specs.Along.{ForksGoOn, NothingDecides, MoreMayBeSpent};
 ghost use Rattle.stretches.specs.Folds.{StretchesAreFolds, CostsAreCounted};
+ghost use Rattle.stretches.specs.Joins.{StandsSplit, StandsJoin, FineJoins, ActsJoin, ActsAtOnceJoin, CostsJoin, CountsJoin};
+ghost use Rattle.stretches.specs.Statements.{MarksBegin, StatementsFinish, StatementsFault};
 ghost use Rattle.stretches.specs.Tells.{EndsTell, QuietPlacesTell, QuietStretchesTell, JumpsTell, ForksTell};
 ghost use Rattle.stretches.specs.Closes.{HaltsEnd, BoundsEnd};
 
@@ -28,6 +30,7 @@ pub fn held_writes_apply()
 /// is told is of the running statement.
 pub fn runs_go_on()
     ensures begin { RunsBegin }
+    ensures more { MoreMayBeSpent }
     ensures work { WorkGoesOn }
     ensures marks { MarksGoOn }
     ensures sends { SendsGoOn }
@@ -47,6 +50,17 @@ pub fn stretches_are_folds()
     ensures counted { CostsAreCounted }
 {}
 
+/// Stretches that stand behind one another are one stretch, and what they leave and cost is put together.
+pub fn stretches_join()
+    ensures split { StandsSplit }
+    ensures stand { StandsJoin }
+    ensures fine { FineJoins }
+    ensures acts { ActsJoin }
+    ensures at_once { ActsAtOnceJoin }
+    ensures costs { CostsJoin }
+    ensures counts { CountsJoin }
+{}
+
 /// When a fault of the running statement is the outcome, once it is told and no read is held: at a mark
 /// and at a halt of well-formed code; and at each place before them from which nothing is noted on the
 /// way there, whatever the registers hold.
@@ -64,4 +78,14 @@ pub fn faults_are_told()
 pub fn runs_close()
     ensures halt { HaltsEnd }
     ensures bound { BoundsEnd }
+{}
+
+/// A statement of well-formed code, whatever it is: a mark below the bound begins it where no key is told; a
+/// stretch of it comes to its end as a fold with each write applied at once, if that notes no key; and
+/// a key that it notes is the outcome, with the output of the statements before, if the place
+/// behind the stretch tells.
+pub fn statements_run()
+    ensures begin { MarksBegin }
+    ensures finish { StatementsFinish }
+    ensures fault { StatementsFault }
 {}
