@@ -1,1 +1,5 @@
 pub mod FaultLemmas
+pub mod SetLemmas
+pub mod LevelLemmas
+pub mod NestedLemmas
+pub mod MaskLemmas

@@ -4,13 +4,17 @@
 mod all;
 mod arithmetic;
 mod decisions;
+mod level;
 mod listed;
+mod masks;
 mod operation;
 mod values;
 
 pub use all::calculate_all;
 pub use arithmetic::{Difference, Negative, Product, Quotient, Remainder, Sum};
 pub use decisions::{AtMost, Below, Both, Either, Equal, Negation};
+pub use level::Level;
 pub use listed::calculate_listed;
+pub use masks::Masks;
 pub use operation::Operation;
 pub use values::{Above, Constant, Same};
