@@ -1,0 +1,5 @@
+pub mod Written
+pub mod Operands
+pub mod Depths
+pub mod Cursors
+pub mod Operators

@@ -1,0 +1,12 @@
+//! The code of an accepted program.
+#![tactic(auto)]
+
+mod cursor;
+mod emitter;
+mod operator;
+mod reads;
+mod refusal;
+mod region;
+mod values;
+
+pub use refusal::LowerRefusal;

@@ -1,0 +1,9 @@
+pub mod Registers
+pub mod Formulas
+pub mod Regions
+pub mod Groups
+pub mod Shapes
+pub mod Inside
+pub mod Outside
+pub mod PlainForm
+pub mod Counted
