@@ -96,7 +96,7 @@ module _ (code : SuperstepCode) (formed : IsWellFormed code) where
   met k l = formed.1.1.each k l
 
   -- each point of a path is in the code, and has the state that is given to its place
-  comes_given : (n : ℕ) (q : Point) → Comes code n q → (q.place < length code.instructions) × (q.state ≡ given q.place)
+  pub comes_given : (n : ℕ) (q : Point) → Comes code n q → (q.place < length code.instructions) × (q.state ≡ given q.place)
   comes_given zero q h = (subst (λ m. m < length code.instructions) (sym h.0) formed.0, h.1 ∙ sym formed.1.1.start ∙ ap given (sym h.0))
   comes_given (suc n) q h =
       let p = h.0 in

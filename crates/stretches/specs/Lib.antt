@@ -5,3 +5,4 @@ pub mod Joins
 pub mod Tells
 pub mod Closes
 pub mod Statements
+pub mod Described

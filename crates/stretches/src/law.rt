@@ -7,6 +7,7 @@ ghost use Rattle.stretches.specs.Along.{ForksGoOn, NothingDecides, MoreMayBeSpen
 ghost use Rattle.stretches.specs.Folds.{StretchesAreFolds, CostsAreCounted};
 ghost use Rattle.stretches.specs.Joins.{StandsSplit, StandsJoin, FineJoins, ActsJoin, ActsAtOnceJoin, CostsJoin, CountsJoin};
 ghost use Rattle.stretches.specs.Statements.{MarksBegin, StatementsFinish, StatementsFault};
+ghost use Rattle.stretches.specs.Described.{PlacesAreAsSaid, JudgedAreFine};
 ghost use Rattle.stretches.specs.Tells.{EndsTell, QuietPlacesTell, QuietStretchesTell, JumpsTell, ForksTell};
 ghost use Rattle.stretches.specs.Closes.{HaltsEnd, BoundsEnd};
 
@@ -88,4 +89,12 @@ pub fn statements_run()
     ensures begin { MarksBegin }
     ensures finish { StatementsFinish }
     ensures fault { StatementsFault }
+{}
+
+/// The verifier's states of places describe the runs that come there: how many reads are held, whether a
+/// write is, and whether answers are awaited. And a stretch without marks and jumps that is judged
+/// with states is one that is run as a fold, from and to what these say of a held write.
+pub fn states_describe_runs()
+    ensures places { PlacesAreAsSaid }
+    ensures judged { JudgedAreFine }
 {}

@@ -1,0 +1,74 @@
+-- The verifier's states of places describe runs, and what it has judged is fine.
+use Rattle.std.proofs.Common.{◌≡◌, ◌+◌, [], ◌∷◌, Bool, true, false, not, eqb, Option, Some, None, refl, ap, ◌∙◌, subst}
+use Rattle.std.specs.Prelude.{◌&&◌}
+use Rattle.superstep_code.specs.declared.instr.Instr.{Instr}
+use Rattle.superstep_code.specs.declared.instr.Instr.TheVariants.{Mark, Put, Send, Reply, Jump, JumpIfZero, Halt}
+use Rattle.superstep_machine.specs.Parts.{Moment}
+use Rattle.superstep_machine.specs.Run.{is_held}
+use Rattle.bsp_verify.specs.declared.state.State.{State}
+use Rattle.bsp_verify.specs.States.{after}
+use Rattle.bsp_verify.specs.Judging.{fits_exchange}
+use Rattle.bsp_verify.specs.WellFormed.{IsWellFormed}
+use Rattle.bsp_verify.proofs.PathLemmas.{comes_given}
+use Rattle.bsp_verify.proofs.RunLemmas.{Describes}
+use Rattle.pram_model.proofs.Truths.{both}
+use Rattle.stretches.specs.Folds.{held_after, may_follow, IsFine}
+use Rattle.stretches.specs.Described.{PlacesAreAsSaid, is_straight, JudgedAreFine}
+use Rattle.stretches.proofs.Closes.{agrees}
+
+no_put : (o : Option Moment) → is_held o ≡ false → o ≡ None
+no_put None h = refl
+no_put (Some m) h = cc
+
+pub places_are_as_said : PlacesAreAsSaid
+places_are_as_said t given long met place f spent c =
+    let formed : IsWellFormed t.code = (long, (given, met)) in
+    let a = agrees t formed place f spent c in
+    let d = subst (λ (s : State). Describes s f.uniform) ((comes_given t.code formed a.steps a.point a.comes).1 ∙ ap given a.here) a.describes
+    in record {
+      asks = d.asks;
+      put = d.put;
+      awaited = d.awaited;
+      holds = λ e. let n = d.put ∙ e in record { put = no_put f.uniform.put n; held = a.counted.bare n };
+      alone = d.alone;
+    }
+
+-- ---- judged stretches
+
+-- answers are awaited where no write is held, all along
+abbrev AwaitsAlone : State → Type 0
+AwaitsAlone s = s.awaits ≡ true → s.put ≡ false
+
+put_after : (i : Instr) (s : State) → (after i s).put ≡ held_after i s.put
+put_after Send s = refl
+put_after (Put side c r v q) s = refl
+put_after i s = refl
+
+follows : (i : Instr) (s : State) → AwaitsAlone s → fits_exchange i s ≡ true → is_straight i ≡ true → may_follow s.put i ≡ true
+follows (Mark line) s a h w = cc
+follows (Jump target) s a h w = cc
+follows (JumpIfZero r target) s a h w = cc
+follows Halt s a h w = cc
+follows Reply s a h w = ap not (a h)
+follows (Put side c r v q) s a h w =
+    (both (eqb s.asks 0) (not s.put) (both (not s.awaits) (eqb s.asks 0 && not s.put) h).1).1
+follows i s a h w = refl
+
+alone_after : (i : Instr) (s : State) → AwaitsAlone s → fits_exchange i s ≡ true → AwaitsAlone (after i s)
+alone_after Send s a h = λ e. refl
+alone_after Reply s a h = λ e. cc
+alone_after (Put side c r v q) s a h =
+    λ e. absurd (no s.awaits e (both (not s.awaits) (eqb s.asks 0 && not s.put) h).0)
+  where
+    no : (b : Bool) → b ≡ true → not b ≡ true → ⊥
+    no true e f = cc
+    no false e f = cc
+alone_after i s a h = a
+
+pub judged_are_fine : JudgedAreFine
+judged_are_fine code at s m [] alone j w = ap (λ (x : State). x.put) j
+judged_are_fine code at s m (i ∷ is) alone j w = (
+  follows i s alone j.0.exchange w.0,
+  subst (λ b. IsFine b is m.put) (put_after i s)
+      (judged_are_fine code (at + 1) (after i s) m is (alone_after i s alone j.0.exchange) j.1 w.1),
+)

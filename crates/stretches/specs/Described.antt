@@ -1,0 +1,41 @@
+-- What the verifier's states of places say of runs that come there, and that stretches which it has judged are fine.
+use Rattle.std.specs.Prelude.{◌≡◌, ℕ, ◌<◌, List, length, Bool, true, false, nat_lt}
+use Rattle.std.specs.List.{AllByRecursion}
+use Rattle.superstep_code.specs.declared.instr.Instr.{Instr}
+use Rattle.superstep_code.specs.declared.instr.Instr.TheVariants.{Mark, Jump, JumpIfZero, Halt}
+use Rattle.superstep_code.specs.Code.{SuperstepCode}
+use Rattle.superstep_machine.specs.Run.{is_held}
+use Rattle.bsp_verify.specs.declared.state.State.{State}
+use Rattle.bsp_verify.specs.WellFormed.{AreMet}
+use Rattle.bsp_verify.specs.Stretches.{IsStretch}
+use Rattle.flat_machine.specs.Flat.{Flat}
+use Rattle.flat_machine.specs.ByInstructions.{going}
+use Rattle.stretches.specs.Along.{Run, Comes}
+use Rattle.stretches.specs.Folds.{IsFine, MayHold}
+
+-- So many reads are held, a write is held or not, and answers are awaited or not; where a write isn't held nothing is for any cell, and
+-- where answers are awaited nothing is held.
+pub record IsAsSaid (s : State) (f : Flat) : Type 0 where
+  pub asks : length f.uniform.asks ≡ s.asks
+  pub put : is_held f.uniform.put ≡ s.put
+  pub awaited : nat_lt 0 (length f.uniform.awaited) ≡ s.awaits
+  pub holds : MayHold s.put f
+  pub alone : s.awaits ≡ true → (s.asks ≡ 0) × (s.put ≡ false)
+
+-- whichever states the code can be met with
+abbrev pub PlacesAreAsSaid : Type 0
+PlacesAreAsSaid = (t : Run) (given : ℕ → State) → 0 < length t.code.instructions → AreMet t.code (length t.code.instructions) given →
+    (place : ℕ) (f : Flat) (spent : ℕ) → Comes t (going place f) spent → IsAsSaid (given place) f
+
+-- no mark, jump or halt
+abbrev pub is_straight : Instr → Bool
+is_straight (Mark line) = false
+is_straight (Jump target) = false
+is_straight (JumpIfZero r target) = false
+is_straight Halt = false
+is_straight i = true
+
+-- a judged stretch of such instructions is fine, and holds a write before and behind as its states say
+abbrev pub JudgedAreFine : Type 0
+JudgedAreFine = (code : SuperstepCode) (at : ℕ) (s m : State) (is : List Instr) → (s.awaits ≡ true → s.put ≡ false) →
+    IsStretch code at s is m → AllByRecursion (λ (i : Instr). is_straight i ≡ true) is → IsFine s.put is m.put
