@@ -21,7 +21,7 @@ use Rattle.flat_machine.specs.Flat.{Flat, range, cells, noted, written, after_in
 use Rattle.flat_machine.specs.Verdicts.{told}
 use Rattle.flat_machine.proofs.Late.{none_least, none_owed, told_noted, told_sent, read_keys}
 use Rattle.stretches.specs.Applied.{applied, IsBare, wrote, InstructionsApply, WritesApply, SendsAreSame, SendsOfWritesApply}
-use Rattle.stretches.specs.Applied.{RepliesApply, VotesApply, BareIsApplied}
+use Rattle.stretches.specs.Applied.{RepliesApply, VotesApply, BareIsApplied, EmptySendsAreNothing}
 
 -- without the put that is held
 abbrev pub without_put : UniformPart → UniformPart
@@ -215,3 +215,6 @@ sends_of_writes_apply code f n = λ z. record {
   held = λ c. None;
   key = lone_send_told code f n.asks z;
 }
+
+pub empty_sends_are_nothing : EmptySendsAreNothing
+empty_sends_are_nothing code f b n = sends_of_writes_apply code f n ∙ bare_is_applied code f b

@@ -1,6 +1,6 @@
 -- The verifier's states of places describe runs, and what it has judged is fine.
-use Rattle.std.proofs.Common.{◌≡◌, ◌+◌, [], ◌∷◌, Bool, true, false, not, eqb, Option, Some, None, refl, ap, ◌∙◌, subst}
-use Rattle.std.specs.Prelude.{◌&&◌}
+use Rattle.std.proofs.Common.{◌≡◌, ◌+◌, [], ◌∷◌, Bool, true, false, not, eqb, Option, Some, None, refl, ap, ◌∙◌, subst, arith}
+use Rattle.std.specs.Prelude.{◌&&◌, slice_get}
 use Rattle.superstep_code.specs.declared.instr.Instr.{Instr}
 use Rattle.superstep_code.specs.declared.instr.Instr.TheVariants.{Mark, Put, Send, Reply, Jump, JumpIfZero, Halt}
 use Rattle.superstep_machine.specs.Parts.{Moment}
@@ -9,11 +9,12 @@ use Rattle.bsp_verify.specs.declared.state.State.{State}
 use Rattle.bsp_verify.specs.States.{after}
 use Rattle.bsp_verify.specs.Judging.{fits_exchange}
 use Rattle.bsp_verify.specs.WellFormed.{IsWellFormed}
+use Rattle.bsp_verify.proofs.StretchLemmas.{parts_stand, what_stands_is_there}
 use Rattle.bsp_verify.proofs.PathLemmas.{comes_given}
 use Rattle.bsp_verify.proofs.RunLemmas.{Describes}
 use Rattle.pram_model.proofs.Truths.{both}
 use Rattle.stretches.specs.Folds.{held_after, may_follow, IsFine}
-use Rattle.stretches.specs.Described.{PlacesAreAsSaid, is_straight, JudgedAreFine}
+use Rattle.stretches.specs.Described.{PlacesAreAsSaid, is_straight, JudgedAreFine, WhatStandsIsAt}
 use Rattle.stretches.proofs.Closes.{agrees}
 
 no_put : (o : Option Moment) → is_held o ≡ false → o ≡ None
@@ -72,3 +73,13 @@ judged_are_fine code at s m (i ∷ is) alone j w = (
   subst (λ b. IsFine b is m.put) (put_after i s)
       (judged_are_fine code (at + 1) (after i s) m is (alone_after i s alone j.0.exchange) j.1 w.1),
 )
+
+-- ---- what stands
+
+pub what_stands_is_at : WhatStandsIsAt
+what_stands_is_at t at s [] h = tt
+what_stands_is_at t at s (i ∷ is) h =
+    let parts = (parts_stand t.code).1 at s (i ∷ []) is h in (
+      ap (slice_get t.code.instructions) (let e : at ≡ at + 0 = omega arith in e) ∙ (what_stands_is_there t.code at s (i ∷ is) h 0).0 (omega arith),
+      what_stands_is_at t (at + 1) (after i s) is parts.1,
+    )

@@ -2,8 +2,9 @@
 use Rattle.std.proofs.Common.{◌≡◌, ℕ, ◌+◌, ◌≤◌, [], ◌∷◌, length, Bool, true, false, not, refl, sym, ap, ◌∙◌}
 use Rattle.std.proofs.Common.{subst, arith}
 use Rattle.std.specs.Prelude.{if◌then◌else◌}
+use Rattle.superstep_code.specs.declared.instr.Side.TheVariants.{Uniform, Private}
 use Rattle.superstep_code.specs.declared.instr.Instr.{Instr}
-use Rattle.superstep_code.specs.declared.instr.Instr.TheVariants.{Mark, Put, Send, Reply, Vote, Jump, JumpIfZero, Halt}
+use Rattle.superstep_code.specs.declared.instr.Instr.TheVariants.{Mark, Ask, Put, Send, Reply, Vote, Jump, JumpIfZero, Halt}
 use Rattle.superstep_code.specs.Code.{SuperstepCode}
 use Rattle.superstep_machine.specs.Run.{Sends, Replies, Votes}
 use Rattle.superstep_machine.specs.Steps.{is_put}
@@ -13,7 +14,7 @@ use Rattle.flat_machine.specs.Exchanges.{is_holding}
 use Rattle.stretches.specs.Applied.{applied, IsBare}
 use Rattle.stretches.specs.Along.{Run, Comes, IsAt, works, send_cost, IsRunning}
 use Rattle.stretches.specs.Folds.{act, acts, act_at_once, acts_at_once, cost, costs, held_after, may_follow}
-use Rattle.stretches.specs.Folds.{MayHold, StretchesAreFolds, CostsAreCounted}
+use Rattle.stretches.specs.Folds.{MayHold, StretchesAreFolds, CostsAreCounted, FoldsStayBare}
 use Rattle.stretches.proofs.Applied.{instructions_apply_here, writes_apply, send_same, bare_is_applied, replies_apply, put_stays, held_stays}
 use Rattle.stretches.proofs.Along.{nothing_decides, work_goes_on_here, send_goes_on, reply_goes_on, vote_goes_on}
 use Rattle.stretches.proofs.Running.{running_behind, running_sent, running_replied, running_voted}
@@ -128,3 +129,18 @@ costs_are_counted code (Send ∷ is) f =
 costs_are_counted code (Reply ∷ is) f = let h = costs_are_counted code is (after_reply f) in omega (arith, h)
 costs_are_counted code (Vote d ∷ is) f = let h = costs_are_counted code is (after_vote d f) in omega (arith, h)
 costs_are_counted code (i ∷ is) f = let h = costs_are_counted code is (after_instr code i f) in omega (arith, h)
+
+-- ---- no write is held
+
+bare_at_once : (code : SuperstepCode) (i : Instr) (f : Flat) → IsBare f → IsBare (act_at_once code i f)
+bare_at_once code (Put side c s v q) f b = record { put = b.put; held = b.held }
+bare_at_once code Send f b = record { put = refl; held = λ c. refl }
+bare_at_once code Reply f b = record { put = b.put; held = b.held }
+bare_at_once code (Vote d) f b = record { put = b.put; held = b.held }
+bare_at_once code (Ask Uniform d c s q) f b = record { put = b.put; held = b.held }
+bare_at_once code (Ask Private d c s q) f b = record { put = b.put; held = b.held }
+bare_at_once code i f b = record { put = b.put; held = b.held }
+
+pub folds_stay_bare : FoldsStayBare
+folds_stay_bare code [] f b = b
+folds_stay_bare code (i ∷ is) f b = folds_stay_bare code is (act_at_once code i f) (bare_at_once code i f b)

@@ -30,6 +30,7 @@ use Rattle.flat_machine.proofs.AnyTime.{a_key_is_for_good}
 use Rattle.flat_machine.proofs.Late.{none_least, told_noted}
 use Rattle.stretches.specs.Along.{Run, Comes, IsAt, works, IsUndecided, IsOf, IsRunning}
 use Rattle.stretches.specs.Tells.{IsDoomed, Tells, is_quiet, EndsTell, QuietPlacesTell, QuietStretchesTell, JumpsTell, ForksTell}
+use Rattle.stretches.specs.Tells.{IsCalm, ends, quiet, jumps, forks, CalmPlacesTell, QuietBeforeCalm}
 use Rattle.stretches.proofs.Applied.{told_by, lone_send_told}
 use Rattle.stretches.proofs.Along.{nothing_decides, work_goes_on_here, send_goes_on, reply_goes_on, vote_goes_on, jump_goes_on, fork_goes_on}
 
@@ -197,3 +198,17 @@ ends_tell t formed place end key f spent c d =
     (λ (s : State). s.way ≡ On → ends_statement (slice_get t.code.instructions s.place) ≡ true → told t.code s.flat ≡ Some key →
     IsFlatOutcome t.code t.input t.bound (Faulted (fault_of key) (items_below key.count s.flat.uniform.output)))
     c.here (a_key_is_for_good t.code formed everywhere t.input t.bound c.instructions key) refl end d.told
+
+pub calm_places_tell : CalmPlacesTell
+calm_places_tell t formed place (ends e) = ends_tell t formed place e
+calm_places_tell t formed place (quiet i at q c) = quiet_places_tell t place i at q (calm_places_tell t formed (place + 1) c)
+calm_places_tell t formed place (jumps target at c) = jumps_tell t place target at (calm_places_tell t formed target c)
+calm_places_tell t formed place (forks r target at c d) =
+    forks_tell t place r target at (calm_places_tell t formed (place + 1) c) (calm_places_tell t formed target d)
+
+pub quiet_before_calm : QuietBeforeCalm
+quiet_before_calm t [] place st q c = subst (IsCalm t.code) (let e : place + 0 ≡ place = omega arith in e) c
+quiet_before_calm t (i ∷ is) place st q c =
+    quiet i st.0 q.0
+    (quiet_before_calm t is (place + 1) st.1 q.1
+    (subst (IsCalm t.code) (let e : place + length (i ∷ is) ≡ place + 1 + length is = omega arith in e) c))

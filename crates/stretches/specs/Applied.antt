@@ -82,3 +82,7 @@ VotesApply = (code : SuperstepCode) (d : ℕ) (f : Flat) → applied code (after
 -- with no write held the state is as it is seen
 abbrev pub BareIsApplied : Type 0
 BareIsApplied = (code : SuperstepCode) (f : Flat) → IsBare f → applied code f ≡ f
+
+-- so a send at which nothing is held does nothing
+abbrev pub EmptySendsAreNothing : Type 0
+EmptySendsAreNothing = (code : SuperstepCode) (f : Flat) → IsBare f → AsksNone f → after_send code f ≡ f

@@ -7,11 +7,11 @@ use Rattle.superstep_code.specs.Code.{SuperstepCode}
 use Rattle.superstep_machine.specs.Run.{is_held}
 use Rattle.bsp_verify.specs.declared.state.State.{State}
 use Rattle.bsp_verify.specs.WellFormed.{AreMet}
-use Rattle.bsp_verify.specs.Stretches.{IsStretch}
+use Rattle.bsp_verify.specs.Stretches.{Stands, IsStretch}
 use Rattle.flat_machine.specs.Flat.{Flat}
 use Rattle.flat_machine.specs.ByInstructions.{going}
 use Rattle.stretches.specs.Along.{Run, Comes}
-use Rattle.stretches.specs.Folds.{IsFine, MayHold}
+use Rattle.stretches.specs.Folds.{Stand, IsFine, MayHold}
 
 -- So many reads are held, a write is held or not, and answers are awaited or not; where a write isn't held nothing is for any cell, and
 -- where answers are awaited nothing is held.
@@ -39,3 +39,8 @@ is_straight i = true
 abbrev pub JudgedAreFine : Type 0
 JudgedAreFine = (code : SuperstepCode) (at : ℕ) (s m : State) (is : List Instr) → (s.awaits ≡ true → s.put ≡ false) →
     IsStretch code at s is m → AllByRecursion (λ (i : Instr). is_straight i ≡ true) is → IsFine s.put is m.put
+
+-- ---- and where a stretch stands, its instructions are
+
+abbrev pub WhatStandsIsAt : Type 0
+WhatStandsIsAt = (t : Run) (at : ℕ) (s : State) (is : List Instr) → Stands t.code at s is → Stand t at is

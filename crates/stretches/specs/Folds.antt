@@ -97,3 +97,7 @@ StretchesAreFolds = (t : Run) (is : List Instr) (before behind : Bool) (place sp
 
 abbrev pub CostsAreCounted : Type 0
 CostsAreCounted = (code : SuperstepCode) (is : List Instr) (f : Flat) → costs code is f ≤ exchange_count is
+
+-- a fold with each write applied at once holds none
+abbrev pub FoldsStayBare : Type 0
+FoldsStayBare = (code : SuperstepCode) (is : List Instr) (f : Flat) → IsBare f → IsBare (acts_at_once code is f)

@@ -64,3 +64,22 @@ JumpsTell = (t : Run) (place target : ℕ) → IsAt t place (Jump target) → Te
 -- whatever the register holds
 abbrev pub ForksTell : Type 0
 ForksTell = (t : Run) (place r target : ℕ) → IsAt t place (JumpIfZero r target) → Tells t (place + 1) → Tells t target → Tells t place
+
+-- ---- all of these at once
+
+-- The place is calm: from each way on from it the next mark or halt is come to by quiet instructions and jumps alone.
+pub data IsCalm (code : SuperstepCode) : ℕ → Type 0 where
+  ends : {place : ℕ} → ends_statement (slice_get code.instructions place) ≡ true → IsCalm code place
+  quiet : {place : ℕ} (i : Instr) → slice_get code.instructions place ≡ Some i → is_quiet i ≡ true → IsCalm code (place + 1) →
+      IsCalm code place
+  jumps : {place : ℕ} (target : ℕ) → slice_get code.instructions place ≡ Some (Jump target) → IsCalm code target → IsCalm code place
+  forks : {place : ℕ} (r target : ℕ) → slice_get code.instructions place ≡ Some (JumpIfZero r target) → IsCalm code (place + 1) →
+      IsCalm code target → IsCalm code place
+
+abbrev pub QuietBeforeCalm : Type 0
+QuietBeforeCalm = (t : Run) (is : List Instr) (place : ℕ) → Stand t place is → AllByRecursion (λ (i : Instr). is_quiet i ≡ true) is →
+    IsCalm t.code (place + length is) → IsCalm t.code place
+
+-- there is no run in that, and it tells
+abbrev pub CalmPlacesTell : Type 0
+CalmPlacesTell = (t : Run) → IsWellFormed t.code → (place : ℕ) → IsCalm t.code place → Tells t place

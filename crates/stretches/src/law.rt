@@ -1,14 +1,14 @@
 //! Laws of stretches of code on the flat machine.
 
 ghost use Rattle.stretches.specs.Applied.{InstructionsApply, WritesApply, SendsAreSame, SendsLeaveMemory, SendsOfWritesApply};
-ghost use Rattle.stretches.specs.Applied.{RepliesApply, VotesApply, BareIsApplied};
+ghost use Rattle.stretches.specs.Applied.{RepliesApply, VotesApply, BareIsApplied, EmptySendsAreNothing};
 ghost use Rattle.stretches.specs.Along.{RunsBegin, WorkGoesOn, MarksGoOn, SendsGoOn, RepliesGoOn, VotesGoOn, JumpsGoOn};
 ghost use Rattle.stretches.specs.Along.{ForksGoOn, NothingDecides, MoreMayBeSpent};
-ghost use Rattle.stretches.specs.Folds.{StretchesAreFolds, CostsAreCounted};
+ghost use Rattle.stretches.specs.Folds.{StretchesAreFolds, CostsAreCounted, FoldsStayBare};
 ghost use Rattle.stretches.specs.Joins.{StandsSplit, StandsJoin, FineJoins, ActsJoin, ActsAtOnceJoin, CostsJoin, CountsJoin};
 ghost use Rattle.stretches.specs.Statements.{MarksBegin, StatementsFinish, StatementsFault};
-ghost use Rattle.stretches.specs.Described.{PlacesAreAsSaid, JudgedAreFine};
-ghost use Rattle.stretches.specs.Tells.{EndsTell, QuietPlacesTell, QuietStretchesTell, JumpsTell, ForksTell};
+ghost use Rattle.stretches.specs.Described.{PlacesAreAsSaid, JudgedAreFine, WhatStandsIsAt};
+ghost use Rattle.stretches.specs.Tells.{EndsTell, QuietPlacesTell, QuietStretchesTell, JumpsTell, ForksTell, CalmPlacesTell, QuietBeforeCalm};
 ghost use Rattle.stretches.specs.Closes.{HaltsEnd, BoundsEnd};
 
 /// The machine may be seen with the write that it holds applied at once: each instruction, a send, a
@@ -23,6 +23,7 @@ pub fn held_writes_apply()
     ensures replies { RepliesApply }
     ensures votes { VotesApply }
     ensures bare { BareIsApplied }
+    ensures empty_sends { EmptySendsAreNothing }
 {}
 
 /// Where a run comes to, one instruction after another, and with how many exchanges: none for an
@@ -49,6 +50,7 @@ pub fn runs_go_on()
 pub fn stretches_are_folds()
     ensures folds { StretchesAreFolds }
     ensures counted { CostsAreCounted }
+    ensures bare { FoldsStayBare }
 {}
 
 /// Stretches that stand behind one another are one stretch, and what they leave and cost is put together.
@@ -71,6 +73,8 @@ pub fn faults_are_told()
     ensures stretches { QuietStretchesTell }
     ensures jumps { JumpsTell }
     ensures forks { ForksTell }
+    ensures calm { CalmPlacesTell }
+    ensures before_calm { QuietBeforeCalm }
 {}
 
 /// How a run of well-formed code comes out that comes to a halt, or to a mark at its bound, with no
@@ -97,4 +101,5 @@ pub fn statements_run()
 pub fn states_describe_runs()
     ensures places { PlacesAreAsSaid }
     ensures judged { JudgedAreFine }
+    ensures there { WhatStandsIsAt }
 {}

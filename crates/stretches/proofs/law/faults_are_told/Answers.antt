@@ -1,4 +1,4 @@
-use Rattle.stretches.proofs.Tells.{ends_tell, quiet_places_tell, quiet_stretches_tell, jumps_tell, forks_tell}
+use Rattle.stretches.proofs.Tells.{ends_tell, quiet_places_tell, quiet_stretches_tell, jumps_tell, forks_tell, calm_places_tell, quiet_before_calm}
 use Rattle.stretches.proofs.law.faults_are_told.Goals as goal
 
 pub returns : goal.returns
@@ -8,4 +8,6 @@ returns c = record {
   stretches = quiet_stretches_tell;
   jumps = jumps_tell;
   forks = forks_tell;
+  calm = calm_places_tell;
+  before_calm = quiet_before_calm;
 }

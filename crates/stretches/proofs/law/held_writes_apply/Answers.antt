@@ -1,5 +1,5 @@
 use Rattle.stretches.proofs.Applied.{instructions_apply, writes_apply, sends_are_same, sends_of_writes_apply, replies_apply, votes_apply}
-use Rattle.stretches.proofs.Applied.{bare_is_applied}
+use Rattle.stretches.proofs.Applied.{bare_is_applied, empty_sends_are_nothing}
 use Rattle.std.proofs.Common.{refl}
 use Rattle.stretches.proofs.law.held_writes_apply.Goals as goal
 
@@ -13,4 +13,5 @@ returns c = record {
   replies = replies_apply;
   votes = votes_apply;
   bare = bare_is_applied;
+  empty_sends = empty_sends_are_nothing;
 }
