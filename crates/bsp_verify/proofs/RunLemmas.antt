@@ -86,7 +86,7 @@ no_answers i s n h = none_awaited s.awaits _ h
 pub sent : (s : State) (u : UniformPart) → Describes s u → Describes (after Send s) (uniform_sent u)
 sent s u d = record { asks = refl; put = refl; awaited = ap (nat_lt 0) d.asks; alone = λ h. (refl, refl) }
 
-no_put : (o : Option Moment) → machine.is_held o ≡ false → o ≡ None
+pub no_put : (o : Option Moment) → machine.is_held o ≡ false → o ≡ None
 no_put None h = refl
 no_put (Some m) h = cc
 

@@ -172,7 +172,7 @@ any_time_of_verdict code formed judges input bound verdict = (
 -- ---- a key is for good
 
 -- a mark notes nothing
-none_noted : (code : SuperstepCode) (line : ℕ) (f : Flat) → noted code (Mark line) f ≡ None
+pub none_noted : (code : SuperstepCode) (line : ℕ) (f : Flat) → noted code (Mark line) f ≡ None
 none_noted code line f = total_none None least keys_are_monoid (λ v. own_key code (Mark line) f.uniform v (f.own v))
     (λ v. go (is_active (f.own v))) (range f)
   where

@@ -44,7 +44,7 @@ pub none_least : (x : Option Key) → least x None ≡ x
 none_least x = neutral_right None least keys_are_monoid x
 
 -- a and o, then y
-least_last : (a o y : Option Key) → least (least a y) o ≡ least (least a o) y
+pub least_last : (a o y : Option Key) → least (least a y) o ≡ least (least a o) y
 least_last a o y = keys_are_monoid.associative a y o ∙ ap (least a) (keys_are_monoid.commutative y o)
     ∙ sym (keys_are_monoid.associative a o y)
 
@@ -88,7 +88,7 @@ module _ (code : SuperstepCode) where
   pub told_sent : (f : Flat) → (after_send code f).key ≡ least (told code f) (read_keys f)
   told_sent f = sym (keys_are_monoid.associative f.key (owed code f) (read_keys f))
 
-  no_read_keys : (f : Flat) → f.uniform.asks ≡ [] → read_keys f ≡ None
+  pub no_read_keys : (f : Flat) → f.uniform.asks ≡ [] → read_keys f ≡ None
   no_read_keys f h = go (shares_reads code.rule) ∙ refl
     where
       go : (b : Bool) → (if b then None else read_conflicts code f 0 f.uniform.asks) ≡ None

@@ -3,13 +3,11 @@ use Rattle.std.proofs.Common.{◌≡◌, ℕ, [], Bool, true, false, Option, Som
 use Rattle.std.specs.Prelude.{if◌then◌else◌}
 use Rattle.pram_values.specs.Total.{total}
 use Rattle.pram_values.proofs.Totals.{total_none}
-use Rattle.write_rules.specs.Rule.{shares_reads}
 use Rattle.write_rules.specs.declared.entry.Entry.{Entry}
 use Rattle.superstep_code.specs.declared.instr.Side.{Side}
 use Rattle.superstep_code.specs.declared.instr.Side.TheVariants.{Uniform, Private}
 use Rattle.superstep_code.specs.declared.instr.Instr.{Instr}
 use Rattle.superstep_code.specs.declared.instr.Instr.TheVariants.{Mark, Enter, Leave, Ask, Put, Print}
-use Rattle.superstep_machine.specs.declared.key.Key.{Key}
 use Rattle.superstep_code.specs.Code.{SuperstepCode}
 use Rattle.superstep_machine.specs.Keys.{least}
 use Rattle.superstep_machine.specs.Parts.{UniformPart, PrivatePart, Moment, fresh}
@@ -17,9 +15,9 @@ use Rattle.superstep_machine.specs.Run.{is_held}
 use Rattle.superstep_machine.specs.Sending.{verdict_on, settled, put_conflict, uniform_sent, own_sent}
 use Rattle.superstep_machine.specs.Steps.{moment_of, on_uniform, uniform_key, on_own, own_key, is_active, is_put, renews}
 use Rattle.superstep_machine.proofs.KeyOrder.{keys_are_monoid}
-use Rattle.flat_machine.specs.Flat.{Flat, range, cells, noted, written, after_instr, owed, read_conflicts, after_send, after_reply}
+use Rattle.flat_machine.specs.Flat.{Flat, range, cells, noted, written, after_instr, owed, after_send, after_reply}
 use Rattle.flat_machine.specs.Verdicts.{told}
-use Rattle.flat_machine.proofs.Late.{none_least, none_owed, told_noted, told_sent, read_keys}
+use Rattle.flat_machine.proofs.Late.{least_last, none_least, none_owed, told_noted, told_sent, read_keys, no_read_keys}
 use Rattle.stretches.specs.Applied.{applied, IsBare, wrote, InstructionsApply, WritesApply, SendsAreSame, SendsOfWritesApply}
 use Rattle.stretches.specs.Applied.{RepliesApply, VotesApply, BareIsApplied, EmptySendsAreNothing}
 
@@ -73,11 +71,6 @@ own_key_same code i u v x = refl
 
 -- ---- keys
 
--- k, then x and y: the last two in any order
-two_last : (k x y : Option Key) → least (least k x) y ≡ least (least k y) x
-two_last k x y = keys_are_monoid.associative k x y ∙ ap (least k) (keys_are_monoid.commutative x y)
-    ∙ sym (keys_are_monoid.associative k y x)
-
 module _ (code : SuperstepCode) where
   -- where nothing is held nothing is owed
   none_owes : (put : Option Moment) → total None least (λ c. put_conflict put c (verdict_on code.rule None)) (cells code) ≡ None
@@ -101,7 +94,7 @@ module _ (code : SuperstepCode) where
 
   -- what is told behind it is what was told, and what it notes
   pub told_by : (i : Instr) (f : Flat) → is_put i ≡ false → told code (after_instr code i f) ≡ least (told code f) (noted code i f)
-  told_by i f h = ap (least (least f.key (noted code i f))) (owed_stays i f h) ∙ two_last f.key (noted code i f) (owed code f)
+  told_by i f h = ap (least (least f.key (noted code i f))) (owed_stays i f h) ∙ least_last f.key (owed code f) (noted code i f)
 
   pub instructions_apply_here : (i : Instr) (f : Flat) → is_put i ≡ false → applied code (after_instr code i f) ≡ after_instr code i (applied code f)
   instructions_apply_here i f h =
@@ -197,13 +190,6 @@ pub votes_apply : VotesApply
 votes_apply code d f = refl
 
 -- a send without reads notes what the write owed alone
-pub no_read_keys : (code : SuperstepCode) (f : Flat) → f.uniform.asks ≡ [] → read_keys code f ≡ None
-no_read_keys code f h = go (shares_reads code.rule)
-  where
-    go : (b : Bool) → (if b then None else read_conflicts code f 0 f.uniform.asks) ≡ None
-    go true = refl
-    go false = ap (read_conflicts code f 0) h
-
 pub lone_send_told : (code : SuperstepCode) (f : Flat) → f.uniform.asks ≡ [] → (after_send code f).key ≡ told code f
 lone_send_told code f h = told_sent code f ∙ ap (least (told code f)) (no_read_keys code f h) ∙ none_least (told code f)
 

@@ -1,25 +1,19 @@
 -- The verifier's states of places describe runs, and what it has judged is fine.
-use Rattle.std.proofs.Common.{◌≡◌, ◌+◌, [], ◌∷◌, Bool, true, false, not, eqb, Option, Some, None, refl, ap, ◌∙◌, subst, arith}
+use Rattle.std.proofs.Common.{◌≡◌, ◌+◌, [], ◌∷◌, Bool, true, false, not, eqb, refl, ap, ◌∙◌, subst, arith}
 use Rattle.std.specs.Prelude.{◌&&◌, slice_get}
 use Rattle.superstep_code.specs.declared.instr.Instr.{Instr}
 use Rattle.superstep_code.specs.declared.instr.Instr.TheVariants.{Mark, Put, Send, Reply, Jump, JumpIfZero, Halt}
-use Rattle.superstep_machine.specs.Parts.{Moment}
-use Rattle.superstep_machine.specs.Run.{is_held}
 use Rattle.bsp_verify.specs.declared.state.State.{State}
 use Rattle.bsp_verify.specs.States.{after}
 use Rattle.bsp_verify.specs.Judging.{fits_exchange}
 use Rattle.bsp_verify.specs.WellFormed.{IsWellFormed}
 use Rattle.bsp_verify.proofs.StretchLemmas.{parts_stand, what_stands_is_there}
 use Rattle.bsp_verify.proofs.PathLemmas.{comes_given}
-use Rattle.bsp_verify.proofs.RunLemmas.{Describes}
+use Rattle.bsp_verify.proofs.RunLemmas.{Describes, no_put}
 use Rattle.pram_model.proofs.Truths.{both}
 use Rattle.stretches.specs.Folds.{held_after, may_follow, IsFine}
 use Rattle.stretches.specs.Described.{PlacesAreAsSaid, is_straight, JudgedAreFine, WhatStandsIsAt}
 use Rattle.stretches.proofs.Closes.{agrees}
-
-no_put : (o : Option Moment) → is_held o ≡ false → o ≡ None
-no_put None h = refl
-no_put (Some m) h = cc
 
 pub places_are_as_said : PlacesAreAsSaid
 places_are_as_said t given long met place f spent c =

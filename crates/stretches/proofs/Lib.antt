@@ -7,3 +7,6 @@ pub mod Tells
 pub mod Closes
 pub mod Statements
 pub mod Described
+pub mod Sets
+pub mod Frames
+pub mod Loops

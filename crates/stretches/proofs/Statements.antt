@@ -16,6 +16,7 @@ use Rattle.flat_machine.specs.Flat.{Flat}
 use Rattle.flat_machine.specs.ByInstructions.{IsFlatOutcome}
 use Rattle.flat_machine.specs.Verdicts.{told}
 use Rattle.flat_machine.proofs.Late.{none_least}
+use Rattle.flat_machine.proofs.AnyTime.{none_noted}
 use Rattle.flat_machine.proofs.Paths as paths
 use Rattle.stretches.specs.Along.{Run, IsOf, IsRunning}
 use Rattle.stretches.specs.Folds.{Stand, act, acts, costs, held_after, may_follow, IsFine, MayHold, IsBehind}
@@ -24,7 +25,7 @@ use Rattle.stretches.specs.Statements.{HasBegun, MarksBegin, finished, HasFinish
 use Rattle.stretches.proofs.Applied.{told_by}
 use Rattle.stretches.proofs.Along.{mark_goes_on}
 use Rattle.stretches.proofs.Folds.{stretches_are_folds}
-use Rattle.stretches.proofs.Tells.{item_stays, mark_notes_nothing}
+use Rattle.stretches.proofs.Tells.{item_stays}
 use Rattle.stretches.proofs.Closes.{agrees, fits}
 
 -- items of statements before n are all of them, if there are no others
@@ -46,7 +47,7 @@ pub marks_begin : MarksBegin
 marks_begin t formed place f spent c line at l quiet =
     let a = agrees t formed place f spent c in record {
       comes = mark_goes_on t place f spent c line at l;
-      told = told_by t.code (Mark line) f refl ∙ ap (least (told t.code f)) (mark_notes_nothing t.code line f) ∙ none_least (told t.code f)
+      told = told_by t.code (Mark line) f refl ∙ ap (least (told t.code f)) (none_noted t.code line f) ∙ none_least (told t.code f)
           ∙ quiet;
       asks = paths.mark_asks_none t.code place f a line (fits t formed place f spent c (Mark line) at);
       output = all_below (f.uniform.count + 1) f.uniform.output

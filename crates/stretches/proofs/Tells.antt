@@ -86,15 +86,6 @@ module _ (code : SuperstepCode) (i : Instr) (q : is_quiet i ≡ true) where
       ∙ total_none None least keys_are_monoid (λ v. own_key code i f.uniform v (f.own v))
       (λ v. own_notes_nothing f.uniform v (f.own v)) (range f)
 
--- nor does a mark
-pub mark_notes_nothing : (code : SuperstepCode) (line : ℕ) (f : Flat) → noted code (Mark line) f ≡ None
-mark_notes_nothing code line f = total_none None least keys_are_monoid (λ v. own_key code (Mark line) f.uniform v (f.own v))
-    (λ v. go (is_active (f.own v))) (range f)
-  where
-    go : (b : Bool) → (let none : Option Key = None in if b then none else none) ≡ None
-    go true = refl
-    go false = refl
-
 -- an item that isn't of an earlier statement
 pub item_stays : (n m : ℕ) (x : ℤ) (output : List (ℕ × ℤ)) → n ≡ m → items_below n (output ++ (m, x) ∷ []) ≡ items_below n output
 item_stays n m x [] h = ap (λ b. map (λ (p : ℕ × ℤ). p.1) (cond b ((m, x) ∷ []) [])) (no m n h)

@@ -6,3 +6,4 @@ pub mod Tells
 pub mod Closes
 pub mod Statements
 pub mod Described
+pub mod Frames

@@ -10,6 +10,8 @@ ghost use Rattle.stretches.specs.Statements.{MarksBegin, StatementsFinish, State
 ghost use Rattle.stretches.specs.Described.{PlacesAreAsSaid, JudgedAreFine, WhatStandsIsAt};
 ghost use Rattle.stretches.specs.Tells.{EndsTell, QuietPlacesTell, QuietStretchesTell, JumpsTell, ForksTell, CalmPlacesTell, QuietBeforeCalm};
 ghost use Rattle.stretches.specs.Closes.{HaltsEnd, BoundsEnd};
+ghost use Rattle.stretches.specs.Frames.{SetsNarrow, EverybodyIsPresent, RangesBegin, MasksNarrow, FlipsTurn, UnmasksWiden, VotesSay};
+ghost use Rattle.stretches.specs.Frames.{FoldsStay, FoldsAtOnceStay, LoopsOpen, LoopsTurn, LoopsClose};
 
 /// The machine may be seen with the write that it holds applied at once: each instruction, a send, a
 /// reply and a vote do the same to that state, and a write is applied where it stands. This holds for every
@@ -102,4 +104,23 @@ pub fn states_describe_runs()
     ensures places { PlacesAreAsSaid }
     ensures judged { JudgedAreFine }
     ensures there { WhatStandsIsAt }
+{}
+
+/// The processors that are active, as sets: a mask, a flip and an unmask go from one frame of masks to
+/// another, whose set is a filter of the set below; a vote says whether the set has a member; a
+/// stretch that sets no flag stays in its frame. A loop's flag lets all of the set in, those stay
+/// whose test is true, and behind it the set is present again.
+pub fn masks_are_sets()
+    ensures narrow { SetsNarrow }
+    ensures everybody { EverybodyIsPresent }
+    ensures begin { RangesBegin }
+    ensures mask { MasksNarrow }
+    ensures flip { FlipsTurn }
+    ensures unmask { UnmasksWiden }
+    ensures vote { VotesSay }
+    ensures folds { FoldsStay }
+    ensures at_once { FoldsAtOnceStay }
+    ensures opens { LoopsOpen }
+    ensures turns { LoopsTurn }
+    ensures closes { LoopsClose }
 {}
