@@ -4,3 +4,4 @@ pub mod Keeping
 pub mod Runs
 pub mod Messages
 pub mod Outcomes
+pub mod FlatValues

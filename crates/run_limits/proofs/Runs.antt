@@ -38,7 +38,7 @@ use Rattle.run_limits.proofs.Keeping.{IsOwnKept, IsKept, instr_kept}
 
 -- ---- stretches
 
-all_at : {A : Type 0} (P : A → Type 0) (xs : List A) → AllByRecursion P xs → (k : ℕ) (x : A) → slice_get xs k ≡ Some x → P x
+pub all_at : {A : Type 0} (P : A → Type 0) (xs : List A) → AllByRecursion P xs → (k : ℕ) (x : A) → slice_get xs k ≡ Some x → P x
 all_at P [] h k x e = cc
 all_at P (y ∷ ys) h zero x e = subst P (let d : y ≡ x = cc in d) h.0
 all_at P (y ∷ ys) h (suc k) x e = all_at P ys h.1 k x e
@@ -127,7 +127,7 @@ module _ (t : Setting) (code : IsCode t.code) (w : ℕ) (K : Worker → Type 0) 
 
 -- ---- exchanges
 
-abbrev FitsVerdict : Option Value → Type 0
+abbrev pub FitsVerdict : Option Value → Type 0
 FitsVerdict None = Unit {0}
 FitsVerdict (Some v) = Fits v
 
@@ -136,7 +136,7 @@ unless_fits true z = tt
 unless_fits false z = checked_fits z
 
 -- what writers leave is a value
-verdict_fits : (rule : Rule) (o : Option Entry) → FitsVerdict (verdict_on rule o)
+pub verdict_fits : (rule : Rule) (o : Option Entry) → FitsVerdict (verdict_on rule o)
 verdict_fits rule None = tt
 verdict_fits Erew (Some e) = unless_fits e.clash e.value
 verdict_fits Crew (Some e) = unless_fits e.clash e.value
@@ -144,7 +144,7 @@ verdict_fits Common (Some e) = unless_fits e.clash e.value
 verdict_fits Priority (Some e) = checked_fits e.value
 verdict_fits Sum (Some e) = checked_fits e.value
 
-settled_fits : (v : Option Value) (old : ℤ) → FitsVerdict v → FitsSigned w64 old → FitsSigned w64 (settled v old)
+pub settled_fits : (v : Option Value) (old : ℤ) → FitsVerdict v → FitsSigned w64 old → FitsSigned w64 (settled v old)
 settled_fits None old f g = g
 settled_fits (Some (Ok x)) old f g = f
 settled_fits (Some (Err kind)) old f g = g
@@ -266,7 +266,7 @@ module _ (t : Setting) (w : ℕ) where
 
 -- ---- whole runs
 
-input_fits : (input : List ℤ) → AreValues input → (c : ℕ) → FitsSigned w64 (slice_index_or input c (pos 0))
+pub input_fits : (input : List ℤ) → AreValues input → (c : ℕ) → FitsSigned w64 (slice_index_or input c (pos 0))
 input_fits input h c = value_fits input c h
 
 module _ (t : Setting) (code : IsCode t.code) (room : IsMapFor t.code t.map) where

@@ -1,14 +1,18 @@
 -- What the runs of code keep within: values of 64 bits, and messages that can be sent in few words.
-use Rattle.std.specs.Prelude.{◌≡◌, ℕ, ◌+◌, ◌-◌, ◌*◌, ◌/◌, ◌<◌, ◌≤◌, List, length, Some, ℤ, FitsSigned}
+use Rattle.std.specs.Prelude.{◌≡◌, ℕ, ◌+◌, ◌-◌, ◌*◌, ◌/◌, ◌<◌, ◌≤◌, List, length, Bool, Option, Some, ℤ, FitsSigned}
 use Rattle.std.specs.List.{AllByRecursion}
 use Rattle.std.specs.Int.{w64}
 use Rattle.pram_model.specs.declared.rule.Rule.{Rule}
 use Rattle.pram_model.specs.declared.rule.Rule.TheVariants.{Sum}
+use Rattle.write_rules.specs.declared.entry.Entry.{Entry}
 use Rattle.write_rules.specs.Verdict.{Verdict, Ended, Faulted, GoesOn}
 use Rattle.superstep_machine.specs.declared.mark.HeaderMark.{HeaderMark}
+use Rattle.superstep_code.specs.Code.{SuperstepCode}
 use Rattle.superstep_code.specs.Limits.{IsCode}
 use Rattle.superstep_machine.specs.Setting.{Setting, workers}
 use Rattle.superstep_machine.specs.Parts.{Registers, PrivatePart}
+use Rattle.superstep_machine.specs.Steps.{index_of}
+use Rattle.superstep_machine.specs.Sending.{settled, verdict_on}
 use Rattle.superstep_machine.specs.Words.{words}
 use Rattle.superstep_machine.specs.Worker.{Worker}
 use Rattle.superstep_machine.specs.Machine.{phases}
@@ -18,6 +22,9 @@ use Rattle.superstep_machine.specs.Fitting.{CanBeSent}
 use Rattle.superstep_machine.specs.WordLaws.{IsReadBack}
 use Rattle.bsp_verify.specs.WellFormed.{IsWellFormed}
 use Rattle.bsp_verify.specs.Moments.{moment}
+use Rattle.flat_machine.specs.Flat.{Flat}
+use Rattle.flat_machine.specs.ByExchanges.{opening}
+use Rattle.flat_machine.specs.ByInstructions.{steps}
 use Rattle.flat_machine.specs.Flatness.{IsMapFor}
 
 -- ---- values
@@ -57,6 +64,25 @@ IsVerdictOfValues (GoesOn output) = AreValues output
 abbrev pub OutcomesFit : Type 0
 OutcomesFit = (t : Setting) (input : List ℤ) → IsGiven t input → (verdict : Verdict) →
     IsBspOutcome t.code t.map input t.bound verdict → IsVerdictOfValues verdict
+
+-- ---- values on one memory
+
+-- all registers, and those of the range's processors; their indices; all cells; and what was printed
+pub record IsFlatOfValues (f : Flat) : Type 0 where
+  pub uniform : HaveValues f.uniform.registers
+  pub own : (v : ℕ) → v < f.uniform.width → HaveValues (f.own v).registers
+  pub indices : (v : ℕ) → v < f.uniform.width → FitsSigned w64 (index_of f.uniform v)
+  pub memory : (c : ℕ) → FitsSigned w64 (f.memory c)
+  pub output : AllByRecursion (λ (item : ℕ × ℤ). FitsSigned w64 item.1) f.uniform.output
+
+-- after any number of instructions, whichever exchanges decide, for every code
+abbrev pub FlatValuesFit : Type 0
+FlatValuesFit = (code : SuperstepCode) → IsCode code → (input : List ℤ) → AreValues input → (bound : ℕ) (judges : ℕ → Bool) (n : ℕ) →
+    IsFlatOfValues (steps code bound judges n (opening input)).flat
+
+-- and so it is of a cell behind a send, whatever is held for it
+abbrev pub WrittenValuesFit : Type 0
+WrittenValuesFit = (rule : Rule) (held : Option Entry) (old : ℤ) → FitsSigned w64 old → FitsSigned w64 (settled (verdict_on rule held) old)
 
 -- ---- messages
 

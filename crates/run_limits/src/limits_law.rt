@@ -1,13 +1,16 @@
 //! The limits that runs of code keep.
 
-ghost use Rattle.run_limits.specs.Within.{OutcomesFit, ValuesFit, MessagesCanBeSent, MessagesAreReadBack, MessagesAreShort};
+ghost use Rattle.run_limits.specs.Within.{OutcomesFit, ValuesFit, FlatValuesFit, WrittenValuesFit, MessagesCanBeSent, MessagesAreReadBack, MessagesAreShort};
 
 /// At every moment of a run from an input of 64-bit values, for every code, well formed or not, all
 /// registers and cells and what was printed have values of 64 bits; and so have the output and the memory
-/// of its outcome.
+/// of its outcome. So it is of the run on one memory, whichever exchanges decide.
 pub fn values_fit()
     ensures moments { ValuesFit }
     ensures outcomes { OutcomesFit }
+    // On one memory, with the indices of the range's processors; and what writers leave in a cell.
+    ensures flat { FlatValuesFit }
+    ensures written { WrittenValuesFit }
 {}
 
 /// Every message of such a run of verified code can be sent, also where memory is refused to workers: its
