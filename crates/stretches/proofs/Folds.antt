@@ -1,20 +1,20 @@
 -- A stretch is run as a fold, also with each write applied at once.
 use Rattle.std.proofs.Common.{◌≡◌, ℕ, ◌+◌, ◌≤◌, [], ◌∷◌, length, Bool, true, false, not, refl, sym, ap, ◌∙◌}
 use Rattle.std.proofs.Common.{subst, arith}
-use Rattle.std.specs.Prelude.{if◌then◌else◌}
+use Rattle.std.specs.Prelude.{if◌then◌else◌, ◌||◌}
 use Rattle.superstep_code.specs.declared.instr.Side.TheVariants.{Uniform, Private}
 use Rattle.superstep_code.specs.declared.instr.Instr.{Instr}
 use Rattle.superstep_code.specs.declared.instr.Instr.TheVariants.{Mark, Ask, Put, Send, Reply, Vote, Jump, JumpIfZero, Halt}
 use Rattle.superstep_code.specs.Code.{SuperstepCode}
-use Rattle.superstep_machine.specs.Run.{Sends, Replies, Votes}
+use Rattle.superstep_machine.specs.Run.{Sends, Replies, Votes, is_held}
 use Rattle.superstep_machine.specs.Steps.{is_put}
 use Rattle.flat_machine.specs.Flat.{Flat, after_instr, after_send, after_reply, after_vote}
 use Rattle.flat_machine.specs.ByInstructions.{going}
-use Rattle.flat_machine.specs.Exchanges.{is_holding}
+use Rattle.flat_machine.specs.Exchanges.{is_some, is_holding}
 use Rattle.stretches.specs.Applied.{applied, IsBare}
 use Rattle.stretches.specs.Along.{Run, Comes, IsAt, works, send_cost, IsRunning}
 use Rattle.stretches.specs.Folds.{act, acts, act_at_once, acts_at_once, cost, costs, held_after, may_follow}
-use Rattle.stretches.specs.Folds.{MayHold, StretchesAreFolds, CostsAreCounted, FoldsStayBare}
+use Rattle.stretches.specs.Folds.{MayHold, StretchesAreFolds, CostsAreCounted, FoldsStayBare, NothingCostsNothing}
 use Rattle.stretches.proofs.Applied.{instructions_apply_here, writes_apply, send_same, bare_is_applied, replies_apply, put_stays, held_stays}
 use Rattle.stretches.proofs.Along.{nothing_decides, work_goes_on_here, send_goes_on, reply_goes_on, vote_goes_on}
 use Rattle.stretches.proofs.Running.{running_behind, running_sent, running_replied, running_voted}
@@ -144,3 +144,9 @@ bare_at_once code i f b = record { put = b.put; held = b.held }
 pub folds_stay_bare : FoldsStayBare
 folds_stay_bare code [] f b = b
 folds_stay_bare code (i ∷ is) f b = folds_stay_bare code is (act_at_once code i f) (bare_at_once code i f b)
+
+-- ---- a send at which nothing is held
+
+pub nothing_costs_nothing : NothingCostsNothing
+nothing_costs_nothing f b n =
+    ap (λ (h : Bool). if h then 1 else 0) (λ z. is_held (b.put z) || is_some (n z))

@@ -10,3 +10,4 @@ pub mod Described
 pub mod Sets
 pub mod Frames
 pub mod Loops
+pub mod ReadLemmas

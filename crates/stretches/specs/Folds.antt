@@ -101,3 +101,7 @@ CostsAreCounted = (code : SuperstepCode) (is : List Instr) (f : Flat) → costs 
 -- a fold with each write applied at once holds none
 abbrev pub FoldsStayBare : Type 0
 FoldsStayBare = (code : SuperstepCode) (is : List Instr) (f : Flat) → IsBare f → IsBare (acts_at_once code is f)
+
+-- a send at which nothing is held costs nothing
+abbrev pub NothingCostsNothing : Type 0
+NothingCostsNothing = (f : Flat) → IsBare f → f.uniform.asks ≡ [] → send_cost f ≡ 0

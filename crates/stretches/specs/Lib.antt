@@ -7,3 +7,4 @@ pub mod Closes
 pub mod Statements
 pub mod Described
 pub mod Frames
+pub mod Reads

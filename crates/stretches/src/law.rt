@@ -4,10 +4,11 @@ ghost use Rattle.stretches.specs.Applied.{InstructionsApply, WritesApply, SendsA
 ghost use Rattle.stretches.specs.Applied.{RepliesApply, VotesApply, BareIsApplied, EmptySendsAreNothing};
 ghost use Rattle.stretches.specs.Along.{RunsBegin, WorkGoesOn, MarksGoOn, SendsGoOn, RepliesGoOn, VotesGoOn, JumpsGoOn};
 ghost use Rattle.stretches.specs.Along.{ForksGoOn, NothingDecides, MoreMayBeSpent};
-ghost use Rattle.stretches.specs.Folds.{StretchesAreFolds, CostsAreCounted, FoldsStayBare};
+ghost use Rattle.stretches.specs.Folds.{StretchesAreFolds, CostsAreCounted, FoldsStayBare, NothingCostsNothing};
 ghost use Rattle.stretches.specs.Joins.{StandsSplit, StandsJoin, FineJoins, ActsJoin, ActsAtOnceJoin, CostsJoin, CountsJoin};
 ghost use Rattle.stretches.specs.Statements.{MarksBegin, StatementsFinish, StatementsFault};
 ghost use Rattle.stretches.specs.Described.{PlacesAreAsSaid, JudgedAreFine, WhatStandsIsAt};
+ghost use Rattle.stretches.specs.Reads.{ReadsAreAnswered, ReadsArrive, OthersStay, NoReadsStay};
 ghost use Rattle.stretches.specs.Tells.{EndsTell, QuietPlacesTell, QuietStretchesTell, JumpsTell, ForksTell, CalmPlacesTell, QuietBeforeCalm};
 ghost use Rattle.stretches.specs.Closes.{HaltsEnd, BoundsEnd};
 ghost use Rattle.stretches.specs.Frames.{SetsNarrow, EverybodyIsPresent, RangesBegin, MasksNarrow, FlipsTurn, UnmasksWiden, VotesSay};
@@ -53,6 +54,7 @@ pub fn stretches_are_folds()
     ensures folds { StretchesAreFolds }
     ensures counted { CostsAreCounted }
     ensures bare { FoldsStayBare }
+    ensures free { NothingCostsNothing }
 {}
 
 /// Stretches that stand behind one another are one stretch, and what they leave and cost is put together.
@@ -123,4 +125,13 @@ pub fn masks_are_sets()
     ensures opens { LoopsOpen }
     ensures turns { LoopsTurn }
     ensures closes { LoopsClose }
+{}
+
+/// Reads that are held, where no write is, are answered by a send and a reply: the register of each gets
+/// its cell, all others stay, and the conflicts of the reads are noted.
+pub fn reads_are_answered()
+    ensures answered { ReadsAreAnswered }
+    ensures arrive { ReadsArrive }
+    ensures others { OthersStay }
+    ensures none { NoReadsStay }
 {}

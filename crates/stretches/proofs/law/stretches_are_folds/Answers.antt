@@ -2,4 +2,9 @@ use Rattle.stretches.proofs.Folds as folds
 use Rattle.stretches.proofs.law.stretches_are_folds.Goals as goal
 
 pub returns : goal.returns
-returns c = record { folds = folds.stretches_are_folds; counted = folds.costs_are_counted; bare = folds.folds_stay_bare }
+returns c = record {
+  folds = folds.stretches_are_folds;
+  counted = folds.costs_are_counted;
+  bare = folds.folds_stay_bare;
+  free = folds.nothing_costs_nothing;
+}
