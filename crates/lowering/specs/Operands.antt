@@ -1,9 +1,12 @@
 -- What a statement evaluates.
-use Rattle.std.specs.Prelude.{ℕ, ◌+◌, Bool, ◌&&◌, not}
+use Rattle.std.specs.Prelude.{ℕ, ◌+◌, Bool, true, ◌&&◌, not, List, [], ◌∷◌, ◌++◌}
 use Rattle.superstep_code.specs.declared.instr.Side.{Side}
-use Rattle.plain_form.specs.Formulas.{Formula, Zero, Pair, formula_of, reads}
+use Rattle.superstep_code.specs.declared.instr.Instr.{Instr}
+use Rattle.superstep_code.specs.declared.instr.Instr.TheVariants.{Put}
+use Rattle.plain_form.specs.Formulas.{Formula, Zero, Pair, formula_of, reads, positions}
 use Rattle.plain_form.specs.Regions.{place}
-use Rattle.plain_form.specs.Shapes.{any_level}
+use Rattle.plain_form.specs.Shapes.{any_level, flush, still, waits, counted}
+use Rattle.plain_form.specs.Groups.{stack, value_at}
 use Rattle.lowering.specs.declared.values.Operands.{Operands}
 use Rattle.lowering.specs.declared.values.Operands.TheVariants.{Value, ForCell, Both}
 
@@ -22,3 +25,13 @@ second_place s (Both e f) t b = place s (formula_of f.now) (t + reads (formula_o
 -- whether a write is held behind so many levels of reads
 abbrev pub held_behind : Bool → ℕ → Bool
 held_behind held n = held && not (any_level n)
+
+-- whether a write waits for so many levels of reads to be sent
+abbrev pub waiting : Bool → ℕ → Bool
+waiting held n = held && any_level n
+
+-- a write of the second value to the cell at the first
+abbrev pub writes_of : Bool → ℕ → Side → ℕ → ℕ → Operands → List Instr
+writes_of held line s base entry o =
+    flush (still held (formula o)) ++ counted true (waits held (formula o)) line s base (formula o)
+    ++ Put s entry (value_at s base (formula o)) (second_place s o base (stack base (formula o))) (positions (formula o) + 1) ∷ []

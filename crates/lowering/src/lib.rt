@@ -1,6 +1,7 @@
 //! The code of an accepted program.
 #![tactic(auto)]
 
+mod assignment;
 mod cursor;
 mod emitter;
 mod operator;

@@ -54,8 +54,8 @@ gets keep held line s base f destination = counted keep held line s base f ++ Co
 -- with its reads, and where there are none by itself.
 abbrev pub writes : (keep held : Bool) → ℕ → Side → ℕ → ℕ → Formula → Formula → List Instr
 writes keep held line s base entry f g =
-    flush (still held (Pair f g)) ++ (counted keep (waits held (Pair f g)) line s base (Pair f g)
-    ++ Put s entry (first_at s base f g) (second_at s base f g) (positions f + positions g + 1) ∷ [])
+    flush (still held (Pair f g)) ++ counted keep (waits held (Pair f g)) line s base (Pair f g)
+    ++ Put s entry (first_at s base f g) (second_at s base f g) (positions f + positions g + 1) ∷ []
 
 abbrev pub prints : (keep held : Bool) → ℕ → ℕ → Formula → List Instr
 prints keep held line base f = counted keep held line Uniform base f ++ Print (value_at Uniform base f) ∷ []
@@ -71,7 +71,7 @@ abbrev pub chosen : ℕ → ℕ → List Instr → Bool → (ℕ → List Instr)
 chosen start test then_part false else_part = JumpIfZero test (start + 1 + length then_part) ∷ then_part
 chosen start test then_part true else_part =
     let other = start + 1 + length then_part + 1 in
-    JumpIfZero test other ∷ (then_part ++ Jump (other + length (else_part other)) ∷ else_part other)
+    JumpIfZero test other ∷ then_part ++ Jump (other + length (else_part other)) ∷ else_part other
 
 -- `if`: what is held behind the test is sent
 abbrev pub if_code : (keep held : Bool) → ℕ → ℕ → ℕ → Formula → (ℕ → List Instr) → Bool → (ℕ → List Instr) → List Instr
@@ -84,7 +84,8 @@ if_code keep held start line free f then_part has_else else_part =
 abbrev pub looped : ℕ → List Instr → ℕ → (ℕ → List Instr) → List Instr
 looped head test register body =
     let start = head + length test + 1 in
-    test ++ (JumpIfZero register (start + length (body start) + 1) ∷ (body start ++ Jump head ∷ []))
+    let end = start + length (body start) + 1 in
+    test ++ (JumpIfZero register end ∷ []) ++ body start ++ (Jump head ∷ [])
 
 -- `while`
 abbrev pub while_code : (keep held : Bool) → ℕ → ℕ → ℕ → Formula → (ℕ → List Instr) → List Instr
@@ -95,9 +96,10 @@ while_code keep held start line free f body =
 abbrev pub bounds : (keep held : Bool) → ℕ → ℕ → Formula → Formula → List Instr
 bounds keep held line free f g =
     let base = behind_turns free in
-    (counted keep held line Uniform base (Pair f g) ++ Copy Uniform (turn free) (first_at Uniform base f g)
-    ∷ Copy Uniform (high free) (second_at Uniform base f g) ∷ []) ++ (flush (still held (Pair f g))
-    ++ Decide Uniform truth.AtMost (more free) (turn free) (high free) ∷ [])
+    counted keep held line Uniform base (Pair f g)
+    ++ (Copy Uniform (turn free) (first_at Uniform base f g) ∷ Copy Uniform (high free) (second_at Uniform base f g) ∷ [])
+    ++ flush (still held (Pair f g))
+    ++ (Decide Uniform truth.AtMost (more free) (turn free) (high free) ∷ [])
 
 -- a setting of its variable, which counts as a statement: the turn is stepped there, unless it is the last
 abbrev pub setting : Bool → ℕ → ℕ → ℕ → List Instr
@@ -109,11 +111,10 @@ setting keep line free x =
 abbrev pub for_code : (keep held : Bool) → ℕ → ℕ → ℕ → ℕ → Formula → Formula → (ℕ → List Instr) → List Instr
 for_code keep held start line free x f g body =
     let first = bounds keep held line free f g in
-    let set = setting keep line free x in
     let head = start + length first + 1 in
-    let turns = set ++ body (head + length set) in
+    let turns = setting keep line free x ++ body (head + length (setting keep line free x)) in
     let end = head + length turns + 2 in
-    first ++ (JumpIfZero (more free) end ∷ (turns ++ JumpIfZero (more free) end ∷ Jump head ∷ []))
+    first ++ (JumpIfZero (more free) end ∷ []) ++ turns ++ (JumpIfZero (more free) end ∷ Jump head ∷ [])
 
 -- pardo: the width is tested at the last position
 abbrev pub entered : (keep held : Bool) → ℕ → ℕ → Formula → Formula → List Instr
@@ -124,7 +125,7 @@ entered keep held line base f g =
 abbrev pub pardo_code : (keep held : Bool) → ℕ → ℕ → ℕ → Formula → Formula → (ℕ → List Instr) → List Instr
 pardo_code keep held start line base f g body =
     let before = entered keep held line base f g in
-    before ++ (body (start + length before) ++ Leave ∷ [])
+    before ++ body (start + length before) ++ (Leave ∷ [])
 
 -- ---- inside pardo
 
@@ -138,7 +139,7 @@ abbrev pub inner_if_code : (keep held : Bool) → ℕ → ℕ → ℕ → Formul
 inner_if_code keep held start line base f then_part has_else else_part =
     let test = counted keep held line Private base f ++ Mask (value_at Private base f) ∷ [] in
     let before = test ++ then_part (start + length test) in
-    before ++ (flipped has_else (start + length before) else_part ++ Unmask ∷ [])
+    before ++ flipped has_else (start + length before) else_part ++ (Unmask ∷ [])
 
 -- a `while`, the flag of whose processors is set, up to its head
 abbrev pub flagged : Bool → ℕ → List Instr
@@ -154,4 +155,4 @@ flags keep line vote flag base f =
 abbrev pub inner_while_code : (keep held : Bool) → ℕ → ℕ → (vote flag base : ℕ) → Formula → (ℕ → List Instr) → List Instr
 inner_while_code keep held start line vote flag base f body =
     let before = flagged held flag in
-    before ++ (looped (start + length before) (flags keep line vote flag base f) vote body ++ Unmask ∷ [])
+    before ++ looped (start + length before) (flags keep line vote flag base f) vote body ++ (Unmask ∷ [])
