@@ -1,3 +1,5 @@
 pub mod Chains
 pub mod Appended
 pub mod Levels
+pub mod Filling
+pub mod StepParts

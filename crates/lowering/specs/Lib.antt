@@ -1,4 +1,5 @@
 pub mod Written
+pub mod Parts
 pub mod Operands
 pub mod Depths
 pub mod Cursors

@@ -4,6 +4,7 @@
 mod assignment;
 mod cursor;
 mod emitter;
+mod inside;
 mod operator;
 mod reads;
 mod refusal;

@@ -1,0 +1,182 @@
+//! The code of statements inside pardo.
+
+ghost use Rattle.std.specs.Prelude.{◌≡◌, OnOk, length, false};
+ghost use Rattle.plain_form.specs.Inside as inside;
+ghost use Rattle.plain_form.specs.Shapes as shapes;
+ghost use Rattle.plain_form.specs.Formulas.{formula_of};
+ghost use Rattle.lowering.specs.Parts as parts;
+ghost use Rattle.lowering.specs.Parts.{frame};
+ghost use Rattle.lowering.specs.Written.{wrote};
+
+use crate::assignment::step_assign;
+use crate::cursor::next_register;
+use crate::emitter::Emitter;
+use crate::refusal::LowerRefusal;
+use crate::values::{Operands, count};
+use pram_check::body::{Expression, Step};
+use superstep_code::instr::{Instr, Side};
+
+// The test of an `if`.
+fn masked(out: &mut Emitter, line: u32, test: &Expression, base: u16) -> Result<(), LowerRefusal>
+    ensures { OnOk result (out.new ≡ wrote (parts.masked out.old.held line base (formula_of test.now))
+        (shapes.still out.old.held (formula_of test.now)) out.old) }
+{
+    let values = count(out, Side::Private, line, Operands::Value(test), base)?;
+    out.push(Instr::Mask {
+        source: values.first,
+    })
+}
+
+// The flag of a `while` is set, and the mask on it.
+fn flagged(out: &mut Emitter, flag: u16) -> Result<(), LowerRefusal>
+    ensures { OnOk result (out.new ≡ wrote (shapes.flagged out.old.held flag) false out.old) }
+{
+    out.flush()?;
+    out.push(Instr::Set {
+        side: Side::Private,
+        destination: flag,
+        value: 1,
+    })?;
+    out.push(Instr::Mask { source: flag })
+}
+
+// The test of a `while`.
+fn flags(
+    out: &mut Emitter,
+    line: u32,
+    test: &Expression,
+    vote: u16,
+    flag: u16,
+    base: u16,
+) -> Result<(), LowerRefusal>
+    ensures { OnOk result (out.new ≡ wrote (parts.flags out.old.held line vote flag base (formula_of test.now))
+        (shapes.still out.old.held (formula_of test.now)) out.old) }
+{
+    let values = count(out, Side::Private, line, Operands::Value(test), base)?;
+    out.push(Instr::Copy {
+        side: Side::Private,
+        destination: flag,
+        source: values.first,
+    })?;
+    out.push(Instr::Unmask)?;
+    out.push(Instr::Mask { source: flag })?;
+    out.push(Instr::Vote { destination: vote })
+}
+
+/// A statement inside pardo, with all that it holds. Votes go to the uniform register `vote`, and
+/// the private registers from `base` on are free.
+#[cycle(inside)]
+fn step(out: &mut Emitter, s: &Step, vote: u16, base: u16) -> Result<(), LowerRefusal>
+    ensures { OnOk result (out.new ≡ wrote
+        (inside.step_code (frame vote) base (length out.old.instructions) out.old.held s.now)
+        (inside.step_left out.old.held s.now) out.old) }
+{
+    match s {
+        Step::Assign {
+            line,
+            target,
+            value,
+        } => step_assign(out, *line, target, value, base, vote),
+        Step::While { line, test, body } => step_while(out, body, *line, test, vote, base),
+        Step::If {
+            line,
+            test,
+            then_part,
+            else_part,
+        } => {
+            masked(out, *line, test, base)?;
+            steps(out, then_part, vote, base)?;
+            step_else(out, else_part, vote, base)?;
+            out.push(Instr::Unmask)
+        }
+    }
+}
+
+// A `while`.
+#[cycle(inside)]
+fn step_while(
+    out: &mut Emitter,
+    body: &Vec<Step>,
+    line: u32,
+    test: &Expression,
+    vote: u16,
+    base: u16,
+) -> Result<(), LowerRefusal>
+    ensures { OnOk result (out.new ≡ wrote
+        (parts.step_while vote base (length out.old.instructions) out.old.held line (formula_of test.now) body.now.items)
+        false out.old) }
+{
+    let above = next_register(base)?;
+    flagged(out, base)?;
+    step_turns(out, body, line, test, vote, base, above)?;
+    out.push(Instr::Unmask)
+}
+
+// The turns of a `while`, from its head on.
+#[cycle(inside)]
+fn step_turns(
+    out: &mut Emitter,
+    body: &Vec<Step>,
+    line: u32,
+    test: &Expression,
+    vote: u16,
+    flag: u16,
+    base: u16,
+) -> Result<(), LowerRefusal>
+    ensures { OnOk result (out.new ≡ wrote
+        (parts.step_turns vote flag base (length out.old.instructions) out.old.held line (formula_of test.now) body.now.items)
+        false out.old) }
+{
+    let head = out.place()?;
+    flags(out, line, test, vote, flag, base)?;
+    let exit = out.gap()?;
+    steps(out, body, vote, base)?;
+    out.flush()?;
+    out.push(Instr::Jump { target: head })?;
+    let target = out.place()?;
+    out.fill(
+        exit,
+        Instr::JumpIfZero {
+            source: vote,
+            target,
+        },
+    );
+    Ok(())
+}
+
+// An else part, if there is one.
+#[cycle(inside)]
+fn step_else(
+    out: &mut Emitter,
+    else_part: &Vec<Step>,
+    vote: u16,
+    base: u16,
+) -> Result<(), LowerRefusal>
+    ensures { OnOk result (out.new ≡ wrote
+        (parts.step_else vote base (length out.old.instructions) out.old.held else_part.now.items)
+        (inside.steps_left out.old.held else_part.now.items) out.old) }
+{
+    if else_part.is_empty() {
+        return Ok(());
+    }
+    out.push(Instr::Flip)?;
+    steps(out, else_part, vote, base)
+}
+
+/// The statements of a part, in order.
+#[cycle(inside)]
+pub(crate) fn steps(
+    out: &mut Emitter,
+    body: &Vec<Step>,
+    vote: u16,
+    base: u16,
+) -> Result<(), LowerRefusal>
+    ensures { OnOk result (out.new ≡ wrote
+        (inside.steps_code (frame vote) base (length out.old.instructions) out.old.held body.now.items)
+        (inside.steps_left out.old.held body.now.items) out.old) }
+{
+    for s in body {
+        step(out, s, vote, base)?;
+    }
+    Ok(())
+}
