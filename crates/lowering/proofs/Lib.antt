@@ -3,3 +3,4 @@ pub mod Appended
 pub mod Levels
 pub mod Filling
 pub mod StepParts
+pub mod StatementParts

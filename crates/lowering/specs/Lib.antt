@@ -1,4 +1,5 @@
 pub mod Written
+pub mod Blocks
 pub mod Parts
 pub mod Operands
 pub mod Depths

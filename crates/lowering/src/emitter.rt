@@ -1,6 +1,6 @@
 //! Code that grows.
 
-ghost use Rattle.std.specs.Prelude.{◌≡◌, ◌<◌, ◌∷◌, [], IfOk, OnOk, length, true, false};
+ghost use Rattle.std.specs.Prelude.{◌≡◌, ◌<◌, ◌+◌, ◌∷◌, [], IfOk, OnOk, length, true, false};
 ghost use Rattle.superstep_code.specs.declared.instr.Instr.TheVariants.{Send, Reply, Halt};
 ghost use Rattle.plain_form.specs.Shapes as shapes;
 ghost use Rattle.lowering.specs.Written.{added, wrote, patched};
@@ -69,6 +69,15 @@ impl Emitter {
         ensures { IfOk result (λ n. n ≡ length self.now.instructions) }
     {
         short(self.instructions.len())
+    }
+
+    /// The place behind so many instructions more.
+    pub(crate) fn place_behind(&self, more: usize) -> Result<u16, LowerRefusal>
+        requires { more < 8 }
+        ensures { IfOk result (λ n. n ≡ length self.now.instructions + more) }
+    {
+        let next = self.place()?;
+        short(next as usize + more)
     }
 
     /// Leaves a place for an instruction that comes to be known later.

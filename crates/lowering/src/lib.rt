@@ -4,8 +4,10 @@
 mod assignment;
 mod cursor;
 mod emitter;
+mod finish;
 mod inside;
 mod operator;
+mod outside;
 mod reads;
 mod refusal;
 mod region;

@@ -14,7 +14,7 @@ use crate::refusal::LowerRefusal;
 use pram_check::body::Expression;
 use superstep_code::instr::{Instr, Side};
 
-const INDEX: u16 = 1;
+pub(crate) const INDEX: u16 = 1;
 
 /// The register with the value of an expression, and how far the evaluation has come behind it.
 #[derive(Clone, Copy)]

@@ -107,14 +107,19 @@ setting keep line free x =
     begun keep false line ++ Copy Uniform (variable x) (turn free) ∷ Decide Uniform truth.Less (more free) (turn free) (high free)
     ∷ Calculate Uniform arithmetic.Add (turn free) (turn free) (more free) 0 ∷ []
 
+-- the turns of a `for`, from the jump over them on
+abbrev pub turned : ℕ → ℕ → List Instr → (ℕ → List Instr) → List Instr
+turned start more set body =
+    let head = start + 1 in
+    let turns = set ++ body (head + length set) in
+    let end = head + length turns + 2 in
+    JumpIfZero more end ∷ turns ++ (JumpIfZero more end ∷ Jump head ∷ [])
+
 -- `for`
 abbrev pub for_code : (keep held : Bool) → ℕ → ℕ → ℕ → ℕ → Formula → Formula → (ℕ → List Instr) → List Instr
 for_code keep held start line free x f g body =
     let first = bounds keep held line free f g in
-    let head = start + length first + 1 in
-    let turns = setting keep line free x ++ body (head + length (setting keep line free x)) in
-    let end = head + length turns + 2 in
-    first ++ (JumpIfZero (more free) end ∷ []) ++ turns ++ (JumpIfZero (more free) end ∷ Jump head ∷ [])
+    first ++ turned (start + length first) (more free) (setting keep line free x) body
 
 -- pardo: the width is tested at the last position
 abbrev pub entered : (keep held : Bool) → ℕ → ℕ → Formula → Formula → List Instr

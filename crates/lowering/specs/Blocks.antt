@@ -1,0 +1,68 @@
+-- The code of statements outside pardo, whose parts are lists.
+use Rattle.std.specs.Prelude.{ℕ, ◌+◌, Bool, true, false, List, [], ◌∷◌, ◌++◌, length}
+use Rattle.superstep_code.specs.declared.instr.Side.TheVariants.{Uniform}
+use Rattle.superstep_code.specs.declared.instr.Arithmetic.TheVariants as arithmetic
+use Rattle.superstep_code.specs.declared.instr.Truth.TheVariants as truth
+use Rattle.superstep_code.specs.declared.instr.Instr.{Instr}
+use Rattle.superstep_code.specs.declared.instr.Instr.TheVariants.{Copy, Calculate, Decide, Jump, JumpIfZero}
+use Rattle.pram_names.specs.declared.body.Step.{Step}
+use Rattle.pram_names.specs.declared.body.Statement.{Statement}
+use Rattle.plain_form.specs.Registers.{variable, behind_locals}
+use Rattle.plain_form.specs.Formulas.{Formula, Pair}
+use Rattle.plain_form.specs.Groups.{value_at, first_at, second_at}
+use Rattle.plain_form.specs.Shapes.{still, flush, begun, counted, sent, looped, turned, pardo_code}
+use Rattle.plain_form.specs.Inside.{steps_code, steps_left}
+use Rattle.plain_form.specs.Outside.{statements_code, statements_left}
+use Rattle.lowering.specs.declared.outside.Turns.{Turns}
+use Rattle.lowering.specs.Parts.{frame}
+use Rattle.lowering.specs.Written.{Written, wrote, patched}
+
+-- a part, and the send of what it holds
+abbrev pub part : ℕ → Bool → List Statement → ℕ → List Instr
+part free held ss start = sent (statements_code true free start held ss) (statements_left held ss)
+
+-- the test of an `if`
+abbrev pub parted : Bool → ℕ → ℕ → Formula → List Instr
+parted held line free f = counted true held line Uniform free f ++ flush (still held f)
+
+-- a `while` from its head on
+abbrev pub while_turns : (free head : ℕ) → Bool → ℕ → Formula → List Statement → List Instr
+while_turns free head held line f ss =
+    looped head (counted true held line Uniform free f) (value_at Uniform free f) (part free (still held f) ss)
+
+abbrev pub while_loop : (free start : ℕ) → Bool → ℕ → Formula → List Statement → List Instr
+while_loop free start held line f ss = flush held ++ while_turns free (start + length (flush held)) false line f ss
+
+-- the bounds of a `for`
+abbrev pub bounds : Bool → ℕ → Turns → Formula → Formula → List Instr
+bounds held line t f g =
+    counted true held line Uniform t.behind (Pair f g)
+    ++ (Copy Uniform t.turn (first_at Uniform t.behind f g) ∷ Copy Uniform t.high (second_at Uniform t.behind f g) ∷ [])
+    ++ flush (still held (Pair f g))
+    ++ (Decide Uniform truth.AtMost t.more t.turn t.high ∷ [])
+
+-- a setting
+abbrev pub setting : Bool → ℕ → Turns → ℕ → List Instr
+setting held line t x =
+    begun true held line ++ Copy Uniform (variable x) t.turn ∷ Decide Uniform truth.Less t.more t.turn t.high
+    ∷ Calculate Uniform arithmetic.Add t.turn t.turn t.more 0 ∷ []
+
+-- the turns
+abbrev pub for_turns : ℕ → Bool → ℕ → Turns → ℕ → List Statement → List Instr
+for_turns start held line t x ss = turned start t.more (setting held line t x) (part t.behind held ss)
+
+-- a pardo
+abbrev pub pardo : (free start : ℕ) → Bool → ℕ → Formula → Formula → ℕ → List Step → List Instr
+pardo free start held line f g locals ss =
+    pardo_code true held start line free f g (λ start. steps_code (frame free) (behind_locals locals) start (still held (Pair f g)) ss)
+
+abbrev pub pardo_left : Bool → Formula → Formula → List Step → Bool
+pardo_left held f g ss = steps_left (still held (Pair f g)) ss
+
+-- the first part of an `if`, which is written, with the jump over it, and the else part behind it, if there is one
+abbrev pub joined : (over source free : ℕ) → List Statement → Written → Written
+joined over source free [] w = patched over (JumpIfZero source (length w.instructions)) w
+joined over source free (s ∷ ss) w =
+    let other = length w.instructions + 1 in
+    let else_part = part free w.held (s ∷ ss) other in
+    wrote (Jump (other + length else_part) ∷ else_part) false (patched over (JumpIfZero source other) w)
