@@ -1,5 +1,5 @@
 -- The code of statements outside pardo, by the lists of their parts.
-use Rattle.std.proofs.Common.{◌≡◌, ℕ, ◌+◌, Bool, true, false, List, [], ◌∷◌, ◌++◌, length, take, get_or, ◌<◌, ◌≤◌, ap, ◌∙◌, sym, refl}
+use Rattle.std.proofs.Common.{◌≡◌, ℕ, ◌+◌, Bool, true, false, List, [], ◌∷◌, ◌++◌, length, take, get_or, ◌<◌, ap, ◌∙◌, sym, refl}
 use Rattle.std.proofs.Common.{append_assoc, length-append, arith, Global, Vec}
 use Rattle.std.proofs.lemmas.List.{append-nil, take_more}
 use Rattle.superstep_code.specs.declared.instr.Side.TheVariants.{Uniform}
@@ -44,7 +44,8 @@ code_of_part free start held body =
     sym (code_of_row free start held (hidden-the_row-Statement-0 body))
     ∙ ap (statements_code true free start held) (items_hidden-the_row-Statement-0 body)
 
-left_of_part : (held : Bool) (body : Vec Statement Global) → part_left held (hidden-the_row-Statement-0 body) ≡ statements_left held body.items
+left_of_part : (held : Bool) (body : Vec Statement Global) → part_left held (hidden-the_row-Statement-0 body)
+    ≡ statements_left held body.items
 left_of_part held body =
     sym (left_of_row held (hidden-the_row-Statement-0 body)) ∙ ap (statements_left held) (items_hidden-the_row-Statement-0 body)
 
@@ -72,7 +73,8 @@ code_append free start held (x ∷ xs) s =
     ap (λ l. first ++ l) (code_append free (start + length first) (left held x) xs s)
     ∙ sym (append_assoc first rest (code true free (start + length first + length rest) (statements_left (left held x) xs) s))
     ∙ ap (λ n. first ++ rest ++ code true free n (statements_left (left held x) xs) s)
-    (let l = length-append first rest in let e : start + length first + length rest ≡ start + length (first ++ rest) = omega (arith, l) in e)
+    (let l = length-append first rest in let e : start + length first + length rest ≡ start + length (first
+    ++ rest) = omega (arith, l) in e)
 
 left_append : (held : Bool) (xs : List Statement) (s : Statement) → statements_left held (xs ++ s ∷ []) ≡ left (statements_left held xs) s
 left_append held [] s = refl
@@ -88,7 +90,8 @@ statements_more free items i s w0 w1 w2 e1 h is e2 =
     let a = length w0.instructions in
     let xs = take i items in
     let next : take (i + 1) items ≡ xs ++ s ∷ [] = take_more items i s h ∙ ap (λ y. take i items ++ y ∷ []) (sym is) in
-    wrote_then (statements_code true free a w0.held xs) (statements_left w0.held xs) (λ n k. code true free n k s) (λ k. left k s) w0 w1 w2 e1 e2
+    wrote_then (statements_code true free a w0.held xs) (statements_left w0.held xs) (λ n k. code true free n k s)
+    (λ k. left k s) w0 w1 w2 e1 e2
     ∙ ap (λ l. wrote l (left (statements_left w0.held xs) s) w0) (sym (code_append free a w0.held xs s))
     ∙ ap (λ k. wrote (statements_code true free a w0.held (xs ++ s ∷ [])) k w0) (sym (left_append w0.held xs s))
     ∙ ap (λ xs. wrote (statements_code true free a w0.held xs) (statements_left w0.held xs) w0) (sym next)
@@ -98,7 +101,8 @@ statements_more free items i s w0 w1 w2 e1 h is e2 =
 abbrev Lowered : ℕ → Statement → Written → Written → Type 0
 Lowered free s w u = u ≡ wrote (code true free (length w.instructions) w.held s) (left w.held s) w
 
-pub while_is : (free line : ℕ) (s : Statement) (e : Expression) (body : Vec Statement Global) (w u : Written) → s ≡ statement.While line e body →
+pub while_is : (free line : ℕ) (s : Statement) (e : Expression) (body : Vec Statement Global) (w u : Written) → s
+    ≡ statement.While line e body →
     u ≡ wrote (while_loop free (length w.instructions) w.held line (formula_of e) body.items) false w → Lowered free s w u
 while_is free line s e body w u is h =
     h ∙ sym (ap (λ p. wrote (while_code true w.held (length w.instructions) line free (formula_of e) p) false w) (part_is free body))
@@ -111,16 +115,20 @@ pub for_is : (free line x : ℕ) (s : Statement) (e f : Expression) (body : Vec 
     w2 ≡ wrote (for_turns (length w1.instructions) w1.held line t x body.items) false w1 → Lowered free s w0 w2
 for_is free line x s e f body t w0 w1 w2 is ts h1 h2 =
     let n = length w0.instructions in
-    wrote_then (bounds w0.held line t (formula_of e) (formula_of f)) false (λ n h. for_turns n h line t x body.items) (λ h. false) w0 w1 w2 h1 h2
+    wrote_then (bounds w0.held line t (formula_of e) (formula_of f)) false (λ n h. for_turns n h line t x body.items)
+    (λ h. false) w0 w1 w2 h1 h2
     ∙ ap (λ t. wrote (bounds w0.held line t (formula_of e) (formula_of f)
     ++ for_turns (n + length (bounds w0.held line t (formula_of e) (formula_of f))) false line t x body.items) false w0) ts
-    ∙ sym (ap (λ p. wrote (for_code true w0.held n line free x (formula_of e) (formula_of f) p) false w0) (part_is (behind_turns free) body))
+    ∙ sym (ap (λ p. wrote (for_code true w0.held n line free x (formula_of e) (formula_of f) p) false w0) (part_is
+    (behind_turns free) body))
     ∙ ap (λ s. wrote (code true free n w0.held s) (left w0.held s) w0) (sym is)
 
 pub if_is : (free line source over : ℕ) (s : Statement) (e : Expression) (a b : Vec Statement Global) (w0 w1 w2 w3 w4 : Written) →
-    s ≡ statement.If line e a b → source ≡ value_at Uniform free (formula_of e) → w1 ≡ wrote (parted w0.held line free (formula_of e)) false w0 →
+    s ≡ statement.If line e a b → source ≡ value_at Uniform free (formula_of e) → w1 ≡ wrote (parted w0.held line free
+    (formula_of e)) false w0 →
     over ≡ length w1.instructions → w2 ≡ added (Halt ∷ []) w1 →
-    w3 ≡ wrote (part free w2.held a.items (length w2.instructions)) false w2 → w4 ≡ joined over source free b.items w3 → Lowered free s w0 w4
+    w3 ≡ wrote (part free w2.held a.items (length w2.instructions)) false w2 → w4 ≡ joined over source free b.items w3 →
+    Lowered free s w0 w4
 if_is free line source over s e a b w0 w1 w2 w3 w4 is src h1 o h2 h3 h4 =
     let n = length w0.instructions in
     let f = formula_of e in
@@ -132,3 +140,7 @@ if_is free line source over s e a b w0 w1 w2 w3 w4 is src h1 o h2 h3 h4 =
     ∙ sym (ap (λ p. wrote (if_code true w0.held n line free f (row_part free a) (has_part (hidden-the_row-Statement-0 b)) p) false w0)
     (part_is free b))
     ∙ ap (λ s. wrote (code true free n w0.held s) (left w0.held s) w0) (sym is)
+
+-- before the first statement
+abbrev pub nothing : Written
+nothing = record { instructions = []; held = false }

@@ -105,10 +105,20 @@ pub(crate) fn assign(
             get(out, Side::Uniform, line, value, free, destination)
         }
         Target::Cell(entry) => write(
-            out, Side::Uniform, line, *entry, Operands::ForCell(value), free,
+            out,
+            Side::Uniform,
+            line,
+            *entry,
+            Operands::ForCell(value),
+            free,
         ),
         Target::Element(entry, subscript) => write(
-            out, Side::Uniform, line, *entry, Operands::Both(subscript, value), free,
+            out,
+            Side::Uniform,
+            line,
+            *entry,
+            Operands::Both(subscript, value),
+            free,
         ),
     }
 }
@@ -132,10 +142,20 @@ pub(crate) fn step_assign(
             get(out, Side::Private, line, value, base, destination)
         }
         StepTarget::Cell(entry) => write(
-            out, Side::Private, line, *entry, Operands::ForCell(value), base,
+            out,
+            Side::Private,
+            line,
+            *entry,
+            Operands::ForCell(value),
+            base,
         ),
         StepTarget::Element(entry, subscript) => write(
-            out, Side::Private, line, *entry, Operands::Both(subscript, value), base,
+            out,
+            Side::Private,
+            line,
+            *entry,
+            Operands::Both(subscript, value),
+            base,
         ),
     }
 }

@@ -9,7 +9,8 @@ use superstep_code::instr::{Instr, Side};
 
 // One more than a register, if it is of that side.
 fn behind(side: Side, on: Side, register: u16) -> u32
-    ensures { result ≡ spec.behind_all (spec.if_on side on (register ∷ [])) }
+    ensures count { result ≡ spec.behind_all (spec.if_on side on (register ∷ [])) }
+    ensures few { result ≤ most_registers }
 {
     if side == on { register as u32 + 1 } else { 0 }
 }
@@ -22,21 +23,27 @@ fn greater(a: u32, b: u32) -> u32
 
 // One more than the greater of two registers, if they are of that side.
 fn behind_both(side: Side, on: Side, first: u16, second: u16) -> u32
-    ensures { result ≡ spec.behind_all (spec.if_on side on (first ∷ second ∷ [])) }
+    ensures count { result ≡ spec.behind_all (spec.if_on side on (first ∷ second ∷ [])) }
+    ensures few { result ≤ most_registers }
 {
     greater(behind(side, on, first), behind(side, on, second))
 }
 
 // One more than the greatest of three.
 fn behind_three(side: Side, on: Side, first: u16, second: u16, third: u16) -> u32
-    ensures { result ≡ spec.behind_all (spec.if_on side on (first ∷ second ∷ third ∷ [])) }
+    ensures count { result ≡ spec.behind_all (spec.if_on side on (first ∷ second ∷ third ∷ [])) }
+    ensures few { result ≤ most_registers }
 {
-    greater(behind(side, on, first), behind_both(side, on, second, third))
+    greater(
+        behind(side, on, first),
+        behind_both(side, on, second, third),
+    )
 }
 
 // One more than the greatest register of a side that an instruction names.
 fn registers_of(side: Side, instr: Instr) -> u32
-    ensures { result ≡ spec.behind_all (spec.named side instr) }
+    ensures count { result ≡ spec.behind_all (spec.named side instr) }
+    ensures few { result ≤ most_registers }
 {
     match instr {
         Instr::Set {

@@ -8,9 +8,11 @@ mod finish;
 mod inside;
 mod operator;
 mod outside;
+mod program;
 mod reads;
 mod refusal;
 mod region;
 mod values;
 
+pub use program::lower;
 pub use refusal::LowerRefusal;

@@ -58,9 +58,16 @@ fn bounds(
     high: &Expression,
     turns: Turns,
 ) -> Result<(), LowerRefusal>
-    ensures { OnOk result (out.new ≡ wrote (blocks.bounds out.old.held line turns (formula_of low.now) (formula_of high.now)) false out.old) }
+    ensures { OnOk result (out.new ≡ wrote
+        (blocks.bounds out.old.held line turns (formula_of low.now) (formula_of high.now)) false out.old) }
 {
-    let values = count(out, Side::Uniform, line, Operands::Both(low, high), turns.behind)?;
+    let values = count(
+        out,
+        Side::Uniform,
+        line,
+        Operands::Both(low, high),
+        turns.behind,
+    )?;
     out.push(Instr::Copy {
         side: Side::Uniform,
         destination: turns.turn,
@@ -152,12 +159,7 @@ fn pardo(
 }
 
 // The test of an `if` or a `while`: the register with its value.
-fn tested(
-    out: &mut Emitter,
-    line: u32,
-    test: &Expression,
-    free: u16,
-) -> Result<u16, LowerRefusal>
+fn tested(out: &mut Emitter, line: u32, test: &Expression, free: u16) -> Result<u16, LowerRefusal>
     ensures register { IfOk result (λ r. r ≡ groups.value_at Side.Uniform free (formula_of test.now)) }
     ensures written { IfOk result (λ r. out.new ≡ wrote
         (shapes.counted true out.old.held line Side.Uniform free (formula_of test.now))
@@ -168,12 +170,7 @@ fn tested(
 }
 
 // The test of an `if`, behind which nothing is held.
-fn parted(
-    out: &mut Emitter,
-    line: u32,
-    test: &Expression,
-    free: u16,
-) -> Result<u16, LowerRefusal>
+fn parted(out: &mut Emitter, line: u32, test: &Expression, free: u16) -> Result<u16, LowerRefusal>
     ensures register { IfOk result (λ r. r ≡ groups.value_at Side.Uniform free (formula_of test.now)) }
     ensures written { IfOk result (λ r. out.new ≡ wrote (blocks.parted out.old.held line free (formula_of test.now)) false out.old) }
 {
@@ -184,7 +181,7 @@ fn parted(
 
 /// A statement outside pardo, with all that it holds. The uniform registers from `free` on are free.
 #[cycle(outside)]
-fn statement(out: &mut Emitter, s: &Statement, free: u16) -> Result<(), LowerRefusal>
+pub(crate) fn statement(out: &mut Emitter, s: &Statement, free: u16) -> Result<(), LowerRefusal>
     ensures { OnOk result (out.new ≡ wrote (outside.code true free (length out.old.instructions) out.old.held s.now)
         (outside.left out.old.held s.now) out.old) }
 {

@@ -1,4 +1,3 @@
-use Rattle.std.proofs.Common.{◌≡◌, ap}
 use Rattle.plain_form.specs.Formulas.{formula_of}
 use Rattle.plain_form.specs.Shapes.{still}
 use Rattle.plain_form.specs.Inside.{steps_code, steps_left}
@@ -9,8 +8,8 @@ use Rattle.lowering.proofs.inside.+inside.Goals as goal
 
 pub step-returns-in-While : goal.step-returns-in-While
 step-returns-in-While t c =
-    on_ok c.step_while.result (λ h. while_is c.args.vote c.args.base c.in-While.line c.args.s.now c.in-While.test c.in-While.body c.args.out.now
-    c.step_while.new.out c.in-While.is h) c.step_while.ensures
+    on_ok c.step_while.result (λ h. while_is c.args.vote c.args.base c.in-While.line c.args.s.now c.in-While.test c.in-While.body
+    c.args.out.now c.step_while.new.out c.in-While.is h) c.step_while.ensures
 
 pub step-returns-in_ok-step_else-in-If : goal.step-returns-in_ok-step_else-in-If
 step-returns-in_ok-step_else-in-If t c =
@@ -32,5 +31,5 @@ step_turns-returns t c =
 
 pub steps-loop-s-preserved : goal.steps-loop-s-preserved
 steps-loop-s-preserved t c =
-    steps_more c.args.vote c.args.base c.deref-s-items.result.now c.loop-s.s-index c.s-item.result c.args.out.now c.loop-s.out c.step.new.out
-    c.loop-s.invariant c.loop-s-test.true c.s-item.is c.in_ok-step.ensures
+    steps_more c.args.vote c.args.base c.deref-s-items.result.now c.loop-s.s-index c.s-item.result c.args.out.now c.loop-s.out
+    c.step.new.out c.loop-s.invariant c.loop-s-test.true c.s-item.is c.in_ok-step.ensures

@@ -1,6 +1,5 @@
-use Rattle.std.proofs.Common.{◌≡◌, ap, ◌∙◌, true, false, length, nat_eq}
+use Rattle.std.proofs.Common.{ap, ◌∙◌, true, false, length, nat_eq}
 use Rattle.plain_form.specs.Formulas.{formula_of}
-use Rattle.plain_form.specs.Groups.{value_at}
 use Rattle.plain_form.specs.Shapes.{still, counted, looped}
 use Rattle.lowering.specs.Blocks.{part, setting}
 use Rattle.lowering.specs.Written.{wrote}
