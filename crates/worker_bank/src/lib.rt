@@ -3,18 +3,25 @@
 
 mod all;
 mod arithmetic;
+mod bank;
 mod decisions;
+mod instruct;
 mod level;
 mod listed;
+mod masking;
 mod masks;
+mod operand;
+mod operate;
 mod operation;
 mod values;
 
 pub use all::calculate_all;
 pub use arithmetic::{Difference, Negative, Product, Quotient, Remainder, Sum};
+pub use bank::Bank;
 pub use decisions::{AtMost, Below, Both, Either, Equal, Negation};
 pub use level::Level;
 pub use listed::calculate_listed;
 pub use masks::Masks;
+pub use operand::Operand;
 pub use operation::Operation;
 pub use values::{Above, Constant, Same};

@@ -1,0 +1,88 @@
+//! What the instructions on masks and ranges do to a worker's processors.
+
+ghost use Rattle.std.specs.Prelude.{◌≡◌, ◌<◌, ◌≤◌, ◌+◌, [], ℕ, length, true, slice_index_or};
+ghost use Rattle.superstep_code.specs.Code.{SuperstepCode};
+ghost use Rattle.superstep_code.specs.declared.instr.Instr.TheVariants as instr_is;
+ghost use Rattle.superstep_machine.specs.Parts.{UniformPart, fresh};
+ghost use Rattle.worker_bank.specs.Bank.{part_at, IsAfter, IsBank, IsSameBank};
+
+use crate::bank::Bank;
+
+// Every column is stale.
+fn spoil(stale: &mut [bool])
+    ensures each { (r : ℕ) → r < length stale.old → slice_index_or stale.new r true ≡ true }
+    ensures count { length stale.new ≡ length stale.old }
+{
+    for r in 0..stale.len() {
+        stale[r] = true;
+    }
+}
+
+impl Bank {
+    /// Of the active processors those stay active whose `source` isn't 0.
+    pub fn mask(&mut self, source: u16)
+        requires bank { IsBank self.old }
+        requires source { source < length self.old.columns.items }
+        requires room { self.old.masks.depth + 1 < length self.old.masks.levels.items }
+        ensures bank { IsBank self.new }
+        ensures after { (code : SuperstepCode) (u : UniformPart) → IsAfter code (instr_is.Mask source) u self.old self.new }
+        ensures depth { self.new.masks.depth ≡ self.old.masks.depth + 1 }
+        ensures many { self.new.masks.many ≡ self.old.masks.many }
+        ensures same { IsSameBank self.old self.new }
+    {
+        self.freshen(source);
+        self.masks.mask(self.columns[source as usize].as_slice());
+    }
+
+    /// Of those that were active before the last mask, those are active that are not now.
+    pub fn flip(&mut self)
+        requires bank { IsBank self.old }
+        requires masked { 0 < self.old.masks.depth }
+        ensures bank { IsBank self.new }
+        ensures after { (code : SuperstepCode) (u : UniformPart) → IsAfter code instr_is.Flip u self.old self.new }
+        ensures depth { self.new.masks.depth ≡ self.old.masks.depth }
+        ensures many { self.new.masks.many ≡ self.old.masks.many }
+        ensures same { IsSameBank self.old self.new }
+    {
+        self.masks.flip();
+    }
+
+    /// Takes the last mask off.
+    pub fn unmask(&mut self)
+        requires bank { IsBank self.old }
+        requires masked { 0 < self.old.masks.depth }
+        ensures bank { IsBank self.new }
+        ensures after { (code : SuperstepCode) (u : UniformPart) → IsAfter code instr_is.Unmask u self.old self.new }
+        ensures depth { self.new.masks.depth + 1 ≡ self.old.masks.depth }
+        ensures many { self.new.masks.many ≡ self.old.masks.many }
+        ensures same { IsSameBank self.old self.new }
+    {
+        self.masks.unmask();
+    }
+
+    /// A new range of so many processors: all their registers are 0, and all are active. Nothing is
+    /// written to the columns.
+    pub fn enter(&mut self, many: usize)
+        requires bank { IsBank self.old }
+        requires room { many ≤ self.old.masks.most }
+        ensures bank { IsBank self.new }
+        ensures parts { (j : ℕ) → part_at self.new [] [] j ≡ fresh }
+        ensures depth { self.new.masks.depth ≡ 0 }
+        ensures many { self.new.masks.many ≡ many }
+        ensures same { IsSameBank self.old self.new }
+    {
+        spoil(self.stale.as_mut_slice());
+        self.masks.open(many);
+    }
+
+    /// The range ends.
+    pub fn leave(&mut self)
+        requires bank { IsBank self.old }
+        ensures bank { IsBank self.new }
+        ensures depth { self.new.masks.depth ≡ 0 }
+        ensures many { self.new.masks.many ≡ 0 }
+        ensures same { IsSameBank self.old self.new }
+    {
+        self.enter(0);
+    }
+}
