@@ -3,17 +3,14 @@ use Rattle.std.proofs.Common.{◌≡◌, ℕ, zero, suc, ◌+◌, ◌-◌, ◌*�
 use Rattle.std.proofs.Common.{sym, ap, ◌∙◌, subst, arith, ⊎_elim, ◌⊎◌, inl, inr}
 use Rattle.std.specs.Prelude.{if◌then◌else◌, slice_get}
 use Rattle.std.proofs.lemmas.Bool.{cases_lt}
-use Rattle.std.proofs.lemmas.Bool.Decides.{nat_tests}
 use Rattle.pram_values.specs.Truth.{is_nonzero}
 use Rattle.write_rules.specs.Verdict.{Verdict}
-use Rattle.superstep_code.specs.declared.instr.Side.TheVariants.{Uniform, Private}
 use Rattle.superstep_code.specs.declared.instr.Instr.{Instr}
-use Rattle.superstep_code.specs.declared.instr.Instr.TheVariants.{Mark, Ask, Send, Reply, Vote, Jump, JumpIfZero, Halt}
+use Rattle.superstep_code.specs.declared.instr.Instr.TheVariants.{Mark, Send, Reply, Vote, Jump, JumpIfZero, Halt}
 use Rattle.superstep_machine.specs.declared.key.Key.{Key}
 use Rattle.superstep_code.specs.Code.{SuperstepCode}
 use Rattle.superstep_machine.specs.Parts.{UniformPart}
 use Rattle.superstep_machine.specs.Run.{Purpose, Sends, Replies, Votes, Closes, Way, On, is_held, due, unless, decided}
-use Rattle.superstep_machine.specs.Steps.{on_uniform}
 use Rattle.superstep_machine.specs.Stretch.{ToClose}
 use Rattle.bsp_verify.specs.Control.{Leads}
 use Rattle.bsp_verify.specs.Judging.{is_mark, has_target, stays_within}
@@ -24,7 +21,7 @@ use Rattle.flat_machine.specs.Flat.{Flat, after_instr}
 use Rattle.flat_machine.specs.ByExchanges.{State, after_exchange, opening}
 use Rattle.flat_machine.specs.ByInstructions.{exchanged, closed, stopped, going, steps, outcome_within}
 use Rattle.flat_machine.proofs.Stepping.{IsPast, carried_out, past_is_not_on, over_stays, past_has_outcome}
-use Rattle.bsp_verify.proofs.ArrivalLemmas.{same_count, laps_times, not_equal, no_mark, Counts, laps}
+use Rattle.bsp_verify.proofs.ArrivalLemmas.{same_count, laps_times, not_equal, no_mark, laps}
 use Rattle.superstep_machine.proofs.Numbers.{same_number}
 
 -- ---- exchanges

@@ -22,6 +22,7 @@ pub mod Counts
 pub mod Paths
 pub mod Arrival
 pub mod Late
+pub mod Clean
 pub mod AnyTime
 pub mod Laws
 pub mod Outcomes

@@ -1,6 +1,5 @@
 pub mod Moving
 pub mod FormedAgain
-pub mod Clean
 pub mod Given
 pub mod Follows
 pub mod Fused

@@ -9,11 +9,13 @@ use Rattle.bsp_verify.specs.Judging.{fits_exchange}
 use Rattle.bsp_verify.specs.WellFormed.{IsWellFormed}
 use Rattle.bsp_verify.proofs.StretchLemmas.{parts_stand, what_stands_is_there}
 use Rattle.bsp_verify.proofs.PathLemmas.{comes_given}
+use Rattle.bsp_verify.proofs.WorkerLemmas.{none_of, none_came}
 use Rattle.bsp_verify.proofs.RunLemmas.{Describes, no_put}
 use Rattle.pram_model.proofs.Truths.{both}
 use Rattle.stretches.specs.Folds.{held_after, may_follow, IsFine}
 use Rattle.stretches.specs.Described.{PlacesAreAsSaid, is_straight, JudgedAreFine, WhatStandsIsAt}
 use Rattle.stretches.proofs.Closes.{agrees}
+use Rattle.stretches.proofs.Rests.{rests_there}
 
 pub places_are_as_said : PlacesAreAsSaid
 places_are_as_said t given long met place f spent c =
@@ -26,6 +28,7 @@ places_are_as_said t given long met place f spent c =
       awaited = d.awaited;
       holds = λ e. let n = d.put ∙ e in record { put = no_put f.uniform.put n; held = a.counted.bare n };
       alone = d.alone;
+      rests = λ n w. rests_there t place f spent c (none_of f.uniform.asks (d.asks ∙ n)) (none_came f.uniform.awaited (d.awaited ∙ w));
     }
 
 -- ---- judged stretches

@@ -11,3 +11,4 @@ pub mod Sets
 pub mod Frames
 pub mod Loops
 pub mod ReadLemmas
+pub mod Rests

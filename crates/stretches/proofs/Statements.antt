@@ -1,7 +1,7 @@
 -- One statement of well-formed code, from its mark on.
 use Rattle.std.proofs.Common.{◌≡◌, ℕ, ◌+◌, ◌<◌, ◌≤◌, List, [], ◌∷◌, map, length, Bool, true, false, cond, Some, None, ℤ, refl, sym, ap}
 use Rattle.std.proofs.Common.{◌∙◌, subst, arith}
-use Rattle.std.specs.Prelude.{nat_lt}
+use Rattle.std.specs.Prelude.{nat_lt, if◌then◌else◌}
 use Rattle.std.specs.List.{AllByRecursion, filter}
 use Rattle.std.proofs.lemmas.Bool.Decides.{nat_tests}
 use Rattle.write_rules.specs.Verdict.{Faulted}
@@ -13,12 +13,17 @@ use Rattle.superstep_code.specs.Code.{SuperstepCode}
 use Rattle.superstep_machine.specs.Keys.{least}
 use Rattle.superstep_machine.specs.Run.{items, items_below, fault_of}
 use Rattle.flat_machine.specs.Flat.{Flat}
-use Rattle.flat_machine.specs.ByInstructions.{IsFlatOutcome}
+use Rattle.flat_machine.specs.ByInstructions.{going, IsFlatOutcome}
 use Rattle.flat_machine.specs.Verdicts.{told}
+use Rattle.superstep_machine.specs.Parts.{PrivatePart}
+use Rattle.superstep_machine.specs.Steps.{is_active}
+use Rattle.bsp_verify.proofs.WorkerLemmas.{none_came}
+use Rattle.bsp_verify.proofs.RunLemmas.{no_answers}
 use Rattle.flat_machine.proofs.Late.{none_least}
 use Rattle.flat_machine.proofs.AnyTime.{none_noted}
 use Rattle.flat_machine.proofs.Paths as paths
-use Rattle.stretches.specs.Along.{Run, IsOf, IsRunning}
+use Rattle.stretches.specs.Applied.{AsksNone}
+use Rattle.stretches.specs.Along.{Comes, IsOf, IsRunning, Run}
 use Rattle.stretches.specs.Folds.{Stand, act, acts, costs, held_after, may_follow, IsFine, MayHold, IsBehind}
 use Rattle.stretches.specs.Tells.{Tells}
 use Rattle.stretches.specs.Statements.{HasBegun, MarksBegin, finished, HasFinished, StatementsFinish, StatementsFault}
@@ -27,6 +32,7 @@ use Rattle.stretches.proofs.Along.{mark_goes_on}
 use Rattle.stretches.proofs.Folds.{stretches_are_folds}
 use Rattle.stretches.proofs.Tells.{item_stays}
 use Rattle.stretches.proofs.Closes.{agrees, fits}
+use Rattle.stretches.proofs.Rests.{rests_there}
 
 -- items of statements before n are all of them, if there are no others
 all_below : (n : ℕ) (output : List (ℕ × ℤ)) → AllByRecursion (λ (x : ℕ × ℤ). x.0 < n) output → items_below n output ≡ items output
@@ -43,13 +49,32 @@ all_below n (x ∷ output) h = keep (nat_lt x.0 n) (yes x.0 n h.0) (all_below n 
     keep true e rest = ap (λ xs. x.1 ∷ xs) rest
     keep false e rest = cc
 
+-- at a mark no read is held or awaited, by any processor
+marked_rests : (t : Run) (place : ℕ) (f : Flat) (spent : ℕ) → Comes t (going place f) spent → (a : paths.IsAt t.code place f) →
+    (line : ℕ) → paths.Fits t.code place f a (Mark line) → AsksNone f
+marked_rests t place f spent c a line h =
+    rests_there t place f spent c (paths.mark_asks_none t.code place f a line h)
+    (none_came f.uniform.awaited (let d = a.describes in d.awaited ∙ no_answers (Mark line) a.point.state (λ e. cc) h))
+
+-- a mark does nothing to a processor
+mark_stays : (active : Bool) (x : PrivatePart) → (if active then x else x) ≡ x
+mark_stays true x = refl
+mark_stays false x = refl
+
 pub marks_begin : MarksBegin
 marks_begin t formed place f spent c line at l quiet =
     let a = agrees t formed place f spent c in record {
       comes = mark_goes_on t place f spent c line at l;
       told = told_by t.code (Mark line) f refl ∙ ap (least (told t.code f)) (none_noted t.code line f) ∙ none_least (told t.code f)
           ∙ quiet;
-      asks = paths.mark_asks_none t.code place f a line (fits t formed place f spent c (Mark line) at);
+      rests =
+          let n = marked_rests t place f spent c a line (fits t formed place f spent c (Mark line) at) in
+          record {
+            asks = n.asks;
+            awaited = n.awaited;
+            own_asks = λ v. ap (λ (x : PrivatePart). x.asks) (mark_stays (is_active (f.own v)) (f.own v)) ∙ n.own_asks v;
+            own_awaited = λ v. ap (λ (x : PrivatePart). x.awaited) (mark_stays (is_active (f.own v)) (f.own v)) ∙ n.own_awaited v;
+          };
       output = all_below (f.uniform.count + 1) f.uniform.output
           (less f.uniform.count f.uniform.output a.counted.output);
     }
@@ -99,7 +124,7 @@ module _ (t : Run) (is : List Instr) (before behind : Bool) (place spent : ℕ) 
   end = acts t.code is f
 
   running : IsRunning t.code f
-  running = record { told = subst (IsOf f.uniform.count) (sym b.told) tt; asks = subst (AllByRecursion _) (sym b.asks) tt }
+  running = record { told = subst (IsOf f.uniform.count) (sym b.told) tt; asks = subst (AllByRecursion _) (sym (b.rests).asks) tt }
 
   came : IsBehind t is behind place spent f
   came = stretches_are_folds t is before behind place spent f st fine m running b.comes

@@ -10,17 +10,19 @@ use Rattle.bsp_verify.specs.WellFormed.{AreMet}
 use Rattle.bsp_verify.specs.Stretches.{Stands, IsStretch}
 use Rattle.flat_machine.specs.Flat.{Flat}
 use Rattle.flat_machine.specs.ByInstructions.{going}
+use Rattle.stretches.specs.Applied.{AsksNone}
 use Rattle.stretches.specs.Along.{Run, Comes}
 use Rattle.stretches.specs.Folds.{Stand, IsFine, MayHold}
 
--- So many reads are held, a write is held or not, and answers are awaited or not; where a write isn't held nothing is for any cell, and
--- where answers are awaited nothing is held.
+-- So many reads are held, a write is held or not, and answers are awaited or not. Where a write isn't held nothing is for any cell; where
+-- answers are awaited nothing is held; and where no read is held and no answer awaited, none is by any processor.
 pub record IsAsSaid (s : State) (f : Flat) : Type 0 where
   pub asks : length f.uniform.asks ≡ s.asks
   pub put : is_held f.uniform.put ≡ s.put
   pub awaited : nat_lt 0 (length f.uniform.awaited) ≡ s.awaits
   pub holds : MayHold s.put f
   pub alone : s.awaits ≡ true → (s.asks ≡ 0) × (s.put ≡ false)
+  pub rests : s.asks ≡ 0 → s.awaits ≡ false → AsksNone f
 
 -- whichever states the code can be met with
 abbrev pub PlacesAreAsSaid : Type 0

@@ -9,16 +9,16 @@ use Rattle.bsp_verify.specs.WellFormed.{IsWellFormed}
 use Rattle.flat_machine.specs.Flat.{Flat, after_instr}
 use Rattle.flat_machine.specs.ByInstructions.{going, IsFlatOutcome}
 use Rattle.flat_machine.specs.Verdicts.{told}
-use Rattle.stretches.specs.Applied.{applied}
+use Rattle.stretches.specs.Applied.{applied, AsksNone}
 use Rattle.stretches.specs.Along.{Run, Comes, IsAt}
 use Rattle.stretches.specs.Folds.{Stand, acts, acts_at_once, costs, IsFine, MayHold}
 use Rattle.stretches.specs.Tells.{Tells}
 
--- The run is behind the mark of a statement: no key is told, no read is held, and all of the output is of statements before.
+-- The run is behind the mark of a statement: no key is told, no read is held or awaited, and all of the output is of statements before.
 pub record HasBegun (t : Run) (place spent : ℕ) (f : Flat) : Type 0 where
   pub comes : Comes t (going place f) spent
   pub told : told t.code f ≡ None
-  pub asks : f.uniform.asks ≡ []
+  pub rests : AsksNone f
   pub output : items_below f.uniform.count f.uniform.output ≡ items f.uniform.output
 
 -- a mark below the bound, where no key is told, begins a statement

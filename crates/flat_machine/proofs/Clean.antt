@@ -1,5 +1,5 @@
 -- Where the uniform part holds and awaits no reads, no processor does; so a send where nothing is held changes nothing.
-use Rattle.std.proofs.Common.{◌≡◌, ℕ, ◌+◌, List, [], ◌∷◌, ◌++◌, Bool, true, false, eqb, Option, Some, None, refl, sym, ap, ◌∙◌}
+use Rattle.std.proofs.Common.{◌≡◌, ℕ, zero, suc, ◌+◌, List, [], ◌∷◌, ◌++◌, Bool, true, false, eqb, Option, Some, None, refl, sym, ap, ◌∙◌}
 use Rattle.std.specs.Prelude.{if◌then◌else◌, slice_get}
 use Rattle.pram_values.specs.Truth.{is_nonzero}
 use Rattle.write_rules.specs.Rule.{shares_reads}
@@ -16,7 +16,7 @@ use Rattle.superstep_machine.specs.Steps.{is_active, on_active}
 use Rattle.superstep_machine.specs.Stretch.{ToClose}
 use Rattle.flat_machine.specs.Flat.{Flat, after_instr, after_send, after_reply, after_vote, read_conflicts, conflicts}
 use Rattle.flat_machine.specs.ByExchanges.{State}
-use Rattle.flat_machine.specs.ByInstructions.{stopped, going, step, step_by}
+use Rattle.flat_machine.specs.ByInstructions.{stopped, going, step, step_by, steps}
 use Rattle.flat_machine.proofs.Stepping.{carried_out}
 use Rattle.flat_machine.proofs.Counts.{IsCounted}
 use Rattle.flat_machine.proofs.Late.{none_least, none_owed, read_keys}
@@ -102,6 +102,10 @@ module _ (code : SuperstepCode) (bound : ℕ) (judges : ℕ → Bool) where
       go (Past key ended) e = c
       go (Refused mark) e = c
       go Lost e = c
+
+  pub steps_clean : (n : ℕ) (s : State) → StaysClean s → StaysClean (steps code bound judges n s)
+  steps_clean zero s c = c
+  steps_clean (suc n) s c = steps_clean n (step code bound judges s) (step_clean s c)
 
 -- ---- a send where nothing is held
 
