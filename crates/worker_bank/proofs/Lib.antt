@@ -6,3 +6,5 @@ pub mod MaskLemmas
 pub mod BankLemmas
 pub mod ListedLemmas
 pub mod OperateLemmas
+pub mod ToldLemmas
+pub mod NumberLemmas

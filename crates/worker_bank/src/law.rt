@@ -1,0 +1,9 @@
+//! Laws of a worker's processors.
+
+ghost use Rattle.worker_bank.specs.Told.{FirstFaultsAreTold};
+
+/// Of the keys that a worker's processors note in an instruction, that of the first one that faults
+/// is the least: it is the one that is told.
+pub fn first_faults_are_told()
+    ensures { FirstFaultsAreTold }
+{}
