@@ -132,7 +132,7 @@ costs_are_counted code (i ∷ is) f = let h = costs_are_counted code is (after_i
 
 -- ---- no write is held
 
-bare_at_once : (code : SuperstepCode) (i : Instr) (f : Flat) → IsBare f → IsBare (act_at_once code i f)
+pub bare_at_once : (code : SuperstepCode) (i : Instr) (f : Flat) → IsBare f → IsBare (act_at_once code i f)
 bare_at_once code (Put side c s v q) f b = record { put = b.put; held = b.held }
 bare_at_once code Send f b = record { put = refl; held = λ c. refl }
 bare_at_once code Reply f b = record { put = b.put; held = b.held }

@@ -1,10 +1,8 @@
 -- What the instructions on masks and flags do to a frame, and that others stay in it.
-use Rattle.std.proofs.Common.{◌≡◌, ℕ, ◌+◌, ◌<◌, ◌≤◌, List, [], ◌∷◌, ◌++◌, Bool, true, false, cond, Option, Some, None, ℤ, pos, refl, sym, ap}
-use Rattle.std.proofs.Common.{◌∙◌, arith}
+use Rattle.std.proofs.Common.{◌≡◌, ℕ, ◌+◌, ◌<◌, ◌≤◌, List, [], ◌∷◌, ◌++◌, Bool, true, false, Option, Some, None, ℤ, pos, refl, sym, ap}
+use Rattle.std.proofs.Common.{◌∙◌}
 use Rattle.std.specs.Prelude.{not, ◌&&◌, if◌then◌else◌, nat_le}
 use Rattle.std.specs.List.{AllByRecursion, filter, range_with_len, zip}
-use Rattle.std.proofs.lemmas.Bool.{ne_eqb}
-use Rattle.std.proofs.lemmas.Bool.Decides.{nat_tests}
 use Rattle.pram_values.specs.Truth.{is_nonzero, truth}
 use Rattle.superstep_code.specs.declared.instr.Side.TheVariants.{Uniform, Private}
 use Rattle.superstep_code.specs.declared.instr.Instr.{Instr}
@@ -20,6 +18,7 @@ use Rattle.flat_machine.specs.Flat.{Flat, range, after_instr, after_send, after_
 use Rattle.stretches.specs.Folds.{act, act_at_once}
 use Rattle.stretches.specs.Frames.{Frame, StandsIn, SetsNarrow, EverybodyIsPresent, RangesBegin, MasksNarrow}
 use Rattle.stretches.specs.Frames.{FlipsTurn, UnmasksWiden, is_some, VotesSay, is_above, StaysIn, FoldsStay, FoldsAtOnceStay}
+use Rattle.stretches.proofs.Below.{at_most, set_below}
 use Rattle.stretches.proofs.Sets.{filter_same, filter_twice, filter_all, any_is_some}
 
 -- ---- sets
@@ -69,16 +68,10 @@ votes_say first base d fr f s =
 
 -- ---- a processor below `base`
 
-at_most : (a b : ℕ) → nat_le a b ≡ true → a ≤ b
-at_most a b e = grind (arith, nat_tests)
-
 -- its masks, and its registers below
 record AreSameBelow (base : ℕ) (x y : PrivatePart) : Type 0 where
   masks : y.masks ≡ x.masks
   registers : (r : ℕ) → r < base → y.registers r ≡ x.registers r
-
-below_same : (base d : ℕ) (z : ℤ) (registers : Registers) (r : ℕ) → base ≤ d → r < base → set_register d z registers r ≡ registers r
-below_same base d z registers r l h = ap (λ b. cond b z (registers r)) (ne_eqb d r (λ e. omega (arith, l, h, e)))
 
 module _ (base : ℕ) (x : PrivatePart) where
   either_same : (b : Bool) (y : PrivatePart) → AreSameBelow base x y → AreSameBelow base x (if b then y else x)
@@ -86,7 +79,7 @@ module _ (base : ℕ) (x : PrivatePart) where
   either_same false y h = record { masks = refl; registers = λ r l. refl }
 
   set_same : (d : ℕ) (z : ℤ) → nat_le base d ≡ true → AreSameBelow base x (record x { registers = set_register d z x.registers })
-  set_same d z h = record { masks = refl; registers = λ r l. below_same base d z x.registers r (at_most base d h) l }
+  set_same d z h = record { masks = refl; registers = λ r l. set_below base d z x.registers r (at_most base d h) l }
 
   set_if_active : (d : ℕ) (z : ℤ) → nat_le base d ≡ true →
       AreSameBelow base x (if is_active x then record x { registers = set_register d z x.registers } else x)
@@ -128,7 +121,7 @@ module _ (base : ℕ) (x : PrivatePart) where
 answer_below : (base d r : ℕ) (value : ℕ → ℤ) (cell : Option ℕ) (registers : Registers) → base ≤ d → r < base →
     answer value d cell registers r ≡ registers r
 answer_below base d r value None registers l h = refl
-answer_below base d r value (Some c) registers l h = below_same base d (value c) registers r l h
+answer_below base d r value (Some c) registers l h = set_below base d (value c) registers r l h
 
 answers_below : (base r : ℕ) (value : ℕ → ℕ → ℤ) (k : ℕ) (reads : List Read) (cells : List (Option ℕ)) (registers : Registers) →
     AllByRecursion (λ (x : Read). base ≤ x.destination) reads → r < base →

@@ -7,8 +7,10 @@ pub mod Tells
 pub mod Closes
 pub mod Statements
 pub mod Described
+pub mod Below
 pub mod Sets
 pub mod Frames
 pub mod Loops
 pub mod ReadLemmas
 pub mod Rests
+pub mod Leaving

@@ -2,7 +2,6 @@
 use Rattle.std.proofs.Common.{◌≡◌, ℕ, ◌<◌, ◌≤◌, ◌∷◌, Bool, true, false, cond, ℤ, pos, refl, sym, ap, ◌∙◌, arith}
 use Rattle.std.specs.Prelude.{◌&&◌, if◌then◌else◌}
 use Rattle.std.specs.List.{range_with_len}
-use Rattle.std.proofs.lemmas.Bool.{ne_eqb}
 use Rattle.pram_values.specs.Truth.{is_nonzero}
 use Rattle.superstep_code.specs.Code.{SuperstepCode}
 use Rattle.superstep_machine.specs.Parts.{Registers, PrivatePart, set_register}
@@ -11,6 +10,7 @@ use Rattle.superstep_machine.proofs.Numbers.{with_itself}
 use Rattle.flat_machine.specs.Flat.{Flat}
 use Rattle.stretches.specs.Frames.{Frame, present, is_true, held_in, looping, IsLooping, LoopsOpen, turned, HasTurned}
 use Rattle.stretches.specs.Frames.{LoopsTurn, LoopsClose}
+use Rattle.stretches.proofs.Below.{set_below}
 use Rattle.stretches.proofs.Sets.{filter_same, filter_twice}
 
 -- ---- a processor that sets a register where it is active
@@ -30,7 +30,7 @@ set_other d z x r l = go (is_active x)
   where
     go : (b : Bool) →
         (let y : PrivatePart = if b then record x { registers = set_register d z x.registers } else x in y.registers r) ≡ x.registers r
-    go true = ap (λ c. cond c z (x.registers r)) (ne_eqb d r (λ e. omega (arith, l, e)))
+    go true = set_below d d z x.registers r (omega arith) l
     go false = refl
 
 set_itself : (d : ℕ) (z : ℤ) (x : PrivatePart) → (set_by d z x).registers d ≡ (if is_active x then z else x.registers d)

@@ -8,3 +8,4 @@ pub mod Statements
 pub mod Described
 pub mod Frames
 pub mod Reads
+pub mod Leaving

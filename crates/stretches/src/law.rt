@@ -5,6 +5,7 @@ ghost use Rattle.stretches.specs.Applied.{RepliesApply, VotesApply, BareIsApplie
 ghost use Rattle.stretches.specs.Along.{RunsBegin, WorkGoesOn, MarksGoOn, SendsGoOn, RepliesGoOn, VotesGoOn, JumpsGoOn};
 ghost use Rattle.stretches.specs.Along.{ForksGoOn, NothingDecides, MoreMayBeSpent};
 ghost use Rattle.stretches.specs.Folds.{StretchesAreFolds, CostsAreCounted, FoldsStayBare, NothingCostsNothing};
+ghost use Rattle.stretches.specs.Leaving.{FoldsLeave};
 ghost use Rattle.stretches.specs.Joins.{StandsSplit, StandsJoin, FineJoins, ActsJoin, ActsAtOnceJoin, CostsJoin, CountsJoin};
 ghost use Rattle.stretches.specs.Statements.{MarksBegin, StatementsFinish, StatementsFault};
 ghost use Rattle.stretches.specs.Described.{PlacesAreAsSaid, JudgedAreFine, WhatStandsIsAt};
@@ -55,6 +56,8 @@ pub fn stretches_are_folds()
     ensures counted { CostsAreCounted }
     ensures bare { FoldsStayBare }
     ensures free { NothingCostsNothing }
+    // What evaluates leaves all else.
+    ensures leaves { FoldsLeave }
 {}
 
 /// Stretches that stand behind one another are one stretch, and what they leave and cost is put together.

@@ -1,3 +1,4 @@
+use Rattle.stretches.proofs.Leaving.{folds_leave}
 use Rattle.stretches.proofs.Folds as folds
 use Rattle.stretches.proofs.law.stretches_are_folds.Goals as goal
 
@@ -7,4 +8,5 @@ returns c = record {
   counted = folds.costs_are_counted;
   bare = folds.folds_stay_bare;
   free = folds.nothing_costs_nothing;
+  leaves = folds_leave;
 }
