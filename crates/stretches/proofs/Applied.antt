@@ -96,10 +96,12 @@ module _ (code : SuperstepCode) where
   pub told_by : (i : Instr) (f : Flat) → is_put i ≡ false → told code (after_instr code i f) ≡ least (told code f) (noted code i f)
   told_by i f h = ap (least (least f.key (noted code i f))) (owed_stays i f h) ∙ least_last f.key (owed code f) (noted code i f)
 
-  pub instructions_apply_here : (i : Instr) (f : Flat) → is_put i ≡ false → applied code (after_instr code i f) ≡ after_instr code i (applied code f)
+  pub instructions_apply_here : (i : Instr) (f : Flat) → is_put i ≡ false →
+      applied code (after_instr code i f) ≡ after_instr code i (applied code f)
   instructions_apply_here i f h =
       let key = told_by i f h ∙ ap (least (told code f)) (noted_same i f) in
-      let none : (λ (c : ℕ). let x : Option Entry = None in x) ≡ (after_instr code i (applied code f)).held = sym (held_stays i (applied code f) h) in
+      let none : (λ (c : ℕ). let x : Option Entry = None in x) ≡ (after_instr code i (applied code f)).held =
+      sym (held_stays i (applied code f) h) in
       λ z. record {
         uniform = uniform_same code i f.uniform h z;
         own = λ v. if renews i then fresh else own_same code i f.uniform v (f.own v) z;

@@ -21,7 +21,8 @@ pub places_are_as_said : PlacesAreAsSaid
 places_are_as_said t given long met place f spent c =
     let formed : IsWellFormed t.code = (long, (given, met)) in
     let a = agrees t formed place f spent c in
-    let d = subst (λ (s : State). Describes s f.uniform) ((comes_given t.code formed a.steps a.point a.comes).1 ∙ ap given a.here) a.describes
+    let d = subst (λ (s : State). Describes s f.uniform)
+    ((comes_given t.code formed a.steps a.point a.comes).1 ∙ ap given a.here) a.describes
     in record {
       asks = d.asks;
       put = d.put;
@@ -77,6 +78,7 @@ pub what_stands_is_at : WhatStandsIsAt
 what_stands_is_at t at s [] h = tt
 what_stands_is_at t at s (i ∷ is) h =
     let parts = (parts_stand t.code).1 at s (i ∷ []) is h in (
-      ap (slice_get t.code.instructions) (let e : at ≡ at + 0 = omega arith in e) ∙ (what_stands_is_there t.code at s (i ∷ is) h 0).0 (omega arith),
+      ap (slice_get t.code.instructions) (let e : at ≡ at + 0 = omega arith in e)
+          ∙ (what_stands_is_there t.code at s (i ∷ is) h 0).0 (omega arith),
       what_stands_is_at t (at + 1) (after i s) is parts.1,
     )

@@ -15,7 +15,8 @@ use Rattle.stretches.specs.Applied.{applied, IsBare}
 use Rattle.stretches.specs.Along.{Run, Comes, IsAt, works, send_cost, IsRunning}
 use Rattle.stretches.specs.Folds.{act, acts, act_at_once, acts_at_once, cost, costs, held_after, may_follow}
 use Rattle.stretches.specs.Folds.{MayHold, StretchesAreFolds, CostsAreCounted, FoldsStayBare, NothingCostsNothing}
-use Rattle.stretches.proofs.Applied.{instructions_apply_here, writes_apply, send_same, bare_is_applied, replies_apply, put_stays, held_stays}
+use Rattle.stretches.proofs.Applied.{instructions_apply_here, writes_apply, send_same, bare_is_applied, replies_apply, put_stays}
+use Rattle.stretches.proofs.Applied.{held_stays}
 use Rattle.stretches.proofs.Along.{nothing_decides, work_goes_on_here, send_goes_on, reply_goes_on, vote_goes_on}
 use Rattle.stretches.proofs.Running.{running_behind, running_sent, running_replied, running_voted}
 

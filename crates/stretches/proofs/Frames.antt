@@ -6,7 +6,8 @@ use Rattle.std.specs.List.{AllByRecursion, filter, range_with_len, zip}
 use Rattle.pram_values.specs.Truth.{is_nonzero, truth}
 use Rattle.superstep_code.specs.declared.instr.Side.TheVariants.{Uniform, Private}
 use Rattle.superstep_code.specs.declared.instr.Instr.{Instr}
-use Rattle.superstep_code.specs.declared.instr.Instr.TheVariants.{Mark, Set, Copy, Negate, Calculate, Decide, Not, CopyUniform, Index, Enter}
+use Rattle.superstep_code.specs.declared.instr.Instr.TheVariants.{Mark, Set, Copy, Negate, Calculate, Decide, Not, CopyUniform, Index}
+use Rattle.superstep_code.specs.declared.instr.Instr.TheVariants.{Enter}
 use Rattle.superstep_code.specs.declared.instr.Instr.TheVariants.{Leave, Mask, Flip, Unmask, Ask, Put, Send, Reply, Vote}
 use Rattle.superstep_code.specs.Code.{SuperstepCode}
 use Rattle.superstep_machine.specs.Parts.{Registers, Read, UniformPart, PrivatePart, set_register}

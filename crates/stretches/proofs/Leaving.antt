@@ -92,7 +92,8 @@ module _ (code : SuperstepCode) (base : ℕ) (f : Flat) (b : IsBare f) (a : Read
   next (Negate Uniform d s q) h = sets (after_instr code (Negate Uniform d s q) f) refl refl (set_if_above base d _ f.uniform.registers h)
   next (Calculate Uniform o d x y q) h =
       sets (after_instr code (Calculate Uniform o d x y q) f) refl refl (set_if_above base d _ f.uniform.registers h)
-  next (Decide Uniform o d x y) h = sets (after_instr code (Decide Uniform o d x y) f) refl refl (set_if_above base d _ f.uniform.registers h)
+  next (Decide Uniform o d x y) h =
+      sets (after_instr code (Decide Uniform o d x y) f) refl refl (set_if_above base d _ f.uniform.registers h)
   next (Not Uniform d s) h = sets (after_instr code (Not Uniform d s) f) refl refl (set_if_above base d _ f.uniform.registers h)
   next (Ask Uniform d c s q) h = record {
     left = record {

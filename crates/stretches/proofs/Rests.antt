@@ -10,7 +10,8 @@ use Rattle.stretches.specs.Along.{Run, Comes}
 clean_there : (t : Run) (place : ℕ) (f : Flat) (spent : ℕ) → Comes t (going place f) spent → IsClean f
 clean_there t place f spent c =
     subst StaysClean c.here
-    (steps_clean t.code t.bound everywhere c.instructions (opening t.input) (λ e. record { asks = λ h v. refl; awaited = λ h v. refl })) refl
+    (steps_clean t.code t.bound everywhere c.instructions (opening t.input)
+    (λ e. record { asks = λ h v. refl; awaited = λ h v. refl })) refl
 
 pub rests_there : (t : Run) (place : ℕ) (f : Flat) (spent : ℕ) → Comes t (going place f) spent → f.uniform.asks ≡ [] →
     f.uniform.awaited ≡ [] → AsksNone f

@@ -12,7 +12,8 @@ use Rattle.pram_values.proofs.Totals.{total_none}
 use Rattle.write_rules.specs.Verdict.{Faulted}
 use Rattle.superstep_code.specs.declared.instr.Side.TheVariants.{Uniform, Private}
 use Rattle.superstep_code.specs.declared.instr.Instr.{Instr}
-use Rattle.superstep_code.specs.declared.instr.Instr.TheVariants.{Mark, Set, Copy, Negate, Calculate, Decide, Not, Enter, Ask, Put, Print, Send}
+use Rattle.superstep_code.specs.declared.instr.Instr.TheVariants.{Mark, Set, Copy, Negate, Calculate, Decide, Not, Enter, Ask, Put, Print}
+use Rattle.superstep_code.specs.declared.instr.Instr.TheVariants.{Send}
 use Rattle.superstep_code.specs.declared.instr.Instr.TheVariants.{Reply, Vote, Jump, JumpIfZero, Halt}
 use Rattle.superstep_machine.specs.declared.key.Key.{Key}
 use Rattle.superstep_code.specs.Code.{SuperstepCode}
@@ -32,7 +33,8 @@ use Rattle.stretches.specs.Along.{Run, Comes, IsAt, works, IsUndecided, IsOf, Is
 use Rattle.stretches.specs.Tells.{IsDoomed, Tells, is_quiet, EndsTell, QuietPlacesTell, QuietStretchesTell, JumpsTell, ForksTell}
 use Rattle.stretches.specs.Tells.{IsCalm, ends, quiet, jumps, forks, CalmPlacesTell, QuietBeforeCalm}
 use Rattle.stretches.proofs.Applied.{told_by, lone_send_told}
-use Rattle.stretches.proofs.Along.{nothing_decides, work_goes_on_here, send_goes_on, reply_goes_on, vote_goes_on, jump_goes_on, fork_goes_on}
+use Rattle.stretches.proofs.Along.{nothing_decides, work_goes_on_here, send_goes_on, reply_goes_on, vote_goes_on, jump_goes_on}
+use Rattle.stretches.proofs.Along.{fork_goes_on}
 
 -- ---- what notes nothing
 

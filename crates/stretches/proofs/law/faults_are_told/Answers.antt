@@ -1,4 +1,5 @@
-use Rattle.stretches.proofs.Tells.{ends_tell, quiet_places_tell, quiet_stretches_tell, jumps_tell, forks_tell, calm_places_tell, quiet_before_calm}
+use Rattle.stretches.proofs.Tells.{ends_tell, quiet_places_tell, quiet_stretches_tell, jumps_tell, forks_tell, calm_places_tell}
+use Rattle.stretches.proofs.Tells.{quiet_before_calm}
 use Rattle.stretches.proofs.law.faults_are_told.Goals as goal
 
 pub returns : goal.returns
