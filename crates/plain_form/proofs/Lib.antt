@@ -1,1 +1,4 @@
 pub mod KeptReads
+pub mod Lengths
+pub mod StepLengths
+pub mod StatementLengths

@@ -7,3 +7,4 @@ pub mod Inside
 pub mod Outside
 pub mod PlainForm
 pub mod Counted
+pub mod Sizes
