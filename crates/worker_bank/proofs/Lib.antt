@@ -8,3 +8,4 @@ pub mod ListedLemmas
 pub mod OperateLemmas
 pub mod ToldLemmas
 pub mod NumberLemmas
+pub mod NamingLemmas

@@ -4,6 +4,7 @@
 mod all;
 mod arithmetic;
 mod bank;
+mod cells;
 mod decisions;
 mod instruct;
 pub mod law;
@@ -11,6 +12,7 @@ mod level;
 mod listed;
 mod masking;
 mod masks;
+mod naming;
 mod numbers;
 mod operand;
 mod operate;
