@@ -1,8 +1,10 @@
 -- The verifier's states of places describe runs, and what it has judged is fine.
-use Rattle.std.proofs.Common.{◌≡◌, ◌+◌, [], ◌∷◌, Bool, true, false, not, eqb, refl, ap, ◌∙◌, subst, arith}
+use Rattle.std.proofs.Common.{length, length-append, ◌≡◌, ◌+◌, [], ◌∷◌, Bool, true, false, not, eqb, refl, ap, ◌∙◌, subst, arith}
 use Rattle.std.specs.Prelude.{◌&&◌, slice_get}
+use Rattle.superstep_code.specs.Code.{SuperstepCode}
+use Rattle.superstep_code.specs.declared.instr.Side.TheVariants.{Uniform, Private}
 use Rattle.superstep_code.specs.declared.instr.Instr.{Instr}
-use Rattle.superstep_code.specs.declared.instr.Instr.TheVariants.{Mark, Put, Send, Reply, Jump, JumpIfZero, Halt}
+use Rattle.superstep_code.specs.declared.instr.Instr.TheVariants.{Mark, Ask, Put, Send, Reply, Jump, JumpIfZero, Halt}
 use Rattle.bsp_verify.specs.declared.state.State.{State}
 use Rattle.bsp_verify.specs.States.{after}
 use Rattle.bsp_verify.specs.Judging.{fits_exchange}
@@ -12,8 +14,9 @@ use Rattle.bsp_verify.proofs.PathLemmas.{comes_given}
 use Rattle.bsp_verify.proofs.WorkerLemmas.{none_of, none_came}
 use Rattle.bsp_verify.proofs.RunLemmas.{Describes, no_put}
 use Rattle.pram_model.proofs.Truths.{both}
-use Rattle.stretches.specs.Folds.{held_after, may_follow, IsFine}
-use Rattle.stretches.specs.Described.{PlacesAreAsSaid, is_straight, JudgedAreFine, WhatStandsIsAt}
+use Rattle.flat_machine.specs.Flat.{Flat}
+use Rattle.stretches.specs.Folds.{act_at_once, held_after, may_follow, IsFine}
+use Rattle.stretches.specs.Described.{PlacesAreAsSaid, is_straight, JudgedAreFine, WhatStandsIsAt, FoldsHoldReads}
 use Rattle.stretches.proofs.Closes.{agrees}
 use Rattle.stretches.proofs.Rests.{rests_there}
 
@@ -82,3 +85,17 @@ what_stands_is_at t at s (i ∷ is) h =
           ∙ (what_stands_is_there t.code at s (i ∷ is) h 0).0 (omega arith),
       what_stands_is_at t (at + 1) (after i s) is parts.1,
     )
+
+-- ---- reads that are held
+
+asks_after : (code : SuperstepCode) (i : Instr) (s : State) (f : Flat) → length f.uniform.asks ≡ s.asks →
+    length (act_at_once code i f).uniform.asks ≡ (after i s).asks
+asks_after code (Ask Uniform d c r q) s f h = length-append f.uniform.asks _ ∙ ap (λ n. n + 1) h
+asks_after code (Ask Private d c r q) s f h = length-append f.uniform.asks _ ∙ ap (λ n. n + 1) h
+asks_after code Send s f h = refl
+asks_after code (Put side c r v q) s f h = h
+asks_after code i s f h = h
+
+pub folds_hold_reads : FoldsHoldReads
+folds_hold_reads code [] s f h = h
+folds_hold_reads code (i ∷ is) s f h = folds_hold_reads code is (after i s) (act_at_once code i f) (asks_after code i s f h)

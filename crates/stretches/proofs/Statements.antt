@@ -12,21 +12,21 @@ use Rattle.superstep_machine.specs.declared.key.Key.{Key}
 use Rattle.superstep_code.specs.Code.{SuperstepCode}
 use Rattle.superstep_machine.specs.Keys.{least}
 use Rattle.superstep_machine.specs.Run.{items, items_below, fault_of}
-use Rattle.flat_machine.specs.Flat.{Flat}
+use Rattle.flat_machine.specs.Flat.{Flat, opening}
 use Rattle.flat_machine.specs.ByInstructions.{going, IsFlatOutcome}
 use Rattle.flat_machine.specs.Verdicts.{told}
 use Rattle.superstep_machine.specs.Parts.{PrivatePart}
 use Rattle.superstep_machine.specs.Steps.{is_active}
 use Rattle.bsp_verify.proofs.WorkerLemmas.{none_came}
 use Rattle.bsp_verify.proofs.RunLemmas.{no_answers}
-use Rattle.flat_machine.proofs.Late.{none_least}
+use Rattle.flat_machine.proofs.Late.{none_least, told_noted}
 use Rattle.flat_machine.proofs.AnyTime.{none_noted}
 use Rattle.flat_machine.proofs.Paths as paths
 use Rattle.stretches.specs.Applied.{AsksNone}
 use Rattle.stretches.specs.Along.{Comes, IsOf, IsRunning, Run}
 use Rattle.stretches.specs.Folds.{Stand, act, acts, costs, held_after, may_follow, IsFine, MayHold, IsBehind}
 use Rattle.stretches.specs.Tells.{Tells}
-use Rattle.stretches.specs.Statements.{HasBegun, MarksBegin, finished, HasFinished, StatementsFinish, StatementsFault}
+use Rattle.stretches.specs.Statements.{HasBegun, MarksBegin, finished, HasFinished, StatementsFinish, StatementsFault, RunsBeginAtRest, MarksHold}
 use Rattle.stretches.proofs.Applied.{told_by}
 use Rattle.stretches.proofs.Along.{mark_goes_on}
 use Rattle.stretches.proofs.Folds.{stretches_are_folds}
@@ -83,6 +83,16 @@ marks_begin t formed place f spent c line at l quiet =
         AllByRecursion (λ (x : ℕ × ℤ). x.0 < n + 1) output
     less n [] h = tt
     less n (x ∷ output) h = (let k = h.0 in omega (arith, k), less n output h.1)
+
+pub marks_hold : MarksHold
+marks_hold code line held f h = λ e. let b = h e in record { put = b.put; held = b.held }
+
+pub runs_begin_at_rest : RunsBeginAtRest
+runs_begin_at_rest code input = record {
+  told = told_noted code (opening input) refl;
+  bare = record { put = refl; held = λ c. refl };
+  rests = record { asks = refl; awaited = refl; own_asks = λ v. refl; own_awaited = λ v. refl };
+}
 
 -- ---- a stretch stays in its statement
 

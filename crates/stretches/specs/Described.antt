@@ -7,12 +7,12 @@ use Rattle.superstep_code.specs.Code.{SuperstepCode}
 use Rattle.superstep_machine.specs.Run.{is_held}
 use Rattle.bsp_verify.specs.declared.state.State.{State}
 use Rattle.bsp_verify.specs.WellFormed.{AreMet}
-use Rattle.bsp_verify.specs.Stretches.{Stands, IsStretch}
+use Rattle.bsp_verify.specs.Stretches.{behind, Stands, IsStretch}
 use Rattle.flat_machine.specs.Flat.{Flat}
 use Rattle.flat_machine.specs.ByInstructions.{going}
 use Rattle.stretches.specs.Applied.{AsksNone}
 use Rattle.stretches.specs.Along.{Run, Comes}
-use Rattle.stretches.specs.Folds.{Stand, IsFine, MayHold}
+use Rattle.stretches.specs.Folds.{Stand, acts_at_once, IsFine, MayHold}
 
 -- So many reads are held, a write is held or not, and answers are awaited or not. Where a write isn't held nothing is for any cell; where
 -- answers are awaited nothing is held; and where no read is held and no answer awaited, none is by any processor.
@@ -46,3 +46,8 @@ JudgedAreFine = (code : SuperstepCode) (at : ℕ) (s m : State) (is : List Instr
 
 abbrev pub WhatStandsIsAt : Type 0
 WhatStandsIsAt = (t : Run) (at : ℕ) (s : State) (is : List Instr) → Stands t.code at s is → Stand t at is
+
+-- and a fold holds as many reads as the states say
+abbrev pub FoldsHoldReads : Type 0
+FoldsHoldReads = (code : SuperstepCode) (is : List Instr) (s : State) (f : Flat) → length f.uniform.asks ≡ s.asks →
+    length (acts_at_once code is f).uniform.asks ≡ (behind is s).asks

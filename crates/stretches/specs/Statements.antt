@@ -1,15 +1,16 @@
 -- One statement of well-formed code: from its mark through a stretch to what that leaves, or to its fault.
-use Rattle.std.specs.Prelude.{◌≡◌, ℕ, ◌+◌, ◌<◌, List, [], length, Bool, Some, None}
+use Rattle.std.specs.Prelude.{◌≡◌, ℕ, ◌+◌, ◌<◌, List, [], length, Bool, Some, None, ℤ}
 use Rattle.write_rules.specs.Verdict.{Faulted}
 use Rattle.superstep_code.specs.declared.instr.Instr.{Instr}
 use Rattle.superstep_code.specs.declared.instr.Instr.TheVariants.{Mark}
+use Rattle.superstep_code.specs.Code.{SuperstepCode}
 use Rattle.superstep_machine.specs.declared.key.Key.{Key}
 use Rattle.superstep_machine.specs.Run.{items, items_below, fault_of}
 use Rattle.bsp_verify.specs.WellFormed.{IsWellFormed}
-use Rattle.flat_machine.specs.Flat.{Flat, after_instr}
+use Rattle.flat_machine.specs.Flat.{Flat, after_instr, opening}
 use Rattle.flat_machine.specs.ByInstructions.{going, IsFlatOutcome}
 use Rattle.flat_machine.specs.Verdicts.{told}
-use Rattle.stretches.specs.Applied.{applied, AsksNone}
+use Rattle.stretches.specs.Applied.{applied, IsBare, AsksNone}
 use Rattle.stretches.specs.Along.{Run, Comes, IsAt}
 use Rattle.stretches.specs.Folds.{Stand, acts, acts_at_once, costs, IsFine, MayHold}
 use Rattle.stretches.specs.Tells.{Tells}
@@ -21,11 +22,24 @@ pub record HasBegun (t : Run) (place spent : ℕ) (f : Flat) : Type 0 where
   pub rests : AsksNone f
   pub output : items_below f.uniform.count f.uniform.output ≡ items f.uniform.output
 
+-- a run begins with no key told, no write held, and no read held or awaited
+pub record IsAtRest (code : SuperstepCode) (f : Flat) : Type 0 where
+  pub told : told code f ≡ None
+  pub bare : IsBare f
+  pub rests : AsksNone f
+
+abbrev pub RunsBeginAtRest : Type 0
+RunsBeginAtRest = (code : SuperstepCode) (input : List ℤ) → IsAtRest code (opening input)
+
 -- a mark below the bound, where no key is told, begins a statement
 abbrev pub MarksBegin : Type 0
 MarksBegin = (t : Run) → IsWellFormed t.code → (place : ℕ) (f : Flat) (spent : ℕ) → Comes t (going place f) spent → (line : ℕ) →
     IsAt t place (Mark line) → f.uniform.count < t.bound → told t.code f ≡ None →
     HasBegun t (place + 1) spent (after_instr t.code (Mark line) f)
+
+-- a write that is held before a mark is held behind it, and none else
+abbrev pub MarksHold : Type 0
+MarksHold = (code : SuperstepCode) (line : ℕ) (held : Bool) (f : Flat) → MayHold held f → MayHold held (after_instr code (Mark line) f)
 
 -- A stretch of a statement: `f` with all of it carried out and each write applied at once.
 abbrev pub finished : Run → List Instr → Flat → Flat

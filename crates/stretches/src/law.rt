@@ -7,8 +7,8 @@ ghost use Rattle.stretches.specs.Along.{ForksGoOn, NothingDecides, MoreMayBeSpen
 ghost use Rattle.stretches.specs.Folds.{StretchesAreFolds, CostsAreCounted, FoldsStayBare, NothingCostsNothing};
 ghost use Rattle.stretches.specs.Leaving.{FoldsLeave};
 ghost use Rattle.stretches.specs.Joins.{StandsSplit, StandsJoin, FineJoins, ActsJoin, ActsAtOnceJoin, CostsJoin, CountsJoin};
-ghost use Rattle.stretches.specs.Statements.{MarksBegin, StatementsFinish, StatementsFault};
-ghost use Rattle.stretches.specs.Described.{PlacesAreAsSaid, JudgedAreFine, WhatStandsIsAt};
+ghost use Rattle.stretches.specs.Statements.{RunsBeginAtRest, MarksBegin, MarksHold, StatementsFinish, StatementsFault};
+ghost use Rattle.stretches.specs.Described.{PlacesAreAsSaid, JudgedAreFine, WhatStandsIsAt, FoldsHoldReads};
 ghost use Rattle.stretches.specs.Reads.{ReadsAreAnswered, ReadsArrive, OthersStay, NoReadsStay};
 ghost use Rattle.stretches.specs.Tells.{EndsTell, QuietPlacesTell, QuietStretchesTell, JumpsTell, ForksTell, CalmPlacesTell, QuietBeforeCalm};
 ghost use Rattle.stretches.specs.Closes.{HaltsEnd, BoundsEnd};
@@ -97,7 +97,9 @@ pub fn runs_close()
 /// a key that it notes is the outcome, with the output of the statements before, if the place
 /// behind the stretch tells.
 pub fn statements_run()
+    ensures start { RunsBeginAtRest }
     ensures begin { MarksBegin }
+    ensures hold { MarksHold }
     ensures finish { StatementsFinish }
     ensures fault { StatementsFault }
 {}
@@ -109,6 +111,7 @@ pub fn states_describe_runs()
     ensures places { PlacesAreAsSaid }
     ensures judged { JudgedAreFine }
     ensures there { WhatStandsIsAt }
+    ensures reads { FoldsHoldReads }
 {}
 
 /// The processors that are active, as sets: a mask, a flip and an unmask go from one frame of masks to

@@ -1,5 +1,11 @@
-use Rattle.stretches.proofs.Statements.{marks_begin, statements_finish, statements_fault}
+use Rattle.stretches.proofs.Statements.{runs_begin_at_rest, marks_begin, marks_hold, statements_finish, statements_fault}
 use Rattle.stretches.proofs.law.statements_run.Goals as goal
 
 pub returns : goal.returns
-returns c = record { begin = marks_begin; finish = statements_finish; fault = statements_fault }
+returns c = record {
+  start = runs_begin_at_rest;
+  begin = marks_begin;
+  hold = marks_hold;
+  finish = statements_finish;
+  fault = statements_fault;
+}
