@@ -1,6 +1,7 @@
 //! The limits that runs of code keep.
 
-ghost use Rattle.run_limits.specs.Within.{OutcomesFit, ValuesFit, FlatValuesFit, WrittenValuesFit, MessagesCanBeSent, MessagesAreReadBack, MessagesAreShort};
+ghost use Rattle.run_limits.specs.Within.{OutcomesFit, ValuesFit, FlatValuesFit, WrittenValuesFit, MessagesCanBeSent};
+ghost use Rattle.run_limits.specs.Within.{MessagesAreReadBack, MessagesAreShort};
 
 /// At every moment of a run from an input of 64-bit values, for every code, well formed or not, all
 /// registers and cells and what was printed have values of 64 bits; and so have the output and the memory

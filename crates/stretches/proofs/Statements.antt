@@ -26,7 +26,8 @@ use Rattle.stretches.specs.Applied.{AsksNone}
 use Rattle.stretches.specs.Along.{Comes, IsOf, IsRunning, Run}
 use Rattle.stretches.specs.Folds.{Stand, act, acts, costs, held_after, may_follow, IsFine, MayHold, IsBehind}
 use Rattle.stretches.specs.Tells.{Tells}
-use Rattle.stretches.specs.Statements.{HasBegun, MarksBegin, finished, HasFinished, StatementsFinish, StatementsFault, RunsBeginAtRest, MarksHold}
+use Rattle.stretches.specs.Statements.{HasBegun, MarksBegin, finished, HasFinished, StatementsFinish, StatementsFault}
+use Rattle.stretches.specs.Statements.{RunsBeginAtRest, MarksHold}
 use Rattle.stretches.proofs.Applied.{told_by}
 use Rattle.stretches.proofs.Along.{mark_goes_on}
 use Rattle.stretches.proofs.Folds.{stretches_are_folds}

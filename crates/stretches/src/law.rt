@@ -10,7 +10,8 @@ ghost use Rattle.stretches.specs.Joins.{StandsSplit, StandsJoin, FineJoins, Acts
 ghost use Rattle.stretches.specs.Statements.{RunsBeginAtRest, MarksBegin, MarksHold, StatementsFinish, StatementsFault};
 ghost use Rattle.stretches.specs.Described.{PlacesAreAsSaid, JudgedAreFine, WhatStandsIsAt, FoldsHoldReads};
 ghost use Rattle.stretches.specs.Reads.{ReadsAreAnswered, ReadsArrive, OthersStay, NoReadsStay};
-ghost use Rattle.stretches.specs.Tells.{EndsTell, QuietPlacesTell, QuietStretchesTell, JumpsTell, ForksTell, CalmPlacesTell, QuietBeforeCalm};
+ghost use Rattle.stretches.specs.Tells.{EndsTell, QuietPlacesTell, QuietStretchesTell, JumpsTell, ForksTell, CalmPlacesTell};
+ghost use Rattle.stretches.specs.Tells.{QuietBeforeCalm};
 ghost use Rattle.stretches.specs.Closes.{HaltsEnd, BoundsEnd};
 ghost use Rattle.stretches.specs.Frames.{SetsNarrow, EverybodyIsPresent, RangesBegin, MasksNarrow, FlipsTurn, UnmasksWiden, VotesSay};
 ghost use Rattle.stretches.specs.Frames.{FoldsStay, FoldsAtOnceStay, LoopsOpen, LoopsTurn, LoopsClose};
