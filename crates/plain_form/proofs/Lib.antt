@@ -2,3 +2,4 @@ pub mod KeptReads
 pub mod Lengths
 pub mod StepLengths
 pub mod StatementLengths
+pub mod TextWords

@@ -4,8 +4,11 @@ use Rattle.pram_names.specs.declared.body.Step as step
 use Rattle.pram_names.specs.declared.body.Step.{Step, Row_of-Step, end_of-Step, more_of-Step}
 use Rattle.pram_names.specs.declared.body.Statement.{Statement, Assign, Print, While', If', For', Pardo, Row_of-Statement, end_of-Statement}
 use Rattle.pram_names.specs.declared.body.Statement.{more_of-Statement}
+use Rattle.pram_syntax.specs.Program.{program_tokens}
+use Rattle.pram_names.specs.Breaches.{most_tokens}
+use Rattle.superstep_code.specs.Limits.{most_instructions}
 use Rattle.pram_check.specs.Bounded.{nodes, inner_target_nodes, target_nodes}
-use Rattle.pram_check.specs.Checked.{Checked}
+use Rattle.pram_check.specs.Checked.{Checked, IsResolved}
 use Rattle.plain_form.specs.PlainForm.{instructions_of}
 
 abbrev mutual
@@ -46,3 +49,12 @@ body_words (s ∷ ss) = words s + body_words ss
 -- at most four instructions a word, and the last one
 abbrev pub CodeIsShort : Type 0
 CodeIsShort = (keep : Bool) (p : Checked) → length (instructions_of keep p) ≤ 4 * body_words p.body + 1
+
+-- these words, and eight around them, are in the text that the program is of
+abbrev pub WordsAreInTheText : Type 0
+WordsAreInTheText = (p : Checked) → IsResolved p → body_words p.body + 8 ≤ length (program_tokens p.tree)
+
+-- the code of a program with few enough tokens is within the limit of a listing
+abbrev pub CodeFits : Type 0
+CodeFits = (keep : Bool) (p : Checked) → IsResolved p → length (program_tokens p.tree) ≤ most_tokens →
+    length (instructions_of keep p) ≤ most_instructions

@@ -1,7 +1,7 @@
 //! Laws of the code of programs.
 
 ghost use Rattle.plain_form.specs.Counted.{ReadsAreKept};
-ghost use Rattle.plain_form.specs.Sizes.{CodeIsShort};
+ghost use Rattle.plain_form.specs.Sizes.{CodeIsShort, WordsAreInTheText, CodeFits};
 
 /// A formula has as many shared reads as the expression that it is of: at most eight in a statement
 /// of an accepted program, each with a register of its own.
@@ -10,7 +10,11 @@ pub fn reads_are_kept()
 {}
 
 /// The code of a program has at most four instructions for each word and sign of its body, and one
-/// more: without the brackets, each `else`, and the declarations of locals.
+/// more: without the brackets, each `else`, and the declarations of locals. Those words, and eight
+/// around them, are in the text. So the code of an accepted program is within the limit of a
+/// listing, of 65,536 instructions.
 pub fn code_is_short()
-    ensures { CodeIsShort }
+    ensures short { CodeIsShort }
+    ensures in_text { WordsAreInTheText }
+    ensures fits { CodeFits }
 {}
