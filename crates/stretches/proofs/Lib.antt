@@ -14,3 +14,4 @@ pub mod Loops
 pub mod ReadLemmas
 pub mod Rests
 pub mod Leaving
+pub mod Notes

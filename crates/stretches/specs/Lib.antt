@@ -9,3 +9,4 @@ pub mod Described
 pub mod Frames
 pub mod Reads
 pub mod Leaving
+pub mod Notes

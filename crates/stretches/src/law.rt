@@ -10,6 +10,7 @@ ghost use Rattle.stretches.specs.Joins.{StandsSplit, StandsJoin, FineJoins, Acts
 ghost use Rattle.stretches.specs.Statements.{RunsBeginAtRest, MarksBegin, MarksHold, StatementsFinish, StatementsFault};
 ghost use Rattle.stretches.specs.Described.{PlacesAreAsSaid, JudgedAreFine, WhatStandsIsAt, FoldsHoldReads};
 ghost use Rattle.stretches.specs.Reads.{ReadsAreAnswered, ReadsArrive, OthersStay, NoReadsStay};
+ghost use Rattle.stretches.specs.Notes.{FoldsTellNotes, NotesJoin, NotesForgetKeys, FoldsForgetKeys};
 ghost use Rattle.stretches.specs.Tells.{EndsTell, QuietPlacesTell, QuietStretchesTell, JumpsTell, ForksTell, CalmPlacesTell};
 ghost use Rattle.stretches.specs.Tells.{QuietBeforeCalm};
 ghost use Rattle.stretches.specs.Closes.{HaltsEnd, BoundsEnd};
@@ -141,4 +142,13 @@ pub fn reads_are_answered()
     ensures arrive { ReadsArrive }
     ensures others { OthersStay }
     ensures none { NoReadsStay }
+{}
+
+/// The keys of a stretch are collected apart from what it leaves: the fold adds the least of what its
+/// instructions note to the key before, on which nothing else depends.
+pub fn notes_are_collected()
+    ensures told { FoldsTellNotes }
+    ensures join { NotesJoin }
+    ensures notes { NotesForgetKeys }
+    ensures folds { FoldsForgetKeys }
 {}
