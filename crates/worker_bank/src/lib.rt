@@ -2,6 +2,7 @@
 #![tactic(auto)]
 
 mod all;
+mod answering;
 mod arithmetic;
 mod bank;
 mod cells;
