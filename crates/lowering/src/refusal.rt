@@ -6,7 +6,7 @@ use thiserror::Error;
 /// Why a program is not lowered.
 #[derive(Clone, Copy, Debug, Drop, PartialEq, Eq, Error)]
 pub enum LowerRefusal {
-    /// Its code has more instructions, registers or positions than a listing has numbers for.
+    /// A register, a position or the target of a jump has no number in a listing.
     #[error("the code is too long")]
     TooLong,
     /// E16: memory was refused.
