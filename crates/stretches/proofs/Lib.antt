@@ -15,3 +15,4 @@ pub mod ReadLemmas
 pub mod Rests
 pub mod Leaving
 pub mod Notes
+pub mod Idle

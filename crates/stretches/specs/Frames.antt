@@ -1,5 +1,5 @@
 -- The processors that are active inside a range: frames of masks, and the flags of loops.
-use Rattle.std.specs.Prelude.{◌≡◌, ℕ, ◌+◌, ◌<◌, ◌≤◌, List, [], ◌∷◌, Bool, true, false, not, ◌&&◌, pos, nat_le}
+use Rattle.std.specs.Prelude.{◌≡◌, ℕ, ◌+◌, ◌<◌, ◌≤◌, List, [], ◌∷◌, Bool, true, false, not, ◌&&◌, pos, nat_le, Option, None}
 use Rattle.std.specs.List.{AllByRecursion, filter, range_with_len}
 use Rattle.pram_values.specs.Truth.{is_nonzero}
 use Rattle.superstep_code.specs.declared.instr.Side.TheVariants.{Private}
@@ -7,8 +7,8 @@ use Rattle.superstep_code.specs.declared.instr.Instr.{Instr}
 use Rattle.superstep_code.specs.declared.instr.Instr.TheVariants.{Set, Copy, Negate, Calculate, Decide, Not, CopyUniform, Index, Enter}
 use Rattle.superstep_code.specs.declared.instr.Instr.TheVariants.{Leave, Mask, Flip, Unmask, Ask}
 use Rattle.superstep_code.specs.Code.{SuperstepCode}
-use Rattle.superstep_machine.specs.Parts.{Registers, zeros, Read}
-use Rattle.superstep_machine.specs.Steps.{under}
+use Rattle.superstep_machine.specs.Parts.{Registers, zeros, Read, PrivatePart}
+use Rattle.superstep_machine.specs.Steps.{under, is_active}
 use Rattle.flat_machine.specs.Flat.{Flat, after_instr, after_vote}
 use Rattle.stretches.specs.Folds.{acts, acts_at_once}
 
@@ -165,3 +165,29 @@ LoopsTurn = (code : SuperstepCode) (first base r : ℕ) → first ≤ base → (
 abbrev pub LoopsClose : Type 0
 LoopsClose = (code : SuperstepCode) (first base : ℕ) (fr : Frame) (registers : ℕ → Registers) (f : Flat) →
     IsLooping first base fr registers f → StandsIn first base fr (after_instr code Unmask f)
+
+-- ---- processors that aren't active
+
+-- it asks for no cell, and awaits none
+pub record IsIdle (x : PrivatePart) : Type 0 where
+  pub inactive : is_active x ≡ false
+  pub asks : AllByRecursion (λ (c : Option ℕ). c ≡ None) x.asks
+  pub awaited : AllByRecursion (λ (c : Option ℕ). c ≡ None) x.awaited
+
+abbrev pub keeps_masks : Instr → Bool
+keeps_masks (Enter a b q) = false
+keeps_masks Leave = false
+keeps_masks (Mask r) = false
+keeps_masks Flip = false
+keeps_masks Unmask = false
+keeps_masks i = true
+
+-- an idle processor stays idle
+pub record StaysIdle (x y : PrivatePart) : Type 0 where
+  pub idle : IsIdle y
+  pub registers : y.registers ≡ x.registers
+
+-- with all its registers, while no mask changes
+abbrev pub IdleStay : Type 0
+IdleStay = (code : SuperstepCode) (is : List Instr) (f : Flat) (v : ℕ) → AllByRecursion (λ (i : Instr). keeps_masks i ≡ true) is →
+    IsIdle (f.own v) → StaysIdle (f.own v) ((acts_at_once code is f).own v)

@@ -15,7 +15,7 @@ ghost use Rattle.stretches.specs.Tells.{EndsTell, QuietPlacesTell, QuietStretche
 ghost use Rattle.stretches.specs.Tells.{QuietBeforeCalm};
 ghost use Rattle.stretches.specs.Closes.{HaltsEnd, BoundsEnd};
 ghost use Rattle.stretches.specs.Frames.{SetsNarrow, EverybodyIsPresent, RangesBegin, MasksNarrow, FlipsTurn, UnmasksWiden, VotesSay};
-ghost use Rattle.stretches.specs.Frames.{FoldsStay, FoldsAtOnceStay, LoopsOpen, LoopsTurn, LoopsClose};
+ghost use Rattle.stretches.specs.Frames.{FoldsStay, FoldsAtOnceStay, IdleStay, LoopsOpen, LoopsTurn, LoopsClose};
 
 /// The machine may be seen with the write that it holds applied at once: each instruction, a send, a
 /// reply and a vote do the same to that state, and a write is applied where it stands. This holds for every
@@ -118,7 +118,8 @@ pub fn states_describe_runs()
 
 /// The processors that are active, as sets: a mask, a flip and an unmask go from one frame of masks to
 /// another, whose set is a filter of the set below; a vote says whether the set has a member; a
-/// stretch that sets no flag stays in its frame. A loop's flag lets all of the set in, those stay
+/// stretch that sets no flag stays in its frame, and a processor that isn't active keeps its
+/// registers. A loop's flag lets all of the set in, those stay
 /// whose test is true, and behind it the set is present again.
 pub fn masks_are_sets()
     ensures narrow { SetsNarrow }
@@ -130,6 +131,7 @@ pub fn masks_are_sets()
     ensures vote { VotesSay }
     ensures folds { FoldsStay }
     ensures at_once { FoldsAtOnceStay }
+    ensures idle { IdleStay }
     ensures opens { LoopsOpen }
     ensures turns { LoopsTurn }
     ensures closes { LoopsClose }

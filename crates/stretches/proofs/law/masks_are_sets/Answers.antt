@@ -1,3 +1,4 @@
+use Rattle.stretches.proofs.Idle.{idle_stay}
 use Rattle.stretches.proofs.Frames.{sets_narrow, everybody_is_present, ranges_begin, masks_narrow, flips_turn, unmasks_widen, votes_say}
 use Rattle.stretches.proofs.Frames.{folds_stay, folds_at_once_stay}
 use Rattle.stretches.proofs.Loops.{loops_open, loops_turn, loops_close}
@@ -14,6 +15,7 @@ returns c = record {
   vote = votes_say;
   folds = folds_stay;
   at_once = folds_at_once_stay;
+  idle = idle_stay;
   opens = loops_open;
   turns = loops_turn;
   closes = loops_close;
