@@ -23,6 +23,7 @@ mod values;
 pub use all::calculate_all;
 pub use arithmetic::{Difference, Negative, Product, Quotient, Remainder, Sum};
 pub use bank::Bank;
+pub use cells::no_cells;
 pub use decisions::{AtMost, Below, Both, Either, Equal, Negation};
 pub use level::Level;
 pub use listed::calculate_listed;
