@@ -7,7 +7,7 @@ use Rattle.pram_syntax.specs.declared.tree.Declaration.{Declaration}
 use Rattle.pram_syntax.specs.declared.tree.Expr.{Expr}
 use Rattle.pram_syntax.specs.declared.tree.Stmt.{Stmt}
 use Rattle.pram_syntax.specs.declared.parse_error.ParseError.{ParseError}
-use Rattle.pram_syntax.specs.declared.parse_error.ParseError.TheVariants.{Memory, Syntax, TooDeep}
+use Rattle.pram_syntax.specs.declared.parse_error.ParseError.TheVariants.{OutOfMemory, Syntax, TooDeep}
 use Rattle.pram_tokens.specs.declared.token.Token.{Token}
 use Rattle.pram_syntax.specs.Machine.{Verdict}
 use Rattle.pram_syntax.specs.Symbols.{Stack}
@@ -37,7 +37,7 @@ Leads before inner = (k : Stack) → (j : Stack) × (before k ≡ inner j)
 
 pub err_along : {X Y : Type 0} {before inner : Stack → Verdict} (rest : X → List Token) (inner_rest : Y → List Token) (x : ParseError) →
     Follows inner inner_rest (Err x) → Leads before inner → Follows before rest (Err x)
-err_along rest inner_rest Memory h along = tt
+err_along rest inner_rest OutOfMemory h along = tt
 err_along rest inner_rest (Syntax n) h along = λ k. (along k).1 ∙ h (along k).0
 err_along rest inner_rest (TooDeep n) h along = λ k. (along k).1 ∙ h (along k).0
 

@@ -18,4 +18,3 @@ pub mod Exits
 pub mod ExprParts
 pub mod StmtParts
 pub mod DeclParts
-pub mod OneTree

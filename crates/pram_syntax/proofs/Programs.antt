@@ -18,7 +18,7 @@ use Rattle.pram_syntax.specs.Program.{ProgramTree, rule_token, declarations_toke
 use Rattle.pram_syntax.specs.Machine.{verdict, Verdict, Accepted, SyntaxAt, TooDeepAt, start, statements_and_end}
 use Rattle.pram_syntax.specs.Symbols.{Stack, Want, WantNumber, Declarations, program}
 use Rattle.pram_syntax.specs.declared.parse_error.ParseError.{ParseError}
-use Rattle.pram_syntax.specs.declared.parse_error.ParseError.TheVariants.{Memory, Syntax}
+use Rattle.pram_syntax.specs.declared.parse_error.ParseError.TheVariants.{OutOfMemory, Syntax}
 use Rattle.pram_syntax.specs.declared.parse_error.ParseError.TheVariants as error
 use Rattle.pram_syntax.specs.Faults.{Ends, IsSyntaxFault, IsDepthFault, IsRefusedRightly, Answers}
 use Rattle.pram_syntax.specs.Follows.{Follows}
@@ -201,7 +201,7 @@ same_tree b c d e p q h g eq =
 pub rightly : {X : Type 0} (Y : Type 0) (rest : X → List Token) (ts : List Token) (x : ParseError) → AreReal ts →
     Follows (λ k. verdict ts (program limit limit k)) rest (Err x) →
     IsRefusedRightly {X = Y} ts (Err x)
-rightly Y rest ts Memory real h = tt
+rightly Y rest ts OutOfMemory real h = tt
 rightly Y rest ts (Syntax n) real h = syntax_fault ts n real (h [])
 rightly Y rest ts (error.TooDeep n) real h = depth_fault ts n real (h [])
 
@@ -221,7 +221,7 @@ no_syntax_fault ts n p h is at = no_verdict ts n p h is (subst (λ v. RefusedAt 
 pub none_refused : {X : Type 0} (rest : X → List Token) (ts : List Token) (x : ParseError) →
     Follows (λ k. verdict ts (program limit limit k)) rest (Err x) →
     (p : ProgramTree) → IsTree limit limit p → ts ≡ program_tokens p → Answers p (Err x)
-none_refused rest ts Memory follows p h is = tt
+none_refused rest ts OutOfMemory follows p h is = tt
 none_refused rest ts (Syntax n) follows p h is = no_syntax_fault ts n p h is (follows [])
 none_refused rest ts (error.TooDeep n) follows p h is = no_verdict ts n p h is (subst (λ v. RefusedAt v n) (sym (follows [])) refl)
 

@@ -1,7 +1,7 @@
 -- What is wrong with a list of tokens that is no program, said by the grammar alone.
 use Rattle.std.specs.Prelude.{◌≡◌, ℕ, List, [], ◌∷◌, ◌++◌, length, Result, Ok, Err}
 use Rattle.pram_syntax.specs.declared.parse_error.ParseError.{ParseError}
-use Rattle.pram_syntax.specs.declared.parse_error.ParseError.TheVariants.{Memory, Syntax, TooDeep}
+use Rattle.pram_syntax.specs.declared.parse_error.ParseError.TheVariants.{OutOfMemory, Syntax, TooDeep}
 use Rattle.pram_tokens.specs.declared.token.Token.{Token}
 use Rattle.pram_syntax.specs.Program.{ProgramTree, IsProgram, Begins, limit}
 
@@ -35,12 +35,12 @@ pub record IsDepthFault (ts : List Token) (left : ℕ) : Type 0 where
 -- each refusal stands where it should
 abbrev pub IsRefusedRightly : {X : Type 0} → List Token → Result X ParseError → Type 0
 IsRefusedRightly ts (Ok x) = Unit {0}
-IsRefusedRightly ts (Err Memory) = Unit {0}
+IsRefusedRightly ts (Err OutOfMemory) = Unit {0}
 IsRefusedRightly ts (Err (Syntax n)) = IsSyntaxFault ts n
 IsRefusedRightly ts (Err (TooDeep n)) = IsDepthFault ts n
 
 -- the answer is that tree, unless memory was refused
 abbrev pub Answers : ProgramTree → Result ProgramTree ParseError → Type 0
 Answers p (Ok q) = q ≡ p
-Answers p (Err Memory) = Unit {0}
+Answers p (Err OutOfMemory) = Unit {0}
 Answers p (Err _) = ⊥

@@ -1,7 +1,7 @@
 -- What a function of the parser promises.
 use Rattle.std.specs.Prelude.{◌≡◌, ℕ, true, List, [], ◌∷◌, ◌++◌, Result, Ok, Err}
 use Rattle.pram_syntax.specs.declared.parse_error.ParseError.{ParseError}
-use Rattle.pram_syntax.specs.declared.parse_error.ParseError.TheVariants.{Memory, Syntax, TooDeep}
+use Rattle.pram_syntax.specs.declared.parse_error.ParseError.TheVariants.{OutOfMemory, Syntax, TooDeep}
 use Rattle.pram_tokens.specs.declared.token.Binary.{Binary}
 use Rattle.pram_tokens.specs.declared.token.Binary.TheVariants as op
 use Rattle.pram_tokens.specs.declared.token.Mark.{Mark}
@@ -21,7 +21,7 @@ use Rattle.pram_syntax.specs.Symbols.{Stack, Operand, Rest, Want, WantAtMost, Fo
 -- The function does what the machine does, whatever is expected afterwards.
 abbrev pub Follows : {X : Type 0} → (Stack → Verdict) → (X → List Token) → Result X ParseError → Type 0
 Follows before rest (Ok x) = (k : Stack) → before k ≡ verdict (rest x) k
-Follows before rest (Err Memory) = Unit {0}
+Follows before rest (Err OutOfMemory) = Unit {0}
 Follows before rest (Err (Syntax n)) = (k : Stack) → before k ≡ SyntaxAt n
 Follows before rest (Err (TooDeep n)) = (k : Stack) → before k ≡ TooDeepAt n
 

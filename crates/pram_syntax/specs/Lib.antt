@@ -5,4 +5,3 @@ pub mod Faults
 pub mod Symbols
 pub mod Machine
 pub mod Follows
-pub mod Text

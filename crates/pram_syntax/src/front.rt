@@ -8,7 +8,7 @@ ghost use Rattle.pram_syntax.specs.Follows.{Follows, IsOperatorAt, NoOperatorAt,
 
 use crate::level::Level;
 use crate::parse_error::ParseError;
-use pram_tokens::token::{Binary, Mark, Name, Numeral, Token};
+use pram_tokens::{Binary, Mark, Name, Numeral, Token};
 use sqlite_items::Items;
 use std::alloc::{AllocError, Global};
 

@@ -2,18 +2,21 @@
 #![tactic(auto)]
 
 mod front;
-pub mod level;
-pub mod one_tree;
-pub mod parse;
+mod level;
 mod parse_decl;
 mod parse_error;
 mod parse_expr;
 mod parse_for;
 mod parse_stmt;
 mod parser;
-pub mod places;
-pub mod tree;
+mod tree;
 
-pub use pram_model::{layout, rule};
-pub use pram_tokens::{error, input, token};
-pub use text_out::{buffer, writer};
+pub use level::Level;
+pub use parse_error::ParseError;
+pub use parser::parse_tokens;
+pub use pram_model::{Layout, Range, Rule};
+pub use pram_tokens::{
+    Binary, LexError, Location, Mark, Name, Numeral, Opening, TextFault, Token, read_input,
+};
+pub use text_out::{Buffer, Out, OutFailed, WriteFault};
+pub use tree::{Declaration, Expr, Prefix, Stmt, Tree};

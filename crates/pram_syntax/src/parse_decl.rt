@@ -11,8 +11,8 @@ ghost use Rattle.pram_syntax.specs.Follows.{Follows};
 use crate::front::{a_name, a_number, behind_mark, copied, expect};
 use crate::parse_error::ParseError;
 use crate::tree::Declaration;
-use pram_model::rule::Rule;
-use pram_tokens::token::{Location, Mark, Name, Numeral, Token};
+use pram_model::Rule;
+use pram_tokens::{Location, Mark, Name, Numeral, Token};
 use sqlite_items::Items;
 use std::alloc::Global;
 

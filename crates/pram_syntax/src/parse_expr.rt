@@ -12,7 +12,7 @@ use crate::front::{
 use crate::level::Level;
 use crate::parse_error::ParseError;
 use crate::tree::{Expr, Prefix};
-use pram_tokens::token::{Binary, Mark, Name, Token};
+use pram_tokens::{Binary, Mark, Name, Token};
 use sqlite_items::{Boxed, Items};
 use std::alloc::{AllocError, Global};
 

@@ -11,7 +11,7 @@ use crate::level::Level;
 use crate::parse_error::ParseError;
 use crate::parse_expr::{expression_then, operand};
 use crate::tree::Expr;
-use pram_tokens::token::{Mark, Name, Token};
+use pram_tokens::{Mark, Name, Token};
 use sqlite_items::Items;
 use std::alloc::Global;
 

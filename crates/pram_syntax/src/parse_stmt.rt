@@ -10,7 +10,7 @@ use crate::parse_error::ParseError;
 use crate::parse_expr::expression_then;
 use crate::parse_for::{loop_head, loop_name, pardo_head};
 use crate::tree::Stmt;
-use pram_tokens::token::{Location, Mark, Name, Opening, Token};
+use pram_tokens::{Location, Mark, Name, Opening, Token};
 use sqlite_items::Items;
 use std::alloc::Global;
 

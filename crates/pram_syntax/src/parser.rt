@@ -14,7 +14,7 @@ use crate::parse_decl::{Heading, declarations, header};
 use crate::parse_error::ParseError;
 use crate::parse_stmt::body;
 use crate::tree::{Declaration, Stmt, Tree};
-use pram_tokens::token::{Mark, Token};
+use pram_tokens::{Mark, Token};
 use sqlite_items::Items;
 use std::alloc::Global;
 
@@ -56,8 +56,8 @@ fn program(alloc: Global, tokens: &[Token]) -> Result<(Parts, &[Token]), ParseEr
 /// `ParseError::Syntax` (E4) stands at the first token with which no program begins, whatever its
 /// nesting, or at the end of the tokens where they run out. `ParseError::TooDeep` (E5) stands at
 /// the token that opens the 65th block or the 65th level of an expression, if no syntax fault
-/// stands before it or at it. `ParseError::Memory` says that memory was refused.
-pub(crate) fn parse_tokens(alloc: Global, tokens: &[Token]) -> Result<Tree, ParseError>
+/// stands before it or at it. `ParseError::OutOfMemory` says that memory was refused.
+pub fn parse_tokens(alloc: Global, tokens: &[Token]) -> Result<Tree, ParseError>
     requires real { AreReal tokens.now }
     // The tree stands in the grammar, within the limits of nesting.
     ensures stands { IfOk result (λ tree. IsTree limit limit tree) }

@@ -5,8 +5,8 @@ ghost use Rattle.std.specs.Coded.{codes};
 ghost use Rattle.pram_syntax.specs.contracts.tree.Stmt as stmt;
 ghost use Rattle.pram_syntax.specs.Program.{ProgramTree, IsTree, limit, program_tokens, tree_of};
 
-use pram_model::rule::Rule;
-use pram_tokens::token::{Binary, Location, Name, Numeral};
+use pram_model::Rule;
+use pram_tokens::{Binary, Location, Name, Numeral};
 use sqlite_items::{Boxed, Items};
 use std::marker::Model;
 

@@ -3,7 +3,7 @@ use Rattle.std.proofs.Common.{◌∙◌, List, [], Result, Ok, Err, ℕ, ap, sym
 use Rattle.pram_tokens.specs.declared.token.Token.{Token}
 use Rattle.pram_syntax.specs.Program.{limit}
 use Rattle.pram_tokens.specs.Scanning.{Cut}
-use Rattle.pram_syntax.specs.Text.{HasOneTreeAtMost}
+use Rattle.pram_parser.specs.Text.{HasOneTreeAtMost}
 use Rattle.pram_syntax.proofs.Programs.{same_tree}
 
 abbrev tokens_in : Result Cut ℕ → List Token

@@ -4,15 +4,10 @@ ghost use Rattle.std.specs.Prelude.{◌≡◌, ◌<◌, ◌↔◌, Err, length, 
 ghost use Rattle.pram_tokens.specs.declared.error.TextFault.TheVariants.{TextTooLong};
 ghost use Rattle.pram_syntax.specs.Program.{ProgramTree};
 ghost use Rattle.pram_tokens.specs.Scanning.{longest};
-ghost use Rattle.pram_syntax.specs.Text as spec;
+ghost use Rattle.pram_parser.specs.Text as spec;
 
-use crate::parse_error::ParseError;
-use crate::parser::parse_tokens;
-use crate::tree::Tree;
-use pram_tokens::error::{LexError, TextFault};
-use pram_tokens::lexer::tokenize;
-use pram_tokens::offset::offset_of;
-use pram_tokens::plain::{LONGEST, first_other};
+use pram_syntax::{ParseError, Tree, parse_tokens};
+use pram_tokens::{LONGEST, LexError, TextFault, first_other, offset_of, tokenize};
 use std::alloc::Global;
 
 /// What a refusal of the tokens says of the text that they were cut from.
@@ -20,7 +15,7 @@ fn parse_fault(offsets: &[u32], end: u32, fault: ParseError) -> TextFault
     ensures value { result ≡ spec.parse_fault offsets.now end fault }
 {
     match fault {
-        ParseError::Memory => TextFault::OutOfMemory,
+        ParseError::OutOfMemory => TextFault::OutOfMemory,
         ParseError::Syntax(left) => TextFault::Syntax(offset_of(offsets, left, end)),
         ParseError::TooDeep(left) => TextFault::TooDeep(offset_of(offsets, left, end)),
     }
@@ -31,7 +26,7 @@ fn lex_fault(fault: LexError) -> TextFault
     ensures value { result ≡ spec.lex_fault fault }
 {
     match fault {
-        LexError::Memory => TextFault::OutOfMemory,
+        LexError::OutOfMemory => TextFault::OutOfMemory,
         LexError::BadToken(at) => TextFault::BadToken(at),
     }
 }

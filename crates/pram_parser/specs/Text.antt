@@ -56,11 +56,11 @@ IsFaultOf text (Err OutOfMemory) = IsPlain text
 
 -- a refusal of the tokenizer, as one of the text
 abbrev pub lex_fault : LexError → TextFault
-lex_fault lex.Memory = OutOfMemory
+lex_fault lex.OutOfMemory = OutOfMemory
 lex_fault (lex.BadToken at) = BadToken at
 
 -- a refusal of the tokens, as one of the text, by the tokens' offsets and the text's length
 abbrev pub parse_fault : (offsets : List ℕ) (end : ℕ) → ParseError → TextFault
-parse_fault offsets end parse.Memory = OutOfMemory
+parse_fault offsets end parse.OutOfMemory = OutOfMemory
 parse_fault offsets end (parse.Syntax left) = Syntax (offset_of offsets left end)
 parse_fault offsets end (parse.TooDeep left) = TooDeep (offset_of offsets left end)
