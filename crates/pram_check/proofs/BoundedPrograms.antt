@@ -25,7 +25,9 @@ use Rattle.pram_names.specs.declared.scope.Meaning.{Meaning}
 use Rattle.pram_names.specs.declared.scope.Meaning.TheVariants.{Uniform, Cell, Array}
 use Rattle.pram_check.specs.Bounded.{IsBounded}
 use Rattle.pram_names.specs.Breaches.{at, new_cause, bounds_cause, cells_cause, shared_cause, or_else, declaration_breaches, block_breaches}
-use Rattle.pram_names.specs.Breaches.{body_context, procs_cause, token_breaches, most_procs, most_tokens, IsAccepted}
+use Rattle.pram_names.specs.Breaches.{body_context, procs_cause, token_breaches, breaches, most_procs, most_tokens}
+use Rattle.pram_check.specs.Faults.{IsAccepted}
+use Rattle.pram_check.proofs.ProgramFaults.{nothing_told}
 use Rattle.pram_check.specs.Checked.{Checked, IsResolved}
 use Rattle.pram_names.specs.Scope.{Scope, meaning_of, declared_from, globals, shared_entries, uniform_count}
 use Rattle.pram_check.proofs.BoundedExpressions.{AreThere, back_real, front_none, back_none}
@@ -239,8 +241,9 @@ few_tokens count none = by (nat_lt most_tokens count) refl
     by false e = grind (arith, nat_tests, e)
 
 pub bounded : (p : Checked) → IsTree limit limit p.tree → IsAccepted p.tree → IsResolved p → IsBounded p
-bounded p stands accepted resolved =
+bounded p stands is_accepted resolved =
     let t = p.tree in
+    let accepted : breaches t ≡ [] = (nothing_told t).1 is_accepted in
     let procs = at t.procs.location (procs_cause t.procs.value) in
     let declared = declaration_breaches [] 0 0 0 t.declarations in
     let body = block_breaches t.body (body_context t.declarations) in

@@ -1,5 +1,6 @@
 -- The breaches of a whole and its faults, from those of its parts in the order of the text.
-use Rattle.std.proofs.Common.{◌≡◌, ℕ, zero, suc, ◌+◌, ◌<◌, ◌≤◌, List, [], ◌∷◌, ◌++◌, map, Option, Some, None, subst, sym, ap, refl, arith}
+use Rattle.std.proofs.Common.{◌≡◌, ℕ, zero, suc, ◌+◌, ◌<◌, ◌≤◌, List, [], ◌∷◌, ◌++◌, map, Option, Some, None, subst, sym, ap, refl}
+use Rattle.std.proofs.Common.{◌∙◌, arith}
 use Rattle.std.specs.List.{All, Contains}
 use mathlib.Core.Logic.{◌⊎◌, inl, inr}
 use Rattle.std.proofs.lemmas.List.Elements.{All-append, All-map, Contains-append_left, Contains-append_right}
@@ -13,6 +14,27 @@ use Rattle.pram_check.specs.Faults.{all_at, offset_in, offsets_in, number, IsBef
 use Rattle.pram_check.proofs.Sublists.{Between, lower, higher, most, split, joined}
 use Rattle.pram_tokens.specs.InOrder.{places}
 use Rattle.pram_check.proofs.Places.{places_append}
+
+-- ---- nothing is told exactly where nothing is wrong
+
+abbrev pub AreNoneAlike : List Breach → List Breach → Type 0
+AreNoneAlike bs fs = (bs ≡ [] → fs ≡ []) × (fs ≡ [] → bs ≡ [])
+
+pub none_is_none : AreNoneAlike [] []
+none_is_none = (λ h. refl, λ h. refl)
+
+parts_none : (xs ys : List Breach) → xs ++ ys ≡ [] → (xs ≡ []) × (ys ≡ [])
+parts_none [] ys h = (refl, h)
+parts_none (x ∷ xs) ys h = absurd (cc h)
+
+both_none : (xs ys : List Breach) → xs ≡ [] → ys ≡ [] → xs ++ ys ≡ []
+both_none xs ys h k = ap (λ l. l ++ ys) h ∙ k
+
+pub none_append : {bs cs fs gs : List Breach} → AreNoneAlike bs fs → AreNoneAlike cs gs → AreNoneAlike (bs ++ cs) (fs ++ gs)
+none_append {bs} {cs} {fs} {gs} a b = (
+  λ h. let p = parts_none bs cs h in both_none fs gs (a.0 p.0) (b.0 p.1),
+  λ h. let p = parts_none fs gs h in both_none bs cs (a.1 p.0) (b.1 p.1),
+)
 
 module _ (end : ℕ) where
   -- no breach and no fault, or the first breach is the least fault
@@ -76,6 +98,7 @@ module _ (end : ℕ) where
 
   pub record ToldIn (bs fs : List Breach) (ts : List Token) : Type 0 where
     pub told : (lo hi : ℕ) → Between lo (places ts) hi → Told lo hi bs fs
+    pub none : AreNoneAlike bs fs
 
   cut : (lo hi : ℕ) (ts us : List Token) → Between lo (places (ts ++ us)) hi → (mid : ℕ) × Between lo (places ts) mid
       × Between mid (places us) hi
@@ -85,22 +108,25 @@ module _ (end : ℕ) where
   join {bs} {cs} {fs} {gs} {ts} {us} a b = record {
     told = λ lo hi h. let s = cut lo hi ts us h in
         told_append lo s.0 hi bs cs fs gs (a.told lo s.0 s.1) (b.told s.0 hi s.2);
+    none = none_append a.none b.none;
   }
 
   pub front : {bs fs : List Breach} {ts : List Token} (us : List Token) → ToldIn bs fs ts → ToldIn bs fs (ts ++ us)
   front {bs} {fs} {ts} us a = record {
     told = λ lo hi h. let s = cut lo hi ts us h in
         told_higher lo s.0 hi bs fs (most s.0 hi (places us) s.2) (a.told lo s.0 s.1);
+    none = a.none;
   }
 
   pub behind : {bs fs : List Breach} {us : List Token} (ts : List Token) → ToldIn bs fs us → ToldIn bs fs (ts ++ us)
   behind {bs} {fs} {us} ts a = record {
     told = λ lo hi h. let s = cut lo hi ts us h in
         told_lower lo s.0 hi bs fs (most lo s.0 (places ts) s.1) (a.told s.0 hi s.2);
+    none = a.none;
   }
 
   pub nothing : (ts : List Token) → ToldIn [] [] ts
-  nothing ts = record { told = λ lo hi h. told_nothing lo hi (most lo hi (places ts) h) }
+  nothing ts = record { told = λ lo hi h. told_nothing lo hi (most lo hi (places ts) h); none = none_is_none }
 
   -- behind a breach nothing is told of the faults that follow
   pub hidden : {b : Breach} {cs fs gs : List Breach} {ts us : List Token} → ToldIn (b ∷ []) fs ts → ToldIn cs gs us →
@@ -116,6 +142,7 @@ module _ (end : ℕ) where
           leads =
               both.leads;
         };
+    none = (λ h. absurd (cc h), λ h. x.none.1 (parts_none fs gs h).0);
   }
 
 -- the cause that is told at a place is the lowest of those that apply there
@@ -128,6 +155,12 @@ contains_map f [] c h = absurd (omega (arith, h.1))
 contains_map f (d ∷ cs) c (zero, below, is) = (0, omega arith, ap f is)
 contains_map f (d ∷ cs) c (suc k, below, is) =
     Contains-append_right (f d ∷ []) (map f cs) (f c) (contains_map f cs c (k, omega (arith, below), is))
+
+-- at one place
+pub none_at : (l : Location) (k : Option Cause) (cs : List Cause) → IsLowest k cs → AreNoneAlike (at l k) (all_at l cs)
+none_at l None cs low = (λ h. ap (all_at l) low, λ h. refl)
+none_at l (Some c) [] low = absurd (omega (arith, low.0.1))
+none_at l (Some c) (d ∷ cs) low = (λ h. absurd (cc h), λ h. absurd (cc h))
 
 module _ (end : ℕ) (l : Location) where
   abbrev here : Cause → Breach

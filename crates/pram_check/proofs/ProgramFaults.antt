@@ -22,13 +22,14 @@ use Rattle.pram_names.specs.declared.scope.Meaning.TheVariants.{Uniform, Cell, A
 use Rattle.pram_names.specs.Scope.{Scope}
 use Rattle.pram_names.specs.Breaches.{at, first, breaches, procs_cause, block_breaches, body_context, outside_of, declaration_breaches}
 use Rattle.pram_names.specs.Breaches.{token_breaches, most_tokens}
-use Rattle.pram_check.specs.Faults.{all_at, procs_causes, block_faults, declaration_faults, faults, offset_in, offsets_in, IsBefore}
+use Rattle.pram_check.specs.Faults.{IsAccepted, all_at, procs_causes, block_faults, declaration_faults, faults, offset_in, offsets_in, IsBefore}
 use Rattle.pram_check.specs.Faults.{IsLeast}
-use Rattle.pram_syntax.specs.Text.{IsTextOf}
+use Rattle.pram_parser.specs.Text.{IsTextOf}
 use Rattle.pram_tokens.proofs.Offsets.{in_order}
 use Rattle.pram_check.proofs.Sublists.{Between, between, increasing}
 use Rattle.pram_tokens.specs.InOrder.{places, StandInOrder}
-use Rattle.pram_check.proofs.Least.{Told, ToldIn, Leads, told_at, told_nothing, told_append, join, front, behind, nothing}
+use Rattle.pram_check.proofs.Least.{Told, ToldIn, Leads, AreNoneAlike, told_at, told_nothing, told_append, none_at, none_append, join, front}
+use Rattle.pram_check.proofs.Least.{behind, nothing}
 use Rattle.pram_check.proofs.Lowest.{shared_lowest, new_lowest, where_it_holds}
 use Rattle.pram_check.proofs.StatementFaults.{named, told_statement}
 
@@ -58,7 +59,10 @@ module _ (end : ℕ) where
 
   number_in : (n : Numeral) → ToldIn end (at n.location (procs_cause n.value)) (all_at n.location (procs_causes n.value))
       (token.Number n ∷ [])
-  number_in n = record { told = λ lo hi h. told_at end n.location _ _ lo hi (where_it_holds _ (Limit limit.Procs)) h.0 h.1 }
+  number_in n = record {
+    told = λ lo hi h. told_at end n.location _ _ lo hi (where_it_holds _ (Limit limit.Procs)) h.0 h.1;
+    none = none_at n.location _ _ (where_it_holds _ (Limit limit.Procs));
+  }
 
   -- all but the number of tokens
   abbrev front_breaches : ProgramTree → List Breach
@@ -99,6 +103,19 @@ module _ (end : ℕ) where
   four : (a b c d : List Breach) → (a ++ (b ++ c)) ++ d ≡ a ++ (b ++ (c ++ d))
   four a b c d = append_assoc a (b ++ c) d ∙ ap (λ l. a ++ l) (append_assoc b c d)
 
+  none_program : (t : ProgramTree) → AreNoneAlike (breaches t) (faults t)
+  none_program t =
+      let count = length (program_tokens t) in
+      let procs = at t.procs.location (procs_cause t.procs.value) in
+      let all_procs = all_at t.procs.location (procs_causes t.procs.value) in
+      subst (λ bs. AreNoneAlike bs (faults t))
+      (four procs (declaration_breaches [] 0 0 0 t.declarations) (block_breaches t.body (body_context t.declarations))
+      (token_breaches count))
+      (subst (AreNoneAlike (front_breaches t ++ token_breaches count))
+      (four all_procs (declaration_faults [] 0 0 0 t.declarations) (block_faults t.body (body_context t.declarations))
+      (token_breaches count))
+      (none_append (program_in t).none (λ h. h, λ h. h)))
+
   told_program : (t : ProgramTree) → Between 0 (places (program_tokens t)) end → Told end 0 (end + 1) (breaches t) (faults t)
   told_program t h =
       let count = length (program_tokens t) in
@@ -112,6 +129,13 @@ module _ (end : ℕ) where
       (token_breaches count))
       (told_append end 0 end (end + 1) (front_breaches t) (token_breaches count) (front_faults t) (token_breaches count)
       ((program_in t).told 0 end h) (end_in count)))
+
+-- nothing is told of a tree exactly where nothing is wrong with it
+pub nothing_told : (tree : ProgramTree) → AreNoneAlike (breaches tree) (faults tree)
+nothing_told tree = none_program 0 tree
+
+pub accepted : (tree : ProgramTree) → breaches tree ≡ [] → IsAccepted tree
+accepted tree h = (nothing_told tree).0 h
 
 module _ (text : List ℕ) (tree : ProgramTree) (is : IsTextOf text tree) where
   abbrev end : ℕ

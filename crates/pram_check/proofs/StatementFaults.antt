@@ -22,7 +22,7 @@ use Rattle.pram_names.specs.Breaches.{Context, Judged, at, uses, use_breaches, r
 use Rattle.pram_names.specs.Breaches.{judged_all, outside_of, inside_of, with_loop, node_breaches, statement_breaches}
 use Rattle.pram_check.specs.Faults.{use_faults, local_faults, keyword_faults, variable_causes, new_causes, all_at, node_faults}
 use Rattle.pram_check.specs.Faults.{statement_faults}
-use Rattle.pram_check.proofs.Least.{ToldIn, IsLowest, told_at, join, front, behind, nothing, hidden}
+use Rattle.pram_check.proofs.Least.{ToldIn, IsLowest, told_at, none_at, join, front, behind, nothing, hidden}
 use Rattle.pram_check.proofs.Lowest.{target_lowest_inside, target_lowest_outside, element_lowest, variable_lowest, new_lowest}
 use Rattle.pram_check.proofs.Lowest.{where_it_holds}
 use Rattle.pram_check.proofs.UseFaults.{told_expression, told_two}
@@ -50,11 +50,14 @@ module _ (end : ℕ) where
   -- a name of which something is told
   pub named : (x : Name) (k : Option Cause) (cs : List Cause) → IsLowest k cs → ToldIn end (at x.location k) (all_at x.location cs)
       (token.Name x ∷ [])
-  named x k cs low = record { told = λ lo hi h. told_at end x.location k cs lo hi low h.0 h.1 }
+  named x k cs low = record { told = λ lo hi h. told_at end x.location k cs lo hi low h.0 h.1; none = none_at x.location k cs low }
 
   -- a keyword that has no place there
   misplaced : (o : Opening) (l : Location) → ToldIn end (at l (Some WrongKind)) (keyword_faults true l) (token.Opening o l ∷ [])
-  misplaced o l = record { told = λ lo hi h. told_at end l (Some WrongKind) (WrongKind ∷ []) lo hi (where_it_holds true WrongKind) h.0 h.1 }
+  misplaced o l = record {
+    told = λ lo hi h. told_at end l (Some WrongKind) (WrongKind ∷ []) lo hi (where_it_holds true WrongKind) h.0 h.1;
+    none = none_at l (Some WrongKind) (WrongKind ∷ []) (where_it_holds true WrongKind);
+  }
 
   again : {bs fs : List Breach} (ts us vs : List Token) → ToldIn end bs fs ((ts ++ us) ++ vs) → ToldIn end bs fs (ts ++ (us ++ vs))
   again {bs} {fs} ts us vs = subst (ToldIn end bs fs) (append_assoc ts us vs)

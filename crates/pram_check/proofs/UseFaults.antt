@@ -10,7 +10,7 @@ use Rattle.pram_check.specs.Faults.{use_faults, use_causes, all_at}
 use Rattle.pram_check.proofs.Sublists.{Between, between_sub}
 use Rattle.pram_tokens.specs.InOrder.{places}
 use Rattle.pram_check.proofs.Places.{use_offsets, UsesIn, join_uses, behind_uses, expression_places}
-use Rattle.pram_check.proofs.Least.{Told, ToldIn, told_nothing, told_append, told_at}
+use Rattle.pram_check.proofs.Least.{Told, ToldIn, AreNoneAlike, told_nothing, told_append, told_at, none_is_none, none_append, none_at}
 use Rattle.pram_check.proofs.Lowest.{use_lowest}
 
 module _ (end : ℕ) (scope : Scope) where
@@ -27,9 +27,19 @@ module _ (end : ℕ) (scope : Scope) where
       (told_at end l _ (use_causes m u.subscripted n) lo (l.offset + 1) (use_lowest m u.subscripted n) h.0 (omega arith))
       (told_uses k (l.offset + 1) hi us h.1)
 
+  none_uses : (n : ℕ) (us : List Use) → AreNoneAlike (use_breaches scope n us) (use_faults scope n us)
+  none_uses n [] = none_is_none
+  none_uses n (u ∷ us) =
+      let m = meaning_of scope u.name.text in
+      none_append (none_at u.name.location _ (use_causes m u.subscripted n) (use_lowest m u.subscripted n))
+      (none_uses (n + (if is_read m u.subscripted then 1 else 0)) us)
+
   pub told_names : (n : ℕ) (us : List Use) (ts : List Token) → UsesIn us ts → ToldIn end (use_breaches scope n us)
       (use_faults scope n us) ts
-  told_names n us ts a = record { told = λ lo hi h. told_uses n lo hi us (between_sub lo hi (use_offsets us) (places ts) a h) }
+  told_names n us ts a = record {
+    told = λ lo hi h. told_uses n lo hi us (between_sub lo hi (use_offsets us) (places ts) a h);
+    none = none_uses n us;
+  }
 
   pub told_expression : (n : ℕ) (e : Expr) → ToldIn end (use_breaches scope n (uses e)) (use_faults scope n (uses e)) (tokens e)
   told_expression n e = told_names n (uses e) (tokens e) (expression_places e)

@@ -175,6 +175,10 @@ faults t =
     ++ (declaration_faults [] 0 0 0 t.declarations
     ++ (block_faults t.body (body_context t.declarations) ++ token_breaches (length (program_tokens t))))
 
+-- a tree in which nothing is wrong
+abbrev pub IsAccepted : ProgramTree → Type 0
+IsAccepted t = faults t ≡ []
+
 -- ---- their order
 
 -- the offset of a place, in a text of that length

@@ -8,13 +8,8 @@ ghost use Rattle.pram_names.specs.Breaches.{at, new_cause, bounds_cause, cells_c
 ghost use Rattle.pram_names.specs.Breaches.{declaration_breaches};
 ghost use Rattle.pram_names.specs.Walk.{Judges};
 
-use pram_names::expression::breach;
-use pram_names::fault::{Cause, CheckFault, Limit};
-use pram_names::range::new_name;
-use pram_names::scope::{Meaning, Scope};
-use pram_syntax::layout::Layout;
-use pram_syntax::token::{Name, Numeral};
-use pram_syntax::tree::Declaration;
+use pram_names::{Cause, CheckFault, Limit, Meaning, Scope, breach, new_name};
+use pram_syntax::{Declaration, Layout, Name, Numeral};
 use std::alloc::Global;
 
 const MOST_CELLS: u32 = 1_048_576;

@@ -2,10 +2,14 @@
 #![tactic(auto)]
 
 mod declarations;
-pub mod order;
-pub mod program;
+pub mod law;
+mod program;
 mod resolve;
 mod statement;
 mod step;
 
-pub use pram_names::{body, fault, scope};
+pub use pram_names::{
+    Breach, Cause, CheckFault, Expression, Limit, Link, Meaning, Scope, Spot, Statement, Step,
+    StepTarget, Target,
+};
+pub use program::{Program, check};

@@ -1,16 +1,14 @@
 //! Checked programs.
 
 ghost use Rattle.std.specs.Prelude.{◌≡◌, IfOk, IfErr};
-ghost use Rattle.pram_names.specs.Breaches.{breaches, IsAccepted, Tells};
+ghost use Rattle.pram_names.specs.Breaches.{breaches, Tells};
 ghost use Rattle.pram_check.specs.Bounded.{IsBounded};
 ghost use Rattle.pram_check.specs.Checked.{IsResolved};
+ghost use Rattle.pram_check.specs.Faults.{IsAccepted};
 
 use crate::resolve::{Parts, resolve};
-use pram_names::body::Statement;
-use pram_names::fault::CheckFault;
-use pram_syntax::layout::Layout;
-use pram_syntax::rule::Rule;
-use pram_syntax::tree::Tree;
+use pram_names::{CheckFault, Statement};
+use pram_syntax::{Layout, Rule, Tree};
 use std::alloc::Global;
 use std::marker::Model;
 
@@ -23,8 +21,8 @@ pub struct Program {
 
 impl Model for Program {
     ghost use Rattle.std.specs.Coded.{codes};
-    ghost use Rattle.pram_names.specs.Breaches.{IsAccepted};
     ghost use Rattle.pram_check.specs.Checked.{Checked, IsResolved, checked};
+    ghost use Rattle.pram_check.specs.Faults.{IsAccepted};
     ghost use Rattle.pram_names.specs.contracts.body.Statement as statement;
     ghost use Rattle.pram_syntax.specs.contracts.tree.Stmt as stmt;
 
@@ -43,6 +41,7 @@ impl Model for Program {
 ///
 /// The tree is given back, unchanged, beside the first thing that is wrong with it (E6 to E10), or
 /// where memory was refused (E16).
+#[tactic(auto, using(crate::proofs::ProgramFaults::accepted))]
 pub fn check(alloc: Global, tree: Tree) -> Result<Program, (CheckFault, Tree)>
     ensures tree { IfOk result (λ p. p.tree ≡ tree) }
     ensures accepted { IfOk result (λ p. IsAccepted tree) }

@@ -6,12 +6,8 @@ ghost use Rattle.pram_names.specs.Walk.{Judges};
 
 use crate::declarations::declare_all;
 use crate::statement::statements;
-use pram_names::body::Statement;
-use pram_names::fault::CheckFault;
-use pram_names::limits::{check_tokens, procs_of};
-use pram_names::scope::Scope;
-use pram_syntax::layout::Layout;
-use pram_syntax::tree::Tree;
+use pram_names::{CheckFault, Scope, Statement, check_tokens, procs_of};
+use pram_syntax::{Layout, Tree};
 use std::alloc::Global;
 
 /// What a tree says, beside its rule.

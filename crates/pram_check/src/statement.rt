@@ -7,15 +7,11 @@ ghost use Rattle.pram_names.specs.Resolved.{Says, SaysStatement, SayStatements};
 ghost use Rattle.pram_names.specs.Walk.{Judges};
 
 use crate::step::steps;
-use pram_names::body::{Expression, Statement, Target};
-use pram_names::expression::breach;
-use pram_names::fault::{Cause, CheckFault};
-use pram_names::range::{declare_locals, new_name, pardo_range};
-use pram_names::scope::{Meaning, Scope};
-use pram_names::target::{element_target, target, variable};
-use pram_names::value::{value, values};
-use pram_syntax::token::{Location, Name};
-use pram_syntax::tree::{Expr, Stmt};
+use pram_names::{
+    Cause, CheckFault, Expression, Meaning, Scope, Statement, Target, breach, declare_locals,
+    element_target, new_name, pardo_range, target, value, values, variable,
+};
+use pram_syntax::{Expr, Location, Name, Stmt};
 use std::alloc::Global;
 
 // An assignment without subscript.

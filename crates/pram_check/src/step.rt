@@ -5,15 +5,10 @@ ghost use Rattle.pram_names.specs.Breaches.{statement_breaches, block_breaches, 
 ghost use Rattle.pram_names.specs.Resolved.{SaysStep, SaySteps, SayElse};
 ghost use Rattle.pram_names.specs.Walk.{Judges};
 
-use pram_names::body::{Step, StepTarget};
-use pram_names::expression::breach;
-use pram_names::fault::{Cause, CheckFault};
-use pram_names::scope::Scope;
-use pram_names::step_target::inner_target;
-use pram_names::target::element_target;
-use pram_names::value::{value, values};
-use pram_syntax::token::Name;
-use pram_syntax::tree::{Expr, Stmt};
+use pram_names::{
+    Cause, CheckFault, Scope, Step, StepTarget, breach, element_target, inner_target, value, values,
+};
+use pram_syntax::{Expr, Name, Stmt};
 use std::alloc::Global;
 
 // An assignment without subscript.

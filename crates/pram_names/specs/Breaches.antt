@@ -270,10 +270,6 @@ breaches_of procs ds body count =
 abbrev pub breaches : ProgramTree → List Breach
 breaches t = breaches_of t.procs t.declarations t.body (length (program_tokens t))
 
--- a tree in which no place is wrong
-abbrev pub IsAccepted : ProgramTree → Type 0
-IsAccepted t = breaches t ≡ []
-
 -- the first of some breaches
 abbrev pub first : List Breach → Option Breach
 first [] = None

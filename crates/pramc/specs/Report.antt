@@ -6,10 +6,11 @@ use Rattle.pram_tokens.specs.Input.{IsInputFault}
 use Rattle.pram_model.specs.Layout.{SharedEntry, total_size}
 use Rattle.pram_syntax.specs.Program.{ProgramTree}
 use Rattle.pram_tokens.specs.Plain.{IsPlain}
-use Rattle.pram_syntax.specs.Text.{IsTextOf, IsFaultOf}
+use Rattle.pram_parser.specs.Text.{IsTextOf, IsFaultOf}
 use Rattle.pram_names.specs.declared.fault.Breach.{Breach}
-use Rattle.pram_names.specs.Breaches.{IsAccepted, breaches, first}
+use Rattle.pram_names.specs.Breaches.{breaches, first}
 use Rattle.pram_check.specs.Checked.{Checked, IsResolved}
+use Rattle.pram_check.specs.Faults.{IsAccepted}
 use Rattle.write_rules.specs.Verdict.{Verdict}
 use Rattle.pram_meaning.specs.Outcome.{IsOutcome}
 use Rattle.pramc.specs.declared.from_text.Refusal.{Refusal}

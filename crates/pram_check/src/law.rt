@@ -1,11 +1,17 @@
-//! The order of what is wrong.
+//! What is wrong with a tree, and its order.
 
-ghost use Rattle.std.specs.Prelude.{◌≡◌, ℕ, List, [], length, MatchOption};
+ghost use Rattle.std.specs.Prelude.{◌≡◌, ◌↔◌, ℕ, List, [], length, MatchOption};
 ghost use Rattle.std.specs.List.Sorted.{IsStrictlyIncreasing};
 ghost use Rattle.pram_syntax.specs.Program.{ProgramTree};
-ghost use Rattle.pram_syntax.specs.Text.{IsTextOf};
+ghost use Rattle.pram_parser.specs.Text.{IsTextOf};
 ghost use Rattle.pram_names.specs.Breaches.{breaches, first};
-ghost use Rattle.pram_check.specs.Faults.{faults, offsets_in, IsLeast};
+ghost use Rattle.pram_check.specs.Faults.{faults, offsets_in, IsAccepted, IsLeast};
+
+/// A tree is accepted exactly if no breach is told of it.
+#[tactic(auto, using(crate::proofs::ProgramFaults::nothing_told))]
+pub fn breaches_are_told_where_faults_are()
+    ensures exactly { (tree : ProgramTree) → IsAccepted tree ↔ (breaches tree ≡ []) }
+{}
 
 /// A refusal stands at the first place of the text where anything is wrong, and tells what has the
 /// lowest number of all that is wrong there. Nothing is wrong with an accepted program.

@@ -1,5 +1,5 @@
 use Rattle.pram_check.proofs.ProgramFaults.{first_is_least, breaches_ascend}
-use Rattle.pram_check.proofs.order.first_breach_is_least.Goals as goal
+use Rattle.pram_check.proofs.law.first_breach_is_least.Goals as goal
 
 pub returns-clause-least : goal.returns-clause-least
 returns-clause-least c = first_is_least
