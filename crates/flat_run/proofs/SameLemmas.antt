@@ -21,6 +21,7 @@ use Rattle.superstep_machine.specs.Sending.{is_private, uniform_sent, own_sent}
 use Rattle.superstep_machine.specs.Answering.{uniform_answered, own_answered}
 use Rattle.flat_machine.specs.Flat.{Flat, range, cells, noted, single_to, written, after_instr, owed, askers, read_conflict, read_conflicts}
 use Rattle.flat_machine.specs.Flat.{conflicts, after_send, after_reply, any_active, after_vote}
+use Rattle.flat_machine.proofs.Instructions.{same_width}
 use Rattle.flat_run.specs.Views.{AreSame}
 use Rattle.flat_run.proofs.SumLemmas.{any_is}
 
@@ -35,16 +36,6 @@ same_on f g h a b = record {
   held = a.held ∙ b.held;
   key = a.key ∙ b.key;
 }
-
--- the range is as wide as before, but where it begins or ends
-width_kept : (code : SuperstepCode) (i : Instr) (u : UniformPart) → renews i ≡ false → (on_uniform code i u).width ≡ u.width
-width_kept code (Enter a b q) u h = absurd (cc h)
-width_kept code Leave u h = absurd (cc h)
-width_kept code (Ask Uniform d c s q) u h = refl
-width_kept code (Ask Private d c s q) u h = refl
-width_kept code (Put Uniform c s v q) u h = refl
-width_kept code (Put Private c s v q) u h = refl
-width_kept code i u h = refl
 
 module _ (f g : Flat) (s : AreSame f g) where
   -- sums over the range
@@ -73,7 +64,7 @@ module _ (f g : Flat) (s : AreSame f g) where
       ◌≡◌ {A = PrivatePart} (cond b fresh (on_own code i f.uniform v (f.own v))) (cond b fresh (on_own code i g.uniform v (g.own v)))
   own_stepped code i v l true e = refl
   own_stepped code i v l false e =
-      let kept = width_kept code i g.uniform e in
+      let kept = same_width code i g.uniform e in
       ap (λ (u : UniformPart). on_own code i u v (f.own v)) s.uniform ∙ ap (on_own code i g.uniform v) (s.own v (omega (arith, l, kept)))
 
   pub same_after_instr : (code : SuperstepCode) (i : Instr) → AreSame (after_instr code i f) (after_instr code i g)

@@ -13,12 +13,10 @@ ghost use Rattle.flat_run.specs.Views.{part_of, own_of, held_of, flat_of, IsSize
 
 use crate::machine::Machine;
 use crate::processor::ProcessorState;
-use pram_model::rule::Rule;
-use pram_values::kind::Kind;
-use pram_values::place::Place;
-use superstep_code::code::Code;
-use superstep_code::instr::Side;
-use superstep_machine::key::{Key, least};
+use pram_model::Rule;
+use pram_values::{Kind, Place};
+use superstep_code::{Code, Side};
+use superstep_machine::{Key, least};
 use superstep_steps::{Moment, Read, verdict_on};
 
 // A fault of several processors at a cell.
@@ -71,8 +69,8 @@ fn owed(code: &Code, machine: &Machine) -> Option<Key>
 }
 
 // The cell that a processor asks for by read k.
-fn cell_at(k: usize, asks: &Vec<Option<u32>>) -> Option<u32>
-    ensures { result ≡ spec.cell_at k asks.now.items }
+fn cell_at(k: usize, asks: &[Option<u32>]) -> Option<u32>
+    ensures { result ≡ spec.cell_at k asks.now }
 {
     match asks.get(k) {
         Some(cell) => *cell,
@@ -108,9 +106,9 @@ fn asks(x: &ProcessorState, k: usize, cell: u32) -> Option<bool>
 }
 
 // How many processors ask for a cell by read k: none, one, or two and more.
-fn askers(processors: &Vec<ProcessorState>, k: usize, cell: u32) -> Option<bool>
-    ensures { result ≡ total None spec.several (λ v. spec.asks_for cell (spec.cell_at k (own_of processors.now.items v).asks))
-        (range_with_len 0 (length processors.now.items)) }
+fn askers(processors: &[ProcessorState], k: usize, cell: u32) -> Option<bool>
+    ensures { result ≡ total None spec.several (λ v. spec.asks_for cell (spec.cell_at k (own_of processors.now v).asks))
+        (range_with_len 0 (length processors.now)) }
 {
     let mut came = None;
     let mut v = processors.len();

@@ -16,25 +16,22 @@ use crate::machine::Machine;
 use crate::processor::{ProcessorState, fresh, step_own};
 use crate::processor_fault::{own_key, own_write};
 use std::alloc::{AllocError, Global};
-use superstep_code::code::Code;
-use superstep_code::instr::Instr;
-use superstep_machine::key::{Key, least};
+use superstep_code::{Code, Instr};
+use superstep_machine::{Key, least};
 use superstep_steps::{
     UniformState, index_of, step_uniform, uniform_key, uniform_write, with_writer,
 };
-use write_rules::entry::Entry;
-use write_rules::under::{RuleBody, under};
-use write_rules::write_rule::WriteRule;
+use write_rules::{Entry, RuleBody, WriteRule, under};
 
 // The least key that is noted on the processors.
 fn own_keys(
     code: &Code,
     instr: Instr,
     u: &UniformState,
-    processors: &Vec<ProcessorState>,
+    processors: &[ProcessorState],
 ) -> Option<Key>
-    requires { length processors.now.items ≡ u.now.width }
-    ensures { result ≡ total None spec_least (λ v. spec.own_key code.now instr (uniform_of u.now) v (own_of processors.now.items v))
+    requires { length processors.now ≡ u.now.width }
+    ensures { result ≡ total None spec_least (λ v. spec.own_key code.now instr (uniform_of u.now) v (own_of processors.now v))
         (range_with_len 0 u.now.width) }
 {
     let mut noted = None;
@@ -72,15 +69,15 @@ fn own_writes<R: WriteRule>(
     code: &Code,
     instr: Instr,
     u: &UniformState,
-    processors: &Vec<ProcessorState>,
+    processors: &[ProcessorState],
     held: &mut Vec<Option<Entry>>,
 )
-    requires room { length processors.now.items ≡ u.now.width }
+    requires room { length processors.now ≡ u.now.width }
     requires none { (c : ℕ) → held_of held.old.items c ≡ None }
     ensures cells { length held.new.items ≡ length held.old.items }
     ensures written { (c : ℕ) → c < length held.old.items → held_of held.new.items c
         ≡ total None (spec_join (R.rule rule.now)) (λ v. single_to (R.rule rule.now) c (spec.index_of (uniform_of u.now) v)
-        (spec.own_write code.now instr (own_of processors.now.items v))) (range_with_len 0 u.now.width) }
+        (spec.own_write code.now instr (own_of processors.now v))) (range_with_len 0 u.now.width) }
 {
     let mut v = u.width;
     'processors: while v > 0 {

@@ -1,9 +1,9 @@
 //! The flat machine.
 
 use crate::processor::ProcessorState;
-use superstep_machine::key::Key;
+use superstep_machine::Key;
 use superstep_steps::UniformState;
-use write_rules::entry::Entry;
+use write_rules::Entry;
 
 /// The flat machine: the uniform part, the processors of the range, the value of each cell, what
 /// the writers that are held for a cell come to, and the least key that was noted.

@@ -7,10 +7,9 @@ ghost use Rattle.superstep_machine.specs.Steps as spec;
 ghost use Rattle.superstep_steps.specs.Views.{uniform_of};
 ghost use Rattle.flat_run.specs.Views.{part_of};
 
-use pram_values::truth::is_true;
+use pram_values::is_true;
 use std::alloc::{AllocError, Global};
-use superstep_code::code::Code;
-use superstep_code::instr::{Instr, Side};
+use superstep_code::{Code, Instr, Side};
 use superstep_steps::{
     UniformState, computed_on, index_of, register, set_number, set_result, zero_without,
 };
@@ -39,8 +38,8 @@ pub fn fresh(alloc: Global) -> ProcessorState
 }
 
 // Whether a processor is active under these masks.
-fn under(masks: &Vec<bool>) -> bool
-    ensures { result ≡ spec.under (reverse masks.now.items) }
+fn under(masks: &[bool]) -> bool
+    ensures { result ≡ spec.under (reverse masks.now) }
 {
     let depth = masks.len();
     if depth == 0 {

@@ -6,11 +6,9 @@ ghost use Rattle.superstep_steps.specs.Views.{uniform_of};
 ghost use Rattle.flat_run.specs.Views.{part_of};
 
 use crate::processor::{ProcessorState, cell_for, is_active};
-use pram_values::kind::Kind;
-use pram_values::place::Place;
-use superstep_code::code::Code;
-use superstep_code::instr::{Instr, Side};
-use superstep_machine::key::Key;
+use pram_values::{Kind, Place};
+use superstep_code::{Code, Instr, Side};
+use superstep_machine::Key;
 use superstep_steps::{
     UniformState, computed_on, fault_at, index_of, missing, position_of, register, write_to,
     wrong_in,

@@ -15,9 +15,9 @@ use crate::run::{Run, Stand};
 use crate::step::step;
 use crate::verdict::outcome;
 use std::alloc::{AllocError, Global};
-use superstep_code::code::Code;
+use superstep_code::Code;
 use superstep_steps::{make_room, open_uniform};
-use write_rules::outcome::Outcome;
+use write_rules::Outcome;
 
 // The memory at the beginning: the first cells have the values of the input, and the others 0.
 fn open_memory(alloc: Global, cells: u32, input: &[i64]) -> Result<Vec<i64>, AllocError>

@@ -11,17 +11,17 @@ ghost use Rattle.flat_run.specs.Views.{part_of, own_of, flat_of, IsSized, AreSam
 use crate::machine::Machine;
 use crate::processor::ProcessorState;
 use std::alloc::AllocError;
-use superstep_code::code::Code;
+use superstep_code::Code;
 use superstep_steps::{Read, UniformState, set_number, value_at};
 
 // A register after its value came; without a cell it keeps what it holds.
 fn answer(
-    memory: &Vec<i64>,
+    memory: &[i64],
     registers: &mut Vec<i64>,
     destination: u16,
     cell: Option<u32>,
 ) -> Result<(), AllocError>
-    ensures { OnOk result (registers_of registers.new.items ≡ spec.answer (λ c. registers_of memory.now.items c) destination cell
+    ensures { OnOk result (registers_of registers.new.items ≡ spec.answer (λ c. registers_of memory.now c) destination cell
         (registers_of registers.old.items)) }
 {
     match cell {
@@ -32,13 +32,13 @@ fn answer(
 
 // The answers to the reads of the uniform part.
 fn answer_uniform(
-    memory: &Vec<i64>,
+    memory: &[i64],
     registers: &mut Vec<i64>,
-    awaited: &Vec<Read>,
+    awaited: &[Read],
 ) -> Result<(), AllocError>
     ensures { OnOk result (registers_of registers.new.items
-        ≡ spec.answers (λ k c. registers_of memory.now.items c) 0
-        (map (λ (x : SpecRead). (x.destination, x.cell)) (map read_is awaited.now.items)) (registers_of registers.old.items)) }
+        ≡ spec.answers (λ k c. registers_of memory.now c) 0
+        (map (λ (x : SpecRead). (x.destination, x.cell)) (map read_is awaited.now)) (registers_of registers.old.items)) }
 {
     let mut k = 0;
     'reads: while k < awaited.len() {
@@ -51,13 +51,13 @@ fn answer_uniform(
 
 // The answers to the reads of a processor.
 fn answer_own(
-    memory: &Vec<i64>,
+    memory: &[i64],
     registers: &mut Vec<i64>,
-    awaited: &Vec<Read>,
-    cells: &Vec<Option<u32>>,
+    awaited: &[Read],
+    cells: &[Option<u32>],
 ) -> Result<(), AllocError>
     ensures { OnOk result (registers_of registers.new.items
-        ≡ spec.answers (λ k c. registers_of memory.now.items c) 0 (zip (spec.destinations (map read_is awaited.now.items)) cells.now.items)
+        ≡ spec.answers (λ k c. registers_of memory.now c) 0 (zip (spec.destinations (map read_is awaited.now)) cells.now)
         (registers_of registers.old.items)) }
 {
     let mut k = 0;
@@ -68,12 +68,8 @@ fn answer_own(
     Ok(())
 }
 
-fn reply_own(
-    memory: &Vec<i64>,
-    awaited: &Vec<Read>,
-    x: &mut ProcessorState,
-) -> Result<(), AllocError>
-    ensures { OnOk result (part_of x.new ≡ spec.own_answered (λ k c. registers_of memory.now.items c) (map read_is awaited.now.items)
+fn reply_own(memory: &[i64], awaited: &[Read], x: &mut ProcessorState) -> Result<(), AllocError>
+    ensures { OnOk result (part_of x.new ≡ spec.own_answered (λ k c. registers_of memory.now c) (map read_is awaited.now)
         (part_of x.old)) }
 {
     answer_own(memory, &mut x.registers, awaited, &x.awaited)?;
@@ -82,13 +78,13 @@ fn reply_own(
 }
 
 fn reply_processors(
-    memory: &Vec<i64>,
-    awaited: &Vec<Read>,
+    memory: &[i64],
+    awaited: &[Read],
     processors: &mut Vec<ProcessorState>,
 ) -> Result<(), AllocError>
     ensures count { OnOk result (length processors.new.items ≡ length processors.old.items) }
     ensures each { OnOk result ((v : ℕ) → v < length processors.old.items → own_of processors.new.items v
-        ≡ spec.own_answered (λ k c. registers_of memory.now.items c) (map read_is awaited.now.items) (own_of processors.old.items v)) }
+        ≡ spec.own_answered (λ k c. registers_of memory.now c) (map read_is awaited.now) (own_of processors.old.items v)) }
 {
     let mut v = 0;
     'processors: while v < processors.len() {
@@ -98,8 +94,8 @@ fn reply_processors(
     Ok(())
 }
 
-fn reply_uniform(memory: &Vec<i64>, u: &mut UniformState) -> Result<(), AllocError>
-    ensures { OnOk result (uniform_of u.new ≡ spec.uniform_answered (λ k c. registers_of memory.now.items c) (uniform_of u.old)) }
+fn reply_uniform(memory: &[i64], u: &mut UniformState) -> Result<(), AllocError>
+    ensures { OnOk result (uniform_of u.new ≡ spec.uniform_answered (λ k c. registers_of memory.now c) (uniform_of u.old)) }
 {
     answer_uniform(memory, &mut u.registers, &u.awaited)?;
     u.awaited.clear();

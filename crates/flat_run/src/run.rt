@@ -1,7 +1,7 @@
 //! A run of the flat machine between two instructions.
 
 use crate::machine::Machine;
-use superstep_machine::key::Key;
+use superstep_machine::Key;
 
 /// How it stands with a run.
 #[derive(Clone, Copy, Debug, PartialEq, Eq)]

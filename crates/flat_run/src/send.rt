@@ -11,14 +11,14 @@ use crate::conflict::conflicts;
 use crate::instruct::none_held;
 use crate::machine::Machine;
 use crate::processor::ProcessorState;
-use pram_model::rule::Rule;
-use pram_values::kind::Kind;
+use pram_model::Rule;
+use pram_values::Kind;
 use std::alloc::{AllocError, Global};
 use std::mem;
-use superstep_code::code::Code;
-use superstep_machine::key::least;
+use superstep_code::Code;
+use superstep_machine::least;
 use superstep_steps::{UniformState, value_at, verdict_on};
-use write_rules::entry::Entry;
+use write_rules::Entry;
 
 // A cell that nobody writes keeps its value, and so does one in conflict.
 fn settled(verdict: Option<Result<i64, Kind>>, old: i64) -> i64
@@ -32,10 +32,10 @@ fn settled(verdict: Option<Result<i64, Kind>>, old: i64) -> i64
 }
 
 // Each cell gets what its writers leave.
-fn settle(rule: Rule, held: &Vec<Option<Entry>>, memory: &mut Vec<i64>)
-    requires { length held.now.items ≤ length memory.old.items }
+fn settle(rule: Rule, held: &[Option<Entry>], memory: &mut Vec<i64>)
+    requires { length held.now ≤ length memory.old.items }
     ensures cells { length memory.new.items ≡ length memory.old.items }
-    ensures each { (c : ℕ) → registers_of memory.new.items c ≡ spec.settled (spec.verdict_on rule (held_of held.now.items c))
+    ensures each { (c : ℕ) → registers_of memory.new.items c ≡ spec.settled (spec.verdict_on rule (held_of held.now c))
         (registers_of memory.old.items c) }
 {
     let mut c = 0;

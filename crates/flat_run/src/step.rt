@@ -15,11 +15,10 @@ use crate::reply::reply;
 use crate::run::{Run, Stand};
 use crate::send::send;
 use crate::vote::vote;
-use pram_values::truth::is_true;
+use pram_values::is_true;
 use std::alloc::{AllocError, Global};
-use superstep_code::code::Code;
-use superstep_code::instr::Instr;
-use superstep_machine::key::Key;
+use superstep_code::{Code, Instr};
+use superstep_machine::Key;
 use superstep_steps::{Moment, register};
 
 // Whether a put is held.

@@ -10,10 +10,9 @@ ghost use Rattle.flat_run.specs.RunViews.{state_of, verdict_in};
 
 use crate::run::{Run, Stand};
 use std::alloc::{AllocError, Global};
-use superstep_code::code::Code;
-use superstep_machine::key::Key;
-use write_rules::fault::Fault;
-use write_rules::outcome::Outcome;
+use superstep_code::Code;
+use superstep_machine::Key;
+use write_rules::{Fault, Outcome};
 
 fn fault_of(key: Key) -> Fault
     ensures { result ≡ spec.fault_of key }
@@ -36,8 +35,8 @@ fn add_below(found: &mut Vec<i64>, count: u32, item: &(u32, i64)) -> Result<(), 
 }
 
 // The items of an output, those of statements before that count.
-fn items_below(alloc: Global, count: u32, output: &Vec<(u32, i64)>) -> Result<Vec<i64>, AllocError>
-    ensures { IfOk result (λ found. found.items ≡ spec.items_below count output.now.items) }
+fn items_below(alloc: Global, count: u32, output: &[(u32, i64)]) -> Result<Vec<i64>, AllocError>
+    ensures { IfOk result (λ found. found.items ≡ spec.items_below count output.now) }
 {
     let mut found = Vec::new(alloc);
     for item in output {
@@ -47,8 +46,8 @@ fn items_below(alloc: Global, count: u32, output: &Vec<(u32, i64)>) -> Result<Ve
 }
 
 // All items of an output.
-fn items(alloc: Global, output: &Vec<(u32, i64)>) -> Result<Vec<i64>, AllocError>
-    ensures { IfOk result (λ found. found.items ≡ spec.items output.now.items) }
+fn items(alloc: Global, output: &[(u32, i64)]) -> Result<Vec<i64>, AllocError>
+    ensures { IfOk result (λ found. found.items ≡ spec.items output.now) }
 {
     let mut found = Vec::new(alloc);
     for item in output {

@@ -8,13 +8,13 @@ ghost use Rattle.flat_run.specs.Views.{own_of, flat_of, IsSized, AreSame};
 
 use crate::machine::Machine;
 use crate::processor::{ProcessorState, is_active};
-use pram_values::truth::truth;
+use pram_values::truth;
 use std::alloc::AllocError;
-use superstep_code::code::Code;
+use superstep_code::Code;
 use superstep_steps::set_number;
 
-fn any_active(processors: &Vec<ProcessorState>) -> bool
-    ensures { result ≡ list_any (λ v. spec.is_active (own_of processors.now.items v)) (range_with_len 0 (length processors.now.items)) }
+fn any_active(processors: &[ProcessorState]) -> bool
+    ensures { result ≡ list_any (λ v. spec.is_active (own_of processors.now v)) (range_with_len 0 (length processors.now)) }
 {
     let mut active = false;
     let mut v = processors.len();

@@ -5,8 +5,8 @@ use Rattle.flat_run.proofs.SumLemmas.{IsSumFrom}
 use Rattle.flat_run.proofs.conflict.askers.Given as goal
 
 abbrev pub invariant-processors : goal.invariant-processors
-invariant-processors l = IsSumFrom None several (λ v. asks_for l.cell (cell_at l.k (own_of l.processors.items v).asks))
-    (length l.processors.items) l.v l.came
+invariant-processors l = IsSumFrom None several (λ v. asks_for l.cell (cell_at l.k (own_of l.processors v).asks))
+    (length l.processors) l.v l.came
 
 abbrev pub decreases-processors : goal.decreases-processors
 decreases-processors l = l.v

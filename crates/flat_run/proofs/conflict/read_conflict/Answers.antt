@@ -1,4 +1,4 @@
-use Rattle.std.proofs.Common.{◌-◌, ◌∙◌, ◌&&◌, None, Some, cond, ap, arith}
+use Rattle.std.proofs.Common.{◌-◌, ◌∙◌, ◌&&◌, None, Some, cond, length, ap, arith}
 use Rattle.std.specs.List.{range_with_len}
 use Rattle.pram_model.specs.Layout.{total_size}
 use Rattle.pram_values.specs.declared.kind.Kind.TheVariants.{ReadConflict}
@@ -22,5 +22,7 @@ cells-preserved c =
     ∙ ap (λ a. least a c.cells.noted)
     (c.conflict_of.ensures
     ∙ ap (λ came. cond (is_private read.side && is_several came) (Some (conflict_at read.moment d ReadConflict)) None)
-    (c.askers-came.ensures ∙ ap (λ n. total None several (λ v. asks_for d (cell_at c.args.k (own_of m.processors.items v).asks))
-    (range_with_len 0 n)) c.requires.processors)))
+    (c.askers-came.ensures
+    ∙ ap (λ ps. total None several (λ v. asks_for d (cell_at c.args.k (own_of ps v).asks)) (range_with_len 0 (length ps))) c.deref.ensures.value
+    ∙ ap (λ n. total None several (λ v. asks_for d (cell_at c.args.k (own_of m.processors.items v).asks)) (range_with_len 0 n))
+    c.requires.processors)))

@@ -7,7 +7,7 @@ use Rattle.flat_run.proofs.SumLemmas.{IsSumFrom}
 use Rattle.flat_run.proofs.instruct.own_keys.Given as goal
 
 abbrev pub invariant-processors : goal.invariant-processors
-invariant-processors l = IsSumFrom None least (λ v. own_key l.code l.instr (uniform_of l.u) v (own_of l.processors.items v)) l.u.width l.v
+invariant-processors l = IsSumFrom None least (λ v. own_key l.code l.instr (uniform_of l.u) v (own_of l.processors v)) l.u.width l.v
     l.noted
 
 abbrev pub decreases-processors : goal.decreases-processors

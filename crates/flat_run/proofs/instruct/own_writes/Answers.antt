@@ -17,7 +17,7 @@ processors-preserved g c =
     let u = uniform_of c.args.u.now in
     let code = c.args.code.now in
     let rule = g.R.WriteRule.rule c.args.rule.now in
-    let ps = c.args.processors.now.items in (
+    let ps = c.args.processors.now in (
       c.add_write.ensures.cells ∙ old.0,
       (λ cell l. sum_goes None (join rule) (λ k. single_to rule cell (index_of u k)
           (own_write code c.args.instr (own_of ps k))) c.args.u.now.width c.processors.v v _ _
@@ -29,6 +29,6 @@ processors-preserved g c =
           c.index_of.ensures.value
           ∙ ap (λ w. join rule (single_to rule cell (index_of u v) w) (held_of c.processors.held.items cell))
           (c.own_write-write.ensures ∙ ap (own_write code c.args.instr)
-          (own_is ps v c.index.result.now (omega (arith, h, c.processors-test.true, c.requires.room)) c.index.ensures)))),
+          (own_is ps v c.index-processors-v.result (omega (arith, h, c.processors-test.true, c.requires.room)) c.index-processors-v.is)))),
       omega (arith, h),
     )

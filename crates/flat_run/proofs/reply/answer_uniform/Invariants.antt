@@ -7,9 +7,9 @@ use Rattle.flat_run.proofs.reply.answer_uniform.Given as goal
 
 abbrev pub invariant-reads : goal.invariant-reads
 invariant-reads l =
-    uniform_left (λ k c. registers_of l.memory.items c) l.awaited.items l.k (registers_of l.registers.items)
-    ≡ answers (λ k c. registers_of l.memory.items c) 0 (map (λ (x : Read). (x.destination, x.cell)) (map read_is l.awaited.items))
+    uniform_left (λ k c. registers_of l.memory c) l.awaited l.k (registers_of l.registers.items)
+    ≡ answers (λ k c. registers_of l.memory c) 0 (map (λ (x : Read). (x.destination, x.cell)) (map read_is l.awaited))
     (registers_of l.fn.registers.items)
 
 abbrev pub decreases-reads : goal.decreases-reads
-decreases-reads l = length l.awaited.items - l.k
+decreases-reads l = length l.awaited - l.k

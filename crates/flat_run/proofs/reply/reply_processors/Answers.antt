@@ -5,13 +5,13 @@ use Rattle.flat_run.proofs.PartLemmas.{each_starts, each_goes}
 use Rattle.flat_run.proofs.reply.reply_processors.Goals as goal
 
 pub processors-init : goal.processors-init
-processors-init c = each_starts (λ v. own_answered (λ k a. registers_of c.args.memory.now.items a)
-    (map read_is c.args.awaited.now.items)) c.args.processors.now.items
+processors-init c = each_starts (λ v. own_answered (λ k a. registers_of c.args.memory.now a)
+    (map read_is c.args.awaited.now)) c.args.processors.now.items
 
 pub processors-preserved : goal.processors-preserved
 processors-preserved c =
-    each_goes (λ v. own_answered (λ k a. registers_of c.args.memory.now.items a)
-    (map read_is c.args.awaited.now.items)) c.args.processors.now.items c.processors.processors.items c.processors.v c.index_mut.result.now
+    each_goes (λ v. own_answered (λ k a. registers_of c.args.memory.now a)
+    (map read_is c.args.awaited.now)) c.args.processors.now.items c.processors.processors.items c.processors.v c.index_mut.result.now
     c.reply_own.new.x
     c.processors.invariant (omega (arith, c.processors-test.true, c.len.ensures)) c.index_mut.ensures.value c.in_ok-reply_own.ensures
 

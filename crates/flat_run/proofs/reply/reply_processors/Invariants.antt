@@ -5,8 +5,8 @@ use Rattle.flat_run.proofs.PartLemmas.{AreEach}
 use Rattle.flat_run.proofs.reply.reply_processors.Given as goal
 
 abbrev pub invariant-processors : goal.invariant-processors
-invariant-processors l = AreEach (λ v. own_answered (λ k c. registers_of l.memory.items c)
-    (map read_is l.awaited.items)) l.fn.processors.items l.processors.items l.v
+invariant-processors l = AreEach (λ v. own_answered (λ k c. registers_of l.memory c)
+    (map read_is l.awaited)) l.fn.processors.items l.processors.items l.v
 
 abbrev pub decreases-processors : goal.decreases-processors
 decreases-processors l = length l.fn.processors.items - l.v

@@ -3,4 +3,4 @@ use Rattle.superstep_machine.specs.Run.{items}
 use Rattle.flat_run.proofs.verdict.items.Given as goal
 
 abbrev pub invariant-loop-item : goal.invariant-loop-item
-invariant-loop-item l = l.found.items ++ items (drop l.item-index l.item-items) ≡ items l.item-items
+invariant-loop-item l = l.found.items ++ items (drop l.item-index l.output) ≡ items l.output

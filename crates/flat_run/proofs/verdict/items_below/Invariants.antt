@@ -3,4 +3,4 @@ use Rattle.superstep_machine.specs.Run.{items_below}
 use Rattle.flat_run.proofs.verdict.items_below.Given as goal
 
 abbrev pub invariant-loop-item : goal.invariant-loop-item
-invariant-loop-item l = l.found.items ++ items_below l.count (drop l.item-index l.item-items) ≡ items_below l.count l.item-items
+invariant-loop-item l = l.found.items ++ items_below l.count (drop l.item-index l.output) ≡ items_below l.count l.output

@@ -18,7 +18,9 @@ returns g c =
       c.add_write.ensures.cells ∙ cells,
       (λ k l. c.add_write.ensures.written k (omega (arith, l, cells))
           ∙ ap (λ w. join rule (single_to rule k (pos 0) w) (held_of c.own_writes.new.held.items k)) c.uniform_write-write.ensures
-          ∙ ap (join rule (single_to rule k (pos 0) (uniform_write code i (uniform_of m.uniform)))) (c.own_writes.ensures.written k l)
+          ∙ ap (join rule (single_to rule k (pos 0) (uniform_write code i (uniform_of m.uniform)))) (c.own_writes.ensures.written k l
+          ∙ ap (λ ps. total None (join rule) (λ v. single_to rule k (index_of (uniform_of m.uniform) v) (own_write code i (own_of ps v)))
+          (range_with_len 0 m.uniform.width)) c.deref.ensures.value)
           ∙ ap (λ r. join r (single_to r k (pos 0) (uniform_write code i (uniform_of m.uniform)))
           (total None (join r) (λ v. single_to r k (index_of (uniform_of m.uniform) v) (own_write code i (own_of m.processors.items v)))
           (range_with_len 0 m.uniform.width))) c.requires.0),
