@@ -20,7 +20,7 @@ use Rattle.pram_meaning.specs.Attempt.{Trail}
 use Rattle.pram_meaning.specs.Conflict.{Part, conflict_of, is_conflict, lesser, read_key, reads_of, reads_on, trail_of}
 use Rattle.pram_meaning.specs.Judging.{part_is}
 use Rattle.pram_meaning.specs.Store.{numbers}
-use Rattle.pram_meaning.proofs.Groups.{past, same_number}
+use Rattle.pram_meaning.proofs.Groups.{past, other_number, same_number}
 use Rattle.pram_meaning.proofs.Swaps.{found, transposed}
 use Rattle.pram_meaning.proofs.Trails.{trail_is}
 use Rattle.pram_model.specs.declared.rule.Rule.TheVariants.{Common}
@@ -114,11 +114,8 @@ apart_by true true c h = absurd (cc h)
 apart_by true false c h = refl
 apart_by false b c h = refl
 
-other_at : (m n : ℕ) → m ≢ n → nat_eq m n ≡ false
-other_at m n h = grind arith
-
 apart : (r : Read) (i : ℤ) (at c : ℕ) → r.at ≢ at → is_conflict r (record { processor = i; at = at; cell = c }) ≡ false
-apart r i at c h = apart_by (not (is_equal r.processor i)) (nat_eq r.at at) (nat_eq r.cell c) (other_at r.at at h)
+apart r i at c h = apart_by (not (is_equal r.processor i)) (nat_eq r.at at) (nat_eq r.cell c) (other_number r.at at h)
 
 none_behind : (r : Read) (i : ℤ) (t : Trail) (k : ℕ) → r.at ≤ k → list_any (is_conflict r) (reads_on i k t) ≡ false
 none_behind r i [] k h = refl

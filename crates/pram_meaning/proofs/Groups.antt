@@ -7,6 +7,7 @@ use Rattle.std.proofs.lemmas.Bool.Decides.{eqb_tells}
 use Rattle.pram_meaning.specs.Slates.{Group, group_is, kept, kept_in, no_writes, writes_in, IsMarked, IsMore, IsPlace}
 use Rattle.pram_meaning.specs.declared.slate as rust
 use Rattle.write_rules.specs.declared.write.Write.{Write}
+use Rattle.write_rules.proofs.Writes.{same_item}
 
 pub same_number : (d : ℕ) → nat_eq d d ≡ true
 same_number d = grind arith
@@ -42,11 +43,6 @@ past [] i d h = refl
 past (x ∷ xs) zero d h = absurd (omega arith)
 past (x ∷ xs) (suc i) d h = past xs i d (omega arith)
 
-pub one_default : {X : Type 0} (xs : List X) (i : ℕ) (a b : X) → i < length xs → get_or xs i a ≡ get_or xs i b
-one_default [] i a b h = absurd (omega arith)
-one_default (x ∷ xs) zero a b h = refl
-one_default (x ∷ xs) (suc i) a b h = one_default xs i a b (omega arith)
-
 elsewhere : (groups : List Group) (g : Group) (p d : ℕ) → d ≢ g.cell →
     writes_in d (get_or (groups ++ g ∷ []) p (no_writes d)) ≡ writes_in d (get_or groups p (no_writes d))
 elsewhere [] g zero d h = not_there d g h ∙ sym (there (no_writes d))
@@ -67,13 +63,13 @@ module _ (c : ℕ) (w : Write) (old new : List ℕ) (groups : List Group) (is : 
 
   opened_here : kept_in new longer c ≡ w ∷ []
   opened_here =
-      ap (λ p. writes_in c (get_or longer p (no_writes c))) (one_default new c (length longer) (length groups) is.inside ∙ is.here)
+      ap (λ p. writes_in c (get_or longer p (no_writes c))) (same_item new c (length longer) (length groups) is.inside ∙ is.here)
       ∙ ap (writes_in c) (at_end groups own (no_writes c))
       ∙ there own
 
   opened_by : (d : ℕ) → d ≢ c → (d < length new) ⊎ (length new ≤ d) → kept_in new longer d ≡ kept_in old groups d
   opened_by d h (inl l) =
-      ap (λ p. writes_in d (get_or longer p (no_writes d))) (one_default new d (length longer) (length groups) l ∙ is.others d h)
+      ap (λ p. writes_in d (get_or longer p (no_writes d))) (same_item new d (length longer) (length groups) l ∙ is.others d h)
       ∙ elsewhere groups own (get_or old d (length groups)) d h
   opened_by d h (inr l) =
       ap (λ p. writes_in d (get_or longer p (no_writes d))) (past new d (length longer) l)
@@ -148,7 +144,7 @@ module _ (c : ℕ) (w : Write) (places : List ℕ) (groups : List Group) (place 
       (no_writes d) inside)
       ∙ other_cell d h (record { cell = c; writes = (get_or groups place (no_writes c)).writes ++ w ∷ [] }) refl
       ∙ sym (ap (λ p. writes_in d (get_or groups p (no_writes d))) (at ∙ e)
-      ∙ ap (writes_in d) (one_default groups place (no_writes d) (no_writes c) inside)
+      ∙ ap (writes_in d) (same_item groups place (no_writes d) (no_writes c) inside)
       ∙ other_cell d h (get_or groups place (no_writes c)) own)
   extended_by d h (p, at, inr e) =
       ap (λ p. writes_in d (get_or more_here p (no_writes d))) (same_places d ∙ at)

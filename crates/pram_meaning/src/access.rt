@@ -6,9 +6,9 @@ ghost use Rattle.pram_meaning.specs.Accesses as spec;
 ghost use Rattle.pram_meaning.specs.Judging.{part_is};
 
 use crate::part::Part;
-use pram_values::kind::Kind;
+use pram_values::Kind;
 use std::alloc::{AllocError, Global};
-use write_rules::write::Write;
+use write_rules::Write;
 
 /// An access to a cell, at a position counted from 1: a write; or a read, which stands as a write of
 /// the reader's own index.
@@ -47,8 +47,8 @@ fn add_write(writes: &mut Vec<Access>, x: &Part) -> Result<(), AllocError>
 
 /// The writes of a statement.
 #[tactic(auto, using(crate::proofs::Folds::build_starts, crate::proofs::Folds::build_goes, crate::proofs::Folds::build_ends))]
-pub fn collect_writes(alloc: Global, parts: &Vec<Part>) -> Result<Vec<Access>, AllocError>
-    ensures { IfOk result (λ writes. writes.items ≡ writes_made (map part_is parts.now.items)) }
+pub fn collect_writes(alloc: Global, parts: &[Part]) -> Result<Vec<Access>, AllocError>
+    ensures { IfOk result (λ writes. writes.items ≡ writes_made (map part_is parts.now)) }
 {
     let mut writes = Vec::new(alloc);
     for x in parts {
@@ -78,8 +78,8 @@ fn add_read(reads: &mut Vec<Access>, at: usize, x: &Part) -> Result<(), AllocErr
 
 /// The reads of a statement at the position after `at`.
 #[tactic(auto, using(crate::proofs::Folds::build_starts, crate::proofs::Folds::build_goes, crate::proofs::Folds::build_ends, crate::proofs::Trails::trail_is))]
-pub fn collect_reads(alloc: Global, parts: &Vec<Part>, at: usize) -> Result<Vec<Access>, AllocError>
-    ensures { IfOk result (λ reads. reads.items ≡ reads_at at (map part_is parts.now.items)) }
+pub fn collect_reads(alloc: Global, parts: &[Part], at: usize) -> Result<Vec<Access>, AllocError>
+    ensures { IfOk result (λ reads. reads.items ≡ reads_at at (map part_is parts.now)) }
 {
     let mut reads = Vec::new(alloc);
     for x in parts {
@@ -90,8 +90,8 @@ pub fn collect_reads(alloc: Global, parts: &Vec<Part>, at: usize) -> Result<Vec<
 
 /// The last position that a processor has come to.
 #[tactic(auto, using(crate::proofs::Columns::longest_starts, crate::proofs::Columns::longest_goes, crate::proofs::Columns::longest_ends))]
-pub fn last_position(parts: &Vec<Part>) -> usize
-    ensures { result ≡ spec.last_position (map part_is parts.now.items) }
+pub fn last_position(parts: &[Part]) -> usize
+    ensures { result ≡ spec.last_position (map part_is parts.now) }
 {
     let mut last = 0;
     for x in parts {

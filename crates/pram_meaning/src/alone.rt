@@ -11,11 +11,9 @@ use crate::attempt::{Effect, Failure, assignment, bounds, range, value_of};
 use crate::interpreter::Interpreter;
 use crate::run::{Halt, Run};
 use crate::view::View;
-use pram_check::body::{Expression, Target};
-use pram_check::program::Program;
-use pram_values::kind::Kind;
-use pram_values::place::Place;
-use write_rules::fault::Fault;
+use pram_check::{Expression, Program, Target};
+use pram_values::{Kind, Place};
+use write_rules::Fault;
 
 // What the one processor sees.
 fn view_of<'a>(program: &'a Program, run: &'a Run, no_locals: &'a Vec<i64>) -> View<'a>

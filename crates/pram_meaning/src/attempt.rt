@@ -8,8 +8,8 @@ ghost use Rattle.pram_meaning.specs.Runs.{view_is, IsAttempt, IsEffect, IsPair};
 
 use crate::operation::{apply, apply_before};
 use crate::view::{View, number_at};
-use pram_check::body::{Expression, StepTarget, Target};
-use pram_values::kind::Kind;
+use pram_check::{Expression, StepTarget, Target};
+use pram_values::Kind;
 
 /// Why an attempt gives no value.
 #[derive(Drop)]

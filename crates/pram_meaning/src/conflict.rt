@@ -11,9 +11,8 @@ use crate::access::{Judged, collect_reads, last_position};
 use crate::key::Key;
 use crate::part::Part;
 use crate::slate::Slate;
-use pram_syntax::rule::Rule;
-use pram_values::kind::Kind;
-use pram_values::place::Place;
+use pram_syntax::Rule;
+use pram_values::{Kind, Place};
 use std::alloc::{AllocError, Global};
 
 fn is_before(a: Key, b: Key) -> bool
@@ -56,8 +55,8 @@ fn add_fault(best: Option<Key>, x: &Part) -> Option<Key>
 
 // The least key of the processors' own faults.
 #[tactic(auto, using(crate::proofs::Folds::fold_goes, crate::proofs::Folds::fold_ends, crate::proofs::Folds::fold_starts))]
-fn add_faults(best: Option<Key>, parts: &Vec<Part>) -> Option<Key>
-    ensures { result ≡ fold lesser best (flat_map (λ x. fault_of x.processor x.attempt) (map part_is parts.now.items)) }
+fn add_faults(best: Option<Key>, parts: &[Part]) -> Option<Key>
+    ensures { result ≡ fold lesser best (flat_map (λ x. fault_of x.processor x.attempt) (map part_is parts.now)) }
 {
     let mut best = best;
     for x in parts {
@@ -100,11 +99,11 @@ fn add_conflicts_at(
     alloc: Global,
     slate: &mut Slate,
     best: Option<Key>,
-    parts: &Vec<Part>,
+    parts: &[Part],
     at: usize,
 ) -> Result<Option<Key>, AllocError>
     ensures { IfOk result (λ b. b ≡ fold lesser best
-        (flat_map shared_key (judged Rule.Common (reads_at at (map part_is parts.now.items))))) }
+        (flat_map shared_key (judged Rule.Common (reads_at at (map part_is parts.now))))) }
 {
     let reads = collect_reads(alloc, parts, at)?;
     let said = slate.judge(alloc, Rule::Common, &reads)?;
@@ -121,10 +120,10 @@ fn add_conflicts(
     alloc: Global,
     slate: &mut Slate,
     best: Option<Key>,
-    parts: &Vec<Part>,
+    parts: &[Part],
 ) -> Result<Option<Key>, AllocError>
-    ensures { IfOk result (λ b. b ≡ fold lesser best (flat_map (conflict_of (reads_of (map part_is parts.now.items)))
-        (reads_of (map part_is parts.now.items)))) }
+    ensures { IfOk result (λ b. b ≡ fold lesser best (flat_map (conflict_of (reads_of (map part_is parts.now)))
+        (reads_of (map part_is parts.now)))) }
 {
     let mut best = best;
     for at in 0..last_position(parts) {
@@ -157,10 +156,10 @@ fn add_writes(
     slate: &mut Slate,
     rule: Rule,
     best: Option<Key>,
-    parts: &Vec<Part>,
+    parts: &[Part],
 ) -> Result<Option<Key>, AllocError>
-    ensures { IfOk result (λ b. b ≡ fold lesser best (flat_map (λ x. write_conflict rule (map part_is parts.now.items) x.attempt)
-        (map part_is parts.now.items))) }
+    ensures { IfOk result (λ b. b ≡ fold lesser best (flat_map (λ x. write_conflict rule (map part_is parts.now) x.attempt)
+        (map part_is parts.now))) }
 {
     let said = slate.judge_writes(alloc, rule, parts)?;
     let mut best = best;
@@ -182,9 +181,9 @@ pub fn least_key(
     alloc: Global,
     slate: &mut Slate,
     rule: Rule,
-    parts: &Vec<Part>,
+    parts: &[Part],
 ) -> Result<Option<Key>, AllocError>
-    ensures { IfOk result (λ b. b ≡ least (keys rule (map part_is parts.now.items))) }
+    ensures { IfOk result (λ b. b ≡ least (keys rule (map part_is parts.now))) }
 {
     let mut best = add_faults(None, parts);
     if !shares(rule) {

@@ -10,7 +10,7 @@ use crate::interpreter::Interpreter;
 use crate::run::{Halt, Run};
 use crate::team::{Member, gather, numbers_below};
 use crate::together::select;
-use pram_check::body::{Expression, Step};
+use pram_check::{Expression, Step};
 
 impl<'a> Interpreter<'a> {
     /// A statement of a set, with all that it holds.

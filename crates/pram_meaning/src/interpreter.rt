@@ -1,6 +1,6 @@
 //! The reference interpreter.
 
-use pram_check::program::Program;
+use pram_check::Program;
 use std::alloc::Global;
 
 /// What stays the same through a run: the program, and the most statements that it may run.

@@ -1,7 +1,6 @@
 //! Faults of a statement on their way.
 
-use pram_values::kind::Kind;
-use pram_values::place::Place;
+use pram_values::{Kind, Place};
 
 /// A fault of a statement: its position, counted from 1, its place and its kind.
 #[derive(Clone, Copy)]

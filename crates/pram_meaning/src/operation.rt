@@ -3,12 +3,11 @@
 ghost use Rattle.std.specs.Prelude.{◌≡◌};
 ghost use Rattle.pram_meaning.specs.Operation.{operate, operate_before};
 
-use pram_syntax::token::Binary;
-use pram_syntax::tree::Prefix;
-use pram_values::arithmetic::{add, multiply, negate, subtract};
-use pram_values::division::{divide, remainder};
-use pram_values::kind::Kind;
-use pram_values::truth::{at_most, both, either, equal, less, negation, unequal};
+use pram_syntax::{Binary, Prefix};
+use pram_values::{
+    Kind, add, at_most, both, divide, either, equal, less, multiply, negate, negation, remainder,
+    subtract, unequal,
+};
 
 /// What an operator gives on two values.
 pub fn apply(operator: Binary, x: i64, y: i64) -> Result<i64, Kind>

@@ -10,8 +10,8 @@ ghost use Rattle.pram_meaning.specs.Runs.{state_of, IsBehaviour};
 
 use crate::interpreter::Interpreter;
 use crate::run::{Halt, Run, set_number};
-use pram_check::body::{Expression, Statement, Step, Target};
-use pram_values::truth::is_true;
+use pram_check::{Expression, Statement, Step, Target};
+use pram_values::is_true;
 
 // The numbers from `next` to `last`.
 #[derive(Clone, Copy)]

@@ -1,7 +1,7 @@
 //! Parts of processors in a statement.
 
 use crate::attempt::Effect;
-use pram_values::kind::Kind;
+use pram_values::Kind;
 
 /// A processor's part in a statement: its number among the members, its index, the cells that it
 /// read by position, and what its attempt gave.

@@ -8,10 +8,10 @@ ghost use Rattle.pram_meaning.specs.Outcome.{IsOutcome};
 use crate::interpreter::Interpreter;
 use crate::run::{Halt, Run, add_zeros, zeros};
 use crate::slate::Slate;
-use pram_check::program::Program;
+use pram_check::Program;
 use std::alloc::{AllocError, Global};
 use thiserror::Error;
-use write_rules::outcome::Outcome;
+use write_rules::Outcome;
 
 /// Why a run is refused.
 #[derive(Clone, Copy, Debug, Drop, PartialEq, Eq, Error)]

@@ -3,11 +3,9 @@
 ghost use Rattle.std.specs.Prelude.{◌≡◌};
 ghost use Rattle.write_rules.specs.Rule.{written};
 
-use pram_syntax::rule::Rule;
-use pram_values::kind::Kind;
-use write_rules::under::{RuleBody, under};
-use write_rules::write::Write;
-use write_rules::write_rule::WriteRule;
+use pram_syntax::Rule;
+use pram_values::Kind;
+use write_rules::{RuleBody, Write, WriteRule, under};
 
 // The writes to a cell, with its value before them.
 #[derive(Drop)]

@@ -4,7 +4,7 @@ ghost use Rattle.std.specs.Prelude.{◌≡◌, ◌++◌, IfOk, OnOk, pos, slice_
 
 use crate::slate::Slate;
 use std::alloc::{AllocError, Global};
-use write_rules::fault::Fault;
+use write_rules::Fault;
 
 /// A run between two statements: how many have run, the output, the uniform variables and the cells;
 /// and the slate of its statements.

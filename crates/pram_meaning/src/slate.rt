@@ -9,10 +9,10 @@ ghost use Rattle.pram_meaning.specs.Slates.{kept, groups_of, IsPlace, IsMarked, 
 use crate::access::{Access, Judged, collect_writes};
 use crate::part::Part;
 use crate::rule::value_after;
-use pram_syntax::rule::Rule;
-use pram_values::kind::Kind;
+use pram_syntax::Rule;
+use pram_values::Kind;
 use std::alloc::{AllocError, Global};
-use write_rules::write::Write;
+use write_rules::Write;
 
 // The writes to one cell.
 #[derive(Drop)]
@@ -119,8 +119,8 @@ impl Slate {
 
     // The writes of all accesses.
     #[tactic(auto, using(crate::proofs::Gathers::gather_starts, crate::proofs::Gathers::gather_goes, crate::proofs::Gathers::gather_ends))]
-    fn gather(&mut self, alloc: Global, all: &Vec<Access>) -> Result<(), AllocError>
-        ensures { OnOk result (IsGathered all.now.items self.new) }
+    fn gather(&mut self, alloc: Global, all: &[Access]) -> Result<(), AllocError>
+        ensures { OnOk result (IsGathered all.now self.new) }
     {
         self.groups.clear();
         for access in all {
@@ -143,8 +143,8 @@ impl Slate {
 
     // What the rule says to the writes to a cell.
     #[tactic(auto, using(crate::proofs::Gathers::verdict_there, crate::proofs::Gathers::verdict_past, crate::proofs::Gathers::verdict_none))]
-    fn verdict_on(&self, verdicts: &Vec<Result<i64, Kind>>, cell: u32) -> Result<i64, Kind>
-        ensures { (rule : Rule) → verdicts.now.items ≡ map (λ g. written rule (pos 0) g.writes) (groups_of self.now) →
+    fn verdict_on(&self, verdicts: &[Result<i64, Kind>], cell: u32) -> Result<i64, Kind>
+        ensures { (rule : Rule) → verdicts.now ≡ map (λ g. written rule (pos 0) g.writes) (groups_of self.now) →
             result ≡ written rule (pos 0) (kept self.now cell) }
     {
         match self.find(cell) {
@@ -162,9 +162,9 @@ impl Slate {
         &mut self,
         alloc: Global,
         rule: Rule,
-        all: &Vec<Access>,
+        all: &[Access],
     ) -> Result<Vec<Judged>, AllocError>
-        ensures { IfOk result (λ said. said.items ≡ judged rule all.now.items) }
+        ensures { IfOk result (λ said. said.items ≡ judged rule all.now) }
     {
         self.gather(alloc, all)?;
         let verdicts = self.settle(alloc, rule)?;
@@ -184,9 +184,9 @@ impl Slate {
         &mut self,
         alloc: Global,
         rule: Rule,
-        parts: &Vec<Part>,
+        parts: &[Part],
     ) -> Result<Vec<Judged>, AllocError>
-        ensures { IfOk result (λ said. said.items ≡ judged rule (writes_made (map part_is parts.now.items))) }
+        ensures { IfOk result (λ said. said.items ≡ judged rule (writes_made (map part_is parts.now))) }
     {
         let writes = collect_writes(alloc, parts)?;
         self.judge(alloc, rule, &writes)

@@ -81,8 +81,8 @@ fn set_local(team: &mut Vec<Member>, place: usize, x: &Part)
 
 /// A local of each processor gets its value.
 #[tactic(auto, using(crate::proofs::Sets::locals_start, crate::proofs::Sets::locals_go, crate::proofs::Sets::locals_end))]
-pub fn set_locals(team: &mut Vec<Member>, place: usize, parts: &Vec<Part>)
-    ensures { map member_is team.new.items ≡ spec.with_locals place (map part_is parts.now.items) (map member_is team.old.items) }
+pub fn set_locals(team: &mut Vec<Member>, place: usize, parts: &[Part])
+    ensures { map member_is team.new.items ≡ spec.with_locals place (map part_is parts.now) (map member_is team.old.items) }
 {
     for x in parts {
         set_local(team, place, x);

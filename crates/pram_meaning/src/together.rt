@@ -18,11 +18,11 @@ use crate::run::{Halt, Run, set_number};
 use crate::slate::Slate;
 use crate::team::{Member, set_locals, value_in};
 use crate::view::View;
-use pram_check::body::{Expression, StepTarget};
-use pram_syntax::rule::Rule;
-use pram_values::truth::is_true;
+use pram_check::{Expression, StepTarget};
+use pram_syntax::Rule;
+use pram_values::is_true;
 use std::alloc::{AllocError, Global};
-use write_rules::fault::Fault;
+use write_rules::Fault;
 
 impl<'a> Interpreter<'a> {
     // One processor's attempt at an assignment.
@@ -169,9 +169,9 @@ fn overwrite(
     slate: &mut Slate,
     rule: Rule,
     cells: &mut Vec<i64>,
-    parts: &Vec<Part>,
+    parts: &[Part],
 ) -> Result<(), AllocError>
-    ensures { OnOk result (cells.new.items ≡ overwritten rule (map part_is parts.now.items) 0 cells.old.items) }
+    ensures { OnOk result (cells.new.items ≡ overwritten rule (map part_is parts.now) 0 cells.old.items) }
 {
     let said = slate.judge_writes(alloc, rule, parts)?;
     for one in &said {

@@ -2,7 +2,7 @@
 
 ghost use Rattle.std.specs.Prelude.{◌≡◌, slice_index_or, pos};
 
-use pram_syntax::layout::Layout;
+use pram_syntax::Layout;
 
 /// What one processor sees before a statement.
 #[derive(Clone, Copy)]
@@ -15,8 +15,8 @@ pub struct View<'a> {
 }
 
 /// The number at a place, 0 where there is none.
-pub fn number_at(items: &Vec<i64>, place: usize) -> i64
-    ensures { result ≡ slice_index_or items.now.items place (pos 0) }
+pub fn number_at(items: &[i64], place: usize) -> i64
+    ensures { result ≡ slice_index_or items.now place (pos 0) }
 {
     match items.get(place) {
         Some(value) => *value,

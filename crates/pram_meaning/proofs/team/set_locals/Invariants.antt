@@ -4,4 +4,4 @@ use Rattle.pram_meaning.proofs.Sets.{InLocals}
 use Rattle.pram_meaning.proofs.team.set_locals.Given as goal
 
 abbrev pub invariant-loop-x : goal.invariant-loop-x
-invariant-loop-x l = InLocals l.place l.x-items l.x-index (map member_is l.fn.team.items) (map member_is l.team.items)
+invariant-loop-x l = InLocals l.place l.parts l.x-index (map member_is l.fn.team.items) (map member_is l.team.items)

@@ -6,5 +6,5 @@ use Rattle.pram_meaning.proofs.together.overwrite.Given as goal
 
 abbrev pub invariant-loop-one : goal.invariant-loop-one
 invariant-loop-one l =
-    InOver l.fn.rule (writes_made (map part_is l.fn.parts.items)) (drop l.one-index (writes_made (map part_is l.fn.parts.items)))
+    InOver l.fn.rule (writes_made (map part_is l.fn.parts)) (drop l.one-index (writes_made (map part_is l.fn.parts)))
     l.fn.cells.items l.cells.items
