@@ -2,6 +2,7 @@
 use Rattle.std.proofs.Common.{◌≡◌, ℕ, zero, suc, ◌+◌, List, [], ◌∷◌, length, Bool, true, false, not, eqb, Option, Some, None, ℤ, refl, sym}
 use Rattle.std.proofs.Common.{ap, ◌∙◌, subst, ⊎_elim, ◌⊎◌, inl, inr}
 use Rattle.std.specs.Prelude.{if◌then◌else◌, ◌&&◌, nat_lt, slice_get}
+use Rattle.std.proofs.lemmas.List.{nil_from_length}
 use Rattle.std.proofs.lemmas.List.{length-append}
 use Rattle.pram_values.specs.Truth.{is_nonzero}
 use Rattle.superstep_code.specs.declared.instr.Side.TheVariants.{Uniform, Private}
@@ -30,7 +31,7 @@ use Rattle.bsp_verify.specs.Runs.{worker_after, IsOnPath, MayExchange, RunsAreSo
 use Rattle.superstep_machine.specs.Sides.{HaveOneSide}
 use Rattle.bsp_verify.specs.Moments.{walked, DescribesWorker, IsDescribed, MomentsAreSound, ReadsHaveOneSide, SentReadsHaveOneSide}
 use Rattle.bsp_verify.proofs.PathLemmas.{is_zero, paths_sound, not_both}
-use Rattle.bsp_verify.proofs.WorkerLemmas.{one_side, none_of, none_came, Works, acts_worker, sent_worker, replied_worker, voted_worker}
+use Rattle.bsp_verify.proofs.WorkerLemmas.{one_side, none_came, Works, acts_worker, sent_worker, replied_worker, voted_worker}
 use Rattle.bsp_verify.proofs.WorkerLemmas.{opening_worker}
 use Rattle.pram_model.proofs.Truths.{both}
 use Rattle.std.proofs.lemmas.Bool.{not-true}
@@ -126,18 +127,18 @@ module _ (s : State) (u : UniformPart) (d : Describes s u) where
 
   no_reads : (i : Instr) → fits_exchange i s ≡ (not s.awaits && eqb s.asks 0) → fits_exchange i s ≡ true → (u.awaited ≡ []) × (u.asks ≡ [])
   no_reads i e h = let b = both (not s.awaits) (eqb s.asks 0) (sym e ∙ h) in
-      (nothing_awaited (not-true s.awaits b.0), none_of u.asks (d.asks ∙ is_zero s.asks b.1))
+      (nothing_awaited (not-true s.awaits b.0), nil_from_length u.asks (d.asks ∙ is_zero s.asks b.1))
 
   may : (stop : Stop) (i : Instr) → StopsBy stop i → fits_exchange i s ≡ true → MayExchange stop u
   may ToSend i e h = nothing_awaited (not-true s.awaits (subst (λ (j : Instr). fits_exchange j s ≡ true) e h))
   may ToReply i e h =
       let a = subst (λ (j : Instr). fits_exchange j s ≡ true) e h in
       let b = d.alone a in
-      (some_came u.awaited (d.awaited ∙ a), none_of u.asks (d.asks ∙ b.0), no_put u.put (d.put ∙ b.1))
+      (some_came u.awaited (d.awaited ∙ a), nil_from_length u.asks (d.asks ∙ b.0), no_put u.put (d.put ∙ b.1))
   may (ToVote x) i e h =
       let a = both (not s.awaits) (eqb s.asks 0 && not s.put) (subst (λ (j : Instr). fits_exchange j s ≡ true) e h) in
       let b = both (eqb s.asks 0) (not s.put) a.1 in
-      (nothing_awaited (not-true s.awaits a.0), none_of u.asks (d.asks ∙ is_zero s.asks b.0), no_put u.put (d.put ∙ not-true s.put b.1))
+      (nothing_awaited (not-true s.awaits a.0), nil_from_length u.asks (d.asks ∙ is_zero s.asks b.0), no_put u.put (d.put ∙ not-true s.put b.1))
   may (ToClose ended) i e h =
       ⊎_elim (λ x. no_reads Halt refl (subst (λ (j : Instr). fits_exchange j s ≡ true) x h))
       (λ x. no_reads (Mark x.0) refl (subst (λ (j : Instr). fits_exchange j s ≡ true) x.1 h)) e

@@ -3,6 +3,7 @@ use Rattle.std.proofs.Common.{◌≡◌, ℕ, ◌+◌, ◌-◌, ◌≤◌, List,
 use Rattle.std.proofs.Common.{sym, ap, ◌∙◌, subst, arith}
 use Rattle.std.specs.Prelude.{if◌then◌else◌, ◌&&◌, nat_le, nat_lt}
 use Rattle.std.specs.List.{AllByRecursion, zip}
+use Rattle.std.proofs.lemmas.List.{nil_from_length}
 use Rattle.std.proofs.lemmas.Bool.Decides.{nat_tests}
 use Rattle.std.proofs.lemmas.List.{length-append, length-map}
 use Rattle.pram_model.specs.Layout.{width}
@@ -52,10 +53,6 @@ pub length-numbered : (g : ℕ × PrivatePart → PrivatePart) (vs : List ℕ) (
 length-numbered g [] ys h = refl
 length-numbered g (v ∷ vs) [] h = absurd (omega (arith, h))
 length-numbered g (v ∷ vs) (y ∷ ys) h = let r = length-numbered g vs ys (omega (arith, h)) in omega (arith, r)
-
-pub none_of : {A : Type 0} (xs : List A) → length xs ≡ 0 → xs ≡ []
-none_of [] h = refl
-none_of (x ∷ xs) h = absurd (omega (arith, h))
 
 pub none_came : {A : Type 0} (xs : List A) → nat_lt 0 (length xs) ≡ false → xs ≡ []
 none_came [] h = refl
@@ -145,7 +142,7 @@ module _ (t : Setting) (w : ℕ) (s : State) (x : Worker) (d : DescribesWorker t
     asks_zero = is_zero s.asks (both (not s.awaits) (eqb s.asks 0) quiet).1
 
     no_asks : x.uniform.asks ≡ []
-    no_asks = none_of x.uniform.asks (d.asks ∙ asks_zero)
+    no_asks = nil_from_length x.uniform.asks (d.asks ∙ asks_zero)
 
     none_awaited : x.uniform.awaited ≡ []
     none_awaited = none_came x.uniform.awaited (d.awaited ∙ not-true s.awaits (both (not s.awaits) (eqb s.asks 0) quiet).0)
@@ -329,7 +326,7 @@ one_side t w s x d = go s.entered refl
     go true e = private_sides x.own 0 x.uniform.asks (subst (λ (b : Bool). AllByRecursion (λ (r : Read). r.side ≡ side_of b) x.uniform.asks)
         e d.asks_side) d.asks_own
     go false e =
-        let none : x.own ≡ [] = none_of x.own (d.processors ∙ ap (λ n. length (processors t w n)) (d.outside e)) in
+        let none : x.own ≡ [] = nil_from_length x.own (d.processors ∙ ap (λ n. length (processors t w n)) (d.outside e)) in
         subst (λ own. HaveOneSide own 0 x.uniform.asks) (sym none)
         (uniform_sides 0 x.uniform.asks (subst (λ (b : Bool). AllByRecursion (λ (r : Read). r.side ≡ side_of b) x.uniform.asks) e
         d.asks_side))

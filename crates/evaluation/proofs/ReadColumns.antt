@@ -19,7 +19,8 @@ use Rattle.pram_meaning.specs.Conflict.{Part, conflict_of, is_conflict, read_key
 use Rattle.evaluation.specs.Whole.{Whole, cut}
 use Rattle.evaluation.specs.Noted.{Heading, moment}
 use Rattle.evaluation.specs.Told.{told}
-use Rattle.evaluation.proofs.Sums.{on, is_at, IsBelow, total_flat, total_swap, by_number, total_each}
+use Rattle.evaluation.proofs.Sums.{on, is_at, IsBelow, total_flat, by_number}
+use Rattle.pram_values.proofs.Totals.{total_swap, total_each}
 use Rattle.evaluation.proofs.Cuts.{left, trail_left, left_length}
 use Rattle.evaluation.proofs.Askers.{IsApart, other, askers, told_once}
 

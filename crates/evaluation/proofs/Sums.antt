@@ -3,7 +3,7 @@ use Rattle.std.proofs.Common.{◌≡◌, ℕ, ◌<◌, List, [], ◌∷◌, Bool
 use Rattle.std.proofs.lemmas.Bool.Decides.{nat_tests}
 use Rattle.std.specs.List.{flat_map, range_with_len, AllByRecursion}
 use Rattle.pram_values.specs.Total.{IsMonoid, total}
-use Rattle.pram_values.proofs.Totals.{total_same, total_both, total_none, total_joined, total_at}
+use Rattle.pram_values.proofs.Totals.{total_same, total_none, total_joined, total_at, total_swap}
 
 -- what a function gives for something that may be missing
 abbrev pub on : {A M : Type 0} → M → (A → M) → Option A → M
@@ -24,12 +24,6 @@ module _ {M : Type 0} (e : M) (op : M → M → M) (m : IsMonoid M e op) where
       total e op f (flat_map g xs) ≡ total e op (λ x. total e op f (g x)) xs
   total_flat f g [] = refl
   total_flat f g (x ∷ xs) = total_joined e op m f (g x) (flat_map g xs) ∙ ap (op (total e op f (g x))) (total_flat f g xs)
-
-  pub total_swap : {A B : Type 0} (f : A → B → M) (xs : List A) (ys : List B) →
-      total e op (λ x. total e op (f x) ys) xs ≡ total e op (λ y. total e op (λ x. f x y) xs) ys
-  total_swap f [] ys = sym (total_none e op m (λ y. e) (λ y. refl) ys)
-  total_swap f (x ∷ xs) ys = ap (op (total e op (f x) ys)) (total_swap f xs ys)
-      ∙ sym (total_both e op m (f x) (λ y. total e op (λ x. f x y) xs) ys)
 
   cond_same : (f : ℕ → M) (d c : ℕ) → cond (eqb d c) (f c) e ≡ cond (eqb d c) (f d) e
   cond_same f d c = go (eqb d c) refl
@@ -54,10 +48,4 @@ module _ {M : Type 0} (e : M) (op : M → M → M) (m : IsMonoid M e op) where
   -- terms of items that each have a number, number by number
   pub by_number : {A : Type 0} (f : A → ℕ → M) (o : A → Option ℕ) (n : ℕ) (xs : List A) → AllByRecursion (λ x. IsBelow n (o x)) xs →
       total e op (λ x. on e (f x) (o x)) xs ≡ total e op (λ c. total e op (λ x. cond (is_at c (o x)) (f x c) e) xs) (range_with_len 0 n)
-  by_number f o n xs h = total_ones f o n xs h ∙ total_swap (λ x c. cond (is_at c (o x)) (f x c) e) xs (range_with_len 0 n)
-
--- sums of terms that are equal on a list
-pub total_each : {A M : Type 0} (e : M) (op : M → M → M) (f g : A → M) (xs : List A) → AllByRecursion (λ x. f x ≡ g x) xs →
-    total e op f xs ≡ total e op g xs
-total_each e op f g [] h = refl
-total_each e op f g (x ∷ xs) h = ap (λ a. op a (total e op f xs)) h.0 ∙ ap (op (g x)) (total_each e op f g xs h.1)
+  by_number f o n xs h = total_ones f o n xs h ∙ total_swap e op m (λ x c. cond (is_at c (o x)) (f x c) e) xs (range_with_len 0 n)

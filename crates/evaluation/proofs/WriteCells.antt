@@ -18,7 +18,8 @@ use Rattle.pram_meaning.specs.Conflict.{Part, cell_conflict, value_key, write_co
 use Rattle.evaluation.specs.Whole.{Step, Whole, unless_noted, upto, cut}
 use Rattle.evaluation.specs.Noted.{Heading, moment, verdict}
 use Rattle.evaluation.specs.Told.{told}
-use Rattle.evaluation.proofs.Sums.{on, is_at, IsBelow, total_flat, by_number, total_each}
+use Rattle.evaluation.proofs.Sums.{on, is_at, IsBelow, total_flat, by_number}
+use Rattle.pram_values.proofs.Totals.{total_each}
 use Rattle.evaluation.proofs.ReadColumns.{part, turned}
 
 -- ---- one attempt

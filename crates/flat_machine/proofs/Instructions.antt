@@ -34,7 +34,7 @@ use Rattle.flat_machine.proofs.Depths.{level_after}
 use Rattle.flat_machine.proofs.Ranges.{uniform_below, own_below, uniform_awaited_stays, own_awaited_stays, none_written, by_side_stays}
 
 -- the width changes only where all processors are new
-same_width : (code : SuperstepCode) (i : Instr) (u : UniformPart) → renews i ≡ false → (on_uniform code i u).width ≡ u.width
+pub same_width : (code : SuperstepCode) (i : Instr) (u : UniformPart) → renews i ≡ false → (on_uniform code i u).width ≡ u.width
 same_width code (Enter a b q) u h = absurd (cc)
 same_width code Leave u h = absurd (cc)
 same_width code (Ask Uniform d c s q) u h = refl

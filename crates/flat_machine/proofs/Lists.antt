@@ -57,9 +57,3 @@ map_class f g class w (x ∷ xs) h = go (map_class f g class w xs h.1) (eqb (cla
 -- item i of a list by numbers below n
 pub item_at : {A : Type 0} (f : ℕ → A) (n i : ℕ) (d : A) → i < n → slice_index_or (map f (range_with_len 0 n)) i d ≡ f i
 item_at f n i d l = get_or-map-range_with_len f 0 n i i d l (omega arith)
-
--- sums of terms that are equal on a list
-pub total_each : {A M : Type 0} (e : M) (op : M → M → M) (f g : A → M) (xs : List A) → AllByRecursion (λ x. f x ≡ g x) xs →
-    total e op f xs ≡ total e op g xs
-total_each e op f g [] h = refl
-total_each e op f g (x ∷ xs) h = ap (λ a. op a (total e op f xs)) h.0 ∙ ap (op (g x)) (total_each e op f g xs h.1)

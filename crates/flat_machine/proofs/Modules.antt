@@ -3,20 +3,13 @@ use Rattle.std.proofs.Common.{◌≡◌, ℕ, zero, suc, ◌+◌, ◌<◌, ◌�
 use Rattle.std.specs.List.{range_with_len}
 use Rattle.pram_model.specs.Layout.{total_size}
 use Rattle.pram_values.specs.Total.{IsMonoid, total}
-use Rattle.pram_values.proofs.Totals.{total_map, total_within, total_none, total_both, total_at}
+use Rattle.pram_values.proofs.Totals.{total_map, total_within, total_none, total_swap, total_at}
 use Rattle.superstep_machine.specs.Setting.{Setting, workers, module_cells}
 use Rattle.flat_machine.specs.Flat.{cells}
 use Rattle.flat_machine.specs.Flatness.{IsMapFor}
 use Rattle.superstep_machine.proofs.Numbers.{same_number, with_itself}
 
 module _ {M : Type 0} (e : M) (op : M → M → M) (m : IsMonoid M e op) where
-  -- sums in two lists, in either order
-  pub total_swapped : {A B : Type 0} (g : A → B → M) (xs : List A) (ys : List B) →
-      total e op (λ x. total e op (g x) ys) xs ≡ total e op (λ y. total e op (λ x. g x y) xs) ys
-  total_swapped g [] ys = sym (total_none e op m (λ y. e) (λ y. refl) ys)
-  total_swapped g (x ∷ xs) ys = ap (op (total e op (g x) ys)) (total_swapped g xs ys)
-      ∙ sym (total_both e op m (g x) (λ y. total e op (λ z. g z y) xs) ys)
-
   -- nothing behind a place
   total_beyond : (f : ℕ → M) (n k : ℕ) → ((c : ℕ) → k ≤ c → f c ≡ e) → total e op f (range_with_len k n) ≡ e
   total_beyond f zero k h = refl
@@ -102,7 +95,7 @@ module _ (t : Setting) (fits : IsMapFor t.code t.map) {M : Type 0} (e : M) (op :
       ∙ total_within e op (λ o. f (t.map.cell w o)) (λ o. total e op (given w o) counted) (t.map.width w) 0
       (λ o l. let below = (fits.lawful.forth w o w_below (omega (arith, l))).below in sym
       (total_at e op m (f (t.map.cell w o)) (t.map.cell w o) t.map.count 0 (omega arith) (omega (arith, below))))
-      ∙ total_swapped e op m (given w) offsets counted
+      ∙ total_swap e op m (given w) offsets counted
 
   -- the sum over all modules, of what is nothing beyond the layout
   pub of_modules : ((c : ℕ) → total_size t.code.layout ≤ c → f c ≡ e) →
@@ -111,7 +104,7 @@ module _ (t : Setting) (fits : IsMapFor t.code t.map) {M : Type 0} (e : M) (op :
       let by_cell = λ (w c : ℕ). total e op (λ o. given w o c) (range_with_len 0 (t.map.width w)) in
       total_within e op (λ w. total e op f (module_cells t w)) (λ w. total e op (by_cell w) counted) (workers t) 0
       (λ w l. of_module w (omega (arith, l)))
-      ∙ total_swapped e op m by_cell all counted
+      ∙ total_swap e op m by_cell all counted
       ∙ total_within e op (λ c. total e op (λ w. by_cell w c) all) f t.map.count 0 (λ c l. given_once c (omega (arith, l)))
       ∙ total_cut e op m f (total_size t.code.layout) t.map.count 0 fits.room (λ c above. beyond c (omega (arith, above)))
 

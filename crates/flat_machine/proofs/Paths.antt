@@ -15,7 +15,7 @@ use Rattle.bsp_verify.specs.Judging.{fits_exchange}
 use Rattle.bsp_verify.specs.WellFormed.{IsWellFormed}
 use Rattle.bsp_verify.specs.Paths.{Point, Comes}
 use Rattle.bsp_verify.proofs.PathLemmas.{is_zero, paths_sound}
-use Rattle.bsp_verify.proofs.WorkerLemmas.{none_of}
+use Rattle.std.proofs.lemmas.List.{nil_from_length}
 use Rattle.bsp_verify.proofs.RunLemmas.{Describes, acts, no_answers, sent}
 use Rattle.flat_machine.specs.Flat.{Flat, after_instr, after_send, after_reply, after_vote}
 use Rattle.flat_machine.specs.ByExchanges.{State, opening}
@@ -55,7 +55,7 @@ module _ (code : SuperstepCode) (place : ℕ) (f : Flat) (a : IsAt code place f)
       f.uniform.asks ≡ []
   asks_none i e h =
       let b = both (not a.point.state.awaits) (eqb a.point.state.asks 0) (sym e ∙ h) in
-      none_of f.uniform.asks (a.describes.asks ∙ is_zero a.point.state.asks b.1)
+      nil_from_length f.uniform.asks (a.describes.asks ∙ is_zero a.point.state.asks b.1)
 
   pub mark_asks_none : (line : ℕ) → Fits (Mark line) → f.uniform.asks ≡ []
   mark_asks_none line h = asks_none (Mark line) refl h

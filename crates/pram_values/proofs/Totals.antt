@@ -12,6 +12,12 @@ pub total_same : {A M : Type 0} (e : M) (op : M → M → M) (f g : A → M) →
 total_same e op f g h [] = refl
 total_same e op f g h (x ∷ xs) = ap (λ a. op a (total e op f xs)) (h x) ∙ ap (op (g x)) (total_same e op f g h xs)
 
+-- sums of terms that are equal on a list
+pub total_each : {A M : Type 0} (e : M) (op : M → M → M) (f g : A → M) (xs : List A) → AllByRecursion (λ x. f x ≡ g x) xs →
+    total e op f xs ≡ total e op g xs
+total_each e op f g [] h = refl
+total_each e op f g (x ∷ xs) h = ap (λ a. op a (total e op f xs)) h.0 ∙ ap (op (g x)) (total_each e op f g xs h.1)
+
 pub total_map : {A B M : Type 0} (e : M) (op : M → M → M) (f : B → M) (g : A → B) (xs : List A) →
     total e op f (map g xs) ≡ total e op (λ x. f (g x)) xs
 total_map e op f g [] = refl
@@ -45,6 +51,13 @@ module _ {M : Type 0} (e : M) (op : M → M → M) (m : IsMonoid M e op) where
   pub total_joined : {A : Type 0} (f : A → M) (xs ys : List A) → total e op f (xs ++ ys) ≡ op (total e op f xs) (total e op f ys)
   total_joined f [] ys = sym (m.neutral (total e op f ys))
   total_joined f (x ∷ xs) ys = ap (op (f x)) (total_joined f xs ys) ∙ sym (m.associative (f x) (total e op f xs) (total e op f ys))
+
+  -- sums in two lists, in either order
+  pub total_swap : {A B : Type 0} (f : A → B → M) (xs : List A) (ys : List B) →
+      total e op (λ x. total e op (f x) ys) xs ≡ total e op (λ y. total e op (λ x. f x y) xs) ys
+  total_swap f [] ys = sym (total_none (λ y. e) (λ y. refl) ys)
+  total_swap f (x ∷ xs) ys = ap (op (total e op (f x) ys)) (total_swap f xs ys)
+      ∙ sym (total_both (f x) (λ y. total e op (λ x. f x y) xs) ys)
 
   -- a term of a range that stands alone
   pub total_past : (a : M) (x n k : ℕ) → x < k → total e op (λ w. cond (eqb x w) a e) (range_with_len k n) ≡ e

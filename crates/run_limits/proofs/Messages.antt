@@ -33,7 +33,7 @@ use Rattle.bsp_verify.specs.WellFormed.{IsWellFormed}
 use Rattle.bsp_verify.specs.Paths.{IsWithin}
 use Rattle.bsp_verify.specs.Moments.{side_of, DescribesWorker}
 use Rattle.bsp_verify.proofs.PathLemmas.{paths_sound}
-use Rattle.bsp_verify.proofs.WorkerLemmas.{none_of}
+use Rattle.std.proofs.lemmas.List.{nil_from_length}
 use Rattle.bsp_verify.proofs.RunLemmas.{Arrives, Agrees, follow, next_agrees, begins}
 use Rattle.flat_machine.specs.Flatness.{IsMapFor}
 use Rattle.run_limits.specs.Within.{AreValues, share, words_for_each, marked_after, MessagesCanBeSent, MessagesAreReadBack}
@@ -187,7 +187,7 @@ module _ (t : Setting) where
             (λ r n h. let a = by_own r n (h.1.own (h.0 ∙ ap side_of e)) in let b = k.few_own l in omega (arith, a, b)) 0 x.uniform.asks
             (all_two (λ (r : Read). r.side ≡ side_of s.entered) (IsReadBelow t.map.count) x.uniform.asks d.asks_side k.uniform.asks)
         go false e =
-            let none : x.own ≡ [] = none_of x.own (d.processors ∙ ap (λ n. length (processors t w n)) (d.outside e)) in
+            let none : x.own ≡ [] = nil_from_length x.own (d.processors ∙ ap (λ n. length (processors t w n)) (d.outside e)) in
             asks_few (IsReadBelow t.map.count) (λ r n h. let a = by_one r n none in let b = one in
             omega (arith, a, b)) 0 x.uniform.asks k.uniform.asks
 

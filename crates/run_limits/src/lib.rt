@@ -1,4 +1,4 @@
 //! What runs of code keep within.
 #![tactic(auto)]
 
-pub mod limits_law;
+pub mod law;

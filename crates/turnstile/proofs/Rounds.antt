@@ -3,6 +3,7 @@ use Rattle.std.proofs.Common.{◌≡◌, ℕ, suc, ◌+◌, ◌-◌, ◌^◌, �
 use Rattle.std.proofs.Common.{replicate, sym, refl, ap, ◌∙◌, subst, append-nil, length-append, deque_capacity, arith}
 use lib.ListN.{length-replicate, length-map}
 use lib.Seq.{take_at}
+use Rattle.std.proofs.lemmas.List.{nil_from_length}
 use Rattle.std.proofs.lemmas.List.Elements.{All-nil, All-push}
 use Rattle.std.specs.Prelude.{All}
 use Rattle.atomic_table.specs.Table.{Me}
@@ -146,13 +147,9 @@ module _ (k : Work) (h : Seeing k.workers k) where
         columns,
       )
 
-  no_more : {A : Type 0} (l : List A) → length l ≡ 0 → l ≡ []
-  no_more [] e = refl
-  no_more (x ∷ xs) e = absurd (omega arith)
-
   pub rests_first : k.round ≡ 0 → Rested k × (columns_of k ≡ [])
-  rests_first first = let none_yet : (done k).received ≡ [] = no_more (done k).received (h.long ∙ first) in let none_sent : rows_of k ≡ [] =
-      no_more (rows_of k) (h.made ∙ first) in (
+  rests_first first = let none_yet : (done k).received ≡ [] = nil_from_length (done k).received (h.long ∙ first) in let none_sent : rows_of k ≡ [] =
+      nil_from_length (rows_of k) (h.made ∙ first) in (
         rests_with (none_yet ∙ ap (λ z. told_all (known z)) (sym none_yet))
             (subst (Wide k.workers) (sym none_sent) (All-nil (λ r. length r ≡ k.workers)))
             (subst (Wide k.workers) (sym (ap known none_yet)) (All-nil (λ r. length r ≡ k.workers))),

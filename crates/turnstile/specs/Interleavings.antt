@@ -67,6 +67,7 @@ module _ (blocks : TwoBlocks) where
   if_new true true new old = old
   if_new false b new old = old
 
+  -- the barrier after one act of a worker
   abbrev pub after : Core → Event → Core
   after c (finish w row back) =
       record {

@@ -96,7 +96,7 @@ sum_goes ws i now new w b h is f e = record {
   above = let l = b.above in let k = most_value w.value f in omega (arith, ints);
 }
 
-same_item : {X : Type 0} (xs : List X) (i : ℕ) (a b : X) → i < length xs → get_or xs i a ≡ get_or xs i b
+pub same_item : {X : Type 0} (xs : List X) (i : ℕ) (a b : X) → i < length xs → get_or xs i a ≡ get_or xs i b
 same_item [] i a b h = absurd (omega arith)
 same_item (x ∷ xs) zero a b h = refl
 same_item (x ∷ xs) (suc i) a b h = same_item xs i a b (omega arith)

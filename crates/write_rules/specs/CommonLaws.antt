@@ -7,12 +7,13 @@ use Rattle.pram_model.specs.declared.rule.Rule.TheVariants as name
 use Rattle.pram_values.specs.declared.kind.Kind.TheVariants.{WriteConflict}
 use Rattle.pram_values.specs.Truth.{is_equal}
 use Rattle.pram_values.specs.Value.{checked}
+use Rattle.pram_model.proofs.Truths.{either}
 use Rattle.write_rules.specs.declared.entry.Entry.{Entry}
 use Rattle.write_rules.specs.declared.write.Write.{Write}
 use Rattle.write_rules.specs.Rule.{common_value}
 use Rattle.write_rules.specs.Combining.{entry_of, first_of, differ, unless_clash, Carries, common}
-use Rattle.write_rules.specs.Checked.{checked_some}
-use Rattle.write_rules.specs.EntryOrder.{either, first_associates, first_commutes, first_clash, first_value}
+use Rattle.pram_values.proofs.Checked.{checked_some}
+use Rattle.write_rules.specs.EntryOrder.{first_associates, first_commutes, first_clash, first_value}
 use Rattle.write_rules.specs.ExclusiveLaws.{clashes, first_fits}
 
 abbrev both : Entry → Entry → Entry

@@ -1,12 +1,9 @@
 -- Entries are in a linear order, and the first of some doesn't depend on how they are paired.
 use Rattle.std.proofs.Common.{◌≡◌, ◌⊎◌, inl, inr, Bool, true, false, if◌then◌else◌, refl, ap, sym, ◌∙◌, arith}
 use Rattle.std.proofs.lemmas.Int.{ints}
+use Rattle.pram_model.proofs.Truths.{either}
 use Rattle.write_rules.specs.declared.entry.Entry.{Entry}
 use Rattle.write_rules.specs.Combining.{marked, is_first, first_of}
-
-pub either : (b : Bool) → (b ≡ true) ⊎ (b ≡ false)
-either true = inl refl
-either false = inr refl
 
 pub first_total : (a b : Entry) → is_first a b ≡ false → is_first b a ≡ true
 first_total a b h = grind (arith, ints)

@@ -7,7 +7,7 @@ use Rattle.write_rules.specs.declared.entry.Entry.{Entry}
 use Rattle.write_rules.specs.declared.write.Write.{Write}
 use Rattle.write_rules.specs.Rule.{only_value, rule_value}
 use Rattle.write_rules.specs.Combining.{entry_of, first_of, unless_clash, joined, AreWriters, Carries, exclusive, exclusive_rule}
-use Rattle.write_rules.specs.Checked.{checked_some}
+use Rattle.pram_values.proofs.Checked.{checked_some}
 use Rattle.write_rules.specs.EntryOrder.{first_associates, first_commutes, first_clash}
 
 pub clashes : (a : Entry) → a.clash ≡ true → unless_clash a ≡ Err WriteConflict

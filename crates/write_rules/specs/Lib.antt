@@ -1,7 +1,6 @@
 pub mod Rule
 pub mod Verdict
 pub mod Combining
-pub mod Checked
 pub mod EntryOrder
 pub mod ExclusiveLaws
 pub mod CommonLaws

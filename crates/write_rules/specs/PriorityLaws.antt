@@ -4,12 +4,13 @@ use Rattle.std.proofs.Common.{FitsSigned, All, AllPairs, int_le, arith, suc, sub
 use Rattle.std.specs.Int.{w64}
 use Rattle.std.proofs.lemmas.Int.{ints}
 use Rattle.pram_model.specs.declared.rule.Rule.TheVariants.{Priority}
+use Rattle.pram_model.proofs.Truths.{either}
 use Rattle.write_rules.specs.declared.entry.Entry.{Entry}
 use Rattle.write_rules.specs.declared.write.Write.{Write}
 use Rattle.write_rules.specs.Rule.{least_writer}
 use Rattle.write_rules.specs.Combining.{entry_of, marked, is_first, first_of, joined, Carries, priority}
-use Rattle.write_rules.specs.Checked.{checked_some}
-use Rattle.write_rules.specs.EntryOrder.{either, first_associates, first_commutes, pick_first, pick_last}
+use Rattle.pram_values.proofs.Checked.{checked_some}
+use Rattle.write_rules.specs.EntryOrder.{first_associates, first_commutes, pick_first, pick_last}
 use Rattle.write_rules.specs.ExclusiveLaws.{first_fits}
 
 abbrev Apart : List Write → Type 0

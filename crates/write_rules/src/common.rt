@@ -7,7 +7,7 @@ use crate::entry::Entry;
 use crate::values::common_of;
 use crate::write::Write;
 use crate::write_rule::WriteRule;
-use pram_values::kind::Kind;
+use pram_values::Kind;
 
 /// Concurrent writes of one common value.
 #[derive(Clone, Copy, Debug, PartialEq, Eq)]

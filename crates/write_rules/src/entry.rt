@@ -4,7 +4,7 @@ ghost use Rattle.std.specs.Prelude.{◌≡◌};
 ghost use Rattle.write_rules.specs.Combining as spec;
 ghost use Rattle.pram_values.specs.Value.{checked};
 
-use pram_values::kind::Kind;
+use pram_values::Kind;
 
 /// What the writers of one cell come to so far, small and the same for all rules: the writer of
 /// least index, the value, wide enough for a sum, and whether the writers clash.
@@ -46,7 +46,7 @@ impl Entry {
     }
 
     /// Its value; Overflow if it is no i64.
-    #[tactic(auto, using(crate::specs::Checked::checked_some, crate::specs::Checked::checked_none))]
+    #[tactic(auto, using(pram_values::proofs::Checked::checked_some, pram_values::proofs::Checked::checked_none))]
     pub fn narrowed(self) -> Result<i64, Kind>
         ensures { result ≡ checked self.value }
     {

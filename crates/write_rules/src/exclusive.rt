@@ -6,7 +6,7 @@ use crate::entry::Entry;
 use crate::values::only_of;
 use crate::write::Write;
 use crate::write_rule::WriteRule;
-use pram_values::kind::Kind;
+use pram_values::Kind;
 
 /// Exclusive writes, with shared reads (CREW) or without (EREW).
 #[derive(Clone, Copy, Debug, PartialEq, Eq)]

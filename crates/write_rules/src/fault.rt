@@ -1,7 +1,6 @@
 //! Faults of statements.
 
-use pram_values::kind::Kind;
-use pram_values::place::Place;
+use pram_values::{Kind, Place};
 
 /// A statement that faults: what is wrong, the line of its first token (1 plus the number of LF
 /// bytes before it), and where.

@@ -1,15 +1,26 @@
 //! The write rules of a PRAM, and how a run comes out.
 #![tactic(auto)]
 
-pub mod common;
-pub mod entry;
-pub mod exclusive;
-pub mod fault;
-pub mod order;
-pub mod outcome;
-pub mod priority;
-pub mod summed;
-pub mod under;
+mod common;
+mod entry;
+mod exclusive;
+mod fault;
+pub mod law;
+mod outcome;
+mod priority;
+mod rule_body;
+mod summed;
 mod values;
-pub mod write;
-pub mod write_rule;
+mod write;
+mod write_rule;
+
+pub use common::Common;
+pub use entry::Entry;
+pub use exclusive::Exclusive;
+pub use fault::Fault;
+pub use outcome::Outcome;
+pub use priority::Priority;
+pub use rule_body::{RuleBody, under};
+pub use summed::Summed;
+pub use write::Write;
+pub use write_rule::WriteRule;

@@ -6,7 +6,7 @@ use crate::entry::Entry;
 use crate::values::least_of;
 use crate::write::Write;
 use crate::write_rule::WriteRule;
-use pram_values::kind::Kind;
+use pram_values::Kind;
 
 /// Of concurrent writers the one of least index succeeds.
 #[derive(Clone, Copy, Debug, PartialEq, Eq)]

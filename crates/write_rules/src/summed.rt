@@ -7,7 +7,7 @@ use crate::entry::Entry;
 use crate::values::checked_total;
 use crate::write::Write;
 use crate::write_rule::WriteRule;
-use pram_values::kind::Kind;
+use pram_values::Kind;
 
 /// Concurrent writers leave the sum of their values. The sum is kept in 128 bits, which writers
 /// with different indices don't pass; an entry may be joined only once.

@@ -6,7 +6,7 @@ ghost use Rattle.write_rules.specs.Rule.{only_value, common_value, least_writer,
 ghost use Rattle.pram_values.specs.Value.{checked};
 
 use crate::write::Write;
-use pram_values::kind::Kind;
+use pram_values::Kind;
 
 // The value of the only writer.
 pub(crate) fn only_of(first: Write, others: &[Write]) -> Result<i64, Kind>
@@ -70,7 +70,7 @@ fn with_value(sum: i128, write: &Write) -> i128
 }
 
 // The sum, if it is an i64.
-#[tactic(auto, using(crate::specs::Checked::checked_some, crate::specs::Checked::checked_none))]
+#[tactic(auto, using(pram_values::proofs::Checked::checked_some, pram_values::proofs::Checked::checked_none))]
 pub(crate) fn checked_total(writes: &[Write]) -> Result<i64, Kind>
     ensures { result ≡ checked (sum_of writes.now) }
 {

@@ -5,7 +5,7 @@ ghost use Rattle.write_rules.specs.Rule.{shares_reads, is_sum, written};
 
 use crate::entry::Entry;
 use crate::write::Write;
-use pram_values::kind::Kind;
+use pram_values::Kind;
 
 /// How the writers of one cell are combined. Joining goes in any order.
 pub trait WriteRule {

@@ -6,7 +6,7 @@ use Rattle.bsp_verify.specs.States.{opening}
 use Rattle.bsp_verify.specs.WellFormed.{IsWellFormed}
 use Rattle.bsp_verify.specs.Table.{IsTable}
 use Rattle.bsp_verify.proofs.Pass.{bad_empty, can_meet, kept_opening}
-use Rattle.bsp_verify.proofs.verify.first_fault.Goals as goal
+use Rattle.bsp_verify.proofs.verifier.first_fault.Goals as goal
 
 more : (n : ℕ) → (n ≡ 0 → ⊥) → 0 < n
 more n h = ⊎_elim (λ l. l) (λ le. absurd (h (omega (arith, le)))) (cases_lt 0 n)

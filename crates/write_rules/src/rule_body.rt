@@ -5,7 +5,7 @@ use crate::exclusive::Exclusive;
 use crate::priority::Priority;
 use crate::summed::Summed;
 use crate::write_rule::WriteRule;
-use pram_model::rule::Rule;
+use pram_model::Rule;
 
 /// What is done under a write rule, whichever it is.
 pub trait RuleBody {

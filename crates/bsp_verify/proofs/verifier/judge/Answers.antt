@@ -8,7 +8,7 @@ use Rattle.bsp_verify.specs.Control.{Leads}
 use Rattle.bsp_verify.specs.Table.{state_at, or_none, Adds, Clashes}
 use Rattle.bsp_verify.proofs.Pass.{bad_no_state, bad_instr, bad_next, kept_next, none_allowed}
 use Rattle.bsp_verify.proofs.Ways.{leads_within}
-use Rattle.bsp_verify.proofs.verify.judge.Goals as goal
+use Rattle.bsp_verify.proofs.verifier.judge.Goals as goal
 
 state_read : (table : List (Option State)) (at n : ℕ) (o : Option State) → at < n → length table ≡ n → get_or table at None ≡ o →
     state_at table at ≡ o
