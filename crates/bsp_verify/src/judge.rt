@@ -6,8 +6,7 @@ ghost use Rattle.bsp_verify.specs.States.{after};
 
 use crate::fault::Reason;
 use crate::state::State;
-use superstep_code::code::Code;
-use superstep_code::instr::{Instr, Side};
+use superstep_code::{Code, Instr, Side};
 
 /// Whether there is that register.
 fn is_register(code: &Code, side: Side, register: u16) -> bool

@@ -1,12 +1,18 @@
 //! Which superstep code can run: the states of its places, and the verifier.
 #![tactic(auto)]
 
-pub mod fault;
+mod fault;
 mod judge;
-pub mod paths_law;
-pub mod runs_law;
-pub mod state;
-pub mod stretches_law;
+pub mod law;
+mod paths_law;
+mod runs_law;
+mod state;
+mod stretches_law;
 mod table;
-pub mod verified;
-pub mod verify;
+mod verified;
+mod verifier;
+
+pub use fault::{Reason, VerifyFault};
+pub use state::State;
+pub use verified::Verified;
+pub use verifier::verify;

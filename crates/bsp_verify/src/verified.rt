@@ -4,7 +4,7 @@ ghost use Rattle.std.specs.Prelude.{◌≡◌};
 ghost use Rattle.bsp_verify.specs.WellFormed.{IsWellFormed};
 
 use std::marker::Model;
-use superstep_code::code::Code;
+use superstep_code::Code;
 
 /// Well-formed code.
 #[derive(Drop)]

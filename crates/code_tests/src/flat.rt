@@ -1,12 +1,10 @@
 //! Codes that were worked out by hand, run on one memory.
 
 use flat_run::flat_run;
-use pram_values::kind::Kind;
-use pram_values::place::Place;
+use pram_values::{Kind, Place};
 use std::alloc::Global;
-use superstep_listing::listing_read::read_listing;
-use write_rules::fault::Fault;
-use write_rules::outcome::Outcome;
+use superstep_listing::read_listing;
+use write_rules::{Fault, Outcome};
 
 // b[i] := a[1] for four processors: the worked listing.
 const BROADCAST: &[u8] =

@@ -1,11 +1,10 @@
 //! Listings, verified and fused, with the listings that were worked out by hand.
 
-use bsp_verify::verify::verify;
-use fusing::fuse::fuse;
+use bsp_verify::verify;
+use fusing::fuse;
 use std::alloc::Global;
-use superstep_listing::listing_read::read_listing;
-use superstep_listing::listing_write::write_listing;
-use text_out::buffer::Buffer;
+use superstep_listing::{read_listing, write_listing};
+use text_out::Buffer;
 
 // The listing of the fused code.
 fn fused(alloc: Global, text: &[u8]) -> Option<Buffer> {

@@ -1,19 +1,10 @@
 //! Words and merges, as worked out by hand.
 
 use address_map::{AddressMap, Identity};
-use combining::answers::answer_asks;
-use combining::asks::Asks;
-use combining::cells::Cells;
-use combining::merge::merge_at_module;
-use combining::puts::Puts;
-use combining::readers::read_conflict;
-use pram_values::kind::Kind;
+use combining::{Asks, Cells, Puts, answer_asks, merge_at_module, read_conflict};
+use pram_values::Kind;
 use std::alloc::Global;
-use write_rules::common::Common;
-use write_rules::exclusive::Exclusive;
-use write_rules::priority::Priority;
-use write_rules::summed::Summed;
-use write_rules::write_rule::WriteRule;
+use write_rules::{Common, Exclusive, Priority, Summed, WriteRule};
 
 // Merges two columns at module 0 of two, whose cell 0 holds a value: what it holds then, and the conflict.
 fn merge_two<R: WriteRule>(

@@ -10,4 +10,6 @@ mod held_and_merged;
 #[cfg(test)]
 mod listing;
 #[cfg(test)]
+mod texts;
+#[cfg(test)]
 mod verify;

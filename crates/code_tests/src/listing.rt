@@ -1,12 +1,10 @@
 //! Listings, each with its code or the offset of its first wrong line, as worked out by hand.
 
-use pram_model::rule::Rule;
+use pram_model::Rule;
 use std::alloc::Global;
-use superstep_code::instr::{Instr, Side, Truth};
-use superstep_listing::error::ListingFault;
-use superstep_listing::listing_read::read_listing;
-use superstep_listing::listing_write::write_listing;
-use text_out::buffer::Buffer;
+use superstep_code::{Instr, Side, Truth};
+use superstep_listing::{ListingFault, read_listing, write_listing};
+use text_out::Buffer;
 
 const WORKED: &[u8] =
     b"bsp 1\nrule crew\nprocs 4\narray a 1 2\narray b 1 4\nuniform 2\nprivate 2\ncode 13\n0 mark 7\n1 uset 0 1\n2 uset 1 4\n3 enter 0 1 1\n4 mark 8\n5 pset 0 1\n6 pask 1 0 0 1\n7 send\n8 reply\n9 pindex 0\n10 pput 1 0 1 2\n11 leave\n12 halt\n";

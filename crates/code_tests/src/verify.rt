@@ -1,9 +1,8 @@
 //! Listings, each verified or with its first fault, as worked out by hand.
 
-use bsp_verify::fault::{Reason, VerifyFault};
-use bsp_verify::verify::verify;
+use bsp_verify::{Reason, VerifyFault, verify};
 use std::alloc::Global;
-use superstep_listing::listing_read::read_listing;
+use superstep_listing::read_listing;
 
 fn read_and_verify(alloc: Global, text: &[u8]) -> Option<Result<(), VerifyFault>> {
     let code = read_listing(alloc, text).ok()?;

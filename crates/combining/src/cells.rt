@@ -5,7 +5,7 @@ ghost use Rattle.combining.specs.Gathering.{value_at};
 
 use std::alloc::{AllocError, Global};
 use std::marker::Model;
-use write_rules::entry::Entry;
+use write_rules::Entry;
 
 /// The values of one module's cells, by offset, and places for what comes for them.
 #[derive(Drop)]

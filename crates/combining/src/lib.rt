@@ -1,12 +1,20 @@
 //! What a worker holds for the next exchange, and what a module does with what comes.
 #![tactic(auto)]
 
-pub mod answers;
-pub mod asks;
-pub mod cells;
-pub mod index;
-pub mod laws;
-pub mod merge;
-pub mod puts;
-pub mod readers;
+mod answers;
+mod asks;
+mod cells;
+mod index;
+pub mod law;
+mod merge;
+mod puts;
+mod readers;
 mod words;
+
+pub use answers::answer_asks;
+pub use asks::Asks;
+pub use cells::Cells;
+pub use index::Index;
+pub use merge::merge_at_module;
+pub use puts::Puts;
+pub use readers::read_conflict;

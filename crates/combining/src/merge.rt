@@ -9,9 +9,8 @@ ghost use Rattle.combining.specs.Merged.{refusal, IsMerged};
 use crate::cells::Cells;
 use crate::words::{PutWords, next};
 use address_map::AddressMap;
-use pram_values::kind::Kind;
-use write_rules::entry::Entry;
-use write_rules::write_rule::WriteRule;
+use pram_values::Kind;
+use write_rules::{Entry, WriteRule};
 
 // One more entry.
 fn joined<R: WriteRule>(rule: &R, before: Option<Entry>, entry: Entry) -> Entry

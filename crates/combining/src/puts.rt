@@ -14,8 +14,7 @@ use crate::words::{push_put, write_put};
 use address_map::AddressMap;
 use std::alloc::{AllocError, Global};
 use std::marker::Model;
-use write_rules::entry::Entry;
-use write_rules::write_rule::WriteRule;
+use write_rules::{Entry, WriteRule};
 
 /// The puts that a worker holds: an entry for each cell, in the order in which the cells were first held.
 #[derive(Drop)]

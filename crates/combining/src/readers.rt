@@ -10,7 +10,7 @@ use crate::cells::Cells;
 use crate::merge::least;
 use crate::words::{AskWords, next};
 use address_map::AddressMap;
-use pram_values::kind::Kind;
+use pram_values::Kind;
 
 // Whether two or more ask, with one column's more.
 fn counted(before: Option<bool>, twice: bool) -> bool

@@ -11,8 +11,7 @@ ghost use Rattle.combining.specs.Asked.{ask_key as key_for, ask_at};
 
 use crate::asks::Asked;
 use address_map::AddressMap;
-use write_rules::entry::Entry;
-use write_rules::write_rule::WriteRule;
+use write_rules::{Entry, WriteRule};
 
 // Numbers of cells are below it.
 const CELLS: u32 = 1_048_576;

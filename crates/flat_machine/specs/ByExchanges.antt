@@ -14,6 +14,7 @@ pub record Plan : Type 0 where
   pub bound : ℕ
   pub enough : ℕ
 
+-- the run between two exchanges, or between two instructions: the one memory, the place of the next instruction, and how it stands
 pub record State : Type 0 where
   pub flat : Flat
   pub place : ℕ
@@ -51,6 +52,7 @@ after_exchange code Replies f = after_reply f
 after_exchange code (Votes d) f = after_vote d f
 after_exchange code Closes f = f
 
+-- the run behind its exchange
 abbrev pub after : SuperstepCode → Ready → State
 after code r = record {
   flat = after_exchange code r.purpose r.state.flat;
@@ -74,6 +76,7 @@ abbrev pub purposes_from : Plan → ℕ → State → List Purpose
 purposes_from t zero s = []
 purposes_from t (suc n) s = if is_over s.way then [] else (ready t s).purpose ∷ purposes_from t n (next t s)
 
+-- the run before the first instruction
 abbrev pub opening : List ℤ → State
 opening input = record { flat = flat.opening input; place = 0; way = On }
 

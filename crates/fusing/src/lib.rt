@@ -2,6 +2,8 @@
 #![tactic(auto)]
 
 mod empty;
-pub mod fuse;
+mod fuse_sends;
+pub mod law;
 mod renumber;
-pub mod worked_law;
+
+pub use fuse_sends::fuse;

@@ -1,6 +1,6 @@
 // How a row of the tests is tried: what the program prints for it, and its exit status.
 
-use pram_syntax::buffer::Buffer;
+use pram_syntax::Buffer;
 use pramc::{SourceFault, Sources, Status};
 use pramc_command::command;
 use std::alloc::{AllocError, Global};

@@ -1,8 +1,7 @@
 // What the program prints for its command line, its files and its writers.
 
 use crate::rows::{Shelf, call, prints};
-use pram_syntax::buffer::Buffer;
-use pram_syntax::writer::{Out, OutFailed};
+use pram_syntax::{Buffer, Out, OutFailed};
 use pramc::Status;
 use pramc_command::command;
 use std::test::Fail;

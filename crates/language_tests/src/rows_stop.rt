@@ -1,8 +1,7 @@
 // What is written where the program stops without an outcome: each reason with its line.
 
-use pram_check::fault::{Breach, Cause, Limit, Spot};
-use pram_syntax::buffer::Buffer;
-use pram_syntax::error::TextFault;
+use pram_check::{Breach, Cause, CheckFault, Limit, Spot};
+use pram_syntax::{Buffer, TextFault};
 use pramc::{Refusal, Stop, write_stop};
 use std::alloc::{AllocError, Global};
 use std::test::Fail;
@@ -49,14 +48,20 @@ fn a_refusal_is_written_by_its_text(rt: HostRuntime) -> Result<(), Fail> {
     for (fault, line) in &TEXTS {
         let stop = Stop::Refused(Refusal::Text(*fault));
         assert!(&rt; is_written(alloc, &stop, line)?);
+        let told = format!(in alloc; "refused {fault}\n")?;
+        assert!(&rt; told.as_bytes() == line.as_bytes());
     }
     for (cause, line) in &CAUSES {
         let spot = Spot::Offset(57);
-        let stop = Stop::Refused(Refusal::Program(Breach {
+        let breach = Breach {
             spot,
             cause: *cause,
-        }));
+        };
+        let stop = Stop::Refused(Refusal::Program(breach));
         assert!(&rt; is_written(alloc, &stop, line)?);
+        let fault = CheckFault::Refused(breach);
+        let told = format!(in alloc; "refused {fault}\n")?;
+        assert!(&rt; told.as_bytes() == line.as_bytes());
     }
     Ok(())
 }

@@ -2,14 +2,9 @@
 
 ghost use Rattle.std.specs.Prelude.{◌<◌, Some};
 
-use pram_printer::print::print_tree;
-use pram_syntax::buffer::Buffer;
-use pram_syntax::error::TextFault;
-use pram_syntax::input::read_input;
-use pram_syntax::parse::parse;
-use pram_syntax::rule::Rule;
-use pram_syntax::token::Location;
-use pram_syntax::writer::{Out, OutFailed, WriteFault};
+use pram_parser::parse;
+use pram_printer::print_tree;
+use pram_syntax::{Buffer, Location, Out, OutFailed, Rule, TextFault, WriteFault, read_input};
 use std::alloc::Global;
 use std::test::Fail;
 

@@ -13,8 +13,8 @@ use crate::emitter::{Emitter, short};
 use crate::refusal::LowerRefusal;
 use crate::region::{local, variable};
 use crate::values::{Operands, count, depth};
-use pram_check::body::{Expression, StepTarget, Target};
-use superstep_code::instr::{Instr, Side};
+use pram_check::{Expression, StepTarget, Target};
+use superstep_code::{Instr, Side};
 
 // A value for a variable or a local.
 fn get(

@@ -6,7 +6,7 @@ ghost use Rattle.plain_form.specs.Formulas.{formula_of};
 
 use crate::emitter::short;
 use crate::refusal::LowerRefusal;
-use pram_check::body::Expression;
+use pram_check::Expression;
 
 /// The register of the next shared read, and the positions gone through.
 #[derive(Clone, Copy)]

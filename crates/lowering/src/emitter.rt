@@ -8,7 +8,7 @@ ghost use Rattle.lowering.specs.Written.{added, wrote, patched};
 use crate::refusal::LowerRefusal;
 use std::alloc::Global;
 use std::marker::Model;
-use superstep_code::instr::Instr;
+use superstep_code::Instr;
 
 const MOST: usize = 65_535;
 

@@ -13,8 +13,8 @@ use crate::cursor::next_register;
 use crate::emitter::Emitter;
 use crate::refusal::LowerRefusal;
 use crate::values::{Operands, count};
-use pram_check::body::{Expression, Step};
-use superstep_code::instr::{Instr, Side};
+use pram_check::{Expression, Step};
+use superstep_code::{Instr, Side};
 
 // The test of an `if`.
 fn masked(out: &mut Emitter, line: u32, test: &Expression, base: u16) -> Result<(), LowerRefusal>

@@ -8,9 +8,8 @@ ghost use Rattle.superstep_code.specs.declared.instr.Instr.TheVariants as Instr;
 
 use crate::emitter::Emitter;
 use crate::refusal::LowerRefusal;
-use pram_syntax::token::Binary;
-use pram_syntax::tree::Prefix;
-use superstep_code::instr::{Arithmetic, Instr, Side, Truth};
+use pram_syntax::{Binary, Prefix};
+use superstep_code::{Arithmetic, Instr, Side, Truth};
 
 /// What an operation works on: the registers of a side, and its position.
 #[derive(Clone, Copy)]

@@ -18,8 +18,8 @@ use crate::inside::steps;
 use crate::refusal::LowerRefusal;
 use crate::region::{INDEX, local, variable};
 use crate::values::{Operands, count};
-use pram_check::body::{Expression, Statement, Step};
-use superstep_code::instr::{Arithmetic, Instr, Side, Truth};
+use pram_check::{Expression, Statement, Step};
+use superstep_code::{Arithmetic, Instr, Side, Truth};
 
 /// The uniform registers of an open `for`.
 #[derive(Clone, Copy)]

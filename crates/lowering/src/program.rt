@@ -10,11 +10,10 @@ use crate::finish::{all_fit, registers};
 use crate::outside::statement;
 use crate::refusal::LowerRefusal;
 use crate::region::variable;
-use pram_check::program::Program;
-use pram_model::layout::Layout;
+use pram_check::Program;
+use pram_model::Layout;
 use std::alloc::Global;
-use superstep_code::code::Code;
-use superstep_code::instr::{Instr, Side};
+use superstep_code::{Code, Instr, Side};
 
 // The instructions of a program.
 fn instructions(alloc: Global, program: &Program) -> Result<Vec<Instr>, LowerRefusal>

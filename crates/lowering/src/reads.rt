@@ -12,8 +12,8 @@ use crate::cursor::{Cursor, next_number};
 use crate::emitter::{Emitter, short};
 use crate::refusal::LowerRefusal;
 use crate::region::region;
-use pram_check::body::Expression;
-use superstep_code::instr::{Instr, Side};
+use pram_check::Expression;
+use superstep_code::{Instr, Side};
 
 /// The register that stays 0.
 pub(crate) const ZERO: u16 = 0;

@@ -11,8 +11,8 @@ use crate::cursor::{Cursor, next_register, passed};
 use crate::emitter::{Emitter, short};
 use crate::operator::{Operation, before};
 use crate::refusal::LowerRefusal;
-use pram_check::body::Expression;
-use superstep_code::instr::{Instr, Side};
+use pram_check::Expression;
+use superstep_code::{Instr, Side};
 
 pub(crate) const INDEX: u16 = 1;
 

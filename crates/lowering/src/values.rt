@@ -14,8 +14,8 @@ use crate::emitter::Emitter;
 use crate::reads::{ZERO, asks, greater, nesting};
 use crate::refusal::LowerRefusal;
 use crate::region::region;
-use pram_check::body::Expression;
-use superstep_code::instr::Side;
+use pram_check::Expression;
+use superstep_code::Side;
 
 /// What a statement evaluates.
 #[derive(Clone, Copy)]

@@ -1,5 +1,6 @@
 //! What the definition of the machine gives for worked codes.
 #![tactic(auto)]
 
-pub mod machine_law;
-pub mod worked_law;
+pub mod law;
+mod machine_law;
+mod worked_law;

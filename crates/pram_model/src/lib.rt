@@ -1,5 +1,8 @@
 //! What a program and its code have in common: the rules of concurrent access, and the shared declarations with their cells.
 #![tactic(auto)]
 
-pub mod layout;
-pub mod rule;
+mod layout;
+mod rule;
+
+pub use layout::{Layout, Range};
+pub use rule::Rule;

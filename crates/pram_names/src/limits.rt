@@ -4,9 +4,9 @@ ghost use Rattle.std.specs.Prelude.{◌≡◌, pos};
 ghost use Rattle.pram_names.specs.Breaches.{at, procs_cause, token_breaches};
 ghost use Rattle.pram_names.specs.Walk.{Judges};
 
-use crate::expression::breach;
 use crate::fault::{Breach, Cause, CheckFault, Limit, Spot};
-use pram_syntax::token::Numeral;
+use crate::resolving::breach;
+use pram_syntax::Numeral;
 
 const MOST_PROCS: i64 = 16_384;
 

@@ -7,11 +7,10 @@ ghost use Rattle.pram_names.specs.Resolved.{Says};
 ghost use Rattle.pram_names.specs.Walk.{Judges};
 
 use crate::body::Expression;
-use crate::expression::{breach, expression};
 use crate::fault::{Cause, CheckFault};
+use crate::resolving::{breach, expression};
 use crate::scope::{Meaning, Scope};
-use pram_syntax::token::Name;
-use pram_syntax::tree::Expr;
+use pram_syntax::{Expr, Name};
 use std::alloc::Global;
 
 /// A new name differs from all names in scope.

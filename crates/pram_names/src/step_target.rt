@@ -7,10 +7,10 @@ ghost use Rattle.pram_names.specs.Resolved.{SaysInner};
 ghost use Rattle.pram_names.specs.Walk.{Judges};
 
 use crate::body::StepTarget;
-use crate::expression::breach;
 use crate::fault::{Cause, CheckFault};
+use crate::resolving::breach;
 use crate::scope::{Meaning, Scope};
-use pram_syntax::token::Name;
+use pram_syntax::Name;
 
 /// What is assigned without subscript.
 pub fn inner_target(scope: &Scope, x: &Name) -> Result<StepTarget, CheckFault>

@@ -1,6 +1,9 @@
 //! The canonical spelling of a program's tree.
 #![tactic(auto)]
 
-pub mod print;
+pub mod law;
+mod print;
 mod printer;
 mod spell;
+
+pub use print::print_tree;

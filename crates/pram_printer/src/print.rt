@@ -11,9 +11,9 @@ ghost use Rattle.pram_printer.specs.Spelling.{spelled, spelling};
 
 use crate::printer::Printer;
 use crate::spell::rule_text;
-use pram_syntax::tree::{Declaration, Expr, Stmt, Tree};
-use pram_tokens::token::{Binary, Mark, Name, Opening, Token};
-use text_out::writer::{Out, WriteFault};
+use pram_syntax::{Declaration, Expr, Stmt, Tree};
+use pram_tokens::{Binary, Mark, Name, Opening, Token};
+use text_out::{Out, WriteFault};
 
 impl<'a, W: Out> Printer<'a, W> {
     #[cycle(expr)]

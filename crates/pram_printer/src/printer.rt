@@ -7,9 +7,9 @@ ghost use Rattle.pram_printer.specs.Spelling.{opening_text, spelled};
 
 use crate::spell::{binary_text, mark_end, mark_text, opening_text};
 use itoa::Buffer;
-use pram_syntax::tree::Prefix;
-use pram_tokens::token::{Binary, Mark, Name, Numeral, Opening, Token};
-use text_out::writer::Out;
+use pram_syntax::Prefix;
+use pram_tokens::{Binary, Mark, Name, Numeral, Opening, Token};
+use text_out::Out;
 
 /// Prints until its writer fails, and then nothing more.
 #[derive(Drop)]

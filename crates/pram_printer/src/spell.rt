@@ -4,8 +4,8 @@ ghost use Rattle.std.specs.Prelude.{◌≡◌};
 ghost use Rattle.pram_model.specs.Rules as rules;
 ghost use Rattle.pram_printer.specs.Spelling as spec;
 
-use pram_model::rule::Rule;
-use pram_tokens::token::{Binary, Mark, Opening};
+use pram_model::Rule;
+use pram_tokens::{Binary, Mark, Opening};
 
 pub(crate) fn rule_text(rule: Rule) -> &'static [u8]
     ensures text { result.now ≡ rules.rule_word rule }

@@ -97,5 +97,5 @@ IsInputFault text (Err (TooDeep at)) = ⊥
 
 -- a word is no number, or memory was refused
 abbrev pub IsWrong : List ℕ → LexError → Type 0
-IsWrong text lex.Memory = Unit {0}
+IsWrong text lex.OutOfMemory = Unit {0}
 IsWrong text (lex.BadToken at) = IsFirstWrong text at

@@ -1,7 +1,7 @@
 -- A text cut into tokens: white space and comments are left out, and each token is the longest that stands at its place.
 use Rattle.std.specs.Prelude.{◌≡◌, ℕ, zero, suc, ◌+◌, ◌-◌, if◌then◌else◌, ◌==◌, List, [], ◌∷◌, Result, Ok, Err}
 use Rattle.pram_tokens.specs.declared.error.LexError.{LexError}
-use Rattle.pram_tokens.specs.declared.error.LexError.TheVariants.{Memory, BadToken}
+use Rattle.pram_tokens.specs.declared.error.LexError.TheVariants.{OutOfMemory, BadToken}
 use Rattle.pram_tokens.specs.declared.lexer.Lexeme.{Lexeme}
 use Rattle.pram_tokens.specs.declared.lexer.Lexeme.TheVariants as lexeme
 use Rattle.pram_tokens.specs.declared.token.Location.{Location}
@@ -59,5 +59,5 @@ longest = 1048576
 -- what a function answered is what the text is cut into, unless memory was refused
 abbrev pub Finds : {X : Type 0} → (X → Cut) → Result X LexError → Result Cut ℕ → Type 0
 Finds view (Ok x) read = read ≡ Ok (view x)
-Finds view (Err Memory) read = Unit {0}
+Finds view (Err OutOfMemory) read = Unit {0}
 Finds view (Err (BadToken at)) read = read ≡ Err at

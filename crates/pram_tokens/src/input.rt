@@ -117,7 +117,7 @@ pub fn read_input(alloc: Global, text: &[u8]) -> Result<Vec<i64>, TextFault>
     match numbers(alloc, text) {
         Ok(found) => Ok(found),
         Err(fault) => match fault {
-            LexError::Memory => Err(TextFault::OutOfMemory),
+            LexError::OutOfMemory => Err(TextFault::OutOfMemory),
             LexError::BadToken(at) => Err(TextFault::BadToken(at)),
         },
     }

@@ -193,7 +193,7 @@ fn line_behind(line: u32, text: &[u8], count: usize) -> u32
 
 /// The tokens of a text and the offset of each.
 ///
-/// `LexError::BadToken` (E3) stands at the first thing that is no token. `LexError::Memory` says
+/// `LexError::BadToken` (E3) stands at the first thing that is no token. `LexError::OutOfMemory` says
 /// that memory was refused.
 pub fn tokenize(alloc: Global, text: &[u8]) -> Result<(Vec<Token>, Vec<u32>), LexError>
     requires fits { length text.now ≤ scanning.longest }

@@ -1,9 +1,16 @@
 //! Values of 64 bits: what each operation gives, and the faults that a statement can have.
 #![tactic(auto)]
 
-pub mod arithmetic;
-pub mod division;
-pub mod kind;
-pub mod place;
-pub mod total;
-pub mod truth;
+mod arithmetic;
+mod division;
+mod kind;
+pub mod law;
+mod place;
+mod total;
+mod truths;
+
+pub use arithmetic::{add, multiply, negate, subtract};
+pub use division::{divide, remainder};
+pub use kind::Kind;
+pub use place::Place;
+pub use truths::{at_most, both, either, equal, is_same, is_true, less, negation, truth, unequal};

@@ -5,7 +5,7 @@ ghost use Rattle.text_out.specs.Out.{OutState, with_failure};
 ghost use Rattle.pramc.specs.Held.{held_at};
 
 use crate::sources::{SourceFault, Sources};
-use pram_syntax::writer::{Out, OutFailed};
+use pram_syntax::{Out, OutFailed};
 use std::alloc::Global;
 use std::fs::{File, Files};
 use std::io::{ErrorKind, Print, Read};

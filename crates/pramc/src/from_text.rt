@@ -4,14 +4,12 @@ ghost use Rattle.std.specs.Prelude.{◌≡◌, ℕ, List, IfOk};
 ghost use Rattle.write_rules.specs.Verdict.{verdict_of};
 ghost use Rattle.pramc.specs.Report.{IsNoProgram, IsProgramOf, IsRefusedRightly, IsRunOf, refusal_of};
 
-use pram_check::fault::{Breach, CheckFault};
-use pram_check::program::{Program, check};
+use pram_check::{Breach, CheckFault, Program, check};
 use pram_meaning::{RunRefusal, reference_run};
-use pram_syntax::error::TextFault;
-use pram_syntax::layout::Layout;
-use pram_syntax::parse::parse;
+use pram_parser::parse;
+use pram_syntax::{Layout, TextFault};
 use std::alloc::Global;
-use write_rules::outcome::Outcome;
+use write_rules::Outcome;
 
 /// Why a text is not run.
 #[derive(Clone, Copy, Debug, PartialEq, Eq)]

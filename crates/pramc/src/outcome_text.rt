@@ -8,12 +8,9 @@ ghost use Rattle.pramc.specs.Shown as shown;
 
 use crate::show_parts::{write_cell, write_items, write_memory};
 use itoa::Buffer;
-use pram_syntax::layout::Layout;
-use pram_syntax::writer::{Out, WriteFault};
-use pram_values::kind::Kind;
-use pram_values::place::Place;
-use write_rules::fault::Fault;
-use write_rules::outcome::Outcome;
+use pram_syntax::{Layout, Out, WriteFault};
+use pram_values::{Kind, Place};
+use write_rules::{Fault, Outcome};
 
 /// Writes the text of an outcome: each output item in decimal on a line, and then how the run came
 /// out. At its end that is `ended` and a line for each shared declaration with the values of its

@@ -7,8 +7,7 @@ ghost use Rattle.text_out.specs.Out.{Writes};
 ghost use Rattle.pramc.specs.Shown as shown;
 
 use itoa::Buffer;
-use pram_syntax::layout::Layout;
-use pram_syntax::writer::{Out, WriteFault};
+use pram_syntax::{Layout, Out, WriteFault};
 
 // A number in decimal.
 pub(crate) fn decimal<'a>(digits: &'a mut Buffer, number: &i64) -> &'a [u8]

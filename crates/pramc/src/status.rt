@@ -3,7 +3,7 @@
 ghost use Rattle.std.specs.Prelude.{◌≡◌};
 ghost use Rattle.pramc.specs.Status.{code, status_of};
 
-use write_rules::outcome::Outcome;
+use write_rules::Outcome;
 
 /// How a call of the program ended.
 #[derive(Clone, Copy, Debug, Drop, PartialEq, Eq)]

@@ -9,9 +9,8 @@ ghost use Rattle.pramc.specs.declared.from_text.Refusal.TheVariants.{OutOfMemory
 
 use crate::from_text::Refusal;
 use itoa::Buffer;
-use pram_check::fault::{Breach, Cause, Limit, Spot};
-use pram_syntax::error::TextFault;
-use pram_syntax::writer::{Out, WriteFault};
+use pram_check::{Breach, Cause, Limit, Spot};
+use pram_syntax::{Out, TextFault, WriteFault};
 use std::alloc::AllocError;
 use std::fmt;
 use thiserror::Error;

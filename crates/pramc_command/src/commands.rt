@@ -11,18 +11,12 @@ ghost use Rattle.pramc_command.specs.Answered.{Answers, accepted_line, IsNoFailu
 
 use crate::request::{Request, Verb, read_words};
 use itoa::Buffer;
-use pram_check::program::Program;
-use pram_syntax::input::read_input;
-use pram_syntax::layout::Layout;
-use pram_syntax::rule::Rule;
-use pram_syntax::writer::{Out, WriteFault};
-use pram_tokens::plain::LONGEST;
-use pramc::{
-    Refusal, Report, SourceFault, Sources, Status, Stop, compile, finish, mean_program,
-    run_program, show, write_stop,
-};
+use pram_check::Program;
+use pram_syntax::{Layout, Out, Rule, WriteFault, read_input};
+use pram_tokens::LONGEST;
+use pramc::{Refusal, Report, SourceFault, Sources, Status, Stop, compile, finish, mean_program, run_program, show, write_stop};
 use std::alloc::Global;
-use write_rules::outcome::Outcome;
+use write_rules::Outcome;
 
 /// Does what the words behind the program's name ask for, and answers the exit status.
 ///

@@ -5,8 +5,7 @@ ghost use Rattle.std.specs.List.{AllByRecursion};
 ghost use Rattle.superstep_code.specs.Limits.{IsCode, IsInstr, IsLayout, most_procs, most_registers, most_instructions};
 
 use crate::instr::Instr;
-use pram_model::layout::Layout;
-use pram_model::rule::Rule;
+use pram_model::{Layout, Rule};
 use std::alloc::{AllocError, Global};
 use std::marker::Model;
 

@@ -1,5 +1,8 @@
 //! Superstep code: its instructions, and code within its limits.
 #![tactic(auto)]
 
-pub mod code;
-pub mod instr;
+mod code;
+mod instr;
+
+pub use code::Code;
+pub use instr::{Arithmetic, Instr, Side, Truth};

@@ -267,7 +267,7 @@ stuck_rest u v count text mid more lines left fu fv fc first second third s =
 -- an error of a part, as one of the whole
 pub lifted : (A B : List (List ℕ) → Type 0) (part whole : List ℕ) → ((left : ℕ) → IsStuck A part left → IsStuck B whole left) →
     (e : ReadError) → IsReadError A part e → IsReadError B whole e
-lifted A B part whole f read.Memory h = tt
+lifted A B part whole f read.OutOfMemory h = tt
 lifted A B part whole f (read.Bad left) h = f left h
 
 pub not_empty : (r : Bool) (text : List ℕ) → r ≡ (length text == 0) → r ≡ false → text ≡ [] → ⊥

@@ -49,5 +49,5 @@ pub record AreInstrs (count : ℕ) (lines : List (List ℕ)) : Type 0 where
 
 -- the error says where the text is stuck, or that memory was refused
 abbrev pub IsReadError : (List (List ℕ) → Type 0) → List ℕ → ReadError → Type 0
-IsReadError AreLines text read.Memory = Unit {0}
+IsReadError AreLines text read.OutOfMemory = Unit {0}
 IsReadError AreLines text (read.Bad left) = IsStuck AreLines text left

@@ -10,7 +10,7 @@ ghost use Rattle.superstep_listing.specs.Listing as spec;
 use crate::operands::{first_word, numbers_behind};
 use crate::spell::numbers;
 use crate::template::template;
-use superstep_code::instr::Instr;
+use superstep_code::Instr;
 
 /// The number of operand k, and 0 where it is missing.
 fn wide_at(numbers: &[i64], k: usize) -> i64

@@ -8,7 +8,7 @@ ghost use Rattle.superstep_listing.specs.Listing as spec;
 use crate::candidate::body_of;
 use crate::cut::cut;
 use crate::numeral::number;
-use superstep_code::instr::Instr;
+use superstep_code::Instr;
 
 /// The instruction of the line of that number.
 pub(crate) fn instr_of(bytes: &[u8], place: u32) -> Option<Instr>

@@ -9,7 +9,7 @@ ghost use Rattle.superstep_listing.specs.Reading.{AreInstrs, AreRest, IsReadErro
 use crate::error::ReadError;
 use crate::lines::{next_field, next_instr};
 use std::alloc::Global;
-use superstep_code::instr::Instr;
+use superstep_code::Instr;
 
 /// No code has more registers of a side, or more instructions.
 const MOST: u32 = 65_536;

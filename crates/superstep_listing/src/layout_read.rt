@@ -10,7 +10,7 @@ ghost use Rattle.superstep_listing.specs.Listing.{ended, entry_line};
 
 use crate::entry_line::Declaration;
 use crate::lines::next_entry;
-use pram_model::layout::Layout;
+use pram_model::Layout;
 use std::alloc::{AllocError, Global};
 use std::collections::HashSet;
 

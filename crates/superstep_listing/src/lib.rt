@@ -4,13 +4,14 @@
 mod candidate;
 mod cut;
 mod entry_line;
-pub mod error;
+mod error;
 mod instr_line;
 mod instrs_read;
+pub mod law;
 mod layout_read;
 mod lines;
-pub mod listing_read;
-pub mod listing_write;
+mod listing_read;
+mod listing_write;
 mod name;
 mod numeral;
 mod operands;
@@ -18,3 +19,7 @@ mod printer;
 mod rule_line;
 mod spell;
 mod template;
+
+pub use error::ListingFault;
+pub use listing_read::{LONGEST, read_listing};
+pub use listing_write::write_listing;

@@ -13,8 +13,8 @@ use crate::entry_line::{Declaration, entry_of};
 use crate::instr_line::instr_of;
 use crate::numeral::field;
 use crate::rule_line::rule_of;
-use pram_model::rule::Rule;
-use superstep_code::instr::Instr;
+use pram_model::Rule;
+use superstep_code::Instr;
 
 fn is_version(bytes: &[u8]) -> bool
     ensures value { MatchBool result (bytes.now ≡ codes "bsp 1") (bytes.now ≡ codes "bsp 1" → ⊥) }

@@ -13,7 +13,7 @@ use crate::instrs_read::rest_of;
 use crate::layout_read::layout_of;
 use crate::lines::{next_field, next_rule, next_version};
 use std::alloc::Global;
-use superstep_code::code::Code;
+use superstep_code::Code;
 
 /// The greatest length of a listing, in bytes.
 pub const LONGEST: usize = 8_388_608;
@@ -80,7 +80,7 @@ pub fn read_listing(alloc: Global, text: &[u8]) -> Result<Code, ListingFault>
     match code_of(alloc, text) {
         Ok(code) => Ok(code),
         Err(fault) => match fault {
-            ReadError::Memory => Err(ListingFault::OutOfMemory),
+            ReadError::OutOfMemory => Err(ListingFault::OutOfMemory),
             ReadError::Bad(left) => Err(ListingFault::BadListing((text.len() - left) as u32)),
         },
     }

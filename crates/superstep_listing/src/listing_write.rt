@@ -6,8 +6,8 @@ ghost use Rattle.superstep_listing.specs.Listing.{spelling};
 ghost use Rattle.superstep_listing.specs.Text.{IsListing, longest};
 
 use crate::printer::Printer;
-use superstep_code::code::Code;
-use text_out::writer::{Out, WriteFault};
+use superstep_code::Code;
+use text_out::{Out, WriteFault};
 
 /// Writes the listing of code, the one text that `read_listing` reads as this code: each line is
 /// ended by LF, its words have one space between them, and its numbers are decimal, without

@@ -11,11 +11,9 @@ ghost use Rattle.superstep_listing.specs.Cutting.{spaced};
 
 use crate::spell::{letter, numbers, rule_text, stem};
 use itoa::Buffer;
-use pram_model::layout::Layout;
-use pram_model::rule::Rule;
-use superstep_code::code::Code;
-use superstep_code::instr::Instr;
-use text_out::writer::Out;
+use pram_model::{Layout, Rule};
+use superstep_code::{Code, Instr};
+use text_out::Out;
 
 /// Prints until its writer fails, and then nothing more.
 #[derive(Drop)]

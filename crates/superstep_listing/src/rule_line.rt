@@ -4,7 +4,7 @@ ghost use Rattle.std.specs.Prelude.{◌≡◌, MatchOption};
 ghost use Rattle.pram_model.specs.declared.rule.Rule.{Rule};
 ghost use Rattle.superstep_listing.specs.Listing as spec;
 
-use pram_model::rule::Rule;
+use pram_model::Rule;
 
 /// The rule of such a line.
 pub(crate) fn rule_of(bytes: &[u8]) -> Option<Rule>

@@ -6,8 +6,7 @@ ghost use Rattle.superstep_machine.specs.Words.{bit as bit_of};
 
 use crate::key::{Key, rank};
 use crate::mark::HeaderMark;
-use pram_values::kind::Kind;
-use pram_values::place::Place;
+use pram_values::{Kind, Place};
 
 /// What stands before the words of a message.
 #[derive(Clone, Copy, Debug, PartialEq, Eq)]

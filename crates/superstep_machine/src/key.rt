@@ -3,8 +3,7 @@
 ghost use Rattle.std.specs.Prelude.{◌≡◌};
 ghost use Rattle.superstep_machine.specs.Keys as spec;
 
-use pram_values::kind::Kind;
-use pram_values::place::Place;
+use pram_values::{Kind, Place};
 
 /// A fault that a processor or a module noted. Of several the least is told: that of the earliest
 /// statement, there that of the least position, there one of a single processor before a conflict,

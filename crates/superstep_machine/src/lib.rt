@@ -1,10 +1,15 @@
 //! The machine that runs superstep code on p workers, by its definition: keys, headers and words of messages, and the laws of these.
 #![tactic(auto)]
 
-pub mod collected_law;
-pub mod header;
-pub mod header_law;
-pub mod key;
-pub mod mark;
-pub mod mark_law;
-pub mod words_law;
+mod collected_law;
+mod header;
+mod header_law;
+mod key;
+pub mod law;
+mod mark;
+mod mark_law;
+mod words_law;
+
+pub use header::MessageHeader;
+pub use key::{Key, least};
+pub use mark::{HeaderMark, worse};

@@ -6,11 +6,8 @@ ghost use Rattle.superstep_machine.specs.Steps as steps;
 ghost use Rattle.superstep_steps.specs.Views.{registers_of};
 
 use crate::registers::register;
-use pram_values::arithmetic::{add, multiply, negate, subtract};
-use pram_values::division::{divide, remainder};
-use pram_values::kind::Kind;
-use pram_values::truth::{is_same, is_true, truth};
-use superstep_code::instr::{Arithmetic, Instr, Side, Truth};
+use pram_values::{Kind, add, divide, is_same, is_true, multiply, negate, remainder, subtract, truth};
+use superstep_code::{Arithmetic, Instr, Side, Truth};
 
 fn calculated(operation: Arithmetic, x: i64, y: i64) -> Result<i64, Kind>
     ensures { result ≡ spec.calculated operation x y }

@@ -3,7 +3,7 @@
 ghost use Rattle.std.specs.Prelude.{◌≡◌, ◌≤ℤ◌, ◌+ℤ◌, ◌^◌, pos, IfOk};
 ghost use Rattle.superstep_machine.specs.Results as spec;
 
-use pram_values::kind::Kind;
+use pram_values::Kind;
 
 /// How many there are from low to high, at most `procs`.
 pub fn range_width(procs: u32, low: i64, high: i64) -> Result<u32, Kind>

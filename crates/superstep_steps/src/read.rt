@@ -1,6 +1,6 @@
 //! Reads that are held.
 
-use superstep_code::instr::Side;
+use superstep_code::Side;
 
 /// When something is done: in which statement, by its count and its line, and at which position.
 #[derive(Clone, Copy, Debug, PartialEq, Eq)]

@@ -6,7 +6,7 @@ ghost use Rattle.superstep_machine.specs.Parts.{set_register};
 ghost use Rattle.superstep_machine.specs.Steps as spec;
 ghost use Rattle.superstep_steps.specs.Views.{registers_of};
 
-use pram_values::kind::Kind;
+use pram_values::Kind;
 use std::alloc::AllocError;
 
 /// The value at a place; 0 where there is none.

@@ -4,11 +4,9 @@ ghost use Rattle.std.specs.Prelude.{◌≡◌, Some};
 ghost use Rattle.superstep_machine.specs.Setting.{combining};
 ghost use Rattle.superstep_machine.specs.Sending as spec;
 
-use pram_model::rule::Rule;
-use pram_values::kind::Kind;
-use write_rules::entry::Entry;
-use write_rules::under::{RuleBody, under};
-use write_rules::write_rule::WriteRule;
+use pram_model::Rule;
+use pram_values::Kind;
+use write_rules::{Entry, RuleBody, WriteRule, under};
 
 // The entry of one writer.
 #[derive(Clone, Copy, Debug)]

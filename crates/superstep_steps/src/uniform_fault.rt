@@ -9,11 +9,9 @@ use crate::arithmetic::{computed_on, position_of, wrong_in};
 use crate::range::range_width;
 use crate::registers::register;
 use crate::uniform::UniformState;
-use pram_values::kind::Kind;
-use pram_values::place::Place;
-use superstep_code::code::Code;
-use superstep_code::instr::{Instr, Side};
-use superstep_machine::key::Key;
+use pram_values::{Kind, Place};
+use superstep_code::{Code, Instr, Side};
+use superstep_machine::Key;
 
 /// No cell is a fault.
 pub fn missing(cell: Option<u32>) -> Option<Kind>

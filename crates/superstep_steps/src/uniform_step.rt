@@ -14,8 +14,7 @@ use crate::read::{Moment, Read};
 use crate::registers::{register, set_result, zero_without};
 use crate::uniform::UniformState;
 use std::alloc::{AllocError, Global};
-use superstep_code::code::Code;
-use superstep_code::instr::{Instr, Side};
+use superstep_code::{Code, Instr, Side};
 
 /// The uniform part at the beginning.
 pub fn open_uniform(alloc: Global) -> UniformState

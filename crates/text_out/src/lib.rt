@@ -1,5 +1,8 @@
 //! Writers of bytes: what takes a text, and a buffer in memory.
 #![tactic(auto)]
 
-pub mod buffer;
-pub mod writer;
+mod buffer;
+mod writer;
+
+pub use buffer::Buffer;
+pub use writer::{Out, OutFailed, WriteFault};

@@ -6,7 +6,7 @@ ghost use Rattle.pram_values.specs.Truth.{is_nonzero};
 ghost use Rattle.worker_bank.specs.Columns.{value_of};
 ghost use Rattle.worker_bank.specs.Masks.{active_of, left_of, IsLevel};
 
-use pram_values::truth::is_true;
+use pram_values::is_true;
 use std::alloc::{AllocError, Global};
 use std::mem;
 

@@ -1,6 +1,6 @@
 use Rattle.std.proofs.Common.{◌≡◌, ◌∙◌, ap, sym}
 use Rattle.pram_syntax.specs.Program.{ProgramTree}
-use Rattle.pram_syntax.proofs.OneTree.{one_tree_at_most}
+use Rattle.pram_parser.proofs.OneTree.{one_tree_at_most}
 use Rattle.pram_names.specs.Scope.{shared_entries}
 use Rattle.pram_meaning.proofs.OneTree.{tree_has_one_outcome}
 use Rattle.pramc.proofs.law.one_run_at_most.Goals as goal
