@@ -1,7 +1,7 @@
 // What is written where the program stops without an outcome: each reason with its line.
 
 use pram_check::{Breach, Cause, CheckFault, Limit, Spot};
-use pram_syntax::{Buffer, TextFault};
+use pram_syntax::{Buffer, OutFailed, TextFault, WriteFault};
 use pramc::{Refusal, Stop, write_stop};
 use std::alloc::{AllocError, Global};
 use std::test::Fail;
@@ -85,6 +85,8 @@ fn any_other_stop_is_written_by_its_text(rt: HostRuntime) -> Result<(), Fail> {
     for (stop, line) in &rows {
         assert!(&rt; is_written(alloc, stop, line)?);
     }
+    let failed = format!(in alloc; "{} {}", WriteFault, OutFailed)?;
+    assert!(&rt; failed.as_bytes() == b"E17 WriteFailed E17 WriteFailed".as_slice());
     let words = Stop::Words(String::from_str(alloc, "error: a word\n")?);
     let mut written = Buffer::new(alloc);
     assert!(&rt; write_stop(&mut written, &words).is_ok());

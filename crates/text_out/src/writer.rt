@@ -2,12 +2,16 @@
 ghost use Rattle.std.specs.Prelude.{◌≡◌, ◌⊎◌, ◌<◌, ◌≤◌, ◌^◌, [], length, take, IfOk, OnOk, OnErr};
 ghost use Rattle.text_out.specs.Out.{OutState, Writes, joined, with_bytes, with_failure};
 
+use thiserror::Error;
+
 /// The writer failed, or took no byte. It has taken nothing in that call.
-#[derive(Clone, Copy, Debug, Drop, PartialEq, Eq)]
+#[derive(Clone, Copy, Debug, Drop, PartialEq, Eq, Error)]
+#[error("E17 WriteFailed")]
 pub struct OutFailed;
 
 /// A writer failed before it had taken all of a text (E17). What it took is a beginning of the text.
-#[derive(Clone, Copy, Debug, Drop, PartialEq, Eq)]
+#[derive(Clone, Copy, Debug, Drop, PartialEq, Eq, Error)]
+#[error("E17 WriteFailed")]
 pub struct WriteFault;
 
 /// Takes bytes: a file, standard output, a buffer in memory.
