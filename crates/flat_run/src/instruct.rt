@@ -18,7 +18,9 @@ use crate::processor_fault::{own_key, own_write};
 use std::alloc::{AllocError, Global};
 use superstep_code::{Code, Instr};
 use superstep_machine::{Key, least};
-use superstep_steps::{UniformState, index_of, step_uniform, uniform_key, uniform_write, with_writer};
+use superstep_steps::{
+    UniformState, index_of, step_uniform, uniform_key, uniform_write, with_writer,
+};
 use write_rules::{Entry, RuleBody, WriteRule, under};
 
 // The least key that is noted on the processors.

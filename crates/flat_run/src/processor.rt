@@ -10,7 +10,9 @@ ghost use Rattle.flat_run.specs.Views.{part_of};
 use pram_values::is_true;
 use std::alloc::{AllocError, Global};
 use superstep_code::{Code, Instr, Side};
-use superstep_steps::{UniformState, computed_on, index_of, register, set_number, set_result, zero_without};
+use superstep_steps::{
+    UniformState, computed_on, index_of, register, set_number, set_result, zero_without,
+};
 
 /// The part of one processor: its registers; for each mask, the last one at the end, whether it is
 /// active under it; and for each read of the uniform part's lists the cell that it asks for, if it

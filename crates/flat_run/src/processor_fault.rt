@@ -9,7 +9,10 @@ use crate::processor::{ProcessorState, cell_for, is_active};
 use pram_values::{Kind, Place};
 use superstep_code::{Code, Instr, Side};
 use superstep_machine::Key;
-use superstep_steps::{UniformState, computed_on, fault_at, index_of, missing, position_of, register, write_to, wrong_in};
+use superstep_steps::{
+    UniformState, computed_on, fault_at, index_of, missing, position_of, register, write_to,
+    wrong_in,
+};
 
 // What is wrong in an instruction on a processor that is active.
 fn wrong_own(code: &Code, instr: Instr, x: &ProcessorState) -> Option<Kind>

@@ -7,7 +7,10 @@ ghost use Rattle.pram_names.specs.Resolved.{Says, SaysStatement, SayStatements};
 ghost use Rattle.pram_names.specs.Walk.{Judges};
 
 use crate::step::steps;
-use pram_names::{Cause, CheckFault, Expression, Meaning, Scope, Statement, Target, breach, declare_locals, element_target, new_name, pardo_range, target, value, values, variable};
+use pram_names::{
+    Cause, CheckFault, Expression, Meaning, Scope, Statement, Target, breach, declare_locals,
+    element_target, new_name, pardo_range, target, value, values, variable,
+};
 use pram_syntax::{Expr, Location, Name, Stmt};
 use std::alloc::Global;
 

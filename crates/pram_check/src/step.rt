@@ -5,7 +5,9 @@ ghost use Rattle.pram_names.specs.Breaches.{statement_breaches, block_breaches, 
 ghost use Rattle.pram_names.specs.Resolved.{SaysStep, SaySteps, SayElse};
 ghost use Rattle.pram_names.specs.Walk.{Judges};
 
-use pram_names::{Cause, CheckFault, Scope, Step, StepTarget, breach, element_target, inner_target, value, values};
+use pram_names::{
+    Cause, CheckFault, Scope, Step, StepTarget, breach, element_target, inner_target, value, values,
+};
 use pram_syntax::{Expr, Name, Stmt};
 use std::alloc::Global;
 

@@ -4,7 +4,10 @@ ghost use Rattle.std.specs.Prelude.{◌≡◌};
 ghost use Rattle.pram_meaning.specs.Operation.{operate, operate_before};
 
 use pram_syntax::{Binary, Prefix};
-use pram_values::{Kind, add, at_most, both, divide, either, equal, less, multiply, negate, negation, remainder, subtract, unequal};
+use pram_values::{
+    Kind, add, at_most, both, divide, either, equal, less, multiply, negate, negation, remainder,
+    subtract, unequal,
+};
 
 /// What an operator gives on two values.
 pub fn apply(operator: Binary, x: i64, y: i64) -> Result<i64, Kind>

@@ -14,7 +14,10 @@ use itoa::Buffer;
 use pram_check::Program;
 use pram_syntax::{Layout, Out, Rule, WriteFault, read_input};
 use pram_tokens::LONGEST;
-use pramc::{Refusal, Report, SourceFault, Sources, Status, Stop, compile, finish, mean_program, run_program, show, write_stop};
+use pramc::{
+    Refusal, Report, SourceFault, Sources, Status, Stop, compile, finish, mean_program,
+    run_program, show, write_stop,
+};
 use std::alloc::Global;
 use write_rules::Outcome;
 

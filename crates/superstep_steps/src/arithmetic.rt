@@ -6,7 +6,9 @@ ghost use Rattle.superstep_machine.specs.Steps as steps;
 ghost use Rattle.superstep_steps.specs.Views.{registers_of};
 
 use crate::registers::register;
-use pram_values::{Kind, add, divide, is_same, is_true, multiply, negate, remainder, subtract, truth};
+use pram_values::{
+    Kind, add, divide, is_same, is_true, multiply, negate, remainder, subtract, truth,
+};
 use superstep_code::{Arithmetic, Instr, Side, Truth};
 
 fn calculated(operation: Arithmetic, x: i64, y: i64) -> Result<i64, Kind>
