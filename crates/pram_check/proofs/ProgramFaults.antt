@@ -22,13 +22,15 @@ use Rattle.pram_names.specs.declared.scope.Meaning.TheVariants.{Uniform, Cell, A
 use Rattle.pram_names.specs.Scope.{Scope}
 use Rattle.pram_names.specs.Breaches.{at, first, breaches, procs_cause, block_breaches, body_context, outside_of, declaration_breaches}
 use Rattle.pram_names.specs.Breaches.{token_breaches, most_tokens}
-use Rattle.pram_check.specs.Faults.{IsAccepted, all_at, procs_causes, block_faults, declaration_faults, faults, offset_in, offsets_in, IsBefore}
+use Rattle.pram_check.specs.Faults.{IsAccepted, all_at, procs_causes, block_faults, declaration_faults, faults}
+use Rattle.pram_check.specs.Faults.{offset_in, offsets_in, IsBefore}
 use Rattle.pram_check.specs.Faults.{IsLeast}
 use Rattle.pram_parser.specs.Text.{IsTextOf}
 use Rattle.pram_tokens.proofs.Offsets.{in_order}
 use Rattle.pram_check.proofs.Sublists.{Between, between, increasing}
 use Rattle.pram_tokens.specs.InOrder.{places, StandInOrder}
-use Rattle.pram_check.proofs.Least.{Told, ToldIn, Leads, AreNoneAlike, told_at, told_nothing, told_append, none_at, none_append, join, front}
+use Rattle.pram_check.proofs.Least.{Told, ToldIn, Leads, AreNoneAlike, told_at, told_nothing, told_append}
+use Rattle.pram_check.proofs.Least.{none_at, none_append, join, front}
 use Rattle.pram_check.proofs.Least.{behind, nothing}
 use Rattle.pram_check.proofs.Lowest.{shared_lowest, new_lowest, where_it_holds}
 use Rattle.pram_check.proofs.StatementFaults.{named, told_statement}

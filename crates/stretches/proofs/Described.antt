@@ -11,7 +11,8 @@ use Rattle.bsp_verify.specs.Judging.{fits_exchange}
 use Rattle.bsp_verify.specs.WellFormed.{IsWellFormed}
 use Rattle.bsp_verify.proofs.StretchLemmas.{parts_stand, what_stands_is_there}
 use Rattle.bsp_verify.proofs.PathLemmas.{comes_given}
-use Rattle.bsp_verify.proofs.WorkerLemmas.{none_of, none_came}
+use Rattle.std.proofs.lemmas.List.{nil_from_length}
+use Rattle.bsp_verify.proofs.WorkerLemmas.{none_came}
 use Rattle.bsp_verify.proofs.RunLemmas.{Describes, no_put}
 use Rattle.pram_model.proofs.Truths.{both}
 use Rattle.flat_machine.specs.Flat.{Flat}
@@ -32,7 +33,7 @@ places_are_as_said t given long met place f spent c =
       awaited = d.awaited;
       holds = λ e. let n = d.put ∙ e in record { put = no_put f.uniform.put n; held = a.counted.bare n };
       alone = d.alone;
-      rests = λ n w. rests_there t place f spent c (none_of f.uniform.asks (d.asks ∙ n)) (none_came f.uniform.awaited (d.awaited ∙ w));
+      rests = λ n w. rests_there t place f spent c (nil_from_length f.uniform.asks (d.asks ∙ n)) (none_came f.uniform.awaited (d.awaited ∙ w));
     }
 
 -- ---- judged stretches

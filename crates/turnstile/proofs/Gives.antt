@@ -219,7 +219,8 @@ gives_keeps blocks p words words' homes team ok w lw x' xs ys lx ly px py all he
           subst (λ (z : ℕ). get_or words' z 0 ≡ phase x') (sym e) mine) (λ n. others v lv n ∙ ok.counts v lv);
       rows = λ v lv. at_put team w x' (λ z y. length y.received ≡ phase y) v (λ _. rows') (λ _. ok.rows v lv);
       looks = λ v lv. at_put team w x' (λ z y. length y.seen ≡ p) v (λ _. looks') (λ _. ok.looks v lv);
-      near = λ l k ll lk. let same = takes_same l k ll lk in let n = ok.near l k ll lk in let a : ℕ = taken (put team w x' l) k in let b : ℕ =
+      near = λ l k ll lk. let same = takes_same l k ll lk in let n = ok.near l k ll lk in let a : ℕ = taken
+          (put team w x' l) k in let b : ℕ =
           taken (team l) k in let same' : a ≡ b = same in
           at_put team w x' (λ z y. a ≤ phase y + 1) k (λ (e : k ≡ w). let n' : b ≤ f + 1 = subst (λ (z : ℕ). b ≤ phase (team z) + 1) e n in
           let g : ℕ = phase x' in let h : f ≤ g = grows in let r : a ≤ g + 1 = omega arith in r)
@@ -229,7 +230,8 @@ gives_keeps blocks p words words' homes team ok w lw x' xs ys lx ly px py all he
           (λ (e : k ≡ w). dite (ℕ_discrete s (f + 1))
           (λ (now : s ≡ f + 1). subst (λ (z : ℕ × ℕ). Parcel blocks p homes' (put team w x' z.0) z.0 l z.1) (λ q. (sym e q, sym now q))
           (new_parcel l ll))
-          (λ earlier. old_parcel k l s lk ll h₀ h₁ (let a : s < given x' = gives_now k e s h₁ in let g : ℕ = given x' in let g' : g ≡ f + 2 =
+          (λ earlier. old_parcel k l s lk ll h₀ h₁ (let a : s < given x' = gives_now k e s h₁ in let g : ℕ =
+              given x' in let g' : g ≡ f + 2 =
           gives' in let l' : ℕ = weight (team w).left in let r : s < f + 1 + l' = omega arith in
           subst (λ (z : ℕ). s < given (team z)) (sym e) r) (λ _ now. earlier now)))
           (λ other. old_parcel k l s lk ll h₀ h₁ (at_put team w x' (λ z y. s < given y →

@@ -148,7 +148,8 @@ module _ (k : Work) (h : Seeing k.workers k) where
       )
 
   pub rests_first : k.round ≡ 0 → Rested k × (columns_of k ≡ [])
-  rests_first first = let none_yet : (done k).received ≡ [] = nil_from_length (done k).received (h.long ∙ first) in let none_sent : rows_of k ≡ [] =
+  rests_first first = let none_yet : (done k).received ≡ [] = nil_from_length (done k).received (h.long
+      ∙ first) in let none_sent : rows_of k ≡ [] =
       nil_from_length (rows_of k) (h.made ∙ first) in (
         rests_with (none_yet ∙ ap (λ z. told_all (known z)) (sym none_yet))
             (subst (Wide k.workers) (sym none_sent) (All-nil (λ r. length r ≡ k.workers)))
