@@ -1,5 +1,6 @@
 // How a row of the tests is tried: what the program prints for it, and its exit status.
 
+use crate::compiled::is_compiled;
 use pram_syntax::Buffer;
 use pramc::{SourceFault, Sources, Status};
 use pramc_command::command;
@@ -105,10 +106,10 @@ pub(crate) fn checked(alloc: Global, text: &[u8], line: &str) -> bool {
     prints(alloc, &["check", "program"], text, b"", expected)
 }
 
-// Whether every row holds.
+// Whether every row holds, by the interpreter and by the code that its program is lowered to.
 pub(crate) fn all_hold(alloc: Global, rows: &[Row]) -> bool {
     for row in rows {
-        if !holds(alloc, row) {
+        if !holds(alloc, row) || !is_compiled(alloc, row) {
             return false;
         }
     }
