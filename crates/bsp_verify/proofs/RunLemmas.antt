@@ -137,9 +137,12 @@ module _ (s : State) (u : UniformPart) (d : Describes s u) where
       (some_came u.awaited (d.awaited ∙ a), nil_from_length u.asks (d.asks ∙ b.0), no_put u.put (d.put ∙ b.1))
   may (ToVote x) i e h =
       let a = both (not s.awaits) (eqb s.asks 0 && not s.put) (subst (λ (j : Instr). fits_exchange j s ≡ true) e h) in
-      let b = both (eqb s.asks 0) (not s.put) a.1 in
-      (nothing_awaited (not-true s.awaits a.0), nil_from_length u.asks (d.asks ∙ is_zero s.asks b.0), no_put u.put (d.put
-          ∙ not-true s.put b.1))
+      let b = both (eqb s.asks 0) (not s.put) a.1 in (
+        nothing_awaited (not-true s.awaits a.0),
+        nil_from_length u.asks (d.asks ∙ is_zero s.asks b.0),
+        no_put u.put (d.put
+            ∙ not-true s.put b.1),
+      )
   may (ToClose ended) i e h =
       ⊎_elim (λ x. no_reads Halt refl (subst (λ (j : Instr). fits_exchange j s ≡ true) x h))
       (λ x. no_reads (Mark x.0) refl (subst (λ (j : Instr). fits_exchange j s ≡ true) x.1 h)) e

@@ -1,81 +1,15 @@
 //! Codes that were worked out by hand, run on one memory.
 
+use crate::codes::{
+    ADDED_UP, AT_MOST, BROADCAST, BROADCAST_EREW, COUNTING_DOWN, CROSSED_READS, LATE_CONFLICT,
+    LATE_OUTPUT, OUT_OF_RANGE, THREE_COMPARISONS, THREE_PARTS, THREE_TURNS, TOO_WIDE, TWO_LEVELS,
+    UNIFORM_PUTS, UNIFORM_PUTS_EREW, ZERO_AT_ONCE,
+};
 use flat_run::flat_run;
 use pram_values::{Kind, Place};
 use std::alloc::Global;
 use superstep_listing::read_listing;
 use write_rules::{Fault, Outcome};
-
-// b[i] := a[1] for four processors: the worked listing.
-const BROADCAST: &[u8] =
-    b"bsp 1\nrule crew\nprocs 4\narray a 1 2\narray b 1 4\nuniform 2\nprivate 2\ncode 13\n0 mark 7\n1 uset 0 1\n2 uset 1 4\n3 enter 0 1 1\n4 mark 8\n5 pset 0 1\n6 pask 1 0 0 1\n7 send\n8 reply\n9 pindex 0\n10 pput 1 0 1 2\n11 leave\n12 halt\n";
-
-// Three turns, in each of which every processor adds its index to a register of its own and that
-// register to its cell.
-const THREE_TURNS: &[u8] =
-    b"bsp 1\nrule crew\nprocs 2\narray a 1 2\nuniform 4\nprivate 3\ncode 20\n0 mark 4\n1 uset 0 1\n2 uset 1 2\n3 uset 2 3\n4 mark 5\n5 enter 0 1 1\n6 pindex 0\n7 padd 1 1 0 1\n8 pask 2 0 0 2\n9 send\n10 reply\n11 padd 2 2 1 3\n12 pput 0 0 2 4\n13 leave\n14 send\n15 uset 3 1\n16 usub 2 2 3 1\n17 jzero 2 19\n18 jump 4\n19 halt\n";
-
-// Both processors read both cells, each cell once by each read.
-const CROSSED_READS: &[u8] =
-    b"bsp 1\nrule erew\nprocs 2\narray a 1 2\narray b 1 2\nuniform 2\nprivate 5\ncode 18\n0 mark 4\n1 uset 0 1\n2 uset 1 2\n3 enter 0 1 1\n4 mark 5\n5 pindex 0\n6 pset 1 3\n7 psub 1 1 0 1\n8 pask 2 0 0 2\n9 pask 3 0 1 3\n10 send\n11 reply\n12 pset 4 10\n13 pmul 2 2 4 4\n14 padd 2 2 3 5\n15 pput 1 0 2 6\n16 leave\n17 halt\n";
-
-// Four processors add their indices up in one cell.
-const ADDED_UP: &[u8] =
-    b"bsp 1\nrule sum\nprocs 4\ncell s\nuniform 2\nprivate 2\ncode 10\n0 mark 4\n1 uset 0 1\n2 uset 1 4\n3 enter 0 1 1\n4 mark 4\n5 pindex 0\n6 pset 1 0\n7 pput 0 1 0 1\n8 leave\n9 halt\n";
-
-// Each processor counts down from its index to 1 in a loop of its own, and adds each number to its
-// cell.
-const COUNTING_DOWN: &[u8] =
-    b"bsp 1\nrule crew\nprocs 4\narray a 1 4\nuniform 3\nprivate 5\ncode 27\n0 mark 4\n1 uset 0 1\n2 uset 1 4\n3 enter 0 1 1\n4 mark 4\n5 pindex 0\n6 pcopy 1 0\n7 mark 5\n8 pset 2 1\n9 plt 3 2 1\n10 mask 3\n11 vote 2\n12 jzero 2 24\n13 mark 6\n14 pask 4 0 0 1\n15 send\n16 reply\n17 padd 4 4 1 2\n18 pput 0 0 4 3\n19 send\n20 mark 7\n21 psub 1 1 2 1\n22 unmask\n23 jump 7\n24 unmask\n25 leave\n26 halt\n";
-
-// s := 6; s := s + 1; print s: all by the uniform part.
-const UNIFORM_PUTS: &[u8] =
-    b"bsp 1\nrule sum\nprocs 4\ncell s\nuniform 4\nprivate 0\ncode 14\n0 mark 4\n1 uset 0 0\n2 uset 1 6\n3 uput 0 0 1 1\n4 send\n5 mark 5\n6 uask 2 0 0 1\n7 send\n8 reply\n9 uset 3 1\n10 uadd 2 2 3 2\n11 uput 0 0 2 3\n12 print 2\n13 halt\n";
-
-// The same with exclusive reads.
-const UNIFORM_PUTS_EREW: &[u8] =
-    b"bsp 1\nrule erew\nprocs 4\ncell s\nuniform 4\nprivate 0\ncode 14\n0 mark 4\n1 uset 0 0\n2 uset 1 6\n3 uput 0 0 1 1\n4 send\n5 mark 5\n6 uask 2 0 0 1\n7 send\n8 reply\n9 uset 3 1\n10 uadd 2 2 3 2\n11 uput 0 0 2 3\n12 print 2\n13 halt\n";
-
-// Masks, one in the other, and both ways round.
-const THREE_PARTS: &[u8] =
-    b"bsp 1\nrule erew\nprocs 4\narray a 1 4\narray b 1 4\nuniform 2\nprivate 4\ncode 30\n0 mark 4\n1 uset 0 1\n2 uset 1 4\n3 enter 0 1 1\n4 mark 5\n5 pindex 0\n6 pset 1 3\n7 plt 2 0 1\n8 mask 2\n9 pfrom 3 0\n10 pput 0 0 3 1\n11 pset 3 5\n12 send\n13 flip\n14 mark 6\n15 pset 1 4\n16 plt 2 0 1\n17 mask 2\n18 pset 3 3\n19 pput 0 0 3 2\n20 send\n21 flip\n22 pfrom 3 1\n23 pput 0 0 3 3\n24 send\n25 unmask\n26 pput 1 0 1 4\n27 unmask\n28 leave\n29 halt\n";
-
-// The same with exclusive reads.
-const BROADCAST_EREW: &[u8] =
-    b"bsp 1\nrule erew\nprocs 4\narray a 1 2\narray b 1 4\nuniform 2\nprivate 2\ncode 13\n0 mark 7\n1 uset 0 1\n2 uset 1 4\n3 enter 0 1 1\n4 mark 8\n5 pset 0 1\n6 pask 1 0 0 1\n7 send\n8 reply\n9 pindex 0\n10 pput 1 0 1 2\n11 leave\n12 halt\n";
-
-// Two processors write one cell, one of them divides by zero in the next statement, and both read
-// the cell in the one after it.
-const LATE_CONFLICT: &[u8] =
-    b"bsp 1\nrule common\nprocs 2\ncell s\nuniform 2\nprivate 4\ncode 18\n0 mark 4\n1 uset 0 1\n2 uset 1 2\n3 enter 0 1 1\n4 mark 5\n5 pindex 0\n6 pset 1 0\n7 pput 0 1 0 1\n8 mark 6\n9 pset 2 1\n10 psub 3 0 2 1\n11 pdiv 3 2 3 2\n12 mark 7\n13 pask 3 0 1 1\n14 send\n15 reply\n16 leave\n17 halt\n";
-
-// r := a[a[i]] + a[1 div (i - 2)], with both inner reads in one exchange.
-const TWO_LEVELS: &[u8] =
-    b"bsp 1\nrule crew\nprocs 2\narray a 1 2\nuniform 2\nprivate 6\ncode 20\n0 mark 4\n1 uset 0 1\n2 uset 1 2\n3 enter 0 1 1\n4 mark 4\n5 pindex 0\n6 pset 1 1\n7 pset 2 2\n8 psub 3 0 2 3\n9 pdiv 3 1 3 4\n10 pask 4 0 0 1\n11 pask 5 0 3 5\n12 send\n13 reply\n14 pask 4 0 4 2\n15 send\n16 reply\n17 padd 4 4 5 6\n18 leave\n19 halt\n";
-
-// A read out of range, whose register then divides itself, before any exchange.
-const ZERO_AT_ONCE: &[u8] =
-    b"bsp 1\nrule crew\nprocs 1\narray a 0 0\nuniform 2\nprivate 0\ncode 7\n0 uset 0 5\n1 uset 1 1\n2 uask 1 0 0 3\n3 udiv 0 1 1 1\n4 send\n5 reply\n6 halt\n";
-
-// A read out of range, whose register is set again before the exchange, and then divides itself.
-const OUT_OF_RANGE: &[u8] =
-    b"bsp 1\nrule crew\nprocs 1\narray a 0 0\nuniform 2\nprivate 0\ncode 7\n0 uset 0 5\n1 uask 1 0 0 3\n2 uset 1 1\n3 send\n4 reply\n5 udiv 0 1 1 1\n6 halt\n";
-
-// A statement that prints, one that prints after a division by zero, and one more that prints.
-const LATE_OUTPUT: &[u8] =
-    b"bsp 1\nrule crew\nprocs 1\nuniform 2\nprivate 0\ncode 9\n0 mark 1\n1 uset 0 4\n2 print 0\n3 mark 2\n4 udiv 1 0 1 1\n5 print 1\n6 mark 3\n7 print 0\n8 halt\n";
-
-// A register compared with itself.
-const AT_MOST: &[u8] =
-    b"bsp 1\nrule crew\nprocs 1\nuniform 1\nprivate 0\ncode 2\n0 ule 0 0 0\n1 halt\n";
-
-// 2 <= 3, 2 <= 2 and 3 <= 2, and the same by the one processor.
-const THREE_COMPARISONS: &[u8] =
-    b"bsp 1\nrule crew\nprocs 1\narray a 0 2\nuniform 3\nprivate 4\ncode 29\n0 mark 1\n1 uset 0 2\n2 uset 1 3\n3 ule 2 0 1\n4 print 2\n5 ule 2 0 0\n6 print 2\n7 ule 2 1 0\n8 print 2\n9 enter 0 0 1\n10 pset 0 2\n11 pset 1 3\n12 pset 3 0\n13 ple 2 0 1\n14 pput 0 3 2 1\n15 send\n16 mark 2\n17 pset 3 1\n18 ple 2 0 0\n19 pput 0 3 2 1\n20 send\n21 mark 3\n22 pset 3 2\n23 ple 2 1 0\n24 pput 0 3 2 1\n25 send\n26 leave\n27 print 0\n28 halt\n";
-
-// More processors than there may be.
-const TOO_WIDE: &[u8] =
-    b"bsp 1\nrule crew\nprocs 3\narray a 1 2\narray b 1 4\nuniform 2\nprivate 2\ncode 13\n0 mark 7\n1 uset 0 1\n2 uset 1 4\n3 enter 0 1 1\n4 mark 8\n5 pset 0 1\n6 pask 1 0 0 1\n7 send\n8 reply\n9 pindex 0\n10 pput 1 0 1 2\n11 leave\n12 halt\n";
 
 fn run(alloc: Global, text: &[u8], input: &[i64], bound: u32) -> Option<Outcome> {
     let code = read_listing(alloc, text).ok()?;

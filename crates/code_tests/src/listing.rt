@@ -1,17 +1,69 @@
 //! Listings, each with its code or the offset of its first wrong line, as worked out by hand.
 
+use crate::codes::BROADCAST;
 use pram_model::Rule;
 use std::alloc::Global;
 use superstep_code::{Instr, Side, Truth};
 use superstep_listing::{ListingFault, read_listing, write_listing};
 use text_out::Buffer;
 
-const WORKED: &[u8] =
-    b"bsp 1\nrule crew\nprocs 4\narray a 1 2\narray b 1 4\nuniform 2\nprivate 2\ncode 13\n0 mark 7\n1 uset 0 1\n2 uset 1 4\n3 enter 0 1 1\n4 mark 8\n5 pset 0 1\n6 pask 1 0 0 1\n7 send\n8 reply\n9 pindex 0\n10 pput 1 0 1 2\n11 leave\n12 halt\n";
-
 // Each word of the format, with its greatest operands once.
-const WORDS: &[u8] =
-    b"bsp 1\nrule sum\nprocs 16384\ncell s\nuniform 65536\nprivate 65536\ncode 48\n0 mark 4294967295\n1 uset 65535 -9223372036854775808\n2 pset 0 9223372036854775807\n3 ucopy 1 2\n4 pcopy 3 4\n5 uneg 1 2 3\n6 pneg 4 5 6\n7 uadd 1 2 3 4\n8 usub 1 2 3 4\n9 umul 1 2 3 4\n10 udiv 1 2 3 4\n11 umod 1 2 3 4\n12 padd 1 2 3 4\n13 psub 1 2 3 4\n14 pmul 1 2 3 4\n15 pdiv 1 2 3 4\n16 pmod 1 2 3 4\n17 ueq 1 2 3\n18 ult 1 2 3\n19 ule 1 2 3\n20 uand 1 2 3\n21 uor 1 2 3\n22 peq 1 2 3\n23 plt 1 2 3\n24 ple 1 2 3\n25 pand 1 2 3\n26 por 1 2 3\n27 unot 1 2\n28 pnot 1 2\n29 pfrom 1 2\n30 pindex 1\n31 enter 1 2 3\n32 leave\n33 mask 1\n34 flip\n35 unmask\n36 uask 1 2 3 4\n37 pask 1 2 3 4\n38 uput 1 2 3 4\n39 pput 1 2 3 4\n40 send\n41 reply\n42 vote 1\n43 print 1\n44 jump 65535\n45 jzero 1 2\n46 uset 0 0\n47 halt\n";
+const WORDS: &[u8] = b"bsp 1
+rule sum
+procs 16384
+cell s
+uniform 65536
+private 65536
+code 48
+0 mark 4294967295
+1 uset 65535 -9223372036854775808
+2 pset 0 9223372036854775807
+3 ucopy 1 2
+4 pcopy 3 4
+5 uneg 1 2 3
+6 pneg 4 5 6
+7 uadd 1 2 3 4
+8 usub 1 2 3 4
+9 umul 1 2 3 4
+10 udiv 1 2 3 4
+11 umod 1 2 3 4
+12 padd 1 2 3 4
+13 psub 1 2 3 4
+14 pmul 1 2 3 4
+15 pdiv 1 2 3 4
+16 pmod 1 2 3 4
+17 ueq 1 2 3
+18 ult 1 2 3
+19 ule 1 2 3
+20 uand 1 2 3
+21 uor 1 2 3
+22 peq 1 2 3
+23 plt 1 2 3
+24 ple 1 2 3
+25 pand 1 2 3
+26 por 1 2 3
+27 unot 1 2
+28 pnot 1 2
+29 pfrom 1 2
+30 pindex 1
+31 enter 1 2 3
+32 leave
+33 mask 1
+34 flip
+35 unmask
+36 uask 1 2 3 4
+37 pask 1 2 3 4
+38 uput 1 2 3 4
+39 pput 1 2 3 4
+40 send
+41 reply
+42 vote 1
+43 print 1
+44 jump 65535
+45 jzero 1 2
+46 uset 0 0
+47 halt
+";
 
 // A register compared with itself.
 const AT_MOST: &[u8] =
@@ -27,7 +79,7 @@ fn fault(alloc: Global, text: &[u8]) -> Option<ListingFault> {
 #[test]
 fn the_worked_listing_is_read(rt: HostRuntime) {
     let alloc = rt.alloc();
-    let code = read_listing(alloc, WORKED).ok().expect(&rt, "a listing");
+    let code = read_listing(alloc, BROADCAST).ok().expect(&rt, "a listing");
     assert_eq!(rt; code.rule(), Rule::Crew);
     assert_eq!(rt; code.procs(), 4);
     assert_eq!(rt; code.layout().cells(), 6);
@@ -77,7 +129,7 @@ fn at_most_is_read(rt: HostRuntime) {
 #[test]
 fn listings_are_written_back(rt: HostRuntime) {
     let alloc = rt.alloc();
-    for text in [WORKED, WORDS, AT_MOST] {
+    for text in [BROADCAST, WORDS, AT_MOST] {
         let code = read_listing(alloc, text).ok().expect(&rt, "a listing");
         let mut out = Buffer::new(alloc);
         assert!(rt; write_listing(&code, &mut out).is_ok());
@@ -89,8 +141,8 @@ fn listings_are_written_back(rt: HostRuntime) {
 fn each_front_of_a_listing_is_refused(rt: HostRuntime) {
     let alloc = rt.alloc();
     let mut line = 0;
-    for (end, byte) in WORKED.iter().enumerate() {
-        let front = &WORKED[..end];
+    for (end, byte) in BROADCAST.iter().enumerate() {
+        let front = &BROADCAST[..end];
         assert_eq!(rt; fault(alloc, front), Some(ListingFault::BadListing(line)));
         if *byte == b'\n' {
             line = end as u32 + 1;
@@ -98,24 +150,24 @@ fn each_front_of_a_listing_is_refused(rt: HostRuntime) {
     }
     assert_eq!(rt; line, 215);
     assert_eq!(rt;
-        fault(alloc, &WORKED[..24]),
+        fault(alloc, &BROADCAST[..24]),
         Some(ListingFault::BadListing(24))
     );
     // Without its last LF.
     assert_eq!(rt;
-        fault(alloc, &WORKED[..214]),
+        fault(alloc, &BROADCAST[..214]),
         Some(ListingFault::BadListing(207))
     );
-    assert_eq!(rt; &WORKED[207..214], b"12 halt".as_slice());
+    assert_eq!(rt; &BROADCAST[207..214], b"12 halt".as_slice());
 }
 
 #[test]
 fn changes_of_one_byte_are_counted(rt: HostRuntime) {
     let alloc = rt.alloc();
-    let mut changed = Vec::from_slice(alloc, WORKED).ok().expect(&rt, "memory");
+    let mut changed = Vec::from_slice(alloc, BROADCAST).ok().expect(&rt, "memory");
     let mut read: u32 = 0;
     let mut refused: u32 = 0;
-    for (i, old) in WORKED.iter().enumerate() {
+    for (i, old) in BROADCAST.iter().enumerate() {
         for byte in 0..=255u8 {
             if byte != *old {
                 changed[i] = byte;

@@ -1,5 +1,6 @@
 //! Listings, each verified or with its first fault, as worked out by hand.
 
+use crate::codes::BROADCAST;
 use bsp_verify::{Reason, VerifyFault, verify};
 use std::alloc::Global;
 use superstep_listing::read_listing;
@@ -16,15 +17,68 @@ fn read_and_verify(alloc: Global, text: &[u8]) -> Option<Result<(), VerifyFault>
 fn code_is_verified(rt: HostRuntime) {
     for text in [
         // b[i] := a[1] for four processors
-        b"bsp 1\nrule crew\nprocs 4\narray a 1 2\narray b 1 4\nuniform 2\nprivate 2\ncode 13\n0 mark 7\n1 uset 0 1\n2 uset 1 4\n3 enter 0 1 1\n4 mark 8\n5 pset 0 1\n6 pask 1 0 0 1\n7 send\n8 reply\n9 pindex 0\n10 pput 1 0 1 2\n11 leave\n12 halt\n".as_slice(),
+        b"bsp 1
+rule crew
+procs 4
+array a 1 2
+array b 1 4
+uniform 2
+private 2
+code 13
+0 mark 7
+1 uset 0 1
+2 uset 1 4
+3 enter 0 1 1
+4 mark 8
+5 pset 0 1
+6 pask 1 0 0 1
+7 send
+8 reply
+9 pindex 0
+10 pput 1 0 1 2
+11 leave
+12 halt
+"
+            .as_slice(),
         b"bsp 1\nrule crew\nprocs 1\nuniform 0\nprivate 0\ncode 2\n0 mark 1\n1 jump 0\n",
         b"bsp 1\nrule crew\nprocs 1\nuniform 1\nprivate 0\ncode 2\n0 ule 0 0 0\n1 halt\n",
         // both ways round a mask
         b"bsp 1\nrule crew\nprocs 1\nuniform 1\nprivate 1\ncode 7\n0 enter 0 0 1\n1 mask 0\n2 vote 0\n3 flip\n4 unmask\n5 leave\n6 halt\n",
         // a write is held from before the range to its end
-        b"bsp 1\nrule crew\nprocs 1\ncell s\nuniform 1\nprivate 0\ncode 6\n0 uput 0 0 0 1\n1 mark 2\n2 enter 0 0 1\n3 leave\n4 send\n5 halt\n",
+        b"bsp 1
+rule crew
+procs 1
+cell s
+uniform 1
+private 0
+code 6
+0 uput 0 0 0 1
+1 mark 2
+2 enter 0 0 1
+3 leave
+4 send
+5 halt
+",
         // eight reads
-        b"bsp 1\nrule crew\nprocs 1\ncell s\nuniform 1\nprivate 0\ncode 11\n0 uask 0 0 0 1\n1 uask 0 0 0 2\n2 uask 0 0 0 3\n3 uask 0 0 0 4\n4 uask 0 0 0 5\n5 uask 0 0 0 6\n6 uask 0 0 0 7\n7 uask 0 0 0 8\n8 send\n9 reply\n10 halt\n",
+        b"bsp 1
+rule crew
+procs 1
+cell s
+uniform 1
+private 0
+code 11
+0 uask 0 0 0 1
+1 uask 0 0 0 2
+2 uask 0 0 0 3
+3 uask 0 0 0 4
+4 uask 0 0 0 5
+5 uask 0 0 0 6
+6 uask 0 0 0 7
+7 uask 0 0 0 8
+8 send
+9 reply
+10 halt
+",
     ] {
         assert_eq!(rt; read_and_verify(rt.alloc(), text), Some(Ok(())));
     }
@@ -106,13 +160,103 @@ const REFUSED: [(&[u8], u32, Reason); 23] = [
     ),
     // the mask at 65 would be the 65th
     (
-        b"bsp 1\nrule crew\nprocs 4\nuniform 1\nprivate 1\ncode 67\n0 enter 0 0 1\n1 mask 0\n2 mask 0\n3 mask 0\n4 mask 0\n5 mask 0\n6 mask 0\n7 mask 0\n8 mask 0\n9 mask 0\n10 mask 0\n11 mask 0\n12 mask 0\n13 mask 0\n14 mask 0\n15 mask 0\n16 mask 0\n17 mask 0\n18 mask 0\n19 mask 0\n20 mask 0\n21 mask 0\n22 mask 0\n23 mask 0\n24 mask 0\n25 mask 0\n26 mask 0\n27 mask 0\n28 mask 0\n29 mask 0\n30 mask 0\n31 mask 0\n32 mask 0\n33 mask 0\n34 mask 0\n35 mask 0\n36 mask 0\n37 mask 0\n38 mask 0\n39 mask 0\n40 mask 0\n41 mask 0\n42 mask 0\n43 mask 0\n44 mask 0\n45 mask 0\n46 mask 0\n47 mask 0\n48 mask 0\n49 mask 0\n50 mask 0\n51 mask 0\n52 mask 0\n53 mask 0\n54 mask 0\n55 mask 0\n56 mask 0\n57 mask 0\n58 mask 0\n59 mask 0\n60 mask 0\n61 mask 0\n62 mask 0\n63 mask 0\n64 mask 0\n65 mask 0\n66 halt\n",
+        b"bsp 1
+rule crew
+procs 4
+uniform 1
+private 1
+code 67
+0 enter 0 0 1
+1 mask 0
+2 mask 0
+3 mask 0
+4 mask 0
+5 mask 0
+6 mask 0
+7 mask 0
+8 mask 0
+9 mask 0
+10 mask 0
+11 mask 0
+12 mask 0
+13 mask 0
+14 mask 0
+15 mask 0
+16 mask 0
+17 mask 0
+18 mask 0
+19 mask 0
+20 mask 0
+21 mask 0
+22 mask 0
+23 mask 0
+24 mask 0
+25 mask 0
+26 mask 0
+27 mask 0
+28 mask 0
+29 mask 0
+30 mask 0
+31 mask 0
+32 mask 0
+33 mask 0
+34 mask 0
+35 mask 0
+36 mask 0
+37 mask 0
+38 mask 0
+39 mask 0
+40 mask 0
+41 mask 0
+42 mask 0
+43 mask 0
+44 mask 0
+45 mask 0
+46 mask 0
+47 mask 0
+48 mask 0
+49 mask 0
+50 mask 0
+51 mask 0
+52 mask 0
+53 mask 0
+54 mask 0
+55 mask 0
+56 mask 0
+57 mask 0
+58 mask 0
+59 mask 0
+60 mask 0
+61 mask 0
+62 mask 0
+63 mask 0
+64 mask 0
+65 mask 0
+66 halt
+",
         65,
         Reason::Mask,
     ),
     // a ninth read
     (
-        b"bsp 1\nrule crew\nprocs 4\ncell s\nuniform 1\nprivate 0\ncode 10\n0 uask 0 0 0 1\n1 uask 0 0 0 2\n2 uask 0 0 0 3\n3 uask 0 0 0 4\n4 uask 0 0 0 5\n5 uask 0 0 0 6\n6 uask 0 0 0 7\n7 uask 0 0 0 8\n8 uask 0 0 0 9\n9 halt\n",
+        b"bsp 1
+rule crew
+procs 4
+cell s
+uniform 1
+private 0
+code 10
+0 uask 0 0 0 1
+1 uask 0 0 0 2
+2 uask 0 0 0 3
+3 uask 0 0 0 4
+4 uask 0 0 0 5
+5 uask 0 0 0 6
+6 uask 0 0 0 7
+7 uask 0 0 0 8
+8 uask 0 0 0 9
+9 halt
+",
         8,
         Reason::Exchange,
     ),
@@ -186,16 +330,13 @@ fn verified_code_can_be_taken(rt: HostRuntime) {
     assert_eq!(rt; verified.into_code().procs(), 4);
 }
 
-const WORKED: &[u8] =
-    b"bsp 1\nrule crew\nprocs 4\narray a 1 2\narray b 1 4\nuniform 2\nprivate 2\ncode 13\n0 mark 7\n1 uset 0 1\n2 uset 1 4\n3 enter 0 1 1\n4 mark 8\n5 pset 0 1\n6 pask 1 0 0 1\n7 send\n8 reply\n9 pindex 0\n10 pput 1 0 1 2\n11 leave\n12 halt\n";
-
 #[test]
 fn changes_of_one_byte_are_counted(rt: HostRuntime) {
     let alloc = rt.alloc();
-    let mut changed = Vec::from_slice(alloc, WORKED).ok().expect(&rt, "memory");
+    let mut changed = Vec::from_slice(alloc, BROADCAST).ok().expect(&rt, "memory");
     let mut verified: u32 = 0;
     let mut refused: u32 = 0;
-    for (i, old) in WORKED.iter().enumerate() {
+    for (i, old) in BROADCAST.iter().enumerate() {
         for byte in 0..=255u8 {
             if byte != *old {
                 changed[i] = byte;

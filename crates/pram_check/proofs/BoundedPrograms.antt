@@ -53,7 +53,7 @@ declared_there layout uniforms front u (declare.Cell x ∷ ds) all count =
     let here : slice_get layout (length front) ≡ Some e = ap (λ l. slice_get l (length front)) all
     ∙ entry_behind front e (shared_entries ds) in
     let more = declared_there layout uniforms (front ++ e ∷ []) u ds (all ∙ sym (append_assoc front (e ∷ [])
-        (shared_entries ds))) count in (
+    (shared_entries ds))) count in (
       subst (λ o. MatchOption o ⊥ (λ e. e.bounds ≡ None)) (sym here) refl,
       subst (λ n. AreThere (outer layout uniforms) (declared_from n u ds)) (longer front e) more,
     )
@@ -62,7 +62,7 @@ declared_there layout uniforms front u (declare.Array x low high ∷ ds) all cou
     let here : slice_get layout (length front) ≡ Some e = ap (λ l. slice_get l (length front)) all
     ∙ entry_behind front e (shared_entries ds) in
     let more = declared_there layout uniforms (front ++ e ∷ []) u ds (all ∙ sym (append_assoc front (e ∷ [])
-        (shared_entries ds))) count in (
+    (shared_entries ds))) count in (
       subst (λ o. MatchOption o ⊥ (λ e. (b : ℤ × ℤ) × (e.bounds ≡ Some b))) (sym here) ((low.value, high.value), refl),
       subst (λ n. AreThere (outer layout uniforms) (declared_from n u ds)) (longer front e) more,
     )

@@ -231,7 +231,7 @@ gives_keeps blocks p words words' homes team ok w lw x' xs ys lx ly px py all he
           (λ (now : s ≡ f + 1). subst (λ (z : ℕ × ℕ). Parcel blocks p homes' (put team w x' z.0) z.0 l z.1) (λ q. (sym e q, sym now q))
           (new_parcel l ll))
           (λ earlier. old_parcel k l s lk ll h₀ h₁ (let a : s < given x' = gives_now k e s h₁ in let g : ℕ =
-              given x' in let g' : g ≡ f + 2 =
+          given x' in let g' : g ≡ f + 2 =
           gives' in let l' : ℕ = weight (team w).left in let r : s < f + 1 + l' = omega arith in
           subst (λ (z : ℕ). s < given (team z)) (sym e) r) (λ _ now. earlier now)))
           (λ other. old_parcel k l s lk ll h₀ h₁ (at_put team w x' (λ z y. s < given y →

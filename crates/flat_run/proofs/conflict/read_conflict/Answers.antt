@@ -24,6 +24,6 @@ cells-preserved c =
     ∙ ap (λ came. cond (is_private read.side && is_several came) (Some (conflict_at read.moment d ReadConflict)) None)
     (c.askers-came.ensures
     ∙ ap (λ ps. total None several (λ v. asks_for d (cell_at c.args.k (own_of ps v).asks)) (range_with_len 0
-        (length ps))) c.deref.ensures.value
+    (length ps))) c.deref.ensures.value
     ∙ ap (λ n. total None several (λ v. asks_for d (cell_at c.args.k (own_of m.processors.items v).asks)) (range_with_len 0 n))
     c.requires.processors)))

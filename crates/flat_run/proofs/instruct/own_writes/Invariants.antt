@@ -12,7 +12,7 @@ invariant-processors g l =
     (length l.held.items ≡ length l.fn.held.items)
     × ((c : ℕ) → c < length l.fn.held.items → IsSumFrom None (join (g.R.WriteRule.rule l.rule))
     (λ v. single_to (g.R.WriteRule.rule l.rule) c (index_of (uniform_of l.u) v) (own_write l.code l.instr
-        (own_of l.processors v))) l.u.width l.v
+    (own_of l.processors v))) l.u.width l.v
     (held_of l.held.items c))
     × (l.v ≤ l.u.width)
 
