@@ -4,6 +4,8 @@
 #[cfg(test)]
 mod compiled;
 #[cfg(test)]
+mod plans;
+#[cfg(test)]
 mod rows;
 #[cfg(test)]
 mod rows_check;
