@@ -7,11 +7,8 @@ sources := $(shell find crates -name out -prune -o \( -name '*.rt' -o -name '*.a
 # Proves the crates of the program and builds it.
 all: bin/pramc
 
-# `rt run` is the toolchain's way to link a program. A failed proof fails it.
 bin/pramc: $(sources)
-	cd crates/pramc_cli && rt run -- check ../../examples/sum.pram >/dev/null
-	mkdir -p bin
-	cp crates/pramc_cli/out/pramc_cli bin/pramc
+	bash gate/build.sh
 
 # Runs every example and compares what it prints.
 examples:
