@@ -1,0 +1,9 @@
+pub mod Fitting
+pub mod FormulaFits
+pub mod ShapeFits
+pub mod Jumps
+pub mod Ready
+pub mod StepsFormed
+pub mod StatementsFormed
+pub mod RegistersStand
+pub mod ProgramsFormed
