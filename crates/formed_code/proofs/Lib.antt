@@ -7,3 +7,5 @@ pub mod StepsFormed
 pub mod StatementsFormed
 pub mod RegistersStand
 pub mod ProgramsFormed
+pub mod Straight
+pub mod Fine

@@ -1,1 +1,2 @@
 pub mod FormedCode
+pub mod Straight

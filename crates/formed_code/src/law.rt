@@ -1,9 +1,19 @@
 //! Laws of the code of programs within bounds.
 
 ghost use Rattle.formed_code.specs.FormedCode.{FormsAreWellFormed};
+ghost use Rattle.formed_code.specs.Straight.{MarksComeFirst, StraightPartsAreFine, EvaluationsStay};
 
 /// The code of a program within bounds is well formed, with empty sends and without: so the
 /// verifier accepts it.
 pub fn forms_are_well_formed()
     ensures formed { FormsAreWellFormed }
+{}
+
+/// What stands behind the mark of a statement, up to where control parts or the statement ends, is
+/// run as a fold, with a write held before and behind it or not; and what is evaluated there sets
+/// no register below the statement's own.
+pub fn straight_parts_are_fine()
+    ensures marks { MarksComeFirst }
+    ensures fine { StraightPartsAreFine }
+    ensures stay { EvaluationsStay }
 {}
