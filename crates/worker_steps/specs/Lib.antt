@@ -1,0 +1,5 @@
+pub mod Shown
+pub mod Fitted
+pub mod Met
+pub mod Kinds
+pub mod Done
