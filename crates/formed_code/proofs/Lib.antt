@@ -9,3 +9,4 @@ pub mod RegistersStand
 pub mod ProgramsFormed
 pub mod Straight
 pub mod Fine
+pub mod Calm

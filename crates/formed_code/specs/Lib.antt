@@ -1,2 +1,3 @@
 pub mod FormedCode
 pub mod Straight
+pub mod Calm

@@ -1,6 +1,8 @@
 //! Laws of the code of programs within bounds.
 
 ghost use Rattle.formed_code.specs.FormedCode.{FormsAreWellFormed};
+ghost use Rattle.formed_code.specs.Calm.{StatementsBeginCalm, PartsEndCalm, BranchesAreCalm, LoopsAreCalm};
+ghost use Rattle.formed_code.specs.Calm.{TurnsAreCalm, RangesAreCalm, MasksAreCalm};
 ghost use Rattle.formed_code.specs.Straight.{MarksComeFirst, StraightPartsAreFine, EvaluationsStay};
 
 /// The code of a program within bounds is well formed, with empty sends and without: so the
@@ -16,4 +18,18 @@ pub fn straight_parts_are_fine()
     ensures marks { MarksComeFirst }
     ensures fine { StraightPartsAreFine }
     ensures stay { EvaluationsStay }
+{}
+
+/// Where the place behind a statement is calm, so is the place behind each of its straight parts and
+/// behind each of its blocks: a fault that is noted there is told before anything else happens.
+pub fn parts_are_calm()
+    ensures begin { StatementsBeginCalm }
+    ensures end { PartsEndCalm }
+    // Outside pardo.
+    ensures branches { BranchesAreCalm }
+    ensures loops { LoopsAreCalm }
+    ensures turns { TurnsAreCalm }
+    ensures ranges { RangesAreCalm }
+    // Inside.
+    ensures masks { MasksAreCalm }
 {}

@@ -1,0 +1,14 @@
+use Rattle.formed_code.proofs.Calm.{statements_begin_calm, parts_end_calm, branches_are_calm, loops_are_calm, turns_are_calm, ranges_are_calm}
+use Rattle.formed_code.proofs.Calm.{masks_are_calm}
+use Rattle.formed_code.proofs.law.parts_are_calm.Goals as goal
+
+pub returns : goal.returns
+returns c = record {
+  begin = statements_begin_calm;
+  end = parts_end_calm;
+  branches = branches_are_calm;
+  loops = loops_are_calm;
+  turns = turns_are_calm;
+  ranges = ranges_are_calm;
+  masks = masks_are_calm;
+}
