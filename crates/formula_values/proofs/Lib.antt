@@ -1,0 +1,10 @@
+pub mod Terms
+pub mod Lone
+pub mod Levels
+pub mod Operations
+pub mod Shown
+pub mod RegionValues
+pub mod LevelReads
+pub mod Asks
+pub mod AskedLevels
+pub mod Parts
