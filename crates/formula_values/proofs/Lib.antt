@@ -8,3 +8,9 @@ pub mod LevelReads
 pub mod Asks
 pub mod AskedLevels
 pub mod Parts
+pub mod Kept
+pub mod UniformSteps
+pub mod StepNotes
+pub mod OutsideLevels
+pub mod AtRest
+pub mod Outside

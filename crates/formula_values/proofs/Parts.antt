@@ -1,8 +1,7 @@
 -- Which instructions the code of a formula has: on registers of one side from `base` on, asks for these, sends and replies.
-use Rattle.std.proofs.Common.{◌≡◌, ℕ, zero, suc, ◌+◌, ◌≤◌, List, [], ◌∷◌, ◌++◌, Bool, true, false, refl, arith}
-use Rattle.std.specs.Prelude.{◌&&◌, nat_le, nat_eq}
+use Rattle.std.proofs.Common.{ℕ, zero, suc, ◌+◌, ◌≤◌, List, [], ◌∷◌, ◌++◌, Bool, true, false, arith}
+use Rattle.std.specs.Prelude.{nat_eq}
 use Rattle.std.specs.List.{AllByRecursion}
-use Rattle.std.proofs.lemmas.Bool.Decides.{nat_tests}
 use Rattle.pram_tokens.specs.declared.token.Binary.{Binary}
 use Rattle.pram_tokens.specs.declared.token.Binary.TheVariants.{Or, And, Equal, Unequal, Less, AtMost, Greater, AtLeast, Add, Subtract}
 use Rattle.pram_tokens.specs.declared.token.Binary.TheVariants.{Multiply, Divide, Remainder}
@@ -110,11 +109,16 @@ module _ (base : ℕ) (side : Side) where
     of_parts [] h = tt
     of_parts (i ∷ is) h = (part i h.0, of_parts is h.1)
 
+    pub of_group : (l : ℕ) (f : Formula) (t b : ℕ) → base ≤ t → base ≤ b →
+        AllByRecursion P (asks side l f t b 0 ++ Send ∷ Reply ∷ [])
+    of_group l f t b h k =
+        all_joined P (asks side l f t b 0) (Send ∷ Reply ∷ []) (of_parts (asks side l f t b 0) (asks_parts l f t b 0 h k))
+        (send, (reply, tt))
+
     pub of_groups : (n l : ℕ) (f : Formula) (t b : ℕ) → base ≤ t → base ≤ b → AllByRecursion P (groups side n l f t b)
     of_groups zero l f t b h k = tt
     of_groups (suc n) l f t b h k =
-        all_joined P (asks side l f t b 0 ++ Send ∷ Reply ∷ []) (groups side n (l + 1) f t b)
-        (all_joined P (asks side l f t b 0) (Send ∷ Reply ∷ []) (of_parts (asks side l f t b 0) (asks_parts l f t b 0 h k)) (send, (reply, tt)))
+        all_joined P (asks side l f t b 0 ++ Send ∷ Reply ∷ []) (groups side n (l + 1) f t b) (of_group l f t b h k)
         (of_groups n (l + 1) f t b h k)
 
     pub of_all : (f : Formula) → AllByRecursion P (evaluated side base f)

@@ -1,2 +1,4 @@
 pub mod Terms
 pub mod Environments
+pub mod Headings
+pub mod Outside

@@ -2,6 +2,7 @@
 
 ghost use Rattle.formula_values.specs.Terms.{ExpressionsAreTerms, StepsAreSteps};
 ghost use Rattle.formula_values.specs.Environments.{ExpressionsAreNamed};
+ghost use Rattle.formula_values.specs.Outside.{FormulasAreEvaluatedOutside, PairsAreEvaluatedOutside};
 
 /// An expression as a formula is the same as evaluation's term of it: it has the same value, and the
 /// same happens at its positions; and it names what the expression names.
@@ -9,4 +10,12 @@ pub fn expressions_are_formulas()
     ensures terms { ExpressionsAreTerms }
     ensures steps { StepsAreSteps }
     ensures names { ExpressionsAreNamed }
+{}
+
+/// Outside pardo the code of a formula leaves its value in its register, and of a pair both values;
+/// all that is shown of the program stays, and the key that is noted is evaluation's: that of the first
+/// position at which anything is wrong.
+pub fn formulas_are_evaluated_outside()
+    ensures formulas { FormulasAreEvaluatedOutside }
+    ensures pairs { PairsAreEvaluatedOutside }
 {}
