@@ -10,3 +10,7 @@ pub mod ProgramsFormed
 pub mod Straight
 pub mod Fine
 pub mod Calm
+pub mod SmallFormulas
+pub mod SmallShapes
+pub mod SmallSteps
+pub mod SmallPrograms

@@ -42,7 +42,7 @@ marks_come_first = record {
 
 -- ---- lists
 
-all_join : (P : Instr → Type 0) (xs ys : List Instr) → AllByRecursion P xs → AllByRecursion P ys → AllByRecursion P (xs ++ ys)
+pub all_join : (P : Instr → Type 0) (xs ys : List Instr) → AllByRecursion P xs → AllByRecursion P ys → AllByRecursion P (xs ++ ys)
 all_join P [] ys a b = b
 all_join P (x ∷ xs) ys a b = (a.0, all_join P xs ys a.1 b)
 

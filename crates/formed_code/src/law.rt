@@ -1,6 +1,6 @@
 //! Laws of the code of programs within bounds.
 
-ghost use Rattle.formed_code.specs.FormedCode.{FormsAreWellFormed};
+ghost use Rattle.formed_code.specs.FormedCode.{FormsAreWellFormed, FormsAreCode};
 ghost use Rattle.formed_code.specs.Calm.{StatementsBeginCalm, PartsEndCalm, BranchesAreCalm, LoopsAreCalm};
 ghost use Rattle.formed_code.specs.Calm.{TurnsAreCalm, RangesAreCalm, MasksAreCalm};
 ghost use Rattle.formed_code.specs.Straight.{MarksComeFirst, StraightPartsAreFine, EvaluationsStay};
@@ -9,6 +9,12 @@ ghost use Rattle.formed_code.specs.Straight.{MarksComeFirst, StraightPartsAreFin
 /// verifier accepts it.
 pub fn forms_are_well_formed()
     ensures formed { FormsAreWellFormed }
+{}
+
+/// It keeps the limits of a listing: each register, each declaration, each position and the target of each
+/// jump has a number there, if each line has.
+pub fn forms_are_code()
+    ensures limits { FormsAreCode }
 {}
 
 /// What stands behind the mark of a statement, up to where control parts or the statement ends, is
