@@ -1,7 +1,6 @@
 // The same rows by the code that a program is lowered to: fused, and run on one memory.
 
 use crate::rows::Row;
-use bsp_verify::verify;
 use flat_run::flat_run;
 use fusing::fuse;
 use lowering::lower;
@@ -34,7 +33,7 @@ fn printed(alloc: Global, program: &Program, code: &Code, row: &Row) -> Option<B
 // What the lowered code of a row's program prints, and what it prints without its empty sends.
 fn both(alloc: Global, row: &Row) -> Option<(Buffer, Buffer)> {
     let program = accepted(alloc, row.text.as_bytes())?;
-    let verified = verify(alloc, lower(alloc, &program).ok()?).ok()?;
+    let verified = lower(alloc, &program).ok()?;
     let plain = printed(alloc, &program, verified.code(), row)?;
     let fused = fuse(alloc, verified).ok()?;
     let left = printed(alloc, &program, fused.code(), row)?;

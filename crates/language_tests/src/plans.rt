@@ -1,7 +1,6 @@
 // Programs with the listings of their code without its empty sends, worked out by hand.
 
 use crate::compiled::accepted;
-use bsp_verify::verify;
 use fusing::fuse;
 use lowering::lower;
 use pram_syntax::Buffer;
@@ -97,8 +96,7 @@ code 42
 // The listing of the fused code of a text.
 fn plan(alloc: Global, text: &[u8]) -> Option<Buffer> {
     let program = accepted(alloc, text)?;
-    let code = lower(alloc, &program).ok()?;
-    let verified = verify(alloc, code).ok()?;
+    let verified = lower(alloc, &program).ok()?;
     let left = fuse(alloc, verified).ok()?;
     let mut out = Buffer::new(alloc);
     write_listing(left.code(), &mut out).ok()?;

@@ -1,6 +1,7 @@
 //! The code of an accepted program.
 
 ghost use Rattle.std.specs.Prelude.{◌≡◌, IfOk, true};
+ghost use Rattle.bsp_verify.specs.WellFormed.{IsWellFormed};
 ghost use Rattle.pram_check.specs.Bounded.{IsBounded};
 ghost use Rattle.pram_check.specs.Checked.{IsResolved};
 ghost use Rattle.plain_form.specs.PlainForm.{form_of, instructions_of};
@@ -10,6 +11,7 @@ use crate::finish::{all_fit, registers};
 use crate::outside::statement;
 use crate::refusal::LowerRefusal;
 use crate::region::variable;
+use bsp_verify::{Verified, VerifyFault, verify};
 use pram_check::Program;
 use pram_model::Layout;
 use std::alloc::Global;
@@ -50,15 +52,27 @@ fn code(program: &Program, layout: Layout, instructions: Vec<Instr>) -> Code
     )
 }
 
+// Code that is well formed, as verified.
+fn verified(alloc: Global, code: Code) -> Result<Verified, LowerRefusal>
+    requires { IsWellFormed code }
+    ensures { IfOk result (λ verified. verified ≡ code) }
+{
+    match verify(alloc, code) {
+        Ok(verified) => Ok(verified),
+        Err((VerifyFault::OutOfMemory, _)) => Err(LowerRefusal::OutOfMemory),
+        Err((VerifyFault::NotVerified { .. }, _)) => unreachable!(),
+    }
+}
+
 /// The code of an accepted program, instruction for instruction: with a send behind each mark where
-/// no write is held. E16 where memory was refused. `TooLong` where a register, a position or the
-/// target of a jump has no number in a listing.
-pub fn lower(alloc: Global, program: &Program) -> Result<Code, LowerRefusal>
+/// no write is held. It is well formed. E16 where memory was refused. `TooLong` where a register, a
+/// position or the target of a jump has no number in a listing.
+pub fn lower(alloc: Global, program: &Program) -> Result<Verified, LowerRefusal>
     ensures form { IfOk result (λ code. code ≡ form_of true program.now) }
 {
     program.bounded();
     let _tree = program.tree();
     let instructions = instructions(alloc, program)?;
     let layout = program.layout().copied(alloc)?;
-    Ok(code(program, layout, instructions))
+    verified(alloc, code(program, layout, instructions))
 }
