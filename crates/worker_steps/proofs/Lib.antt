@@ -3,3 +3,8 @@ pub mod KindLemmas
 pub mod FittedLemmas
 pub mod DoneLemmas
 pub mod RangeLemmas
+pub mod ReadLemmas
+pub mod ReadDone
+pub mod AskDone
+pub mod WriteLemmas
+pub mod PutDone

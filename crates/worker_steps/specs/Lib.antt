@@ -3,3 +3,4 @@ pub mod Fitted
 pub mod Met
 pub mod Kinds
 pub mod Done
+pub mod Held

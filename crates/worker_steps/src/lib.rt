@@ -1,11 +1,15 @@
 //! A worker between two exchanges: what each instruction does to it, and how it goes on up to the next exchange.
 #![tactic(auto)]
 
+mod holding;
+mod instruct;
 mod masking;
 mod noting;
 mod range;
+mod reads;
 mod registers;
 mod step;
 mod worker;
+mod writes;
 
 pub use worker::WorkerState;
