@@ -8,3 +8,4 @@ pub mod ReadDone
 pub mod AskDone
 pub mod WriteLemmas
 pub mod PutDone
+pub mod StretchLemmas

@@ -4,3 +4,4 @@ pub mod Met
 pub mod Kinds
 pub mod Done
 pub mod Held
+pub mod Stretch

@@ -1,6 +1,7 @@
 //! A worker between two exchanges: what each instruction does to it, and how it goes on up to the next exchange.
 #![tactic(auto)]
 
+mod advance;
 mod holding;
 mod instruct;
 mod masking;
@@ -9,7 +10,9 @@ mod range;
 mod reads;
 mod registers;
 mod step;
+mod stop;
 mod worker;
 mod writes;
 
+pub use stop::Stop;
 pub use worker::WorkerState;

@@ -1,4 +1,4 @@
-use Rattle.std.proofs.Common.{◌≡◌, ◌≤◌, ◌+◌, length, sym, ap, arith, eqb}
+use Rattle.std.proofs.Common.{length, ap, arith, eqb}
 use Rattle.combining.specs.Asked.{HeldAsk, ask_key, key_of, marked_twice, fresh_ask}
 use Rattle.worker_steps.proofs.ReadLemmas.{hold_few}
 use Rattle.worker_steps.proofs.holding.hold_ask.Goals as goal

@@ -1,4 +1,4 @@
-use Rattle.std.proofs.Common.{◌≡◌, ◌≤◌, ◌<◌, ◌+◌, ◌∷◌, [], length, sym, ap, ◌∙◌, arith}
+use Rattle.std.proofs.Common.{◌∷◌, [], sym, ap, ◌∙◌, arith}
 use Rattle.combining.specs.Adding.{asked_after}
 use Rattle.worker_bank.specs.Cells.{cell_in}
 use Rattle.worker_steps.specs.Held.{by_read}

@@ -1,4 +1,4 @@
-use Rattle.std.proofs.Common.{◌≡◌, ◌≤◌, ◌+◌, length, sym, subst, to_z, of_z, w64}
+use Rattle.std.proofs.Common.{◌≤◌, ◌+◌, length, sym, subst, to_z, of_z, w64}
 use Rattle.worker_steps.proofs.WriteLemmas.{put_few}
 use Rattle.worker_steps.proofs.holding.hold_write.Goals as goal
 

@@ -1,4 +1,4 @@
-use Rattle.std.proofs.Common.{◌≡◌, ◌≤◌, ◌<◌, ◌+◌, ◌∷◌, [], length, sym, ap, ◌∙◌, arith, to_z, of_z, w64, Option, ℕ, ℤ}
+use Rattle.std.proofs.Common.{◌≡◌, ◌∷◌, [], sym, ap, ◌∙◌, arith, to_z, of_z, w64}
 use Rattle.std.proofs.lemmas.Int.{to_z-of_z}
 use Rattle.superstep_machine.specs.Steps.{index_of, write_to}
 use Rattle.superstep_machine.specs.Worker.{by_processor}

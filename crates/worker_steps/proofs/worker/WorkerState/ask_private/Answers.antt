@@ -1,4 +1,4 @@
-use Rattle.std.proofs.Common.{◌≡◌, ◌<◌, length, sym, ap, ◌∙◌, arith, ◌∷◌, [], ℕ, List, Option, Some, Vec, Global, subst, refl, ◌++◌}
+use Rattle.std.proofs.Common.{◌≡◌, ◌<◌, length, sym, ap, ◌∙◌, arith, ◌∷◌, [], ℕ, List, Option, Vec, Global, subst, refl, ◌++◌}
 use Rattle.std.specs.Vec.{with_items, with_item}
 use Rattle.std.proofs.lemmas.List.{with_items_is}
 use Rattle.pram_values.specs.declared.kind.Kind.{Kind}

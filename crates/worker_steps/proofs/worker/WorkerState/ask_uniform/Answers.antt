@@ -1,4 +1,4 @@
-use Rattle.std.proofs.Common.{◌≡◌, ◌<◌, ◌≤◌, ◌+◌, ◌*◌, length, sym, ap, ◌∙◌, arith, ◌∷◌, []}
+use Rattle.std.proofs.Common.{length, sym, ap, ◌∙◌, arith, ◌∷◌, []}
 use Rattle.std.proofs.Common.{rules, w64, to_z, of_z, FitsSigned}
 use Rattle.std.proofs.lemmas.Int.{to_z-of_z}
 use Rattle.pram_model.specs.Layout.{cell_of}

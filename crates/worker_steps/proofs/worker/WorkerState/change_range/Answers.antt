@@ -1,7 +1,6 @@
-use Rattle.std.proofs.Common.{◌≡◌, ℕ, ◌≤◌, ◌+◌, ◌*◌, map, sym, ap, subst, ◌∙◌, arith}
+use Rattle.std.proofs.Common.{◌≡◌, ◌+◌, ◌*◌, map, sym, ap, ◌∙◌, arith}
 use Rattle.std.specs.List.{range_with_len}
 use Rattle.superstep_machine.specs.Keys.{least}
-use Rattle.superstep_machine.specs.Setting.{Setting, workers, processors}
 use Rattle.superstep_machine.specs.Parts.{UniformPart}
 use Rattle.superstep_machine.specs.Steps.{on_uniform}
 use Rattle.superstep_steps.specs.Views.{uniform_of}

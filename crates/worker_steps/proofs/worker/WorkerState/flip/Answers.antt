@@ -1,4 +1,4 @@
-use Rattle.std.proofs.Common.{◌≡◌, sym, refl, ap, ◌∙◌, None, arith}
+use Rattle.std.proofs.Common.{sym, refl, None, arith}
 use Rattle.superstep_code.specs.declared.instr.Instr.TheVariants.{Flip}
 use Rattle.superstep_steps.specs.Views.{uniform_of}
 use Rattle.worker_bank.proofs.ToldLemmas.{others_never_fault}

@@ -1,4 +1,4 @@
-use Rattle.std.proofs.Common.{◌≡◌, ◌<◌, length, sym, ap, ◌∙◌, arith, ◌∷◌, [], ℕ, List, Option, None, Some, subst, refl}
+use Rattle.std.proofs.Common.{◌≡◌, ◌<◌, length, sym, ap, ◌∙◌, arith, [], ℕ, Option, subst, refl}
 use Rattle.std.specs.Vec.{with_items}
 use Rattle.std.proofs.lemmas.List.{with_items_is}
 use Rattle.pram_values.specs.declared.kind.Kind.{Kind}
@@ -10,7 +10,6 @@ use Rattle.superstep_steps.specs.Views.{uniform_of}
 use Rattle.combining.specs.Held.{held_after}
 use Rattle.worker_bank.specs.Bank.{part_at, number_of, registers_at, IsFirstFault}
 use Rattle.worker_bank.specs.Columns.{value_of}
-use Rattle.worker_bank.specs.Cells.{cell_in}
 use Rattle.worker_steps.specs.Held.{writes_of}
 use Rattle.worker_steps.proofs.DoneLemmas.{key_same, same_on}
 use Rattle.worker_steps.proofs.PutDone.{put_keeps, own_made_are, after_freshen, done_put}
