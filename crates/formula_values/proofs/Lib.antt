@@ -13,4 +13,5 @@ pub mod UniformSteps
 pub mod StepNotes
 pub mod OutsideLevels
 pub mod AtRest
+pub mod PrivateSteps
 pub mod Outside
