@@ -14,4 +14,7 @@ pub mod StepNotes
 pub mod OutsideLevels
 pub mod AtRest
 pub mod PrivateSteps
+pub mod Slots
+pub mod ReadColumns
+pub mod LevelConflicts
 pub mod Outside
