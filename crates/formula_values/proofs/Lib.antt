@@ -17,4 +17,5 @@ pub mod PrivateSteps
 pub mod Slots
 pub mod ReadColumns
 pub mod LevelConflicts
+pub mod InsideLevels
 pub mod Outside

@@ -45,7 +45,7 @@ slots_in h [] = []
 slots_in h (i ∷ is) = slots h i ++ slots_in h is
 
 -- the uniform part with more reads
-abbrev with_reads : List Read → UniformPart → UniformPart
+abbrev pub with_reads : List Read → UniformPart → UniformPart
 with_reads xs u = record u { asks = u.asks ++ xs }
 
 module _ (code : SuperstepCode) (base : ℕ) where

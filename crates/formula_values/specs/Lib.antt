@@ -2,3 +2,4 @@ pub mod Terms
 pub mod Environments
 pub mod Headings
 pub mod Outside
+pub mod Inside
