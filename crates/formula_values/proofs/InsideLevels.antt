@@ -1,6 +1,6 @@
 -- Inside pardo: the levels of reads of a formula, for all active processors at once.
 use Rattle.std.proofs.Common.{◌≡◌, ℕ, zero, suc, ◌+◌, ◌<◌, ◌≤◌, List, [], ◌∷◌, ◌++◌, map, get_or, Bool, true, false, if◌then◌else◌}
-use Rattle.std.proofs.Common.{Option, Some, None, ℤ, refl, sym, ap, ◌∙◌, subst, arith}
+use Rattle.std.proofs.Common.{Option, None, ℤ, refl, sym, ap, ◌∙◌, subst, arith}
 use Rattle.std.specs.List.{AllByRecursion, filter, range_with_len, zip}
 use Rattle.pram_model.specs.Layout.{total_size}
 use Rattle.pram_values.specs.declared.place.Place.TheVariants.{Processor}
@@ -13,7 +13,7 @@ use Rattle.superstep_code.specs.declared.instr.Instr.TheVariants.{Send, Reply}
 use Rattle.superstep_code.specs.Code.{SuperstepCode}
 use Rattle.superstep_machine.specs.declared.key.Key.{Key}
 use Rattle.superstep_machine.specs.Keys.{least}
-use Rattle.superstep_machine.specs.Parts.{Registers, Read, UniformPart, PrivatePart}
+use Rattle.superstep_machine.specs.Parts.{Read, UniformPart, PrivatePart}
 use Rattle.superstep_machine.specs.Run.{is_held}
 use Rattle.superstep_machine.specs.Sending.{cell_at}
 use Rattle.superstep_machine.specs.Steps.{index_of, is_active, under}
@@ -21,11 +21,10 @@ use Rattle.superstep_machine.specs.Answering.{answers, destinations}
 use Rattle.superstep_machine.proofs.KeyOrder.{keys_are_monoid}
 use Rattle.pram_check.specs.Bounded.{Names}
 use Rattle.pram_meaning.specs.Store.{View}
-use Rattle.flat_machine.specs.Flat.{Flat, range, conflicts, read_conflicts, after_send, after_reply}
+use Rattle.flat_machine.specs.Flat.{Flat, conflicts, read_conflicts}
 use Rattle.flat_machine.proofs.Late.{none_owed}
 use Rattle.stretches.specs.Applied.{IsBare, AsksNone}
 use Rattle.stretches.specs.Folds.{acts_at_once}
-use Rattle.stretches.specs.Frames.{IsIdle, keeps_masks}
 use Rattle.stretches.specs.Notes.{notes}
 use Rattle.stretches.specs.Reads.{answered}
 use Rattle.stretches.proofs.Folds.{folds_stay_bare}
@@ -35,17 +34,16 @@ use Rattle.stretches.proofs.Notes.{notes_join}
 use Rattle.stretches.proofs.ReadLemmas.{reads_are_answered}
 use Rattle.evaluation.specs.Rows.{trail}
 use Rattle.evaluation.specs.Noted.{Heading, note_key}
-use Rattle.plain_form.specs.Formulas.{Formula, reads, positions, nesting}
+use Rattle.plain_form.specs.Formulas.{Formula, reads, positions}
 use Rattle.plain_form.specs.Groups.{asks, groups}
 use Rattle.formula_values.specs.Terms.{steps_in}
 use Rattle.formula_values.specs.Environments.{IsNamed, IsFree, Shows}
-use Rattle.formula_values.specs.Headings.{heading_of}
 use Rattle.formula_values.proofs.Lone.{moves, asks_in, wrongs}
-use Rattle.formula_values.proofs.Levels.{around, at_level, levels, last_none}
+use Rattle.formula_values.proofs.Levels.{at_level, levels, last_none}
 use Rattle.formula_values.proofs.Shown.{still_shows}
 use Rattle.formula_values.proofs.RegionValues.{own_key_at, AreRead, still_read}
 use Rattle.formula_values.proofs.LevelReads.{level_reads, delivered, answers_are}
-use Rattle.formula_values.proofs.Asks.{MayAsk, IsAsked}
+use Rattle.formula_values.proofs.Asks.{IsAsked}
 use Rattle.formula_values.proofs.AskedLevels.{asked_level}
 use Rattle.formula_values.proofs.Parts.{AreParts, asks_parts, of_parts, of_group}
 use Rattle.formula_values.proofs.Kept.{private_evaluates, private_above, part_keeps_masks, left_by, stands_by}
@@ -258,7 +256,7 @@ module _ (code : SuperstepCode) (n : Names) (base : ℕ) (free : IsFree Private 
       end_below : (v r : ℕ) → r < base → (end.own v).registers r ≡ (f.own v).registers r
       end_below v r k =
           let stands = stands_by code base (level_code l) f h.bare h.rests
-              (of_group base Private _ (private_above base) refl refl l e t b above (omega (arith, above, apart))) in
+          (of_group base Private _ (private_above base) refl refl l e t b above (omega (arith, above, apart))) in
           stands.flags v r (omega arith) k
 
       pub one_level : IsBehind (l + 1) (level_code l) (level_key l) f

@@ -1,5 +1,5 @@
 -- The conflicts that a send of one level's reads notes are those of their positions.
-use Rattle.std.proofs.Common.{◌≡◌, ℕ, zero, suc, ◌+◌, ◌<◌, ◌≤◌, List, [], ◌∷◌, ◌++◌, length, Bool, true, false, cond, if◌then◌else◌, Option}
+use Rattle.std.proofs.Common.{◌≡◌, ℕ, zero, suc, ◌+◌, ◌<◌, List, [], ◌∷◌, ◌++◌, length, Bool, true, false, cond, if◌then◌else◌, Option}
 use Rattle.std.proofs.Common.{Some, None, refl, sym, ap, ◌∙◌, arith}
 use Rattle.std.specs.Prelude.{nat_eq}
 use Rattle.std.specs.List.{AllByRecursion, filter, range_with_len}
@@ -167,9 +167,9 @@ module _ (code : SuperstepCode) (g : Flat) (h : Heading) (active : ℕ → Bool)
             ≡ least (at_level weigh l f q) (key_if c (least (around weigh f q) (weigh (q + positions f + 1) (Read d f))))
         go true b r =
             let own = asks_behind k (level_count l f) 1 (λ v. level_reads (s v) l f t) (λ v. (t + reads f, cell v) ∷ [])
-                (λ v. count_reads (s v) l f t) b in
+            (λ v. count_reads (s v) l f t) b in
             let last = agrees_last h size vs column q (positions f) (λ v. steps_in (s v) f) (λ v. reading (cell v))
-                (λ v. length_steps (s v) f) a in
+            (λ v. length_steps (s v) f) a in
             conflicts_join (level_slots h l f t q) (slot h (t + reads f) (q + positions f + 1) ∷ []) k
             ∙ (λ i. least (r (asks_first k (level_count l f) 1 (λ v. level_reads (s v) l f t) (λ v. (t + reads f, cell v) ∷ [])
             (λ v. count_reads (s v) l f t) b) i)
@@ -194,7 +194,7 @@ module _ (code : SuperstepCode) (g : Flat) (h : Heading) (active : ℕ → Bool)
         let c : Agrees h size vs column q (positions f + (positions g' + 1)) (λ v. steps_in (s v) f ++ (steps_in (s v) g' ++ x v ∷ [])) =
         λ v i j. a v i (omega (arith, j)) in
         let second = agrees_behind h size vs column q (positions f) (positions g' + 1) (λ v. steps_in (s v) f)
-            (λ v. steps_in (s v) g' ++ x v ∷ []) (λ v. length_steps (s v) f) c in
+        (λ v. steps_in (s v) g' ++ x v ∷ []) (λ v. length_steps (s v) f) c in
         both_levels f g' t q k
         (conflicts_of_level f t q k
         (agrees_first h size vs column q (positions f) (positions g' + 1) (λ v. steps_in (s v) f) (λ v. steps_in (s v) g' ++ x v ∷ [])

@@ -18,4 +18,6 @@ pub mod Slots
 pub mod ReadColumns
 pub mod LevelConflicts
 pub mod InsideLevels
+pub mod InsideNotes
+pub mod Inside
 pub mod Outside

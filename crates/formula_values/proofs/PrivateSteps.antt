@@ -1,5 +1,5 @@
 -- A stretch of a formula's code on private registers: the machine does for each active processor what that one does by itself.
-use Rattle.std.proofs.Common.{◌≡◌, ℕ, ◌+◌, List, [], ◌∷◌, ◌++◌, map, Bool, true, false, Option, Some, None, ℤ, refl, sym, ap, ◌∙◌}
+use Rattle.std.proofs.Common.{◌≡◌, ℕ, ◌+◌, List, [], ◌∷◌, ◌++◌, map, Bool, true, false, Option, None, ℤ, refl, sym, ap, ◌∙◌}
 use Rattle.std.proofs.Common.{append-nil, append_assoc}
 use Rattle.std.specs.Prelude.{if◌then◌else◌}
 use Rattle.std.specs.List.{range_with_len, zip}
@@ -14,7 +14,7 @@ use Rattle.superstep_machine.specs.declared.key.Key.{Key}
 use Rattle.superstep_machine.specs.Keys.{least}
 use Rattle.superstep_machine.specs.Parts.{Registers, Read, UniformPart, PrivatePart}
 use Rattle.superstep_machine.specs.Results.{position_of}
-use Rattle.superstep_machine.specs.Steps.{fault_at, own_key, on_own, on_active, index_of, is_active, under}
+use Rattle.superstep_machine.specs.Steps.{own_key, on_active, index_of, is_active, under}
 use Rattle.superstep_machine.specs.Answering.{answers, destinations}
 use Rattle.pram_model.specs.Layout.{cell_of}
 use Rattle.superstep_machine.proofs.KeyOrder.{keys_are_monoid}

@@ -1,5 +1,5 @@
 -- Conflicts of reads by position: those of all positions of a formula are those of its reads.
-use Rattle.std.proofs.Common.{◌≡◌, ℕ, zero, suc, ◌+◌, ◌<◌, ◌≤◌, List, [], ◌∷◌, ◌++◌, map, length, get_or, Bool, true, false, Option, Some, None}
+use Rattle.std.proofs.Common.{◌≡◌, ℕ, zero, suc, ◌+◌, ◌<◌, List, [], ◌∷◌, ◌++◌, length, get_or, Option, None}
 use Rattle.std.proofs.Common.{refl, sym, ap, ◌∙◌, arith}
 use Rattle.std.specs.List.{range_with_len}
 use Rattle.pram_model.specs.Layout.{cell_of}
@@ -8,7 +8,7 @@ use Rattle.pram_values.proofs.Totals.{total_none, total_joined}
 use Rattle.superstep_machine.specs.declared.key.Key.{Key}
 use Rattle.superstep_machine.specs.Keys.{least}
 use Rattle.superstep_machine.specs.Results.{kind_of}
-use Rattle.superstep_machine.specs.Sending.{several, asks_for, is_several}
+use Rattle.superstep_machine.specs.Sending.{several, asks_for}
 use Rattle.superstep_machine.proofs.KeyOrder.{keys_are_monoid}
 use Rattle.pram_meaning.specs.Operation.{operate, operate_before}
 use Rattle.pram_meaning.specs.Store.{View}
@@ -119,13 +119,13 @@ module _ (h : Heading) (cells : ℕ) (vs : List ℕ) (column : ℕ → ℕ → O
     conflicts_of_all (Local x) q a = refl
     conflicts_of_all (Read e f) q a =
         let first = agrees_first q (positions f) 1 (λ v. steps_in (s v) f)
-            (λ v. reading (cell_of (s v).layout e (value (s v) (term f))) ∷ []) (λ v. length_steps (s v) f) a in
+        (λ v. reading (cell_of (s v).layout e (value (s v) (term f))) ∷ []) (λ v. length_steps (s v) f) a in
         (λ i. least (conflicts_of_all f q first i) (position_key_is (q + positions f) i)) ∙ sym (with_last q (positions f))
     conflicts_of_all (Before o f) q a =
         let x = λ (v : ℕ). testing (kind_of (operate_before o (value (s v) (term f)))) in
         let first = agrees_first q (positions f) 1 (λ v. steps_in (s v) f) (λ v. x v ∷ []) (λ v. length_steps (s v) f) a in
         let none = no_column_key (q + positions f)
-            (agrees_last q (positions f) (λ v. steps_in (s v) f) x (λ v. length_steps (s v) f) a) in
+        (agrees_last q (positions f) (λ v. steps_in (s v) f) x (λ v. length_steps (s v) f) a) in
         (λ i. least (conflicts_of_all f q first i) (sym none i)) ∙ sym (with_last q (positions f))
     conflicts_of_all (Between o f g) q a =
         let p = q + positions f in
@@ -133,21 +133,21 @@ module _ (h : Heading) (cells : ℕ) (vs : List ℕ) (column : ℕ → ℕ → O
         let b : Agrees q (positions f + (positions g + 1)) (λ v. steps_in (s v) f ++ (steps_in (s v) g ++ x v ∷ [])) =
         λ v i k. a v i (omega (arith, k)) in
         let first = agrees_first q (positions f) (positions g + 1) (λ v. steps_in (s v) f) (λ v. steps_in (s v) g ++ x v ∷ [])
-            (λ v. length_steps (s v) f) b in
+        (λ v. length_steps (s v) f) b in
         let second = agrees_behind q (positions f) (positions g + 1) (λ v. steps_in (s v) f) (λ v. steps_in (s v) g ++ x v ∷ [])
-            (λ v. length_steps (s v) f) b in
+        (λ v. length_steps (s v) f) b in
         let middle = agrees_first p (positions g) 1 (λ v. steps_in (s v) g) (λ v. x v ∷ []) (λ v. length_steps (s v) g) second in
         let none = no_column_key (p + positions g)
-            (agrees_last p (positions g) (λ v. steps_in (s v) g) x (λ v. length_steps (s v) g) second) in
+        (agrees_last p (positions g) (λ v. steps_in (s v) g) x (λ v. length_steps (s v) g) second) in
         (λ i. least (conflicts_of_all f q first i) (least (conflicts_of_all g p middle i) (sym none i)))
         ∙ ap (least (sums q (positions f))) (sym (with_last p (positions g)))
         ∙ sym (both_sums q (positions f) (positions g + 1))
         ∙ ap (sums q) (let e : positions f + (positions g + 1) ≡ positions f + positions g + 1 = omega arith in e)
     conflicts_of_all (Pair f g) q a =
         let first = agrees_first q (positions f) (positions g) (λ v. steps_in (s v) f) (λ v. steps_in (s v) g)
-            (λ v. length_steps (s v) f) a in
+        (λ v. length_steps (s v) f) a in
         let second = agrees_behind q (positions f) (positions g) (λ v. steps_in (s v) f) (λ v. steps_in (s v) g)
-            (λ v. length_steps (s v) f) a in
+        (λ v. length_steps (s v) f) a in
         (λ i. least (conflicts_of_all f q first i) (conflicts_of_all g (q + positions f) second i))
         ∙ sym (both_sums q (positions f) (positions g))
 

@@ -1,8 +1,7 @@
 -- The places of one level's reads: they are the same for all processors, and each has as many cells.
-use Rattle.std.proofs.Common.{◌≡◌, ℕ, zero, suc, ◌+◌, ◌<◌, ◌≤◌, List, [], ◌∷◌, ◌++◌, map, length, length-append, Bool, true, false, Option, Some}
-use Rattle.std.proofs.Common.{None, refl, sym, ap, ◌∙◌, append_assoc, append-nil, arith}
+use Rattle.std.proofs.Common.{◌≡◌, ℕ, ◌+◌, List, [], ◌∷◌, ◌++◌, length, length-append, Bool, true, false}
+use Rattle.std.proofs.Common.{None, refl, sym, ap, ◌∙◌, append_assoc, arith}
 use Rattle.std.specs.Prelude.{nat_eq}
-use Rattle.std.specs.List.{AllByRecursion}
 use Rattle.pram_tokens.specs.declared.token.Binary.{Binary}
 use Rattle.pram_tokens.specs.declared.token.Binary.TheVariants.{Or, And, Equal, Unequal, Less, AtMost, Greater, AtLeast, Add, Subtract}
 use Rattle.pram_tokens.specs.declared.token.Binary.TheVariants.{Multiply, Divide, Remainder}
@@ -13,7 +12,6 @@ use Rattle.superstep_code.specs.declared.instr.Side.TheVariants.{Private}
 use Rattle.superstep_code.specs.declared.instr.Instr.{Instr}
 use Rattle.superstep_code.specs.declared.instr.Instr.TheVariants.{Ask}
 use Rattle.superstep_machine.specs.Parts as parts
-use Rattle.superstep_machine.specs.Sending.{cell_at}
 use Rattle.pram_meaning.specs.Store.{View}
 use Rattle.evaluation.specs.Whole.{value}
 use Rattle.evaluation.specs.Noted.{Heading, moment}
@@ -22,7 +20,7 @@ use Rattle.plain_form.specs.Regions.{place, before_code, between_code, region}
 use Rattle.plain_form.specs.Groups.{only, asks}
 use Rattle.formula_values.specs.Terms.{term}
 use Rattle.formula_values.proofs.LevelReads.{reads_if, level_reads}
-use Rattle.formula_values.proofs.PrivateSteps.{cells_of, slots, slots_in}
+use Rattle.formula_values.proofs.PrivateSteps.{slots, slots_in}
 
 -- the place of a private read
 abbrev pub slot : Heading → ℕ → ℕ → parts.Read

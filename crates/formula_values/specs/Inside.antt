@@ -1,5 +1,5 @@
 -- Inside pardo the machine shows what each processor sees, and the code of a formula computes it for all active processors.
-use Rattle.std.specs.Prelude.{◌≡◌, ℕ, ◌<◌, ◌≤◌, List, map, length, Some, None, true}
+use Rattle.std.specs.Prelude.{◌≡◌, ℕ, ◌<◌, ◌≤◌, List, map, length, None, true}
 use Rattle.std.specs.List.{filter}
 use Rattle.pram_model.specs.Layout.{total_size}
 use Rattle.superstep_code.specs.declared.instr.Side.TheVariants.{Private}
@@ -47,16 +47,16 @@ row_in p m e v = record {
 -- The code of a formula leaves what was shown, the masks, all registers of processors below `base` and all uniform registers, and notes
 -- what evaluation says of the active processors: their own faults, and the conflicts of their reads.
 pub record IsEvaluatedInside (code : SuperstepCode) (p : Checked) (locals : ℕ) (m : State) (base : ℕ) (e : Formula) (f : Flat) : Type 0
-    where
-  pub gives : (v : ℕ) → v < f.uniform.width → is_active (f.own v) ≡ true →
-      ((acts_at_once code (evaluated Private base e) f).own v).registers (value_at Private base e) ≡ value (seen_by p m v) (term e)
-  pub shows : ShowsInside p locals m (acts_at_once code (evaluated Private base e) f)
-  pub left : (any : ℕ) → IsLeft any f (acts_at_once code (evaluated Private base e) f)
-  pub masks : (v : ℕ) → ((acts_at_once code (evaluated Private base e) f).own v).masks ≡ (f.own v).masks
-  pub registers : (v r : ℕ) → r < base →
-      ((acts_at_once code (evaluated Private base e) f).own v).registers r ≡ (f.own v).registers r
-  pub tells : notes code (evaluated Private base e) f
-      ≡ noted_in (heading_of f) p.rule (total_size p.layout) (positions e) (map (row_in p m e) (active_ones f))
+  where
+    pub gives : (v : ℕ) → v < f.uniform.width → is_active (f.own v) ≡ true →
+        ((acts_at_once code (evaluated Private base e) f).own v).registers (value_at Private base e) ≡ value (seen_by p m v) (term e)
+    pub shows : ShowsInside p locals m (acts_at_once code (evaluated Private base e) f)
+    pub left : (any : ℕ) → IsLeft any f (acts_at_once code (evaluated Private base e) f)
+    pub masks : (v : ℕ) → ((acts_at_once code (evaluated Private base e) f).own v).masks ≡ (f.own v).masks
+    pub registers : (v r : ℕ) → r < base →
+        ((acts_at_once code (evaluated Private base e) f).own v).registers r ≡ (f.own v).registers r
+    pub tells : notes code (evaluated Private base e) f
+        ≡ noted_in (heading_of f) p.rule (total_size p.layout) (positions e) (map (row_in p m e) (active_ones f))
 
 -- what a formula's code may be run from: its names can be named, and the registers of processors from `base` on are free
 abbrev pub MayEvaluateInside : SuperstepCode → Checked → ℕ → State → ℕ → Formula → Flat → Type 0

@@ -2,6 +2,7 @@
 
 ghost use Rattle.formula_values.specs.Terms.{ExpressionsAreTerms, StepsAreSteps};
 ghost use Rattle.formula_values.specs.Environments.{ExpressionsAreNamed};
+ghost use Rattle.formula_values.specs.Inside.{FormulasAreEvaluatedInside, PairsAreEvaluatedInside};
 ghost use Rattle.formula_values.specs.Outside.{FormulasAreEvaluatedOutside, PairsAreEvaluatedOutside};
 
 /// An expression as a formula is the same as evaluation's term of it: it has the same value, and the
@@ -18,4 +19,13 @@ pub fn expressions_are_formulas()
 pub fn formulas_are_evaluated_outside()
     ensures formulas { FormulasAreEvaluatedOutside }
     ensures pairs { PairsAreEvaluatedOutside }
+{}
+
+/// Inside pardo the code of a formula leaves its value in its register of each active processor, and of
+/// a pair both values; the masks, the registers below, all uniform registers and the memory stay; and
+/// the key that is noted is evaluation's: the least of the processors' own faults, and where the
+/// rule doesn't share reads of their conflicts by position.
+pub fn formulas_are_evaluated_inside()
+    ensures formulas { FormulasAreEvaluatedInside }
+    ensures pairs { PairsAreEvaluatedInside }
 {}
