@@ -19,5 +19,6 @@ pub mod ReadColumns
 pub mod LevelConflicts
 pub mod InsideLevels
 pub mod InsideNotes
+pub mod Tasks
 pub mod Inside
 pub mod Outside

@@ -3,3 +3,4 @@ pub mod Environments
 pub mod Headings
 pub mod Outside
 pub mod Inside
+pub mod Tasks

@@ -4,6 +4,7 @@ ghost use Rattle.formula_values.specs.Terms.{ExpressionsAreTerms, StepsAreSteps}
 ghost use Rattle.formula_values.specs.Environments.{ExpressionsAreNamed};
 ghost use Rattle.formula_values.specs.Inside.{FormulasAreEvaluatedInside, PairsAreEvaluatedInside};
 ghost use Rattle.formula_values.specs.Outside.{FormulasAreEvaluatedOutside, PairsAreEvaluatedOutside};
+ghost use Rattle.formula_values.specs.Tasks.{ExpressionsAreSingle, SinglesAreTerms, ValuesAreTasks};
 
 /// An expression as a formula is the same as evaluation's term of it: it has the same value, and the
 /// same happens at its positions; and it names what the expression names.
@@ -28,4 +29,12 @@ pub fn formulas_are_evaluated_outside()
 pub fn formulas_are_evaluated_inside()
     ensures formulas { FormulasAreEvaluatedInside }
     ensures pairs { PairsAreEvaluatedInside }
+{}
+
+/// Formulas as tasks: an expression's has no pair in it, one without pairs is its term, position by
+/// position, and inside pardo its code notes what evaluation says of the task to get its value.
+pub fn formulas_are_tasks()
+    ensures expressions { ExpressionsAreSingle }
+    ensures singles { SinglesAreTerms }
+    ensures values { ValuesAreTasks }
 {}
