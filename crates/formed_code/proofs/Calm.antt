@@ -22,7 +22,8 @@ use Rattle.plain_form.specs.Shapes.{flush, still, waits, counted, writes, sent, 
 use Rattle.plain_form.specs.Inside as inside
 use Rattle.plain_form.specs.Inside.{Frame}
 use Rattle.plain_form.specs.Outside as outside
-use Rattle.formed_code.specs.Calm.{BeginsCalm, StatementsBeginCalm, PartsEndCalm, BranchesAreCalm, LoopsAreCalm, TurnsAreCalm, RangesAreCalm}
+use Rattle.formed_code.specs.Calm.{BeginsCalm, StatementsBeginCalm, PartsEndCalm, BranchesAreCalm, LoopsAreCalm, TurnsAreCalm}
+use Rattle.formed_code.specs.Calm.{RangesAreCalm}
 use Rattle.formed_code.specs.Calm.{MasksAreCalm}
 
 module _ (t : Run) where
@@ -53,7 +54,8 @@ module _ (t : Run) where
 
   -- ---- where statements begin
 
-  statement_calm : (keep : Bool) (free at : ℕ) (held : Bool) (s : Statement) → Stand t at (outside.code keep free at held s) → IsCalm t.code at
+  statement_calm : (keep : Bool) (free at : ℕ) (held : Bool) (s : Statement) → Stand t at (outside.code keep free at held s) →
+      IsCalm t.code at
   statement_calm keep free at held (statement.Assign line (target.Uniform x) e) h = mark_calm at line h.0
   statement_calm keep free at held (statement.Assign line (target.Cell a) e) h =
       write_calm keep held at line Uniform free a Zero (formula_of e) h

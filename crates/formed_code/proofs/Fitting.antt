@@ -77,7 +77,8 @@ HasRegisters code = (k : ℕ) (i : Instr) → slice_get code.instructions k ≡ 
 pub found : (code : SuperstepCode) (at : ℕ) (s : State) (i : Instr) (is : List Instr) → Stands code at s (i ∷ is) →
     slice_get code.instructions at ≡ Some i
 found code at s i is h =
-    ap (slice_get code.instructions) (let e : at ≡ at + 0 = omega arith in e) ∙ (what_stands_is_there code at s (i ∷ is) h 0).0 (omega arith)
+    ap (slice_get code.instructions) (let e : at ≡ at + 0 = omega arith in e) ∙ (what_stands_is_there code at s (i ∷ is) h 0).0
+    (omega arith)
 
 pub scanned : (code : SuperstepCode) (at : ℕ) (s : State) (is : List Instr) → Stands code at s is → scan_of code at ≡ s
 scanned code at s is h =

@@ -219,7 +219,8 @@ module _ (code : SuperstepCode) (side : Side) (masks : ℕ) where
     asks_fit (Between o f g) t b q k h m =
         let n = k + count_at l f in
         fits_to code (asking side masks k held) (asking side masks (n + count_at l g) held)
-        (asking side masks (k + (count_at l f + count_at l g)) held) (asks side l f t b q ++ asks side l g (t + reads f) b (q + positions f))
+        (asking side masks (k + (count_at l f + count_at l g)) held) (asks side l f t b q ++ asks side l g (t + reads f) b
+        (q + positions f))
         (same_count (n + count_at l g) (k + (count_at l f + count_at l g)) (omega arith))
         (fits_join code (asking side masks k held) (asking side masks n held) (asking side masks (n + count_at l g) held)
         (asks side l f t b q) (asks side l g (t + reads f) b (q + positions f)) (asks_fit f t b q k h.0 (omega (arith, m)))
@@ -227,7 +228,8 @@ module _ (code : SuperstepCode) (side : Side) (masks : ℕ) where
     asks_fit (Pair f g) t b q k h m =
         let n = k + count_at l f in
         fits_to code (asking side masks k held) (asking side masks (n + count_at l g) held)
-        (asking side masks (k + (count_at l f + count_at l g)) held) (asks side l f t b q ++ asks side l g (t + reads f) b (q + positions f))
+        (asking side masks (k + (count_at l f + count_at l g)) held) (asks side l f t b q ++ asks side l g (t + reads f) b
+        (q + positions f))
         (same_count (n + count_at l g) (k + (count_at l f + count_at l g)) (omega arith))
         (fits_join code (asking side masks k held) (asking side masks n held) (asking side masks (n + count_at l g) held)
         (asks side l f t b q) (asks side l g (t + reads f) b (q + positions f)) (asks_fit f t b q k h.0 (omega (arith, m)))
@@ -263,7 +265,8 @@ module _ (code : SuperstepCode) (side : Side) (masks : ℕ) where
   groups_fit held (suc n) l f t b h m k =
       fits_join code (resting side masks held) (resting side masks false) (resting side masks (held && not true))
       (asks side l f t b 0 ++ Send ∷ Reply ∷ []) (groups side n (l + 1) f t b) (group_fits held l f t b h m (omega (arith, k)))
-      (fits_to code (resting side masks false) (resting side masks false) (resting side masks (held && not true)) (groups side n (l + 1) f t b)
+      (fits_to code (resting side masks false) (resting side masks false) (resting side masks (held && not true)) (groups side n
+      (l + 1) f t b)
       (ap (λ (c : Bool). resting side masks c) (is_sent held)) (groups_fit false n (l + 1) f t b h m (omega (arith, k))))
 
   -- the code of a formula; with a read in it no write is held behind it

@@ -4,14 +4,16 @@ use Rattle.std.specs.Prelude.{nat_lt}
 use Rattle.std.proofs.lemmas.Bool.Decides.{nat_tests}
 use Rattle.superstep_code.specs.declared.instr.Side.{Side}
 use Rattle.superstep_code.specs.declared.instr.Side.TheVariants.{Uniform, Private}
-use Rattle.superstep_code.specs.declared.instr.Instr.TheVariants.{Set, Copy, Calculate, Decide, Index, Enter, Mask, Flip, Unmask, Put, Send, Vote, Print}
+use Rattle.superstep_code.specs.declared.instr.Instr.TheVariants.{Set, Copy, Calculate, Decide, Index, Enter, Mask, Flip, Unmask, Put}
+use Rattle.superstep_code.specs.declared.instr.Instr.TheVariants.{Send, Vote, Print}
 use Rattle.superstep_code.specs.declared.instr.Arithmetic.TheVariants as arithmetic
 use Rattle.superstep_code.specs.declared.instr.Truth.TheVariants as truth
 use Rattle.superstep_code.specs.Code.{SuperstepCode}
 use Rattle.plain_form.specs.Registers.{turn, high, more, variable, behind_turns, index}
 use Rattle.plain_form.specs.Formulas.{Formula, Pair, reads, positions}
 use Rattle.plain_form.specs.Groups.{evaluated, value_at, first_at, second_at}
-use Rattle.plain_form.specs.Shapes.{flush, has_reads, still, waits, begun, counted, gets, writes, prints, bounds, setting, entered, flagged, flags}
+use Rattle.plain_form.specs.Shapes.{flush, has_reads, still, waits, begun, counted, gets, writes, prints, bounds, setting, entered}
+use Rattle.plain_form.specs.Shapes.{flagged, flags}
 use Rattle.formed_code.proofs.Fitting.{resting, has_own_side, acts_on_own_side, IsFit, Fits, fits_join, fits_to}
 use Rattle.formed_code.proofs.FormulaFits.{IsWithin, evaluated_fits}
 
@@ -78,7 +80,8 @@ module _ (code : SuperstepCode) (side : Side) (masks : ℕ) where
     exchange = refl;
   }
 
-  pub writes_fits : (keep held : Bool) (line base a : ℕ) (f g : Formula) → a < length code.layout → IsReady (length code.layout) (Pair f g) →
+  pub writes_fits : (keep held : Bool) (line base a : ℕ) (f g : Formula) → a < length code.layout →
+      IsReady (length code.layout) (Pair f g) →
       Fits code (resting side masks held) (writes keep held line side base a f g) (resting side masks true)
   writes_fits keep held line base a f g h r =
       let start = resting side masks held in
@@ -120,8 +123,14 @@ module _ (code : SuperstepCode) where
       let third = flush (still held (Pair f g)) in
       fits_join code start bare bare (first ++ second ++ third) (Decide Uniform truth.AtMost (more free) (turn free) (high free) ∷ [])
       (fits_join code start after bare (first ++ second) third
-      (fits_join code start after after first second (counted_fits code Uniform 0 keep held line base (Pair f g) r)
-      (copy_fits code Uniform 0 (still held (Pair f g)) (turn free) x, (copy_fits code Uniform 0 (still held (Pair f g)) (high free) y, refl)))
+      (fits_join code start after after first second (counted_fits code Uniform 0 keep held line base (Pair f g) r) (
+        copy_fits code Uniform 0 (still held (Pair f g)) (turn free) x,
+        (
+          copy_fits code Uniform 0 (still held (Pair f g))
+              (high free) y,
+          refl,
+        ),
+      ))
       (flush_fits code Uniform 0 (still held (Pair f g))))
       (record { along = refl; entry = refl; mode = refl; masks = refl; exchange = refl }, refl)
 
@@ -188,7 +197,8 @@ module _ (code : SuperstepCode) (masks : ℕ) where
       (resting Private (masks + 1) (still held f))
   tested_fits keep held line base f h r =
       fits_join code (resting Private masks held) (resting Private masks (still held f)) (resting Private (masks + 1) (still held f))
-      (counted keep held line Private base f) (Mask (value_at Private base f) ∷ []) (counted_fits code Private masks keep held line base f r)
+      (counted keep held line Private base f) (Mask (value_at Private base f) ∷ [])
+      (counted_fits code Private masks keep held line base f r)
       (mask_fits (still held f) (value_at Private base f) h, refl)
 
   pub flagged_fits : (held : Bool) (flag : ℕ) → masks < 64 →

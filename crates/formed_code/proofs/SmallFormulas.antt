@@ -232,7 +232,8 @@ module _ (most uniforms locals : ℕ) (few : uniforms + 1 ≤ most) (fewer : loc
     read_small true a f t b q h r =
         let i = r.reads in let k = r.stack in let m = r.positions in
         let room : HasRoom most f t b q = record { reads = omega (arith, i); stack = k; positions = omega (arith, m) } in
-        small_join most (region s f t b q) (Ask s (t + reads f) a (place s f t b) (q + positions f + 1) ∷ []) (region_small f t b q h room) (
+        small_join most (region s f t b q) (Ask s (t + reads f) a (place s f t b) (q + positions f + 1) ∷ [])
+        (region_small f t b q h room) (
           ask_small most s (t + reads f) a (place s f t b) (q + positions f + 1) (omega (arith, i)) (place_below f t b q h room)
               (omega (arith, m)),
           tt,
@@ -267,11 +268,15 @@ module _ (most uniforms locals : ℕ) (few : uniforms + 1 ≤ most) (fewer : loc
         (asks_small l g (t + reads f) b (q + positions f) h.1
         (record { reads = omega (arith, i); stack = omega (arith, k); positions = omega (arith, m) }))
 
-    groups_small : (n l : ℕ) (f : Formula) (t b : ℕ) → HasNames uniforms locals f → HasRoom most f t b 0 → AreSmall most (groups s n l f t b)
+    groups_small : (n l : ℕ) (f : Formula) (t b : ℕ) → HasNames uniforms locals f → HasRoom most f t b 0 →
+        AreSmall most (groups s n l f t b)
     groups_small zero l f t b h r = tt
     groups_small (suc n) l f t b h r =
         small_join most (asks s l f t b 0 ++ Send ∷ Reply ∷ []) (groups s n (l + 1) f t b)
-        (small_join most (asks s l f t b 0) (Send ∷ Reply ∷ []) (asks_small l f t b 0 h r) (record { uniform = omega arith; private = omega arith; numbers = tt }, (record { uniform = omega arith; private = omega arith; numbers = tt }, tt)))
+        (small_join most (asks s l f t b 0) (Send ∷ Reply ∷ []) (asks_small l f t b 0 h r) (
+          record { uniform = omega arith; private = omega arith; numbers = tt },
+          (record { uniform = omega arith; private = omega arith; numbers = tt }, tt),
+        ))
         (groups_small n (l + 1) f t b h r)
 
     -- the code of a formula whose registers begin at `base`

@@ -39,7 +39,8 @@ use Rattle.formed_code.proofs.ProgramsFormed.{forms_are_well_formed}
 
 -- ---- statements
 
-module _ (most : ℕ) (all : most ≤ 2 ^ 16) (s : Names) (few : s.uniforms + 1 ≤ most) (fewer : local_count s.locals + 2 ≤ most) (keep : Bool) where
+module _ (most : ℕ) (all : most ≤ 2 ^ 16) (s : Names) (few : s.uniforms + 1 ≤ most) (fewer : local_count s.locals + 2 ≤ most)
+    (keep : Bool) where
   abbrev locals : ℕ
   locals = local_count s.locals
 
@@ -63,7 +64,8 @@ module _ (most : ℕ) (all : most ≤ 2 ^ 16) (s : Names) (few : s.uniforms + 1 
         free + 3 * depth x + size x + 10 ≤ most → AreSmall most (outside.code keep free start held x)
     statement_small free start held (Assign line x e) h l m = assign_small held line free x e l h (omega (arith, m))
     statement_small free start held (Print line e) h l m =
-        prints_small most s.uniforms locals few fewer keep held line free (formula_of e) l (sole_fair s most all free e h (omega (arith, m)))
+        prints_small most s.uniforms locals few fewer keep held line free (formula_of e) l (sole_fair s most all free e h (omega
+        (arith, m)))
     statement_small free start held (While' line e q a) h l m =
         let f = formula_of e in
         let test = counted keep false line Uniform free f in

@@ -12,7 +12,8 @@ use Rattle.superstep_code.specs.declared.instr.Instr.TheVariants.{Put, Vote, Pri
 use Rattle.plain_form.specs.Registers.{variable, turn, high, more, behind_turns, index}
 use Rattle.plain_form.specs.Formulas.{Formula, Pair, reads, positions}
 use Rattle.plain_form.specs.Groups.{stack, evaluated, value_at, first_at, second_at}
-use Rattle.plain_form.specs.Shapes.{flush, still, waits, begun, counted, gets, writes, prints, sent, chosen, looped, turned, bounds, setting}
+use Rattle.plain_form.specs.Shapes.{flush, still, waits, begun, counted, gets, writes, prints, sent, chosen, looped, turned, bounds}
+use Rattle.plain_form.specs.Shapes.{setting}
 use Rattle.plain_form.specs.Shapes.{entered, flipped, flagged, flags}
 use Rattle.formed_code.proofs.SmallFormulas.{IsSmall, AreSmall, HasNames, HasRoom, small_join, set_small, copy_small, decide_small}
 use Rattle.formed_code.proofs.SmallFormulas.{calculate_small, put_small, place_below, evaluated_small}
@@ -105,7 +106,8 @@ module _ (most uniforms locals : ℕ) (few : uniforms + 1 ≤ most) (fewer : loc
       small_join most (begun keep held line) (evaluated s base f) (begun_small most keep held line l)
       (evaluated_small most uniforms locals few fewer s base f h.names h.room)
 
-  pub gets_small : (keep held : Bool) (line base : ℕ) (f : Formula) (d : ℕ) → line < 2 ^ 32 → d < most → IsFair most uniforms locals base f →
+  pub gets_small : (keep held : Bool) (line base : ℕ) (f : Formula) (d : ℕ) → line < 2 ^ 32 → d < most →
+      IsFair most uniforms locals base f →
       AreSmall most (gets keep held line s base f d)
   gets_small keep held line base f d l k h =
       small_join most (counted keep held line s base f) (Copy s d (value_at s base f) ∷ []) (counted_small keep held line base f l h)
@@ -157,7 +159,8 @@ module _ (most uniforms locals : ℕ) (few : uniforms + 1 ≤ most) (fewer : loc
         tt,
       )
 
-  pub setting_small : (keep : Bool) (line free x : ℕ) → line < 2 ^ 32 → free + 2 < most → x < uniforms → AreSmall most (setting keep line free x)
+  pub setting_small : (keep : Bool) (line free x : ℕ) → line < 2 ^ 32 → free + 2 < most → x < uniforms →
+      AreSmall most (setting keep line free x)
   setting_small keep line free x l b h =
       small_join most (begun keep false line)
       (Copy Uniform (variable x) (turn free) ∷ Decide Uniform truth.Less (more free) (turn free) (high free)

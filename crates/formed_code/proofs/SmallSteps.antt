@@ -136,8 +136,8 @@ module _ (s : Names) where
 
 -- ---- inside pardo
 
-module _ (most : ℕ) (all : most ≤ 2 ^ 16) (s : Names) (few : s.uniforms + 1 ≤ most) (fewer : local_count s.locals + 2 ≤ most) (w : Frame)
-    (vote : w.vote < most) where
+module _ (most : ℕ) (all : most ≤ 2 ^ 16) (s : Names) (few : s.uniforms + 1 ≤ most) (fewer : local_count s.locals + 2 ≤ most)
+    (w : Frame) (vote : w.vote < most) where
   abbrev locals : ℕ
   locals = local_count s.locals
 

@@ -15,14 +15,16 @@ use Rattle.pram_check.specs.Bounded.{Names, IsAssign, IsStatement, ArePartStatem
 use Rattle.plain_form.specs.Registers.{variable, turn, high, more, behind_turns, behind_locals}
 use Rattle.plain_form.specs.Formulas.{Formula, Zero, Pair, formula_of}
 use Rattle.plain_form.specs.Groups.{only, evaluated, value_at}
-use Rattle.plain_form.specs.Shapes.{flush, still, counted, prints, sent, chosen, if_code, looped, while_code, bounds, setting, turned, for_code}
+use Rattle.plain_form.specs.Shapes.{flush, still, counted, prints, sent, chosen, if_code, looped, while_code, bounds, setting, turned}
+use Rattle.plain_form.specs.Shapes.{for_code}
 use Rattle.plain_form.specs.Shapes.{entered, pardo_code}
 use Rattle.plain_form.specs.Inside.{Frame, steps_code, steps_left}
 use Rattle.plain_form.specs.Outside as outside
 use Rattle.plain_form.specs.Outside.{assign, assign_left, part_code, part_left, statements_code, statements_left, has_part}
 use Rattle.bsp_verify.specs.declared.state.State.{State}
 use Rattle.formed_code.proofs.Fitting.{resting, Fits, HasRegisters, Judged, fits_join, judged_fits, judged_join}
-use Rattle.formed_code.proofs.ShapeFits.{IsReady, flush_fits, counted_fits, gets_fits, writes_fits, prints_fit, bounds_fit, setting_fits, entered_fits}
+use Rattle.formed_code.proofs.ShapeFits.{IsReady, flush_fits, counted_fits, gets_fits, writes_fits, prints_fit, bounds_fit, setting_fits}
+use Rattle.formed_code.proofs.ShapeFits.{entered_fits}
 use Rattle.formed_code.proofs.Jumps.{looped_judged, turned_judged, one_judged, two_judged}
 use Rattle.formed_code.proofs.Ready.{scope, single_below, array_below, sole_ready, cell_ready, pair_ready}
 use Rattle.formed_code.proofs.StepsFormed.{steps_judged}

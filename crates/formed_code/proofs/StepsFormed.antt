@@ -14,9 +14,11 @@ use Rattle.plain_form.specs.Registers.{local}
 use Rattle.plain_form.specs.Formulas.{Formula, Zero, formula_of}
 use Rattle.plain_form.specs.Groups.{only, evaluated, value_at}
 use Rattle.plain_form.specs.Shapes.{flush, still, counted, sent, flipped, inner_if_code, flagged, flags, looped, inner_while_code}
-use Rattle.plain_form.specs.Inside.{Frame, inner_assign, inner_assign_left, step_code, step_left, part_code, part_left, steps_code, steps_left, has_part}
+use Rattle.plain_form.specs.Inside.{Frame, inner_assign, inner_assign_left, step_code, step_left, part_code, part_left, steps_code}
+use Rattle.plain_form.specs.Inside.{steps_left, has_part}
 use Rattle.formed_code.proofs.Fitting.{resting, Fits, HasRegisters, Judged, judged_fits, judged_join}
-use Rattle.formed_code.proofs.ShapeFits.{IsReady, flush_fits, gets_fits, writes_fits, flip_fits, unmask_fits, tested_fits, flagged_fits, flags_fit, back}
+use Rattle.formed_code.proofs.ShapeFits.{IsReady, flush_fits, gets_fits, writes_fits, flip_fits, unmask_fits, tested_fits, flagged_fits}
+use Rattle.formed_code.proofs.ShapeFits.{flags_fit, back}
 use Rattle.formed_code.proofs.Jumps.{looped_judged}
 use Rattle.formed_code.proofs.Ready.{scope, single_below, array_below, sole_ready, cell_ready, pair_ready}
 
@@ -37,7 +39,8 @@ module _ (code : SuperstepCode) (all : HasRegisters code) (uniforms : ℕ) (loca
 
   -- ---- an `if`, by its parts
 
-  unmask_judged : (at masks : ℕ) (held : Bool) → Judged code at (resting Private (masks + 1) held) (Unmask ∷ []) (resting Private masks held)
+  unmask_judged : (at masks : ℕ) (held : Bool) →
+      Judged code at (resting Private (masks + 1) held) (Unmask ∷ []) (resting Private masks held)
   unmask_judged at masks held =
       judged_fits code all at (resting Private (masks + 1) held) (resting Private masks held) (Unmask ∷ [])
       (unmask_fits code (masks + 1) held (omega arith), back code masks held)
@@ -112,14 +115,16 @@ module _ (code : SuperstepCode) (all : HasRegisters code) (uniforms : ℕ) (loca
         judged_join code start s a (resting Private masks false) (before ++ loop) (Unmask ∷ [])
         (judged_join code start s a a before loop (judged_fits code all start s a before (flagged_fits code masks held flag few))
         (looped_judged code all Private (masks + 1) head line vote more body
-        (judged_fits code all head a a (flags keep line vote flag base f) (flags_fit code masks keep line vote flag base f few ready)) turns))
+        (judged_fits code all head a a (flags keep line vote flag base f)
+        (flags_fit code masks keep line vote flag base f few ready)) turns))
         (unmask_judged (start + length (before ++ loop)) masks false)
 
   -- ---- all statements
 
   -- an else part, if there is one
   other_judged : (w : Frame) (base start masks : ℕ) (held : Bool) {k : _} (ss : Row_of-Step k) →
-      ((n : ℕ) → Judged code n (resting Private (masks + 1) held) (part_code w base n held ss) (resting Private (masks + 1) (part_left held ss))) →
+      ((n : ℕ) →
+      Judged code n (resting Private (masks + 1) held) (part_code w base n held ss) (resting Private (masks + 1) (part_left held ss))) →
       Judged code start (resting Private (masks + 1) held) (flipped (has_part ss) start (λ n. part_code w base n held ss))
       (resting Private (masks + 1) (part_left held ss))
   other_judged w base start masks held end_of-Step part =
@@ -142,8 +147,10 @@ module _ (code : SuperstepCode) (all : HasRegisters code) (uniforms : ℕ) (loca
         let two = λ (n : ℕ). part_code w base n (part_left (still held f) a) b in
         inner_if_judged w.keep held start line base masks f one two (has_part b) (part_left (still held f) a)
         (part_left (part_left (still held f) a) b) (omega (arith, d)) (sole_ready names e h.0)
-        (part_judged w base (start + length (test w.keep held start line base masks f one two (has_part b) false false)) (masks + 1) (still held f) a h.1 (omega (arith, d)))
-        (other_judged w base (start + length (before w.keep held start line base masks f one two (has_part b) false false)) masks (part_left (still held f) a) b
+        (part_judged w base (start + length (test w.keep held start line base masks f one two (has_part b) false false)) (masks + 1)
+        (still held f) a h.1 (omega (arith, d)))
+        (other_judged w base (start + length (before w.keep held start line base masks f one two (has_part b) false false)) masks
+        (part_left (still held f) a) b
         (λ n. part_judged w base n (masks + 1) (part_left (still held f) a) b h.2 (omega (arith, d))))
     step_judged w base start masks held (step.While' line e q a) h d =
         let f = formula_of e in

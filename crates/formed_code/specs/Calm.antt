@@ -18,7 +18,8 @@ BeginsCalm t at is = Stand t at is → IsCalm t.code (at + length is) → IsCalm
 
 -- ---- where statements begin
 
--- Each statement begins calm, since its mark comes first, behind sends and flags at most; and so does a part if the place behind it is calm.
+-- Each statement begins calm, since its mark comes first, behind sends and flags at most; and so does a part if the place behind it is
+-- calm.
 pub record StatementsBeginCalm : Type 0 where
   pub statement : (t : Run) (keep : Bool) (free at : ℕ) (held : Bool) (s : Statement) → Stand t at (outside.code keep free at held s) →
       IsCalm t.code at
@@ -26,7 +27,8 @@ pub record StatementsBeginCalm : Type 0 where
       BeginsCalm t at (outside.part_code keep free at held ss)
   pub statements : (t : Run) (keep : Bool) (free at : ℕ) (held : Bool) (ss : List Statement) →
       BeginsCalm t at (outside.statements_code keep free at held ss)
-  pub step : (t : Run) (w : Frame) (base at : ℕ) (held : Bool) (s : Step) → Stand t at (inside.step_code w base at held s) → IsCalm t.code at
+  pub step : (t : Run) (w : Frame) (base at : ℕ) (held : Bool) (s : Step) → Stand t at (inside.step_code w base at held s) →
+      IsCalm t.code at
   pub inner_part : (t : Run) (w : Frame) (base at : ℕ) (held : Bool) {k : _} (ss : Row_of-Step k) →
       BeginsCalm t at (inside.part_code w base at held ss)
   pub steps : (t : Run) (w : Frame) (base at : ℕ) (held : Bool) (ss : List Step) → BeginsCalm t at (inside.steps_code w base at held ss)

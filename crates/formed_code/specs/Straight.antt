@@ -6,7 +6,8 @@ use Rattle.superstep_code.specs.declared.instr.Side.TheVariants.{Uniform, Privat
 use Rattle.superstep_code.specs.declared.instr.Arithmetic.TheVariants as arithmetic
 use Rattle.superstep_code.specs.declared.instr.Truth.TheVariants as truth
 use Rattle.superstep_code.specs.declared.instr.Instr.{Instr}
-use Rattle.superstep_code.specs.declared.instr.Instr.TheVariants.{Mark, Copy, Calculate, Decide, Index, Enter, Mask, Unmask, Put, Send, Vote, Print}
+use Rattle.superstep_code.specs.declared.instr.Instr.TheVariants.{Mark, Copy, Calculate, Decide, Index, Enter, Mask, Unmask, Put, Send}
+use Rattle.superstep_code.specs.declared.instr.Instr.TheVariants.{Vote, Print}
 use Rattle.stretches.specs.Folds.{IsFine}
 use Rattle.stretches.specs.Leaving.{evaluates}
 use Rattle.stretches.specs.Frames.{is_above}
@@ -77,7 +78,8 @@ pub record MarksComeFirst : Type 0 where
   pub writes : (keep held : Bool) (line : ℕ) (s : Side) (base entry : ℕ) (f g : Formula) →
       shapes.writes keep held line s base entry f g
       ≡ shapes.flush (still held (Pair f g)) ++ Mark line ∷ writing keep (waits held (Pair f g)) s base entry f g
-  pub prints : (keep held : Bool) (line base : ℕ) (f : Formula) → shapes.prints keep held line base f ≡ Mark line ∷ printing keep held base f
+  pub prints : (keep held : Bool) (line base : ℕ) (f : Formula) →
+      shapes.prints keep held line base f ≡ Mark line ∷ printing keep held base f
   pub test : (keep held : Bool) (line free : ℕ) (f : Formula) →
       shapes.counted keep held line Uniform free f ++ shapes.flush (still held f) ≡ Mark line ∷ testing keep held free f
   pub bounds : (keep held : Bool) (line free : ℕ) (f g : Formula) →

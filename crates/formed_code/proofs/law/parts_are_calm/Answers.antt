@@ -1,4 +1,5 @@
-use Rattle.formed_code.proofs.Calm.{statements_begin_calm, parts_end_calm, branches_are_calm, loops_are_calm, turns_are_calm, ranges_are_calm}
+use Rattle.formed_code.proofs.Calm.{statements_begin_calm, parts_end_calm, branches_are_calm, loops_are_calm, turns_are_calm}
+use Rattle.formed_code.proofs.Calm.{ranges_are_calm}
 use Rattle.formed_code.proofs.Calm.{masks_are_calm}
 use Rattle.formed_code.proofs.law.parts_are_calm.Goals as goal
 
