@@ -9,3 +9,4 @@ pub mod AskDone
 pub mod WriteLemmas
 pub mod PutDone
 pub mod StretchLemmas
+pub mod WayLemmas

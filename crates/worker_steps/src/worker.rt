@@ -1,8 +1,18 @@
 //! A worker between two exchanges.
 
+ghost use Rattle.std.specs.Prelude.{◌≡◌, ◌<◌, ◌≤◌, ◌+◌, ◌*◌, ◌^◌, ℤ, List, length, IfOk};
+ghost use Rattle.pram_model.specs.declared.rule.Rule.{Rule};
+ghost use Rattle.superstep_code.specs.Code.{SuperstepCode};
+ghost use Rattle.superstep_machine.specs.Setting.{Setting, workers as workers_of, processors};
+ghost use Rattle.superstep_machine.specs.Run.{no_worker};
+ghost use Rattle.worker_steps.specs.Shown.{Shows};
+ghost use Rattle.worker_steps.specs.Fitted.{AreColumns, IsFitted};
+ghost use Rattle.worker_steps.specs.Met.{IsVerifiedAt};
+
 use combining::{Asks, Puts};
+use std::alloc::{AllocError, Global};
 use superstep_machine::Key;
-use superstep_steps::UniformState;
+use superstep_steps::{UniformState, open_uniform};
 use worker_bank::Bank;
 
 /// What instructions act on: the worker's copy of the uniform part, its processors, the place of the next instruction, and the least
@@ -19,4 +29,56 @@ pub struct WorkerState {
     pub puts: Puts,
     pub key: Option<Key>,
     pub place: u32,
+}
+
+// Eight columns of cells.
+fn columns(alloc: Global, most: usize) -> Result<Vec<Vec<Option<u32>>>, AllocError>
+    ensures { IfOk result (λ all. AreColumns most all.items) }
+{
+    let mut all = Vec::with_capacity(alloc, 8)?;
+    for _ in 0..8usize {
+        all.push(vec![in alloc; None; most]?)?;
+    }
+    Ok(all)
+}
+
+impl WorkerState {
+    /// One of the workers before the first instruction, with room for so many private registers and for so many processors. The error
+    /// comes where memory was refused.
+    pub fn new(
+        alloc: Global,
+        registers: u16,
+        most: u32,
+        worker: u32,
+        workers: u32,
+    ) -> Result<WorkerState, AllocError>
+        requires worker { worker < workers }
+        requires numbers { worker + workers * most < 2 ^ 32 }
+        requires few { most < 2 ^ 26 }
+        ensures worker { IfOk result (λ x. (x.bank.worker ≡ worker) × (x.bank.workers ≡ workers)) }
+        ensures fitted { IfOk result (λ x. (code : SuperstepCode) → code.private_registers ≡ registers →
+            ((t : Setting) → workers_of t ≡ workers → length (processors t worker code.procs) ≤ most) → IsFitted code x) }
+        ensures verified { IfOk result (λ x. (code : SuperstepCode) → IsVerifiedAt code x) }
+        ensures shows { IfOk result (λ x. (rule : Rule) (cells : List ℤ) → Shows rule x (record no_worker { cells = cells })) }
+    {
+        let bank = Bank::new(alloc, registers, most, 64, worker, workers)?;
+        let count = most as usize;
+        let asked = columns(alloc, count)?;
+        let awaited = columns(alloc, count)?;
+        let written = vec![in alloc; None; count]?;
+        let asks = Asks::with_room(alloc, 8 * (count + 1))?;
+        let puts = Puts::with_room(alloc, count + 1)?;
+        let uniform = open_uniform(alloc);
+        Ok(WorkerState {
+            uniform,
+            bank,
+            asked,
+            awaited,
+            written,
+            asks,
+            puts,
+            key: None,
+            place: 0,
+        })
+    }
 }
