@@ -24,7 +24,7 @@ use Rattle.plain_form.specs.Inside.{Frame}
 use Rattle.plain_form.specs.Outside as outside
 use Rattle.formed_code.specs.Calm.{BeginsCalm, StatementsBeginCalm, PartsEndCalm, BranchesAreCalm, LoopsAreCalm, TurnsAreCalm}
 use Rattle.formed_code.specs.Calm.{RangesAreCalm}
-use Rattle.formed_code.specs.Calm.{MasksAreCalm}
+use Rattle.formed_code.specs.Calm.{MasksAreCalm, ExitsAreCalm}
 
 module _ (t : Run) where
   -- the same place, written otherwise
@@ -243,3 +243,11 @@ masks_are_calm t start test part some other_part h begins others c =
       between,
       behind,
     )
+
+pub exits_are_calm : ExitsAreCalm
+exits_are_calm t start before loop h c =
+    let n1 = length-append before loop in
+    let n2 = length-append (before ++ loop) (Unmask ∷ []) in
+    let first = stands_split t start (before ++ loop) (Unmask ∷ []) h in
+    let end = calm_at t (start + length (before ++ loop ++ (Unmask ∷ []))) (start + length (before ++ loop) + 1) (omega (arith, n2)) c in
+    calm_at t (start + length (before ++ loop)) (start + length before + length loop) (omega (arith, n1)) (quiet Unmask first.1.0 refl end)

@@ -79,3 +79,8 @@ MasksAreCalm = (t : Run) (start : ℕ) (test part : List Instr) (some : Bool) (o
     Stand t start (before ++ other ++ (Unmask ∷ [])) → BeginsCalm t (start + length test) part →
     ((at : ℕ) → BeginsCalm t at (other_part at)) → IsCalm t.code (start + length (before ++ other ++ (Unmask ∷ []))) →
     IsCalm t.code (start + length test) × IsCalm t.code (start + length before) × IsCalm t.code (start + length (before ++ other))
+
+-- A `while` inside pardo: behind its loop.
+abbrev pub ExitsAreCalm : Type 0
+ExitsAreCalm = (t : Run) (start : ℕ) (before loop : List Instr) → Stand t start (before ++ loop ++ (Unmask ∷ [])) →
+    IsCalm t.code (start + length (before ++ loop ++ (Unmask ∷ []))) → IsCalm t.code (start + length before + length loop)

@@ -2,7 +2,7 @@
 
 ghost use Rattle.formed_code.specs.FormedCode.{FormsAreWellFormed, FormsAreCode};
 ghost use Rattle.formed_code.specs.Calm.{StatementsBeginCalm, PartsEndCalm, BranchesAreCalm, LoopsAreCalm};
-ghost use Rattle.formed_code.specs.Calm.{TurnsAreCalm, RangesAreCalm, MasksAreCalm};
+ghost use Rattle.formed_code.specs.Calm.{TurnsAreCalm, RangesAreCalm, MasksAreCalm, ExitsAreCalm};
 ghost use Rattle.formed_code.specs.Straight.{MarksComeFirst, StraightPartsAreFine, EvaluationsStay};
 
 /// The code of a program within bounds is well formed, with empty sends and without: so the
@@ -38,4 +38,5 @@ pub fn parts_are_calm()
     ensures ranges { RangesAreCalm }
     // Inside.
     ensures masks { MasksAreCalm }
+    ensures exits { ExitsAreCalm }
 {}

@@ -1,6 +1,6 @@
 use Rattle.formed_code.proofs.Calm.{statements_begin_calm, parts_end_calm, branches_are_calm, loops_are_calm, turns_are_calm}
 use Rattle.formed_code.proofs.Calm.{ranges_are_calm}
-use Rattle.formed_code.proofs.Calm.{masks_are_calm}
+use Rattle.formed_code.proofs.Calm.{masks_are_calm, exits_are_calm}
 use Rattle.formed_code.proofs.law.parts_are_calm.Goals as goal
 
 pub returns : goal.returns
@@ -12,4 +12,5 @@ returns c = record {
   turns = turns_are_calm;
   ranges = ranges_are_calm;
   masks = masks_are_calm;
+  exits = exits_are_calm;
 }
