@@ -7,7 +7,7 @@ use Rattle.pram_values.specs.declared.place.Place.TheVariants.{Processor}
 use Rattle.pram_values.specs.Total.{total}
 use Rattle.pram_values.proofs.Totals.{total_same, total_within}
 use Rattle.write_rules.specs.Rule.{shares_reads}
-use Rattle.superstep_code.specs.declared.instr.Side.TheVariants.{Private}
+use Rattle.superstep_code.specs.declared.instr.Side.TheVariants.{Uniform, Private}
 use Rattle.superstep_code.specs.declared.instr.Instr.{Instr}
 use Rattle.superstep_code.specs.Code.{SuperstepCode}
 use Rattle.superstep_machine.specs.declared.key.Key.{Key}
@@ -15,7 +15,7 @@ use Rattle.superstep_machine.specs.Keys.{least}
 use Rattle.superstep_machine.specs.Parts.{Registers, UniformPart, PrivatePart}
 use Rattle.superstep_machine.specs.Steps.{index_of, is_active}
 use Rattle.pram_check.specs.Bounded.{Names, names_of, with_locals}
-use Rattle.pram_meaning.specs.Store.{View, seen_by}
+use Rattle.pram_meaning.specs.Store.{View, seen, seen_by}
 use Rattle.flat_machine.specs.Flat.{Flat}
 use Rattle.flat_machine.proofs.Late.{least_last}
 use Rattle.stretches.specs.Applied.{IsBare, AsksNone}
@@ -234,6 +234,8 @@ formulas_are_evaluated_inside code p locals m base e f h =
         width = none.width ∙ start.width;
         members = λ v w. (λ i. index_of (let x : UniformPart = record f.uniform { low = none.low i } in x) v)
             ∙ start.members v (subst (λ (k : ℕ). v < k) none.width w);
+        outside = subst (λ (r : Registers). Shows Uniform (names_of p) (seen p m) r r end.memory) uniforms
+            (subst (λ (k : ℕ → ℤ). Shows Uniform (names_of p) (seen p m) f.uniform.registers f.uniform.registers k) memory start.outside);
         shows = λ v w. subst (λ (r : Registers). Shows Private names (s v) r (end.own v).registers end.memory) uniforms
             (subst (λ (k : ℕ → ℤ). Shows Private names (s v) f.uniform.registers (end.own v).registers k) memory
             (still_shows names base Private free (s v) f.uniform.registers (f.own v).registers (end.own v).registers f.memory

@@ -20,5 +20,7 @@ pub mod LevelConflicts
 pub mod InsideLevels
 pub mod InsideNotes
 pub mod Tasks
+pub mod Writes
+pub mod WritesInside
 pub mod Inside
 pub mod Outside

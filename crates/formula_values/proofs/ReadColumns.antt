@@ -22,18 +22,18 @@ use Rattle.formula_values.proofs.StepNotes.{length_steps}
 
 -- ---- the cell at a position
 
-cell_first : (xs ys : List Step) (i : ℕ) → i < length xs → get_or (trail (xs ++ ys)) i None ≡ get_or (trail xs) i None
+pub cell_first : (xs ys : List Step) (i : ℕ) → i < length xs → get_or (trail (xs ++ ys)) i None ≡ get_or (trail xs) i None
 cell_first [] ys i h = absurd (omega arith)
 cell_first (x ∷ xs) ys zero h = refl
 cell_first (x ∷ xs) ys (suc i) h = cell_first xs ys i (omega arith)
 
-cell_behind : (xs ys : List Step) (d j : ℕ) → d ≡ length xs + j → get_or (trail (xs ++ ys)) d None ≡ get_or (trail ys) j None
+pub cell_behind : (xs ys : List Step) (d j : ℕ) → d ≡ length xs + j → get_or (trail (xs ++ ys)) d None ≡ get_or (trail ys) j None
 cell_behind [] ys d j e = ap (λ k. get_or (trail ys) k None) (let a : d ≡ j = omega (arith, e) in a)
 cell_behind (x ∷ xs) ys zero j e = absurd (omega (arith, e))
 cell_behind (x ∷ xs) ys (suc d) j e = cell_behind xs ys d j (omega (arith, e))
 
 -- n numbers and one more
-range_last : (q n : ℕ) → range_with_len q (n + 1) ≡ range_with_len q n ++ (q + n) ∷ []
+pub range_last : (q n : ℕ) → range_with_len q (n + 1) ≡ range_with_len q n ++ (q + n) ∷ []
 range_last q zero = ap (λ k. k ∷ []) (let e : q ≡ q + 0 = omega arith in e)
 range_last q (suc n) =
     ap (range_with_len q) (let e : suc n + 1 ≡ suc (n + 1) = omega arith in e)
@@ -68,7 +68,7 @@ module _ (h : Heading) (cells : ℕ) (vs : List ℕ) (column : ℕ → ℕ → O
   none_asks c d n [] = refl
   none_asks c d n (u ∷ us) = λ i. several (asks_for c (n u i)) (none_asks c d n us i)
 
-  no_column_key : (d : ℕ) → ((v : ℕ) → column d v ≡ None) → column_key d ≡ None
+  pub no_column_key : (d : ℕ) → ((v : ℕ) → column d v ≡ None) → column_key d ≡ None
   no_column_key d n =
       total_none None least keys_are_monoid (λ c. read_key h (d + 1) c (total None several (λ v. asks_for c (column d v)) vs))
       (λ c. ap (read_key h (d + 1) c) (none_asks c d n vs)) (range_with_len 0 cells)

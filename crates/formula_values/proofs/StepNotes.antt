@@ -49,7 +49,7 @@ module _ (h : Heading) (at : Place) where
       notes_behind h q at (xs ++ ys) ≡ least (notes_behind h q at xs) (notes_behind h (q + n) at ys)
   behind xs ys q n e = notes_join xs ys q ∙ ap (λ k. least (notes_behind h q at xs) (notes_behind h (q + k) at ys)) e
 
-  with_last : (xs : List Step) (x : Step) (q n : ℕ) → length xs ≡ n →
+  pub with_last : (xs : List Step) (x : Step) (q n : ℕ) → length xs ≡ n →
       notes_behind h q at (xs ++ x ∷ []) ≡ least (notes_behind h q at xs) (note_key h (q + n + 1) at x.note)
   with_last xs x q n e =
       behind xs (x ∷ []) q n e ∙ ap (least (notes_behind h q at xs)) (last_none (note_key h (q + n + 1) at x.note))

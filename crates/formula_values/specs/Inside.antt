@@ -2,12 +2,12 @@
 use Rattle.std.specs.Prelude.{◌≡◌, ℕ, ◌<◌, ◌≤◌, List, map, length, None, true}
 use Rattle.std.specs.List.{filter}
 use Rattle.pram_model.specs.Layout.{total_size}
-use Rattle.superstep_code.specs.declared.instr.Side.TheVariants.{Private}
+use Rattle.superstep_code.specs.declared.instr.Side.TheVariants.{Uniform, Private}
 use Rattle.superstep_code.specs.Code.{SuperstepCode}
 use Rattle.superstep_machine.specs.Steps.{index_of, is_active}
 use Rattle.pram_check.specs.Checked.{Checked}
 use Rattle.pram_check.specs.Bounded.{names_of, with_locals}
-use Rattle.pram_meaning.specs.Store.{State, member_of, seen_by}
+use Rattle.pram_meaning.specs.Store.{State, member_of, seen, seen_by}
 use Rattle.flat_machine.specs.Flat.{Flat, range}
 use Rattle.stretches.specs.Applied.{IsBare, AsksNone}
 use Rattle.stretches.specs.Folds.{acts_at_once}
@@ -23,11 +23,12 @@ use Rattle.formula_values.specs.Terms.{term, steps_in}
 use Rattle.formula_values.specs.Environments.{IsNamed, Shows}
 use Rattle.formula_values.specs.Headings.{heading_of}
 
--- The range is the team; the registers of each processor, the uniform ones and the memory show what that processor sees, and no write
--- and no read is held.
+-- The range is the team; the uniform registers and the memory show what the program sees, with the registers of each processor what
+-- that one sees, and no write and no read is held.
 pub record ShowsInside (p : Checked) (locals : ℕ) (m : State) (f : Flat) : Type 0 where
   pub width : f.uniform.width ≡ length m.team
   pub members : (v : ℕ) → v < f.uniform.width → index_of f.uniform v ≡ (member_of m.team v).index
+  pub outside : Shows Uniform (names_of p) (seen p m) f.uniform.registers f.uniform.registers f.memory
   pub shows : (v : ℕ) → v < f.uniform.width →
       Shows Private (with_locals locals (names_of p)) (seen_by p m v) f.uniform.registers (f.own v).registers f.memory
   pub bare : IsBare f

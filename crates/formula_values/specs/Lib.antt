@@ -4,3 +4,4 @@ pub mod Headings
 pub mod Outside
 pub mod Inside
 pub mod Tasks
+pub mod Writes

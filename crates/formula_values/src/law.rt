@@ -4,6 +4,7 @@ ghost use Rattle.formula_values.specs.Terms.{ExpressionsAreTerms, StepsAreSteps}
 ghost use Rattle.formula_values.specs.Environments.{ExpressionsAreNamed};
 ghost use Rattle.formula_values.specs.Inside.{FormulasAreEvaluatedInside, PairsAreEvaluatedInside};
 ghost use Rattle.formula_values.specs.Outside.{FormulasAreEvaluatedOutside, PairsAreEvaluatedOutside};
+ghost use Rattle.formula_values.specs.Writes.{WritesAreTasks};
 ghost use Rattle.formula_values.specs.Tasks.{ExpressionsAreSingle, SinglesAreTerms, ValuesAreTasks};
 
 /// An expression as a formula is the same as evaluation's term of it: it has the same value, and the
@@ -37,4 +38,11 @@ pub fn formulas_are_tasks()
     ensures expressions { ExpressionsAreSingle }
     ensures singles { SinglesAreTerms }
     ensures values { ValuesAreTasks }
+{}
+
+/// Inside pardo a write behind the code of its subscript and its value notes what evaluation says of the
+/// task to write, conflicts of reads and of writes included; each cell gets what the rule gives for its
+/// writers, and all else is as the code of the formulas leaves it.
+pub fn writes_are_tasks()
+    ensures writes { WritesAreTasks }
 {}
