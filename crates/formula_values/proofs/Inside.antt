@@ -46,9 +46,10 @@ use Rattle.formula_values.proofs.AtRest.{stays_at_rest}
 use Rattle.formula_values.proofs.PrivateSteps.{keys_by, private_own, private_notes}
 use Rattle.formula_values.proofs.ReadColumns.{column_key, conflicts_of_all, no_conflicts_around}
 use Rattle.formula_values.proofs.Outside.{none_read}
-use Rattle.formula_values.proofs.InsideLevels.{sum_of, sums_join, Stage, own_keys, column, conflict_keys, levels_key, IsBehind}
+use Rattle.formula_values.proofs.InsideLevels.{Stage, own_keys, column, conflict_keys, levels_key, IsBehind}
 use Rattle.formula_values.proofs.InsideLevels.{more_levels}
 use Rattle.formula_values.proofs.InsideNotes.{all_noted}
+use Rattle.formula_values.proofs.Sums.{sum_of, sums_join}
 
 module _ (code : SuperstepCode) (n : Names) (base : ℕ) (free : IsFree Private n base) (s : ℕ → View)
     (same : (v : ℕ) → code.layout ≡ (s v).layout) where

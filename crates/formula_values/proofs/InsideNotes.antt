@@ -21,7 +21,7 @@ use Rattle.formula_values.specs.Inside.{row_in}
 use Rattle.formula_values.proofs.Levels.{last_none}
 use Rattle.formula_values.proofs.ReadColumns.{column_key}
 use Rattle.formula_values.proofs.LevelConflicts.{total_filter}
-use Rattle.formula_values.proofs.InsideLevels.{sum_of}
+use Rattle.formula_values.proofs.Sums.{sum_of}
 
 module _ (h : Heading) (p : Checked) (m : State) (e : Formula) where
   abbrev row : ℕ → Row

@@ -17,6 +17,7 @@ pub mod PrivateSteps
 pub mod Slots
 pub mod ReadColumns
 pub mod LevelConflicts
+pub mod Sums
 pub mod InsideLevels
 pub mod InsideNotes
 pub mod Tasks
