@@ -5,7 +5,7 @@ use Rattle.std.specs.List.{AllByRecursion, filter, range_with_len, zip}
 use Rattle.pram_model.specs.Layout.{total_size}
 use Rattle.pram_values.specs.declared.place.Place.TheVariants.{Processor}
 use Rattle.pram_values.specs.Total.{total}
-use Rattle.pram_values.proofs.Totals.{total_same, total_none, total_both, total_within, middle}
+use Rattle.pram_values.proofs.Totals.{total_within, middle}
 use Rattle.write_rules.specs.Rule.{shares_reads}
 use Rattle.superstep_code.specs.declared.instr.Side.TheVariants.{Private}
 use Rattle.superstep_code.specs.declared.instr.Instr.{Instr}

@@ -9,8 +9,8 @@ use Rattle.pram_meaning.specs.Operation.{operate, operate_before}
 use Rattle.pram_meaning.specs.Store.{State, View, member_of, seen_by}
 use Rattle.evaluation.specs.Terms as terms
 use Rattle.evaluation.specs.Terms.{Gets}
-use Rattle.evaluation.specs.Whole.{Step, reading, testing, value, steps}
-use Rattle.evaluation.specs.Rows.{row_of, rows}
+use Rattle.evaluation.specs.Whole.{reading, testing, value, steps}
+use Rattle.evaluation.specs.Rows.{rows}
 use Rattle.evaluation.specs.Noted.{noted_in}
 use Rattle.plain_form.specs.Formulas.{Formula, Zero, Number, Variable, Index, Local, Read, Before, Between, Pair, formula_of, chained, positions}
 use Rattle.formula_values.specs.Terms.{term, steps_in}

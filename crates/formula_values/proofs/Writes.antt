@@ -1,54 +1,32 @@
 -- A write behind its formulas notes and leaves what evaluation says.
-use Rattle.std.proofs.Common.{◌≡◌, ℕ, ◌+◌, ◌<◌, ◌≤◌, List, [], ◌∷◌, ◌++◌, map, length, length-append, get_or, Bool, true, false, if◌then◌else◌}
-use Rattle.std.proofs.Common.{Option, Some, None, ℤ, pos, refl, sym, ap, ◌∙◌, subst, append_assoc, arith}
-use Rattle.std.specs.List.{filter, range_with_len}
+use Rattle.std.proofs.Common.{◌≡◌, ℕ, ◌+◌, ◌<◌, List, [], ◌∷◌, ◌++◌, map, length, get_or, if◌then◌else◌}
+use Rattle.std.proofs.Common.{Option, None, ℤ, sym, ap, ◌∙◌, append_assoc, arith}
+use Rattle.std.specs.List.{range_with_len}
 use Rattle.pram_model.specs.declared.rule.Rule.{Rule}
 use Rattle.pram_model.specs.Layout.{cell_of, total_size}
 use Rattle.pram_values.specs.declared.place.Place.TheVariants.{Processor}
 use Rattle.pram_values.specs.Total.{total}
 use Rattle.pram_values.proofs.Totals.{total_same, total_map, total_both, total_joined, total_within, middle}
-use Rattle.write_rules.specs.declared.entry.Entry.{Entry}
 use Rattle.write_rules.specs.Rule.{shares_reads}
-use Rattle.write_rules.specs.Combining.{AreWriters}
-use Rattle.superstep_code.specs.declared.instr.Side.TheVariants.{Private}
-use Rattle.superstep_code.specs.declared.instr.Instr.{Instr}
-use Rattle.superstep_code.specs.declared.instr.Instr.TheVariants.{Put}
-use Rattle.superstep_code.specs.Code.{SuperstepCode}
 use Rattle.superstep_machine.specs.declared.key.Key.{Key}
 use Rattle.superstep_machine.specs.Keys.{least}
 use Rattle.superstep_machine.specs.Results.{missing}
-use Rattle.superstep_machine.specs.Parts.{PrivatePart, UniformPart}
-use Rattle.superstep_machine.specs.Sending.{join, verdict_on, settled, put_conflict, several, asks_for}
-use Rattle.superstep_machine.specs.Steps.{index_of, is_active, under, own_key, own_write, write_to}
+use Rattle.superstep_machine.specs.Sending.{several, asks_for}
 use Rattle.superstep_machine.proofs.KeyOrder.{keys_are_monoid}
 use Rattle.pram_check.specs.Checked.{Checked}
-use Rattle.pram_meaning.specs.Store.{State, View, member_of, seen_by}
-use Rattle.flat_machine.specs.Flat.{Flat, range, cells, noted, single_to, written}
-use Rattle.stretches.specs.Applied.{write_conflict}
-use Rattle.stretches.specs.Folds.{acts_at_once}
-use Rattle.stretches.specs.Notes.{notes}
-use Rattle.stretches.proofs.Joins.{acts_at_once_join}
-use Rattle.stretches.proofs.Notes.{notes_join}
+use Rattle.pram_meaning.specs.Store.{State, member_of, seen_by}
 use Rattle.evaluation.specs.Terms.{Task, Writes, task_positions}
 use Rattle.evaluation.specs.Whole.{Step, testing, value, steps}
 use Rattle.evaluation.specs.Rows.{Row, row_of, rows, trail}
 use Rattle.evaluation.specs.Noted as evaluation
 use Rattle.evaluation.specs.Noted.{Heading, moment, note_key, notes_behind, readers, read_key, reads_noted, verdict, writes_at, writes_noted}
-use Rattle.evaluation.specs.Effects.{entry_by, entry_at}
-use Rattle.evaluation.proofs.Effects.{entries_are_the_rule}
 use Rattle.plain_form.specs.Formulas.{Formula, Pair, positions}
-use Rattle.plain_form.specs.Groups.{evaluated, first_at, second_at}
 use Rattle.formula_values.specs.Terms.{term, steps_in}
-use Rattle.formula_values.specs.Headings.{heading_of}
-use Rattle.formula_values.specs.Inside.{active_ones, row_in, MayEvaluateInside, IsEvaluatedInside}
+use Rattle.formula_values.specs.Inside.{row_in}
 use Rattle.formula_values.specs.Tasks.{IsSingle}
-use Rattle.formula_values.specs.Writes.{write_code, write_rows, IsWrittenInside, WritesAreTasks}
 use Rattle.formula_values.proofs.Levels.{last_none}
-use Rattle.formula_values.proofs.UniformSteps.{fault_is}
 use Rattle.formula_values.proofs.StepNotes.{length_steps, with_last}
 use Rattle.formula_values.proofs.ReadColumns.{column_key, no_column_key, cell_first, cell_behind, range_last}
-use Rattle.formula_values.proofs.LevelConflicts.{total_filter}
-use Rattle.formula_values.proofs.Inside.{formulas_are_evaluated_inside, pairs_are_evaluated_inside}
 use Rattle.formula_values.proofs.InsideNotes.{rows_note}
 use Rattle.formula_values.proofs.Tasks.{single_steps, single_positions}
 

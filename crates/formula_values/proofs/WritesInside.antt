@@ -1,37 +1,33 @@
 -- The machine's write inside pardo notes and leaves what evaluation says.
-use Rattle.std.proofs.Common.{◌≡◌, ℕ, ◌+◌, ◌<◌, List, [], ◌∷◌, ◌++◌, Bool, true, false, if◌then◌else◌, Option, Some, None, ℤ, pos, refl, sym, ap}
+use Rattle.std.proofs.Common.{◌≡◌, ℕ, ◌+◌, ◌<◌, List, [], ◌∷◌, Bool, true, false, if◌then◌else◌, Option, Some, None, ℤ, refl, sym, ap}
 use Rattle.std.proofs.Common.{◌∙◌, subst, arith}
-use Rattle.std.specs.List.{filter, range_with_len}
+use Rattle.std.specs.List.{range_with_len}
 use Rattle.pram_model.specs.declared.rule.Rule.{Rule}
 use Rattle.pram_model.specs.Layout.{cell_of, total_size}
 use Rattle.pram_values.specs.declared.place.Place.TheVariants.{Processor}
 use Rattle.pram_values.specs.Total.{total}
 use Rattle.pram_values.proofs.Totals.{total_same, total_map, total_within}
-use Rattle.write_rules.specs.declared.entry.Entry.{Entry}
 use Rattle.write_rules.specs.Combining.{AreWriters}
 use Rattle.superstep_code.specs.declared.instr.Side.TheVariants.{Private}
 use Rattle.superstep_code.specs.declared.instr.Instr.{Instr}
 use Rattle.superstep_code.specs.declared.instr.Instr.TheVariants.{Put}
 use Rattle.superstep_code.specs.Code.{SuperstepCode}
-use Rattle.superstep_machine.specs.declared.key.Key.{Key}
 use Rattle.superstep_machine.specs.Keys.{least}
 use Rattle.superstep_machine.specs.Results.{missing}
 use Rattle.superstep_machine.specs.Sending.{join, verdict_on, settled, put_conflict}
-use Rattle.superstep_machine.specs.Steps.{index_of, is_active, under, own_key, own_write, write_to}
+use Rattle.superstep_machine.specs.Steps.{index_of, is_active, under, own_write, write_to}
 use Rattle.superstep_machine.proofs.KeyOrder.{keys_are_monoid}
 use Rattle.pram_check.specs.Checked.{Checked}
 use Rattle.pram_meaning.specs.Store.{State, member_of, seen_by}
 use Rattle.flat_machine.specs.Flat.{Flat, range, cells, noted, single_to, written}
 use Rattle.stretches.specs.Applied.{write_conflict}
 use Rattle.stretches.specs.Folds.{acts_at_once}
-use Rattle.stretches.specs.Notes.{notes}
 use Rattle.stretches.proofs.Joins.{acts_at_once_join}
 use Rattle.stretches.proofs.Notes.{notes_join}
 use Rattle.evaluation.specs.Terms.{Writes}
 use Rattle.evaluation.specs.Whole.{value}
-use Rattle.evaluation.specs.Rows.{Row, row_of, rows}
-use Rattle.evaluation.specs.Noted as evaluation
-use Rattle.evaluation.specs.Noted.{Heading, moment, note_key, verdict, writes_at, writes_noted}
+use Rattle.evaluation.specs.Rows.{Row, row_of}
+use Rattle.evaluation.specs.Noted.{moment, note_key, verdict, writes_at, writes_noted}
 use Rattle.evaluation.specs.Effects.{entry_by, entry_at}
 use Rattle.evaluation.proofs.Effects.{entries_are_the_rule}
 use Rattle.plain_form.specs.Formulas.{Formula, Pair, positions}

@@ -12,7 +12,7 @@ use Rattle.evaluation.specs.Terms.{Gets}
 use Rattle.evaluation.specs.Whole.{steps}
 use Rattle.evaluation.specs.Rows.{rows}
 use Rattle.evaluation.specs.Noted.{noted}
-use Rattle.plain_form.specs.Formulas.{Formula, Zero, Number, Variable, Index, Local, Read, Before, Between, Pair, formula_of, positions}
+use Rattle.plain_form.specs.Formulas.{Formula, Read, Before, Between, Pair, formula_of, positions}
 use Rattle.plain_form.specs.Groups.{evaluated}
 use Rattle.formula_values.specs.Terms.{term, steps_in}
 use Rattle.formula_values.specs.Headings.{heading_of}

@@ -12,7 +12,7 @@ use Rattle.pram_meaning.specs.Store.{State}
 use Rattle.flat_machine.specs.Flat.{Flat}
 use Rattle.stretches.specs.Folds.{acts_at_once}
 use Rattle.stretches.specs.Notes.{notes}
-use Rattle.evaluation.specs.Terms.{Task, Writes}
+use Rattle.evaluation.specs.Terms.{Writes}
 use Rattle.evaluation.specs.Rows.{Row, rows}
 use Rattle.evaluation.specs.Noted.{noted, verdict, writes_at}
 use Rattle.plain_form.specs.Formulas.{Formula, Pair, positions}
