@@ -8,8 +8,6 @@ mod map;
 mod round;
 mod rounds;
 mod spread;
-#[cfg(test)]
-mod tests;
 
 pub use affine::Affine;
 pub use fault::MapFault;

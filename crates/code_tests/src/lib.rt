@@ -1,4 +1,4 @@
-//! Tests of superstep code: its listing, its verifier, held messages, the run on one memory, and fusing.
+//! Tests of superstep code: its listing, its verifier, address maps, held messages, the run on one memory, and fusing.
 #![tactic(auto)]
 
 #[cfg(test)]
@@ -11,6 +11,8 @@ mod fused;
 mod held_and_merged;
 #[cfg(test)]
 mod listing;
+#[cfg(test)]
+mod maps;
 #[cfg(test)]
 mod texts;
 #[cfg(test)]

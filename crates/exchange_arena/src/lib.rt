@@ -10,6 +10,3 @@ mod run;
 pub use block::{Block, MAX_SIDE};
 pub use law::pieces_stand_in_order;
 pub use piece::{Header, MAX_ROOM, Piece};
-
-#[cfg(test)]
-mod tests;

@@ -19,7 +19,7 @@ use Rattle.pram_syntax.specs.Blocks.{if_then, if_else, for_to, pardo, AreStateme
 use Rattle.pram_syntax.specs.Machine.{begins_statement, verdict, opened_verdict, statement_verdict}
 use Rattle.pram_syntax.specs.Symbols.{Stack, Operand, Want, Statements, AfterName, assignment, begins_with, Else, ForHead, WantAtMost}
 use Rattle.pram_syntax.specs.Symbols.{turns, range, enter, Locals, WantName}
-use Rattle.pram_syntax.specs.Follows.{Found, FoundThen, FoundBlock, FoundBody, FoundStatement, FoundTurns, FoundBounds, IsRange}
+use Rattle.pram_syntax.specs.Follows.{Found, FoundThen, FoundBlock, FoundBody, FoundStatement, FoundTurns, FoundBounds, FoundLow, FoundHigh, IsRange}
 use Rattle.pram_syntax.proofs.StmtTokens.{spell_assign, spell_assign_element, spell_print, spell_while, spell_if_then, spell_if_else}
 use Rattle.pram_syntax.proofs.StmtTokens.{spell_for, spell_pardo}
 
@@ -151,15 +151,27 @@ pub at_loop : (b d : ℕ) (x : Name) (ts mid : List Token) → ts ≡ token.Name
     verdict ts (ForHead b d ∷ k) ≡ verdict mid (turns b d k)
 at_loop b d x ts mid whole k = ap (λ l. verdict l (ForHead b d ∷ k)) whole
 
-pub found_bounds : (d : ℕ) (x y : Name) (low high : Expr) (names : List Name) (ts t1 t2 t3 t4 t5 t6 rest : List Token) → y ≡ x →
-    Found level.Sum d ts low t1 → t1 ≡ token.Binary op.AtMost ∷ t2 → t2 ≡ token.Name x ∷ t3 → t3 ≡ token.Binary op.AtMost ∷ t4 →
-    Found level.Sum d t4 high t5 →
-    t5 ≡ token.Mark mark.Pardo ∷ t6 → t6 ≡ local_tokens names ++ rest → FoundBounds d ts low y high names rest
-found_bounds d x y low high names ts t1 t2 t3 t4 t5 t6 rest same hl a1 a2 a3 hh a4 hn =
-    let e5 = hh.1 ∙ ap (λ l. tokens high ++ l) (a4 ∙ ap (λ l. token.Mark mark.Pardo ∷ l) hn) in
-    let e3 = a2 ∙ ap (λ l. token.Name x ∷ l) (a3 ∙ ap (λ l. token.Binary op.AtMost ∷ l) e5) in
-    let e1 = hl.1 ∙ ap (λ l. tokens low ++ l) (a1 ∙ ap (λ l. token.Binary op.AtMost ∷ l) e3) in
-    subst (λ z. FoundBounds d ts low z high names rest) (sym same) (hl.0, hh.0, e1)
+pub found_high : (d : ℕ) (high : Expr) (names : List Name) (ts t1 t2 rest : List Token) → Found level.Sum d ts high t1 →
+    t1 ≡ token.Mark mark.Pardo ∷ t2 → t2 ≡ local_tokens names ++ rest → FoundHigh d ts high names rest
+found_high d high names ts t1 t2 rest hh a hn =
+    (hh.0, hh.1 ∙ ap (λ l. tokens high ++ l) (a ∙ ap (λ l. token.Mark mark.Pardo ∷ l) hn))
+
+pub found_low : (d : ℕ) (x y : Name) (low : Expr) (ts t1 t2 t3 rest : List Token) → y ≡ x →
+    Found level.Sum d ts low t1 → t1 ≡ token.Binary op.AtMost ∷ t2 → t2 ≡ token.Name x ∷ t3 → t3 ≡ token.Binary op.AtMost ∷ rest →
+    FoundLow d ts low y rest
+found_low d x y low ts t1 t2 t3 rest same hl a1 a2 a3 =
+    let e2 = a2 ∙ ap (λ l. token.Name x ∷ l) a3 in
+    let e1 = hl.1 ∙ ap (λ l. tokens low ++ l) (a1 ∙ ap (λ l. token.Binary op.AtMost ∷ l) e2) in
+    subst (λ z. FoundLow d ts low z rest) (sym same) (hl.0, e1)
+
+pub found_bounds : (d : ℕ) (x : Name) (low high : Expr) (names : List Name) (ts mid rest : List Token) → FoundLow d ts low x mid →
+    FoundHigh d mid high names rest → FoundBounds d ts low x high names rest
+found_bounds d x low high names ts mid rest hl hh = (
+  hl.0,
+  hh.0,
+  hl.1
+      ∙ ap (λ l. tokens low ++ (token.Binary op.AtMost ∷ (token.Name x ∷ (token.Binary op.AtMost ∷ l)))) hh.1,
+)
 
 pub found_range : (b d : ℕ) (at : Location) (low : Expr) (x : Name) (high : Expr) (names : List Name) (body : List Stmt)
     (ts mid rest : List Token) → b ≢ 0 →

@@ -87,6 +87,17 @@ FoundTurns d ts low high rest =
     Fits d level.Expression low × Fits d level.Expression high
     × (ts ≡ tokens low ++ (token.Mark mark.To ∷ (tokens high ++ (token.Mark mark.Do ∷ rest))))
 
+-- the low bound and the index of a pardo
+abbrev pub FoundLow : ℕ → List Token → Expr → Name → List Token → Type 0
+FoundLow d ts low x rest =
+    Fits d level.Sum low
+    × (ts ≡ tokens low ++ (token.Binary op.AtMost ∷ (token.Name x ∷ (token.Binary op.AtMost ∷ rest))))
+
+-- the high bound of a pardo, and its locals
+abbrev pub FoundHigh : ℕ → List Token → Expr → List Name → List Token → Type 0
+FoundHigh d ts high locals rest =
+    Fits d level.Sum high × (ts ≡ tokens high ++ (token.Mark mark.Pardo ∷ (local_tokens locals ++ rest)))
+
 -- the bounds, the index and the locals of a pardo
 abbrev pub FoundBounds : ℕ → List Token → Expr → Name → Expr → List Name → List Token → Type 0
 FoundBounds d ts low x high locals rest =

@@ -225,9 +225,17 @@ loop_head d k = Operand level.Expression d ∷ (Want mark.To ∷ (Operand level.
 abbrev pub turns : ℕ → ℕ → Stack → Stack
 turns b d k = loop_head d (Statements b d ∷ (Want mark.End ∷ k))
 
+-- the high bound and the locals of a pardo
+abbrev pub pardo_high : ℕ → Stack → Stack
+pardo_high d k = Operand level.Sum d ∷ (Want mark.Pardo ∷ (Locals ∷ k))
+
 -- what stands behind the low bound of a pardo and the symbol <=, as far as its statements
 abbrev pub pardo_rest : ℕ → Stack → Stack
-pardo_rest d k = WantName ∷ (WantAtMost ∷ (Operand level.Sum d ∷ (Want mark.Pardo ∷ (Locals ∷ k))))
+pardo_rest d k = WantName ∷ (WantAtMost ∷ pardo_high d k)
+
+-- the low bound and the index of a pardo, and what stands behind them
+abbrev pub pardo_low : ℕ → Stack → Stack
+pardo_low d k = Operand level.Sum d ∷ (WantAtMost ∷ (WantName ∷ (WantAtMost ∷ k)))
 
 -- the bounds, the index and the locals of a pardo
 abbrev pub pardo_head : ℕ → Stack → Stack

@@ -4,7 +4,7 @@ ghost use Rattle.std.specs.Prelude.{◌≡◌, true, false, [], ◌∷◌, ◌++
 ghost use Rattle.pram_syntax.specs.Blocks as grammar;
 ghost use Rattle.pram_syntax.specs.Machine as machine;
 ghost use Rattle.pram_syntax.specs.Symbols as symbol;
-ghost use Rattle.pram_syntax.specs.Follows.{Follows, FoundBounds, FoundTurns, IsRange};
+ghost use Rattle.pram_syntax.specs.Follows.{Follows, FoundBounds, FoundHigh, FoundLow, FoundTurns, IsRange};
 
 use crate::front::{a_name, at_most, behind_mark, copied, expect, next};
 use crate::level::Level;
@@ -63,6 +63,39 @@ pub(crate) struct Bounds {
     pub(crate) locals: Items<Name>,
 }
 
+/// `high pardo` and locals, behind the second `<=`.
+fn high_and_locals(
+    alloc: Global,
+    tokens: &[Token],
+    depth: u8,
+) -> Result<(Expr, Items<Name>, &[Token]), ParseError>
+    ensures found { IfOk result (λ f. FoundHigh depth tokens.now f.0 f.1 f.2.now) }
+    ensures follows { Follows (λ k. machine.verdict tokens.now (symbol.pardo_high depth k))
+        (λ f. f.2.now) result }
+{
+    let (high, rest) = operand(alloc, tokens, Level::Sum, depth)?;
+    let rest = expect(rest, Mark::Pardo)?;
+    let (names, rest) = locals(alloc, rest)?;
+    Ok((high, names, rest))
+}
+
+/// `low <= name <=` behind `for`.
+fn low_and_index(
+    alloc: Global,
+    tokens: &[Token],
+    depth: u8,
+) -> Result<(Expr, Name, &[Token]), ParseError>
+    ensures found { IfOk result (λ f. FoundLow depth tokens.now f.0 f.1 f.2.now) }
+    ensures follows { Follows (λ k. machine.verdict tokens.now (symbol.pardo_low depth k))
+        (λ f. f.2.now) result }
+{
+    let (low, rest) = operand(alloc, tokens, Level::Sum, depth)?;
+    let rest = at_most(rest)?;
+    let (name, rest) = a_name(rest)?;
+    let rest = at_most(rest)?;
+    Ok((low, copied(alloc, name)?, rest))
+}
+
 /// `low <= name <= high pardo` and locals, behind `for`.
 pub(crate) fn pardo_head(
     alloc: Global,
@@ -74,18 +107,13 @@ pub(crate) fn pardo_head(
     ensures follows { Follows (λ k. machine.verdict tokens.now (symbol.pardo_head depth k))
         (λ f. f.1.now) result }
 {
-    let (low, rest) = operand(alloc, tokens, Level::Sum, depth)?;
-    let rest = at_most(rest)?;
-    let (index, rest) = a_name(rest)?;
-    let rest = at_most(rest)?;
-    let (high, rest) = operand(alloc, rest, Level::Sum, depth)?;
-    let rest = expect(rest, Mark::Pardo)?;
-    let (names, rest) = locals(alloc, rest)?;
+    let (low, index, rest) = low_and_index(alloc, tokens, depth)?;
+    let (high, locals, rest) = high_and_locals(alloc, rest, depth)?;
     let found = Bounds {
         low,
-        index: copied(alloc, index)?,
+        index,
         high,
-        locals: names,
+        locals,
     };
     Ok((found, rest))
 }

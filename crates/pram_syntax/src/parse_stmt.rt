@@ -1,6 +1,6 @@
 //! The parser of statements.
 
-ghost use Rattle.std.specs.Prelude.{◌≡◌, ◌≢◌, true, false, [], ◌∷◌, ◌++◌, length, ◌-◌, IfOk};
+ghost use Rattle.std.specs.Prelude.{◌≡◌, ◌≢◌, ℕ, true, false, [], ◌∷◌, ◌++◌, length, ◌-◌, IfOk};
 ghost use Rattle.pram_syntax.specs.Machine as machine;
 ghost use Rattle.pram_syntax.specs.Symbols as symbol;
 ghost use Rattle.pram_syntax.specs.Follows.{Follows, FoundBlock, FoundBody, FoundStatement};
@@ -100,6 +100,35 @@ fn statement(
     }
 }
 
+/// `[ subscript ] := value ;` behind the name of an array, where `inside` is behind the bracket.
+fn element_assignment<'a>(
+    alloc: Global,
+    name: &Name,
+    tokens: &'a [Token],
+    inside: &'a [Token],
+    depth: u8,
+) -> Result<(Stmt, &'a [Token]), ParseError>
+    requires front { tokens.now ≡ Token.Mark Mark.OpenBracket ∷ inside.now }
+    ensures found { (b : ℕ) → IfOk result
+        (λ f. FoundStatement b depth (Token.Name name.now ∷ []) tokens.now f.0 f.1.now) }
+    ensures follows { (b : ℕ) → Follows (λ k. machine.verdict tokens.now (symbol.AfterName b depth ∷ k))
+        (λ f. f.1.now) result }
+{
+    if depth == 0 {
+        return Err(ParseError::TooDeep(tokens.len()));
+    }
+    let (subscript, rest) = expression_then(alloc, inside, Mark::CloseBracket, depth - 1)?;
+    let rest = expect(rest, Mark::Becomes)?;
+    let (value, rest) = expression_then(alloc, rest, Mark::Semicolon, depth)?;
+    let target = copied(alloc, name)?;
+    let found = Stmt::AssignElement {
+        target,
+        subscript,
+        value,
+    };
+    Ok((found, rest))
+}
+
 /// What follows the name at the head of an assignment.
 fn assignment<'a>(
     alloc: Global,
@@ -113,23 +142,12 @@ fn assignment<'a>(
     ensures follows { Follows (λ k. machine.verdict tokens.now (symbol.AfterName blocks depth ∷ k))
         (λ f. f.1.now) result }
 {
-    let target = copied(alloc, name)?;
     if let Some(inside) = behind_mark(tokens, Mark::OpenBracket) {
-        if depth == 0 {
-            return Err(ParseError::TooDeep(tokens.len()));
-        }
-        let (subscript, rest) = expression_then(alloc, inside, Mark::CloseBracket, depth - 1)?;
-        let rest = expect(rest, Mark::Becomes)?;
-        let (value, rest) = expression_then(alloc, rest, Mark::Semicolon, depth)?;
-        let found = Stmt::AssignElement {
-            target,
-            subscript,
-            value,
-        };
-        return Ok((found, rest));
+        return element_assignment(alloc, name, tokens, inside, depth);
     }
     let rest = expect(tokens, Mark::Becomes)?;
     let (value, rest) = expression_then(alloc, rest, Mark::Semicolon, depth)?;
+    let target = copied(alloc, name)?;
     Ok((Stmt::Assign { target, value }, rest))
 }
 

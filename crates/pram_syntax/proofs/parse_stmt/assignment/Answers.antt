@@ -1,53 +1,21 @@
-use Rattle.std.proofs.Common.{◌∙◌, ◌∷◌}
+use Rattle.std.proofs.Common.{◌∷◌}
 use Rattle.pram_tokens.specs.declared.token.Mark.TheVariants as mark
 use Rattle.pram_syntax.specs.declared.level.Level.TheVariants as level
-use Rattle.pram_syntax.specs.Symbols.{Operand, Want, assignment}
-use Rattle.pram_syntax.proofs.Exits.{exit, rest_of, all_of, statement_rest}
+use Rattle.pram_syntax.specs.Symbols.{Operand, Want}
+use Rattle.pram_syntax.proofs.Exits.{exit, all_of, statement_rest}
 use Rattle.pram_syntax.proofs.StmtParts as parts
 use Rattle.pram_syntax.proofs.parse_stmt.assignment.Goals as goal
 
+pub returns-in-Some-clause-follows : goal.returns-in-Some-clause-follows
+returns-in-Some-clause-follows c = c.element_assignment.ensures.follows c.args.blocks
+
 pub returns-clause-found : goal.returns-clause-found
-returns-clause-found c = parts.found_assign _ _ _ _ _ _ _ _ c.in_ok-target.ensures.same c.in_ok-rest-2.ensures.found
-    c.in_ok-value-2.ensures.found
-
-pub returns-in-Some-clause-found : goal.returns-in-Some-clause-found
-returns-in-Some-clause-found c =
-    parts.found_assign_element _ _ _ _ _ _ _ _ _ _ _ c.in_ok-target.ensures.same c.if-depth-eq0.false c.in-Some.ensures.front
-    c.in_ok-subscript.ensures.found c.in_ok-rest.ensures.found c.in_ok-value.ensures.found
-
-pub returns-in_err-subscript-clause-follows : goal.returns-in_err-subscript-clause-follows
-returns-in_err-subscript-clause-follows c =
-    exit statement_rest rest_of c.from_residual-in_err-subscript.result _ c.from_residual-in_err-subscript.ensures.1
-    c.in_err-subscript.ensures.follows
-    (λ k. (
-      assignment c.args.depth k,
-      parts.into_element c.args.blocks c.args.depth c.args.tokens.now c.in-Some.inside.now
-          c.if-depth-eq0.false c.in-Some.ensures.front k,
-    ))
+returns-clause-found c = parts.found_assign _ _ _ _ _ _ _ _ c.in_ok-target.ensures.same c.in_ok-rest.ensures.found
+    c.in_ok-value.ensures.found
 
 pub returns-in_err-rest-clause-follows : goal.returns-in_err-rest-clause-follows
 returns-in_err-rest-clause-follows c =
-    exit statement_rest all_of c.from_residual-in_err-rest.result _ c.from_residual-in_err-rest.ensures.1 c.in_err-rest.ensures.follows
-    (λ k. (
-      Operand level.Expression c.args.depth ∷ (Want mark.Semicolon ∷ k),
-      parts.into_element c.args.blocks c.args.depth c.args.tokens.now c.in-Some.inside.now c.if-depth-eq0.false c.in-Some.ensures.front k
-          ∙ c.in_ok-subscript.ensures.follows (assignment c.args.depth k),
-    ))
-
-pub returns-in_err-value-clause-follows : goal.returns-in_err-value-clause-follows
-returns-in_err-value-clause-follows c =
-    exit statement_rest rest_of c.from_residual-in_err-value.result _ c.from_residual-in_err-value.ensures.1 c.in_err-value.ensures.follows
-    (λ k. (
-      k,
-      parts.into_element c.args.blocks c.args.depth c.args.tokens.now c.in-Some.inside.now c.if-depth-eq0.false c.in-Some.ensures.front k
-          ∙ c.in_ok-subscript.ensures.follows (assignment c.args.depth k)
-          ∙ c.in_ok-rest.ensures.follows (Operand level.Expression c.args.depth ∷ (Want mark.Semicolon ∷ k)),
-    ))
-
-pub returns-in_err-rest-2-clause-follows : goal.returns-in_err-rest-2-clause-follows
-returns-in_err-rest-2-clause-follows c =
-    exit statement_rest all_of c.from_residual-in_err-rest-2.result _ c.from_residual-in_err-rest-2.ensures.1
-    c.in_err-rest-2.ensures.follows
+    exit statement_rest all_of c.from_residual.result _ c.from_residual.ensures.1 c.in_err-rest.ensures.follows
     (λ k. (
       Operand level.Expression c.args.depth ∷ (Want mark.Semicolon ∷ k),
       parts.no_element c.args.blocks c.args.depth c.args.tokens.now c.in_default.ensures.front k,

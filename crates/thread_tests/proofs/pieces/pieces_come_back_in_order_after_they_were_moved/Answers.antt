@@ -1,7 +1,7 @@
 use Rattle.std.proofs.Common.{◌++◌, ap, ◌∙◌, map, reverse}
 use Rattle.exchange_arena.proofs.PieceLists.{map-turned_twice}
 use Rattle.exchange_arena.specs.Piece.{emptied_piece}
-use Rattle.exchange_arena.proofs.tests.pieces_come_back_in_order_after_they_were_moved.Goals as goal
+use Rattle.thread_tests.proofs.pieces.pieces_come_back_in_order_after_they_were_moved.Goals as goal
 
 pub join-requires-2 : goal.join-requires-2
 join-requires-2 g c =

@@ -1,7 +1,7 @@
 use Rattle.std.proofs.Common.{◌∙◌, sym, length-set}
 use Rattle.exchange_arena.proofs.PieceLists.{map-slice_set_same}
 use Rattle.exchange_arena.specs.Piece.{emptied_piece}
-use Rattle.exchange_arena.proofs.tests.number_from_the_end.Goals as goal
+use Rattle.thread_tests.proofs.pieces.number_from_the_end.Goals as goal
 
 pub loop-k-preserved : goal.loop-k-preserved
 loop-k-preserved c =

@@ -1,5 +1,5 @@
 use Rattle.std.proofs.Common.{◌≡◌, ◌+◌, ◌≤◌, ◌++◌, reverse, length, vec_len, vec_capacity}
-use Rattle.exchange_arena.proofs.tests.move_round.Given as goal
+use Rattle.thread_tests.proofs.pieces.move_round.Given as goal
 
 -- what has moved and what is left make up the whole, turned round
 abbrev pub invariant-loop-to : goal.invariant-loop-to

@@ -1,5 +1,5 @@
 //! Worked rows of each map.
-use crate::{AddressMap, Affine, Identity, MapFault, Rounds};
+use address_map::{AddressMap, Affine, Identity, MapFault, Rounds};
 
 #[test]
 fn faults_come_in_order(rt: HostRuntime) {

@@ -3,7 +3,7 @@ ghost use Rattle.exchange_arena.specs.Piece.{emptied_piece};
 ghost use Rattle.exchange_arena.specs.declared.block.TheConstants.{MAX_SIDE};
 ghost use Rattle.exchange_arena.specs.declared.piece.TheConstants.{MAX_ROOM};
 
-use crate::{Block, MAX_SIDE, Piece};
+use exchange_arena::{Block, MAX_SIDE, Piece};
 use linked_list_allocator::LocalHeap;
 use std::test::Fail;
 

@@ -1,6 +1,6 @@
 use Rattle.std.proofs.Common.{◌≡◌, map, length, vec_capacity}
 use Rattle.exchange_arena.specs.Piece.{emptied_piece}
-use Rattle.exchange_arena.proofs.tests.number_from_the_end.Given as goal
+use Rattle.thread_tests.proofs.pieces.number_from_the_end.Given as goal
 
 abbrev pub invariant-loop-k : goal.invariant-loop-k
 invariant-loop-k l = record {
