@@ -86,7 +86,7 @@ module _ (code : SuperstepCode) (bound : ℕ) where
   by_way s t h (Refused mark) = h
   by_way s t h Lost = h
 
-  alike_step : (s t : State) → AreSameStates s t → AreSameStates (step code bound everywhere s) (step code bound everywhere t)
+  pub alike_step : (s t : State) → AreSameStates s t → AreSameStates (step code bound everywhere s) (step code bound everywhere t)
   alike_step s t h = subst (λ way. AreSameStates (step_by code bound everywhere s way) (step code bound everywhere t)) (sym h.way)
       (by_way s t h t.way)
 

@@ -6,3 +6,4 @@ pub mod CellLemmas
 pub mod OutcomeLemmas
 pub mod SameLemmas
 pub mod AlikeLemmas
+pub mod ExchangeLemmas

@@ -8,9 +8,7 @@ use Rattle.pram_values.specs.Truth.{truth}
 use Rattle.pram_values.proofs.Totals.{total_within, total_same}
 use Rattle.write_rules.specs.declared.entry.Entry.{Entry}
 use Rattle.write_rules.specs.Rule.{shares_reads}
-use Rattle.superstep_code.specs.declared.instr.Side.TheVariants.{Uniform, Private}
 use Rattle.superstep_code.specs.declared.instr.Instr.{Instr}
-use Rattle.superstep_code.specs.declared.instr.Instr.TheVariants.{Enter, Leave, Ask, Put}
 use Rattle.superstep_code.specs.Code.{SuperstepCode}
 use Rattle.superstep_machine.specs.Keys.{least}
 use Rattle.superstep_machine.specs.Parts.{Read, UniformPart, PrivatePart, set_register, fresh}

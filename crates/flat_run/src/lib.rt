@@ -2,6 +2,8 @@
 #![tactic(auto)]
 
 mod conflict;
+mod exchange;
+mod followed;
 mod instruct;
 mod machine;
 mod processor;
@@ -14,4 +16,6 @@ mod step;
 mod verdict;
 mod vote;
 
+pub use exchange::{Exchange, Purpose};
+pub use followed::flat_exchanges;
 pub use program::flat_run;

@@ -30,7 +30,7 @@ fn open_memory(alloc: Global, cells: u32, input: &[i64]) -> Result<Vec<i64>, All
 }
 
 // The run before the first instruction.
-fn open(alloc: Global, code: &Code, bound: u32, input: &[i64]) -> Result<Run, AllocError>
+pub(crate) fn open(alloc: Global, code: &Code, bound: u32, input: &[i64]) -> Result<Run, AllocError>
     ensures run { IfOk result (λ run. IsRun code.now bound run) }
     ensures state { IfOk result (λ run. AreSameStates (state_of run) (opening input.now)) }
 {
@@ -51,7 +51,7 @@ fn open(alloc: Global, code: &Code, bound: u32, input: &[i64]) -> Result<Run, Al
 }
 
 // Whether it goes on.
-fn is_on(run: &Run) -> bool
+pub(crate) fn is_on(run: &Run) -> bool
     ensures { result ≡ is_going (state_of run.now).way }
 {
     run.stand == Stand::On
@@ -78,7 +78,7 @@ fn advance(
 }
 
 // How many instructions a run within the bound can have.
-fn enough(code: &Code, bound: u32) -> u64
+pub(crate) fn enough(code: &Code, bound: u32) -> u64
     ensures { result ≡ (bound + 1) * length code.now.instructions }
 {
     (u64::from(bound) + 1) * count(code)

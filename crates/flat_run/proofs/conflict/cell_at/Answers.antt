@@ -1,4 +1,4 @@
-use Rattle.std.proofs.Common.{sym, arith, tests}
+use Rattle.std.proofs.Common.{arith, tests}
 use Rattle.flat_run.proofs.PartLemmas.{cell_is, no_cell}
 use Rattle.flat_run.proofs.conflict.cell_at.Goals as goal
 
