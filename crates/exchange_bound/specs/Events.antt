@@ -89,8 +89,8 @@ abbrev mutual
       step_row_events p n then_part (those true xs) m
       ++ behind (perform_row_on p n then_part (those true xs) m) (λ u. step_row_events p n else_part (those false xs)))
   step_events p n (step.While' line e q body) vs m =
-      turns_on_events (n + 1) (λ m. begun n m (Cut ∷ Runs (levels e) false ∷ Cut ∷ Votes ∷ [])) (tested_on p n line e) (perform_row_on p n body)
-      (step_row_events p n body) vs m
+      turns_on_events (n + 1) (λ m. begun n m (Cut ∷ Runs (levels e) false ∷ Cut ∷ Votes ∷ [])) (tested_on p n line e)
+      (perform_row_on p n body) (step_row_events p n body) vs m
 
   -- statements in order
   pub step_row_events : Checked → ℕ → {k : _} → Row_of-Step k → List ℕ → State → List Event
@@ -124,7 +124,8 @@ abbrev mutual
   events p n (Assign line x e) m = begun n m (Runs (max (target_levels x) (levels e)) (is_shared x) ∷ [])
   events p n (Print line e) m = begun n m (Runs (levels e) false ∷ [])
   events p n (While' line e q body) m =
-      turns_events (n + 1) (λ m. begun n m (Cut ∷ Runs (levels e) false ∷ Cut ∷ [])) (tested p n line e) (perform_row p n body) (row_events p n body) m
+      turns_events (n + 1) (λ m. begun n m (Cut ∷ Runs (levels e) false ∷ Cut ∷ [])) (tested p n line e) (perform_row p n body)
+      (row_events p n body) m
   events p n (If' line e q then_part r else_part) m =
       begun n m (Runs (levels e) false ∷ Cut ∷ []) ++ behind (tested p n line e m) (λ b m.
       (if b then row_events p n then_part m else row_events p n else_part m) ++ Cut ∷ [])

@@ -106,7 +106,8 @@ module _ (code : SuperstepCode) (bound : ℕ) where
       let stepped : step code bound everywhere old ≡ instructed code bound everywhere old.place old.flat =
       ap (step_by code bound everywhere old) on in
       let next : suc rest ≡ left = omega (arith, e) in
-      let later : exchanges_from code bound everywhere rest new ≡ exchanges_from code bound everywhere rest (step code bound everywhere old) =
+      let later : exchanges_from code bound everywhere rest new
+      ≡ exchanges_from code bound everywhere rest (step code bound everywhere old) =
       same_exchanges rest new (step code bound everywhere old) (subst (AreSameStates new) (sym stepped) h) in
       ap (λ xs. xs ++ exchanges_from code bound everywhere rest new) noted
       ∙ append_assoc before (exchanges_here code bound old) (exchanges_from code bound everywhere rest new)
