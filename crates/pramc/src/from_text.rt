@@ -45,7 +45,7 @@ pub struct Report {
 
 /// The program of a text, with its names resolved. It is refused for E1 to E10, and for E16 where
 /// memory was refused.
-pub fn compile(alloc: Global, text: &[u8]) -> Result<Program, Refusal>
+pub fn read_program(alloc: Global, text: &[u8]) -> Result<Program, Refusal>
     ensures program { IfOk result (IsProgramOf text.now) }
     ensures refused { IsNoProgram text.now result }
 {
@@ -107,7 +107,7 @@ pub fn run_text(alloc: Global, text: &[u8], input: &[i64], bound: u32) -> Result
     ensures outcome { IfOk result (λ r. IsRunOf text.now input.now bound r.layout (verdict_of r.outcome)) }
     ensures refused { IsRefusedRightly text.now input.now result }
 {
-    match compile(alloc, text) {
+    match read_program(alloc, text) {
         Ok(program) => run_program(alloc, program, input, bound),
         Err(refusal) => Err(refusal),
     }

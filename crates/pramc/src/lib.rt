@@ -12,7 +12,7 @@ mod status;
 mod stop;
 
 pub use console::{Stream, SystemFiles};
-pub use from_text::{Refusal, Report, compile, mean_program, run_program, run_text};
+pub use from_text::{Refusal, Report, mean_program, read_program, run_program, run_text};
 pub use last_flush::finish;
 pub use outcome_text::show;
 pub use sources::{SourceFault, Sources};

@@ -1,0 +1,17 @@
+-- What a program, and a text, is compiled to.
+use Rattle.std.specs.Prelude.{ℕ, List, true}
+use Rattle.superstep_code.specs.Code.{SuperstepCode}
+use Rattle.pram_check.specs.Checked.{Checked}
+use Rattle.plain_form.specs.PlainForm.{form_of}
+use Rattle.fusing.specs.Fusing.{Fuses}
+use Rattle.pramc.specs.Report.{IsProgramOf}
+
+-- The code of a program: its plain form, fused. So it has the outcomes of that form, and no other, without the sends that send nothing.
+abbrev pub IsCodeOf : Checked → SuperstepCode → Type 0
+IsCodeOf p code = Fuses (form_of true p) code
+
+-- the text is that of an accepted program, of which this is the code
+pub record IsCompiledFrom (text : List ℕ) (code : SuperstepCode) : Type 0 where
+  pub program : Checked
+  pub is_program : IsProgramOf text program
+  pub is_code : IsCodeOf program code

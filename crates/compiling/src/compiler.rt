@@ -1,0 +1,44 @@
+//! The compiler: parse, check, lower and fuse.
+
+ghost use Rattle.std.specs.Prelude.{◌≡◌, IfOk};
+ghost use Rattle.pramc.specs.Report.{IsNoProgram};
+ghost use Rattle.compiling.specs.Compiled.{IsCodeOf, IsCompiledFrom};
+
+use bsp_verify::Verified;
+use fusing::fuse;
+use lowering::{LowerRefusal, lower};
+use pram_check::Program;
+use pramc::{Refusal, read_program};
+use std::alloc::{AllocError, Global};
+
+/// The code of a program: what is left of its plain form without the sends that send nothing. E16
+/// where memory was refused.
+pub fn compile_program(alloc: Global, program: &Program) -> Result<Verified, AllocError>
+    ensures code { IfOk result (λ code. IsCodeOf program.now code) }
+{
+    // Code of an accepted program is never too long (`formed_code::law::forms_are_code`).
+    let plain = match lower(alloc, program) {
+        Ok(plain) => plain,
+        Err(LowerRefusal::OutOfMemory | LowerRefusal::TooLong) => return Err(AllocError),
+    };
+    match fuse(alloc, plain) {
+        Ok(code) => Ok(code),
+        Err((refused, _plain)) => Err(refused),
+    }
+}
+
+/// The code of the program of a text. It is refused for E1 to E10, and for E16 where memory was
+/// refused; so each text of an accepted program is compiled.
+pub fn compile(alloc: Global, text: &[u8]) -> Result<Verified, Refusal>
+    ensures code { IfOk result (IsCompiledFrom text.now) }
+    ensures refused { IsNoProgram text.now result }
+{
+    let program = match read_program(alloc, text) {
+        Ok(program) => program,
+        Err(refusal) => return Err(refusal),
+    };
+    match compile_program(alloc, &program) {
+        Ok(code) => Ok(code),
+        Err(AllocError) => Err(Refusal::OutOfMemory),
+    }
+}

@@ -1,0 +1,6 @@
+//! From the text of a program to superstep code.
+#![tactic(auto)]
+
+mod compiler;
+
+pub use compiler::{compile, compile_program};
