@@ -17,7 +17,7 @@ pub(crate) fn accepted(alloc: Global, text: &[u8]) -> Option<Program> {
 }
 
 // The number that a row's bound is.
-fn number(word: &str) -> Option<u32> {
+pub(crate) fn number(word: &str) -> Option<u32> {
     word.parse().ok()
 }
 

@@ -1,11 +1,6 @@
-// Programs with the listings of their code without its empty sends, worked out by hand.
+// Programs with the listings of their code, worked out by hand.
 
-use crate::compiled::accepted;
-use fusing::fuse;
-use lowering::lower;
-use pram_syntax::Buffer;
-use std::alloc::Global;
-use superstep_listing::write_listing;
+use crate::rows::prints;
 
 const SUM: &[u8] =
     b"rule crew; procs 1;\nvar i; var t;\nbegin\nfor i := 1 to 10 do\nt := t + i;\nend\nprint t;\nend\n";
@@ -93,24 +88,158 @@ code 42
 41 halt
 ";
 
-// The listing of the fused code of a text.
-fn plan(alloc: Global, text: &[u8]) -> Option<Buffer> {
-    let program = accepted(alloc, text)?;
-    let verified = lower(alloc, &program).ok()?;
-    let left = fuse(alloc, verified).ok()?;
-    let mut out = Buffer::new(alloc);
-    write_listing(left.code(), &mut out).ok()?;
-    Some(out)
-}
+// A set of processors that counts down, and writes on the way.
+const COUNTDOWN: &[u8] =
+    b"rule crew; procs 4;\nshared a[1..4];\nbegin\nfor 1 <= i <= 4 pardo local k; k := i;\nwhile k > 1 do\na[i] := a[i] + k;\nk := k - 1;\nend\nend\nend\n";
+
+const COUNTDOWN_PLAN: &[u8] = b"bsp 1
+rule crew
+procs 4
+array a 1 4
+uniform 3
+private 7
+code 32
+0 mark 4
+1 uset 1 1
+2 uset 2 4
+3 enter 1 2 1
+4 pindex 1
+5 mark 4
+6 pcopy 2 1
+7 pset 3 1
+8 mask 3
+9 mark 5
+10 pset 5 1
+11 plt 4 5 2
+12 pcopy 3 4
+13 unmask
+14 mask 3
+15 vote 1
+16 jzero 1 29
+17 mark 6
+18 pask 4 0 1 1
+19 send
+20 reply
+21 padd 6 4 2 2
+22 pput 0 1 6 3
+23 mark 7
+24 pset 5 1
+25 psub 4 2 5 1
+26 pcopy 2 4
+27 send
+28 jump 9
+29 unmask
+30 leave
+31 halt
+";
+
+// A conflict that is told behind the fault of a later statement.
+const LATE: &[u8] =
+    b"rule common; procs 2;\nshared s; shared r;\nbegin\nfor 1 <= i <= 2 pardo\ns := i;\nr := 1 div (i - 1);\nend\nend\n";
+
+const LATE_PLAN: &[u8] = b"bsp 1
+rule common
+procs 2
+cell s
+cell r
+uniform 3
+private 6
+code 16
+0 mark 4
+1 uset 1 1
+2 uset 2 2
+3 enter 1 2 1
+4 pindex 1
+5 mark 5
+6 pput 0 0 1 1
+7 send
+8 mark 6
+9 pset 3 1
+10 pset 5 1
+11 psub 4 1 5 1
+12 pdiv 3 3 4 2
+13 pput 1 0 3 3
+14 leave
+15 halt
+";
+
+// A write that is held before the test of an `if`.
+const HELD: &[u8] =
+    b"rule crew; procs 1;\nshared s; var x;\nbegin\ns := 3;\nif x = 0 then\nprint s;\nend\nprint s;\nend\n";
+
+const HELD_PLAN: &[u8] = b"bsp 1
+rule crew
+procs 1
+cell s
+uniform 4
+private 0
+code 19
+0 mark 4
+1 uset 3 3
+2 uput 0 0 3 1
+3 mark 5
+4 uset 3 0
+5 ueq 2 1 3
+6 send
+7 jzero 2 13
+8 mark 6
+9 uask 2 0 0 1
+10 send
+11 reply
+12 print 2
+13 mark 8
+14 uask 2 0 0 1
+15 send
+16 reply
+17 print 2
+18 halt
+";
+
+const PLANS: [(&[u8], &[u8]); 5] = [
+    (SUM, SUM_PLAN),
+    (LOOP, LOOP_PLAN),
+    (COUNTDOWN, COUNTDOWN_PLAN),
+    (LATE, LATE_PLAN),
+    (HELD, HELD_PLAN),
+];
 
 #[test]
-fn a_counting_loop(rt: HostRuntime) {
-    let out = plan(rt.alloc(), SUM).expect(&rt, "a plan");
-    assert_eq!(rt; out.bytes(), SUM_PLAN);
+fn plans_are_those_worked_by_hand(rt: HostRuntime) {
+    for (text, plan) in PLANS {
+        assert!(&rt; prints(rt.alloc(), &["plan", "program"], text, b"", (plan, b"", 0)));
+    }
 }
 
+// A plan takes no option, and is refused as a check is.
+const REFUSED: [(&[&str], &[u8], &[u8]); 7] = [
+    (&["plan", "nowhere"], b"", b"refused P2 nowhere\n"),
+    (&["plan", "program"], b"@", b"refused E3 BadToken at 0\n"),
+    (&["plan", "program"], b"", b"refused E4 Syntax at 0\n"),
+    (
+        &["plan", "program"],
+        b"rule crew; procs 1; begin x := 1; end",
+        b"refused E6 UnknownName at 26\n",
+    ),
+    (
+        &["plan", "program"],
+        b"rule crew; procs 1; var x; var x; begin end",
+        b"refused E7 DoubleName at 31\n",
+    ),
+    (
+        &["plan", "program"],
+        b"rule crew; procs 1; shared a[1..2]; begin a := 1; end",
+        b"refused E8 WrongKind at 42\n",
+    ),
+    (
+        &["plan", "program"],
+        b"rule crew; procs 1; var k; begin for k := 1 to 2 do k := 1; end end",
+        b"refused E9 LoopVariable at 52\n",
+    ),
+];
+
 #[test]
-fn a_loop_of_processors(rt: HostRuntime) {
-    let out = plan(rt.alloc(), LOOP).expect(&rt, "a plan");
-    assert_eq!(rt; out.bytes(), LOOP_PLAN);
+fn plans_are_refused_as_checks(rt: HostRuntime) {
+    for (words, text, line) in REFUSED {
+        assert!(&rt; prints(rt.alloc(), words, text, b"", (b"", line, 2)));
+    }
 }

@@ -4,6 +4,9 @@ use Rattle.pram_model.specs.Layout.{SharedEntry, total_size}
 use Rattle.text_out.specs.Out.{OutState, StopsIn, with_bytes}
 use Rattle.pram_model.specs.Rules.{rule_word}
 use Rattle.pram_check.specs.Checked.{Checked}
+use Rattle.superstep_code.specs.Code.{SuperstepCode}
+use Rattle.superstep_listing.specs.Listing.{spelling}
+use Rattle.compiling.specs.Compiled.{IsCompiledFrom}
 use Rattle.write_rules.specs.Verdict.{verdict_of}
 use Rattle.write_rules.specs.declared.outcome.Outcome.{Outcome}
 use Rattle.pramc.specs.Report.{HasBreach, HasTooFewCells, IsInputRefusal, IsProgramOf, IsRunOf, IsTextRefusal}
@@ -23,9 +26,10 @@ accepted_line program =
     line (codes "accepted cells " ++ (decimal (total_size program.layout)
     ++ (codes " procs " ++ (decimal program.procs ++ (codes " rule " ++ rule_word program.rule)))))
 
--- the texts that go with an exit status: of a text's program that it is accepted, or how it comes out
+-- the texts that go with an exit status: of a text's program that it is accepted, the listing of its code, or how it comes out
 pub data Tells : Status → List ℕ → Type 0 where
   Accepted : (text : List ℕ) (program : Checked) → IsProgramOf text program → Tells Done (accepted_line program)
+  Planned : (text : List ℕ) (code : SuperstepCode) → IsCompiledFrom text code → Tells Done (spelling code)
   Ran : (text : List ℕ) (input : List ℤ) (n : ℕ) (layout : List SharedEntry) (outcome : Outcome)
       → IsRunOf text input n layout (verdict_of outcome) → Tells (status_of outcome) (shown layout (verdict_of outcome))
 

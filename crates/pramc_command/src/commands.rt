@@ -7,24 +7,29 @@ ghost use Rattle.write_rules.specs.Verdict.{verdict_of};
 ghost use Rattle.pramc.specs.Report.{IsProgramOf, IsRunOf};
 ghost use Rattle.pram_meaning.specs.Outcome.{IsOutcome};
 ghost use Rattle.pramc.specs.StoppedFields.{stop_text};
+ghost use Rattle.compiling.specs.Compiled.{IsCodeOf, IsCompiledFrom};
 ghost use Rattle.pramc_command.specs.Answered.{Answers, accepted_line, IsNoFailure, IsReported, Leaves};
 
 use crate::request::{Request, Verb, read_words};
+use bsp_verify::Verified;
+use compiling::compile_program;
 use itoa::Buffer;
 use pram_check::Program;
 use pram_syntax::{Layout, Out, Rule, WriteFault, read_input};
 use pram_tokens::LONGEST;
 use pramc::{
-    Refusal, Report, SourceFault, Sources, Status, Stop, compile, finish, mean_program,
+    Refusal, Report, SourceFault, Sources, Status, Stop, finish, mean_program, read_program,
     run_program, show, write_stop,
 };
 use std::alloc::Global;
+use superstep_code::Code;
+use superstep_listing::write_listing;
 use write_rules::Outcome;
 
 /// Does what the words behind the program's name ask for, and answers the exit status.
 ///
-/// `check FILE` writes `accepted cells N procs M rule R`; `meaning FILE` and `run FILE` write the
-/// outcome. What is refused is written to `err`: P1 for the words, P2 for a file that can't be
+/// `check FILE` writes `accepted cells N procs M rule R`; `plan FILE` the listing of the program's
+/// code; `meaning FILE` and `run FILE` write the outcome. What is refused is written to `err`: P1 for the words, P2 for a file that can't be
 /// read, and E1 to E17. It is judged in this order: the words, the program's file and its text,
 /// the input's file and its text, the number of the input's values.
 pub fn command<S: Sources, O: Out, E: Out>(
@@ -71,6 +76,10 @@ fn perform<'a, S: Sources, O: Out>(
     let program = program_of(alloc, &text)?;
     match request.verb {
         Verb::Check => write_accepted(out, &program),
+        Verb::Plan => {
+            let code = code_of(alloc, &program)?;
+            write_plan(out, code.code())
+        }
         Verb::Meaning => {
             let input = load_input(alloc, sources, request.input)?;
             let outcome = mean(alloc, &program, &input, request.bound)?;
@@ -89,10 +98,18 @@ fn program_of<'a>(alloc: Global, text: &[u8]) -> Result<Program, Stop<'a>>
     ensures program { IfOk result (IsProgramOf text.now) }
     ensures refused { IfErr result IsNoFailure }
 {
-    match compile(alloc, text) {
+    match read_program(alloc, text) {
         Ok(program) => Ok(program),
         Err(refusal) => Err(Stop::Refused(refusal)),
     }
+}
+
+// The code of a program.
+fn code_of<'a>(alloc: Global, program: &Program) -> Result<Verified, Stop<'a>>
+    ensures code { IfOk result (λ code. IsCodeOf program.now code) }
+    ensures refused { IfErr result IsNoFailure }
+{
+    Ok(compile_program(alloc, program)?)
 }
 
 // The bytes of a file.
@@ -169,6 +186,17 @@ fn write_outcome<'a, O: Out>(
             let status = Status::of(outcome);
             finish(out, status)
         }
+        Err(WriteFault) => Err(Stop::WriteFailed),
+    }
+}
+
+// Writes the listing of a program's code.
+fn write_plan<'a, O: Out>(out: &mut O, code: &Code) -> Result<Status, Stop<'a>>
+    requires out { (O.Out.state out.old).failures < 2 ^ 62 }
+    ensures answers { (text : List ℕ) → IsCompiledFrom text code.now → Answers (O.Out.state out.old) (O.Out.state out.new) result }
+{
+    match write_listing(code, out) {
+        Ok(()) => finish(out, Status::Done),
         Err(WriteFault) => Err(Stop::WriteFailed),
     }
 }

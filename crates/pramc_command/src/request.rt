@@ -19,6 +19,8 @@ const INPUT: &str = "input";
 pub(crate) enum Verb {
     /// It is checked.
     Check,
+    /// Its code is shown.
+    Plan,
     /// It is run by its definition.
     Meaning,
     /// It is run.
@@ -60,6 +62,7 @@ fn over_run<'a>(alloc: Global, name: &'a str, about: &'a str) -> Result<Command<
 
 fn grammar<'a>(alloc: Global) -> Result<Command<'a>, AllocError> {
     let check = over_file(alloc, "check", "Says whether the program is accepted")?;
+    let plan = over_file(alloc, "plan", "Writes the superstep code of the program")?;
     let meaning = over_run(alloc, "meaning", "Runs the program by its definition")?;
     let run = over_run(alloc, "run", "Runs the program")?;
     Command::new(alloc, "pramc")
@@ -69,6 +72,7 @@ fn grammar<'a>(alloc: Global) -> Result<Command<'a>, AllocError> {
         .disable_version_flag(true)
         .bin_name("pramc")?
         .subcommand(check)?
+        .subcommand(plan)?
         .subcommand(meaning)?
         .subcommand(run)
 }
@@ -127,6 +131,7 @@ pub(crate) fn read_words<'a>(alloc: Global, words: &'a [String]) -> Result<Reque
     };
     match matches.subcommand() {
         Some(("check", inner)) => asked(Verb::Check, inner),
+        Some(("plan", inner)) => asked(Verb::Plan, inner),
         Some(("meaning", inner)) => asked(Verb::Meaning, inner),
         Some((_, inner)) => asked(Verb::Run, inner),
         None => Err(Stop::Number("")),
