@@ -233,7 +233,7 @@ const REFUSED: [(&[&str], &[u8], &[u8]); 7] = [
     (
         &["plan", "program"],
         b"rule crew; procs 1; var k; begin for k := 1 to 2 do k := 1; end end",
-        b"refused E9 LoopVariable at 52\n",
+        b"refused E9 AssignedLoopVariable at 52\n",
     ),
 ];
 
