@@ -10,6 +10,7 @@ use Rattle.superstep_code.specs.declared.instr.Instr.TheVariants.{Set, Copy, Neg
 use Rattle.superstep_code.specs.declared.instr.Instr.TheVariants.{Mask, Unmask, Ask, Put, Send, Reply, Vote, Print}
 use Rattle.stretches.specs.Folds.{IsFine}
 use Rattle.stretches.proofs.Joins.{fine_joins}
+use Rattle.formed_code.proofs.Held.{still_held, is_sent, waited}
 use Rattle.plain_form.specs.Registers.{variable, turn, high, more, behind_turns, index}
 use Rattle.plain_form.specs.Formulas.{Formula, Pair, positions, nesting}
 use Rattle.plain_form.specs.Regions.{region}
@@ -32,21 +33,6 @@ fine_sets s base held (i ∷ is) h = absurd h.0
 
 fine_to : (held behind other : Bool) (is : List Instr) → behind ≡ other → IsFine held is behind → IsFine held is other
 fine_to held behind other is e h = subst (λ b. IsFine held is b) e h
-
-still_held : (held : Bool) → held ≡ held && not false
-still_held true = refl
-still_held false = refl
-
-is_sent : (held : Bool) → false ≡ held && not true
-is_sent true = refl
-is_sent false = refl
-
--- a write that waits is sent by the reads
-waited : (held some : Bool) → (held && some) && not some ≡ false
-waited true true = refl
-waited true false = refl
-waited false true = refl
-waited false false = refl
 
 flush_fine : (held : Bool) → IsFine held (flush held) false
 flush_fine true = (refl, refl)

@@ -19,6 +19,7 @@ use Rattle.plain_form.specs.Regions.{variable_code, place, before_code, between_
 use Rattle.plain_form.specs.Groups.{only, asks, groups, stack, evaluated}
 use Rattle.plain_form.specs.Shapes.{any_level, still}
 use Rattle.formed_code.proofs.Fitting.{asking, resting, has_own_side, acts_on_own_side, IsFit, Fits, fits_join, fits_to}
+use Rattle.formed_code.proofs.Held.{still_held, is_sent}
 
 -- each read is of a declaration that is there
 abbrev pub IsWithin : ℕ → Formula → Type 0
@@ -236,14 +237,6 @@ module _ (code : SuperstepCode) (side : Side) (masks : ℕ) where
         (asks_fit g (t + reads f) b (q + positions f) n h.1 (omega (arith, m))))
 
   -- ---- all levels
-
-  still_held : (held : Bool) → held ≡ held && not false
-  still_held true = refl
-  still_held false = refl
-
-  is_sent : (held : Bool) → false ≡ held && not true
-  is_sent true = refl
-  is_sent false = refl
 
   -- the reads of a level, and the reply
   group_fits : (held : Bool) (l : ℕ) (f : Formula) (t b : ℕ) → IsWithin (length code.layout) f → reads f ≤ 8 → l < nesting f →

@@ -1,5 +1,5 @@
 -- Loops and branches, judged by their parts. Each jump has its state: under some masks, with nothing held.
-use Rattle.std.proofs.Common.{◌≡◌, ℕ, ◌+◌, ◌<◌, List, [], ◌∷◌, ◌++◌, length, Bool, true, false, ◌&&◌, ◌||◌, Some, refl, sym, ap, ◌∙◌}
+use Rattle.std.proofs.Common.{◌≡◌, ℕ, ◌+◌, ◌<◌, List, [], ◌∷◌, ◌++◌, length, true, false, ◌&&◌, ◌||◌, Some, refl, sym, ap, ◌∙◌}
 use Rattle.std.proofs.Common.{subst, arith}
 use Rattle.std.proofs.Common.{inl, inr, append_assoc, length-append}
 use Rattle.std.specs.Prelude.{nat_lt, slice_get}
@@ -9,16 +9,13 @@ use Rattle.superstep_code.specs.declared.instr.Instr.{Instr}
 use Rattle.superstep_code.specs.declared.instr.Instr.TheVariants.{Mark, Jump, JumpIfZero}
 use Rattle.superstep_code.specs.Code.{SuperstepCode}
 use Rattle.bsp_verify.specs.declared.state.State.{State}
+use Rattle.pram_model.proofs.Truths.{or_second}
 use Rattle.bsp_verify.specs.Control.{IsReached}
 use Rattle.bsp_verify.specs.Judging.{is_mark, is_target}
 use Rattle.bsp_verify.specs.Stretches.{behind, scan_of, Stands, IsPlaced, IsStretch}
 use Rattle.bsp_verify.proofs.StretchLemmas.{parts_stand, stretches_compose, stretches_leave}
 use Rattle.plain_form.specs.Shapes.{looped, turned, chosen}
 use Rattle.formed_code.proofs.Fitting.{resting, HasRegisters, Judged, found, scanned, scanned_behind, stands_as}
-
-or_mark : (b c : Bool) → c ≡ true → (b || c) ≡ true
-or_mark true c h = refl
-or_mark false c h = h
 
 module _ (code : SuperstepCode) (all : HasRegisters code) (side : Side) (masks : ℕ) where
   abbrev here : State
@@ -40,7 +37,7 @@ module _ (code : SuperstepCode) (all : HasRegisters code) (side : Side) (masks :
   target_mark at t line l h =
       let a : nat_lt t size ≡ true = grind (arith, nat_tests) in
       ap (λ c. c && (nat_lt at t || is_mark (slice_get code.instructions t))) a
-      ∙ or_mark (nat_lt at t) (is_mark (slice_get code.instructions t)) (ap is_mark h)
+      ∙ or_second (nat_lt at t) (is_mark (slice_get code.instructions t)) (ap is_mark h)
 
   fork_placed : (at r t : ℕ) → slice_get code.instructions at ≡ Some (JumpIfZero r t) → at < t → t < size → scan_of code t ≡ here →
       IsPlaced code at (JumpIfZero r t) here

@@ -1,3 +1,4 @@
+pub mod Held
 pub mod Fitting
 pub mod FormulaFits
 pub mod ShapeFits

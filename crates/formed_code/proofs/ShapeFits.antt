@@ -16,6 +16,7 @@ use Rattle.plain_form.specs.Shapes.{flush, has_reads, still, waits, begun, count
 use Rattle.plain_form.specs.Shapes.{flagged, flags}
 use Rattle.formed_code.proofs.Fitting.{resting, has_own_side, acts_on_own_side, IsFit, Fits, fits_join, fits_to}
 use Rattle.formed_code.proofs.FormulaFits.{IsWithin, evaluated_fits}
+use Rattle.formed_code.proofs.Held.{waited}
 
 -- a formula whose reads are declared, and at most eight
 pub record IsReady (entries : ℕ) (f : Formula) : Type 0 where
@@ -63,13 +64,6 @@ module _ (code : SuperstepCode) (side : Side) (masks : ℕ) where
   unwaited_fits true false = (send_fits true, refl)
   unwaited_fits false true = refl
   unwaited_fits false false = refl
-
-  -- and the others go with them
-  waited : (held some : Bool) → (held && some) && not some ≡ false
-  waited true true = refl
-  waited true false = refl
-  waited false true = refl
-  waited false false = refl
 
   put_fits : (a x y q : ℕ) → a < length code.layout → IsFit code (Put side a x y q) (resting side masks false)
   put_fits a x y q h = record {

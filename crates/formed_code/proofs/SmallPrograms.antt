@@ -1,5 +1,6 @@
 -- The code of a program within the limits of a listing.
-use Rattle.std.proofs.Common.{◌≡◌, ℕ, zero, suc, ◌+◌, ◌*◌, ◌<◌, ◌≤◌, ◌^◌, List, [], ◌∷◌, ◌++◌, length, Bool, true, false, Some}
+use Rattle.std.proofs.Common.{◌≡◌, ℕ, suc, ◌+◌, ◌*◌, ◌<◌, ◌≤◌, ◌^◌, List, [], ◌∷◌, ◌++◌, length, Bool, true, false, Some}
+use Rattle.std.proofs.lemmas.Option.{slice_get_within}
 use Rattle.std.proofs.Common.{refl, sym, ◌∙◌, arith, subst}
 use Rattle.std.specs.Prelude.{nat_lt, ◌&&◌, ◌||◌, slice_get}
 use Rattle.std.specs.List.{AllByRecursion}
@@ -204,11 +205,6 @@ all_by_place : (P Q : Instr → Type 0) (is : List Instr) → ((k : ℕ) (i : In
 all_by_place P Q [] f h = tt
 all_by_place P Q (i ∷ is) f h = (f 0 i refl h.0, all_by_place P Q is (λ k j e p. f (suc k) j e p) h.1)
 
-got_inside : (is : List Instr) (k : ℕ) (i : Instr) → slice_get is k ≡ Some i → k < length is
-got_inside [] k i h = cc
-got_inside (x ∷ is) zero i h = omega arith
-got_inside (x ∷ is) (suc k) i h = let l : k < length is = got_inside is k i h in omega (arith, l)
-
 pub forms_are_code : FormsAreCode
 forms_are_code keep p bounded resolved lines =
     let code = form_of keep p in
@@ -232,7 +228,7 @@ forms_are_code keep p bounded resolved lines =
       few_uniform = registers_small (2 ^ 16) Uniform is (λ i h. h.uniform) fits;
       few_private = registers_small (2 ^ 16) Private is (λ i h. h.private) fits;
       instructions = all_by_place (IsSmall (2 ^ 16)) IsInstr is (λ k i e h.
-          let met = formed.1.1.each k (got_inside is k i e) in
+          let met = formed.1.1.each k (slice_get_within is k i e) in
           let same = unsome met.instr i (sym met.is ∙ e) in
           instr_fits code (omega (arith, small, tokens)) (omega (arith, short)) k i h
           (subst (λ (x : Instr). has_entry code x ≡ true) same met.allowed.entry)
