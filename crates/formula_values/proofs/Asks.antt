@@ -4,6 +4,7 @@ use Rattle.std.proofs.Common.{◌≡◌, ◌≢◌, ℕ, ◌+◌, ◌<◌, ◌�
 use Rattle.std.proofs.Common.{ap, ◌∙◌, arith}
 use Rattle.std.specs.Prelude.{nat_eq}
 use Rattle.std.proofs.lemmas.Bool.Decides.{nat_tests}
+use Rattle.flat_machine.proofs.Late.{none_least}
 use Rattle.pram_model.specs.Layout.{cell_of}
 use Rattle.pram_tokens.specs.declared.token.Binary.{Binary}
 use Rattle.pram_tokens.specs.declared.token.Binary.TheVariants.{Or, And, Equal, Unequal, Less, AtMost, Greater, AtLeast, Add, Subtract}
@@ -29,7 +30,7 @@ use Rattle.plain_form.specs.Regions.{place, before_code, between_code, region}
 use Rattle.formula_values.specs.Terms.{term}
 use Rattle.formula_values.specs.Environments.{IsNamed, IsFree, Shows}
 use Rattle.formula_values.proofs.Lone.{moves, moves_join, asks_in, asks_join, wrongs, wrongs_join}
-use Rattle.formula_values.proofs.Levels.{around, last_none}
+use Rattle.formula_values.proofs.Levels.{around}
 use Rattle.formula_values.proofs.Operations.{set_here, set_there}
 use Rattle.formula_values.proofs.Shown.{still_shows}
 use Rattle.formula_values.proofs.RegionValues.{own_key_at, AreRead, still_read, region_stays, IsReady, region_is}
@@ -220,7 +221,7 @@ module _ (side : Side) (n : Names) (base : ℕ) (free : IsFree side n base) (s :
                 ∙ ap (least (wrongs s.layout uniforms (λ q k. note_key head q at k) is r))
                 (wrongs_join s.layout uniforms (λ q k. note_key head q at k) (region side f t b q) (ask ∷ []) u)
                 ∙ (λ i. least (k.notes i) (least (region_done.notes i)
-                ((last_none (note_key head (q + positions f + 1) at (missing (cell_of s.layout a (w (place side f t b)))))
+                ((none_least (note_key head (q + positions f + 1) at (missing (cell_of s.layout a (w (place side f t b)))))
                 ∙ ap (λ c. note_key head (q + positions f + 1) at (missing c)) found) i)));
             cells = asks_join s.layout uniforms is code r
                 ∙ ap (λ zs. asks_in s.layout uniforms is r ++ zs) (asks_join s.layout uniforms (region side f t b q) (ask ∷ []) u)

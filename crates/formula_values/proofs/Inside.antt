@@ -18,6 +18,7 @@ use Rattle.pram_check.specs.Bounded.{Names, names_of, with_locals}
 use Rattle.pram_meaning.specs.Store.{View, seen, seen_by}
 use Rattle.flat_machine.specs.Flat.{Flat}
 use Rattle.flat_machine.proofs.Late.{least_last}
+use Rattle.flat_machine.proofs.Late.{none_least}
 use Rattle.stretches.specs.Applied.{IsBare, AsksNone}
 use Rattle.stretches.specs.Folds.{acts_at_once}
 use Rattle.stretches.specs.Leaving.{IsLeft}
@@ -35,7 +36,7 @@ use Rattle.formula_values.specs.Environments.{IsNamed, IsFree, Shows}
 use Rattle.formula_values.specs.Headings.{heading_of}
 use Rattle.formula_values.specs.Inside.{active_ones, row_in, FormulasAreEvaluatedInside, PairsAreEvaluatedInside}
 use Rattle.formula_values.proofs.Lone.{moves, wrongs}
-use Rattle.formula_values.proofs.Levels.{around, levels, levels_are_all, last_none}
+use Rattle.formula_values.proofs.Levels.{around, levels, levels_are_all}
 use Rattle.formula_values.proofs.Shown.{still_shows}
 use Rattle.formula_values.proofs.RegionValues.{IsReady, IsRegion, region_is, region_gives_second}
 use Rattle.formula_values.proofs.Asks.{region_asks}
@@ -185,7 +186,7 @@ module _ (code : SuperstepCode) (n : Names) (base : ℕ) (free : IsFree Private 
     conflict_sums =
         let vs = filter active (range_with_len 0 u.width) in
         let size = total_size code.layout in
-        sym (last_none (levels conflicts_by (nesting e) 0 e 0))
+        sym (none_least (levels conflicts_by (nesting e) 0 e 0))
         ∙ ap (least (levels conflicts_by (nesting e) 0 e 0)) (sym (no_conflicts_around (heading_of f) size vs columns e 0))
         ∙ levels_are_all conflicts_by e (nesting e) 0 (omega arith)
         ∙ conflicts_of_all (heading_of f) size vs columns s e 0

@@ -23,6 +23,7 @@ use Rattle.pram_check.specs.Bounded.{Names}
 use Rattle.pram_meaning.specs.Store.{View}
 use Rattle.flat_machine.specs.Flat.{Flat, conflicts, read_conflicts}
 use Rattle.flat_machine.proofs.Late.{none_owed}
+use Rattle.flat_machine.proofs.Late.{none_least}
 use Rattle.stretches.specs.Applied.{IsBare, AsksNone}
 use Rattle.stretches.specs.Folds.{acts_at_once}
 use Rattle.stretches.specs.Notes.{notes}
@@ -39,7 +40,7 @@ use Rattle.plain_form.specs.Groups.{asks, groups}
 use Rattle.formula_values.specs.Terms.{steps_in}
 use Rattle.formula_values.specs.Environments.{IsNamed, IsFree, Shows}
 use Rattle.formula_values.proofs.Lone.{moves, asks_in, wrongs}
-use Rattle.formula_values.proofs.Levels.{at_level, levels, last_none}
+use Rattle.formula_values.proofs.Levels.{at_level, levels}
 use Rattle.formula_values.proofs.Sums.{sum_of, if_none, unless_both, sums_join, sum_none}
 use Rattle.formula_values.proofs.Shown.{still_shows}
 use Rattle.formula_values.proofs.RegionValues.{own_key_at, AreRead, still_read}
@@ -248,7 +249,7 @@ module _ (code : SuperstepCode) (n : Names) (base : ℕ) (free : IsFree Private 
           rests = answered_rests code g end end_is;
         };
         notes = notes_join code is (Send ∷ Reply ∷ []) f
-            ∙ (λ i. least (g_notes i) ((last_none (conflicts code g) ∙ g_conflicts) i));
+            ∙ (λ i. least (g_notes i) ((none_least (conflicts code g) ∙ g_conflicts) i));
       }
 
     -- ---- n levels

@@ -2,6 +2,7 @@
 use Rattle.std.proofs.Common.{◌≡◌, ℕ, ◌+◌, ◌<◌, List, [], ◌∷◌, map, get_or, Bool, if◌then◌else◌, Option, Some, None}
 use Rattle.std.proofs.Common.{ℤ, refl, sym, ap, ◌∙◌, arith}
 use Rattle.std.specs.List.{filter, range_with_len}
+use Rattle.flat_machine.proofs.Late.{none_least}
 use Rattle.pram_model.specs.declared.rule.Rule.{Rule}
 use Rattle.pram_values.specs.declared.place.Place.TheVariants.{Processor}
 use Rattle.pram_values.specs.Total.{total}
@@ -18,7 +19,6 @@ use Rattle.evaluation.specs.Noted.{noted_in}
 use Rattle.plain_form.specs.Formulas.{Formula}
 use Rattle.formula_values.specs.Terms.{steps_in}
 use Rattle.formula_values.specs.Inside.{row_in}
-use Rattle.formula_values.proofs.Levels.{last_none}
 use Rattle.formula_values.proofs.ReadColumns.{column_key}
 use Rattle.formula_values.proofs.LevelConflicts.{total_filter}
 use Rattle.formula_values.proofs.Sums.{sum_of}
@@ -74,7 +74,7 @@ module _ (h : Heading) (p : Checked) (m : State) (e : Formula) where
     rows_note rule cells n =
         ap (least (notes h (map row vs)))
         ((λ i. least (if shares_reads rule then None else sym (reads_are cells n) i) (none_written rule cells n i))
-        ∙ last_none (if shares_reads rule then None else total None least (column_key h cells vs column) (range_with_len 0 n)))
+        ∙ none_least (if shares_reads rule then None else total None least (column_key h cells vs column) (range_with_len 0 n)))
 
   pub all_noted : (width : ℕ) (active : ℕ → Bool) (index : ℕ → ℤ) → ((v : ℕ) → v < width → index v ≡ (member_of m.team v).index) →
       (rule : Rule) (cells n : ℕ) →

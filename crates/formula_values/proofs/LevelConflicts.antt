@@ -17,11 +17,12 @@ use Rattle.superstep_machine.specs.Results.{kind_of}
 use Rattle.pram_meaning.specs.Operation.{operate, operate_before}
 use Rattle.pram_meaning.specs.Store.{View}
 use Rattle.flat_machine.specs.Flat.{Flat, cells, askers, read_conflict, read_conflicts}
+use Rattle.flat_machine.proofs.Late.{none_least}
 use Rattle.evaluation.specs.Whole.{testing, reading, value}
 use Rattle.evaluation.specs.Noted.{Heading, moment}
 use Rattle.plain_form.specs.Formulas.{Formula, Zero, Number, Variable, Index, Local, Read, Before, Between, Pair, reads, positions, nesting}
 use Rattle.formula_values.specs.Terms.{term, steps_in}
-use Rattle.formula_values.proofs.Levels.{key_if, around, at_level, last_none}
+use Rattle.formula_values.proofs.Levels.{key_if, around, at_level}
 use Rattle.formula_values.proofs.LevelReads.{reads_if, level_reads}
 use Rattle.formula_values.proofs.StepNotes.{length_steps}
 use Rattle.formula_values.proofs.PrivateSteps.{cells_of, cells_join}
@@ -173,7 +174,7 @@ module _ (code : SuperstepCode) (g : Flat) (h : Heading) (active : ℕ → Bool)
             conflicts_join (level_slots h l f t q) (slot h (t + reads f) (q + positions f + 1) ∷ []) k
             ∙ (λ i. least (r (asks_first k (level_count l f) 1 (λ v. level_reads (s v) l f t) (λ v. (t + reads f, cell v) ∷ [])
             (λ v. count_reads (s v) l f t) b) i)
-            ((last_none (read_conflict code g (k + length (level_slots h l f t q)) (slot h (t + reads f) (q + positions f + 1)))
+            ((none_least (read_conflict code g (k + length (level_slots h l f t q)) (slot h (t + reads f) (q + positions f + 1)))
             ∙ ap (λ n. read_conflict code g (k + n) (slot h (t + reads f) (q + positions f + 1))) (count_slots h l f t q)
             ∙ one_read (k + level_count l f) (q + positions f) (t + reads f)
             (λ v w e. ap (λ n. cell_at n (g.own v).asks) (let j : k + level_count l f ≡ k + level_count l f + 0 = omega arith in j)

@@ -2,7 +2,8 @@
 use Rattle.std.proofs.Common.{◌≡◌, ℕ, zero, suc, ◌+◌, ◌<◌, ◌≤◌, Bool, true, false, Option, None, refl, sym, ap, ◌∙◌, arith}
 use Rattle.std.specs.Prelude.{nat_eq}
 use Rattle.std.proofs.lemmas.Bool.Decides.{nat_tests}
-use Rattle.pram_values.proofs.Totals.{neutral_right, middle}
+use Rattle.flat_machine.proofs.Late.{none_least}
+use Rattle.pram_values.proofs.Totals.{middle}
 use Rattle.superstep_machine.specs.declared.key.Key.{Key}
 use Rattle.superstep_machine.specs.Keys.{least}
 use Rattle.superstep_machine.proofs.KeyOrder.{keys_are_monoid}
@@ -12,9 +13,6 @@ use Rattle.plain_form.specs.Formulas.{Formula, Zero, Number, Variable, Index, Lo
 abbrev pub key_if : Bool → Option Key → Option Key
 key_if true k = k
 key_if false k = None
-
-pub last_none : (k : Option Key) → least k None ≡ k
-last_none k = neutral_right None least keys_are_monoid k
 
 -- by `weigh` each position, which is that of a read or of an operation, has a key or none
 module _ (weigh : ℕ → Formula → Option Key) where
@@ -108,18 +106,18 @@ module _ (weigh : ℕ → Formula → Option Key) where
     where
       go : (b : Bool) → nat_eq k l ≡ b → (l + 1 ≤ k → k < l + 1 + n → picked n (l + 1) k x ≡ x) →
           least (key_if b x) (picked n (l + 1) k x) ≡ x
-      go true e r = ap (least x) (picked_past n (l + 1) k x (grind (arith, nat_tests, e))) ∙ last_none x
+      go true e r = ap (least x) (picked_past n (l + 1) k x (grind (arith, nat_tests, e))) ∙ none_least x
       go false e r = r (grind (arith, nat_tests, e, h)) (omega arith)
 
   pub levels_are_all : (f : Formula) (n q : ℕ) → nesting f ≤ n → least (levels n 0 f q) (around f q) ≡ all_of f q
-  levels_are_all Zero n q h = last_none (levels n 0 Zero q) ∙ levels_none n 0 Zero q (λ l. refl)
-  levels_are_all (Number z) n q h = last_none (levels n 0 (Number z) q) ∙ levels_none n 0 (Number z) q (λ l. refl)
-  levels_are_all (Variable x) n q h = last_none (levels n 0 (Variable x) q) ∙ levels_none n 0 (Variable x) q (λ l. refl)
-  levels_are_all Index n q h = last_none (levels n 0 Index q) ∙ levels_none n 0 Index q (λ l. refl)
-  levels_are_all (Local x) n q h = last_none (levels n 0 (Local x) q) ∙ levels_none n 0 (Local x) q (λ l. refl)
+  levels_are_all Zero n q h = none_least (levels n 0 Zero q) ∙ levels_none n 0 Zero q (λ l. refl)
+  levels_are_all (Number z) n q h = none_least (levels n 0 (Number z) q) ∙ levels_none n 0 (Number z) q (λ l. refl)
+  levels_are_all (Variable x) n q h = none_least (levels n 0 (Variable x) q) ∙ levels_none n 0 (Variable x) q (λ l. refl)
+  levels_are_all Index n q h = none_least (levels n 0 Index q) ∙ levels_none n 0 Index q (λ l. refl)
+  levels_are_all (Local x) n q h = none_least (levels n 0 (Local x) q) ∙ levels_none n 0 (Local x) q (λ l. refl)
   levels_are_all (Read a f) n q h =
       let w = weigh (q + positions f + 1) (Read a f) in
-      last_none (levels n 0 (Read a f) q) ∙ levels_read n 0 a f q
+      none_least (levels n 0 (Read a f) q) ∙ levels_read n 0 a f q
       ∙ ap (least (levels n 0 f q)) (picked_once n 0 (nesting f) (least (around f q) w) (omega arith) (omega arith))
       ∙ sym (keys_are_monoid.associative (levels n 0 f q) (around f q) w)
       ∙ ap (λ k. least k w) (levels_are_all f n q (omega arith))

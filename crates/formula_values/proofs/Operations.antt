@@ -2,6 +2,7 @@
 use Rattle.std.proofs.Common.{◌≡◌, ◌≢◌, ℕ, List, Bool, true, false, cond, ℤ, refl, ap, ◌∙◌}
 use Rattle.std.specs.Prelude.{not}
 use Rattle.std.proofs.lemmas.Bool.{ne_eqb}
+use Rattle.flat_machine.proofs.Late.{none_least}
 use Rattle.pram_tokens.specs.declared.token.Binary.{Binary}
 use Rattle.pram_tokens.specs.declared.token.Binary.TheVariants.{Or, And, Equal, Unequal, Less, AtMost, Greater, AtLeast, Add, Subtract}
 use Rattle.pram_tokens.specs.declared.token.Binary.TheVariants.{Multiply, Divide, Remainder}
@@ -18,7 +19,6 @@ use Rattle.pram_meaning.specs.Operation.{operate, operate_before}
 use Rattle.evaluation.specs.Noted.{Heading, note_key}
 use Rattle.plain_form.specs.Regions.{before_code, between_code}
 use Rattle.formula_values.proofs.Lone.{moves, wrongs}
-use Rattle.formula_values.proofs.Levels.{last_none}
 
 pub set_here : (d : ℕ) (z : ℤ) (r : Registers) → set_register d z r d ≡ z
 set_here d z r = ap (λ b. cond b z (r d)) (with_itself d)
@@ -44,7 +44,7 @@ module _ (layout : List SharedEntry) (uniforms : Registers) (side : Side) (b : �
   pub before_wrong : (h : Heading) (place : Place) (o : Prefix) (x q : ℕ) (r : Registers) →
       wrongs layout uniforms (λ q k. note_key h q place k) (before_code side o b x q) r
       ≡ note_key h q place (kind_of (operate_before o (r x)))
-  before_wrong h place Negate x q r = last_none (note_key h q place (kind_of (operate_before Negate (r x))))
+  before_wrong h place Negate x q r = none_least (note_key h q place (kind_of (operate_before Negate (r x))))
   before_wrong h place Not x q r = refl
 
   pub between_value : (o : Binary) (x y q : ℕ) (r : Registers) →
@@ -95,8 +95,8 @@ module _ (layout : List SharedEntry) (uniforms : Registers) (side : Side) (b : �
   between_wrong h place AtMost x y q r = refl
   between_wrong h place Greater x y q r = refl
   between_wrong h place AtLeast x y q r = refl
-  between_wrong h place Add x y q r = last_none (note_key h q place (kind_of (operate Add (r x) (r y))))
-  between_wrong h place Subtract x y q r = last_none (note_key h q place (kind_of (operate Subtract (r x) (r y))))
-  between_wrong h place Multiply x y q r = last_none (note_key h q place (kind_of (operate Multiply (r x) (r y))))
-  between_wrong h place Divide x y q r = last_none (note_key h q place (kind_of (operate Divide (r x) (r y))))
-  between_wrong h place Remainder x y q r = last_none (note_key h q place (kind_of (operate Remainder (r x) (r y))))
+  between_wrong h place Add x y q r = none_least (note_key h q place (kind_of (operate Add (r x) (r y))))
+  between_wrong h place Subtract x y q r = none_least (note_key h q place (kind_of (operate Subtract (r x) (r y))))
+  between_wrong h place Multiply x y q r = none_least (note_key h q place (kind_of (operate Multiply (r x) (r y))))
+  between_wrong h place Divide x y q r = none_least (note_key h q place (kind_of (operate Divide (r x) (r y))))
+  between_wrong h place Remainder x y q r = none_least (note_key h q place (kind_of (operate Remainder (r x) (r y))))

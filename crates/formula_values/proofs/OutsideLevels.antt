@@ -15,6 +15,7 @@ use Rattle.pram_check.specs.Bounded.{Names}
 use Rattle.pram_meaning.specs.Store.{View}
 use Rattle.flat_machine.specs.Flat.{Flat, conflicts, read_conflicts}
 use Rattle.flat_machine.proofs.Late.{none_owed}
+use Rattle.flat_machine.proofs.Late.{none_least}
 use Rattle.stretches.specs.Applied.{IsBare, AsksNone}
 use Rattle.stretches.specs.Folds.{acts_at_once}
 use Rattle.stretches.specs.Leaving.{IsLeft}
@@ -30,7 +31,7 @@ use Rattle.plain_form.specs.Groups.{asks, groups}
 use Rattle.formula_values.specs.Environments.{IsNamed, IsFree, Shows}
 use Rattle.formula_values.specs.Headings.{heading_of}
 use Rattle.formula_values.proofs.Lone.{moves, asks_in, wrongs}
-use Rattle.formula_values.proofs.Levels.{at_level, levels, last_none}
+use Rattle.formula_values.proofs.Levels.{at_level, levels}
 use Rattle.formula_values.proofs.Shown.{still_shows}
 use Rattle.formula_values.proofs.RegionValues.{own_key_at, AreRead, still_read}
 use Rattle.formula_values.proofs.LevelReads.{level_reads, delivered, answers_are}
@@ -128,8 +129,8 @@ module _ (code : SuperstepCode) (n : Names) (base : ℕ) (free : IsFree Uniform 
           notes = notes_join code is (Send ∷ Reply ∷ []) f
               ∙ (λ i. least ((uniform_notes code base zeros is f parts
               ∙ (λ i. wrongs (same i) zeros (λ q k. note_key (heading_of f) q All k) is u) ∙ done.notes) i)
-              (last_none (no_conflict g g_bare no_reads i) i))
-              ∙ last_none (at_level (own_key_at (heading_of f) All s) l e 0);
+              (none_least (no_conflict g g_bare no_reads i) i))
+              ∙ none_least (at_level (own_key_at (heading_of f) All s) l e 0);
         }
 
     -- ---- n levels

@@ -2,6 +2,7 @@
 use Rattle.std.proofs.Common.{◌≡◌, ℕ, zero, suc, ◌+◌, ◌<◌, List, [], ◌∷◌, ◌++◌, length, get_or, Option, None}
 use Rattle.std.proofs.Common.{refl, sym, ap, ◌∙◌, arith}
 use Rattle.std.specs.List.{range_with_len}
+use Rattle.flat_machine.proofs.Late.{none_least}
 use Rattle.pram_model.specs.Layout.{cell_of}
 use Rattle.pram_values.specs.Total.{total}
 use Rattle.pram_values.proofs.Totals.{total_none, total_joined}
@@ -17,7 +18,7 @@ use Rattle.evaluation.specs.Rows.{trail}
 use Rattle.evaluation.specs.Noted.{Heading, read_key}
 use Rattle.plain_form.specs.Formulas.{Formula, Zero, Number, Variable, Index, Local, Read, Before, Between, Pair, positions}
 use Rattle.formula_values.specs.Terms.{term, steps_in}
-use Rattle.formula_values.proofs.Levels.{around, all_of, last_none}
+use Rattle.formula_values.proofs.Levels.{around, all_of}
 use Rattle.formula_values.proofs.StepNotes.{length_steps}
 
 -- ---- the cell at a position
@@ -104,7 +105,7 @@ module _ (h : Heading) (cells : ℕ) (vs : List ℕ) (column : ℕ → ℕ → O
     with_last q n =
         ap (total None least column_key) (range_last q n)
         ∙ total_joined None least keys_are_monoid column_key (range_with_len q n) ((q + n) ∷ [])
-        ∙ ap (least (sums q n)) (last_none (column_key (q + n)))
+        ∙ ap (least (sums q n)) (none_least (column_key (q + n)))
 
     both_sums : (q m n : ℕ) → sums q (m + n) ≡ least (sums q m) (sums (q + m) n)
     both_sums q m n =

@@ -1,5 +1,6 @@
 -- The notes of all positions are the notes of the steps.
 use Rattle.std.proofs.Common.{◌≡◌, ℕ, ◌+◌, List, [], ◌∷◌, ◌++◌, length, length-append, refl, sym, ap, ◌∙◌, arith}
+use Rattle.flat_machine.proofs.Late.{none_least}
 use Rattle.pram_values.specs.declared.place.Place.{Place}
 use Rattle.superstep_machine.specs.Keys.{least}
 use Rattle.superstep_machine.proofs.KeyOrder.{keys_are_monoid}
@@ -10,7 +11,7 @@ use Rattle.evaluation.specs.Whole.{Step, testing, value}
 use Rattle.evaluation.specs.Noted.{Heading, note_key, notes_behind}
 use Rattle.plain_form.specs.Formulas.{Formula, Zero, Number, Variable, Index, Local, Read, Before, Between, Pair, positions}
 use Rattle.formula_values.specs.Terms.{term, steps_in}
-use Rattle.formula_values.proofs.Levels.{all_of, last_none}
+use Rattle.formula_values.proofs.Levels.{all_of}
 use Rattle.formula_values.proofs.RegionValues.{own_key_at}
 
 one_more : (xs : List Step) (x : Step) (n : ℕ) → length xs ≡ n → length (xs ++ x ∷ []) ≡ n + 1
@@ -52,7 +53,7 @@ module _ (h : Heading) (at : Place) where
   pub with_last : (xs : List Step) (x : Step) (q n : ℕ) → length xs ≡ n →
       notes_behind h q at (xs ++ x ∷ []) ≡ least (notes_behind h q at xs) (note_key h (q + n + 1) at x.note)
   with_last xs x q n e =
-      behind xs (x ∷ []) q n e ∙ ap (least (notes_behind h q at xs)) (last_none (note_key h (q + n + 1) at x.note))
+      behind xs (x ∷ []) q n e ∙ ap (least (notes_behind h q at xs)) (none_least (note_key h (q + n + 1) at x.note))
 
   pub all_notes : (s : View) (f : Formula) (q : ℕ) → all_of (own_key_at h at s) f q ≡ notes_behind h q at (steps_in s f)
   all_notes s Zero q = refl

@@ -1,7 +1,6 @@
 -- A stretch of a formula's code on the uniform registers: the machine does what one processor does by itself.
-use Rattle.std.proofs.Common.{◌≡◌, ℕ, ◌+◌, List, [], ◌∷◌, ◌++◌, map, Bool, true, false, Option, Some, None, refl, sym, ap, ◌∙◌}
+use Rattle.std.proofs.Common.{◌≡◌, ℕ, ◌+◌, List, [], ◌∷◌, ◌++◌, map, Option, Some, None, refl, sym, ap, ◌∙◌}
 use Rattle.std.proofs.Common.{append-nil, append_assoc}
-use Rattle.std.specs.Prelude.{if◌then◌else◌}
 use Rattle.pram_model.specs.Layout.{cell_of}
 use Rattle.pram_values.specs.declared.kind.Kind.{Kind}
 use Rattle.pram_values.specs.declared.place.Place.{Place}
@@ -12,29 +11,25 @@ use Rattle.superstep_code.specs.declared.instr.Side.TheVariants.{Uniform}
 use Rattle.superstep_code.specs.declared.instr.Instr.{Instr}
 use Rattle.superstep_code.specs.declared.instr.Instr.TheVariants.{Ask}
 use Rattle.superstep_code.specs.Code.{SuperstepCode}
-use Rattle.superstep_machine.specs.declared.key.Key.{Key}
 use Rattle.superstep_machine.specs.Keys.{least}
 use Rattle.superstep_machine.specs.Parts.{Registers, Read, UniformPart, PrivatePart}
 use Rattle.superstep_machine.specs.Results.{position_of}
 use Rattle.superstep_machine.specs.Steps.{fault_at, own_key, uniform_key, is_active}
 use Rattle.superstep_machine.proofs.KeyOrder.{keys_are_monoid}
 use Rattle.flat_machine.specs.Flat.{Flat, range, cells, read_conflicts}
+use Rattle.flat_machine.proofs.Late.{none_least}
 use Rattle.stretches.specs.Folds.{act_at_once, acts_at_once}
 use Rattle.stretches.specs.Notes.{note, notes}
 use Rattle.evaluation.specs.Noted.{Heading, moment, note_key}
 use Rattle.formula_values.specs.Headings.{heading_of}
 use Rattle.formula_values.proofs.Lone.{moved, moves, asked, asks_in, wrong, wrongs}
-use Rattle.formula_values.proofs.Levels.{last_none}
 use Rattle.formula_values.proofs.Parts.{IsPart, sets, negates, calculates, decides, inverts, asks_for, AreParts}
+use Rattle.formula_values.proofs.Sums.{if_none}
 
 pub fault_is : (u : UniformPart) (q : ℕ) (at : Place) (k : Option Kind) →
     fault_at u q at k ≡ note_key (record { count = u.count; line = u.line }) q at k
 fault_is u q at None = refl
 fault_is u q at (Some kind) = refl
-
-pub either_none : (b : Bool) → (if b then (let x : Option Key = None in x) else None) ≡ None
-either_none true = refl
-either_none false = refl
 
 module _ (code : SuperstepCode) (base : ℕ) (uniforms : Registers) where
   -- ---- one instruction
@@ -76,12 +71,12 @@ module _ (code : SuperstepCode) (base : ℕ) (uniforms : Registers) where
   asks_by i f (asks_for d h) = refl
 
   no_own_key : (i : Instr) (u : UniformPart) (v : ℕ) (x : PrivatePart) → IsPart base Uniform i → own_key code i u v x ≡ None
-  no_own_key i u v x (sets d h) = either_none (is_active x)
-  no_own_key i u v x (negates d h) = either_none (is_active x)
-  no_own_key i u v x (calculates d h) = either_none (is_active x)
-  no_own_key i u v x (decides d h) = either_none (is_active x)
-  no_own_key i u v x (inverts d h) = either_none (is_active x)
-  no_own_key i u v x (asks_for d h) = either_none (is_active x)
+  no_own_key i u v x (sets d h) = if_none (is_active x)
+  no_own_key i u v x (negates d h) = if_none (is_active x)
+  no_own_key i u v x (calculates d h) = if_none (is_active x)
+  no_own_key i u v x (decides d h) = if_none (is_active x)
+  no_own_key i u v x (inverts d h) = if_none (is_active x)
+  no_own_key i u v x (asks_for d h) = if_none (is_active x)
 
   key_by : (i : Instr) (f : Flat) → IsPart base Uniform i →
       uniform_key code i f.uniform ≡ note_key (heading_of f) (position_of i) All (wrong code.layout uniforms i f.uniform.registers)
@@ -108,7 +103,7 @@ module _ (code : SuperstepCode) (base : ℕ) (uniforms : Registers) where
       ∙ ap (least (uniform_key code i f.uniform))
       (total_none None least keys_are_monoid (λ v. own_key code i f.uniform v (f.own v)) (λ v. no_own_key i f.uniform v (f.own v) p)
       (range f))
-      ∙ last_none (uniform_key code i f.uniform) ∙ key_by i f p
+      ∙ none_least (uniform_key code i f.uniform) ∙ key_by i f p
 
   -- ---- a stretch
 

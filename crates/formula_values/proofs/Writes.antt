@@ -2,6 +2,7 @@
 use Rattle.std.proofs.Common.{◌≡◌, ℕ, ◌+◌, ◌<◌, List, [], ◌∷◌, ◌++◌, map, length, get_or, if◌then◌else◌}
 use Rattle.std.proofs.Common.{Option, None, ℤ, sym, ap, ◌∙◌, append_assoc, arith}
 use Rattle.std.specs.List.{range_with_len}
+use Rattle.flat_machine.proofs.Late.{none_least}
 use Rattle.pram_model.specs.declared.rule.Rule.{Rule}
 use Rattle.pram_model.specs.Layout.{cell_of, total_size}
 use Rattle.pram_values.specs.declared.place.Place.TheVariants.{Processor}
@@ -24,7 +25,6 @@ use Rattle.plain_form.specs.Formulas.{Formula, Pair, positions}
 use Rattle.formula_values.specs.Terms.{term, steps_in}
 use Rattle.formula_values.specs.Inside.{row_in}
 use Rattle.formula_values.specs.Tasks.{IsSingle}
-use Rattle.formula_values.proofs.Levels.{last_none}
 use Rattle.formula_values.proofs.StepNotes.{length_steps, with_last}
 use Rattle.formula_values.proofs.ReadColumns.{column_key, no_column_key, cell_first, cell_behind, range_last}
 use Rattle.formula_values.proofs.InsideNotes.{rows_note}
@@ -93,9 +93,9 @@ module _ (p : Checked) (m : State) (entry : ℕ) (d e : Formula) (sd : IsSingle 
       (range_with_len 0 (count + 1))
       ∙ ap (total None least (column_key h size vs whole_column)) (range_last 0 count)
       ∙ total_joined None least keys_are_monoid (column_key h size vs whole_column) (range_with_len 0 count) ((0 + count) ∷ [])
-      ∙ (λ i. least (before i) ((last_none (column_key h size vs whole_column (0 + count))
+      ∙ (λ i. least (before i) ((none_least (column_key h size vs whole_column (0 + count))
       ∙ no_column_key h size vs whole_column (0 + count) last) i))
-      ∙ last_none (total None least (column_key h size vs column) (range_with_len 0 count))
+      ∙ none_least (total None least (column_key h size vs column) (range_with_len 0 count))
     where
       long : (v : ℕ) → length (steps_in (seen_by p m v) (Pair d e)) ≡ count
       long v = length_steps (seen_by p m v) (Pair d e)

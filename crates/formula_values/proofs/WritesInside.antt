@@ -20,6 +20,7 @@ use Rattle.superstep_machine.proofs.KeyOrder.{keys_are_monoid}
 use Rattle.pram_check.specs.Checked.{Checked}
 use Rattle.pram_meaning.specs.Store.{State, member_of, seen_by}
 use Rattle.flat_machine.specs.Flat.{Flat, range, cells, noted, single_to, written}
+use Rattle.flat_machine.proofs.Late.{none_least}
 use Rattle.stretches.specs.Applied.{write_conflict}
 use Rattle.stretches.specs.Folds.{acts_at_once}
 use Rattle.stretches.proofs.Joins.{acts_at_once_join}
@@ -37,7 +38,6 @@ use Rattle.formula_values.specs.Headings.{heading_of}
 use Rattle.formula_values.specs.Inside.{active_ones, MayEvaluateInside, IsEvaluatedInside}
 use Rattle.formula_values.specs.Tasks.{IsSingle}
 use Rattle.formula_values.specs.Writes.{write_code, write_rows, IsWrittenInside, WritesAreTasks}
-use Rattle.formula_values.proofs.Levels.{last_none}
 use Rattle.formula_values.proofs.UniformSteps.{fault_is}
 use Rattle.formula_values.proofs.LevelConflicts.{total_filter}
 use Rattle.formula_values.proofs.Inside.{formulas_are_evaluated_inside, pairs_are_evaluated_inside}
@@ -158,7 +158,7 @@ module _ (code : SuperstepCode) (p : Checked) (locals : ℕ) (m : State) (base e
       record {
         tells = notes_join code (evaluated Private base (Pair d e)) (put ∷ []) f
             ∙ (λ i. least (x.tells i)
-            ((last_none (least (noted code put k) (write_conflict code put k)) ∙ (λ i. least (put_noted i) (put_conflicts writers i))) i))
+            ((none_least (least (noted code put k) (write_conflict code put k)) ∙ (λ i. least (put_noted i) (put_conflicts writers i))) i))
             ∙ sym (write_noted p m entry d e sd se (heading_of f) vs p.rule);
         cells = λ c. ap (λ (g : Flat). g.memory c) last
             ∙ (λ i. settled (put_settled writers c i) ((left.memory c ∙ start.outside.cells c) i));
