@@ -1,0 +1,2 @@
+//! Statements inside pardo on the machine.
+#![tactic(auto)]

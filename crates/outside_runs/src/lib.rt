@@ -1,0 +1,2 @@
+//! Statements outside pardo on the machine.
+#![tactic(auto)]

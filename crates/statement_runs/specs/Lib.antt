@@ -1,0 +1,4 @@
+pub mod Between
+pub mod Follows
+pub mod Begins
+pub mod Costs

@@ -1,0 +1,2 @@
+//! One statement of a program on the machine.
+#![tactic(auto)]
