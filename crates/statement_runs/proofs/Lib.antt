@@ -1,0 +1,5 @@
+pub mod Begins
+pub mod Costs
+pub mod Marked
+pub mod Places
+pub mod Joined
