@@ -36,7 +36,7 @@ fn numbers(alloc: Global, most: u32, worker: u32, workers: u32) -> Result<Vec<i6
 }
 
 // So many columns, each with room for so many processors.
-fn columns(alloc: Global, registers: u16, most: u32) -> Result<Vec<Vec<i64>>, AllocError>
+fn columns(alloc: Global, registers: u32, most: u32) -> Result<Vec<Vec<i64>>, AllocError>
     ensures rooms { IfOk result (λ all. AllByRecursion (λ v. length v.items ≡ most) all.items) }
     ensures count { IfOk result (λ all. length all.items ≡ registers) }
 {
@@ -53,7 +53,7 @@ impl Bank {
     /// was refused.
     pub fn new(
         alloc: Global,
-        registers: u16,
+        registers: u32,
         most: u32,
         masks: usize,
         worker: u32,

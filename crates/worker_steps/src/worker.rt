@@ -47,7 +47,7 @@ impl WorkerState {
     /// comes where memory was refused.
     pub fn new(
         alloc: Global,
-        registers: u16,
+        registers: u32,
         most: u32,
         worker: u32,
         workers: u32,

@@ -1,0 +1,11 @@
+use Rattle.std.proofs.Common.{◌≡◌, ℕ, [], length}
+use Rattle.message_rows.proofs.RowLemmas.{AreFilled}
+use Rattle.message_rows.proofs.fill.fill_headers.Given as goal
+
+abbrev pub invariant-workers : goal.invariant-workers
+invariant-workers g l = record {
+  filled : AreFilled (λ (j : ℕ). record { header = l.words; words = [] }) l.j (g.W.Row.filled l.row);
+  long : length (g.W.Row.filled l.row) ≡ l.workers;
+  room : g.W.Row.room l.row ≡ g.W.Row.room l.fn.row;
+  kept : g.W.Row.kept l.fn.row l.row;
+}

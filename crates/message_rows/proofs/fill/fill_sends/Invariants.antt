@@ -1,0 +1,12 @@
+use Rattle.std.proofs.Common.{◌≡◌, length}
+use Rattle.message_rows.specs.Sends.{words_of, send_message}
+use Rattle.message_rows.proofs.RowLemmas.{AreFilled}
+use Rattle.message_rows.proofs.fill.fill_sends.Given as goal
+
+abbrev pub invariant-workers : goal.invariant-workers
+invariant-workers g l = record {
+  filled : AreFilled (send_message l.key (words_of l.columns) l.counts) l.j (g.W.Row.filled l.row);
+  long : length (g.W.Row.filled l.row) ≡ length l.columns;
+  room : g.W.Row.room l.row ≡ g.W.Row.room l.fn.row;
+  kept : g.W.Row.kept l.fn.row l.row;
+}
