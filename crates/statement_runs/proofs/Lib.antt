@@ -3,3 +3,4 @@ pub mod Costs
 pub mod Marked
 pub mod Places
 pub mod Joined
+pub mod Valued
