@@ -66,15 +66,15 @@ follows_then t before held left es fs P Q (Reaches out) k h l g =
     subst (λ xs. ComesOut t (GoesOn out) (before + in_all xs held + 1)) (sym (append-nil es)) h
 
 -- and what is held behind both
+pub holds_behind : (held left last : Bool) (es fs : List Event) (d : Done) → held_behind es held ≡ left → HoldsBehind left fs last d →
+    HoldsBehind held (es ++ fs) last d
+holds_behind held left last es fs (Goes u m) e g = held_joins es fs held ∙ ap (held_behind fs) e ∙ g
+holds_behind held left last es fs (Stops fault out) e g = tt
+holds_behind held left last es fs (Reaches out) e g = tt
+
 pub holds_then : (held left last : Bool) (es : List Event) (fs : State → List Event) (d : Done) (k : State → Done) →
     HoldsBehind held es left d → ((m : State) → HoldsBehind left (fs m) last (k m)) →
     HoldsBehind held (es ++ behind d (λ u m. fs m)) last (then_do d (λ u m. k m))
-holds_then held left last es fs (Goes u m) k h g = holds_after held left last es (fs m) (k m) h (g m)
-  where
-    holds_after : (held left last : Bool) (es fs : List Event) (d : Done) → held_behind es held ≡ left → HoldsBehind left fs last d →
-        HoldsBehind held (es ++ fs) last d
-    holds_after held left last es fs (Goes u m) e g = held_joins es fs held ∙ ap (held_behind fs) e ∙ g
-    holds_after held left last es fs (Stops fault out) e g = tt
-    holds_after held left last es fs (Reaches out) e g = tt
+holds_then held left last es fs (Goes u m) k h g = holds_behind held left last es (fs m) (k m) h (g m)
 holds_then held left last es fs (Stops fault out) k h g = tt
 holds_then held left last es fs (Reaches out) k h g = tt

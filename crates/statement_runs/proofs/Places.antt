@@ -1,5 +1,5 @@
 -- From place to place between two statements: sends of what is held, instructions that note nothing, and jumps.
-use Rattle.std.proofs.Common.{◌≡◌, ℕ, ◌+◌, ◌≤◌, [], ◌∷◌, length, Bool, true, false, refl, sym, ap, ◌∙◌, subst, arith}
+use Rattle.std.proofs.Common.{◌≡◌, ℕ, ◌+◌, ◌≤◌, [], ◌∷◌, length, Bool, true, false, not, ◌&&◌, refl, sym, ap, ◌∙◌, subst, arith}
 use Rattle.std.specs.Prelude.{if◌then◌else◌}
 use Rattle.pram_values.specs.Truth.{is_nonzero}
 use Rattle.superstep_code.specs.declared.instr.Instr.{Instr}
@@ -117,3 +117,22 @@ flushed t true m place spent f b n st = record {
   };
   seen = bare_is_applied t.code (applied t.code f) (record { put = refl; held = λ c. refl });
 }
+
+-- before a write: what is held goes, unless it waits for the reads of the write
+pub record IsReady (t : Run) (left : Bool) (m : State) (place spent : ℕ) (f : Flat) : Type 0 where
+  pub behind : Flat
+  pub between : IsBetween t left m place spent behind
+  pub seen : applied t.code behind ≡ applied t.code f
+
+pub ready_to_write : (t : Run) (held some : Bool) (m : State) (place spent : ℕ) (f : Flat) → IsBetween t held m place spent f →
+    AsksNone (applied t.code f) → Stand t place (flush (held && not some)) →
+    IsReady t (held && some) m (place + length (flush (held && not some))) (spent + one_if (held && not some)) f
+ready_to_write t true true m place spent f b n st = record {
+  behind = f;
+  between = between_at t true m f place (place + 0) spent (spent + 0) (omega arith) (omega arith) b;
+  seen = refl;
+}
+ready_to_write t true false m place spent f b n st =
+    let g = flushed t true m place spent f b n st in record { behind = g.behind; between = g.between; seen = g.seen }
+ready_to_write t false some m place spent f b n st =
+    let g = flushed t false m place spent f b n st in record { behind = g.behind; between = g.between; seen = g.seen }

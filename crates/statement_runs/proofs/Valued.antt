@@ -1,8 +1,7 @@
 -- Values of whole evaluations have 64 bits, where what the processor sees has.
-use Rattle.std.proofs.Common.{ℕ, Ok, Err, Option, Some, None, ℤ, pos, arith, rules}
+use Rattle.std.proofs.Common.{ℕ, Ok, Err, Option, Some, None, ℤ, pos, rules}
 use Rattle.std.specs.Prelude.{FitsSigned}
 use Rattle.std.specs.Int.{w64}
-use Rattle.std.proofs.lemmas.Int.{ints}
 use Rattle.pram_model.specs.Layout.{cell_of}
 use Rattle.pram_check.specs.Bounded.{Names, IsNamed, AreNamed}
 use Rattle.pram_names.specs.declared.body.Expression.{Expression, Number, Uniform, Index, Local, Cell, Element', Prefix', Chain'}
