@@ -33,7 +33,18 @@ const TREE_SUM: &str =
 const COUNTDOWN: &str =
     "rule crew; procs 4;\nshared a[1..4];\nbegin\nfor 1 <= i <= 4 pardo local k; k := i;\nwhile k > 1 do\na[i] := a[i] + k;\nk := k - 1;\nend\nend\nend\n";
 
-const ALGORITHMS: [Count; 7] = [
+const PREFIX_SUMS: &str =
+    "rule erew; procs 8;\nshared a[1..8]; var d;\nbegin\nd := 1;\nwhile d < 8 do\nfor d + 1 <= i <= 8 pardo a[i] := a[i] + a[i-d]; end\nd := 2 * d;\nend\nend\n";
+
+const ALGORITHMS: [Count; 9] = [
+    (PREFIX_SUMS, "3 1 4 1 5 9 2 6", "1000000", 10),
+    // Two rounds in a turn: the first write goes with the reads of the second.
+    (
+        "rule crew; procs 8;\nshared s[1..8]; var k;\nbegin\nfor k := 1 to 2 do\nfor 1 <= i <= 8 pardo s[i] := s[s[i]]; s[i] := s[s[i]]; end\nend\nend\n",
+        "1 1 2 3 4 5 6 7",
+        "1000000",
+        19,
+    ),
     (TREE_SUM, "1 2 3 4 5 6 7 8", "1000000", 15),
     (TREE_SUM, "1 2 3 4 5 6 7 8", "16", 13),
     (

@@ -10,6 +10,8 @@ mod limits;
 #[cfg(test)]
 mod plans;
 #[cfg(test)]
+mod read_back;
+#[cfg(test)]
 mod rows;
 #[cfg(test)]
 mod rows_check;

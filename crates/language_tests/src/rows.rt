@@ -1,6 +1,7 @@
 // How a row of the tests is tried: what the program prints for it, and its exit status.
 
 use crate::compiled::is_compiled;
+use crate::read_back::is_read_back;
 use pram_syntax::Buffer;
 use pramc::{SourceFault, Sources, Status};
 use pramc_command::command;
@@ -106,10 +107,10 @@ pub(crate) fn checked(alloc: Global, text: &[u8], line: &str) -> bool {
     prints(alloc, &["check", "program"], text, b"", expected)
 }
 
-// Whether every row holds, by the interpreter and by the code that its program is lowered to.
+// Whether every row holds, by the interpreter and by the code that its program is lowered to, which is read back too.
 pub(crate) fn all_hold(alloc: Global, rows: &[Row]) -> bool {
     for row in rows {
-        if !holds(alloc, row) || !is_compiled(alloc, row) {
+        if !holds(alloc, row) || !is_compiled(alloc, row) || !is_read_back(alloc, row) {
             return false;
         }
     }
