@@ -18,10 +18,10 @@ prepare() {
     echo "bench_$1: ${*:2} ${libraries:-} anyhow" >> "$work/crates.txt"
 }
 
-# figures: proves and runs the program, and prints its figures, or why there are none.
+# figures WORD..: proves the program, runs it with these words, and prints its figures, or why there are none.
 figures() {
     cd "$program"
-    if ! rt run --jobs 1 > "$work/figures" 2> "$work/log"; then
+    if ! rt run --jobs 1 "$@" > "$work/figures" 2> "$work/log"; then
         tail -n 40 "$work/figures" "$work/log"
         exit 1
     fi

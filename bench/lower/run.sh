@@ -1,0 +1,15 @@
+#!/usr/bin/env bash
+# Prints how long parsing, checking, lowering, verifying and fusing take for dense texts of many tokens, how fast a text of 1 MiB
+# is compiled, and for each example its size, the size of its code, and the statements and exchanges of its run. It asserts nothing.
+set -eu
+. "$(dirname "$0")/../lib.sh"
+libraries="itoa thiserror" prepare lower pram_model text_out pram_tokens pram_syntax pram_parser pram_names pram_check address_map pram_values \
+    write_rules superstep_code superstep_machine bsp_verify flat_machine superstep_steps flat_run fusing stretches pram_meaning plain_form \
+    formed_code lowering pramc compiling
+mkdir "$program/data"
+for example in "$top"/examples/*.pram; do
+    name=$(basename "$example" .pram)
+    cp "$example" "$top/examples/$name.in" "$program/data/"
+    echo "$name"
+done > "$program/args"
+figures -- $(cat "$program/args")
