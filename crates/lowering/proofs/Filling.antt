@@ -8,8 +8,8 @@ use Rattle.plain_form.specs.Shapes.{flush, sent, looped, turned, chosen}
 use Rattle.pram_names.specs.declared.body.Statement.{Statement}
 use Rattle.lowering.specs.Parts.{are_some}
 use Rattle.lowering.specs.Blocks.{part, joined}
-use Rattle.lowering.specs.Written.{Written, added, wrote, patched}
-use Rattle.lowering.proofs.Appended.{wrote_more}
+use Rattle.straight_lowering.specs.Written.{Written, added, wrote, patched}
+use Rattle.straight_lowering.proofs.Appended.{wrote_more}
 
 -- where code goes on
 pub length_of : (is : List Instr) (h : Bool) (w u : Written) → u ≡ wrote is h w → length u.instructions

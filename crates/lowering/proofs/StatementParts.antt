@@ -15,10 +15,11 @@ use Rattle.plain_form.specs.Formulas.{formula_of}
 use Rattle.plain_form.specs.Groups.{value_at}
 use Rattle.plain_form.specs.Shapes.{sent, chosen, if_code, for_code, while_code}
 use Rattle.plain_form.specs.Outside.{code, left, statements_code, statements_left, part_code, part_left, has_part}
-use Rattle.lowering.specs.declared.outside.Turns.{Turns}
+use Rattle.straight_lowering.specs.declared.ranges.Turns.{Turns}
 use Rattle.lowering.specs.Parts.{are_some}
-use Rattle.lowering.specs.Blocks.{part, parted, while_loop, bounds, for_turns, joined}
-use Rattle.lowering.specs.Written.{Written, added, wrote}
+use Rattle.lowering.specs.Blocks.{part, while_loop, for_turns, joined}
+use Rattle.straight_lowering.specs.Straight.{parted, bounds}
+use Rattle.straight_lowering.specs.Written.{Written, added, wrote}
 use Rattle.lowering.proofs.Filling.{wrote_then, joined_is}
 
 -- ---- rows and lists

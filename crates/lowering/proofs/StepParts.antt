@@ -11,8 +11,9 @@ use Rattle.pram_names.specs.declared.body.Step.TheBlock.{hidden-the_row-Step-0}
 use Rattle.plain_form.specs.Formulas.{formula_of}
 use Rattle.plain_form.specs.Shapes.{still, sent, inner_if_code, flagged, looped}
 use Rattle.plain_form.specs.Inside.{Frame, step_code, step_left, steps_code, steps_left, part_code, part_left, has_part}
-use Rattle.lowering.specs.Parts.{frame, are_some, masked, step_else, flags, step_while}
-use Rattle.lowering.specs.Written.{Written, wrote}
+use Rattle.lowering.specs.Parts.{frame, are_some, step_else, step_while}
+use Rattle.straight_lowering.specs.Straight.{masked, flags}
+use Rattle.straight_lowering.specs.Written.{Written, wrote}
 use Rattle.lowering.proofs.Filling.{wrote_then}
 
 -- ---- rows and lists

@@ -13,17 +13,14 @@ use Rattle.plain_form.specs.Groups.{value_at, first_at, second_at}
 use Rattle.plain_form.specs.Shapes.{still, flush, begun, counted, sent, looped, turned, pardo_code}
 use Rattle.plain_form.specs.Inside.{steps_code, steps_left}
 use Rattle.plain_form.specs.Outside.{statements_code, statements_left}
-use Rattle.lowering.specs.declared.outside.Turns.{Turns}
+use Rattle.straight_lowering.specs.declared.ranges.Turns.{Turns}
+use Rattle.straight_lowering.specs.Straight.{setting}
 use Rattle.lowering.specs.Parts.{frame}
-use Rattle.lowering.specs.Written.{Written, wrote, patched}
+use Rattle.straight_lowering.specs.Written.{Written, wrote, patched}
 
 -- a part, and the send of what it holds
 abbrev pub part : ℕ → Bool → List Statement → ℕ → List Instr
 part free held ss start = sent (statements_code true free start held ss) (statements_left held ss)
-
--- the test of an `if`
-abbrev pub parted : Bool → ℕ → ℕ → Formula → List Instr
-parted held line free f = counted true held line Uniform free f ++ flush (still held f)
 
 -- a `while` from its head on
 abbrev pub while_turns : (free head : ℕ) → Bool → ℕ → Formula → List Statement → List Instr
@@ -32,20 +29,6 @@ while_turns free head held line f ss =
 
 abbrev pub while_loop : (free start : ℕ) → Bool → ℕ → Formula → List Statement → List Instr
 while_loop free start held line f ss = flush held ++ while_turns free (start + length (flush held)) false line f ss
-
--- the bounds of a `for`
-abbrev pub bounds : Bool → ℕ → Turns → Formula → Formula → List Instr
-bounds held line t f g =
-    counted true held line Uniform t.behind (Pair f g)
-    ++ (Copy Uniform t.turn (first_at Uniform t.behind f g) ∷ Copy Uniform t.high (second_at Uniform t.behind f g) ∷ [])
-    ++ flush (still held (Pair f g))
-    ++ (Decide Uniform truth.AtMost t.more t.turn t.high ∷ [])
-
--- a setting
-abbrev pub setting : Bool → ℕ → Turns → ℕ → List Instr
-setting held line t x =
-    begun true held line ++ Copy Uniform (variable x) t.turn ∷ Decide Uniform truth.Less t.more t.turn t.high
-    ∷ Calculate Uniform arithmetic.Add t.turn t.turn t.more 0 ∷ []
 
 -- the turns
 abbrev pub for_turns : ℕ → Bool → ℕ → Turns → ℕ → List Statement → List Instr

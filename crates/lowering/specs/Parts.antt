@@ -9,6 +9,7 @@ use Rattle.plain_form.specs.Groups.{value_at}
 use Rattle.plain_form.specs.Shapes as shapes
 use Rattle.plain_form.specs.Shapes.{still, counted, sent, looped, flipped}
 use Rattle.plain_form.specs.Inside.{Frame, steps_code, steps_left}
+use Rattle.straight_lowering.specs.Straight.{flags}
 
 abbrev pub frame : ℕ → Frame
 frame vote = record { keep = true; vote = vote }
@@ -20,19 +21,9 @@ are_some (x ∷ xs) = true
 
 -- ---- inside pardo
 
--- the test of an `if`
-abbrev pub masked : Bool → ℕ → ℕ → Formula → List Instr
-masked held line base f = counted true held line Private base f ++ Mask (value_at Private base f) ∷ []
-
 -- an else part, if there is one
 abbrev pub step_else : (vote base start : ℕ) → Bool → List Step → List Instr
 step_else vote base start held ss = flipped (are_some ss) start (λ start. steps_code (frame vote) base start held ss)
-
--- the test of a `while`
-abbrev pub flags : Bool → ℕ → (vote flag base : ℕ) → Formula → List Instr
-flags held line vote flag base f =
-    counted true held line Private base f
-    ++ Copy Private flag (value_at Private base f) ∷ Unmask ∷ Mask flag ∷ Vote vote ∷ []
 
 -- a body, and the send of what it holds
 abbrev pub sent_steps : (vote base : ℕ) → Bool → List Step → ℕ → List Instr

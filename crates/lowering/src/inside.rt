@@ -6,62 +6,11 @@ ghost use Rattle.plain_form.specs.Shapes as shapes;
 ghost use Rattle.plain_form.specs.Formulas.{formula_of};
 ghost use Rattle.lowering.specs.Parts as parts;
 ghost use Rattle.lowering.specs.Parts.{frame};
-ghost use Rattle.lowering.specs.Written.{wrote};
+ghost use Rattle.straight_lowering.specs.Written.{wrote};
 
-use crate::assignment::step_assign;
-use crate::cursor::next_register;
-use crate::emitter::Emitter;
-use crate::refusal::LowerRefusal;
-use crate::values::{Operands, count};
 use pram_check::{Expression, Step};
-use superstep_code::{Instr, Side};
-
-// The test of an `if`.
-fn masked(out: &mut Emitter, line: u32, test: &Expression, base: u16) -> Result<(), LowerRefusal>
-    ensures { OnOk result (out.new ≡ wrote (parts.masked out.old.held line base (formula_of test.now))
-        (shapes.still out.old.held (formula_of test.now)) out.old) }
-{
-    let values = count(out, Side::Private, line, Operands::Value(test), base)?;
-    out.push(Instr::Mask {
-        source: values.first,
-    })
-}
-
-// The flag of a `while` is set, and the mask on it.
-fn flagged(out: &mut Emitter, flag: u16) -> Result<(), LowerRefusal>
-    ensures { OnOk result (out.new ≡ wrote (shapes.flagged out.old.held flag) false out.old) }
-{
-    out.flush()?;
-    out.push(Instr::Set {
-        side: Side::Private,
-        destination: flag,
-        value: 1,
-    })?;
-    out.push(Instr::Mask { source: flag })
-}
-
-// The test of a `while`.
-fn flags(
-    out: &mut Emitter,
-    line: u32,
-    test: &Expression,
-    vote: u16,
-    flag: u16,
-    base: u16,
-) -> Result<(), LowerRefusal>
-    ensures { OnOk result (out.new ≡ wrote (parts.flags out.old.held line vote flag base (formula_of test.now))
-        (shapes.still out.old.held (formula_of test.now)) out.old) }
-{
-    let values = count(out, Side::Private, line, Operands::Value(test), base)?;
-    out.push(Instr::Copy {
-        side: Side::Private,
-        destination: flag,
-        source: values.first,
-    })?;
-    out.push(Instr::Unmask)?;
-    out.push(Instr::Mask { source: flag })?;
-    out.push(Instr::Vote { destination: vote })
-}
+use straight_lowering::{Emitter, LowerRefusal, flagged, flags, masked, next_register, step_assign};
+use superstep_code::Instr;
 
 /// A statement inside pardo, with all that it holds. Votes go to the uniform register `vote`, and
 /// the private registers from `base` on are free.

@@ -1,18 +1,10 @@
 //! The code of an accepted program.
 #![tactic(auto)]
 
-mod assignment;
-mod cursor;
-mod emitter;
 mod finish;
 mod inside;
-mod operator;
 mod outside;
 mod program;
-mod reads;
-mod refusal;
-mod region;
-mod values;
 
 pub use program::lower;
-pub use refusal::LowerRefusal;
+pub use straight_lowering::LowerRefusal;

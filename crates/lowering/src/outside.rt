@@ -9,134 +9,14 @@ ghost use Rattle.plain_form.specs.Registers as registers;
 ghost use Rattle.plain_form.specs.Shapes as shapes;
 ghost use Rattle.lowering.specs.Blocks as blocks;
 ghost use Rattle.superstep_code.specs.declared.instr.Side.TheVariants as Side;
-ghost use Rattle.lowering.specs.Written.{wrote};
+ghost use Rattle.straight_lowering.specs.Written.{wrote};
 
-use crate::assignment::{assign, print};
-use crate::cursor::{next_number, next_register};
-use crate::emitter::{Emitter, short};
 use crate::inside::steps;
-use crate::refusal::LowerRefusal;
-use crate::region::{INDEX, local, variable};
-use crate::values::{Operands, count};
 use pram_check::{Expression, Statement, Step};
-use superstep_code::{Arithmetic, Instr, Side, Truth};
-
-/// The uniform registers of an open `for`.
-#[derive(Clone, Copy)]
-struct Turns {
-    turn: u16,
-    high: u16,
-    more: u16,
-    behind: u16,
-}
-
-// Those from the first that is free on.
-fn turns_from(free: u16) -> Result<Turns, LowerRefusal>
-    ensures { IfOk result (λ t. t ≡ record {
-      turn = registers.turn free;
-      high = registers.high free;
-      more = registers.more free;
-      behind = registers.behind_turns free;
-    }) }
-{
-    let high = next_register(free)?;
-    let more = next_register(high)?;
-    let behind = next_register(more)?;
-    Ok(Turns {
-        turn: free,
-        high,
-        more,
-        behind,
-    })
-}
-
-// The bounds of a `for`, and whether there is a first turn.
-fn bounds(
-    out: &mut Emitter,
-    line: u32,
-    low: &Expression,
-    high: &Expression,
-    turns: Turns,
-) -> Result<(), LowerRefusal>
-    ensures { OnOk result (out.new ≡ wrote
-        (blocks.bounds out.old.held line turns (formula_of low.now) (formula_of high.now)) false out.old) }
-{
-    let values = count(
-        out,
-        Side::Uniform,
-        line,
-        Operands::Both(low, high),
-        turns.behind,
-    )?;
-    out.push(Instr::Copy {
-        side: Side::Uniform,
-        destination: turns.turn,
-        source: values.first,
-    })?;
-    out.push(Instr::Copy {
-        side: Side::Uniform,
-        destination: turns.high,
-        source: values.second,
-    })?;
-    out.flush()?;
-    out.push(Instr::Decide {
-        side: Side::Uniform,
-        operation: Truth::AtMost,
-        destination: turns.more,
-        left: turns.turn,
-        right: turns.high,
-    })
-}
-
-// A setting of the variable of a `for`.
-fn setting(out: &mut Emitter, line: u32, number: usize, turns: Turns) -> Result<(), LowerRefusal>
-    ensures { OnOk result (out.new ≡ wrote (blocks.setting out.old.held line turns number) out.old.held out.old) }
-{
-    let destination = variable(number)?;
-    out.mark(line)?;
-    out.push(Instr::Copy {
-        side: Side::Uniform,
-        destination,
-        source: turns.turn,
-    })?;
-    out.push(Instr::Decide {
-        side: Side::Uniform,
-        operation: Truth::Less,
-        destination: turns.more,
-        left: turns.turn,
-        right: turns.high,
-    })?;
-    out.push(Instr::Calculate {
-        side: Side::Uniform,
-        operation: Arithmetic::Add,
-        destination: turns.turn,
-        left: turns.turn,
-        right: turns.more,
-        position: 0,
-    })
-}
-
-// The beginning of a pardo.
-fn entered(
-    out: &mut Emitter,
-    line: u32,
-    low: &Expression,
-    high: &Expression,
-    free: u16,
-) -> Result<(), LowerRefusal>
-    ensures { OnOk result (out.new ≡ wrote
-        (shapes.entered true out.old.held line free (formula_of low.now) (formula_of high.now))
-        (shapes.still out.old.held (formulas.Pair (formula_of low.now) (formula_of high.now))) out.old) }
-{
-    let values = count(out, Side::Uniform, line, Operands::Both(low, high), free)?;
-    let position = next_number(values.behind.position)?;
-    out.push(Instr::Enter {
-        low: values.first,
-        high: values.second,
-        position,
-    })?;
-    out.push(Instr::Index { destination: INDEX })
-}
+use straight_lowering::{
+    Emitter, LowerRefusal, Turns, assign, bounds, entered, local, parted, print, setting, short, tested, turns_from,
+};
+use superstep_code::Instr;
 
 // A pardo.
 fn pardo(
@@ -156,27 +36,6 @@ fn pardo(
     entered(out, line, low, high, free)?;
     steps(out, body, free, base)?;
     out.push(Instr::Leave)
-}
-
-// The test of an `if` or a `while`: the register with its value.
-fn tested(out: &mut Emitter, line: u32, test: &Expression, free: u16) -> Result<u16, LowerRefusal>
-    ensures register { IfOk result (λ r. r ≡ groups.value_at Side.Uniform free (formula_of test.now)) }
-    ensures written { IfOk result (λ r. out.new ≡ wrote
-        (shapes.counted true out.old.held line Side.Uniform free (formula_of test.now))
-        (shapes.still out.old.held (formula_of test.now)) out.old) }
-{
-    let values = count(out, Side::Uniform, line, Operands::Value(test), free)?;
-    Ok(values.first)
-}
-
-// The test of an `if`, behind which nothing is held.
-fn parted(out: &mut Emitter, line: u32, test: &Expression, free: u16) -> Result<u16, LowerRefusal>
-    ensures register { IfOk result (λ r. r ≡ groups.value_at Side.Uniform free (formula_of test.now)) }
-    ensures written { IfOk result (λ r. out.new ≡ wrote (blocks.parted out.old.held line free (formula_of test.now)) false out.old) }
-{
-    let source = tested(out, line, test, free)?;
-    out.flush()?;
-    Ok(source)
 }
 
 /// A statement outside pardo, with all that it holds. The uniform registers from `free` on are free.

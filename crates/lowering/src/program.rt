@@ -6,15 +6,13 @@ ghost use Rattle.pram_check.specs.Bounded.{IsBounded};
 ghost use Rattle.pram_check.specs.Checked.{IsResolved};
 ghost use Rattle.plain_form.specs.PlainForm.{form_of, instructions_of};
 
-use crate::emitter::Emitter;
 use crate::finish::{all_fit, registers};
 use crate::outside::statement;
-use crate::refusal::LowerRefusal;
-use crate::region::variable;
 use bsp_verify::{Verified, VerifyFault, verify};
 use pram_check::Program;
 use pram_model::Layout;
 use std::alloc::Global;
+use straight_lowering::{Emitter, LowerRefusal, variable};
 use superstep_code::{Code, Instr, Side};
 
 // The instructions of a program.

@@ -1,7 +1,8 @@
 use Rattle.plain_form.specs.Formulas.{formula_of}
 use Rattle.plain_form.specs.Shapes.{still}
 use Rattle.plain_form.specs.Inside.{steps_code, steps_left}
-use Rattle.lowering.specs.Parts.{frame, flags, sent_steps}
+use Rattle.lowering.specs.Parts.{frame, sent_steps}
+use Rattle.straight_lowering.specs.Straight.{flags}
 use Rattle.lowering.proofs.Filling.{looped_is, sent_part, on_ok}
 use Rattle.lowering.proofs.StepParts.{steps_more, while_is, if_is}
 use Rattle.lowering.proofs.inside.+inside.Goals as goal

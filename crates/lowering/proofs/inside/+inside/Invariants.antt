@@ -1,7 +1,7 @@
 use Rattle.std.proofs.Common.{◌≡◌, take, length}
 use Rattle.plain_form.specs.Inside.{steps_code, steps_left}
 use Rattle.lowering.specs.Parts.{frame}
-use Rattle.lowering.specs.Written.{wrote}
+use Rattle.straight_lowering.specs.Written.{wrote}
 use Rattle.lowering.proofs.inside.+inside.Given as goal
 
 -- the statements so far

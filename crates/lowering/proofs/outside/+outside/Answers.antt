@@ -1,8 +1,9 @@
 use Rattle.std.proofs.Common.{ap, ◌∙◌, true, false, length, nat_eq}
 use Rattle.plain_form.specs.Formulas.{formula_of}
 use Rattle.plain_form.specs.Shapes.{still, counted, looped}
-use Rattle.lowering.specs.Blocks.{part, setting}
-use Rattle.lowering.specs.Written.{wrote}
+use Rattle.lowering.specs.Blocks.{part}
+use Rattle.straight_lowering.specs.Straight.{setting}
+use Rattle.straight_lowering.specs.Written.{wrote}
 use Rattle.superstep_code.specs.declared.instr.Side.TheVariants.{Uniform}
 use Rattle.lowering.proofs.Filling.{looped_is, turned_is, else_is, some_joined, on_ok}
 use Rattle.lowering.proofs.StatementParts.{statements_more, while_is, for_is, if_is}

@@ -1,6 +1,6 @@
 use Rattle.std.proofs.Common.{◌≡◌, true, take, length}
 use Rattle.plain_form.specs.Outside.{statements_code, statements_left}
-use Rattle.lowering.specs.Written.{wrote}
+use Rattle.straight_lowering.specs.Written.{wrote}
 use Rattle.lowering.proofs.StatementParts.{nothing}
 use Rattle.lowering.proofs.program.instructions.Given as goal
 

@@ -1,8 +1,0 @@
-use Rattle.std.proofs.Common.{◌≡◌}
-use Rattle.plain_form.specs.Formulas.{nesting}
-use Rattle.lowering.specs.Cursors.{so_far}
-use Rattle.lowering.proofs.reads.+nesting.Given as goal
-
--- in the links so far
-abbrev pub invariant-loop-link : goal.invariant-loop-link
-invariant-loop-link l = l.most ≡ nesting (so_far l.e l.link-items l.link-index)

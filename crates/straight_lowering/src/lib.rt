@@ -1,0 +1,21 @@
+//! The straight parts of the code of statements: what each evaluates, up to where control parts.
+#![tactic(auto)]
+
+mod assignment;
+mod conditions;
+mod cursor;
+mod emitter;
+mod operator;
+mod ranges;
+mod reads;
+mod refusal;
+mod region;
+mod values;
+
+pub use assignment::{assign, print, step_assign};
+pub use conditions::{flagged, flags, masked, parted, tested};
+pub use cursor::next_register;
+pub use emitter::{Emitter, short};
+pub use ranges::{Turns, bounds, entered, setting, turns_from};
+pub use refusal::LowerRefusal;
+pub use region::{local, variable};
