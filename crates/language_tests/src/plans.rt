@@ -195,12 +195,40 @@ code 19
 18 halt
 ";
 
-const PLANS: [(&[u8], &[u8]); 5] = [
+// The run that docs/MACHINE.md follows from its text to its exchanges.
+const REVERSED: &[u8] =
+    b"rule erew; procs 4;\nshared a[1..4]; begin\nfor 1 <= i <= 4 pardo a[i] := a[5-i]; end\nend\n";
+
+const REVERSED_PLAN: &[u8] = b"bsp 1
+rule erew
+procs 4
+array a 1 4
+uniform 3
+private 4
+code 14
+0 mark 3
+1 uset 1 1
+2 uset 2 4
+3 enter 1 2 1
+4 pindex 1
+5 mark 3
+6 pset 3 5
+7 psub 3 3 1 1
+8 pask 2 0 3 2
+9 send
+10 reply
+11 pput 0 1 2 3
+12 leave
+13 halt
+";
+
+const PLANS: [(&[u8], &[u8]); 6] = [
     (SUM, SUM_PLAN),
     (LOOP, LOOP_PLAN),
     (COUNTDOWN, COUNTDOWN_PLAN),
     (LATE, LATE_PLAN),
     (HELD, HELD_PLAN),
+    (REVERSED, REVERSED_PLAN),
 ];
 
 #[test]
