@@ -9,7 +9,9 @@ ghost use Rattle.lowering.specs.Parts.{frame};
 ghost use Rattle.straight_lowering.specs.Written.{wrote};
 
 use pram_check::{Expression, Step};
-use straight_lowering::{Emitter, LowerRefusal, flagged, flags, masked, next_register, step_assign};
+use straight_lowering::{
+    Emitter, LowerRefusal, flagged, flags, masked, next_register, step_assign,
+};
 use superstep_code::Instr;
 
 /// A statement inside pardo, with all that it holds. Votes go to the uniform register `vote`, and

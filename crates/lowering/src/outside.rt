@@ -14,7 +14,8 @@ ghost use Rattle.straight_lowering.specs.Written.{wrote};
 use crate::inside::steps;
 use pram_check::{Expression, Statement, Step};
 use straight_lowering::{
-    Emitter, LowerRefusal, Turns, assign, bounds, entered, local, parted, print, setting, short, tested, turns_from,
+    Emitter, LowerRefusal, Turns, assign, bounds, entered, local, parted, print, setting, short,
+    tested, turns_from,
 };
 use superstep_code::Instr;
 

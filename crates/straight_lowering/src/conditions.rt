@@ -15,7 +15,12 @@ use pram_check::Expression;
 use superstep_code::{Instr, Side};
 
 /// The test of an `if` or a `while`: the register with its value.
-pub fn tested(out: &mut Emitter, line: u32, test: &Expression, free: u16) -> Result<u16, LowerRefusal>
+pub fn tested(
+    out: &mut Emitter,
+    line: u32,
+    test: &Expression,
+    free: u16,
+) -> Result<u16, LowerRefusal>
     ensures register { IfOk result (λ r. r ≡ groups.value_at Side.Uniform free (formula_of test.now)) }
     ensures written { IfOk result (λ r. out.new ≡ wrote
         (shapes.counted true out.old.held line Side.Uniform free (formula_of test.now))
@@ -26,7 +31,12 @@ pub fn tested(out: &mut Emitter, line: u32, test: &Expression, free: u16) -> Res
 }
 
 /// The test of an `if`, behind which nothing is held.
-pub fn parted(out: &mut Emitter, line: u32, test: &Expression, free: u16) -> Result<u16, LowerRefusal>
+pub fn parted(
+    out: &mut Emitter,
+    line: u32,
+    test: &Expression,
+    free: u16,
+) -> Result<u16, LowerRefusal>
     ensures register { IfOk result (λ r. r ≡ groups.value_at Side.Uniform free (formula_of test.now)) }
     ensures written { IfOk result (λ r. out.new ≡ wrote (straight.parted out.old.held line free (formula_of test.now)) false out.old) }
 {
@@ -36,7 +46,12 @@ pub fn parted(out: &mut Emitter, line: u32, test: &Expression, free: u16) -> Res
 }
 
 /// The test of an `if`.
-pub fn masked(out: &mut Emitter, line: u32, test: &Expression, base: u16) -> Result<(), LowerRefusal>
+pub fn masked(
+    out: &mut Emitter,
+    line: u32,
+    test: &Expression,
+    base: u16,
+) -> Result<(), LowerRefusal>
     ensures { OnOk result (out.new ≡ wrote (straight.masked out.old.held line base (formula_of test.now))
         (shapes.still out.old.held (formula_of test.now)) out.old) }
 {

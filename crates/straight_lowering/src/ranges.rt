@@ -84,7 +84,12 @@ pub fn bounds(
 }
 
 /// A setting of the variable of a `for`.
-pub fn setting(out: &mut Emitter, line: u32, number: usize, turns: Turns) -> Result<(), LowerRefusal>
+pub fn setting(
+    out: &mut Emitter,
+    line: u32,
+    number: usize,
+    turns: Turns,
+) -> Result<(), LowerRefusal>
     ensures { OnOk result (out.new ≡ wrote (straight.setting out.old.held line turns number) out.old.held out.old) }
 {
     let destination = variable(number)?;
