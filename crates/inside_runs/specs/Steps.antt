@@ -21,30 +21,30 @@ use Rattle.inside_runs.specs.Within.{IsWithin}
 
 -- The run is behind a part of a body, in the same frame, with the uniform registers below the one for votes as they were.
 pub record GoesWithin (p : Checked) (t : Run) (locals base vote : ℕ) (fr : frames.Frame) (left : Bool) (place spent : ℕ) (f : Flat)
-  (m : State) : Type 0 where
-    pub behind : Flat
-    pub within : IsWithin p t locals base fr left m place spent behind
-    pub registers : (r : ℕ) → r < vote → behind.uniform.registers r ≡ f.uniform.registers r
+    (m : State) : Type 0 where
+  pub behind : Flat
+  pub within : IsWithin p t locals base fr left m place spent behind
+  pub registers : (r : ℕ) → r < vote → behind.uniform.registers r ≡ f.uniform.registers r
 
 -- what a part of a body is run from: it stands there, faults behind it are told, its registers are free and its names can be named
 pub record MayRunWithin (p : Checked) (t : Run) (w : Frame) (locals base : ℕ) (fr : frames.Frame) (held : Bool) (ss : List Step) (m : State)
-  (place spent : ℕ) (f : Flat) : Type 0 where
-    pub of : IsRunOf p t
-    pub free : behind_locals locals ≤ base
-    pub vote : behind_variables p.uniforms ≤ w.vote
-    pub named : AreSteps (with_locals locals (names_of p)) ss
-    pub stand : Stand t place (steps_code w base place held ss)
-    pub calm : IsCalm t.code (place + length (steps_code w base place held ss))
-    pub within : IsWithin p t locals base fr held m place spent f
+    (place spent : ℕ) (f : Flat) : Type 0 where
+  pub of : IsRunOf p t
+  pub free : behind_locals locals ≤ base
+  pub vote : behind_variables p.uniforms ≤ w.vote
+  pub named : AreSteps (with_locals locals (names_of p)) ss
+  pub stand : Stand t place (steps_code w base place held ss)
+  pub calm : IsCalm t.code (place + length (steps_code w base place held ss))
+  pub within : IsWithin p t locals base fr held m place spent f
 
 -- The statements of a body, on the processors of a frame: the run follows them, by no more exchanges than their events have.
 pub record FollowsSteps (p : Checked) (t : Run) (w : Frame) (locals base : ℕ) (fr : frames.Frame) (held : Bool) (ss : List Step) (m : State)
-  (place spent : ℕ) (f : Flat) : Type 0 where
-    pub follows : Follows t spent held (steps_events p t.bound ss (present fr) m)
-        (GoesWithin p t locals base w.vote fr (steps_left held ss) (place + length (steps_code w base place held ss))
-        (spent + events.spent (steps_events p t.bound ss (present fr) m) held) f)
-        (perform_list_on p t.bound ss (present fr) m)
-    pub left : HoldsBehind held (steps_events p t.bound ss (present fr) m) (steps_left held ss) (perform_list_on p t.bound ss (present fr) m)
+    (place spent : ℕ) (f : Flat) : Type 0 where
+  pub follows : Follows t spent held (steps_events p t.bound ss (present fr) m)
+      (GoesWithin p t locals base w.vote fr (steps_left held ss) (place + length (steps_code w base place held ss))
+      (spent + events.spent (steps_events p t.bound ss (present fr) m) held) f)
+      (perform_list_on p t.bound ss (present fr) m)
+  pub left : HoldsBehind held (steps_events p t.bound ss (present fr) m) (steps_left held ss) (perform_list_on p t.bound ss (present fr) m)
 
 abbrev pub StepsAreFollowed : Type 0
 StepsAreFollowed = (p : Checked) (t : Run) (w : Frame) (locals base : ℕ) (fr : frames.Frame) (held : Bool) (ss : List Step) (m : State)

@@ -1,2 +1,4 @@
 //! Statements inside pardo on the machine.
 #![tactic(auto)]
+
+pub mod law;
