@@ -49,7 +49,7 @@ put_below rule n w l (x ∷ held) h = go (eqb x.cell w.cell) (put_below rule n w
     go true rest = (h.0, h.1)
     go false rest = (h.0, rest)
 
-held_below : (rule : Rule) (n : ℕ) (ws : List HeldWrite) (held : List CellPut) → AllByRecursion (λ (w : HeldWrite). w.cell < n) ws
+pub held_below : (rule : Rule) (n : ℕ) (ws : List HeldWrite) (held : List CellPut) → AllByRecursion (λ (w : HeldWrite). w.cell < n) ws
     → AllByRecursion (IsPutBelow n) held → AllByRecursion (IsPutBelow n) (held_after rule ws held)
 held_below rule n [] held f h = h
 held_below rule n (w ∷ ws) held f h = held_below rule n ws (put rule w held) f.1 (put_below rule n w f.0 held h)

@@ -129,7 +129,7 @@ module _ (t : Setting) where
   taken_at (c ∷ cs) (suc j) h = taken_at cs j h.1
 
   module _ (code : IsCode t.code) (room : IsMapFor t.code t.map) (w : ℕ) (l : w < workers t) (x : Worker) (k : IsKept t w x) where
-    fits_worker : length x.uniform.asks ≤ 8 → FitsWorker t x
+    pub fits_worker : length x.uniform.asks ≤ 8 → FitsWorker t x
     fits_worker few = record {
       small = room.lawful.small;
       writes = all_also (IsWriteBelow t.map.count) FitsWrite (λ h b. b.fits) x.held k.writes;
@@ -198,7 +198,7 @@ module _ (t : Setting) where
         let c = length-map x.held (λ (h : HeldWrite). h.cell) in
         let d = k.few_held l in omega (arith, a, b, c, d)
 
-    sent_message : (s : states.State) → DescribesWorker t w s x → IsWithin s → (j : ℕ) → MessageFits j Sends (sent t x j)
+    pub sent_message : (s : states.State) → DescribesWorker t w s x → IsWithin s → (j : ℕ) → MessageFits j Sends (sent t x j)
     sent_message s d within j =
         let few : length x.uniform.asks ≤ 8 = (let a = d.asks in let b = within.asks in omega (arith, a, b)) in
         let a = held_asks_few s d in

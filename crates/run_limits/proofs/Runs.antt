@@ -276,7 +276,7 @@ module _ (t : Setting) (code : IsCode t.code) (room : IsMapFor t.code t.map) whe
   pub readies_kept : (w : ℕ) (s : State) → IsKept t w s.worker → IsKept t w (ready t w s).state.worker
   readies_kept w s h = ready_kept t code w (IsKept t w) (keeps w) (none_kept t w) s h
 
-  after_kept : (w : ℕ) (r : Ready) (messages : List Message) → IsKept t w r.state.worker → AreOfValues messages →
+  pub after_kept : (w : ℕ) (r : Ready) (messages : List Message) → IsKept t w r.state.worker → AreOfValues messages →
       IsKept t w (after t w r messages).worker
   after_kept w r messages h m = marks (mark_of messages)
     where

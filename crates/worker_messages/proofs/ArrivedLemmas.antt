@@ -1,0 +1,224 @@
+-- A worker comes to an exchange.
+use Rattle.std.proofs.Common.{◌≡◌, ℕ, ◌+◌, ◌-◌, ◌*◌, ◌<◌, ◌≤◌, [], length, map, Bool, true, false, Some, refl, sym, ap, subst, ◌∙◌, arith}
+use Rattle.std.specs.Prelude.{slice_get, slice_index_or, if◌then◌else◌}
+use Rattle.std.proofs.lemmas.Nat.{mul-le}
+use Rattle.address_map.specs.Lawful.{Shape}
+use Rattle.superstep_code.specs.Code.{SuperstepCode}
+use Rattle.superstep_machine.specs.declared.mark.HeaderMark.TheVariants.{Clear}
+use Rattle.superstep_machine.specs.Setting.{Setting}
+use Rattle.superstep_machine.specs.Parts.{UniformPart}
+use Rattle.superstep_machine.specs.Worker.{Worker}
+use Rattle.superstep_machine.specs.Stretch.{Arrival, At}
+use Rattle.superstep_machine.specs.Run as machine
+use Rattle.superstep_machine.specs.Run.{setting, is_held}
+use Rattle.superstep_steps.specs.Views.{put_is}
+use Rattle.bsp_verify.specs.Judging.{is_mark}
+use Rattle.worker_bank.specs.Bank.{IsSameBank}
+use Rattle.combining.specs.Adding.{unanswered}
+use Rattle.worker_steps.specs.declared.stop.Stop.{Stop}
+use Rattle.worker_steps.specs.declared.stop.Stop.TheVariants as stops
+use Rattle.worker_steps.specs.declared.worker.WorkerState.{WorkerState}
+use Rattle.worker_steps.specs.Fitted.{IsFitted}
+use Rattle.worker_steps.specs.Met.{IsVerifiedAt}
+use Rattle.worker_steps.specs.Stretch.{stop_is, rank_of, rank, stretch_by, Arrives, ArrivesAt, StandsAt}
+use Rattle.worker_messages.specs.declared.step.Step.TheVariants as steps
+use Rattle.worker_messages.specs.declared.way.Way.{Way}
+use Rattle.worker_messages.specs.declared.way.Way.TheVariants as ways
+use Rattle.worker_messages.specs.declared.local.Local.{Local}
+use Rattle.worker_messages.specs.Reached.{IsReached, most_instructions}
+use Rattle.worker_messages.specs.Shown.{way_is, purpose_is, place_behind, ShowsWorker, IsShown, IsAtExchange}
+use Rattle.worker_messages.specs.Equipped.{IsEquipped, MayGoOn, IsAtStep, instr_of}
+use Rattle.worker_messages.specs.Arrived.{step_at, way_at, stopped_at, HasArrived}
+
+-- ---- the definition's worker
+
+-- what is shown of where it stands
+pub record IsAtReady (t : Setting) (w : ℕ) (x : Local) (r : machine.Ready) : Type 0 where
+  pub purpose : r.purpose ≡ purpose_is x.step
+  pub way : r.state.way ≡ way_is x.way
+  pub place : r.state.place ≡ place_behind x.way x.steps.place
+  pub worker : ShowsWorker t w x r.state.worker
+
+module _ (t : Setting) (w : ℕ) (s : machine.State) (clear : s.refusals ≡ []) where
+  pub ready_is : machine.ready t w s ≡ machine.ready_by t w s s.way
+  ready_is = ap (λ ms. machine.ready_with t w s (machine.mark_now ms)) clear
+
+  pub at_exchange : (x : Local) (n : ℕ) → IsReached t w n s → (r : machine.Ready) → machine.ready t w s ≡ r → IsAtReady t w x r →
+      IsAtExchange t w x s
+  at_exchange x n reached r e at = record {
+    exchanges = n;
+    reached = reached;
+    purpose = ap (λ (q : machine.Ready). q.purpose) e ∙ at.purpose;
+    way = ap (λ (q : machine.Ready). q.state.way) e ∙ at.way;
+    place = ap (λ (q : machine.Ready). q.state.place) e ∙ at.place;
+    clear = clear;
+    worker = subst (λ (q : machine.Ready). ShowsWorker t w x q.state.worker) (sym e) at.worker;
+  }
+
+-- ---- the number of instructions
+
+tail_most : (b : Bool) (n k : ℕ) → (if b then 0 else n - k) ≤ n
+tail_most true n k = omega arith
+tail_most false n k = omega arith
+
+pub rank_most : (code : SuperstepCode) (bound : ℕ) (x : WorkerState) → rank code bound x ≤ most_instructions code bound
+rank_most code bound x =
+    let n = length code.instructions in
+    let a = tail_most (is_mark (slice_get code.instructions x.place)) n x.place in
+    let b : (bound - x.uniform.count) * (n + 1) ≤ bound * (n + 1) = mul-le (bound - x.uniform.count) (n + 1) bound (n + 1) (omega arith)
+    (omega arith) in
+    omega (arith, a, b)
+
+-- ---- where its code stops
+
+close_is : (held : Bool) → (if held then machine.Sends else machine.Closes) ≡ purpose_is (if held then steps.Send else steps.Close)
+close_is true = refl
+close_is false = refl
+
+still_going : (stop : Stop) (way : Way) → machine.is_over (way_is way) ≡ false → machine.is_over (way_is (way_at stop way)) ≡ false
+still_going (stops.Close ended) way h = refl
+still_going stop way h = h
+
+module _ (code : SuperstepCode) (m : Shape) (bound : ℕ) (a : Local) (y : WorkerState) (on : a.way ≡ ways.On)
+    (go : MayGoOn code m bound a) where
+  abbrev moved : Local
+  moved = record a { steps = y }
+
+  stands_at : (stop : Stop) → StandsAt code bound (stop_is stop) y → way_at stop a.way ≡ ways.On →
+      slice_get code.instructions y.place ≡ Some (instr_of (step_at stop (is_held (put_is y.uniform.put))))
+  stands_at stops.Send h e = h
+  stands_at stops.Reply h e = h
+  stands_at (stops.Vote d) h e = h
+  stands_at (stops.Close ended) h e = absurd (cc e)
+
+  equipped_still : IsFitted code y → IsSameBank a.steps.bank y.bank → IsEquipped code m moved
+  equipped_still fitted same =
+      let e = go.equipped in record {
+        fitted = fitted;
+        workers = same.workers ∙ e.workers;
+        sent = (let n = same.most in let k = e.sent in omega (arith, n, k));
+        cells = e.cells ∙ ap m.width (sym same.worker);
+        asked = e.asked;
+        few = e.few;
+        buffers = e.buffers;
+      }
+
+  module _ (t : Setting) (s : machine.State) (place : ℕ) (z : Worker) (way : s.way ≡ way_is a.way)
+      (worker : ShowsWorker t a.steps.bank.worker moved z) where
+    at_ready : (stop : Stop) → IsAtReady t a.steps.bank.worker (stopped_at stop moved) (machine.ready_at s (At (stop_is stop) y.place z))
+    at_ready stops.Send = record {
+      purpose = refl;
+      way = way;
+      place = ap (λ v. place_behind v y.place) (sym on);
+      worker = record { shows = worker.shows; cells = worker.cells; sent = worker.sent; taken = worker.taken };
+    }
+    at_ready stops.Reply = record {
+      purpose = refl;
+      way = way;
+      place = ap (λ v. place_behind v y.place) (sym on);
+      worker = record { shows = worker.shows; cells = worker.cells; sent = worker.sent; taken = worker.taken };
+    }
+    at_ready (stops.Vote d) = record {
+      purpose = refl;
+      way = way;
+      place = ap (λ v. place_behind v y.place) (sym on);
+      worker = record { shows = worker.shows; cells = worker.cells; sent = worker.sent; taken = worker.taken };
+    }
+    at_ready (stops.Close ended) = record {
+      purpose = ap (λ (u : UniformPart). if is_held u.put then machine.Sends else machine.Closes) worker.shows.uniform
+          ∙ close_is (is_held (put_is y.uniform.put));
+      way = refl;
+      place = refl;
+      worker = record { shows = worker.shows; cells = worker.cells; sent = worker.sent; taken = worker.taken };
+    }
+
+  pub arrived : (stop : Stop) → ArrivesAt code bound (stop_is stop) a.steps y → StandsAt code bound (stop_is stop) y → IsFitted code y →
+      IsVerifiedAt code y → y.uniform.count ≤ bound → IsSameBank a.steps.bank y.bank → HasArrived code m bound a (stopped_at stop moved)
+  arrived stop arrives stands fitted verified count same =
+      let e = equipped_still fitted same in record {
+        at = record {
+          equipped = record {
+            fitted = e.fitted;
+            workers = e.workers;
+            sent = e.sent;
+            cells = e.cells;
+            asked = e.asked;
+            few = e.few;
+            buffers = e.buffers;
+          };
+          going = still_going stop a.way go.going;
+          count = count;
+          verified = λ h. verified;
+          stands = stands_at stop stands;
+        };
+        shown = λ n s enough sh.
+            let t = setting code m bound n in
+            let lt : rank code bound a.steps < n = (let r = rank_most code bound a.steps in omega (arith, r, enough)) in
+            let k = arrives t s.worker n (record {
+              code_is = refl;
+              bound_is = refl;
+              as_many = sym go.equipped.workers;
+              shows = sh.worker.shows;
+            }) lt in
+            let at : machine.stretch t a.steps.bank.worker s ≡ At (stop_is stop) y.place k.worker =
+            ap (λ p. stretch_by t a.steps.bank.worker n p s.worker) sh.place ∙ k.at in
+            let is : machine.ready t a.steps.bank.worker s ≡ machine.ready_at s (At (stop_is stop) y.place k.worker) =
+            ready_is t a.steps.bank.worker s sh.clear
+            ∙ ap (machine.ready_by t a.steps.bank.worker s) (sh.way ∙ ap way_is on)
+            ∙ ap (machine.ready_at s) at in
+            at_exchange t a.steps.bank.worker s sh.clear (stopped_at stop moved) sh.exchanges sh.reached
+            (machine.ready_at s (At (stop_is stop) y.place k.worker)) is
+            (at_ready t s y.place k.worker sh.way
+            (record {
+              shows = k.shows;
+              cells = k.carried.cells ∙ sh.worker.cells;
+              sent = sh.worker.sent ∙ ap (map unanswered) (sym k.carried.wanted);
+              taken = λ j. ap (λ l. slice_index_or l j []) k.carried.taken ∙ sh.worker.taken j;
+            }) stop);
+        worker = same.worker;
+      }
+
+-- ---- a run that ends
+
+pub ended : (code : SuperstepCode) (m : Shape) (bound : ℕ) (a : Local) → MayGoOn code m bound a → (a.way ≡ ways.On → ⊥) →
+    HasArrived code m bound a (record a { step = steps.Close })
+ended code m bound a go off =
+    let e = go.equipped in record {
+      at = record {
+        equipped = record {
+          fitted = e.fitted;
+          workers = e.workers;
+          sent = e.sent;
+          cells = e.cells;
+          asked = e.asked;
+          few = e.few;
+          buffers = e.buffers;
+        };
+        going = go.going;
+        count = go.count;
+        verified = go.verified;
+        stands = λ h. absurd (off h);
+      };
+      shown = λ n s enough sh.
+          let t = setting code m bound n in
+          at_exchange t a.steps.bank.worker s sh.clear (record a { step = steps.Close }) sh.exchanges sh.reached
+          (record { purpose = machine.Closes; state = s }) (ready_is t a.steps.bank.worker s sh.clear ∙ closes t s a.way sh.way off)
+          (record {
+            purpose = refl;
+            way = sh.way;
+            place = sh.place ∙ stays a.way off a.steps.place;
+            worker = (let q = sh.worker in record { shows = q.shows; cells = q.cells; sent = q.sent; taken = q.taken });
+          });
+      worker = refl;
+    }
+  where
+    stays : (way : Way) → (way ≡ ways.On → ⊥) → (place : ℕ) → place ≡ place_behind way place
+    stays ways.On h place = absurd (h refl)
+    stays way h place = refl
+
+    closes : (t : Setting) (s : machine.State) (way : Way) → s.way ≡ way_is way → (way ≡ ways.On → ⊥) →
+        machine.ready_by t a.steps.bank.worker s s.way ≡ record { purpose = machine.Closes; state = s }
+    closes t s ways.On e h = absurd (h refl)
+    closes t s (ways.Ending ended) e h = ap (machine.ready_by t a.steps.bank.worker s) e
+    closes t s (ways.Past key ended) e h = ap (machine.ready_by t a.steps.bank.worker s) e
+    closes t s (ways.Stopped mark) e h = ap (machine.ready_by t a.steps.bank.worker s) e

@@ -1,0 +1,5 @@
+pub mod ActiveLemmas
+pub mod ReachedLemmas
+pub mod ArrivedLemmas
+pub mod WrittenLemmas
+pub mod ToldLemmas

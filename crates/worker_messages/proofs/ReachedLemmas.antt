@@ -1,0 +1,77 @@
+-- What is so of every state that a worker may come to.
+use Rattle.std.proofs.Common.{◌≡◌, ℕ, zero, suc, ◌<◌, List, [], ◌∷◌, Bool, true, false, refl, sym, ap, subst, ◌∙◌}
+use Rattle.std.specs.Prelude.{if◌then◌else◌}
+use Rattle.std.specs.List.{AllByRecursion}
+use Rattle.superstep_code.specs.Limits.{IsCode}
+use Rattle.superstep_machine.specs.Setting.{Setting, workers}
+use Rattle.superstep_machine.specs.Words.{Message}
+use Rattle.superstep_machine.specs.Worker.{Worker}
+use Rattle.superstep_machine.specs.Stretch.{ToSend, ToReply, ToVote, ToClose, Arrival, Nowhere, At}
+use Rattle.superstep_machine.specs.Run as machine
+use Rattle.bsp_verify.specs.declared.state.State as states
+use Rattle.bsp_verify.specs.WellFormed.{IsWellFormed}
+use Rattle.bsp_verify.specs.Paths.{IsWithin}
+use Rattle.bsp_verify.specs.Moments.{DescribesWorker}
+use Rattle.bsp_verify.proofs.PathLemmas.{paths_sound}
+use Rattle.bsp_verify.proofs.RunLemmas.{Arrives, follow, Agrees, next_agrees, begins}
+use Rattle.flat_machine.specs.Flatness.{IsMapFor}
+use Rattle.run_limits.specs.Within.{AreValues}
+use Rattle.run_limits.proofs.Keeping.{IsKept}
+use Rattle.run_limits.proofs.Runs.{KeptAt, until_kept, keeps, readies_kept, after_kept, opening_kept}
+use Rattle.worker_messages.specs.Reached.{IsReached}
+
+-- a worker that fits in words, with a path to its place
+pub record IsPathed (t : Setting) (w : ℕ) (y : Worker) : Type 0 where
+  pub kept : IsKept t w y
+  pub state : states.State
+  pub describes : DescribesWorker t w state y
+  pub within : IsWithin state
+
+module _ (t : Setting) (code : IsCode t.code) (room : IsMapFor t.code t.map) (formed : IsWellFormed t.code) (w : ℕ) where
+  pub reached_kept : (n : ℕ) (s : machine.State) → IsReached t w n s → IsKept t w s.worker
+  reached_kept zero s (input, values, e) = subst (λ (q : machine.State). IsKept t w q.worker) (sym e) (opening_kept t code room input values w)
+  reached_kept (suc n) s (before, column, r, values, e) =
+      subst (λ (q : machine.State). IsKept t w q.worker) (sym e)
+      (after_kept t code room w (machine.ready t w before) column (readies_kept t code room w before (reached_kept n before r)) values)
+
+  pub reached_agrees : (n : ℕ) (s : machine.State) → IsReached t w n s → Agrees t formed w s
+  reached_agrees zero s (input, values, e) = subst (Agrees t formed w) (sym e) (begins t formed w input)
+  reached_agrees (suc n) s (before, column, r, values, e) =
+      subst (Agrees t formed w) (sym e) (next_agrees t formed w column before (reached_agrees n before r))
+
+  -- where it sends it fits in words
+  sends_from : (s : machine.State) (a : Arrival Worker) → Arrives t formed w a → KeptAt t code w (IsKept t w) (keeps t code room w) a →
+      (machine.ready_at s a).purpose ≡ machine.Sends → IsPathed t w (machine.ready_at s a).state.worker
+  sends_from s Nowhere p k e = absurd (cc e)
+  sends_from s (At ToSend place y) p k e =
+      let q = p.there in record {
+        kept = k;
+        state = q.point.state;
+        describes = q.describes;
+        within = (paths_sound t.code formed q.steps q.point q.comes).within;
+      }
+  sends_from s (At ToReply place y) p k e = absurd (cc e)
+  sends_from s (At (ToVote d) place y) p k e = absurd (cc e)
+  sends_from s (At (ToClose ended) place y) p k e =
+      let q = p.there in record {
+        kept = k;
+        state = q.point.state;
+        describes = q.describes;
+        within = (paths_sound t.code formed q.steps q.point q.comes).within;
+      }
+
+  pub sends_pathed : (n : ℕ) (s : machine.State) → IsReached t w n s → s.refusals ≡ [] → (machine.ready t w s).purpose ≡ machine.Sends →
+      IsPathed t w (machine.ready t w s).state.worker
+  sends_pathed n s r clear =
+      subst (λ (r : machine.Ready). r.purpose ≡ machine.Sends → IsPathed t w r.state.worker)
+      (ap (λ ms. machine.ready_with t w s (machine.mark_now ms)) (sym clear)) (go s.way refl)
+    where
+      go : (way : machine.Way) → s.way ≡ way → (machine.ready_by t w s way).purpose ≡ machine.Sends →
+          IsPathed t w (machine.ready_by t w s way).state.worker
+      go machine.On e =
+          sends_from s (machine.stretch t w s) (follow t formed w t.enough s.place s.worker (reached_agrees n s r e))
+          (until_kept t code w (IsKept t w) (keeps t code room w) t.enough s.place s.worker (reached_kept n s r))
+      go (machine.Ending ended) e = λ h. absurd (cc h)
+      go (machine.Past key ended) e = λ h. absurd (cc h)
+      go (machine.Refused mark) e = λ h. absurd (cc h)
+      go machine.Lost e = λ h. absurd (cc h)

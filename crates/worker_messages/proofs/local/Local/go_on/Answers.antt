@@ -1,0 +1,17 @@
+use Rattle.std.proofs.Common.{sym, subst}
+use Rattle.worker_messages.specs.declared.step.Step.{Step}
+use Rattle.worker_messages.specs.declared.way.Way.{Way}
+use Rattle.worker_messages.specs.Arrived.{HasArrived}
+use Rattle.worker_messages.proofs.ArrivedLemmas.{arrived}
+use Rattle.worker_messages.proofs.local.Local.go_on.Goals as goal
+
+pub returns : goal.returns
+returns g c = λ m go.
+    let code = c.args.code.now in
+    let bound = c.args.bound in
+    let a = c.args.self.now in
+    let y = c.advance.new.self in
+    let e = c.in_ok-stop.ensures in
+    subst (λ (p : Way × Step). HasArrived code m bound a (record a { steps = y; way = p.0; step = p.1 }))
+    (λ i. (sym c.way_at-self.ensures i, sym c.step_at-self.ensures i))
+    (arrived code m bound a y c.requires.on go c.in_ok-stop.stop e.arrives e.stands e.fitted e.verified e.count e.same)

@@ -1,0 +1,56 @@
+use Rattle.std.proofs.Common.{◌≡◌, false, ◌<◌, sym, subst, ap, ◌∙◌, arith}
+use Rattle.message_rows.specs.Rows.{IsRow, written}
+use Rattle.superstep_machine.specs.Run.{setting, message_of}
+use Rattle.worker_messages.specs.declared.local.Local.{Local}
+use Rattle.worker_messages.specs.declared.way.Way.{Way}
+use Rattle.worker_messages.specs.Shown.{marked, IsAtExchange}
+use Rattle.worker_messages.specs.Equipped.{IsAtStep}
+use Rattle.worker_messages.specs.Arrived.{CanTell}
+use Rattle.worker_messages.specs.Told.{told}
+use Rattle.worker_messages.proofs.ToldLemmas.{told_is, same_row, can_tell, still_at, still_stands, unmarked}
+use Rattle.worker_messages.proofs.local.Local.until_exchange.Goals as goal
+
+pub tell-requires-clause-can : goal.tell-requires-clause-can
+tell-requires-clause-can g c =
+    let m = g.M.AddressMap.shape c.args.map.now in
+    subst (λ r. CanTell r m (g.W.Row.room c.args.row.now) c.arrive.new.self) (sym c.requires.rule)
+    (can_tell c.args.code.now m c.args.bound c.args.self.now c.arrive.new.self (g.W.Row.room c.args.row.now)
+    c.instructions-instructions.ensures.stands c.requires.going c.in-Ok.ensures c.requires.room)
+
+pub returns-in-Ok-clause-shown : goal.returns-in-Ok-clause-shown
+returns-in-Ok-clause-shown g c = λ going n s enough shown.
+    let t = setting c.args.code.now (g.M.AddressMap.shape c.args.map.now) c.args.bound n in
+    let w = c.args.self.now.steps.bank.worker in
+    let b = c.arrive.new.self in
+    subst (λ (x : Local). IsAtExchange t w x s) (sym c.tell.ensures.same)
+    (still_at b c.tell.new.self.buffers t w s (c.in-Ok.ensures.shown n s enough shown))
+
+pub returns-in-Ok-clause-at : goal.returns-in-Ok-clause-at
+returns-in-Ok-clause-at g c = λ going.
+    let code = c.args.code.now in
+    let m = g.M.AddressMap.shape c.args.map.now in
+    let at = c.in-Ok.ensures.at in
+    subst (λ (x : Local). IsAtStep code m c.args.bound x) (sym c.tell.ensures.same)
+    (still_stands c.arrive.new.self c.tell.new.self.buffers code m c.args.bound at
+    (c.tell.ensures.buffers _ at.equipped.buffers))
+
+pub returns-in-Ok-clause-row : goal.returns-in-Ok-clause-row
+returns-in-Ok-clause-row g c = λ n s enough shown.
+    let code = c.args.code.now in
+    let m = g.M.AddressMap.shape c.args.map.now in
+    let t = setting code m c.args.bound n in
+    let w = c.args.self.now.steps.bank.worker in
+    let b = c.arrive.new.self in
+    let run = c.requires.going.runnable in
+    let at = c.in-Ok.ensures.at in
+    let below = at.equipped.fitted.worker in
+    let many = at.equipped.workers in
+    let same = c.in-Ok.ensures.worker in
+    let row = g.W.Row.filled c.tell.new.row in
+    let clear : marked c.tell.new.self.way s ≡ s =
+    ap (λ (x : Local). marked x.way s) c.tell.ensures.same ∙ unmarked b.way s at.going in
+    subst (λ q. IsRow m.parts (λ j. written code.rule (message_of t w q j)) row) (sym clear)
+    (same_row m.parts (told code.rule m b) (λ j. written code.rule (message_of t w s j)) row
+    (told_is t c.instructions-instructions.ensures.stands run.map run.formed w (omega (arith, below, many, same)) b s
+    (c.in-Ok.ensures.shown n s enough shown) same)
+    (subst (λ r. IsRow m.parts (told r m b) row) c.requires.rule c.tell.ensures.filled))

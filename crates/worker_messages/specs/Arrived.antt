@@ -1,0 +1,53 @@
+-- A worker of a run goes on up to its next exchange.
+use Rattle.std.specs.Prelude.{◌≡◌, ℕ, ◌<◌, ◌≤◌, length, map, Bool, true, false, vec_capacity, if◌then◌else◌}
+use Rattle.pram_model.specs.declared.rule.Rule.{Rule}
+use Rattle.address_map.specs.Lawful.{Shape}
+use Rattle.superstep_code.specs.Code.{SuperstepCode}
+use Rattle.superstep_machine.specs.Run.{State, setting, is_held}
+use Rattle.superstep_steps.specs.Views.{put_is}
+use Rattle.worker_bank.specs.Bank.{IsBank}
+use Rattle.combining.specs.AllModules.{column, room_at}
+use Rattle.worker_steps.specs.declared.stop.Stop.{Stop}
+use Rattle.worker_steps.specs.declared.stop.Stop.TheVariants as stops
+use Rattle.message_rows.specs.Sends.{words_of, CanBeWritten}
+use Rattle.worker_messages.specs.declared.step.Step.{Step}
+use Rattle.worker_messages.specs.declared.step.Step.TheVariants as steps
+use Rattle.worker_messages.specs.declared.way.Way.{Way}
+use Rattle.worker_messages.specs.declared.way.Way.TheVariants as ways
+use Rattle.worker_messages.specs.declared.local.Local.{Local}
+use Rattle.worker_messages.specs.Reached.{most_instructions}
+use Rattle.worker_messages.specs.Shown.{IsShown, IsAtExchange}
+use Rattle.worker_messages.specs.Equipped.{IsAtStep}
+
+-- what the exchange is for at which a worker stops: a close sends first what is held
+abbrev pub step_at : Stop → Bool → Step
+step_at stops.Send held = steps.Send
+step_at stops.Reply held = steps.Reply
+step_at (stops.Vote d) held = steps.Vote d
+step_at (stops.Close ended) held = if held then steps.Send else steps.Close
+
+abbrev pub way_at : Stop → Way → Way
+way_at (stops.Close ended) way = ways.Ending ended
+way_at stop way = way
+
+abbrev pub stopped_at : Stop → Local → Local
+stopped_at stop x = record x { way = way_at stop x.way; step = step_at stop (is_held (put_is x.steps.uniform.put)) }
+
+-- In b the worker is at the exchange that it comes to from a: whatever state a shows, b shows where the definition's worker stands then.
+pub record HasArrived (code : SuperstepCode) (m : Shape) (bound : ℕ) (a b : Local) : Type 0 where
+  pub at : IsAtStep code m bound b
+  pub shown : (n : ℕ) (s : State) → most_instructions code bound < n → IsShown (setting code m bound n) a.steps.bank.worker a s →
+      IsAtExchange (setting code m bound n) a.steps.bank.worker b s
+  pub worker : b.steps.bank.worker ≡ a.steps.bank.worker
+
+-- It can write its messages to rows of that room.
+pub record CanTell (rule : Rule) (m : Shape) (room : ℕ) (x : Local) : Type 0 where
+  pub worker : x.steps.bank.worker < m.parts
+  pub bank : IsBank x.steps.bank
+  pub cells : length x.cells ≡ m.width x.steps.bank.worker
+  pub asked : length x.asked.items ≡ m.parts
+  pub few : (j : ℕ) → length (column (words_of x.asked.items) j) ≤ length x.buffers.reply.items
+  pub reply : length x.buffers.reply.items ≤ room
+  pub counts : length x.buffers.counts.items ≡ m.parts
+  pub rooms : (j : ℕ) → j < m.parts → room_at (map vec_capacity x.buffers.words.items) j ≤ room
+  pub held : x.step ≡ steps.Send → CanBeWritten rule m (map vec_capacity x.buffers.words.items) x.steps.puts.held x.steps.asks.held

@@ -1,0 +1,80 @@
+-- What a worker of a run has room for, and what it may take for granted.
+use Rattle.std.specs.Prelude.{◌≡◌, ℕ, ◌+◌, ◌-◌, ◌*◌, ◌/◌, ◌<◌, ◌≤◌, List, length, map, Some, false, Vec, vec_capacity, slice_get}
+use Rattle.std.specs.Global.{Global}
+use Rattle.address_map.specs.Lawful.{Shape}
+use Rattle.superstep_code.specs.declared.instr.Instr.{Instr}
+use Rattle.superstep_code.specs.declared.instr.Instr.TheVariants.{Send, Reply, Vote, Halt}
+use Rattle.superstep_code.specs.Code.{SuperstepCode}
+use Rattle.superstep_machine.specs.Run.{State, setting, is_over}
+use Rattle.bsp_verify.specs.WellFormed.{IsWellFormed}
+use Rattle.flat_machine.specs.Flatness.{IsMapFor}
+use Rattle.run_limits.specs.Within.{words_for_each}
+use Rattle.combining.specs.AllModules.{column, room_at}
+use Rattle.message_rows.specs.Sends.{words_of}
+use Rattle.worker_steps.specs.Fitted.{IsFitted}
+use Rattle.worker_steps.specs.Met.{IsVerifiedAt}
+use Rattle.worker_messages.specs.declared.step.Step.{Step}
+use Rattle.worker_messages.specs.declared.step.Step.TheVariants as steps
+use Rattle.worker_messages.specs.declared.way.Way.TheVariants as ways
+use Rattle.worker_messages.specs.declared.buffers.Buffers.{Buffers}
+use Rattle.worker_messages.specs.declared.local.Local.{Local}
+use Rattle.worker_messages.specs.Reached.{most_instructions}
+use Rattle.worker_messages.specs.Shown.{way_is, IsShown}
+
+-- no message has more words: for each processor that a worker can have, those of its reads and of a put
+abbrev pub most_words : SuperstepCode → Shape → ℕ
+most_words code m = words_for_each code.rule * ((code.procs + (m.parts - 1)) / m.parts)
+
+-- a list of words for each of p workers, with room for so many
+pub record HaveRoom (p most : ℕ) (columns : List (Vec ℕ Global)) : Type 0 where
+  pub count : length columns ≡ p
+  pub room : (j : ℕ) → j < p → room_at (map vec_capacity columns) j ≡ most
+
+pub record AreBuffers (p most : ℕ) (buffers : Buffers) : Type 0 where
+  pub words : HaveRoom p most buffers.words.items
+  pub counts : length buffers.counts.items ≡ p
+  pub reply : length buffers.reply.items ≡ most
+
+-- It has room for its processors and for what it sends and is asked, it is one of as many workers as the map has modules, and
+-- it has the cells of its module.
+pub record IsEquipped (code : SuperstepCode) (m : Shape) (x : Local) : Type 0 where
+  pub fitted : IsFitted code x.steps
+  pub workers : x.steps.bank.workers ≡ m.parts
+  pub sent : 8 * (x.steps.bank.masks.most + 1) ≤ x.sent.room
+  pub cells : length x.cells ≡ m.width x.steps.bank.worker
+  pub asked : HaveRoom m.parts (most_words code m) x.asked.items
+  pub few : (j : ℕ) → length (column (words_of x.asked.items) j) ≤ most_words code m
+  pub buffers : AreBuffers m.parts (most_words code m) x.buffers
+
+-- Verified code and a map with a place for each cell.
+pub record IsRunnable (code : SuperstepCode) (m : Shape) : Type 0 where
+  pub formed : IsWellFormed code
+  pub map : IsMapFor code m
+
+-- A worker between two exchanges that isn't over: while it goes on, a path of control comes to its place; no more statements began than
+-- may; and it shows a state of a run.
+pub record MayGoOn (code : SuperstepCode) (m : Shape) (bound : ℕ) (x : Local) : Type 0 where
+  pub runnable : IsRunnable code m
+  pub equipped : IsEquipped code m x
+  pub going : is_over (way_is x.way) ≡ false
+  pub count : x.steps.uniform.count ≤ bound
+  pub verified : x.way ≡ ways.On → IsVerifiedAt code x.steps
+  pub enough : ℕ
+  pub is_enough : most_instructions code bound < enough
+  pub state : State
+  pub shown : IsShown (setting code m bound enough) x.steps.bank.worker x state
+
+-- the instruction that an exchange is for, if its run doesn't end with it
+abbrev pub instr_of : Step → Instr
+instr_of steps.Send = Send
+instr_of steps.Reply = Reply
+instr_of (steps.Vote d) = Vote d
+instr_of steps.Close = Halt
+
+-- A worker at an exchange, at whose place that stands.
+pub record IsAtStep (code : SuperstepCode) (m : Shape) (bound : ℕ) (x : Local) : Type 0 where
+  pub equipped : IsEquipped code m x
+  pub going : is_over (way_is x.way) ≡ false
+  pub count : x.steps.uniform.count ≤ bound
+  pub verified : x.way ≡ ways.On → IsVerifiedAt code x.steps
+  pub stands : x.way ≡ ways.On → slice_get code.instructions x.steps.place ≡ Some (instr_of x.step)

@@ -1,0 +1,5 @@
+pub mod Reached
+pub mod Shown
+pub mod Equipped
+pub mod Told
+pub mod Arrived

@@ -1,0 +1,52 @@
+-- What a worker of a run writes to the others at an exchange.
+use Rattle.std.specs.Prelude.{◌≡◌, ℕ, List, [], length, Option, Bool, true, false}
+use Rattle.std.specs.List.{list_any}
+use Rattle.pram_model.specs.declared.rule.Rule.{Rule}
+use Rattle.address_map.specs.Lawful.{Shape}
+use Rattle.superstep_code.specs.Code.{SuperstepCode}
+use Rattle.superstep_machine.specs.declared.key.Key.{Key}
+use Rattle.superstep_machine.specs.declared.mark.HeaderMark.{HeaderMark}
+use Rattle.superstep_machine.specs.declared.mark.HeaderMark.TheVariants.{Clear}
+use Rattle.superstep_machine.specs.declared.header.MessageHeader.{MessageHeader}
+use Rattle.superstep_machine.specs.HeaderWords.{header_words, blank_header}
+use Rattle.superstep_machine.specs.Steps.{is_active}
+use Rattle.superstep_machine.specs.Run.{State, setting, message_of}
+use Rattle.combining.specs.Held.{puts_for}
+use Rattle.worker_steps.specs.declared.worker.WorkerState.{WorkerState}
+use Rattle.worker_steps.specs.Shown.{own_in}
+use Rattle.message_rows.specs.Rows.{WrittenMessage, written}
+use Rattle.message_rows.specs.Sends.{words_of, header_with, send_words, reply_message}
+use Rattle.worker_messages.specs.declared.step.Step.{Step}
+use Rattle.worker_messages.specs.declared.step.Step.TheVariants as steps
+use Rattle.worker_messages.specs.declared.local.Local.{Local}
+use Rattle.worker_messages.specs.Reached.{most_instructions}
+use Rattle.worker_messages.specs.Shown.{marked, IsShown}
+
+-- whether a processor is active
+abbrev pub any_active : WorkerState → Bool
+any_active x = list_any is_active (own_in x)
+
+-- to worker j what is held for its module
+abbrev pub told_in_send : Rule → Shape → WorkerState → ℕ → WrittenMessage
+told_in_send rule m x j = record {
+  header = header_words (header_with x.key (length (puts_for m.part j x.puts.held)));
+  words = send_words rule m x.puts.held x.asks.held j;
+}
+
+-- a header without words
+abbrev pub told_alone : MessageHeader → ℕ → WrittenMessage
+told_alone header j = record { header = header_words header; words = [] }
+
+abbrev pub told_at : Rule → Shape → Step → Local → ℕ → WrittenMessage
+told_at rule m steps.Send x = told_in_send rule m x.steps
+told_at rule m steps.Reply x = reply_message x.steps.key m x.steps.bank.worker x.cells (words_of x.asked.items)
+told_at rule m (steps.Vote d) x = told_alone (record (header_with x.steps.key 0) { active = any_active x.steps })
+told_at rule m steps.Close x = told_alone (header_with x.steps.key 0)
+
+-- to worker j, by what the exchange is for
+abbrev pub told : Rule → Shape → Local → ℕ → WrittenMessage
+told rule m x = told_at rule m x.step x
+
+-- a mark, and nothing else
+abbrev pub told_mark : HeaderMark → ℕ → WrittenMessage
+told_mark mark = told_alone (record blank_header { mark = mark })

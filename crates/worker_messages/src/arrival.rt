@@ -1,0 +1,192 @@
+//! From one exchange up to the next.
+
+ghost use Rattle.std.specs.Prelude.{◌≡◌, ◌≤◌, ◌<◌, ℕ, length, false, OnOk};
+ghost use Rattle.address_map.specs.Lawful.{Shape};
+ghost use Rattle.superstep_machine.specs.declared.mark.HeaderMark.{HeaderMark as MarkOfHeader};
+ghost use Rattle.superstep_machine.specs.declared.mark.HeaderMark.TheVariants as mark_is;
+ghost use Rattle.superstep_machine.specs.Run.{State, setting, message_of, is_held};
+ghost use Rattle.superstep_steps.specs.Views.{put_is};
+ghost use Rattle.bsp_verify.specs.WellFormed.{IsWellFormed};
+ghost use Rattle.worker_steps.specs.Fitted.{IsFitted};
+ghost use Rattle.worker_steps.specs.Met.{IsVerifiedAt};
+ghost use Rattle.message_rows.specs.Rows.{IsRow, written};
+ghost use Rattle.worker_messages.specs.declared.way.Way.TheVariants as way_is_one_of;
+ghost use Rattle.worker_messages.specs.declared.step.Step.TheVariants as step_is;
+ghost use Rattle.worker_messages.specs.Reached.{most_instructions};
+ghost use Rattle.worker_messages.specs.Shown.{is_stopped, marked, IsShown, IsAtExchange};
+ghost use Rattle.worker_messages.specs.Equipped.{most_words, AreBuffers, MayGoOn, IsAtStep};
+ghost use Rattle.worker_messages.specs.Arrived.{step_at as spec_step_at, way_at as spec_way_at, stopped_at, HasArrived, CanTell};
+ghost use Rattle.worker_messages.specs.Told.{told, told_mark};
+
+use crate::local::Local;
+use crate::step::Step;
+use crate::telling::{any_active, tell_alone, tell_mark, tell_send};
+use crate::way::Way;
+use address_map::AddressMap;
+use message_rows::{Row, fill_replies};
+use std::alloc::AllocError;
+use superstep_code::Code;
+use superstep_machine::HeaderMark;
+use superstep_steps::Moment;
+use worker_steps::Stop;
+use write_rules::WriteRule;
+
+// What the exchange is for at which a worker stops.
+fn step_at(stop: Stop, put: Option<Moment>) -> Step
+    ensures { result ≡ spec_step_at stop (is_held (put_is put)) }
+{
+    match stop {
+        Stop::Send => Step::Send,
+        Stop::Reply => Step::Reply,
+        Stop::Vote { destination } => Step::Vote { destination },
+        Stop::Close { ended: _ } => match put {
+            Some(_) => Step::Send,
+            None => Step::Close,
+        },
+    }
+}
+
+// How it stands with its run then.
+fn way_at(stop: Stop, way: Way) -> Way
+    ensures { result ≡ spec_way_at stop way }
+{
+    match stop {
+        Stop::Close { ended } => Way::Ending { ended },
+        _ => way,
+    }
+}
+
+impl Local {
+    // Up to the exchange at which its code stops.
+    fn go_on<R: WriteRule>(
+        &mut self,
+        code: &Code,
+        rule: &R,
+        bound: u32,
+    ) -> Result<(), AllocError>
+        requires rule { R.WriteRule.rule rule.now ≡ code.now.rule }
+        requires formed { IsWellFormed code.now }
+        requires fitted { IsFitted code.now self.old.steps }
+        requires verified { IsVerifiedAt code.now self.old.steps }
+        requires count { self.old.steps.uniform.count ≤ bound }
+        requires on { self.old.way ≡ way_is_one_of.On }
+        ensures { OnOk result ((m : Shape) → MayGoOn code.now m bound self.old → HasArrived code.now m bound self.old self.new) }
+    {
+        let stop = self.steps.advance(code, rule, bound)?;
+        self.step = step_at(stop, self.steps.uniform.put);
+        self.way = way_at(stop, self.way);
+        Ok(())
+    }
+
+    // Up to its next exchange.
+    fn arrive<R: WriteRule, M: AddressMap>(
+        &mut self,
+        code: &Code,
+        rule: &R,
+        map: &M,
+        bound: u32,
+    ) -> Result<(), AllocError>
+        requires rule { R.WriteRule.rule rule.now ≡ code.now.rule }
+        requires going { MayGoOn code.now (M.shape map.now) bound self.old }
+        ensures { OnOk result (HasArrived code.now (M.shape map.now) bound self.old self.new) }
+    {
+        let _map = map.modules();
+        match self.way {
+            Way::On => self.go_on(code, rule, bound),
+            _ => {
+                self.step = Step::Close;
+                Ok(())
+            }
+        }
+    }
+
+    // Fills a row with its messages.
+    fn tell<R: WriteRule, M: AddressMap, W: Row>(&mut self, rule: &R, map: &M, row: &mut W)
+        requires can { CanTell (R.WriteRule.rule rule.now) (M.shape map.now) (W.room row.old) self.old }
+        requires workers { length (W.filled row.old) ≡ (M.shape map.now).parts }
+        ensures filled { IsRow (M.shape map.now).parts (told (R.WriteRule.rule rule.now) (M.shape map.now) self.old) (W.filled row.new) }
+        ensures same { self.new ≡ record self.old { buffers = self.new.buffers } }
+        ensures buffers { (most : ℕ) → AreBuffers (M.shape map.now).parts most self.old.buffers → AreBuffers (M.shape map.now).parts most
+            self.new.buffers }
+        ensures room { W.room row.new ≡ W.room row.old }
+        ensures kept { W.kept row.old row.new }
+    {
+        let workers = map.modules() as usize;
+        let key = self.steps.key;
+        match self.step {
+            Step::Send => tell_send(rule, map, &self.steps, &mut self.buffers, row),
+            Step::Reply => fill_replies(
+                row,
+                key,
+                map,
+                self.steps.bank.worker,
+                self.asked.as_slice(),
+                &self.cells,
+                self.buffers.reply.as_mut_slice(),
+            ),
+            Step::Vote { destination: _ } => {
+                tell_alone(row, workers, key, any_active(&self.steps));
+            }
+            Step::Close => tell_alone(row, workers, key, false),
+        }
+    }
+
+    // Memory was refused: it has stopped, and tells so.
+    fn give_up<M: AddressMap, W: Row>(&mut self, map: &M, row: &mut W)
+        requires { length (W.filled row.old) ≡ (M.shape map.now).parts }
+        ensures filled { IsRow (M.shape map.now).parts (told_mark mark_is.OutOfMemory) (W.filled row.new) }
+        ensures way { self.new.way ≡ way_is_one_of.Stopped mark_is.OutOfMemory }
+        ensures step { self.new.step ≡ step_is.Close }
+        ensures room { W.room row.new ≡ W.room row.old }
+        ensures kept { W.kept row.old row.new }
+    {
+        let mark = HeaderMark::OutOfMemory;
+        self.way = Way::Stopped { mark };
+        self.step = Step::Close;
+        tell_mark(row, map.modules() as usize, mark);
+    }
+
+    /// Goes on up to the next exchange, and fills a row with the messages for it. Says what the exchange is for. Where memory is
+    /// refused on the way, each message is a mark that says so, and the worker has stopped. It is asked of a worker that is
+    /// neither stopped nor over.
+    pub fn until_exchange<R: WriteRule, M: AddressMap, W: Row>(
+        &mut self,
+        code: &Code,
+        rule: &R,
+        map: &M,
+        bound: u32,
+        row: &mut W,
+    ) -> Step
+        requires rule { R.WriteRule.rule rule.now ≡ code.now.rule }
+        requires going { MayGoOn code.now (M.shape map.now) bound self.old }
+        requires workers { length (W.filled row.old) ≡ (M.shape map.now).parts }
+        requires room { most_words code.now (M.shape map.now) ≤ W.room row.old }
+        // For every state that it shows, it shows where the definition's worker comes to, ..
+        ensures shown { is_stopped self.new.way ≡ false → (n : ℕ) (s : State) → most_instructions code.now bound < n →
+            IsShown (setting code.now (M.shape map.now) bound n) self.old.steps.bank.worker self.old s →
+            IsAtExchange (setting code.now (M.shape map.now) bound n) self.old.steps.bank.worker self.new s }
+        // .. and the row has the messages of that worker, with a mark if this one has stopped.
+        ensures row { (n : ℕ) (s : State) → most_instructions code.now bound < n →
+            IsShown (setting code.now (M.shape map.now) bound n) self.old.steps.bank.worker self.old s →
+            IsRow (M.shape map.now).parts (λ j. written code.now.rule (message_of (setting code.now (M.shape map.now) bound n)
+            self.old.steps.bank.worker (marked self.new.way s) j)) (W.filled row.new) }
+        ensures at { is_stopped self.new.way ≡ false → IsAtStep code.now (M.shape map.now) bound self.new }
+        ensures worker { is_stopped self.new.way ≡ false → self.new.steps.bank.worker ≡ self.old.steps.bank.worker }
+        ensures refused { (mark : MarkOfHeader) → self.new.way ≡ way_is_one_of.Stopped mark → mark ≡ mark_is.OutOfMemory }
+        ensures step { result ≡ self.new.step }
+        ensures room { W.room row.new ≡ W.room row.old }
+        ensures kept { W.kept row.old row.new }
+    {
+        let _instructions = code.instructions();
+        match self.arrive(code, rule, map, bound) {
+            Ok(()) => {
+                self.tell(rule, map, row);
+                self.step
+            }
+            Err(_) => {
+                self.give_up(map, row);
+                Step::Close
+            }
+        }
+    }
+}

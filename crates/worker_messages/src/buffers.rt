@@ -1,0 +1,9 @@
+//! Room for the words of an exchange.
+
+/// Room for the words of an exchange: a list for each worker, with the number of the puts in it, and a list for one reply.
+#[derive(Drop)]
+pub struct Buffers {
+    pub words: Vec<Vec<u64>>,
+    pub counts: Vec<u32>,
+    pub reply: Vec<u64>,
+}

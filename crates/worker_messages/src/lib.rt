@@ -1,0 +1,14 @@
+//! A worker of a run: what it has between two exchanges, and what it sends in each.
+#![tactic(auto)]
+
+mod arrival;
+mod buffers;
+mod local;
+mod step;
+mod telling;
+mod way;
+
+pub use buffers::Buffers;
+pub use local::Local;
+pub use step::Step;
+pub use way::Way;

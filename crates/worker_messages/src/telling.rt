@@ -1,0 +1,93 @@
+//! What a worker writes to the others.
+
+ghost use Rattle.std.specs.Prelude.{◌≡◌, ◌≤◌, ◌<◌, ℕ, length, map as each, vec_capacity};
+ghost use Rattle.pram_model.specs.declared.rule.Rule.{Rule};
+ghost use Rattle.worker_bank.specs.Bank.{IsBank};
+ghost use Rattle.combining.specs.AllModules.{room_at};
+ghost use Rattle.message_rows.specs.Rows.{IsRow};
+ghost use Rattle.message_rows.specs.Sends.{CanBeWritten, header_with};
+ghost use Rattle.worker_messages.specs.Equipped.{AreBuffers};
+ghost use Rattle.worker_messages.specs.Told.{any_active as spec_any_active, told_in_send, told_alone, told_mark};
+
+use crate::buffers::Buffers;
+use address_map::AddressMap;
+use message_rows::{Row, fill_headers, fill_sends, pack_send};
+use superstep_machine::{HeaderMark, Key, MessageHeader};
+use worker_steps::WorkerState;
+use write_rules::WriteRule;
+
+/// Whether a processor of the worker is active.
+pub(crate) fn any_active(steps: &WorkerState) -> bool
+    requires { IsBank steps.now.bank }
+    ensures { result ≡ spec_any_active steps.now }
+{
+    !steps.bank.masks.active().is_empty()
+}
+
+/// Fills a row with what is held for each module.
+pub(crate) fn tell_send<R: WriteRule, M: AddressMap, W: Row>(
+    rule: &R,
+    map: &M,
+    steps: &WorkerState,
+    buffers: &mut Buffers,
+    row: &mut W,
+)
+    requires held { CanBeWritten (R.WriteRule.rule rule.now) (M.shape map.now) (each vec_capacity buffers.old.words.items)
+        steps.now.puts.held steps.now.asks.held }
+    requires counts { length buffers.old.counts.items ≡ (M.shape map.now).parts }
+    requires workers { length (W.filled row.old) ≡ (M.shape map.now).parts }
+    requires room { (j : ℕ) → j < (M.shape map.now).parts → room_at (each vec_capacity buffers.old.words.items) j ≤ W.room row.old }
+    ensures filled { IsRow (M.shape map.now).parts (told_in_send (R.WriteRule.rule rule.now) (M.shape map.now) steps.now)
+        (W.filled row.new) }
+    ensures buffers { (most : ℕ) → AreBuffers (M.shape map.now).parts most buffers.old → AreBuffers (M.shape map.now).parts most
+        buffers.new }
+    ensures room { W.room row.new ≡ W.room row.old }
+    ensures kept { W.kept row.old row.new }
+{
+    pack_send(
+        rule,
+        map,
+        &steps.puts,
+        &steps.asks,
+        buffers.words.as_mut_slice(),
+        buffers.counts.as_mut_slice(),
+    );
+    fill_sends(
+        row,
+        steps.key,
+        buffers.words.as_slice(),
+        buffers.counts.as_slice(),
+    );
+}
+
+/// Fills a row with a header alone: a key, and whether a processor is active.
+pub(crate) fn tell_alone<W: Row>(row: &mut W, workers: usize, key: Option<Key>, active: bool)
+    requires { length (W.filled row.old) ≡ workers }
+    ensures filled { IsRow workers (told_alone (record (header_with key 0) { active = active })) (W.filled row.new) }
+    ensures room { W.room row.new ≡ W.room row.old }
+    ensures kept { W.kept row.old row.new }
+{
+    let header = MessageHeader {
+        key,
+        mark: HeaderMark::Clear,
+        active,
+        puts: 0,
+    };
+    fill_headers(row, workers, header);
+}
+
+/// Fills a row with a mark alone.
+pub(crate) fn tell_mark<W: Row>(row: &mut W, workers: usize, mark: HeaderMark)
+    requires { length (W.filled row.old) ≡ workers }
+    ensures filled { IsRow workers (told_mark mark) (W.filled row.new) }
+    ensures room { W.room row.new ≡ W.room row.old }
+    ensures kept { W.kept row.old row.new }
+{
+    let header = MessageHeader {
+        key: None,
+        mark,
+        active: false,
+        puts: 0,
+    };
+    fill_headers(row, workers, header);
+}
