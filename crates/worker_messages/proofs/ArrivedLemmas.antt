@@ -27,7 +27,7 @@ use Rattle.worker_messages.specs.declared.way.Way.TheVariants as ways
 use Rattle.worker_messages.specs.declared.local.Local.{Local}
 use Rattle.worker_messages.specs.Reached.{IsReached, most_instructions}
 use Rattle.worker_messages.specs.Shown.{way_is, purpose_is, place_behind, ShowsWorker, IsShown, IsAtExchange}
-use Rattle.worker_messages.specs.Equipped.{IsEquipped, MayGoOn, IsAtStep, instr_of}
+use Rattle.worker_messages.specs.Equipped.{IsEquipped, MayGoOn, IsAtStep, instr_of, left_by}
 use Rattle.worker_messages.specs.Arrived.{step_at, way_at, stopped_at, HasArrived}
 
 -- ---- the definition's worker
@@ -78,6 +78,10 @@ close_is false = refl
 still_going : (stop : Stop) (way : Way) → machine.is_over (way_is way) ≡ false → machine.is_over (way_is (way_at stop way)) ≡ false
 still_going (stops.Close ended) way h = refl
 still_going stop way h = h
+
+fewer : (stop : Stop) (way : Way) → way ≡ ways.On → (n k : ℕ) → n ≤ k → left_by (way_at stop way) n ≤ left_by way k
+fewer (stops.Close ended) way e n k h = subst (λ v. 1 ≤ left_by v k) (sym e) (omega arith)
+fewer stop way e n k h = subst (λ v. left_by v n ≤ left_by v k) (sym e) (omega (arith, h))
 
 module _ (code : SuperstepCode) (m : Shape) (bound : ℕ) (a : Local) (y : WorkerState) (on : a.way ≡ ways.On)
     (go : MayGoOn code m bound a) where
@@ -133,8 +137,9 @@ module _ (code : SuperstepCode) (m : Shape) (bound : ℕ) (a : Local) (y : Worke
     }
 
   pub arrived : (stop : Stop) → ArrivesAt code bound (stop_is stop) a.steps y → StandsAt code bound (stop_is stop) y → IsFitted code y →
-      IsVerifiedAt code y → y.uniform.count ≤ bound → IsSameBank a.steps.bank y.bank → HasArrived code m bound a (stopped_at stop moved)
-  arrived stop arrives stands fitted verified count same =
+      IsVerifiedAt code y → y.uniform.count ≤ bound → IsSameBank a.steps.bank y.bank → rank code bound y ≤ rank code bound a.steps →
+      HasArrived code m bound a (stopped_at stop moved)
+  arrived stop arrives stands fitted verified count same falls =
       let e = equipped_still fitted same in record {
         at = record {
           equipped = record {
@@ -176,6 +181,7 @@ module _ (code : SuperstepCode) (m : Shape) (bound : ℕ) (a : Local) (y : Worke
               taken = λ j. ap (λ l. slice_index_or l j []) k.carried.taken ∙ sh.worker.taken j;
             }) stop);
         worker = same.worker;
+        falls = fewer stop a.way on (rank code bound y) (rank code bound a.steps) falls;
       }
 
 -- ---- a run that ends
@@ -210,6 +216,7 @@ ended code m bound a go off =
             worker = (let q = sh.worker in record { shows = q.shows; cells = q.cells; sent = q.sent; taken = q.taken });
           });
       worker = refl;
+      falls = omega arith;
     }
   where
     stays : (way : Way) → (way ≡ ways.On → ⊥) → (place : ℕ) → place ≡ place_behind way place

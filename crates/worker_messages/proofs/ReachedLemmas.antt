@@ -6,14 +6,14 @@ use Rattle.superstep_code.specs.Limits.{IsCode}
 use Rattle.superstep_machine.specs.Setting.{Setting, workers}
 use Rattle.superstep_machine.specs.Words.{Message}
 use Rattle.superstep_machine.specs.Worker.{Worker}
-use Rattle.superstep_machine.specs.Stretch.{ToSend, ToReply, ToVote, ToClose, Arrival, Nowhere, At}
+use Rattle.superstep_machine.specs.Stretch.{Stop, ToSend, ToReply, ToVote, ToClose, Arrival, Nowhere, At}
 use Rattle.superstep_machine.specs.Run as machine
 use Rattle.bsp_verify.specs.declared.state.State as states
 use Rattle.bsp_verify.specs.WellFormed.{IsWellFormed}
 use Rattle.bsp_verify.specs.Paths.{IsWithin}
 use Rattle.bsp_verify.specs.Moments.{DescribesWorker}
 use Rattle.bsp_verify.proofs.PathLemmas.{paths_sound}
-use Rattle.bsp_verify.proofs.RunLemmas.{Arrives, follow, Agrees, next_agrees, begins}
+use Rattle.bsp_verify.proofs.RunLemmas.{Stops, Arrives, follow, Agrees, next_agrees, begins}
 use Rattle.flat_machine.specs.Flatness.{IsMapFor}
 use Rattle.run_limits.specs.Within.{AreValues}
 use Rattle.run_limits.proofs.Keeping.{IsKept}
@@ -28,6 +28,15 @@ pub record IsPathed (t : Setting) (w : ℕ) (y : Worker) : Type 0 where
   pub within : IsWithin state
 
 module _ (t : Setting) (code : IsCode t.code) (room : IsMapFor t.code t.map) (formed : IsWellFormed t.code) (w : ℕ) where
+  on_path : (stop : Stop) (place : ℕ) (y : Worker) → Stops t formed w stop place y → IsKept t w y → IsPathed t w y
+  on_path stop place y p k =
+      let q = p.there in record {
+        kept = k;
+        state = q.point.state;
+        describes = q.describes;
+        within = (paths_sound t.code formed q.steps q.point q.comes).within;
+      }
+
   pub reached_kept : (n : ℕ) (s : machine.State) → IsReached t w n s → IsKept t w s.worker
   reached_kept zero s (input, values, e) = subst (λ (q : machine.State). IsKept t w q.worker) (sym e) (opening_kept t code room input values w)
   reached_kept (suc n) s (before, column, r, values, e) =
@@ -39,39 +48,27 @@ module _ (t : Setting) (code : IsCode t.code) (room : IsMapFor t.code t.map) (fo
   reached_agrees (suc n) s (before, column, r, values, e) =
       subst (Agrees t formed w) (sym e) (next_agrees t formed w column before (reached_agrees n before r))
 
-  -- where it sends it fits in words
-  sends_from : (s : machine.State) (a : Arrival Worker) → Arrives t formed w a → KeptAt t code w (IsKept t w) (keeps t code room w) a →
-      (machine.ready_at s a).purpose ≡ machine.Sends → IsPathed t w (machine.ready_at s a).state.worker
-  sends_from s Nowhere p k e = absurd (cc e)
-  sends_from s (At ToSend place y) p k e =
-      let q = p.there in record {
-        kept = k;
-        state = q.point.state;
-        describes = q.describes;
-        within = (paths_sound t.code formed q.steps q.point q.comes).within;
-      }
-  sends_from s (At ToReply place y) p k e = absurd (cc e)
-  sends_from s (At (ToVote d) place y) p k e = absurd (cc e)
-  sends_from s (At (ToClose ended) place y) p k e =
-      let q = p.there in record {
-        kept = k;
-        state = q.point.state;
-        describes = q.describes;
-        within = (paths_sound t.code formed q.steps q.point q.comes).within;
-      }
+  -- where an exchange doesn't end its run it fits in words
+  pathed_at : (s : machine.State) (a : Arrival Worker) → Arrives t formed w a → KeptAt t code w (IsKept t w) (keeps t code room w) a →
+      ((machine.ready_at s a).purpose ≡ machine.Closes → ⊥) → IsPathed t w (machine.ready_at s a).state.worker
+  pathed_at s Nowhere p k h = absurd (h refl)
+  pathed_at s (At ToSend place y) p k h = on_path ToSend place y p k
+  pathed_at s (At ToReply place y) p k h = on_path ToReply place y p k
+  pathed_at s (At (ToVote d) place y) p k h = on_path (ToVote d) place y p k
+  pathed_at s (At (ToClose ended) place y) p k h = on_path (ToClose ended) place y p k
 
-  pub sends_pathed : (n : ℕ) (s : machine.State) → IsReached t w n s → s.refusals ≡ [] → (machine.ready t w s).purpose ≡ machine.Sends →
-      IsPathed t w (machine.ready t w s).state.worker
-  sends_pathed n s r clear =
-      subst (λ (r : machine.Ready). r.purpose ≡ machine.Sends → IsPathed t w r.state.worker)
+  pub exchange_pathed : (n : ℕ) (s : machine.State) → IsReached t w n s → s.refusals ≡ [] →
+      ((machine.ready t w s).purpose ≡ machine.Closes → ⊥) → IsPathed t w (machine.ready t w s).state.worker
+  exchange_pathed n s r clear =
+      subst (λ (r : machine.Ready). (r.purpose ≡ machine.Closes → ⊥) → IsPathed t w r.state.worker)
       (ap (λ ms. machine.ready_with t w s (machine.mark_now ms)) (sym clear)) (go s.way refl)
     where
-      go : (way : machine.Way) → s.way ≡ way → (machine.ready_by t w s way).purpose ≡ machine.Sends →
+      go : (way : machine.Way) → s.way ≡ way → ((machine.ready_by t w s way).purpose ≡ machine.Closes → ⊥) →
           IsPathed t w (machine.ready_by t w s way).state.worker
       go machine.On e =
-          sends_from s (machine.stretch t w s) (follow t formed w t.enough s.place s.worker (reached_agrees n s r e))
+          pathed_at s (machine.stretch t w s) (follow t formed w t.enough s.place s.worker (reached_agrees n s r e))
           (until_kept t code w (IsKept t w) (keeps t code room w) t.enough s.place s.worker (reached_kept n s r))
-      go (machine.Ending ended) e = λ h. absurd (cc h)
-      go (machine.Past key ended) e = λ h. absurd (cc h)
-      go (machine.Refused mark) e = λ h. absurd (cc h)
-      go machine.Lost e = λ h. absurd (cc h)
+      go (machine.Ending ended) e = λ h. absurd (h refl)
+      go (machine.Past key ended) e = λ h. absurd (h refl)
+      go (machine.Refused mark) e = λ h. absurd (h refl)
+      go machine.Lost e = λ h. absurd (h refl)

@@ -1,5 +1,5 @@
 -- What a worker writes at an exchange are the messages of the machine's worker.
-use Rattle.std.proofs.Common.{◌≡◌, ℕ, ◌<◌, ◌≤◌, List, [], ◌∷◌, map, length, Bool, true, false, Option, None, refl, sym, ap, subst, ◌∙◌, arith}
+use Rattle.std.proofs.Common.{◌≡◌, ℕ, ◌<◌, ◌≤◌, List, [], ◌∷◌, map, length, Bool, true, false, Option, Some, None, refl, sym, ap, subst, ◌∙◌, arith}
 use Rattle.std.proofs.Common.{vec_capacity, pos, ℤ, ◌*◌}
 use Rattle.std.specs.Prelude.{slice_index_or}
 use Rattle.std.specs.List.{list_any}
@@ -16,7 +16,13 @@ use Rattle.superstep_machine.specs.Setting.{Setting, workers}
 use Rattle.superstep_machine.specs.Parts.{PrivatePart}
 use Rattle.superstep_machine.specs.Steps.{is_active}
 use Rattle.superstep_machine.specs.Words.{CellAsk, Message, values_words, words, blank}
-use Rattle.superstep_machine.specs.WordReading.{header_of, asks_in}
+use Rattle.superstep_machine.specs.WordReading.{header_of, asks_in, read_message}
+use Rattle.superstep_machine.specs.WordLaws.{IsReadBack}
+use Rattle.superstep_machine.specs.declared.key.Key.{Key}
+use Rattle.superstep_machine.specs.HeaderWords.{FitsKey}
+use Rattle.superstep_machine.specs.Fitting.{FitsWorker}
+use Rattle.superstep_machine.proofs.HeaderBack.{given_back}
+use Rattle.superstep_machine.proofs.MachineWords.{sent_back, replied_back, voted_back, closing_back}
 use Rattle.superstep_machine.specs.Worker.{Worker}
 use Rattle.superstep_machine.specs.Sending.{sent}
 use Rattle.superstep_machine.specs.Answering.{replied, voted, closing}
@@ -41,9 +47,9 @@ use Rattle.worker_messages.specs.Reached.{most_instructions}
 use Rattle.worker_messages.specs.Shown.{way_is, purpose_is, marked, cells_asked, ShowsWorker, IsShown, IsAtExchange}
 use Rattle.worker_messages.specs.Equipped.{most_words, AreBuffers, IsEquipped, MayGoOn, IsAtStep}
 use Rattle.worker_messages.specs.Arrived.{HasArrived, CanTell}
-use Rattle.worker_messages.specs.Told.{told_in_send, told_alone, told_at, told, told_mark}
-use Rattle.worker_messages.proofs.ReachedLemmas.{IsPathed, sends_pathed}
-use Rattle.worker_messages.proofs.WrittenLemmas.{puts_to, words_are, can_be_written}
+use Rattle.worker_messages.specs.Told.{IsWrittenFor, told_in_send, told_alone, told_at, told, told_mark}
+use Rattle.worker_messages.proofs.ReachedLemmas.{IsPathed, exchange_pathed}
+use Rattle.worker_messages.proofs.WrittenLemmas.{fits, puts_to, words_are, can_be_written}
 
 -- ---- one message
 
@@ -86,8 +92,12 @@ module _ (t : Setting) (code : IsCode t.code) (room : IsMapFor t.code t.map) (fo
   abbrev y : Worker
   y = (machine.ready t w s).state.worker
 
-  pathed : x.step ≡ steps.Send → IsPathed t w y
-  pathed e = sends_pathed t code room formed w at.exchanges s at.reached at.clear (at.purpose ∙ ap purpose_is e)
+  pathed : (step : Step) → x.step ≡ step → (purpose_is step ≡ machine.Closes → ⊥) → IsPathed t w y
+  pathed step e h = exchange_pathed t code room formed w at.exchanges s at.reached at.clear
+      (λ closes. h (sym (at.purpose ∙ ap purpose_is e) ∙ closes))
+
+  fits_at : (step : Step) → x.step ≡ step → (purpose_is step ≡ machine.Closes → ⊥) → FitsWorker t y
+  fits_at step e h = fits t code room w l x.steps y (pathed step e h) at.worker.shows
 
   message_is : (j : ℕ) → machine.message_of t w s j ≡ machine.message_for t (purpose_is x.step) y j
   message_is j =
@@ -96,7 +106,7 @@ module _ (t : Setting) (code : IsCode t.code) (room : IsMapFor t.code t.map) (fo
 
   told_for : (step : Step) → x.step ≡ step → (j : ℕ) →
       told_at t.code.rule t.map step x j ≡ written t.code.rule (machine.message_for t (purpose_is step) y j)
-  told_for steps.Send e j = told_sent t code room w l x y (pathed e) at.worker j
+  told_for steps.Send e j = told_sent t code room w l x y (pathed steps.Send e (λ h. cc)) at.worker j
   told_for steps.Reply e j =
       ap (λ v. reply_message x.steps.key t.map v x.cells (words_of x.asked.items) j) here ∙ told_replied t w x y at.worker j
   told_for (steps.Vote d) e j = told_voted t w x y at.worker j
@@ -105,10 +115,33 @@ module _ (t : Setting) (code : IsCode t.code) (room : IsMapFor t.code t.map) (fo
   pub told_is : (j : ℕ) → told t.code.rule t.map x j ≡ written t.code.rule (machine.message_of t w s j)
   told_is j = told_for x.step refl j ∙ ap (written t.code.rule) (sym (message_is j))
 
+  -- each is read back from its words
+  back_for : (step : Step) → x.step ≡ step → (j : ℕ) →
+      IsReadBack t.code.rule t.map j (purpose_is step) (machine.message_for t (purpose_is step) y j)
+  back_for steps.Send e j = sent_back t y j (fits_at steps.Send e (λ h. cc))
+  back_for steps.Reply e j = replied_back t y j (fits_at steps.Reply e (λ h. cc))
+  back_for (steps.Vote d) e j = voted_back t y j d
+  back_for steps.Close e j = closing_back t y j
+
+  key_for : (step : Step) (j : ℕ) → (machine.message_for t (purpose_is step) y j).key ≡ y.key
+  key_for steps.Send j = refl
+  key_for steps.Reply j = refl
+  key_for (steps.Vote d) j = refl
+  key_for steps.Close j = refl
+
+  pub told_back : ((key : Key) → x.steps.key ≡ Some key → FitsKey key) → (j : ℕ) →
+      IsWrittenFor t.code.rule t.map j (purpose_is x.step) (machine.message_of t w s j) (written t.code.rule (machine.message_of t w s j))
+  told_back keys j =
+      let m = machine.message_for t (purpose_is x.step) y j in
+      subst (λ q. IsWrittenFor t.code.rule t.map j (purpose_is x.step) q (written t.code.rule q)) (sym (message_is j))
+      (ap (λ h. read_message t.code.rule t.map j (purpose_is x.step) h (words t.code.rule m))
+      (given_back (header_of m) (λ key e. keys key (sym at.worker.shows.key ∙ sym (key_for x.step j) ∙ e)))
+      ∙ back_for x.step refl j)
+
   pub held_can : (rooms : List ℕ) → length rooms ≡ t.map.parts →
       ((j : ℕ) → j < t.map.parts → room_at rooms j ≡ words_for_each t.code.rule * share t) → x.step ≡ steps.Send →
       CanBeWritten t.code.rule t.map rooms x.steps.puts.held x.steps.asks.held
-  held_can rooms count each e = can_be_written t code room w l x.steps y (pathed e) at.worker.shows rooms count each
+  held_can rooms count each e = can_be_written t code room w l x.steps y (pathed steps.Send e (λ h. cc)) at.worker.shows rooms count each
 
 -- a row of the messages
 pub same_row : (p : ℕ) (one other : ℕ → WrittenMessage) (row : List WrittenMessage) → ((j : ℕ) → one j ≡ other j) → IsRow p one row →

@@ -46,7 +46,7 @@ share_small t code room =
 
 module _ (t : Setting) (code : IsCode t.code) (room : IsMapFor t.code t.map) (w : ℕ) (l : w < workers t) (x : WorkerState) (y : Worker)
     (p : IsPathed t w y) (shows : Shows t.code.rule x y) where
-  fits : FitsWorker t y
+  pub fits : FitsWorker t y
   fits = fits_worker t code room w l y p.kept (let a = p.describes.asks in let b = p.within.asks in omega (arith, a, b))
 
   pub puts_are : x.puts.held ≡ puts_held t.code.rule y

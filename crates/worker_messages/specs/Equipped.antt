@@ -13,6 +13,8 @@ use Rattle.combining.specs.AllModules.{column, room_at}
 use Rattle.message_rows.specs.Sends.{words_of}
 use Rattle.worker_steps.specs.Fitted.{IsFitted}
 use Rattle.worker_steps.specs.Met.{IsVerifiedAt}
+use Rattle.worker_steps.specs.Stretch.{rank}
+use Rattle.worker_messages.specs.declared.way.Way.{Way}
 use Rattle.worker_messages.specs.declared.step.Step.{Step}
 use Rattle.worker_messages.specs.declared.step.Step.TheVariants as steps
 use Rattle.worker_messages.specs.declared.way.Way.TheVariants as ways
@@ -78,3 +80,12 @@ pub record IsAtStep (code : SuperstepCode) (m : Shape) (bound : ℕ) (x : Local)
   pub count : x.steps.uniform.count ≤ bound
   pub verified : x.way ≡ ways.On → IsVerifiedAt code x.steps
   pub stands : x.way ≡ ways.On → slice_get code.instructions x.steps.place ≡ Some (instr_of x.step)
+
+-- how many instructions and exchanges may still come before the run is over
+abbrev pub left_by : Way → ℕ → ℕ
+left_by ways.On rank = rank + 2
+left_by (ways.Ending ended) rank = 1
+left_by way rank = 0
+
+abbrev pub left : SuperstepCode → ℕ → Local → ℕ
+left code bound x = left_by x.way (rank code bound x.steps)

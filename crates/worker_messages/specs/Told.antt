@@ -1,26 +1,23 @@
 -- What a worker of a run writes to the others at an exchange.
-use Rattle.std.specs.Prelude.{◌≡◌, ℕ, List, [], length, Option, Bool, true, false}
+use Rattle.std.specs.Prelude.{◌≡◌, ℕ, [], length, Bool}
 use Rattle.std.specs.List.{list_any}
 use Rattle.pram_model.specs.declared.rule.Rule.{Rule}
 use Rattle.address_map.specs.Lawful.{Shape}
-use Rattle.superstep_code.specs.Code.{SuperstepCode}
-use Rattle.superstep_machine.specs.declared.key.Key.{Key}
 use Rattle.superstep_machine.specs.declared.mark.HeaderMark.{HeaderMark}
-use Rattle.superstep_machine.specs.declared.mark.HeaderMark.TheVariants.{Clear}
 use Rattle.superstep_machine.specs.declared.header.MessageHeader.{MessageHeader}
-use Rattle.superstep_machine.specs.HeaderWords.{header_words, blank_header}
+use Rattle.superstep_machine.specs.HeaderWords.{header_words, read_header, blank_header}
+use Rattle.superstep_machine.specs.Words.{Message}
+use Rattle.superstep_machine.specs.WordReading.{read_message}
+use Rattle.superstep_machine.specs.Run.{Purpose}
 use Rattle.superstep_machine.specs.Steps.{is_active}
-use Rattle.superstep_machine.specs.Run.{State, setting, message_of}
 use Rattle.combining.specs.Held.{puts_for}
 use Rattle.worker_steps.specs.declared.worker.WorkerState.{WorkerState}
 use Rattle.worker_steps.specs.Shown.{own_in}
-use Rattle.message_rows.specs.Rows.{WrittenMessage, written}
+use Rattle.message_rows.specs.Rows.{WrittenMessage}
 use Rattle.message_rows.specs.Sends.{words_of, header_with, send_words, reply_message}
 use Rattle.worker_messages.specs.declared.step.Step.{Step}
 use Rattle.worker_messages.specs.declared.step.Step.TheVariants as steps
 use Rattle.worker_messages.specs.declared.local.Local.{Local}
-use Rattle.worker_messages.specs.Reached.{most_instructions}
-use Rattle.worker_messages.specs.Shown.{marked, IsShown}
 
 -- whether a processor is active
 abbrev pub any_active : WorkerState → Bool
@@ -50,3 +47,7 @@ told rule m x = told_at rule m x.step x
 -- a mark, and nothing else
 abbrev pub told_mark : HeaderMark → ℕ → WrittenMessage
 told_mark mark = told_alone (record blank_header { mark = mark })
+
+-- from words the message is read, by module j
+abbrev pub IsWrittenFor : Rule → Shape → ℕ → Purpose → Message → WrittenMessage → Type 0
+IsWrittenFor rule m j purpose message x = read_message rule m j purpose (read_header x.header) x.words ≡ message

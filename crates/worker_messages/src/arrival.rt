@@ -1,26 +1,28 @@
 //! From one exchange up to the next.
 
-ghost use Rattle.std.specs.Prelude.{◌≡◌, ◌≤◌, ◌<◌, ℕ, length, false, OnOk};
+ghost use Rattle.std.specs.Prelude.{◌≡◌, ◌≤◌, ◌<◌, ℕ, length, false, Some, OnOk};
 ghost use Rattle.address_map.specs.Lawful.{Shape};
 ghost use Rattle.superstep_machine.specs.declared.mark.HeaderMark.{HeaderMark as MarkOfHeader};
 ghost use Rattle.superstep_machine.specs.declared.mark.HeaderMark.TheVariants as mark_is;
 ghost use Rattle.superstep_machine.specs.Run.{State, setting, message_of, is_held};
+ghost use Rattle.superstep_machine.specs.declared.key.Key.{Key as NotedKey};
+ghost use Rattle.superstep_machine.specs.HeaderWords.{FitsKey};
 ghost use Rattle.superstep_steps.specs.Views.{put_is};
 ghost use Rattle.bsp_verify.specs.WellFormed.{IsWellFormed};
 ghost use Rattle.worker_steps.specs.Fitted.{IsFitted};
 ghost use Rattle.worker_steps.specs.Met.{IsVerifiedAt};
-ghost use Rattle.message_rows.specs.Rows.{IsRow, written};
+ghost use Rattle.message_rows.specs.Rows.{IsRow, written, message_at};
 ghost use Rattle.worker_messages.specs.declared.way.Way.TheVariants as way_is_one_of;
 ghost use Rattle.worker_messages.specs.declared.step.Step.TheVariants as step_is;
 ghost use Rattle.worker_messages.specs.Reached.{most_instructions};
-ghost use Rattle.worker_messages.specs.Shown.{is_stopped, marked, IsShown, IsAtExchange};
-ghost use Rattle.worker_messages.specs.Equipped.{most_words, AreBuffers, MayGoOn, IsAtStep};
+ghost use Rattle.worker_messages.specs.Shown.{is_stopped, purpose_is, marked, IsShown, IsAtExchange};
+ghost use Rattle.worker_messages.specs.Equipped.{most_words, left, AreBuffers, MayGoOn, IsAtStep};
 ghost use Rattle.worker_messages.specs.Arrived.{step_at as spec_step_at, way_at as spec_way_at, stopped_at, HasArrived, CanTell};
-ghost use Rattle.worker_messages.specs.Told.{told, told_mark};
+ghost use Rattle.worker_messages.specs.Told.{told, told_mark, IsWrittenFor};
 
 use crate::local::Local;
 use crate::step::Step;
-use crate::telling::{any_active, tell_alone, tell_mark, tell_send};
+use crate::telling::{any_active, key_fits, tell_alone, tell_mark, tell_send};
 use crate::way::Way;
 use address_map::AddressMap;
 use message_rows::{Row, fill_replies};
@@ -106,6 +108,7 @@ impl Local {
         requires workers { length (W.filled row.old) ≡ (M.shape map.now).parts }
         ensures filled { IsRow (M.shape map.now).parts (told (R.WriteRule.rule rule.now) (M.shape map.now) self.old) (W.filled row.new) }
         ensures same { self.new ≡ record self.old { buffers = self.new.buffers } }
+        ensures keys { (key : NotedKey) → self.old.steps.key ≡ Some key → FitsKey key }
         ensures buffers { (most : ℕ) → AreBuffers (M.shape map.now).parts most self.old.buffers → AreBuffers (M.shape map.now).parts most
             self.new.buffers }
         ensures room { W.room row.new ≡ W.room row.old }
@@ -113,6 +116,7 @@ impl Local {
     {
         let workers = map.modules() as usize;
         let key = self.steps.key;
+        key_fits(key);
         match self.step {
             Step::Send => tell_send(rule, map, &self.steps, &mut self.buffers, row),
             Step::Reply => fill_replies(
@@ -170,8 +174,14 @@ impl Local {
             IsShown (setting code.now (M.shape map.now) bound n) self.old.steps.bank.worker self.old s →
             IsRow (M.shape map.now).parts (λ j. written code.now.rule (message_of (setting code.now (M.shape map.now) bound n)
             self.old.steps.bank.worker (marked self.new.way s) j)) (W.filled row.new) }
+        // Each is read by the one that it is sent to.
+        ensures read { (n : ℕ) (s : State) (j : ℕ) → most_instructions code.now bound < n → j < (M.shape map.now).parts →
+            IsShown (setting code.now (M.shape map.now) bound n) self.old.steps.bank.worker self.old s →
+            IsWrittenFor code.now.rule (M.shape map.now) j (purpose_is self.new.step) (message_of (setting code.now (M.shape map.now) bound n)
+            self.old.steps.bank.worker (marked self.new.way s) j) (message_at (W.filled row.new) j) }
         ensures at { is_stopped self.new.way ≡ false → IsAtStep code.now (M.shape map.now) bound self.new }
         ensures worker { is_stopped self.new.way ≡ false → self.new.steps.bank.worker ≡ self.old.steps.bank.worker }
+        ensures left { is_stopped self.new.way ≡ false → left code.now bound self.new ≤ left code.now bound self.old }
         ensures refused { (mark : MarkOfHeader) → self.new.way ≡ way_is_one_of.Stopped mark → mark ≡ mark_is.OutOfMemory }
         ensures step { result ≡ self.new.step }
         ensures room { W.room row.new ≡ W.room row.old }

@@ -1,7 +1,9 @@
 //! What a worker writes to the others.
 
-ghost use Rattle.std.specs.Prelude.{◌≡◌, ◌≤◌, ◌<◌, ℕ, length, map as each, vec_capacity};
+ghost use Rattle.std.specs.Prelude.{◌≡◌, ◌≤◌, ◌<◌, ℕ, length, Some, map as each, vec_capacity};
 ghost use Rattle.pram_model.specs.declared.rule.Rule.{Rule};
+ghost use Rattle.superstep_machine.specs.declared.key.Key.{Key as NotedKey};
+ghost use Rattle.superstep_machine.specs.HeaderWords.{FitsKey, FitsPlace};
 ghost use Rattle.worker_bank.specs.Bank.{IsBank};
 ghost use Rattle.combining.specs.AllModules.{room_at};
 ghost use Rattle.message_rows.specs.Rows.{IsRow};
@@ -12,6 +14,7 @@ ghost use Rattle.worker_messages.specs.Told.{any_active as spec_any_active, told
 use crate::buffers::Buffers;
 use address_map::AddressMap;
 use message_rows::{Row, fill_headers, fill_sends, pack_send};
+use pram_values::Place;
 use superstep_machine::{HeaderMark, Key, MessageHeader};
 use worker_steps::WorkerState;
 use write_rules::WriteRule;
@@ -22,6 +25,33 @@ pub(crate) fn any_active(steps: &WorkerState) -> bool
     ensures { result ≡ spec_any_active steps.now }
 {
     !steps.bank.masks.active().is_empty()
+}
+
+// A place fits in the words of a header.
+fn place_fits(place: Place)
+    ensures { FitsPlace place }
+{
+    match place {
+        Place::All => {}
+        Place::Processor(index) => {
+            let _index = index;
+        }
+        Place::Cell(cell) => {
+            let _cell = cell;
+        }
+    }
+}
+
+/// A key fits in the words of a header.
+pub(crate) fn key_fits(noted: Option<Key>)
+    ensures { (key : NotedKey) → noted ≡ Some key → FitsKey key }
+{
+    if let Some(key) = noted {
+        let _count = key.count;
+        let _position = key.position;
+        let _line = key.line;
+        place_fits(key.place);
+    }
 }
 
 /// Fills a row with what is held for each module.

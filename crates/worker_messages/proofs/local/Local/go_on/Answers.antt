@@ -14,4 +14,4 @@ returns g c = λ m go.
     let e = c.in_ok-stop.ensures in
     subst (λ (p : Way × Step). HasArrived code m bound a (record a { steps = y; way = p.0; step = p.1 }))
     (λ i. (sym c.way_at-self.ensures i, sym c.step_at-self.ensures i))
-    (arrived code m bound a y c.requires.on go c.in_ok-stop.stop e.arrives e.stands e.fitted e.verified e.count e.same)
+    (arrived code m bound a y c.requires.on go c.in_ok-stop.stop e.arrives e.stands e.fitted e.verified e.count e.same e.rank)

@@ -1,13 +1,13 @@
 use Rattle.std.proofs.Common.{◌≡◌, false, ◌<◌, sym, subst, ap, ◌∙◌, arith}
-use Rattle.message_rows.specs.Rows.{IsRow, written}
+use Rattle.message_rows.specs.Rows.{IsRow, written, message_at}
 use Rattle.superstep_machine.specs.Run.{setting, message_of}
 use Rattle.worker_messages.specs.declared.local.Local.{Local}
 use Rattle.worker_messages.specs.declared.way.Way.{Way}
-use Rattle.worker_messages.specs.Shown.{marked, IsAtExchange}
+use Rattle.worker_messages.specs.Shown.{purpose_is, marked, IsAtExchange}
 use Rattle.worker_messages.specs.Equipped.{IsAtStep}
 use Rattle.worker_messages.specs.Arrived.{CanTell}
-use Rattle.worker_messages.specs.Told.{told}
-use Rattle.worker_messages.proofs.ToldLemmas.{told_is, same_row, can_tell, still_at, still_stands, unmarked}
+use Rattle.worker_messages.specs.Told.{told, IsWrittenFor}
+use Rattle.worker_messages.proofs.ToldLemmas.{told_is, told_back, same_row, can_tell, still_at, still_stands, unmarked}
 use Rattle.worker_messages.proofs.local.Local.until_exchange.Goals as goal
 
 pub tell-requires-clause-can : goal.tell-requires-clause-can
@@ -54,3 +54,30 @@ returns-in-Ok-clause-row g c = λ n s enough shown.
     (told_is t c.instructions-instructions.ensures.stands run.map run.formed w (omega (arith, below, many, same)) b s
     (c.in-Ok.ensures.shown n s enough shown) same)
     (subst (λ r. IsRow m.parts (told r m b) row) c.requires.rule c.tell.ensures.filled))
+
+pub returns-in-Ok-clause-read : goal.returns-in-Ok-clause-read
+returns-in-Ok-clause-read g c = λ n s j enough low shown.
+    let code = c.args.code.now in
+    let m = g.M.AddressMap.shape c.args.map.now in
+    let t = setting code m c.args.bound n in
+    let w = c.args.self.now.steps.bank.worker in
+    let b = c.arrive.new.self in
+    let run = c.requires.going.runnable in
+    let at = c.in-Ok.ensures.at in
+    let below = at.equipped.fitted.worker in
+    let many = at.equipped.workers in
+    let same = c.in-Ok.ensures.worker in
+    let stands = c.instructions-instructions.ensures.stands in
+    let row = g.W.Row.filled c.tell.new.row in
+    let lt : w < m.parts = omega (arith, below, many, same) in
+    let shows = c.in-Ok.ensures.shown n s enough shown in
+    let clear : marked c.tell.new.self.way s ≡ s =
+    ap (λ (x : Local). marked x.way s) c.tell.ensures.same ∙ unmarked b.way s at.going in
+    let is : message_at row j ≡ written code.rule (message_of t w s j) =
+    (subst (λ r. IsRow m.parts (told r m b) row) c.requires.rule c.tell.ensures.filled).each j low
+    ∙ told_is t stands run.map run.formed w lt b s shows same j in
+    subst (λ (x : Local). IsWrittenFor code.rule m j (purpose_is x.step) (message_of t w (marked c.tell.new.self.way s) j) (message_at row j))
+    (sym c.tell.ensures.same)
+    (subst (λ q. IsWrittenFor code.rule m j (purpose_is b.step) (message_of t w q j) (message_at row j)) (sym clear)
+    (subst (λ x. IsWrittenFor code.rule m j (purpose_is b.step) (message_of t w s j) x) (sym is)
+    (told_back t stands run.map run.formed w lt b s shows same c.tell.ensures.keys j)))
