@@ -4,11 +4,10 @@ use Rattle.std.specs.Prelude.{slice_get, slice_index_or, if◌then◌else◌}
 use Rattle.std.proofs.lemmas.Nat.{mul-le}
 use Rattle.address_map.specs.Lawful.{Shape}
 use Rattle.superstep_code.specs.Code.{SuperstepCode}
-use Rattle.superstep_machine.specs.declared.mark.HeaderMark.TheVariants.{Clear}
 use Rattle.superstep_machine.specs.Setting.{Setting}
 use Rattle.superstep_machine.specs.Parts.{UniformPart}
 use Rattle.superstep_machine.specs.Worker.{Worker}
-use Rattle.superstep_machine.specs.Stretch.{Arrival, At}
+use Rattle.superstep_machine.specs.Stretch.{At}
 use Rattle.superstep_machine.specs.Run as machine
 use Rattle.superstep_machine.specs.Run.{setting, is_held}
 use Rattle.superstep_steps.specs.Views.{put_is}
@@ -20,14 +19,14 @@ use Rattle.worker_steps.specs.declared.stop.Stop.TheVariants as stops
 use Rattle.worker_steps.specs.declared.worker.WorkerState.{WorkerState}
 use Rattle.worker_steps.specs.Fitted.{IsFitted}
 use Rattle.worker_steps.specs.Met.{IsVerifiedAt}
-use Rattle.worker_steps.specs.Stretch.{stop_is, rank_of, rank, stretch_by, Arrives, ArrivesAt, StandsAt}
+use Rattle.worker_steps.specs.Stretch.{stop_is, rank, stretch_by, ArrivesAt, StandsAt}
 use Rattle.worker_messages.specs.declared.step.Step.TheVariants as steps
 use Rattle.worker_messages.specs.declared.way.Way.{Way}
 use Rattle.worker_messages.specs.declared.way.Way.TheVariants as ways
 use Rattle.worker_messages.specs.declared.local.Local.{Local}
 use Rattle.worker_messages.specs.Reached.{IsReached, most_instructions}
-use Rattle.worker_messages.specs.Shown.{way_is, purpose_is, place_behind, ShowsWorker, IsShown, IsAtExchange}
-use Rattle.worker_messages.specs.Equipped.{IsEquipped, MayGoOn, IsAtStep, instr_of, left_by}
+use Rattle.worker_messages.specs.Shown.{way_is, purpose_is, place_behind, ShowsWorker, IsAtExchange}
+use Rattle.worker_messages.specs.Equipped.{IsEquipped, MayGoOn, instr_of, left_by}
 use Rattle.worker_messages.specs.Arrived.{step_at, way_at, stopped_at, HasArrived}
 
 -- ---- the definition's worker

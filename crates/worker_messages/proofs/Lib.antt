@@ -3,3 +3,4 @@ pub mod ReachedLemmas
 pub mod ArrivedLemmas
 pub mod WrittenLemmas
 pub mod ToldLemmas
+pub mod OpeningLemmas

@@ -1,10 +1,7 @@
 -- What is so of every state that a worker may come to.
-use Rattle.std.proofs.Common.{◌≡◌, ℕ, zero, suc, ◌<◌, List, [], ◌∷◌, Bool, true, false, refl, sym, ap, subst, ◌∙◌}
-use Rattle.std.specs.Prelude.{if◌then◌else◌}
-use Rattle.std.specs.List.{AllByRecursion}
+use Rattle.std.proofs.Common.{◌≡◌, ℕ, zero, suc, List, [], ℤ, refl, sym, ap, subst}
 use Rattle.superstep_code.specs.Limits.{IsCode}
-use Rattle.superstep_machine.specs.Setting.{Setting, workers}
-use Rattle.superstep_machine.specs.Words.{Message}
+use Rattle.superstep_machine.specs.Setting.{Setting}
 use Rattle.superstep_machine.specs.Worker.{Worker}
 use Rattle.superstep_machine.specs.Stretch.{Stop, ToSend, ToReply, ToVote, ToClose, Arrival, Nowhere, At}
 use Rattle.superstep_machine.specs.Run as machine
@@ -17,7 +14,7 @@ use Rattle.bsp_verify.proofs.RunLemmas.{Stops, Arrives, follow, Agrees, next_agr
 use Rattle.flat_machine.specs.Flatness.{IsMapFor}
 use Rattle.run_limits.specs.Within.{AreValues}
 use Rattle.run_limits.proofs.Keeping.{IsKept}
-use Rattle.run_limits.proofs.Runs.{KeptAt, until_kept, keeps, readies_kept, after_kept, opening_kept}
+use Rattle.run_limits.proofs.Runs.{KeptAt, until_kept, keeps, readies_kept, after_kept, none_kept}
 use Rattle.worker_messages.specs.Reached.{IsReached}
 
 -- a worker that fits in words, with a path to its place
@@ -37,8 +34,19 @@ module _ (t : Setting) (code : IsCode t.code) (room : IsMapFor t.code t.map) (fo
         within = (paths_sound t.code formed q.steps q.point q.comes).within;
       }
 
+  begins_kept : (input : List ℤ) → AreValues (machine.opening t input w).worker.cells → IsKept t w (machine.opening t input w).worker
+  begins_kept input values =
+      let none = none_kept t w in record {
+        uniform = none.uniform;
+        own = tt;
+        cells = values;
+        writes = tt;
+        few_own = none.few_own;
+        few_held = none.few_held;
+      }
+
   pub reached_kept : (n : ℕ) (s : machine.State) → IsReached t w n s → IsKept t w s.worker
-  reached_kept zero s (input, values, e) = subst (λ (q : machine.State). IsKept t w q.worker) (sym e) (opening_kept t code room input values w)
+  reached_kept zero s (input, values, e) = subst (λ (q : machine.State). IsKept t w q.worker) (sym e) (begins_kept input values)
   reached_kept (suc n) s (before, column, r, values, e) =
       subst (λ (q : machine.State). IsKept t w q.worker) (sym e)
       (after_kept t code room w (machine.ready t w before) column (readies_kept t code room w before (reached_kept n before r)) values)

@@ -1,21 +1,16 @@
 -- What a worker writes at an exchange are the messages of the machine's worker.
-use Rattle.std.proofs.Common.{◌≡◌, ℕ, ◌<◌, ◌≤◌, List, [], ◌∷◌, map, length, Bool, true, false, Option, Some, None, refl, sym, ap, subst, ◌∙◌, arith}
+use Rattle.std.proofs.Common.{◌≡◌, ℕ, ◌<◌, ◌≤◌, List, [], ◌∷◌, map, length, false, Some, refl, sym, ap, subst, ◌∙◌, arith}
 use Rattle.std.proofs.Common.{vec_capacity, pos, ℤ, ◌*◌}
 use Rattle.std.specs.Prelude.{slice_index_or}
 use Rattle.std.specs.List.{list_any}
 use Rattle.std.proofs.lemmas.List.{length-map}
-use Rattle.pram_model.specs.declared.rule.Rule.{Rule}
 use Rattle.address_map.specs.Lawful.{Shape}
 use Rattle.superstep_code.specs.Code.{SuperstepCode}
 use Rattle.superstep_code.specs.Limits.{IsCode}
-use Rattle.superstep_machine.specs.declared.mark.HeaderMark.{HeaderMark}
-use Rattle.superstep_machine.specs.declared.mark.HeaderMark.TheVariants.{Clear, OutOfMemory, OutOfReserve}
-use Rattle.superstep_machine.specs.declared.header.MessageHeader.{MessageHeader}
-use Rattle.superstep_machine.specs.HeaderWords.{header_words, blank_header}
+use Rattle.superstep_machine.specs.HeaderWords.{header_words}
 use Rattle.superstep_machine.specs.Setting.{Setting, workers}
-use Rattle.superstep_machine.specs.Parts.{PrivatePart}
 use Rattle.superstep_machine.specs.Steps.{is_active}
-use Rattle.superstep_machine.specs.Words.{CellAsk, Message, values_words, words, blank}
+use Rattle.superstep_machine.specs.Words.{CellAsk, values_words, words}
 use Rattle.superstep_machine.specs.WordReading.{header_of, asks_in, read_message}
 use Rattle.superstep_machine.specs.WordLaws.{IsReadBack}
 use Rattle.superstep_machine.specs.declared.key.Key.{Key}
@@ -35,19 +30,17 @@ use Rattle.combining.specs.AllModules.{column, room_at}
 use Rattle.combining.specs.Answers.{answers}
 use Rattle.worker_steps.specs.Shown.{own_in}
 use Rattle.message_rows.specs.Rows.{WrittenMessage, written, IsRow}
-use Rattle.message_rows.specs.Sends.{words_of, header_with, send_words, reply_message, CanBeWritten}
-use Rattle.combining.specs.Held.{puts_for}
+use Rattle.message_rows.specs.Sends.{words_of, header_with, reply_message, CanBeWritten}
 use Rattle.worker_messages.specs.declared.step.Step.{Step}
 use Rattle.worker_messages.specs.declared.step.Step.TheVariants as steps
 use Rattle.worker_messages.specs.declared.buffers.Buffers.{Buffers}
 use Rattle.worker_messages.specs.declared.way.Way.{Way}
 use Rattle.worker_messages.specs.declared.way.Way.TheVariants as ways
 use Rattle.worker_messages.specs.declared.local.Local.{Local}
-use Rattle.worker_messages.specs.Reached.{most_instructions}
-use Rattle.worker_messages.specs.Shown.{way_is, purpose_is, marked, cells_asked, ShowsWorker, IsShown, IsAtExchange}
-use Rattle.worker_messages.specs.Equipped.{most_words, AreBuffers, IsEquipped, MayGoOn, IsAtStep}
+use Rattle.worker_messages.specs.Shown.{way_is, purpose_is, marked, ShowsWorker, IsAtExchange}
+use Rattle.worker_messages.specs.Equipped.{most_words, AreBuffers, MayGoOn, IsAtStep}
 use Rattle.worker_messages.specs.Arrived.{HasArrived, CanTell}
-use Rattle.worker_messages.specs.Told.{IsWrittenFor, told_in_send, told_alone, told_at, told, told_mark}
+use Rattle.worker_messages.specs.Told.{IsWrittenFor, told_in_send, told_alone, told_at, told}
 use Rattle.worker_messages.proofs.ReachedLemmas.{IsPathed, exchange_pathed}
 use Rattle.worker_messages.proofs.WrittenLemmas.{fits, puts_to, words_are, can_be_written}
 

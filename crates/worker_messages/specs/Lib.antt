@@ -3,3 +3,4 @@ pub mod Shown
 pub mod Equipped
 pub mod Told
 pub mod Arrived
+pub mod Opened

@@ -1,7 +1,6 @@
 -- What a worker of a run shows of the state of the machine's worker.
-use Rattle.std.specs.Prelude.{◌≡◌, ℕ, ◌+◌, List, [], ◌∷◌, map, Option, Some, None, Bool, true, false, slice_index_or, if◌then◌else◌}
+use Rattle.std.specs.Prelude.{◌≡◌, ℕ, ◌+◌, List, [], ◌∷◌, map, Bool, true, false, slice_index_or}
 use Rattle.address_map.specs.Lawful.{Shape}
-use Rattle.superstep_machine.specs.declared.mark.HeaderMark.{HeaderMark}
 use Rattle.superstep_machine.specs.Setting.{Setting}
 use Rattle.superstep_machine.specs.Words.{CellAsk}
 use Rattle.superstep_machine.specs.Worker.{Worker}
@@ -10,8 +9,6 @@ use Rattle.superstep_machine.specs.Run as machine
 use Rattle.superstep_machine.specs.Refusals.{with_marks}
 use Rattle.combining.specs.AllModules.{column}
 use Rattle.combining.specs.Adding.{unanswered}
-use Rattle.worker_steps.specs.declared.stop.Stop.{Stop}
-use Rattle.worker_steps.specs.declared.stop.Stop.TheVariants as stops
 use Rattle.worker_steps.specs.Shown.{Shows}
 use Rattle.message_rows.specs.Sends.{words_of}
 use Rattle.worker_messages.specs.declared.step.Step.{Step}

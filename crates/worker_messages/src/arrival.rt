@@ -60,12 +60,7 @@ fn way_at(stop: Stop, way: Way) -> Way
 
 impl Local {
     // Up to the exchange at which its code stops.
-    fn go_on<R: WriteRule>(
-        &mut self,
-        code: &Code,
-        rule: &R,
-        bound: u32,
-    ) -> Result<(), AllocError>
+    fn go_on<R: WriteRule>(&mut self, code: &Code, rule: &R, bound: u32) -> Result<(), AllocError>
         requires rule { R.WriteRule.rule rule.now ≡ code.now.rule }
         requires formed { IsWellFormed code.now }
         requires fitted { IsFitted code.now self.old.steps }

@@ -4,11 +4,14 @@
 mod arrival;
 mod buffers;
 mod local;
+mod opening;
+mod refusal;
 mod step;
 mod telling;
 mod way;
 
 pub use buffers::Buffers;
 pub use local::Local;
+pub use refusal::RunRefusal;
 pub use step::Step;
 pub use way::Way;

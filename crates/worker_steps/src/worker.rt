@@ -57,6 +57,7 @@ impl WorkerState {
         requires few { most < 2 ^ 26 }
         ensures worker { IfOk result (λ x. (x.bank.worker ≡ worker) × (x.bank.workers ≡ workers)) }
         ensures most { IfOk result (λ x. x.bank.masks.most ≡ most) }
+        ensures place { IfOk result (λ x. x.place ≡ 0) }
         ensures fitted { IfOk result (λ x. (code : SuperstepCode) → code.private_registers ≡ registers →
             ((t : Setting) → workers_of t ≡ workers → length (processors t worker code.procs) ≤ most) → IsFitted code x) }
         ensures verified { IfOk result (λ x. (code : SuperstepCode) → IsVerifiedAt code x) }

@@ -1,8 +1,7 @@
-use Rattle.std.proofs.Common.{◌≡◌, false, ◌<◌, sym, subst, ap, ◌∙◌, arith}
+use Rattle.std.proofs.Common.{◌≡◌, ◌<◌, sym, subst, ap, ◌∙◌, arith}
 use Rattle.message_rows.specs.Rows.{IsRow, written, message_at}
 use Rattle.superstep_machine.specs.Run.{setting, message_of}
 use Rattle.worker_messages.specs.declared.local.Local.{Local}
-use Rattle.worker_messages.specs.declared.way.Way.{Way}
 use Rattle.worker_messages.specs.Shown.{purpose_is, marked, IsAtExchange}
 use Rattle.worker_messages.specs.Equipped.{IsAtStep}
 use Rattle.worker_messages.specs.Arrived.{CanTell}
