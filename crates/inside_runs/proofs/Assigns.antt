@@ -5,7 +5,6 @@ use Rattle.std.specs.Prelude.{if◌then◌else◌, nat_lt}
 use Rattle.std.proofs.lemmas.Bool.Decides.{nat_tests}
 use Rattle.write_rules.specs.declared.fault.Fault.{Fault}
 use Rattle.superstep_code.specs.declared.instr.Side.TheVariants.{Private}
-use Rattle.superstep_code.specs.declared.instr.Instr.{Instr}
 use Rattle.superstep_code.specs.declared.instr.Instr.TheVariants.{Mark, Copy}
 use Rattle.superstep_machine.specs.Keys.{least}
 use Rattle.pram_names.specs.declared.body.Expression.{Expression}
@@ -16,17 +15,16 @@ use Rattle.pram_check.specs.Checked.{Checked}
 use Rattle.pram_check.specs.Bounded as bounded
 use Rattle.pram_check.specs.Bounded.{IsInnerAssign, names_of, with_locals}
 use Rattle.pram_meaning.specs.Attempt.{attempt_step}
-use Rattle.pram_meaning.specs.Bounded.{Behaviour, Done, Goes, Stops, Reaches, then_do, valued, assign_on, attempted_on, perform_on}
+use Rattle.pram_meaning.specs.Bounded.{Done, Goes, Reaches, then_do, valued, assign_on, attempted_on, perform_on}
 use Rattle.pram_meaning.specs.Conflict.{Part}
 use Rattle.pram_meaning.specs.Store.{State, seen_by}
 use Rattle.pram_meaning.specs.Together.{assigned_by, parts, together}
 use Rattle.pram_meaning.specs.Values.{ComesToValues, HasValues, IsValue}
 use Rattle.pram_meaning.proofs.ValuesKept.{steps_keep_values}
 use Rattle.flat_machine.specs.Flat.{Flat}
-use Rattle.stretches.specs.Applied.{applied}
 use Rattle.stretches.specs.Along.{Run}
 use Rattle.stretches.specs.Folds.{Stand}
-use Rattle.stretches.specs.Frames.{Frame, StandsIn, present}
+use Rattle.stretches.specs.Frames.{Frame, present}
 use Rattle.stretches.specs.Tells.{IsCalm}
 use Rattle.stretches.proofs.Joins.{stands_split}
 use Rattle.stretches.proofs.Tells.{notes_nothing}
@@ -45,15 +43,14 @@ use Rattle.formed_code.proofs.Fine.{straight_parts_are_fine}
 use Rattle.formed_code.proofs.Straight.{marks_come_first}
 use Rattle.formula_values.specs.Environments.{IsNamed}
 use Rattle.formula_values.specs.Headings.{heading_of}
-use Rattle.formula_values.specs.Inside.{ShowsInside}
 use Rattle.formula_values.specs.Tasks.{IsSingle}
 use Rattle.formula_values.specs.Terms.{term}
 use Rattle.formula_values.proofs.Tasks.{expressions_are_single}
 use Rattle.formula_values.proofs.Terms.{expressions_are_terms, expressions_are_named}
 use Rattle.exchange_bound.specs.Bound.{one_if}
-use Rattle.exchange_bound.specs.Events.{Event, Runs, behind, begun, levels, step_events}
+use Rattle.exchange_bound.specs.Events.{Event, Runs, begun, levels, step_events}
 use Rattle.exchange_bound.specs.Spent as events
-use Rattle.statement_runs.specs.Between.{IsBetween, IsRunOf}
+use Rattle.statement_runs.specs.Between.{IsRunOf}
 use Rattle.statement_runs.specs.Follows.{Follows}
 use Rattle.statement_runs.proofs.Costs.{straight_parts_cost}
 use Rattle.statement_runs.proofs.Places.{ready_to_write}
@@ -62,35 +59,11 @@ use Rattle.inside_runs.specs.Steps.{GoesWithin}
 use Rattle.inside_runs.specs.Within.{IsWithin}
 use Rattle.inside_runs.proofs.Attempted.{one_more, attempted}
 use Rattle.inside_runs.proofs.Evaluated.{marked, end, names, register, tells, apart}
-use Rattle.inside_runs.proofs.Locals as locals_file
+use Rattle.inside_runs.proofs.Locals as local_values
+use Rattle.inside_runs.proofs.Parts.{Followed, behind_nothing, within_seen}
 use Rattle.inside_runs.proofs.Passed.{passed, goes_from}
 use Rattle.inside_runs.proofs.Seen.{sees_values}
-use Rattle.inside_runs.proofs.Teams.{locals_kept}
-use Rattle.inside_runs.proofs.Writes as writes_file
-
--- A part of a body is followed, from a place by so many exchanges: it has these events, and this is what it does.
-abbrev pub Followed : (p : Checked) (t : Run) (locals base vote : ℕ) (fr : Frame) (held left : Bool) (code : List Instr) (place spent : ℕ) →
-    Flat → List Event → Done → Type 0
-Followed p t locals base vote fr held left code place spent f es d =
-    Follows t spent held es (GoesWithin p t locals base vote fr left (place + length code) (spent + events.spent es held) f) d
-
--- the same in a state in which the same is seen
-pub within_seen : (p : Checked) (t : Run) (locals base : ℕ) (fr : Frame) (held left : Bool) (m : State) (place other spent more : ℕ)
-    (f g : Flat) → IsWithin p t locals base fr held m place spent f → IsBetween t left m other more g →
-    applied t.code g ≡ applied t.code f → IsWithin p t locals base fr left m other more g
-within_seen p t locals base fr held left m place other spent more f g w b e = record {
-  between = b;
-  shows = subst (ShowsInside p locals m) (sym e) w.shows;
-  stands = subst (StandsIn (behind_locals locals) base fr) (sym e) w.stands;
-  sizes = w.sizes;
-  locals_of = w.locals_of;
-  values = w.values;
-}
-
-pub behind_nothing : {A : Type 0} (d : Behaviour A) → (let none : List Event = [] in behind d (λ x m. none)) ≡ []
-behind_nothing (Goes a m) = refl
-behind_nothing (Stops fault out) = refl
-behind_nothing (Reaches out) = refl
+use Rattle.inside_runs.proofs.Writes as set_writes
 
 less_is : (i n : ℕ) → i < n → nat_lt i n ≡ true
 less_is i n l = grind (arith, nat_tests)
@@ -144,13 +117,12 @@ module _ (p : Checked) (t : Run) (of : IsRunOf p t) (locals base vote : ℕ) (fr
       let fine = straight_parts_are_fine in
       let cost = straight_parts_cost in
       let shown = w.shows in
-      let leaves = locals_file.leaves_copied p t of locals base free fr held m place spent f w line e named.1.0 keep x named.0 vote in
+      let leaves = local_values.leaves_copied p t of locals base free fr held m place spent f w line e named.1.0 keep x named.0 vote in
       let none = leaves.shows in
       let empty = none.rests in
       let last = end p t of locals base free fr held m place spent f w line (formula_of e)
       (names p t of locals base free fr held m place spent f w line e named.1.0) in
       let r = register p t of locals base free fr held m place spent f w line e named.1.0 in
-      let values = locals_file.values p t of locals base free fr held m place spent f w line e named.1.0 keep x named.0 in
       let xs = cut_parts p m (Gets (term_of e)) (present fr) in
       let h = heading_of (marked p t of locals base free fr held m place spent f w line) in
       subst (λ ys. Follows t spent held ys (goes ys) (then_do a (λ xs now. Goes tt (assigned_by p (inner.Local x) xs now))))
@@ -172,21 +144,16 @@ module _ (p : Checked) (t : Run) (of : IsRunOf p t) (locals base vote : ℕ) (fr
       })
       (λ l g passes ok okay.
       let team = locals_are_values h p m (term_of e) (present fr) ok x m.team in
-      let now : locals_file.with_values p t of locals base free fr held m place spent f w line e named.1.0 keep x named.0
+      let now : local_values.with_values p t of locals base free fr held m place spent f w line e named.1.0 keep x named.0
       ≡ assigned_by p (inner.Local x) xs (one_more m) = ap (λ y. let s : State = record (one_more m) { team = y } in s) (sym team) in
       goes_from p t locals base vote fr (still held (formula_of e)) (place + 1 + length stretch) (place + length (Mark line ∷ stretch))
       (spent + events.spent es held) (spent + events.spent es held) f f _ (omega arith) (omega arith) (λ r k. refl)
       (subst (GoesWithin p t locals base vote fr (still held (formula_of e)) (place + 1 + length stretch) (spent + events.spent es held) f) now
       (passed p t locals base base vote fr fr held (still held (formula_of e)) m place spent f w line stretch _ (2 * nesting (formula_of e))
       (spent + events.spent es held) (cost.got keep held Private base (formula_of e) (local x)) (omega arith) l g passes leaves
-      (record {
-        count = refl;
-        output = refl;
-        sizes = (let s = w.sizes in record { uniforms = s.uniforms; cells = s.cells });
-        locals_of = locals_kept locals x values (present fr) m.team w.locals_of;
-        values = subst HasValues (sym now)
-            (values_behind (inner.Local x) e named xs (assignment_parts p m (inner.Local x) e (present fr)) l okay);
-      }))))
+      (local_values.next_copied p t of locals base free fr held m place spent f w line e named.1.0 keep x named.0
+      (subst HasValues (sym now)
+      (values_behind (inner.Local x) e named xs (assignment_parts p m (inner.Local x) e (present fr)) l okay))))))
       )
 
   -- ---- a write
@@ -236,31 +203,27 @@ module _ (p : Checked) (t : Run) (of : IsRunOf p t) (locals base vote : ℕ) (fr
           rests = shown_now.rests;
           stand = halves.1;
           fine = fine.written keep held Private base entry d c;
-          none = writes_file.rests_written p t of locals base free fr waiting m at by g now line entry d c named sd sc values keep;
+          none = set_writes.rests_written p t of locals base free fr waiting m at by g now line entry d c named sd sc values keep;
           calm = subst (IsCalm t.code)
               (let n : place + length (writes keep held line Private base entry d c) ≡ at + 1 + length stretch = omega (arith, count, whole) in n)
               calm;
           apart = apart p t of locals base free fr waiting m at by g now line (Writes entry (term d) (term c));
-          tells = writes_file.tells_written p t of locals base free fr waiting m at by g now line entry d c named sd sc values keep;
+          tells = set_writes.tells_written p t of locals base free fr waiting m at by g now line entry d c named sd sc values keep;
           few = omega (arith, few);
         })
         (λ l after passes ok okay.
-        let cells = writes_file.same_length p t of locals base free fr waiting m at by g now line entry d c named sd sc values keep in
-        let leaves = writes_file.leaves_written p t of locals base free fr waiting m at by g now line entry d c named sd sc values keep ok vote in
+        let cells = set_writes.with_cells p t of locals base free fr waiting m at by g now line entry d c named sd sc values keep in
+        let leaves = set_writes.leaves_written p t of locals base free fr waiting m at by g now line entry d c named sd sc values keep ok vote in
         goes_from p t locals base vote fr true (at + 1 + length stretch) (place + length (writes keep held line Private base entry d c))
-        (spent + events.spent es held) (spent + events.spent es held) f g _ (omega (arith, count, whole)) (omega arith)
+        (spent + events.spent es held) (spent + events.spent es held) f g (assigned_by p x xs (one_more m)) (omega (arith, count, whole))
+        (omega arith)
         (λ r k. ap (λ (y : Flat). y.uniform.registers r) ready.seen)
         (subst (GoesWithin p t locals base vote fr true (at + 1 + length stretch) (spent + events.spent es held) g)
         (sym (effect xs (one_more m)))
-        (passed p t locals base base vote fr fr waiting true m at by g now line stretch _ (2 * nesting both)
+        (passed p t locals base base vote fr fr waiting true m at by g now line stretch cells (2 * nesting both)
         (spent + events.spent es held) (cost.written keep waiting Private base entry d c) (omega (arith, goes_first)) l after passes leaves
-        (record {
-          count = refl;
-          output = refl;
-          sizes = (let s = w.sizes in record { uniforms = s.uniforms; cells = cells ∙ s.cells });
-          locals_of = w.locals_of;
-          values = subst HasValues (effect xs (one_more m)) (values_behind x e bound xs same_parts l okay);
-        }))))
+        (set_writes.next_written p t of locals base free fr waiting m at by g now line entry d c named sd sc values keep
+        (subst HasValues (effect xs (one_more m)) (values_behind x e bound xs same_parts l okay))))))
         )
 
   -- ---- each of them

@@ -28,7 +28,7 @@ use Rattle.statement_runs.specs.Follows.{Follows, HoldsBehind}
 use Rattle.statement_runs.proofs.Joined.{follows_also, follows_sooner, follows_behind, follows_then, spent_behind}
 use Rattle.inside_runs.specs.Steps.{GoesWithin}
 use Rattle.inside_runs.specs.Within.{IsWithin}
-use Rattle.inside_runs.proofs.Assigns.{Followed}
+use Rattle.inside_runs.proofs.Parts.{Followed}
 use Rattle.inside_runs.proofs.Attempted.{one_more}
 use Rattle.inside_runs.proofs.Left.{reads_send}
 use Rattle.inside_runs.proofs.Moves.{within_at, unmask_within}

@@ -2,6 +2,9 @@
 use Rattle.std.proofs.Common.{ℕ, zero, suc, ◌+◌, ◌≤◌, List, [], ◌∷◌, Bool, true, false, Result, Ok, Err, arith}
 use Rattle.std.specs.Prelude.{if◌then◌else◌, nat_lt}
 use Rattle.write_rules.specs.declared.fault.Fault.{Fault}
+use Rattle.stretches.specs.Along.{Run}
+use Rattle.exchange_bound.specs.Events.{Event}
+use Rattle.statement_runs.specs.Follows.{Follows}
 use Rattle.pram_names.specs.declared.body.Step as step
 use Rattle.pram_names.specs.declared.body.Step.{Step, Row_of-Step, end_of-Step, more_of-Step}
 use Rattle.pram_check.specs.Checked.{Checked}
@@ -36,6 +39,13 @@ counted_grows n k m l = go (nat_lt m.count n)
 pub valued_grows : {A : Type 0} (n : ℕ) (r : Result A Fault) (m : State) → n ≤ m.count → Grows n (valued r m)
 valued_grows n (Ok a) m l = l
 valued_grows n (Err k) m l = tt
+
+-- where it goes on, also that so many have begun
+pub follows_grown : (t : Run) (before : ℕ) (held : Bool) (es : List Event) (P : State → Type 0) (n : ℕ) (d : Done) → Follows t before held es P d →
+    Grows n d → Follows t before held es (λ m. P m × (n ≤ m.count)) d
+follows_grown t before held es P n (Goes u m) h g = (h, g)
+follows_grown t before held es P n (Stops fault out) h g = h
+follows_grown t before held es P n (Reaches out) h g = h
 
 module _ (p : Checked) (n : ℕ) where
   attempted_grows : (k line : ℕ) (a : View → Attempt Effect) (vs : List ℕ) (m : State) → k ≤ m.count → Grows k (attempted_on p n line a vs m)

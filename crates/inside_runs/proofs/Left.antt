@@ -26,7 +26,7 @@ use Rattle.exchange_bound.specs.Spent.{held_after, held_behind}
 use Rattle.statement_runs.specs.Follows.{HoldsBehind}
 use Rattle.statement_runs.proofs.Joined.{holds_behind, holds_then}
 use Rattle.inside_runs.proofs.Attempted.{one_more}
-use Rattle.inside_runs.proofs.Assigns.{behind_nothing}
+use Rattle.inside_runs.proofs.Parts.{behind_nothing}
 
 -- reads send what is held
 pub reads_send : (held : Bool) (n : ℕ) → (held && not (spent.any_level n)) ≡ (held && not (shapes.any_level n))

@@ -5,6 +5,7 @@ pub mod Teams
 pub mod Shown
 pub mod Attempted
 pub mod Passed
+pub mod Parts
 pub mod Evaluated
 pub mod Tests
 pub mod Locals
@@ -14,6 +15,7 @@ pub mod Grown
 pub mod Left
 pub mod Flags
 pub mod Moves
+pub mod LoopPlaces
 pub mod Loops
 pub mod Branches
 pub mod Steps

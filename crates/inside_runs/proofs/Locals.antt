@@ -18,6 +18,7 @@ use Rattle.pram_check.specs.Checked.{Checked}
 use Rattle.pram_check.specs.Bounded as bounded
 use Rattle.pram_check.specs.Bounded.{Names, names_of, with_locals}
 use Rattle.pram_meaning.specs.Store.{State, Member, View, member_of, seen_by}
+use Rattle.pram_meaning.specs.Values.{HasValues}
 use Rattle.flat_machine.specs.Flat.{Flat, after_instr}
 use Rattle.stretches.specs.Along.{Run}
 use Rattle.stretches.specs.Frames.{Frame, StandsIn, present}
@@ -34,8 +35,8 @@ use Rattle.statement_runs.specs.Between.{IsRunOf}
 use Rattle.inside_runs.specs.Within.{IsWithin}
 use Rattle.inside_runs.proofs.Attempted.{one_more}
 use Rattle.inside_runs.proofs.Evaluated.{end, end_shows, end_left, end_stands, done_is, names, register, gives}
-use Rattle.inside_runs.proofs.Passed.{Leaves}
-use Rattle.inside_runs.proofs.Teams.{set_in, changed, length_set_in, excluded, included, locals_of_member}
+use Rattle.inside_runs.proofs.Passed.{Leaves, IsNext}
+use Rattle.inside_runs.proofs.Teams.{set_in, changed, length_set_in, excluded, included, locals_kept, locals_of_member}
 
 -- ---- a register that is set
 
@@ -232,4 +233,14 @@ module _ (p : Checked) (t : Run) (of : IsRunOf p t) (locals base : ℕ) (free : 
         registers = λ q b. ap (λ (g : Flat). g.uniform.registers q) done_copied ∙ (let a = k (q + 1) in a.registers q (omega arith));
         shows = subst (ShowsInside p locals with_values) (sym done_copied) copied_shows;
         stands = subst (StandsIn (behind_locals locals) base fr) (sym done_copied) copied_stands;
+      }
+
+  pub next_copied : HasValues with_values → IsNext p locals m with_values
+  next_copied h =
+      let s = w.sizes in record {
+        count = refl;
+        output = refl;
+        sizes = record { uniforms = s.uniforms; cells = s.cells };
+        locals_of = locals_kept locals x values (present fr) m.team w.locals_of;
+        values = h;
       }

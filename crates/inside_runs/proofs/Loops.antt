@@ -4,20 +4,19 @@ use Rattle.std.proofs.Common.{length-append}
 use Rattle.std.specs.Prelude.{if◌then◌else◌}
 use Rattle.pram_values.specs.Truth.{is_nonzero}
 use Rattle.superstep_code.specs.declared.instr.Instr.{Instr}
-use Rattle.superstep_code.specs.declared.instr.Instr.TheVariants.{Mark, Unmask, Jump, JumpIfZero}
+use Rattle.superstep_code.specs.declared.instr.Instr.TheVariants.{Mark, Unmask}
 use Rattle.superstep_machine.specs.Parts.{Registers}
 use Rattle.pram_names.specs.declared.body.Expression.{Expression}
 use Rattle.pram_check.specs.Checked.{Checked}
 use Rattle.pram_check.specs.Bounded as bounded
 use Rattle.pram_check.specs.Bounded.{names_of, with_locals}
-use Rattle.pram_meaning.specs.Bounded.{Behaviour, Done, Goes, Stops, Reaches, then_do, tested_on, turns_on, unless_none}
+use Rattle.pram_meaning.specs.Bounded.{Behaviour, Done, Goes, then_do, tested_on, turns_on, unless_none}
 use Rattle.pram_meaning.specs.Conflict.{Part}
 use Rattle.pram_meaning.specs.Store.{State}
 use Rattle.pram_meaning.specs.Together.{those}
 use Rattle.flat_machine.specs.Flat.{Flat, after_instr}
 use Rattle.stretches.specs.Applied.{applied}
-use Rattle.stretches.specs.Along.{Run, IsAt}
-use Rattle.stretches.specs.Folds.{Stand}
+use Rattle.stretches.specs.Along.{Run}
 use Rattle.stretches.specs.Frames.{Frame, present, is_some, Keeps, looping}
 use Rattle.stretches.specs.Tells.{IsCalm}
 use Rattle.stretches.proofs.Loops.{loops_close}
@@ -34,10 +33,11 @@ use Rattle.statement_runs.proofs.Joined.{follows_also, follows_sooner, follows_b
 use Rattle.statement_runs.proofs.Places.{jump_between, fork_between}
 use Rattle.inside_runs.specs.Steps.{GoesWithin}
 use Rattle.inside_runs.specs.Within.{IsWithin}
-use Rattle.inside_runs.proofs.Assigns.{Followed, within_seen}
+use Rattle.inside_runs.proofs.LoopPlaces.{LoopStands}
+use Rattle.inside_runs.proofs.Parts.{Followed, within_seen}
 use Rattle.inside_runs.proofs.Attempted.{one_more}
 use Rattle.inside_runs.proofs.Flags.{flags_now, keeps_now, test_results, flags_follow}
-use Rattle.inside_runs.proofs.Grown.{Grows}
+use Rattle.inside_runs.proofs.Grown.{Grows, follows_grown}
 use Rattle.inside_runs.proofs.Moves.{within_at, unmask_within, flushed_within}
 use Rattle.inside_runs.proofs.Passed.{goes_from}
 
@@ -54,22 +54,6 @@ unless_some (v ∷ vs) a b e = refl
 nobody : (vs : List ℕ) → is_some vs ≡ false → [] ≡ vs
 nobody [] e = refl
 nobody (v ∷ vs) e = cc
-
--- where it goes on, also that so many have begun
-follows_grown : (t : Run) (before : ℕ) (held : Bool) (es : List Event) (P : State → Type 0) (n : ℕ) (d : Done) → Follows t before held es P d →
-    Grows n d → Follows t before held es (λ m. P m × (n ≤ m.count)) d
-follows_grown t before held es P n (Goes u m) h g = (h, g)
-follows_grown t before held es P n (Stops fault out) h g = h
-follows_grown t before held es P n (Reaches out) h g = h
-
--- where the parts of a loop stand: its test, the jump out of it, the body, the jump back, and the end
-pub record LoopStands (t : Run) (head : ℕ) (test : List Instr) (vote : ℕ) (part : List Instr) (left : Bool) : Type 0 where
-  pub begins : Stand t head test
-  pub fork : IsAt t (head + length test) (JumpIfZero vote (head + length test + 1 + length (sent part left) + 1))
-  pub sends : Stand t (head + length test + 1 + length part) (flush left)
-  pub jump : IsAt t (head + length test + 1 + length (sent part left)) (Jump head)
-  pub unmask : IsAt t (head + length test + 1 + length (sent part left) + 1) Unmask
-  pub calm : IsCalm t.code (head + length test)
 
 module _ (p : Checked) (t : Run) (of : IsRunOf p t) (locals base vote : ℕ) (free : behind_locals locals ≤ base)
     (further : behind_locals locals ≤ base + 1) (above : behind_variables p.uniforms ≤ vote) (fr : Frame) (line : ℕ) (e : Expression)

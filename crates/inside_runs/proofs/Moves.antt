@@ -23,7 +23,7 @@ use Rattle.formula_values.specs.Inside.{ShowsInside}
 use Rattle.exchange_bound.specs.Bound.{one_if}
 use Rattle.statement_runs.proofs.Places.{between_at, work_between, flushed}
 use Rattle.inside_runs.specs.Within.{IsWithin}
-use Rattle.inside_runs.proofs.Assigns.{within_seen}
+use Rattle.inside_runs.proofs.Parts.{within_seen}
 use Rattle.inside_runs.proofs.Locals.{either_same, either_other}
 use Rattle.inside_runs.proofs.Shown.{still_inside, mask_shows, flip_shows, unmask_shows}
 

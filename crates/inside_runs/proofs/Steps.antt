@@ -2,12 +2,12 @@
 use Rattle.std.proofs.Common.{◌≡◌, ℕ, ◌+◌, ◌≤◌, List, [], ◌∷◌, ◌++◌, length, Bool, false, not, refl, subst, arith}
 use Rattle.std.proofs.Common.{length-append}
 use Rattle.superstep_code.specs.declared.instr.Instr.{Instr}
-use Rattle.superstep_code.specs.declared.instr.Instr.TheVariants.{Mark, Flip, Unmask, Jump, JumpIfZero}
+use Rattle.superstep_code.specs.declared.instr.Instr.TheVariants.{Mark, Flip, Unmask}
 use Rattle.pram_names.specs.declared.body.Step as step
 use Rattle.pram_names.specs.declared.body.Step.{Step, Row_of-Step, end_of-Step, more_of-Step}
 use Rattle.pram_check.specs.Checked.{Checked}
 use Rattle.pram_check.specs.Bounded.{IsStep, ArePartSteps, AreSteps, names_of, with_locals}
-use Rattle.pram_meaning.specs.Bounded.{Done, then_do, tested_on, perform_on, perform_row_on, perform_list_on, turns_on}
+use Rattle.pram_meaning.specs.Bounded.{tested_on, perform_on, perform_row_on, perform_list_on, turns_on}
 use Rattle.pram_meaning.specs.Store.{State}
 use Rattle.flat_machine.specs.Flat.{Flat, after_instr}
 use Rattle.stretches.specs.Applied.{applied}
@@ -21,52 +21,26 @@ use Rattle.stretches.proofs.Joins.{stands_split}
 use Rattle.plain_form.specs.Formulas.{formula_of}
 use Rattle.plain_form.specs.Inside.{Frame, step_code, part_code, steps_code, step_left, part_left, steps_left, has_part}
 use Rattle.plain_form.specs.Registers.{behind_variables, behind_locals}
-use Rattle.plain_form.specs.Shapes.{flush, still, sent, flipped, flagged, looped}
+use Rattle.plain_form.specs.Shapes.{still, sent, flipped, flagged, looped}
 use Rattle.formed_code.specs.Straight.{masking, flagging}
-use Rattle.formed_code.proofs.Calm.{statements_begin_calm, parts_end_calm, loops_are_calm, masks_are_calm, exits_are_calm}
+use Rattle.formed_code.proofs.Calm.{statements_begin_calm, masks_are_calm, exits_are_calm}
 use Rattle.exchange_bound.specs.Bound.{one_if}
-use Rattle.exchange_bound.specs.Events.{Event, Runs, Cut, Votes, behind, begun, levels, turns_on_events, step_events, step_row_events, steps_events}
+use Rattle.exchange_bound.specs.Events.{Runs, Cut, Votes, begun, levels, turns_on_events, step_events, step_row_events, steps_events}
 use Rattle.exchange_bound.specs.Spent as events
 use Rattle.statement_runs.specs.Between.{IsRunOf}
-use Rattle.statement_runs.specs.Follows.{Follows, HoldsBehind}
-use Rattle.statement_runs.proofs.Joined.{follows_also, follows_then, spent_behind}
+use Rattle.statement_runs.specs.Follows.{Follows}
+use Rattle.statement_runs.proofs.Joined.{follows_also}
 use Rattle.inside_runs.specs.Steps.{GoesWithin, StepsAreFollowed}
 use Rattle.inside_runs.specs.Within.{IsWithin}
-use Rattle.inside_runs.proofs.Assigns.{Followed, assign_followed}
+use Rattle.inside_runs.proofs.Assigns.{assign_followed}
 use Rattle.inside_runs.proofs.Branches.{branches_follow}
 use Rattle.inside_runs.proofs.Grown.{row_grows}
 use Rattle.inside_runs.proofs.Left.{step_holds, row_holds, list_holds}
-use Rattle.inside_runs.proofs.Loops.{LoopStands, loop_follows}
+use Rattle.inside_runs.proofs.LoopPlaces.{loop_length, loop_stands}
+use Rattle.inside_runs.proofs.Loops.{loop_follows}
+use Rattle.inside_runs.proofs.Parts.{Followed, both_followed}
 use Rattle.inside_runs.proofs.Moves.{within_at, flip_within, opens}
 use Rattle.inside_runs.proofs.Passed.{goes_from}
-
--- where the parts of a loop stand
-loop_stands : (t : Run) (head : ℕ) (test : List Instr) (vote : ℕ) (part : ℕ → List Instr) (left : Bool) →
-    Stand t head (looped head test vote (λ n. sent (part n) left)) →
-    IsAt t (head + length (looped head test vote (λ n. sent (part n) left))) Unmask → IsCalm t.code (head + length test) →
-    LoopStands t head test vote (part (head + length test + 1)) left
-loop_stands t head test vote part left h last calm =
-    let start = head + length test + 1 in
-    let body = sent (part start) left in
-    let fork = JumpIfZero vote (start + length body + 1) in
-    let first = stands_split t head ((test ++ fork ∷ []) ++ body) (Jump head ∷ []) h in
-    let second = stands_split t head (test ++ fork ∷ []) body first.0 in
-    let third = stands_split t head test (fork ∷ []) second.0 in
-    let n1 = length-append test (fork ∷ []) in
-    let n2 = length-append (test ++ fork ∷ []) body in
-    let n3 = length-append ((test ++ fork ∷ []) ++ body) (Jump head ∷ []) in
-    let inner = subst (λ k. Stand t k body) (let e : head + length (test ++ fork ∷ []) ≡ start = omega (arith, n1) in e) second.1 in
-    record {
-      begins = third.0;
-      fork = third.1.0;
-      sends = (stands_split t start (part start) (flush left) inner).1;
-      jump = subst (λ k. IsAt t k (Jump head))
-          (let e : head + length ((test ++ fork ∷ []) ++ body) ≡ start + length body = omega (arith, n1, n2) in e) first.1.0;
-      unmask = subst (λ k. IsAt t k Unmask)
-          (let e : head + length (looped head test vote (λ n. sent (part n) left)) ≡ start + length body + 1 = omega (arith, n1, n2, n3) in e)
-          last;
-      calm = calm;
-    }
 
 module _ (p : Checked) (t : Run) (of : IsRunOf p t) (w : Frame) (locals : ℕ) (above : behind_variables p.uniforms ≤ w.vote) where
   -- what a statement or a part is run from
@@ -80,33 +54,6 @@ module _ (p : Checked) (t : Run) (of : IsRunOf p t) (w : Frame) (locals : ℕ) (
   abbrev GoesOther : ℕ → frames.Frame → Bool → ℕ → ℕ → Flat → State → Type 0
   GoesOther base fr left place spent f now =
       (passing : ℕ → Bool) × GoesWithin p t locals base w.vote (narrowed passing fr) left place spent f now
-
-  -- one behind the other
-  both_followed : (base : ℕ) (fr : frames.Frame) (held between left : Bool) (first second : List Instr) (m : State) (place spent : ℕ) (f : Flat)
-      (es : List Event) (fs : State → List Event) (d : Done) (k : State → Done) →
-      Followed p t locals base w.vote fr held between first place spent f es d → HoldsBehind held es between d →
-      ((now : State) (spent : ℕ) (g : Flat) → IsWithin p t locals base fr between now (place + length first) spent g →
-      Followed p t locals base w.vote fr between left second (place + length first) spent g (fs now) (k now)) →
-      Followed p t locals base w.vote fr held left (first ++ second) place spent f (es ++ behind d (λ u now. fs now))
-      (then_do d (λ u now. k now))
-  both_followed base fr held between left first second m place spent f es fs d k h holds next =
-      let n = length-append first second in
-      let P = λ (now : State).
-      GoesWithin p t locals base w.vote fr between (place + length first) (spent + events.spent es held) f now in
-      let Q = λ (ys : List Event) (now : State).
-      GoesWithin p t locals base w.vote fr left (place + length (first ++ second)) (spent + events.spent ys held) f now in
-      follows_then t spent held between es fs P Q d k h holds
-      (λ now x e.
-      let by = spent + events.spent es held in
-      let g = x.behind in
-      let s = spent_behind es (fs now) held between e in
-      follows_also t by between (fs now)
-      (GoesWithin p t locals base w.vote fr left (place + length first + length second) (by + events.spent (fs now) between) g)
-      (Q (es ++ fs now)) (k now)
-      (λ last y. goes_from p t locals base w.vote fr left (place + length first + length second) (place + length (first ++ second))
-      (by + events.spent (fs now) between) (spent + events.spent (es ++ fs now) held) f g last (omega (arith, n)) (omega (arith, s))
-      x.registers y)
-      (next now by g x.within))
 
   -- what is to be shown of a row
   abbrev RowFollows : {j : _} → Row_of-Step j → Type 0
@@ -220,51 +167,39 @@ module _ (p : Checked) (t : Run) (of : IsRunOf p t) (w : Frame) (locals : ℕ) (
         let halves = stands_split t place front loop outer.0 in
         let n1 = length-append front loop in
         let n2 = length-append (front ++ loop) (Unmask ∷ []) in
-        let fork = JumpIfZero w.vote (start + length (sent part left) + 1) in
-        let n3 = length-append test (fork ∷ []) in
-        let n4 = length-append (test ++ fork ∷ []) (sent part left) in
-        let n5 = length-append ((test ++ fork ∷ []) ++ sent part left) (Jump head ∷ []) in
-        let calm = loops_are_calm t head line w.vote (flagging w.keep w.vote base (base + 1) formula) (λ n. sent (inner n) left) halves.1
-        (begin.sent t start part left (begin.inner_part t w (base + 1) start false body)) (exits_are_calm t place front loop h.stand h.calm) in
+        let n3 = loop_length t head line w.vote (flagging w.keep w.vote base (base + 1) formula) inner left in
         let last = subst (λ n. IsAt t n Unmask)
         (let k : place + length (front ++ loop) ≡ head + length loop = omega (arith, n1) in k) outer.1.0 in
-        let stands = loop_stands t head test w.vote inner left halves.1 last calm.0 in
-        let body_stands = stands_split t start part (flush left)
-        (subst (λ n. Stand t n (sent part left)) (let k : head + length (test ++ fork ∷ []) ≡ start = omega (arith, n3) in k)
-        (stands_split t head (test ++ fork ∷ []) (sent part left)
-        (stands_split t head ((test ++ fork ∷ []) ++ sent part left) (Jump head ∷ []) halves.1).0).1) in
-        let whole_stands = subst (λ n. Stand t n (sent part left)) (let k : head + length (test ++ fork ∷ []) ≡ start = omega (arith, n3) in k)
-        (stands_split t head (test ++ fork ∷ []) (sent part left)
-        (stands_split t head ((test ++ fork ∷ []) ++ sent part left) (Jump head ∷ []) halves.1).0).1 in
-        let part_calm = parts_end_calm t start part left whole_stands calm.1 in
+        let stands = loop_stands t head line w.vote (flagging w.keep w.vote base (base + 1) formula) inner left halves.1 last
+        (begin.inner_part t w (base + 1) start false body) (exits_are_calm t place front loop h.stand h.calm) in
         let further : behind_locals locals ≤ base + 1 = (let l = h.free in omega (arith, l)) in
-        let open_loop = opens p t locals base h.free fr held m place spent f h.within halves.0 in
-        let g = open_loop.behind in
-        let vs = present (looping base open_loop.flags fr) in
+        let opened = opens p t locals base h.free fr held m place spent f h.within halves.0 in
+        let g = opened.behind in
+        let vs = present (looping base opened.flags fr) in
         let ys = λ (us : List ℕ). turns_on_events (t.bound + 1) (λ now. begun t.bound now (Cut ∷ Runs (levels e) false ∷ Cut ∷ Votes ∷ []))
         (tested_on p t.bound line e) (λ us now. perform_row_on p t.bound body us now) (λ us now. step_row_events p t.bound body us now) us m in
         let d = λ (us : List ℕ). turns_on (t.bound + 1) (tested_on p t.bound line e) (λ us now. perform_row_on p t.bound body us now) us m in
         let code = step_code w base place held (step.While' line e q body) in
         subst (λ us. Follows t spent held (ys us)
-        (GoesWithin p t locals base w.vote fr false (place + length code) (spent + events.spent (ys us) held) f) (d us)) open_loop.all
+        (GoesWithin p t locals base w.vote fr false (place + length code) (spent + events.spent (ys us) held) f) (d us)) opened.all
         (follows_also t spent held (ys vs)
         (GoesWithin p t locals base w.vote fr false (start + length (sent part left) + 1 + 1) (spent + events.spent (ys vs) held) g)
         (GoesWithin p t locals base w.vote fr false (place + length code) (spent + events.spent (ys vs) held) f) (d vs)
         (λ now x. goes_from p t locals base w.vote fr false (start + length (sent part left) + 1 + 1) (place + length code)
-        (spent + events.spent (ys vs) held) (spent + events.spent (ys vs) held) f g now (omega (arith, n1, n2, n3, n4, n5)) (omega arith)
-        (λ r l. open_loop.registers r) x)
+        (spent + events.spent (ys vs) held) (spent + events.spent (ys vs) held) f g now (omega (arith, n1, n2, n3)) (omega arith)
+        (λ r l. opened.registers r) x)
         (loop_follows p t of locals base w.vote h.free further above fr line e named.0.0 w.keep head part left stands
         (λ us now. perform_row_on p t.bound body us now) (λ us now. step_row_events p t.bound body us now)
         (record {
           follows = λ registers now by y at. row_followed body (base + 1) (looping base registers fr) false now start by y named.1 (record {
             free = further;
-            stand = body_stands.0;
-            calm = part_calm;
+            stand = stands.body;
+            calm = stands.ends;
             within = at;
           });
           holds = λ us now. row_holds p t.bound body false us now;
           grows = λ us now. row_grows p t.bound body now.count us now (omega arith);
-        }) (t.bound + 1) open_loop.flags m spent held (spent + one_if held) g (omega arith) open_loop.within open_loop.keeps (omega arith)))
+        }) (t.bound + 1) opened.flags m spent held (spent + one_if held) g (omega arith) opened.within opened.keeps (omega arith)))
 
     row_followed : {j : _} (ss : Row_of-Step j) → RowFollows ss
     row_followed end_of-Step base fr held m place spent f named h = record {
@@ -281,7 +216,7 @@ module _ (p : Checked) (t : Run) (of : IsRunOf p t) (w : Frame) (locals : ℕ) (
         let begin = statements_begin_calm in
         let rest_calm = subst (IsCalm t.code)
         (let k : place + length (first ++ second) ≡ place + length first + length second = omega (arith, n) in k) h.calm in
-        both_followed base fr held between (part_left between ss) first second m place spent f (step_events p t.bound s (present fr) m)
+        both_followed p t locals base w.vote fr held between (part_left between ss) first second place spent f (step_events p t.bound s (present fr) m)
         (λ now. step_row_events p t.bound ss (present fr) now) (perform_on p t.bound s (present fr) m)
         (λ now. perform_row_on p t.bound ss (present fr) now)
         (step_followed s base fr held m place spent f named.0 (record {
@@ -317,7 +252,7 @@ module _ (p : Checked) (t : Run) (of : IsRunOf p t) (w : Frame) (locals : ℕ) (
       let begin = statements_begin_calm in
       let rest_calm = subst (IsCalm t.code)
       (let k : place + length (first ++ second) ≡ place + length first + length second = omega (arith, n) in k) h.calm in
-      both_followed base fr held between (steps_left between ss) first second m place spent f (step_events p t.bound s (present fr) m)
+      both_followed p t locals base w.vote fr held between (steps_left between ss) first second place spent f (step_events p t.bound s (present fr) m)
       (λ now. steps_events p t.bound ss (present fr) now) (perform_on p t.bound s (present fr) m)
       (λ now. perform_list_on p t.bound ss (present fr) now)
       (step_followed s base fr held m place spent f named.0 (record {

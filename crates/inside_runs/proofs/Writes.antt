@@ -15,7 +15,7 @@ use Rattle.pram_check.specs.Bounded.{names_of, with_locals}
 use Rattle.pram_meaning.specs.Conflict.{Part, write_to}
 use Rattle.pram_meaning.specs.Store.{State, member_of, seen_by}
 use Rattle.pram_meaning.specs.Together.{overwritten}
-use Rattle.pram_meaning.specs.Values.{IsValue}
+use Rattle.pram_meaning.specs.Values.{HasValues, IsValue}
 use Rattle.flat_machine.specs.Flat.{Flat}
 use Rattle.stretches.specs.Applied.{IsBare}
 use Rattle.stretches.specs.Along.{Run}
@@ -49,7 +49,7 @@ use Rattle.inside_runs.specs.Within.{IsWithin}
 use Rattle.inside_runs.proofs.Apart.{rows_fit, rows_are_writers}
 use Rattle.inside_runs.proofs.Attempted.{one_more}
 use Rattle.inside_runs.proofs.Evaluated.{marked, all_present, apart, end, may, end_shows, end_left, end_stands, done_is, notes_are}
-use Rattle.inside_runs.proofs.Passed.{Leaves}
+use Rattle.inside_runs.proofs.Passed.{Leaves, IsNext}
 use Rattle.inside_runs.proofs.Seen.{member_is}
 
 not_there : (c d n : ℕ) → n ≤ c → d < n → nat_eq c d ≡ false
@@ -230,3 +230,13 @@ module _ (p : Checked) (t : Run) (of : IsRunOf p t) (locals base : ℕ) (free : 
           shows = subst (ShowsInside p locals with_cells) (sym done_written) written_shows;
           stands = subst (StandsIn (behind_locals locals) base fr) (sym done_written) written_stands;
         }
+
+  pub next_written : HasValues with_cells → IsNext p locals m with_cells
+  next_written h =
+      let s = w.sizes in record {
+        count = refl;
+        output = refl;
+        sizes = record { uniforms = s.uniforms; cells = same_length ∙ s.cells };
+        locals_of = w.locals_of;
+        values = h;
+      }
