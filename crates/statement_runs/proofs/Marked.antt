@@ -51,11 +51,11 @@ module _ (code : SuperstepCode) (f : Flat) (b : IsBare f) (n : AsksNone f) where
   no_conflicts : conflicts code f ≡ None
   no_conflicts = ap (λ k. least k (read_keys code f)) (none_owed code f (ap is_held b.put)) ∙ no_read_keys code f n.asks
 
-  send_stays : (some : Bool) → acts_at_once code (only some (Send ∷ [])) f ≡ f
+  pub send_stays : (some : Bool) → acts_at_once code (only some (Send ∷ [])) f ≡ f
   send_stays true = empty_sends_are_nothing code f b n
   send_stays false = refl
 
-  send_notes : (some : Bool) → notes code (only some (Send ∷ [])) f ≡ None
+  pub send_notes : (some : Bool) → notes code (only some (Send ∷ [])) f ≡ None
   send_notes true = none_least (conflicts code f) ∙ no_conflicts
   send_notes false = refl
 
