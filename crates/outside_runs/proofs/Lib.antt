@@ -16,3 +16,5 @@ pub mod Assigns
 pub mod Tests
 pub mod PairNotes
 pub mod Writing
+pub mod Bounding
+pub mod Entering
