@@ -1,5 +1,5 @@
 -- The beginning of a pardo: the run follows it, and stands inside with all its processors active.
-use Rattle.std.proofs.Common.{◌≡◌, ℕ, ◌+◌, ◌*◌, ◌<◌, ◌≤◌, List, [], ◌∷◌, ◌++◌, length, Bool, None, ℤ, refl, sym, ap, ◌∙◌, subst, arith}
+use Rattle.std.proofs.Common.{◌≡◌, ℕ, ◌+◌, ◌*◌, ◌<◌, ◌≤◌, List, [], ◌∷◌, ◌++◌, length, Bool, false, None, ℤ, refl, sym, ap, ◌∙◌, subst, arith}
 use Rattle.pram_values.specs.declared.place.Place.TheVariants.{All}
 use Rattle.superstep_code.specs.declared.instr.Side.TheVariants.{Uniform}
 use Rattle.superstep_code.specs.declared.instr.Instr.{Instr}

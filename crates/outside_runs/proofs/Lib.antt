@@ -18,3 +18,7 @@ pub mod PairNotes
 pub mod Writing
 pub mod Bounding
 pub mod Entering
+pub mod Parts
+pub mod Whiles
+pub mod Numbers
+pub mod Fors

@@ -48,6 +48,7 @@ use Rattle.formula_values.proofs.Terms.{expressions_are_terms, steps_are_steps, 
 use Rattle.exchange_bound.specs.Events as events
 use Rattle.exchange_bound.specs.Events.{Event, Runs}
 use Rattle.exchange_bound.specs.Bound.{one_if}
+use Rattle.exchange_bound.specs.Spent as exchanged
 use Rattle.statement_runs.specs.Between.{IsRunOf}
 use Rattle.statement_runs.specs.Begins.{begun, done}
 use Rattle.statement_runs.proofs.Costs.{straight_parts_cost}
@@ -119,13 +120,14 @@ module _ (p : Checked) (t : Run) (of : IsRunOf p t) (keep : Bool) (free line : �
     end_leaves = valued_leaves p t of held m place spent f w line free both both_named free_ones free (omega arith)
 
     first_is : end.uniform.registers (first_at Uniform free d formula) ≡ value view (term d)
-    first_is = (pairs_are_evaluated_outside t.code p (next m) free d formula start
-    (may p t of held m place spent f w line free both both_named free_ones)).0
+    first_is =
+        (pairs_are_evaluated_outside t.code p (next m) free d formula start
+            (may p t of held m place spent f w line free both both_named free_ones)).0
 
     second_is : end.uniform.registers (second_at Uniform free d formula) ≡ result
     second_is =
         (pairs_are_evaluated_outside t.code p (next m) free d formula start
-        (may p t of held m place spent f w line free both both_named free_ones)).1
+            (may p t of held m place spent f w line free both both_named free_ones)).1
         ∙ ap (value view) (expressions_are_terms e)
 
     result_is : IsValue result
@@ -195,6 +197,8 @@ module _ (p : Checked) (t : Run) (of : IsRunOf p t) (keep : Bool) (free line : �
           values = write_values cell result (next m) (result_is (waits held both) from came g here) (next_values m here.values);
         } in
         let behind : from + length (Mark line ∷ second) ≡ to = omega (arith, n) in
+        let total = spent + exchanged.spent es held in
+        let enough : came + 2 * nesting both ≤ total = (let l = write_spends held both in omega (arith, l)) in
         let owed = sent_or_waits held both in
         leads_after t spent held true (events.begun t.bound m es) goes (Passes p t free true to m f) (evaluated t.bound line a m) (λ x m. tt)
         (λ x m. after_write x.cell x.value m)
@@ -206,11 +210,10 @@ module _ (p : Checked) (t : Run) (of : IsRunOf p t) (keep : Bool) (free line : �
           refl,
           (
             x,
-            passed_both p t free (waits held both) true from to m m f g came _ free after x (omega arith) passed
-                (passed_there p t free true (from + length (Mark line ∷ second)) to m g _ _ after x behind (omega arith)
-                (passed_since p t free true (from + length (Mark line ∷ second)) m g _ after x
-                (part_passed p t of free line second (waits held both) true m from came g here (2 * nesting both) after straight less x h _
-                (let l = write_spends held both in omega (arith, l))))),
+            passed_both p t free (waits held both) true from to m m f g came total free after x (omega arith) passed
+                (passed_there p t free true (from + length (Mark line ∷ second)) to m g total total after x behind (omega arith)
+                (passed_since p t free true (from + length (Mark line ∷ second)) m g total after x
+                (part_passed p t of free line second (waits held both) true m from came g here (2 * nesting both) after straight less x h total enough))),
           ),
         )))
         (λ n x k y. y)
