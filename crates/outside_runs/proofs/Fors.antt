@@ -19,7 +19,6 @@ use Rattle.stretches.proofs.Joins.{stands_split}
 use Rattle.plain_form.specs.Registers.{behind_variables, behind_turns, turn, high, more}
 use Rattle.plain_form.specs.Shapes.{turned}
 use Rattle.formed_code.specs.Straight.{stepping}
-use Rattle.formula_values.proofs.Operations.{truth_is}
 use Rattle.exchange_bound.specs.Events as events
 use Rattle.exchange_bound.specs.Events.{Event, Runs, Cut, behind, for_events}
 use Rattle.statement_runs.specs.Between.{IsRunOf}
@@ -31,7 +30,7 @@ use Rattle.outside_runs.proofs.OneStatement.{next}
 use Rattle.outside_runs.proofs.Parts.{RunsPart}
 use Rattle.outside_runs.proofs.Passed.{IsPassed, Passes, passed_both, passed_there, passed_here, passed_jump, forks_without}
 use Rattle.outside_runs.proofs.Straight.{passed_since}
-use Rattle.outside_runs.proofs.Turns.{HasTurns}
+use Rattle.outside_runs.proofs.Turns.{HasTurns, test_of_truth}
 
 -- what stands in the turns: the fork over them, the setting, the body, and the fork and the jump behind it
 pub record TurnsStand (t : Run) (start r : ℕ) (first part : List Instr) : Type 0 where
@@ -130,7 +129,7 @@ module _ (p : Checked) (t : Run) (of : IsRunOf p t) (keep : Bool) (free line : �
           let passed = so_far in
           record {
             without = forks_without p t false m2 (body + length part) j h z.without (more free) end stands.fork any
-                (ap is_nonzero (kept (more free) (omega arith) (omega arith) ∙ turns.more ∙ ap truth e) ∙ truth_is any);
+                (ap is_nonzero (kept (more free) (omega arith) (omega arith) ∙ turns.more ∙ ap truth e) ∙ test_of_truth any);
             registers = passed.registers;
             later = passed.later;
           }

@@ -1,7 +1,7 @@
 -- The registers of a `for`: what its bounds leave in them, and each setting of its variable; none of that notes anything.
-use Rattle.std.proofs.Common.{◌≡◌, ◌≢◌, ℕ, ◌+◌, ◌<◌, ◌≤◌, List, [], ◌∷◌, ◌++◌, Bool, Option, None, Ok, ℤ, ◌+ℤ◌, int_lt, int_le, refl, sym, ap, ◌∙◌}
+use Rattle.std.proofs.Common.{◌≡◌, ◌≢◌, ℕ, ◌+◌, ◌<◌, ◌≤◌, List, [], ◌∷◌, ◌++◌, Bool, true, false, Option, None, Ok, ℤ, ◌+ℤ◌, int_lt, int_le, refl, sym, ap, ◌∙◌}
 use Rattle.std.proofs.Common.{subst, arith}
-use Rattle.pram_values.specs.Truth.{truth}
+use Rattle.pram_values.specs.Truth.{truth, is_nonzero}
 use Rattle.pram_values.specs.Value.{Value, checked}
 use Rattle.superstep_code.specs.declared.instr.Side.TheVariants.{Uniform}
 use Rattle.superstep_code.specs.declared.instr.Arithmetic.TheVariants as arithmetic
@@ -34,6 +34,11 @@ pub record HasTurns (free : ℕ) (a b : ℤ) (any : Bool) (g : Flat) : Type 0 wh
   pub turn : g.uniform.registers (turn free) ≡ a
   pub high : g.uniform.registers (high free) ≡ b
   pub more : g.uniform.registers (more free) ≡ truth any
+
+-- a test of what a comparison gives is the comparison
+pub test_of_truth : (b : Bool) → is_nonzero (truth b) ≡ b
+test_of_truth true = refl
+test_of_truth false = refl
 
 -- the register with the value of a formula isn't the free one before those of the statement
 pub place_is_apart : (p : Checked) (free : ℕ) → behind_variables p.uniforms ≤ free → (e : Formula) (t b : ℕ) → IsNamed (names_of p) e →
