@@ -22,3 +22,4 @@ pub mod Parts
 pub mod Whiles
 pub mod Numbers
 pub mod Fors
+pub mod Ranges
