@@ -23,3 +23,4 @@ pub mod Whiles
 pub mod Numbers
 pub mod Fors
 pub mod Ranges
+pub mod Statements
