@@ -24,3 +24,4 @@ pub mod Numbers
 pub mod Fors
 pub mod Ranges
 pub mod Statements
+pub mod Followed
