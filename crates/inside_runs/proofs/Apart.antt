@@ -1,5 +1,6 @@
 -- The processors of a set have different indices, so they are writers of each cell.
-use Rattle.std.proofs.Common.{◌≡◌, ◌≢◌, ℕ, zero, suc, ◌+◌, ◌<◌, ◌≤◌, List, [], ◌∷◌, ◌++◌, Bool, true, false, cond, Option, Some, None, ℤ, sym, ◌∙◌, arith}
+use Rattle.std.proofs.Common.{◌≡◌, ◌≢◌, ℕ, zero, suc, ◌+◌, ◌<◌, ◌≤◌, List, [], ◌∷◌, ◌++◌, Bool, true, false, cond, Option, Some, None, ℤ}
+use Rattle.std.proofs.Common.{sym, ◌∙◌, arith}
 use Rattle.std.specs.Prelude.{FitsSigned, if◌then◌else◌, nat_eq}
 use Rattle.std.specs.Int.{w64}
 use Rattle.std.specs.List.{All, AllByRecursion, AllPairs, filter, range_with_len}
@@ -72,7 +73,8 @@ no_pairs R i j d l h = absurd (omega (arith, h))
 
 module _ (c : ℕ) where
   -- none of the writes is by this one
-  others_write : (i : ℤ) (rs : List Row) → AllByRecursion (λ (y : Row). i ≢ y.processor) rs → All (λ (w : Write). i ≢ w.processor) (writes_at c rs)
+  others_write : (i : ℤ) (rs : List Row) → AllByRecursion (λ (y : Row). i ≢ y.processor) rs →
+      All (λ (w : Write). i ≢ w.processor) (writes_at c rs)
   others_write i [] h = none_write (λ (w : Write). i ≢ w.processor)
   others_write i (r ∷ rs) h = go r.whole.value.cell (others_write i rs h.1)
     where

@@ -1,5 +1,6 @@
 -- A statement of a set of processors on the machine: it begins, and the run follows its attempts.
-use Rattle.std.proofs.Common.{◌≡◌, ℕ, ◌+◌, ◌<◌, ◌≤◌, List, [], ◌∷◌, ◌++◌, length, Bool, true, false, Option, Some, None, Result, Ok, refl, sym, ap, ◌∙◌, subst, arith}
+use Rattle.std.proofs.Common.{◌≡◌, ℕ, ◌+◌, ◌<◌, ◌≤◌, List, [], ◌∷◌, ◌++◌, length, Bool, true, false, Option, Some, None, Result, Ok, refl}
+use Rattle.std.proofs.Common.{sym, ap, ◌∙◌, subst, arith}
 use Rattle.std.specs.Prelude.{nat_lt, if◌then◌else◌}
 use Rattle.std.proofs.lemmas.Bool.Decides.{nat_tests}
 use Rattle.write_rules.specs.declared.fault.Fault.{Fault}
@@ -87,7 +88,8 @@ module _ (p : Checked) (t : Run) (line : ℕ) (is : List Instr) (held left : Boo
       by_bound : (x : Bool) → nat_lt m.count t.bound ≡ x → AreApart (rows p m task vs) →
           notes t.code is (begun t.code line f) ≡ noted heading p.rule p.layout task (rows p m task vs) →
           spent + one_if held ≤ before + one_if virtual → GoesOnBehind → BeginsOrEnds t line is held left place spent m f x →
-          Follows t before virtual ((if x then es else []) ++ behind (Attempted x) rest) (goes ((if x then es else []) ++ behind (Attempted x) rest))
+          Follows t before virtual ((if x then es else []) ++ behind (Attempted x) rest)
+          (goes ((if x then es else []) ++ behind (Attempted x) rest))
           (then_do (Attempted x) k)
       by_bound true e apart tells few on h =
           subst (λ (r : Result (List Part) Fault). FollowsFrom (valued r (one_more m)))

@@ -99,7 +99,8 @@ module _ (p : Checked) (t : Run) (of : IsRunOf p t) (locals base vote : ℕ) (fr
       -- the end: the masks are as before
       closes : (z : Flat) (y : State) (k : ℕ) (es : List Event) → by + events.spent es some ≤ k →
           ((r : ℕ) → r < vote → z.uniform.registers r ≡ f.uniform.registers r) → (fs : List Event) →
-          events.held_behind es some ≡ first → GoesMasked (by + events.spent es some + events.spent fs first) z y → goes (run ∷ (es ++ fs)) y
+          events.held_behind es some ≡ first → GoesMasked (by + events.spent es some + events.spent fs first) z y → goes
+          (run ∷ (es ++ fs)) y
       closes z y k es l same fs kept x =
           let passing = x.0 in
           let u = x.1 in
@@ -150,7 +151,8 @@ module _ (p : Checked) (t : Run) (of : IsRunOf p t) (locals base vote : ℕ) (fr
           (place + length (test ++ part)) sum sum z (omega (arith, n1)) (omega arith) x.within in
           follows_sooner t sum (spent + events.spent (run ∷ []) held + events.spent es some) first first (two no y) (two no y)
           (goes (run ∷ (es ++ two no y))) (one no y) (omega (arith, cost))
-          (follows_also t sum first (two no y) (GoesMasked (sum + events.spent (two no y) first) z) (goes (run ∷ (es ++ two no y))) (one no y)
+          (follows_also t sum first (two no y) (GoesMasked (sum + events.spent (two no y) first) z) (goes (run ∷ (es ++ two no y)))
+          (one no y)
           (λ last_state u. closes z last_state sum es (omega arith) (λ r q. x.registers r q ∙ g.registers r q) (two no y) held_is u)
           (h.else_part passing y sum z there))))
 

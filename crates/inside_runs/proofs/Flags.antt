@@ -1,5 +1,6 @@
 -- The test of a `while` inside pardo: the flags get the values, those stay whose value is true, and the vote says whether anybody does.
-use Rattle.std.proofs.Common.{◌≡◌, ℕ, ◌+◌, ◌*◌, ◌<◌, ◌≤◌, List, [], ◌∷◌, ◌++◌, length, Bool, true, false, None, refl, sym, ap, ◌∙◌, subst, arith}
+use Rattle.std.proofs.Common.{◌≡◌, ℕ, ◌+◌, ◌*◌, ◌<◌, ◌≤◌, List, [], ◌∷◌, ◌++◌, length, Bool, true, false, None, refl, sym, ap, ◌∙◌, subst}
+use Rattle.std.proofs.Common.{arith}
 use Rattle.std.specs.List.{filter}
 use Rattle.pram_values.specs.Truth.{truth, is_nonzero}
 use Rattle.superstep_code.specs.declared.instr.Side.TheVariants.{Private}
@@ -227,6 +228,7 @@ module _ (p : Checked) (t : Run) (of : IsRunOf p t) (locals base vote : ℕ) (fr
         on g
         (passed_within p t locals (base + 1) (base + 1) vote around (looping base flags_now fr) false false m place spent f w line stretch
         (one_more m) (2 * levels e + 1) (spent + (2 * levels e + 1)) costs (omega arith) l g h leaves_voted next)
-        (passed_registers p t locals (base + 1) (base + 1) vote around (looping base flags_now fr) false false m place spent f w line stretch
+        (passed_registers p t locals (base + 1) (base + 1) vote around (looping base flags_now fr) false false m place spent f w line
+        stretch
         (one_more m) (2 * levels e + 1) (spent + (2 * levels e + 1)) costs (omega arith) l g h leaves_voted next)
         (set_is ok) (ap (λ (y : Flat). is_nonzero (y.uniform.registers vote)) h.seen ∙ vote_says))

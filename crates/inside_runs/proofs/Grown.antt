@@ -9,7 +9,8 @@ use Rattle.pram_names.specs.declared.body.Step as step
 use Rattle.pram_names.specs.declared.body.Step.{Step, Row_of-Step, end_of-Step, more_of-Step}
 use Rattle.pram_check.specs.Checked.{Checked}
 use Rattle.pram_meaning.specs.Attempt.{Attempt, Effect, attempt_step, attempt_value}
-use Rattle.pram_meaning.specs.Bounded.{Behaviour, Done, Goes, Stops, Reaches, then_do, counted, valued, attempted_on, tested_on, unless_none}
+use Rattle.pram_meaning.specs.Bounded.{Behaviour, Done, Goes, Stops, Reaches, then_do, counted, valued, attempted_on, tested_on}
+use Rattle.pram_meaning.specs.Bounded.{unless_none}
 use Rattle.pram_meaning.specs.Bounded.{turns_on, perform_on, perform_row_on, perform_list_on}
 use Rattle.pram_meaning.specs.Conflict.{Part}
 use Rattle.pram_meaning.specs.Store.{State, View}
@@ -41,14 +42,16 @@ valued_grows n (Ok a) m l = l
 valued_grows n (Err k) m l = tt
 
 -- where it goes on, also that so many have begun
-pub follows_grown : (t : Run) (before : ℕ) (held : Bool) (es : List Event) (P : State → Type 0) (n : ℕ) (d : Done) → Follows t before held es P d →
+pub follows_grown : (t : Run) (before : ℕ) (held : Bool) (es : List Event) (P : State → Type 0) (n : ℕ) (d : Done) →
+    Follows t before held es P d →
     Grows n d → Follows t before held es (λ m. P m × (n ≤ m.count)) d
 follows_grown t before held es P n (Goes u m) h g = (h, g)
 follows_grown t before held es P n (Stops fault out) h g = h
 follows_grown t before held es P n (Reaches out) h g = h
 
 module _ (p : Checked) (n : ℕ) where
-  attempted_grows : (k line : ℕ) (a : View → Attempt Effect) (vs : List ℕ) (m : State) → k ≤ m.count → Grows k (attempted_on p n line a vs m)
+  attempted_grows : (k line : ℕ) (a : View → Attempt Effect) (vs : List ℕ) (m : State) → k ≤ m.count →
+      Grows k (attempted_on p n line a vs m)
   attempted_grows k line a vs m l =
       grows_then k (counted n m) (λ u now. valued (together p line (parts p now a vs)) now) (counted_grows n k m l)
       (λ u now g. valued_grows k (together p line (parts p now a vs)) now g)
@@ -70,7 +73,8 @@ module _ (p : Checked) (n : ℕ) where
   turns_grow (suc i) test body t b k vs m l =
       grows_then k (test vs m) (λ xs now. unless_none (those true xs) (Goes tt now)
       (then_do (body (those true xs) now) (λ u. turns_on i test body (those true xs)))) (t k vs m l)
-      (λ xs now g. unless_grows k (those true xs) (Goes tt now) (then_do (body (those true xs) now) (λ u. turns_on i test body (those true xs))) g
+      (λ xs now g. unless_grows k (those true xs) (Goes tt now) (then_do (body (those true xs) now)
+      (λ u. turns_on i test body (those true xs))) g
       (grows_then k (body (those true xs) now) (λ u. turns_on i test body (those true xs)) (b k (those true xs) now g)
       (λ u after j. turns_grow i test body t b k (those true xs) after j)))
 

@@ -1,5 +1,6 @@
 -- Behind statements inside pardo that go on a write is held as their code has it.
-use Rattle.std.proofs.Common.{◌≡◌, ℕ, zero, suc, ◌+◌, max, List, [], ◌∷◌, ◌++◌, Bool, true, false, not, ◌&&◌, Result, Ok, Err, refl, ap, ◌∙◌, subst, arith}
+use Rattle.std.proofs.Common.{◌≡◌, ℕ, zero, suc, ◌+◌, max, List, [], ◌∷◌, ◌++◌, Bool, true, false, not, ◌&&◌, Result, Ok, Err, refl, ap}
+use Rattle.std.proofs.Common.{◌∙◌, subst, arith}
 use Rattle.std.proofs.Common.{append-nil}
 use Rattle.std.specs.Prelude.{if◌then◌else◌, nat_lt}
 use Rattle.write_rules.specs.declared.fault.Fault.{Fault}
@@ -19,7 +20,8 @@ use Rattle.plain_form.specs.Formulas.{formula_of}
 use Rattle.plain_form.specs.Inside.{inner_assign_left, step_left, part_left, steps_left}
 use Rattle.plain_form.specs.Shapes as shapes
 use Rattle.plain_form.specs.Shapes.{still}
-use Rattle.exchange_bound.specs.Events.{Event, Runs, Cut, Votes, behind, begun, if_any, levels, turns_on_events, step_events, step_row_events}
+use Rattle.exchange_bound.specs.Events.{Event, Runs, Cut, Votes, behind, begun, if_any, levels, turns_on_events, step_events}
+use Rattle.exchange_bound.specs.Events.{step_row_events}
 use Rattle.exchange_bound.specs.Events.{steps_events, step_target_levels, is_step_shared}
 use Rattle.exchange_bound.specs.Spent as spent
 use Rattle.exchange_bound.specs.Spent.{held_after, held_behind}
@@ -89,7 +91,8 @@ module _ (p : Checked) (n : ℕ) where
       (λ xs now. by (λ us m. turns_hold i line e left body inside h left us m) now (those true xs))
     where
       by : ((us : List ℕ) (m : State) → HoldsBehind left
-          (turns_on_events i (λ m. begun n m (Cut ∷ Runs (levels e) false ∷ Cut ∷ Votes ∷ [])) (tested_on p n line e) body inside us m) false
+          (turns_on_events i (λ m. begun n m (Cut ∷ Runs (levels e) false ∷ Cut ∷ Votes ∷ [])) (tested_on p n line e) body inside us m)
+          false
           (turns_on i (tested_on p n line e) body us m)) →
           (now : State) (us : List ℕ) → HoldsBehind held ((Cut ∷ Runs (levels e) false ∷ Cut ∷ Votes ∷ []) ++ if_any us
           (inside us now ++ behind (body us now) (λ u. turns_on_events i

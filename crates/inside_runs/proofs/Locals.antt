@@ -1,5 +1,6 @@
 -- A value for a local: those of the set get it in its register, and in the meaning.
-use Rattle.std.proofs.Common.{◌≡◌, ℕ, ◌+◌, ◌<◌, ◌≤◌, List, [], ◌∷◌, length, Bool, true, false, cond, ℤ, pos, refl, sym, ap, ◌∙◌, subst, arith}
+use Rattle.std.proofs.Common.{◌≡◌, ℕ, ◌+◌, ◌<◌, ◌≤◌, List, [], ◌∷◌, length, Bool, true, false, cond, ℤ, pos, refl, sym, ap, ◌∙◌, subst}
+use Rattle.std.proofs.Common.{arith}
 use Rattle.std.proofs.Common.{⊎_elim}
 use Rattle.std.specs.Prelude.{if◌then◌else◌}
 use Rattle.std.specs.List.{range_with_len}
@@ -175,7 +176,8 @@ module _ (p : Checked) (t : Run) (of : IsRunOf p t) (locals base : ℕ) (free : 
             (view_of p m (member_of (set_in x values m.team (present fr)) v)) last.uniform.registers q last.memory) (sym (own_now true a))
             (subst (λ (g : Member). Shows Private (with_locals locals (names_of p)) (view_of p m g) last.uniform.registers
             (set_register (local x) (values v) (last.own v).registers) last.memory) (sym (member_now true a))
-            (local_shows (with_locals locals (names_of p)) p m (member_of m.team v) last.uniform.registers (last.own v).registers last.memory
+            (local_shows (with_locals locals (names_of p)) p m (member_of m.team v) last.uniform.registers (last.own v).registers
+            last.memory
             x locals (values v) (locals_of_member locals m.team v w.locals_of in_team) l
             (let s = shown in s.shows v k)))
         go false a =

@@ -1,5 +1,6 @@
 -- The turns of a `while` inside pardo are followed, if its body is.
-use Rattle.std.proofs.Common.{◌≡◌, ℕ, zero, suc, ◌+◌, ◌*◌, ◌<◌, ◌≤◌, List, [], ◌∷◌, ◌++◌, length, Bool, true, false, refl, sym, ◌∙◌, subst, arith}
+use Rattle.std.proofs.Common.{◌≡◌, ℕ, zero, suc, ◌+◌, ◌*◌, ◌<◌, ◌≤◌, List, [], ◌∷◌, ◌++◌, length, Bool, true, false, refl, sym, ◌∙◌}
+use Rattle.std.proofs.Common.{subst, arith}
 use Rattle.std.proofs.Common.{length-append}
 use Rattle.std.specs.Prelude.{if◌then◌else◌}
 use Rattle.pram_values.specs.Truth.{is_nonzero}
@@ -140,7 +141,8 @@ module _ (p : Checked) (t : Run) (of : IsRunOf p t) (locals base vote : ℕ) (fr
       -- somebody does: the body, the jump back, and the turns that are left
       module _ (at : IsWithin p t locals (base + 1) (looping base flags fr) false m start spent g) where
         back : (now : State) →
-            GoesWithin p t locals (base + 1) vote (looping base flags fr) left (start + length part) (spent + events.spent (inside set m) false)
+            GoesWithin p t locals (base + 1) vote (looping base flags fr) left (start + length part)
+            (spent + events.spent (inside set m) false)
             g now × (m.count ≤ now.count) → events.held_behind (inside set m) false ≡ left →
             let ys = turns_on_events k heads test body inside set now in
             Follows t (before + events.spent es virtual + events.spent (inside set m) false) left ys (goes (es ++ (inside set m ++ ys)))
@@ -151,7 +153,8 @@ module _ (p : Checked) (t : Run) (of : IsRunOf p t) (locals base vote : ℕ) (fr
             let grown = h.1 in
             let count = length-append part (flush left) in
             let by = spent + events.spent (inside set m) false in
-            let flushed = flushed_within p t locals (base + 1) (looping base flags fr) left now (start + length part) by y x.within st.sends in
+            let flushed = flushed_within p t locals (base + 1) (looping base flags fr) left now (start + length part) by y x.within
+            st.sends in
             let z = flushed.behind in
             let placed = within_at p t locals (base + 1) (looping base flags fr) false now (start + length part + length (flush left))
             (start + length (sent part left)) (by + one_if left) (by + one_if left) z (omega (arith, count)) (omega arith) flushed.within in
@@ -195,7 +198,8 @@ module _ (p : Checked) (t : Run) (of : IsRunOf p t) (locals base vote : ℕ) (fr
           spent g g w (subst (λ x. IsBetween t false m (if x then start else end) spent g) a fork) refl in
           subst (λ ys. Follows t before virtual (es ++ ys) (goes (es ++ ys)) (unless_none set (Goes tt m) (does set m)))
           (if_some set (inner set m) (sym s))
-          (subst (Follows t before virtual (es ++ inner set m) (goes (es ++ inner set m))) (unless_some set (Goes tt m) (does set m) (sym s))
+          (subst (Follows t before virtual (es ++ inner set m) (goes (es ++ inner set m)))
+          (unless_some set (Goes tt m) (does set m) (sym s))
           (turns at))
       by_vote false a s =
           let fork = fork_between t false m (head + length (Mark line ∷ stretch)) spent g w.between vote end st.fork in

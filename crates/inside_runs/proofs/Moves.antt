@@ -147,7 +147,8 @@ module _ (p : Checked) (t : Run) (locals base : ℕ) (free : behind_locals local
       let flags = held_in (opened t.code base seen) in
       let last = moved_within p t locals base fr false m (at + 1) by set was_set (base + 1) (looping base flags fr) (Mask base) halves.1.1.0
       refl refl refl refl refl (mask_shows p locals m t.code (applied t.code set) was_set.shows base)
-      (subst (λ (y : Flat). StandsIn (behind_locals locals) (base + 1) (looping base flags fr) (after_instr t.code (Mask base) y)) (sym same)
+      (subst (λ (y : Flat). StandsIn (behind_locals locals) (base + 1) (looping base flags fr) (after_instr t.code (Mask base) y))
+      (sym same)
       l.stands) in
       record {
         behind = after_instr t.code (Mask base) set;

@@ -49,33 +49,34 @@ module _ (p : Checked) (t : Run) (locals base other vote : ℕ) (fr frame : Fram
       c t.code (after_instr t.code (Mark line) f) n.asks (marks_hold t.code line held f b.holds)
 
   module _ (n more : ℕ) (c : Costs held is n) (few : spent + n ≤ more) (l : m.count < t.bound) (g : Flat)
-      (h : HasPassed t line is left place spent f g) (d : Leaves p t locals other vote frame line is f now) (x : IsNext p locals m now) where
-    pub passed_within : IsWithin p t locals other frame left now (place + 1 + length is) more g
-    passed_within =
-        let b = w.between in
-        let cost = stretch_costs n c in
-        record {
-          between = record {
-            comes = more_may_be_spent t (going (place + 1 + length is) g) (spent + costs t.code is (after_instr t.code (Mark line) f)) more
-                h.comes (omega (arith, cost, few));
-            told = h.told;
-            holds = h.holds;
-            count = ap (λ (y : Flat). y.uniform.count) h.seen ∙ d.count ∙ ap (λ k. k + 1) b.count ∙ sym x.count;
-            within = (let e = x.count in omega (arith, l, e));
-            output = ap (λ (y : Flat). items y.uniform.output) h.seen ∙ ap items d.output ∙ b.output ∙ sym x.output;
-          };
-          shows = subst (ShowsInside p locals now) (sym h.seen) d.shows;
-          stands = subst (StandsIn (behind_locals locals) other frame) (sym h.seen) d.stands;
-          sizes = x.sizes;
-          locals_of = x.locals_of;
-          values = x.values;
-        }
+      (h : HasPassed t line is left place spent f g) (d : Leaves p t locals other vote frame line is f now) (x : IsNext p locals m now)
+    where
+      pub passed_within : IsWithin p t locals other frame left now (place + 1 + length is) more g
+      passed_within =
+          let b = w.between in
+          let cost = stretch_costs n c in
+          record {
+            between = record {
+              comes = more_may_be_spent t (going (place + 1 + length is) g) (spent + costs t.code is (after_instr t.code (Mark line) f)) more
+                  h.comes (omega (arith, cost, few));
+              told = h.told;
+              holds = h.holds;
+              count = ap (λ (y : Flat). y.uniform.count) h.seen ∙ d.count ∙ ap (λ k. k + 1) b.count ∙ sym x.count;
+              within = (let e = x.count in omega (arith, l, e));
+              output = ap (λ (y : Flat). items y.uniform.output) h.seen ∙ ap items d.output ∙ b.output ∙ sym x.output;
+            };
+            shows = subst (ShowsInside p locals now) (sym h.seen) d.shows;
+            stands = subst (StandsIn (behind_locals locals) other frame) (sym h.seen) d.stands;
+            sizes = x.sizes;
+            locals_of = x.locals_of;
+            values = x.values;
+          }
 
-    pub passed_registers : (r : ℕ) → r < vote → g.uniform.registers r ≡ f.uniform.registers r
-    passed_registers r k = ap (λ (y : Flat). y.uniform.registers r) h.seen ∙ d.registers r k
+      pub passed_registers : (r : ℕ) → r < vote → g.uniform.registers r ≡ f.uniform.registers r
+      passed_registers r k = ap (λ (y : Flat). y.uniform.registers r) h.seen ∙ d.registers r k
 
-    pub passed : GoesWithin p t locals other vote frame left (place + 1 + length is) more f now
-    passed = record { behind = g; within = passed_within; registers = passed_registers }
+      pub passed : GoesWithin p t locals other vote frame left (place + 1 + length is) more f now
+      passed = record { behind = g; within = passed_within; registers = passed_registers }
 
 -- ---- places and exchanges written otherwise
 

@@ -9,7 +9,8 @@ use Rattle.stretches.proofs.Sets.{filter_same, filter_twice}
 use Rattle.formula_values.specs.Inside.{active_ones}
 
 -- two tests that agree on a range
-filter_within : (p q : ℕ → Bool) (n k : ℕ) → ((v : ℕ) → v < k + n → p v ≡ q v) → filter p (range_with_len k n) ≡ filter q (range_with_len k n)
+filter_within : (p q : ℕ → Bool) (n k : ℕ) → ((v : ℕ) → v < k + n → p v ≡ q v) →
+    filter p (range_with_len k n) ≡ filter q (range_with_len k n)
 filter_within p q zero k h = refl
 filter_within p q (suc n) k h =
     let rest = filter_within p q n (k + 1) (λ v l. h v (omega (arith, l))) in

@@ -62,7 +62,8 @@ module _ (p : Checked) (t : Run) (of : IsRunOf p t) (w : Frame) (locals : ℕ) (
       Followed p t locals base w.vote fr held (part_left held ss) (part_code w base place held ss) place spent f
       (step_row_events p t.bound ss (present fr) m) (perform_row_on p t.bound ss (present fr) m)
 
-  other_followed : {j : _} (ss : Row_of-Step j) → RowFollows ss → (base : ℕ) (fr : frames.Frame) (passing : ℕ → Bool) (held : Bool) (m : State)
+  other_followed : {j : _} (ss : Row_of-Step j) → RowFollows ss → (base : ℕ) (fr : frames.Frame) (passing : ℕ → Bool) (held : Bool)
+      (m : State)
       (place spent : ℕ) (f : Flat) → ArePartSteps (with_locals locals (names_of p)) ss →
       MayRun base place (narrowed passing fr) held (flipped (has_part ss) place (λ n. part_code w base n held ss)) m spent f →
       let vs = present (narrowed (λ v. not (passing v)) fr) in
@@ -87,7 +88,8 @@ module _ (p : Checked) (t : Run) (of : IsRunOf p t) (w : Frame) (locals : ℕ) (
       let g = after_instr t.code Flip f in
       let es = step_row_events p t.bound (more_of-Step s ss) (present others) m in
       follows_also t spent held es
-      (GoesWithin p t locals base w.vote others (part_left held (more_of-Step s ss)) (place + 1 + length row) (spent + events.spent es held) g)
+      (GoesWithin p t locals base w.vote others (part_left held (more_of-Step s ss)) (place + 1 + length row)
+      (spent + events.spent es held) g)
       (GoesOther base fr (part_left held (more_of-Step s ss)) (place + length (Flip ∷ row)) (spent + events.spent es held) f)
       (perform_row_on p t.bound (more_of-Step s ss) (present others) m)
       (λ now x. (
@@ -140,17 +142,19 @@ module _ (p : Checked) (t : Run) (of : IsRunOf p t) (w : Frame) (locals : ℕ) (
           then_part = λ passing now by g at. row_followed a base (narrowed passing fr) some now (place + length test) by g named.1 (record {
             free = h.free;
             stand = front.1;
-            calm = subst (IsCalm t.code) (let k : place + length before ≡ place + length test + length part = omega (arith, n1) in k) calm.1;
+            calm = subst (IsCalm t.code) (let k : place + length before ≡ place + length test + length part = omega (arith, n1) in k)
+                calm.1;
             within = at;
           });
           holds = λ vs now. row_holds p t.bound a some vs now;
-          else_part = λ passing now by g at. other_followed b (row_followed b) base fr passing first now (place + length before) by g named.2 (record {
-            free = h.free;
-            stand = middle.1;
-            calm = subst (IsCalm t.code)
-                (let k : place + length (before ++ other) ≡ place + length before + length other = omega (arith, n2) in k) calm.2;
-            within = at;
-          });
+          else_part = λ passing now by g at. other_followed b (row_followed b) base fr passing first now (place + length before) by g
+              named.2 (record {
+                free = h.free;
+                stand = middle.1;
+                calm = subst (IsCalm t.code)
+                    (let k : place + length (before ++ other) ≡ place + length before + length other = omega (arith, n2) in k) calm.2;
+                within = at;
+              });
         }) m spent f h.within
     step_followed (step.While' line e q body) base fr held m place spent f named h =
         let formula = formula_of e in
@@ -177,8 +181,10 @@ module _ (p : Checked) (t : Run) (of : IsRunOf p t) (w : Frame) (locals : ℕ) (
         let g = opened.behind in
         let vs = present (looping base opened.flags fr) in
         let ys = λ (us : List ℕ). turns_on_events (t.bound + 1) (λ now. begun t.bound now (Cut ∷ Runs (levels e) false ∷ Cut ∷ Votes ∷ []))
-        (tested_on p t.bound line e) (λ us now. perform_row_on p t.bound body us now) (λ us now. step_row_events p t.bound body us now) us m in
-        let d = λ (us : List ℕ). turns_on (t.bound + 1) (tested_on p t.bound line e) (λ us now. perform_row_on p t.bound body us now) us m in
+        (tested_on p t.bound line e) (λ us now. perform_row_on p t.bound body us now)
+        (λ us now. step_row_events p t.bound body us now) us m in
+        let d = λ (us : List ℕ). turns_on (t.bound + 1) (tested_on p t.bound line e)
+        (λ us now. perform_row_on p t.bound body us now) us m in
         let code = step_code w base place held (step.While' line e q body) in
         subst (λ us. Follows t spent held (ys us)
         (GoesWithin p t locals base w.vote fr false (place + length code) (spent + events.spent (ys us) held) f) (d us)) opened.all
@@ -216,7 +222,8 @@ module _ (p : Checked) (t : Run) (of : IsRunOf p t) (w : Frame) (locals : ℕ) (
         let begin = statements_begin_calm in
         let rest_calm = subst (IsCalm t.code)
         (let k : place + length (first ++ second) ≡ place + length first + length second = omega (arith, n) in k) h.calm in
-        both_followed p t locals base w.vote fr held between (part_left between ss) first second place spent f (step_events p t.bound s (present fr) m)
+        both_followed p t locals base w.vote fr held between (part_left between ss) first second place spent f
+        (step_events p t.bound s (present fr) m)
         (λ now. step_row_events p t.bound ss (present fr) now) (perform_on p t.bound s (present fr) m)
         (λ now. perform_row_on p t.bound ss (present fr) now)
         (step_followed s base fr held m place spent f named.0 (record {
@@ -252,7 +259,8 @@ module _ (p : Checked) (t : Run) (of : IsRunOf p t) (w : Frame) (locals : ℕ) (
       let begin = statements_begin_calm in
       let rest_calm = subst (IsCalm t.code)
       (let k : place + length (first ++ second) ≡ place + length first + length second = omega (arith, n) in k) h.calm in
-      both_followed p t locals base w.vote fr held between (steps_left between ss) first second place spent f (step_events p t.bound s (present fr) m)
+      both_followed p t locals base w.vote fr held between (steps_left between ss) first second place spent f
+      (step_events p t.bound s (present fr) m)
       (λ now. steps_events p t.bound ss (present fr) now) (perform_on p t.bound s (present fr) m)
       (λ now. perform_list_on p t.bound ss (present fr) now)
       (step_followed s base fr held m place spent f named.0 (record {

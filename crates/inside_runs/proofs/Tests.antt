@@ -40,7 +40,8 @@ use Rattle.statement_runs.proofs.Costs.{straight_parts_cost}
 use Rattle.inside_runs.specs.Steps.{GoesWithin}
 use Rattle.inside_runs.specs.Within.{IsWithin}
 use Rattle.inside_runs.proofs.Attempted.{one_more, attempted}
-use Rattle.inside_runs.proofs.Evaluated.{marked, end, end_shows, end_left, end_stands, done_is, names, register, tests_are, others_are, tells, apart}
+use Rattle.inside_runs.proofs.Evaluated.{marked, end, end_shows, end_left, end_stands, done_is, names, register, tests_are, others_are}
+use Rattle.inside_runs.proofs.Evaluated.{tells, apart}
 use Rattle.inside_runs.proofs.Passed.{Leaves, IsNext, passed}
 use Rattle.inside_runs.proofs.Shown.{counted_shows, mask_shows}
 
@@ -102,7 +103,8 @@ module _ (p : Checked) (t : Run) (of : IsRunOf p t) (locals base : ℕ) (free : 
   abbrev pub test_results : List Part
   test_results = cut_parts p m (Gets (term_of e)) (present fr)
 
-  sets_are : AreFine (heading_of (marked p t of locals base free fr held m place spent f w line)) (rows p m (Gets (term_of e)) (present fr)) →
+  sets_are : AreFine (heading_of (marked p t of locals base free fr held m place spent f w line))
+      (rows p m (Gets (term_of e)) (present fr)) →
       (those true test_results ≡ present (narrowed passes fr)) × (those false test_results ≡ present (narrowed (λ v. not (passes v)) fr))
   sets_are fine =
       let h = heading_of (marked p t of locals base free fr held m place spent f w line) in (
@@ -122,7 +124,8 @@ module _ (p : Checked) (t : Run) (of : IsRunOf p t) (locals base : ℕ) (free : 
       Follows t spent held (Runs (levels e) false ∷ rest test_results (one_more m))
       (goes (Runs (levels e) false ∷ rest test_results (one_more m))) (k test_results (one_more m))
 
-  pub test_follows : (vote : ℕ) (goes : List Event → State → Type 0) (k : List Part → State → Done) (rest : List Part → State → List Event) →
+  pub test_follows : (vote : ℕ) (goes : List Event → State → Type 0) (k : List Part → State → Done) (rest : List Part → State →
+      List Event) →
       Stand t place (Mark line ∷ stretch) → IsCalm t.code (place + 1 + length stretch) → GoesOnTested vote goes k rest →
       Follows t spent held
       (begun t.bound m (Runs (levels e) false ∷ []) ++ behind (tested_on p t.bound line e (present fr) m) rest)

@@ -1,5 +1,6 @@
 -- A write of a set: each cell gets what the rule gives for its writers, in memory and in the meaning.
-use Rattle.std.proofs.Common.{◌≡◌, ℕ, ◌+◌, ◌<◌, ◌≤◌, List, [], ◌∷◌, ◌++◌, length, Bool, true, false, Option, Some, None, pos, refl, sym, ap, ◌∙◌, subst, arith, slice_index_or}
+use Rattle.std.proofs.Common.{◌≡◌, ℕ, ◌+◌, ◌<◌, ◌≤◌, List, [], ◌∷◌, ◌++◌, length, Bool, true, false, Option, Some, None, pos, refl, sym}
+use Rattle.std.proofs.Common.{ap, ◌∙◌, subst, arith, slice_index_or}
 use Rattle.std.specs.Prelude.{if◌then◌else◌, nat_eq, nat_lt}
 use Rattle.std.proofs.lemmas.Bool.Decides.{nat_tests}
 use Rattle.std.proofs.lemmas.List.{get_or_past}
@@ -144,7 +145,8 @@ module _ (p : Checked) (t : Run) (of : IsRunOf p t) (locals base : ℕ) (free : 
   same_length = no_cell_is_lost p.rule write_results m.cells
 
   module _ (fine : AreFine (heading_of begins) (rows p m task (present fr))) where
-    cells_now : (c : ℕ) → (acts_at_once t.code (write_code Private base entry d e) begins).memory c ≡ slice_index_or with_cells.cells c (pos 0)
+    cells_now : (c : ℕ) → (acts_at_once t.code (write_code Private base entry d e) begins).memory c ≡ slice_index_or with_cells.cells c
+        (pos 0)
     cells_now c =
         let k = is_written in
         k.cells c
