@@ -107,8 +107,8 @@ module _ (p : Checked) (t : Run) (of : IsRunOf p t) (locals base vote : ℕ) (fr
   local_followed : (x : ℕ) (e : Expression) → IsInnerAssign (with_locals locals (names_of p)) (inner.Local x) e →
       Stand t place (gets keep held line Private base (formula_of e) (local x)) →
       IsCalm t.code (place + length (gets keep held line Private base (formula_of e) (local x))) →
-      Followed p t locals base vote fr held (still held (formula_of e)) (gets keep held line Private base (formula_of e) (local x)) place
-      spent
+      Followed p t locals base vote fr held (still held (formula_of e)) (gets keep held line Private base (formula_of e) (local x))
+      place spent
       f (begun t.bound m (Runs (max 0 (levels e)) false ∷ [])) (assign_on p t.bound line (inner.Local x) e (present fr) m)
   local_followed x e named stand calm =
       let stretch = getting keep held Private base (formula_of e) (local x) in
@@ -129,8 +129,8 @@ module _ (p : Checked) (t : Run) (of : IsRunOf p t) (locals base vote : ℕ) (fr
       let h = heading_of (marked p t of locals base free fr held m place spent f w line) in
       subst (λ ys. Follows t spent held ys (goes ys) (then_do a (λ xs now. Goes tt (assigned_by p (inner.Local x) xs now))))
       (ap (λ ys. begun t.bound m es ++ ys) (behind_nothing a) ∙ append-nil (begun t.bound m es))
-      (attempted p t line stretch held (still held (formula_of e)) m place spent f w.between (Gets (term_of e)) (present fr) held spent es
-      goes
+      (attempted p t line stretch held (still held (formula_of e)) m place spent f w.between (Gets (term_of e)) (present fr)
+      held spent es goes
       (λ xs now. Goes tt (assigned_by p (inner.Local x) xs now)) (λ xs now. []) (λ s. attempt_step s (inner.Local x) e)
       (assignment_parts p m (inner.Local x) e (present fr))
       (record {
@@ -186,8 +186,8 @@ module _ (p : Checked) (t : Run) (of : IsRunOf p t) (locals base vote : ℕ) (fr
         let now = within_seen p t locals base fr held waiting m place at spent by f g w ready.between ready.seen in
         let shown_now = now.shows in
         let es = Runs (nesting both) true ∷ [] in
-        let goes = λ (ys : List Event). GoesWithin p t locals base vote fr true (place + length
-        (writes keep held line Private base entry d c))
+        let goes = λ (ys : List Event). GoesWithin p t locals base vote fr true
+        (place + length (writes keep held line Private base entry d c))
         (spent + events.spent ys held) f in
         let a = attempted_on p t.bound line (λ s. attempt_step s x e) (present fr) m in
         let fine = straight_parts_are_fine in
@@ -210,8 +210,8 @@ module _ (p : Checked) (t : Run) (of : IsRunOf p t) (locals base vote : ℕ) (fr
           fine = fine.written keep held Private base entry d c;
           none = set_writes.rests_written p t of locals base free fr waiting m at by g now line entry d c named sd sc values keep;
           calm = subst (IsCalm t.code)
-              (let n : place + length (writes keep held line Private base entry d c) ≡ at + 1 + length stretch = omega
-              (arith, count, whole) in n)
+              (let n : place + length (writes keep held line Private base entry d c) ≡ at + 1 + length stretch =
+              omega (arith, count, whole) in n)
               calm;
           apart = apart p t of locals base free fr waiting m at by g now line (Writes entry (term d) (term c));
           tells = set_writes.tells_written p t of locals base free fr waiting m at by g now line entry d c named sd sc values keep;
@@ -219,8 +219,8 @@ module _ (p : Checked) (t : Run) (of : IsRunOf p t) (locals base vote : ℕ) (fr
         })
         (λ l after passes ok okay.
         let cells = set_writes.with_cells p t of locals base free fr waiting m at by g now line entry d c named sd sc values keep in
-        let leaves = set_writes.leaves_written p t of locals base free fr waiting m at by g now line entry d c named sd sc values keep ok
-        vote in
+        let leaves = set_writes.leaves_written p t of locals base free fr waiting m at by g now line entry d c named sd sc values
+        keep ok vote in
         goes_from p t locals base vote fr true (at + 1 + length stretch) (place + length (writes keep held line Private base entry d c))
         (spent + events.spent es held) (spent + events.spent es held) f g (assigned_by p x xs (one_more m)) (omega (arith, count, whole))
         (omega arith)
