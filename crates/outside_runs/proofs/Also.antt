@@ -1,5 +1,5 @@
 -- Instructions behind a state of the program that set free registers alone, and sends of nothing: it is still that state.
-use Rattle.std.proofs.Common.{◌≡◌, ◌≢◌, ℕ, ◌+◌, ◌<◌, ◌≤◌, List, [], ◌∷◌, ◌++◌, Bool, None, ℤ, refl, ap, ◌∙◌, arith}
+use Rattle.std.proofs.Common.{◌≡◌, ◌≢◌, ℕ, ◌+◌, ◌<◌, ◌≤◌, List, ◌++◌, Bool, None, ℤ, refl, ap, ◌∙◌, arith}
 use Rattle.superstep_code.specs.declared.instr.Arithmetic.{Arithmetic}
 use Rattle.superstep_code.specs.declared.instr.Side.TheVariants.{Uniform}
 use Rattle.superstep_code.specs.declared.instr.Truth.{Truth}
@@ -16,7 +16,6 @@ use Rattle.pram_values.specs.Truth.{truth}
 use Rattle.pram_check.specs.Checked.{Checked}
 use Rattle.pram_meaning.specs.Store.{State}
 use Rattle.flat_machine.specs.Flat.{Flat, after_instr}
-use Rattle.flat_machine.proofs.Late.{none_least}
 use Rattle.stretches.specs.Folds.{acts_at_once}
 use Rattle.stretches.specs.Notes.{note, notes}
 use Rattle.stretches.proofs.Joins.{acts_at_once_join}
@@ -27,7 +26,8 @@ use Rattle.formula_values.proofs.Operations.{set_here, set_there}
 use Rattle.formula_values.specs.Outside.{ShowsOutside}
 use Rattle.statement_runs.proofs.Marked.{send_stays, send_notes}
 use Rattle.outside_runs.proofs.Evaluated.{Leaves}
-use Rattle.outside_runs.proofs.UniformWork.{same_either, nothing_either, rests_behind, noted_alone}
+use Rattle.statement_runs.proofs.Marked.{unmoved}
+use Rattle.outside_runs.proofs.UniformWork.{nothing_either, rests_behind, noted_alone}
 
 -- ---- a send at which nothing is held
 
@@ -63,7 +63,7 @@ module _ (code : SuperstepCode) (h : Flat) where
     put = refl;
     asks = refl;
     awaited = refl;
-    own = λ v. same_either (is_active (h.own v)) (h.own v);
+    own = λ v. unmoved (is_active (h.own v)) (h.own v);
     memory = λ c. refl;
     held = λ c. refl;
   }
@@ -77,7 +77,7 @@ module _ (code : SuperstepCode) (h : Flat) where
     put = refl;
     asks = refl;
     awaited = refl;
-    own = λ v. same_either (is_active (h.own v)) (h.own v);
+    own = λ v. unmoved (is_active (h.own v)) (h.own v);
     memory = λ c. refl;
     held = λ c. refl;
   }
@@ -91,7 +91,7 @@ module _ (code : SuperstepCode) (h : Flat) where
     put = refl;
     asks = refl;
     awaited = refl;
-    own = λ v. same_either (is_active (h.own v)) (h.own v);
+    own = λ v. unmoved (is_active (h.own v)) (h.own v);
     memory = λ c. refl;
     held = λ c. refl;
   }

@@ -1,5 +1,5 @@
 -- An assignment to a variable, a print, and the value of a test: the run follows them.
-use Rattle.std.proofs.Common.{◌≡◌, ℕ, ◌+◌, ◌*◌, ◌<◌, ◌≤◌, List, [], ◌∷◌, ◌++◌, length, max, Bool, false, None, ℤ, refl, sym, ap, ◌∙◌, subst, arith}
+use Rattle.std.proofs.Common.{◌≡◌, ℕ, ◌+◌, ◌*◌, ◌<◌, ◌≤◌, List, [], ◌∷◌, length, Bool, false, ℤ, refl, sym, subst, arith}
 use Rattle.superstep_code.specs.declared.instr.Side.TheVariants.{Uniform}
 use Rattle.superstep_code.specs.declared.instr.Instr.{Instr}
 use Rattle.superstep_code.specs.declared.instr.Instr.TheVariants.{Mark, Copy, Print}
@@ -18,7 +18,7 @@ use Rattle.stretches.specs.Along.{Run}
 use Rattle.stretches.specs.Folds.{Stand}
 use Rattle.stretches.specs.Tells.{IsCalm}
 use Rattle.evaluation.specs.Terms.{term_of, assignment}
-use Rattle.evaluation.specs.Whole.{Whole, value, steps, whole}
+use Rattle.evaluation.specs.Whole.{value, steps, whole}
 use Rattle.evaluation.proofs.Attempts.{whole_expressions, whole_assignments}
 use Rattle.plain_form.specs.Registers.{variable, behind_variables}
 use Rattle.plain_form.specs.Formulas.{Formula, formula_of, nesting}
@@ -33,7 +33,8 @@ use Rattle.statement_runs.proofs.Costs.{straight_parts_cost}
 use Rattle.outside_runs.specs.Without.{IsWithout}
 use Rattle.outside_runs.proofs.Leads.{Leads, leads_after}
 use Rattle.outside_runs.proofs.Passed.{Passes}
-use Rattle.outside_runs.proofs.OneStatement.{next, evaluates_by}
+use Rattle.inside_runs.proofs.Attempted.{one_more}
+use Rattle.outside_runs.proofs.OneStatement.{evaluates_by}
 use Rattle.outside_runs.proofs.Evaluated.{Leaves}
 use Rattle.outside_runs.proofs.Effects.{got_leaves, got_notes, printed_leaves, printed_notes}
 use Rattle.outside_runs.proofs.Sole.{there, there_leaves, there_gives, result_is, sole_acts, sole_notes}
@@ -56,7 +57,7 @@ module _ (p : Checked) (t : Run) (of : IsRunOf p t) (keep : Bool) (free line : �
   abbrev end : Flat
   end = there p t of keep free line free_ones held m place spent f w e named
 
-  end_leaves : Leaves p free (next m) f end
+  end_leaves : Leaves p free (one_more m) f end
   end_leaves = there_leaves p t of keep free line free_ones held m place spent f w e named
 
   end_gives : end.uniform.registers r ≡ result
@@ -71,19 +72,19 @@ module _ (p : Checked) (t : Run) (of : IsRunOf p t) (keep : Bool) (free line : �
     abbrev get : List Instr
     get = getting keep held Uniform free formula (variable x)
 
-    is_got : IsStraight p t free line get held (still held formula) m f (2 * nesting formula) (with_uniform x result (next m))
+    is_got : IsStraight p t free line get held (still held formula) m f (2 * nesting formula) (with_uniform x result (one_more m))
     is_got =
         let copied = Copy Uniform (variable x) r ∷ [] in
         let acts = sole_acts p t of keep free line free_ones held m place spent f w e named copied in
         record {
           fine = straight_parts_are_fine.got keep held Uniform free formula (variable x);
           few = straight_parts_cost.got keep held Uniform free formula (variable x);
-          leaves = subst (Leaves p free (with_uniform x result (next m)) f) (sym acts)
-              (subst (λ z. Leaves p free (with_uniform x z (next m)) f (after_instr t.code (Copy Uniform (variable x) r) end)) end_gives
-              (got_leaves t.code p free (next m) f end end_leaves free_ones x r declared (next_sizes p m w.sizes)));
+          leaves = subst (Leaves p free (with_uniform x result (one_more m)) f) (sym acts)
+              (subst (λ z. Leaves p free (with_uniform x z (one_more m)) f (after_instr t.code (Copy Uniform (variable x) r) end)) end_gives
+              (got_leaves t.code p free (one_more m) f end end_leaves free_ones x r declared (next_sizes p m w.sizes)));
           count = refl;
-          sizes = variable_sizes p x result (next m) (next_sizes p m w.sizes);
-          values = variable_values x result (next m) result_is_value (next_values m w.values);
+          sizes = variable_sizes p x result (one_more m) (next_sizes p m w.sizes);
+          values = variable_values x result (one_more m) result_is_value (next_values m w.values);
         }
 
     pub variable_follows : Stand t place (Mark line ∷ get) → IsCalm t.code (place + length (Mark line ∷ get)) →
@@ -94,23 +95,23 @@ module _ (p : Checked) (t : Run) (of : IsRunOf p t) (keep : Bool) (free line : �
         let es = Runs (nesting formula) false ∷ [] in
         let goes = λ (n : ℕ) (g : Effect) (k : State).
         Passes p t free (still held formula) (place + length (Mark line ∷ get)) m f n tt (assigned (target.Uniform x) g k) in
-        let s = seen p (next m) in
+        let s = seen p (one_more m) in
         leads_after t spent held (still held formula) (events.begun t.bound m es) goes
         (Passes p t free (still held formula) (place + length (Mark line ∷ get)) m f)
         (evaluated t.bound line (λ m. attempt_assign (seen p m) (target.Uniform x) e) m) (λ g m. tt) (λ g m. assigned (target.Uniform x) g m)
         (evaluates_by t line get held (still held formula) m place spent f
-        (may_begin p t of free line get held (still held formula) m place spent f w (2 * nesting formula) (with_uniform x result (next m))
+        (may_begin p t of free line get held (still held formula) m place spent f w (2 * nesting formula) (with_uniform x result (one_more m))
         is_got stand calm) spent held (still held formula) refl es (λ m. attempt_assign (seen p m) (target.Uniform x) e)
         (whole s (assignment (target.Uniform x) e)) goes (whole_assignments s (target.Uniform x) e)
         (sole_notes p t of keep free line free_ones held m place spent f w e named copied
-        (got_notes t.code p free (next m) f end end_leaves free_ones (variable x) r))
+        (got_notes t.code p free (one_more m) f end end_leaves free_ones (variable x) r))
         (λ below g h. (
           run_holds held formula,
           (
             g,
-            passed_since p t free (still held formula) (place + length (Mark line ∷ get)) m f _ (with_uniform x result (next m)) g
+            passed_since p t free (still held formula) (place + length (Mark line ∷ get)) m f _ (with_uniform x result (one_more m)) g
                 (part_passed p t of free line get held (still held formula) m place spent f w (2 * nesting formula)
-                (with_uniform x result (next m)) is_got below g h _
+                (with_uniform x result (one_more m)) is_got below g h _
                 (let l = run_spends held (nesting formula) in omega (arith, l))),
           ),
         )))
@@ -121,18 +122,18 @@ module _ (p : Checked) (t : Run) (of : IsRunOf p t) (keep : Bool) (free line : �
   abbrev say : List Instr
   say = printing keep held free formula
 
-  is_said : IsStraight p t free line say held (still held formula) m f (2 * nesting formula) (printed result (next m))
+  is_said : IsStraight p t free line say held (still held formula) m f (2 * nesting formula) (printed result (one_more m))
   is_said =
       let acts = sole_acts p t of keep free line free_ones held m place spent f w e named (Print r ∷ []) in
       record {
         fine = straight_parts_are_fine.printed keep held free formula;
         few = straight_parts_cost.printed keep held free formula;
-        leaves = subst (Leaves p free (printed result (next m)) f) (sym acts)
-            (subst (λ z. Leaves p free (printed z (next m)) f (after_instr t.code (Print r) end)) end_gives
-            (printed_leaves t.code p free (next m) f end end_leaves free_ones r));
+        leaves = subst (Leaves p free (printed result (one_more m)) f) (sym acts)
+            (subst (λ z. Leaves p free (printed z (one_more m)) f (after_instr t.code (Print r) end)) end_gives
+            (printed_leaves t.code p free (one_more m) f end end_leaves free_ones r));
         count = refl;
-        sizes = print_sizes p result (next m) (next_sizes p m w.sizes);
-        values = print_values result (next m) result_is_value (next_values m w.values);
+        sizes = print_sizes p result (one_more m) (next_sizes p m w.sizes);
+        values = print_values result (one_more m) result_is_value (next_values m w.values);
       }
 
   pub print_follows : Stand t place (Mark line ∷ say) → IsCalm t.code (place + length (Mark line ∷ say)) →
@@ -142,22 +143,22 @@ module _ (p : Checked) (t : Run) (of : IsRunOf p t) (keep : Bool) (free line : �
       let es = Runs (nesting formula) false ∷ [] in
       let goes = λ (n : ℕ) (v : ℤ) (k : State).
       Passes p t free (still held formula) (place + length (Mark line ∷ say)) m f n tt (printed v k) in
-      let s = seen p (next m) in
+      let s = seen p (one_more m) in
       leads_after t spent held (still held formula) (events.begun t.bound m es) goes
       (Passes p t free (still held formula) (place + length (Mark line ∷ say)) m f) (found p t.bound line e m) (λ v m. tt) (λ v m. printed v m)
       (evaluates_by t line say held (still held formula) m place spent f
-      (may_begin p t of free line say held (still held formula) m place spent f w (2 * nesting formula) (printed result (next m)) is_said
+      (may_begin p t of free line say held (still held formula) m place spent f w (2 * nesting formula) (printed result (one_more m)) is_said
       stand calm) spent held (still held formula) refl es (λ m. attempt (seen p m) e [])
       (record { steps = steps s (term_of e); value = result }) goes (whole_expressions s e [])
       (sole_notes p t of keep free line free_ones held m place spent f w e named (Print r ∷ [])
-      (printed_notes t.code p free (next m) f end end_leaves free_ones r))
+      (printed_notes t.code p free (one_more m) f end end_leaves free_ones r))
       (λ below g h. (
         run_holds held formula,
         (
           g,
-          passed_since p t free (still held formula) (place + length (Mark line ∷ say)) m f _ (printed result (next m)) g
+          passed_since p t free (still held formula) (place + length (Mark line ∷ say)) m f _ (printed result (one_more m)) g
               (part_passed p t of free line say held (still held formula) m place spent f w (2 * nesting formula)
-              (printed result (next m)) is_said below g h _
+              (printed result (one_more m)) is_said below g h _
               (let l = run_spends held (nesting formula) in omega (arith, l))),
         ),
       )))

@@ -1,5 +1,5 @@
 -- The bounds of a `for`, and a setting of its variable: the run follows them, with the turns in their registers.
-use Rattle.std.proofs.Common.{◌≡◌, ℕ, ◌+◌, ◌*◌, ◌<◌, ◌≤◌, List, [], ◌∷◌, ◌++◌, length, Bool, false, not, ◌&&◌, None, Ok, ℤ, ◌+ℤ◌, int_lt, int_le}
+use Rattle.std.proofs.Common.{◌≡◌, ℕ, ◌+◌, ◌*◌, ◌<◌, ◌≤◌, List, [], ◌∷◌, ◌++◌, length, Bool, false, not, ◌&&◌, Ok, ℤ, ◌+ℤ◌, int_lt, int_le}
 use Rattle.std.proofs.Common.{refl, sym, ap, ◌∙◌, subst, arith, append_assoc}
 use Rattle.pram_values.specs.Truth.{truth}
 use Rattle.pram_values.specs.Value.{checked}
@@ -28,7 +28,7 @@ use Rattle.evaluation.specs.Noted.{notes_behind}
 use Rattle.evaluation.specs.Terms.{term_of}
 use Rattle.evaluation.specs.Whole.{value, steps, whole_bounds}
 use Rattle.evaluation.proofs.Attempts.{whole_bounds_of}
-use Rattle.plain_form.specs.Registers.{variable, behind_variables, behind_turns, turn, high, more}
+use Rattle.plain_form.specs.Registers.{behind_variables, behind_turns, turn, high, more}
 use Rattle.plain_form.specs.Formulas.{Formula, Zero, Pair, formula_of, nesting, reads}
 use Rattle.plain_form.specs.Groups as groups
 use Rattle.plain_form.specs.Groups.{first_at, second_at, stack}
@@ -37,7 +37,7 @@ use Rattle.formed_code.specs.Straight.{evaluation, bounding, stepping}
 use Rattle.formed_code.proofs.Fine.{straight_parts_are_fine}
 use Rattle.formula_values.specs.Environments.{IsNamed}
 use Rattle.formula_values.specs.Headings.{heading_of}
-use Rattle.formula_values.specs.Terms.{term, steps_in}
+use Rattle.formula_values.specs.Terms.{steps_in}
 use Rattle.formula_values.proofs.Outside.{pairs_are_evaluated_outside}
 use Rattle.formula_values.proofs.Terms.{expressions_are_terms, steps_are_steps, expressions_are_named}
 use Rattle.exchange_bound.specs.Events as events
@@ -50,10 +50,11 @@ use Rattle.statement_runs.proofs.Valued.{value_is}
 use Rattle.outside_runs.specs.Without.{IsWithout}
 use Rattle.outside_runs.proofs.Leads.{Leads}
 use Rattle.outside_runs.proofs.Passed.{IsPassed}
-use Rattle.outside_runs.proofs.OneStatement.{next, begins_by, evaluates_by}
+use Rattle.inside_runs.proofs.Attempted.{one_more}
+use Rattle.outside_runs.proofs.OneStatement.{begins_by, evaluates_by}
 use Rattle.outside_runs.proofs.Evaluated.{Leaves, may, valued_leaves, part_acts, part_notes}
 use Rattle.outside_runs.proofs.Turns.{HasTurns, place_is_apart, bounds_set, bounds_tail, bounds_leave, bounds_are, bounds_acts, bounds_notes}
-use Rattle.outside_runs.proofs.Turns.{stepped, step_tail, stepped_leaves, stepped_turns, stepped_acts, stepped_notes}
+use Rattle.outside_runs.proofs.Turns.{stepped_leaves, stepped_turns, stepped_acts, stepped_notes}
 use Rattle.outside_runs.proofs.Spending.{cut_spends}
 use Rattle.outside_runs.proofs.Straight.{IsStraight, may_begin, part_passed, seen_register}
 use Rattle.outside_runs.proofs.Values.{sees_values, next_values, next_sizes, variable_values, variable_sizes}
@@ -61,7 +62,7 @@ use Rattle.outside_runs.proofs.Values.{sees_values, next_values, next_sizes, var
 -- the run is behind the bounds of a `for`
 pub record HasBounds (p : Checked) (t : Run) (free place : ℕ) (start : State) (f : Flat) (spent : ℕ) (r : ℤ × ℤ) (m : State) (g : Flat) : Type 0
   where
-    pub passed : IsPassed p t free false place (next start) f spent m g
+    pub passed : IsPassed p t free false place (one_more start) f spent m g
     pub turns : HasTurns free r.0 r.1 (int_le r.0 r.1) g
     pub low : IsValue r.0
     pub high : IsValue r.1
@@ -85,7 +86,7 @@ module _ (p : Checked) (t : Run) (of : IsRunOf p t) (keep : Bool) (free line : �
   base = behind_turns free
 
   abbrev view : View
-  view = seen p (next m)
+  view = seen p (one_more m)
 
   abbrev a : ℤ
   a = value view (term_of d)
@@ -111,28 +112,28 @@ module _ (p : Checked) (t : Run) (of : IsRunOf p t) (keep : Bool) (free line : �
   abbrev end : Flat
   end = acts_at_once t.code (groups.evaluated Uniform base both) start
 
-  end_leaves : Leaves p free (next m) f end
+  end_leaves : Leaves p free (one_more m) f end
   end_leaves = valued_leaves p t of held m place spent f w line base both both_named above free (omega arith)
 
   low_is : end.uniform.registers (first_at Uniform base one two) ≡ a
   low_is =
-      (pairs_are_evaluated_outside t.code p (next m) base one two start (may p t of held m place spent f w line base both both_named above)).0
+      (pairs_are_evaluated_outside t.code p (one_more m) base one two start (may p t of held m place spent f w line base both both_named above)).0
       ∙ ap (value view) (expressions_are_terms d)
 
   high_is : end.uniform.registers (second_at Uniform base one two) ≡ b
   high_is =
-      (pairs_are_evaluated_outside t.code p (next m) base one two start (may p t of held m place spent f w line base both both_named above)).1
+      (pairs_are_evaluated_outside t.code p (one_more m) base one two start (may p t of held m place spent f w line base both both_named above)).1
       ∙ ap (value view) (expressions_are_terms e)
 
   apart : (free ≡ second_at Uniform base one two) → ⊥
   apart = place_is_apart p free free_ones two (base + reads one) (stack base both + 1) both_named.1 (omega arith) (omega arith)
 
   abbrev set : Flat
-  set = bounds_set t.code p free (next m) f free_ones end end_leaves (first_at Uniform base one two) (second_at Uniform base one two) apart a b
+  set = bounds_set t.code p free (one_more m) f free_ones end end_leaves (first_at Uniform base one two) (second_at Uniform base one two) apart a b
       low_is high_is
 
   abbrev tail : List Instr
-  tail = bounds_tail t.code p free (next m) f free_ones end end_leaves (first_at Uniform base one two) (second_at Uniform base one two) apart a b
+  tail = bounds_tail t.code p free (one_more m) f free_ones end end_leaves (first_at Uniform base one two) (second_at Uniform base one two) apart a b
       low_is high_is some
 
   part_is : part ≡ evaluation keep held Uniform base both ++ tail
@@ -146,7 +147,7 @@ module _ (p : Checked) (t : Run) (of : IsRunOf p t) (keep : Bool) (free line : �
   acts_are =
       ap (λ is. acts_at_once t.code is start) part_is
       ∙ part_acts p t of held m place spent f w line base both both_named above keep held tail
-      ∙ bounds_acts t.code p free (next m) f free_ones end end_leaves (first_at Uniform base one two) (second_at Uniform base one two) apart a b
+      ∙ bounds_acts t.code p free (one_more m) f free_ones end end_leaves (first_at Uniform base one two) (second_at Uniform base one two) apart a b
       low_is high_is some
 
   notes_are : notes t.code part start ≡ notes_behind (heading_of start) 0 All (steps view (term_of d) ++ steps view (term_of e))
@@ -155,17 +156,17 @@ module _ (p : Checked) (t : Run) (of : IsRunOf p t) (keep : Bool) (free line : �
       ap (λ is. notes t.code is start) part_is
       ∙ part_notes p t of held m place spent f w line base both both_named above keep held tail
       ∙ ap (least (notes_behind h 0 All (steps_in view both)))
-      (bounds_notes t.code p free (next m) f free_ones end end_leaves (first_at Uniform base one two) (second_at Uniform base one two) apart a b
+      (bounds_notes t.code p free (one_more m) f free_ones end end_leaves (first_at Uniform base one two) (second_at Uniform base one two) apart a b
       low_is high_is some)
       ∙ none_least (notes_behind h 0 All (steps_in view both))
       ∙ (λ i. notes_behind h 0 All (steps_are_steps view d i ++ steps_are_steps view e i))
 
-  is_bounded : IsStraight p t free line part held false m f (2 * nesting both + one_if some) (next m)
+  is_bounded : IsStraight p t free line part held false m f (2 * nesting both + one_if some) (one_more m)
   is_bounded = record {
     fine = straight_parts_are_fine.bounded keep held free one two;
     few = straight_parts_cost.bounded keep held free one two;
-    leaves = subst (Leaves p free (next m) f) (sym acts_are)
-        (bounds_leave t.code p free (next m) f free_ones end end_leaves (first_at Uniform base one two) (second_at Uniform base one two) apart a b
+    leaves = subst (Leaves p free (one_more m) f) (sym acts_are)
+        (bounds_leave t.code p free (one_more m) f free_ones end end_leaves (first_at Uniform base one two) (second_at Uniform base one two) apart a b
         low_is high_is);
     count = refl;
     sizes = next_sizes p m w.sizes;
@@ -174,7 +175,7 @@ module _ (p : Checked) (t : Run) (of : IsRunOf p t) (keep : Bool) (free line : �
 
   turns_are : HasTurns free a b (int_le a b) (done t.code line part f)
   turns_are = subst (HasTurns free a b (int_le a b)) (sym acts_are)
-      (bounds_are t.code p free (next m) f free_ones end end_leaves (first_at Uniform base one two) (second_at Uniform base one two) apart a b
+      (bounds_are t.code p free (one_more m) f free_ones end end_leaves (first_at Uniform base one two) (second_at Uniform base one two) apart a b
       low_is high_is)
 
   pub bounds_follow : Stand t place (Mark line ∷ part) → IsCalm t.code (place + length (Mark line ∷ part)) →
@@ -182,9 +183,9 @@ module _ (p : Checked) (t : Run) (of : IsRunOf p t) (keep : Bool) (free line : �
       (Bounds p t free (place + length (Mark line ∷ part)) m f) (evaluated t.bound line (λ m. attempt_bounds (seen p m) d e) m)
   bounds_follow stand calm =
       let cost = 2 * nesting both + one_if some in
-      let values = sees_values p (next m) (next_values m w.values) in
+      let values = sees_values p (one_more m) (next_values m w.values) in
       evaluates_by t line part held false m place spent f
-      (may_begin p t of free line part held false m place spent f w cost (next m) is_bounded stand calm) spent held false refl
+      (may_begin p t of free line part held false m place spent f w cost (one_more m) is_bounded stand calm) spent held false refl
       (Runs (nesting both) false ∷ Cut ∷ []) (λ m. attempt_bounds (seen p m) d e) (whole_bounds view (term_of d) (term_of e))
       (Bounds p t free (place + length (Mark line ∷ part)) m f) (whole_bounds_of view d e) notes_are
       (λ below g h. (
@@ -192,11 +193,11 @@ module _ (p : Checked) (t : Run) (of : IsRunOf p t) (keep : Bool) (free line : �
         (
           g,
           record {
-            passed = part_passed p t of free line part held false m place spent f w cost (next m) is_bounded below g h _
+            passed = part_passed p t of free line part held false m place spent f w cost (one_more m) is_bounded below g h _
                 (let l = cut_spends held both in omega (arith, l));
             turns =
                 let k = turns_are in
-                let same = seen_register p t of free line part held false m place spent f w cost (next m) is_bounded below g h in record {
+                let same = seen_register p t of free line part held false m place spent f w cost (one_more m) is_bounded below g h in record {
                   turn = same (turn free) ∙ k.turn;
                   high = same (high free) ∙ k.high;
                   more = same (more free) ∙ k.more;
@@ -209,10 +210,10 @@ module _ (p : Checked) (t : Run) (of : IsRunOf p t) (keep : Bool) (free line : �
 
 -- ---- a setting
 
--- the run is behind a setting of the variable x to a, with the next turn in its register
+-- the run is behind a setting of the variable x to a, with the one_more turn in its register
 pub record HasSet (p : Checked) (t : Run) (free place x : ℕ) (a b c : ℤ) (start : State) (f : Flat) (spent : ℕ) (m : State) (g : Flat) : Type 0
   where
-    pub passed : IsPassed p t free false place (next start) f spent (with_uniform x a m) g
+    pub passed : IsPassed p t free false place (one_more start) f spent (with_uniform x a m) g
     pub turns : HasTurns free c b (int_lt a b) g
 
 abbrev pub Sets : Checked → Run → (free place x : ℕ) → (a b c : ℤ) → State → Flat → ℕ → Unit {0} → State → Type 0
@@ -234,31 +235,31 @@ setting_follows p t of keep free line free_ones x declared a b c fits is_value m
     let part = stepping keep free x in
     let start = begun t.code line f in
     let some = keep && not false in
-    let leaves : Leaves p free (next m) f start = valued_leaves p t of false m place spent f w line free Zero tt free_ones free (omega arith) in
+    let leaves : Leaves p free (one_more m) f start = valued_leaves p t of false m place spent f w line free Zero tt free_ones free (omega arith) in
     let sizes = next_sizes p m w.sizes in
     let acts : done t.code line part f ≡ _ =
-    stepped_acts t.code p free (next m) f free_ones start leaves x declared sizes a b c low up fits some in
-    let after = with_uniform x a (next m) in
+    stepped_acts t.code p free (one_more m) f free_ones start leaves x declared sizes a b c low up fits some in
+    let after = with_uniform x a (one_more m) in
     let straight : IsStraight p t free line part false false m f 0 after = record {
       fine = straight_parts_are_fine.stepped keep free x;
       few = straight_parts_cost.stepped keep free x;
       leaves = subst (Leaves p free after f) (sym acts)
-          (stepped_leaves t.code p free (next m) f free_ones start leaves x declared sizes a b c low up fits);
+          (stepped_leaves t.code p free (one_more m) f free_ones start leaves x declared sizes a b c low up fits);
       count = refl;
-      sizes = variable_sizes p x a (next m) sizes;
-      values = variable_values x a (next m) is_value (next_values m w.values);
+      sizes = variable_sizes p x a (one_more m) sizes;
+      values = variable_values x a (one_more m) is_value (next_values m w.values);
     } in
     let turns : HasTurns free c b (int_lt a b) (done t.code line part f) =
     subst (HasTurns free c b (int_lt a b)) (sym acts)
-    (stepped_turns t.code p free (next m) f free_ones start leaves x declared sizes a b c low up fits) in
+    (stepped_turns t.code p free (one_more m) f free_ones start leaves x declared sizes a b c low up fits) in
     let es = Runs 0 false ∷ [] in
     let goes = Sets p t free (place + length (Mark line ∷ part)) x a b c m f in
     subst (λ d. Leads t spent false false (events.begun t.bound m es) goes d) (goes_on (counted t.bound m))
     (begins_by t line part false false m place spent f
     (may_begin p t of free line part false false m place spent f w 0 after straight stand calm) spent false false refl es tt goes
     (λ m. Goes tt m)
-    (ap (λ k. valued (unless_told k tt) (next m))
-    (sym (stepped_notes t.code p free (next m) f free_ones start leaves x declared sizes a b c low up fits some)))
+    (ap (λ k. valued (unless_told k tt) (one_more m))
+    (sym (stepped_notes t.code p free (one_more m) f free_ones start leaves x declared sizes a b c low up fits some)))
     (λ below g h. (
       refl,
       (

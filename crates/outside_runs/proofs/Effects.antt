@@ -1,14 +1,12 @@
 -- What the last instructions of an assignment to a variable and of a print leave, and that they note nothing.
-use Rattle.std.proofs.Common.{◌≡◌, ◌≢◌, ℕ, ◌+◌, ◌<◌, ◌≤◌, List, [], ◌∷◌, ◌++◌, length, map, Bool, true, false, None, ℤ, pos, refl, sym, ap, ◌∙◌, subst}
-use Rattle.std.proofs.Common.{arith, eqb, cond, get_or}
+use Rattle.std.proofs.Common.{◌≡◌, ◌≢◌, ℕ, ◌<◌, ◌≤◌, [], ◌∷◌, ◌++◌, Bool, true, false, None, ℤ, pos, refl, sym, ap, ◌∙◌}
+use Rattle.std.proofs.Common.{arith, eqb, get_or}
 use Rattle.std.specs.Prelude.{slice_index_or, slice_set}
 use Rattle.std.proofs.lemmas.List.{get_or-set_same, get_or-set_other, map-append}
-use Rattle.std.proofs.lemmas.Bool.{ne_eqb}
 use Rattle.superstep_code.specs.declared.instr.Side.TheVariants.{Uniform}
 use Rattle.superstep_code.specs.declared.instr.Instr.TheVariants.{Copy, Print}
 use Rattle.superstep_code.specs.Code.{SuperstepCode}
-use Rattle.superstep_machine.specs.Parts.{Registers, set_register}
-use Rattle.superstep_machine.specs.Run.{items}
+use Rattle.superstep_machine.specs.Parts.{set_register}
 use Rattle.superstep_machine.specs.Steps.{is_active}
 use Rattle.superstep_machine.proofs.Numbers.{same_number, with_itself}
 use Rattle.pram_check.specs.Checked.{Checked}
@@ -20,7 +18,8 @@ use Rattle.plain_form.specs.Registers.{variable, behind_variables}
 use Rattle.formula_values.proofs.Operations.{set_here, set_there}
 use Rattle.statement_runs.specs.Between.{HasSizes}
 use Rattle.outside_runs.proofs.Evaluated.{Leaves}
-use Rattle.outside_runs.proofs.UniformWork.{same_either, nothing_either, rests_behind, noted_alone}
+use Rattle.statement_runs.proofs.Marked.{unmoved}
+use Rattle.outside_runs.proofs.UniformWork.{nothing_either, rests_behind, noted_alone}
 
 -- ---- a value for a variable
 
@@ -68,7 +67,7 @@ module _ (code : SuperstepCode) (p : Checked) (free : ℕ) (m : State) (f h : Fl
               cells = w.cells;
             };
             bare = record { put = b.put; held = b.held };
-            rests = rests_behind h got refl refl (λ v. same_either (is_active (h.own v)) (h.own v)) s.rests;
+            rests = rests_behind h got refl refl (λ v. unmoved (is_active (h.own v)) (h.own v)) s.rests;
           };
           count = l.count;
           output = l.output;
@@ -102,7 +101,7 @@ module _ (code : SuperstepCode) (p : Checked) (free : ℕ) (m : State) (f h : Fl
               cells = w.cells;
             };
             bare = record { put = b.put; held = b.held };
-            rests = rests_behind h said refl refl (λ v. same_either (is_active (h.own v)) (h.own v)) s.rests;
+            rests = rests_behind h said refl refl (λ v. unmoved (is_active (h.own v)) (h.own v)) s.rests;
           };
           count = l.count;
           output = map-append (λ (x : ℕ × ℤ). x.1) h.uniform.output ((h.uniform.count, h.uniform.registers r) ∷ [])

@@ -1,19 +1,18 @@
 -- The beginning of a pardo: its processors are new ones, each with its index, and all of them are active.
-use Rattle.std.proofs.Common.{◌≡◌, ℕ, zero, suc, ◌+◌, ◌<◌, ◌≤◌, List, [], ◌∷◌, length, replicate, Bool, true, false, None, Some, Ok, Err, ℤ, pos, ◌+ℤ◌}
+use Rattle.std.proofs.Common.{◌≡◌, ℕ, zero, suc, ◌+◌, ◌<◌, [], ◌∷◌, length, replicate, Bool, true, false, Ok, Err, ℤ, pos, ◌+ℤ◌}
 use Rattle.std.proofs.Common.{refl, sym, ap, ◌∙◌, subst, arith, get_or}
-use Rattle.std.specs.Prelude.{slice_index_or, nat_le, if◌then◌else◌}
+use Rattle.std.specs.Prelude.{nat_le, if◌then◌else◌}
 use Rattle.std.specs.List.{AllByRecursion}
 use Rattle.std.proofs.lemmas.Int.{ints}
 use Rattle.std.proofs.lemmas.List.{length-replicate, get_or-replicate}
 use Rattle.pram_model.specs.Layout.{width}
 use Rattle.pram_values.specs.declared.kind.Kind.TheVariants.{TooWide}
 use Rattle.pram_values.specs.declared.place.Place.TheVariants.{All}
-use Rattle.superstep_code.specs.declared.instr.Instr.{Instr}
 use Rattle.superstep_code.specs.declared.instr.Instr.TheVariants as instr
 use Rattle.superstep_code.specs.declared.instr.Instr.TheVariants.{Enter}
 use Rattle.superstep_code.specs.Code.{SuperstepCode}
 use Rattle.superstep_machine.specs.Keys.{least}
-use Rattle.superstep_machine.specs.Parts.{zeros, fresh}
+use Rattle.superstep_machine.specs.Parts.{zeros}
 use Rattle.superstep_machine.specs.Results.{range_width, or_empty, kind_of}
 use Rattle.superstep_machine.specs.Steps.{index_of, is_active}
 use Rattle.pram_check.specs.Checked.{Checked}

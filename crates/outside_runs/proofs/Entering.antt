@@ -1,5 +1,5 @@
 -- The beginning of a pardo: the run follows it, and stands inside with all its processors active.
-use Rattle.std.proofs.Common.{◌≡◌, ℕ, ◌+◌, ◌*◌, ◌<◌, ◌≤◌, List, [], ◌∷◌, ◌++◌, length, Bool, false, None, ℤ, refl, sym, ap, ◌∙◌, subst, arith}
+use Rattle.std.proofs.Common.{◌≡◌, ℕ, ◌+◌, ◌*◌, ◌<◌, ◌≤◌, List, [], ◌∷◌, length, Bool, false, ℤ, refl, sym, ap, ◌∙◌, subst, arith}
 use Rattle.pram_values.specs.declared.place.Place.TheVariants.{All}
 use Rattle.superstep_code.specs.declared.instr.Side.TheVariants.{Uniform}
 use Rattle.superstep_code.specs.declared.instr.Instr.{Instr}
@@ -15,7 +15,6 @@ use Rattle.pram_check.specs.Bounded.{names_of}
 use Rattle.pram_meaning.specs.Attempt.{attempt_range}
 use Rattle.pram_meaning.specs.Store.{State, View, seen, with_team}
 use Rattle.pram_meaning.specs.Bounded.{evaluated}
-use Rattle.pram_meaning.specs.Values.{IsValue}
 use Rattle.flat_machine.specs.Flat.{Flat, after_instr}
 use Rattle.stretches.specs.Along.{Run}
 use Rattle.stretches.specs.Folds.{Stand, acts_at_once, costs}
@@ -37,12 +36,12 @@ use Rattle.formed_code.proofs.Fine.{straight_parts_are_fine}
 use Rattle.formula_values.specs.Environments.{IsNamed}
 use Rattle.formula_values.specs.Headings.{heading_of}
 use Rattle.formula_values.specs.Inside.{ShowsInside}
-use Rattle.formula_values.specs.Terms.{term, steps_in}
+use Rattle.formula_values.specs.Terms.{steps_in}
 use Rattle.formula_values.proofs.Outside.{pairs_are_evaluated_outside}
 use Rattle.formula_values.proofs.Terms.{expressions_are_terms, steps_are_steps, expressions_are_named}
 use Rattle.exchange_bound.specs.Events as events
 use Rattle.exchange_bound.specs.Events.{Event, Runs}
-use Rattle.statement_runs.specs.Between.{IsBetween, IsRunOf, HasSizes}
+use Rattle.statement_runs.specs.Between.{IsBetween, IsRunOf}
 use Rattle.statement_runs.specs.Begins.{begun, done, HasPassed}
 use Rattle.statement_runs.proofs.Costs.{straight_parts_cost}
 use Rattle.statement_runs.proofs.Places.{between_at}
@@ -50,19 +49,20 @@ use Rattle.statement_runs.proofs.Valued.{value_is}
 use Rattle.inside_runs.specs.Within.{IsWithin}
 use Rattle.outside_runs.specs.Without.{IsWithout}
 use Rattle.outside_runs.proofs.Leads.{Leads}
-use Rattle.outside_runs.proofs.OneStatement.{next, MayBegin, evaluates_by}
+use Rattle.inside_runs.proofs.Attempted.{one_more}
+use Rattle.outside_runs.proofs.OneStatement.{MayBegin, evaluates_by}
 use Rattle.outside_runs.proofs.Evaluated.{Leaves, may, valued_leaves, valued_heading, part_acts, part_notes}
 use Rattle.outside_runs.proofs.PairNotes.{pair_then_test}
-use Rattle.outside_runs.proofs.Entered.{entered, entered_stands, entered_shows, entered_notes, members_have_locals, team_has_values}
+use Rattle.outside_runs.proofs.Entered.{entered_stands, entered_shows, entered_notes, members_have_locals, team_has_values}
 use Rattle.outside_runs.proofs.Spending.{run_holds, run_spends}
 use Rattle.outside_runs.proofs.Values.{sees_values, next_values, next_sizes}
 
 -- the run is inside the range, with the free uniform registers as they were
 pub record HasEntered (p : Checked) (t : Run) (free locals : ℕ) (left : Bool) (place : ℕ) (start : State) (f : Flat) (spent : ℕ) (r : ℤ × ℕ)
-  (m : State) (g : Flat) : Type 0 where
-    pub within : IsWithin p t locals (behind_locals locals) (everybody r.1) left (with_team r.0 r.1 locals m) place spent g
-    pub registers : (r : ℕ) → behind_variables p.uniforms ≤ r → r < free → g.uniform.registers r ≡ f.uniform.registers r
-    pub later : start.count ≤ m.count
+    (m : State) (g : Flat) : Type 0 where
+  pub within : IsWithin p t locals (behind_locals locals) (everybody r.1) left (with_team r.0 r.1 locals m) place spent g
+  pub registers : (r : ℕ) → behind_variables p.uniforms ≤ r → r < free → g.uniform.registers r ≡ f.uniform.registers r
+  pub later : start.count ≤ m.count
 
 abbrev pub Enters : Checked → Run → (free locals : ℕ) → Bool → (place : ℕ) → State → Flat → ℕ → ℤ × ℕ → State → Type 0
 Enters p t free locals left place start f spent r m = (g : Flat) × HasEntered p t free locals left place start f spent r m g
@@ -80,7 +80,7 @@ module _ (p : Checked) (t : Run) (of : IsRunOf p t) (keep : Bool) (free line : �
   both = Pair one two
 
   abbrev view : View
-  view = seen p (next m)
+  view = seen p (one_more m)
 
   abbrev a : ℤ
   a = value view (term_of d)
@@ -115,17 +115,17 @@ module _ (p : Checked) (t : Run) (of : IsRunOf p t) (keep : Bool) (free line : �
   abbrev end : Flat
   end = acts_at_once t.code (groups.evaluated Uniform free both) start
 
-  end_leaves : Leaves p free (next m) f end
+  end_leaves : Leaves p free (one_more m) f end
   end_leaves = valued_leaves p t of held m place spent f w line free both both_named free_ones free (omega arith)
 
   low_is : end.uniform.registers low ≡ a
   low_is =
-      (pairs_are_evaluated_outside t.code p (next m) free one two start (may p t of held m place spent f w line free both both_named free_ones)).0
+      (pairs_are_evaluated_outside t.code p (one_more m) free one two start (may p t of held m place spent f w line free both both_named free_ones)).0
       ∙ ap (value view) (expressions_are_terms d)
 
   up_is : end.uniform.registers up ≡ b
   up_is =
-      (pairs_are_evaluated_outside t.code p (next m) free one two start (may p t of held m place spent f w line free both both_named free_ones)).1
+      (pairs_are_evaluated_outside t.code p (one_more m) free one two start (may p t of held m place spent f w line free both both_named free_ones)).1
       ∙ ap (value view) (expressions_are_terms e)
 
   abbrev inside : Flat
@@ -140,21 +140,21 @@ module _ (p : Checked) (t : Run) (of : IsRunOf p t) (keep : Bool) (free line : �
       let k = kind_of (range_width p.procs a b) in
       part_notes p t of held m place spent f w line free both both_named free_ones keep held (Enter low up position ∷ instr.Index index ∷ [])
       ∙ ap (least (notes_behind h 0 All (steps_in view both)))
-      (entered_notes t.code p free (next m) f end end_leaves of.procs low up position a b low_is up_is locals
+      (entered_notes t.code p free (one_more m) f end end_leaves of.procs low up position a b low_is up_is locals
       ∙ ap (λ x. note_key x position All k) (valued_heading p t of held m place spent f w line free both both_named free_ones))
       ∙ pair_then_test h view one two (steps view (term_of d)) (steps view (term_of e)) (testing k) (steps_are_steps view d)
       (steps_are_steps view e)
 
   abbrev team : State
-  team = with_team a count locals (next m)
+  team = with_team a count locals (one_more m)
 
   shows_are : ShowsInside p locals team (done t.code line part f)
   shows_are = subst (ShowsInside p locals team) (sym acts_are)
-      (entered_shows t.code p free (next m) f end end_leaves of.procs low up position a b low_is up_is locals)
+      (entered_shows t.code p free (one_more m) f end end_leaves of.procs low up position a b low_is up_is locals)
 
   stands_are : StandsIn (behind_locals locals) (behind_locals locals) (everybody count) (done t.code line part f)
   stands_are = subst (StandsIn (behind_locals locals) (behind_locals locals) (everybody count)) (sym acts_are)
-      (entered_stands t.code p free (next m) f end end_leaves of.procs low up position a b low_is up_is locals)
+      (entered_stands t.code p free (one_more m) f end end_leaves of.procs low up position a b low_is up_is locals)
 
   may_enter : Stand t place (Mark line ∷ part) → IsCalm t.code (place + length (Mark line ∷ part)) →
       MayBegin t line part held left m place spent f
@@ -181,11 +181,11 @@ module _ (p : Checked) (t : Run) (of : IsRunOf p t) (keep : Bool) (free line : �
 
   -- behind it the run is inside
   has_entered : (m.count < t.bound) → (g : Flat) → HasPassed t line part left place spent f g → (most : ℕ) → spent + 2 * nesting both ≤ most →
-      HasEntered p t free locals left (place + length (Mark line ∷ part)) m f most (a, count) (next m) g
+      HasEntered p t free locals left (place + length (Mark line ∷ part)) m f most (a, count) (one_more m) g
   has_entered below g h most few =
       let l = end_leaves in
       let k = part_costs in
-      let values = sees_values p (next m) (next_values m w.values) in
+      let values = sees_values p (one_more m) (next_values m w.values) in
       let state = next_sizes p m w.sizes in
       let here : IsBetween t left team (place + 1 + length part) (spent + costs t.code part (after_instr t.code (Mark line) f)) g = record {
         comes = h.comes;
@@ -203,7 +203,7 @@ module _ (p : Checked) (t : Run) (of : IsRunOf p t) (keep : Bool) (free line : �
           stands = subst (StandsIn (behind_locals locals) (behind_locals locals) (everybody count)) (sym h.seen) stands_are;
           sizes = record { uniforms = state.uniforms; cells = state.cells };
           locals_of = members_have_locals a count locals;
-          values = team_has_values p.procs a b locals (next m) (value_is (names_of p) view values d first_named)
+          values = team_has_values p.procs a b locals (one_more m) (value_is (names_of p) view values d first_named)
               (value_is (names_of p) view values e second_named) (next_values m w.values);
         };
         registers = λ r low up. ap (λ (x : Flat). x.uniform.registers r) (h.seen ∙ acts_are) ∙ l.registers r low up;

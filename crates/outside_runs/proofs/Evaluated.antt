@@ -1,5 +1,5 @@
 -- What a statement outside pardo evaluates behind its mark: the state there, and what it notes.
-use Rattle.std.proofs.Common.{◌≡◌, ℕ, ◌+◌, ◌<◌, ◌≤◌, List, [], ◌++◌, Bool, refl, sym, ap, ◌∙◌, arith}
+use Rattle.std.proofs.Common.{◌≡◌, ℕ, ◌+◌, ◌<◌, ◌≤◌, List, ◌++◌, Bool, ap, ◌∙◌, arith}
 use Rattle.pram_values.specs.declared.place.Place.TheVariants.{All}
 use Rattle.superstep_code.specs.declared.instr.Side.TheVariants.{Uniform}
 use Rattle.superstep_code.specs.declared.instr.Instr.{Instr}
@@ -9,10 +9,8 @@ use Rattle.pram_check.specs.Checked.{Checked}
 use Rattle.pram_check.specs.Bounded.{names_of}
 use Rattle.pram_meaning.specs.Store.{State, seen}
 use Rattle.flat_machine.specs.Flat.{Flat}
-use Rattle.stretches.specs.Applied.{applied}
 use Rattle.stretches.specs.Along.{Run}
 use Rattle.stretches.specs.Folds.{acts_at_once}
-use Rattle.stretches.specs.Leaving.{IsLeft}
 use Rattle.stretches.specs.Notes.{notes}
 use Rattle.evaluation.specs.Noted.{notes_behind}
 use Rattle.plain_form.specs.Registers.{behind_variables}
@@ -28,7 +26,7 @@ use Rattle.statement_runs.specs.Between.{IsRunOf}
 use Rattle.statement_runs.specs.Begins.{begun}
 use Rattle.statement_runs.proofs.Marked.{begun_bare, begun_rests, evaluation_acts_with, evaluation_notes_with}
 use Rattle.outside_runs.specs.Without.{IsWithout}
-use Rattle.outside_runs.proofs.OneStatement.{next}
+use Rattle.inside_runs.proofs.Attempted.{one_more}
 
 -- a straight part leaves a state of the program in g, with the free registers as they were in f
 pub record Leaves (p : Checked) (free : ℕ) (m : State) (f g : Flat) : Type 0 where
@@ -47,7 +45,7 @@ module _ (p : Checked) (t : Run) (of : IsRunOf p t) (held : Bool) (m : State) (p
   abbrev pub valued : Flat
   valued = acts_at_once t.code (evaluated Uniform base e) marked
 
-  pub marked_shows : ShowsOutside p (next m) marked
+  pub marked_shows : ShowsOutside p (one_more m) marked
   marked_shows =
       let s = w.shows in
       let h = s.shows in record {
@@ -62,13 +60,13 @@ module _ (p : Checked) (t : Run) (of : IsRunOf p t) (held : Bool) (m : State) (p
         rests = begun_rests t.code line f s.rests;
       }
 
-  pub may : MayEvaluateOutside t.code p (next m) base e marked
+  pub may : MayEvaluateOutside t.code p (one_more m) base e marked
   may = (of.layout, named, free_ones, marked_shows)
 
-  pub is_valued : IsEvaluatedOutside t.code p (next m) base e marked
-  is_valued = formulas_are_evaluated_outside t.code p (next m) base e marked may
+  pub is_valued : IsEvaluatedOutside t.code p (one_more m) base e marked
+  is_valued = formulas_are_evaluated_outside t.code p (one_more m) base e marked may
 
-  pub valued_leaves : (free : ℕ) → free ≤ base → Leaves p free (next m) f valued
+  pub valued_leaves : (free : ℕ) → free ≤ base → Leaves p free (one_more m) f valued
   valued_leaves free l =
       let x = is_valued in
       let left = x.left in

@@ -1,7 +1,6 @@
 -- The code of statements outside pardo follows their meaning.
-use Rattle.std.proofs.Common.{ℕ, ◌+◌, length}
+use Rattle.std.proofs.Common.{◌+◌, length}
 use Rattle.pram_meaning.specs.Bounded.{perform_list}
-use Rattle.pram_meaning.specs.Store.{State}
 use Rattle.plain_form.specs.Outside.{statements_code, statements_left}
 use Rattle.exchange_bound.specs.Events.{list_events}
 use Rattle.exchange_bound.specs.Spent as events

@@ -1,6 +1,6 @@
 -- The turns of a `for`, from a setting of its variable on: the run follows them.
 use Rattle.std.proofs.Common.{◌≡◌, ℕ, zero, suc, ◌+◌, ◌<◌, ◌≤◌, List, [], ◌∷◌, ◌++◌, length, Bool, true, false, Ok, ℤ, pos, ◌+ℤ◌, int_lt, int_le}
-use Rattle.std.proofs.Common.{refl, sym, ap, ◌∙◌, subst, arith, length-append, append_assoc}
+use Rattle.std.proofs.Common.{refl, ap, ◌∙◌, subst, arith, length-append, append_assoc}
 use Rattle.std.specs.Prelude.{if◌then◌else◌}
 use Rattle.pram_model.specs.Layout.{width}
 use Rattle.pram_values.specs.Truth.{is_nonzero, truth}
@@ -9,7 +9,7 @@ use Rattle.superstep_code.specs.declared.instr.Instr.{Instr}
 use Rattle.superstep_code.specs.declared.instr.Instr.TheVariants.{Mark, Jump, JumpIfZero}
 use Rattle.pram_check.specs.Checked.{Checked}
 use Rattle.pram_meaning.specs.Store.{State, with_uniform}
-use Rattle.pram_meaning.specs.Bounded.{Done, Goes, then_do, counted, for_turns}
+use Rattle.pram_meaning.specs.Bounded.{Done, then_do, counted, for_turns}
 use Rattle.pram_meaning.specs.Values.{IsValue}
 use Rattle.flat_machine.specs.Flat.{Flat}
 use Rattle.stretches.specs.Along.{Run, IsAt}
@@ -25,8 +25,7 @@ use Rattle.statement_runs.specs.Between.{IsRunOf}
 use Rattle.outside_runs.specs.Without.{IsWithout}
 use Rattle.outside_runs.proofs.Bounding.{HasSet, Sets, setting_follows}
 use Rattle.outside_runs.proofs.Leads.{Leads, leads_then, leads_as}
-use Rattle.outside_runs.proofs.Numbers.{Reaches, none_between, some_between, no_more, one_more, next_last, next_is, step_is, stay_is}
-use Rattle.outside_runs.proofs.OneStatement.{next}
+use Rattle.outside_runs.proofs.Numbers.{none_between, some_between, no_more, one_turn_more, next_last, next_is, step_is, stay_is}
 use Rattle.outside_runs.proofs.Parts.{RunsPart}
 use Rattle.outside_runs.proofs.Passed.{IsPassed, Passes, passed_both, passed_there, passed_here, passed_jump, forks_without}
 use Rattle.outside_runs.proofs.Straight.{passed_since}
@@ -148,15 +147,19 @@ module _ (p : Checked) (t : Run) (of : IsRunOf p t) (keep : Bool) (free line : �
       Leads t spent false false (for_events t.bound (suc k) x a performed inside m) (ends m f) (for_turns t.bound (suc k) x a performed m)
   turns_lead zero a b m spent f w low up far low_is up_is =
       turn_leads a b m spent f w low up low_is zero a (stay_is a b far low_is)
-      (λ n m1 g s j m2 h z.
-      (refl,
-      (h, passed_there p t free false end end m f j (j + 0) m2 h refl (omega arith)
-      (forked a b m spent f w low up low_is a n m1 g s j m2 h z false (no_more a b far)))))
+      (λ n m1 g s j m2 h z. (
+        refl,
+        (
+          h,
+          passed_there p t free false end end m f j (j + 0) m2 h refl (omega arith)
+              (forked a b m spent f w low up low_is a n m1 g s j m2 h z false (no_more a b far)),
+        ),
+      ))
   turns_lead (suc k) a b m spent f w low up far low_is up_is =
       let c = a +ℤ pos 1 in
       turn_leads a b m spent f w low up low_is (suc k) c (step_is a b k far low_is up_is)
       (λ n m1 g s j m2 h z.
-      let there = back a b m spent f w low up low_is c n m1 g s j m2 h z (one_more a b k far) in
+      let there = back a b m spent f w low up low_is c n m1 g s j m2 h z (one_turn_more a b k far) in
       leads_as t j false false (for_events t.bound (suc k) x c performed inside m2) (ends m2 h) (ends m f)
       (for_turns t.bound (suc k) x c performed m2)
       (turns_lead k c b m2 j h there.without (next_turn a b m spent f w low up low_is c n m1 g s j m2 h z)

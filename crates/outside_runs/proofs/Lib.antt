@@ -23,5 +23,9 @@ pub mod Whiles
 pub mod Numbers
 pub mod Fors
 pub mod Ranges
+pub mod Led
+pub mod Assigned
+pub mod Loops
+pub mod Branches
 pub mod Statements
 pub mod Followed

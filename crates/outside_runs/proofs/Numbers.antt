@@ -1,10 +1,10 @@
 -- The numbers of a `for`: how many there are between its bounds, and the step from one to the next.
-use Rattle.std.proofs.Common.{◌≡◌, ℕ, zero, suc, ◌+◌, Bool, true, false, Ok, ℤ, pos, ◌+ℤ◌, ◌-ℤ◌, ◌≤ℤ◌, nat_abs, int_lt, int_le, refl, sym, ap, ◌∙◌, subst, arith}
+use Rattle.std.proofs.Common.{◌≡◌, ℕ, zero, suc, ◌+◌, Bool, true, false, Ok, ℤ, pos, ◌+ℤ◌, ◌-ℤ◌, nat_abs, int_lt, int_le, refl, sym, ap, ◌∙◌, subst, arith}
 use Rattle.std.specs.Prelude.{if◌then◌else◌}
 use Rattle.std.proofs.lemmas.Int.{ints}
 use Rattle.pram_model.specs.Layout.{width}
 use Rattle.pram_values.specs.Truth.{truth}
-use Rattle.pram_values.specs.Value.{Value, checked}
+use Rattle.pram_values.specs.Value.{checked}
 use Rattle.pram_values.proofs.Checked.{checked_some}
 use Rattle.pram_meaning.specs.Values.{IsValue}
 use Rattle.pram_meaning.proofs.SoundValues.{between}
@@ -40,8 +40,8 @@ some_between a b k = by (int_le a b) refl
 pub no_more : (a b : ℤ) → b ≡ a +ℤ pos zero → int_lt a b ≡ false
 no_more a b h = grind (arith, ints, h)
 
-pub one_more : (a b : ℤ) (k : ℕ) → b ≡ a +ℤ pos (suc k) → int_lt a b ≡ true
-one_more a b k h = grind (arith, ints, h)
+pub one_turn_more : (a b : ℤ) (k : ℕ) → b ≡ a +ℤ pos (suc k) → int_lt a b ≡ true
+one_turn_more a b k h = grind (arith, ints, h)
 
 pub next_last : (a b : ℤ) (k : ℕ) → b ≡ a +ℤ pos (suc k) → b ≡ (a +ℤ pos 1) +ℤ pos k
 next_last a b k h = omega (arith, ints, h)
@@ -52,7 +52,7 @@ next_is a b k h low high = between a (a +ℤ pos 1) b low high (omega (arith, in
 
 pub step_is : (a b : ℤ) (k : ℕ) → b ≡ a +ℤ pos (suc k) → IsValue a → IsValue b → checked (a +ℤ truth (int_lt a b)) ≡ Ok (a +ℤ pos 1)
 step_is a b k h low high =
-    ap (λ t. checked (a +ℤ truth t)) (one_more a b k h)
+    ap (λ t. checked (a +ℤ truth t)) (one_turn_more a b k h)
     ∙ sym (checked_some (a +ℤ pos 1) (a +ℤ pos 1) (value_fits (a +ℤ pos 1) (next_is a b k h low high)) refl)
 
 -- behind the last number it stays

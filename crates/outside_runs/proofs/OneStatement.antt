@@ -1,7 +1,7 @@
 -- One statement of a program, as the meaning begins it: it counts, and it comes to a value or to its fault.
 use Rattle.std.proofs.Common.{◌≡◌, ℕ, ◌+◌, ◌<◌, List, [], ◌∷◌, length, Bool, true, false, Option, Some, None, refl, sym, ap, ◌∙◌, subst, arith}
-use Rattle.std.specs.Prelude.{nat_lt, if◌then◌else◌, Result, Ok, Err}
-use Rattle.std.proofs.lemmas.Bool.Decides.{nat_tests}
+use Rattle.std.specs.Prelude.{nat_lt, if◌then◌else◌, Result}
+use Rattle.std.proofs.lemmas.Bool.{ltb-true}
 use Rattle.write_rules.specs.declared.fault.Fault.{Fault}
 use Rattle.write_rules.specs.Verdict.{GoesOn}
 use Rattle.superstep_code.specs.declared.instr.Instr.{Instr}
@@ -10,7 +10,7 @@ use Rattle.superstep_machine.specs.declared.key.Key.{Key}
 use Rattle.pram_values.specs.declared.place.Place.TheVariants.{All}
 use Rattle.pram_meaning.specs.Attempt.{Attempt}
 use Rattle.pram_meaning.specs.Store.{State}
-use Rattle.pram_meaning.specs.Bounded.{Behaviour, Done, Goes, Stops, Reaches, then_do, counted, valued, evaluated}
+use Rattle.pram_meaning.specs.Bounded.{Behaviour, Done, Goes, Reaches, then_do, counted, valued, evaluated}
 use Rattle.pram_meaning.specs.Together.{alone}
 use Rattle.bsp_verify.specs.WellFormed.{IsWellFormed}
 use Rattle.flat_machine.specs.Flat.{Flat}
@@ -20,7 +20,7 @@ use Rattle.stretches.specs.Closes.{ComesOut}
 use Rattle.stretches.specs.Folds.{Stand, IsFine}
 use Rattle.stretches.specs.Notes.{notes}
 use Rattle.stretches.specs.Tells.{IsCalm}
-use Rattle.evaluation.specs.Noted.{Heading, notes_behind}
+use Rattle.evaluation.specs.Noted.{notes_behind}
 use Rattle.evaluation.specs.Told.{unless_told}
 use Rattle.evaluation.specs.Whole.{Whole, cut}
 use Rattle.evaluation.proofs.Cuts.{alone_is_noted}
@@ -31,19 +31,13 @@ use Rattle.exchange_bound.specs.Spent.{spent, held_behind}
 use Rattle.statement_runs.specs.Between.{IsBetween}
 use Rattle.statement_runs.specs.Begins.{begun, done, HasPassed, PassesOrFaults, BeginsOrEnds}
 use Rattle.statement_runs.proofs.Begins.{statements_go_on}
+use Rattle.inside_runs.proofs.Attempted.{one_more}
 use Rattle.outside_runs.proofs.Leads.{Leads}
 use Rattle.formula_values.specs.Headings.{heading_of}
 
--- one statement more has begun
-abbrev pub next : State → State
-next m = record m { count = m.count + 1 }
-
 -- as `counted` has it, by whether the bound allows it
 abbrev if_counted : Bool → State → Done
-if_counted b m = if b then Goes tt (next m) else Reaches m.output
-
-below : (a b : ℕ) → nat_lt a b ≡ true → a < b
-below a b h = grind (arith, nat_tests)
+if_counted b m = if b then Goes tt (one_more m) else Reaches m.output
 
 -- what a statement with this stretch is begun from
 pub record MayBegin (t : Run) (line : ℕ) (is : List Instr) (before behind : Bool) (m : State) (place spent : ℕ) (f : Flat) : Type 0 where
@@ -61,14 +55,14 @@ abbrev pub GoesPast : Run → {A : Type 0} → (line : ℕ) → List Instr → (
     (held left : Bool) → List Event → (ℕ → A → State → Type 0) → Type 0
 GoesPast t line is behind m place came f value start held left es goes =
     m.count < t.bound → (g : Flat) → HasPassed t line is behind place came f g →
-    (held_behind es held ≡ left) × goes (start + spent es held) value (next m)
+    (held_behind es held ≡ left) × goes (start + spent es held) value (one_more m)
 
 module _ (t : Run) (line : ℕ) (is : List Instr) (before behind : Bool) (m : State) (place came : ℕ) (f : Flat)
     (may : MayBegin t line is before behind m place came f) (start : ℕ) (held left : Bool)
     (same : came + one_if before ≡ start + one_if held) (es : List Event) where
   -- any behaviour that is what the stretch notes, or else a value
   pub begins_by : {A : Type 0} (value : A) (goes : ℕ → A → State → Type 0) (k : State → Behaviour A) →
-      k (next m) ≡ valued (unless_told (notes t.code is (begun t.code line f)) value) (next m) →
+      k (one_more m) ≡ valued (unless_told (notes t.code is (begun t.code line f)) value) (one_more m) →
       GoesPast t line is behind m place came f value start held left es goes →
       Leads t start held left (events.begun t.bound m es) goes (then_do (counted t.bound m) (λ u m. k m))
   begins_by {A} value goes k judged past =
@@ -76,7 +70,7 @@ module _ (t : Run) (line : ℕ) (is : List Instr) (before behind : Bool) (m : St
       (statements_go_on t may.formed line is before behind m place came f may.between may.rests may.stand may.fine may.asks may.calm)
     where
       by_key : (key : Option Key) → m.count < t.bound → PassesOrFaults t line is behind place came m f key →
-          Leads t start held left es goes (valued (unless_told key value) (next m))
+          Leads t start held left es goes (valued (unless_told key value) (one_more m))
       by_key None l h = past l h.0 h.1
       by_key (Some key) l h = h
 
@@ -84,17 +78,17 @@ module _ (t : Run) (line : ℕ) (is : List Instr) (before behind : Bool) (m : St
           Leads t start held left (if b then es else []) goes
           (then_do (if_counted b m) (λ u m. k m))
       by_bound true e h =
-          subst (Leads t start held left es goes) (sym judged) (by_key (notes t.code is (begun t.code line f)) (below m.count t.bound e) h)
+          subst (Leads t start held left es goes) (sym judged) (by_key (notes t.code is (begun t.code line f)) (ltb-true m.count t.bound e) h)
       by_bound false e h =
           subst (λ n. ComesOut t (GoesOn m.output) n)
           (let x : came + one_if before + 1 ≡ start + (spent [] held + one_if (held_behind [] held)) + 1 = omega (arith, same) in x) h
 
   -- an attempt, by what evaluation says of it
-  pub evaluates_by : {A : Type 0} (a : State → Attempt A) (w : Whole A) (goes : ℕ → A → State → Type 0) → a (next m) ≡ cut w →
+  pub evaluates_by : {A : Type 0} (a : State → Attempt A) (w : Whole A) (goes : ℕ → A → State → Type 0) → a (one_more m) ≡ cut w →
       notes t.code is (begun t.code line f) ≡ notes_behind (heading_of (begun t.code line f)) 0 All w.steps →
       GoesPast t line is behind m place came f w.value start held left es goes →
       Leads t start held left (events.begun t.bound m es) goes (evaluated t.bound line a m)
   evaluates_by {A} a w goes whole tells past =
       begins_by w.value goes (λ m. valued (alone line (a m)) m)
-      (ap (λ (r : Result A Fault). valued r (next m))
+      (ap (λ (r : Result A Fault). valued r (one_more m))
       (ap (alone line) whole ∙ alone_is_noted A (heading_of (begun t.code line f)) w ∙ ap (λ k. unless_told k w.value) (sym tells))) past

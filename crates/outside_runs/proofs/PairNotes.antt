@@ -1,5 +1,5 @@
 -- A statement with two expressions: what is noted in both, and in a test behind them.
-use Rattle.std.proofs.Common.{◌≡◌, ℕ, ◌+◌, List, [], ◌∷◌, ◌++◌, refl, sym, ap, ◌∙◌, append_assoc, arith}
+use Rattle.std.proofs.Common.{◌≡◌, ◌+◌, List, [], ◌∷◌, ◌++◌, sym, ap, ◌∙◌, append_assoc, arith}
 use Rattle.pram_values.specs.declared.place.Place.TheVariants.{All}
 use Rattle.superstep_machine.specs.Keys.{least}
 use Rattle.pram_meaning.specs.Store.{View}

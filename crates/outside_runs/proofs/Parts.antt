@@ -1,9 +1,9 @@
 -- Parts of statements outside pardo: with the send of what they hold, and chosen by a test.
-use Rattle.std.proofs.Common.{◌≡◌, ℕ, ◌+◌, ◌<◌, ◌≤◌, List, [], ◌∷◌, ◌++◌, length, Bool, true, false, refl, sym, ap, ◌∙◌, subst, arith, length-append}
+use Rattle.std.proofs.Common.{◌≡◌, ℕ, ◌+◌, List, [], ◌∷◌, ◌++◌, length, Bool, true, false, refl, subst, arith, length-append}
 use Rattle.std.specs.Prelude.{if◌then◌else◌}
 use Rattle.pram_values.specs.Truth.{is_nonzero}
 use Rattle.superstep_code.specs.declared.instr.Instr.{Instr}
-use Rattle.superstep_code.specs.declared.instr.Instr.TheVariants.{Jump, JumpIfZero}
+use Rattle.superstep_code.specs.declared.instr.Instr.TheVariants.{Jump}
 use Rattle.pram_check.specs.Checked.{Checked}
 use Rattle.pram_meaning.specs.Store.{State}
 use Rattle.pram_meaning.specs.Bounded.{Done, Goes}
@@ -16,7 +16,7 @@ use Rattle.exchange_bound.specs.Events.{Event, Cut}
 use Rattle.exchange_bound.specs.Bound.{one_if}
 use Rattle.outside_runs.specs.Without.{IsWithout}
 use Rattle.outside_runs.proofs.Leads.{Leads, leads_as, leads_cut}
-use Rattle.outside_runs.proofs.Passed.{IsPassed, Passes, passed_both, passed_there, passed_here, passed_flush, passed_jump, there, forks_without}
+use Rattle.outside_runs.proofs.Passed.{Passes, passed_there, passed_here, passed_flush, passed_jump, forks_without}
 
 -- The code of a part, from where it begins on: from each state of the program in which nothing is held the run follows the part. It is said
 -- by what the part does and by its events.
@@ -36,9 +36,11 @@ module _ (p : Checked) (t : Run) (free : ℕ) where
       leads_cut t spent false left (events m) (Passes p t free left (start + length part) m f)
       (Passes p t free false (start + length (sent part left)) m f) (performed m) (runs m spent f w)
       (λ k u next x.
-      let y = passed_flush p t free left (start + length part) m f k next x.0 stands.1 x.1 in
-      (y.0, passed_there p t free false (start + length part + length (flush left)) (start + length (sent part left)) m f (k + one_if left)
-      (k + one_if left) next y.0 (omega (arith, n)) (omega arith) y.1))
+      let y = passed_flush p t free left (start + length part) m f k next x.0 stands.1 x.1 in (
+        y.0,
+        passed_there p t free false (start + length part + length (flush left)) (start + length (sent part left)) m f (k + one_if left)
+            (k + one_if left) next y.0 (omega (arith, n)) (omega arith) y.1,
+      ))
 
   -- a part behind the place before it, and to another place
   pub leads_to : (place to : ℕ) (from : State) (f : Flat) (spent : ℕ) (held left : Bool) (es : List Event) (d : Done) → place ≡ to →
@@ -59,10 +61,14 @@ module _ (p : Checked) (t : Run) (free : ℕ) where
         leads_to (start + 1 + length part) (start + length (chosen start r part false other)) m f spent false false (events m ++ Cut ∷ [])
         (performed m) (omega arith) (runs m spent f here)
     chosen_alone other stand false e =
-        let here = forks_without p t false m start spent f w r (start + 1 + length part) stand.0 false e in
-        (refl,
-        (f, passed_there p t free false (start + 1 + length part) (start + length (chosen start r part false other)) m f spent (spent + (0 + 0)) m f
-        (omega arith) (omega arith) (passed_here p t free false (start + 1 + length part) spent m f here)))
+        let here = forks_without p t false m start spent f w r (start + 1 + length part) stand.0 false e in (
+          refl,
+          (
+            f,
+            passed_there p t free false (start + 1 + length part) (start + length (chosen start r part false other)) m f spent (spent + (0 + 0)) m f
+                (omega arith) (omega arith) (passed_here p t free false (start + 1 + length part) spent m f here),
+          ),
+        )
 
     -- ---- one of two
 
@@ -85,10 +91,12 @@ module _ (p : Checked) (t : Run) (free : ℕ) where
             let stands = stands_split t (start + 1) part (jump ∷ second) stand.1 in
             leads_as t spent false false (events m ++ Cut ∷ []) (Passes p t free false (start + 1 + length part) m f)
             (Passes p t free false (start + length (chosen start r part true other)) m f) (performed m) (runs m spent f here)
-            (λ k u next x.
-            (x.0, passed_there p t free false (start + 1 + length part + 1 + length second) (start + length (chosen start r part true other)) m f k k
-            next x.0 (omega (arith, n)) (omega arith)
-            (passed_jump p t free false (start + 1 + length part) (start + 1 + length part + 1 + length second) m f k next x.0 stands.1.0 x.1)))
+            (λ k u next x. (
+              x.0,
+              passed_there p t free false (start + 1 + length part + 1 + length second) (start + length (chosen start r part true other)) m f k k
+                  next x.0 (omega (arith, n)) (omega arith)
+                  (passed_jump p t free false (start + 1 + length part) (start + 1 + length part + 1 + length second) m f k next x.0 stands.1.0 x.1),
+            ))
         by false here =
             let second = other (start + 1 + length part + 1) in
             let jump = Jump (start + 1 + length part + 1 + length second) in

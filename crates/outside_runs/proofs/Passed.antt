@@ -1,12 +1,11 @@
 -- A run behind a part of a program outside pardo, and ways on from there.
-use Rattle.std.proofs.Common.{◌≡◌, ℕ, ◌+◌, ◌<◌, ◌≤◌, length, Bool, true, false, refl, sym, ap, ◌∙◌, subst, arith}
+use Rattle.std.proofs.Common.{◌≡◌, ℕ, ◌+◌, ◌<◌, ◌≤◌, length, Bool, false, refl, sym, ap, ◌∙◌, subst, arith}
 use Rattle.std.specs.Prelude.{if◌then◌else◌}
 use Rattle.pram_values.specs.Truth.{is_nonzero}
 use Rattle.superstep_code.specs.declared.instr.Instr.TheVariants.{Jump, JumpIfZero}
 use Rattle.pram_check.specs.Checked.{Checked}
 use Rattle.pram_meaning.specs.Store.{State}
 use Rattle.flat_machine.specs.Flat.{Flat}
-use Rattle.stretches.specs.Applied.{applied}
 use Rattle.stretches.specs.Along.{Run, IsAt}
 use Rattle.stretches.specs.Folds.{Stand}
 use Rattle.plain_form.specs.Registers.{behind_variables}
@@ -14,7 +13,7 @@ use Rattle.plain_form.specs.Shapes.{flush}
 use Rattle.formula_values.specs.Outside.{ShowsOutside}
 use Rattle.exchange_bound.specs.Bound.{one_if}
 use Rattle.statement_runs.specs.Between.{IsBetween}
-use Rattle.statement_runs.proofs.Places.{between_at, jump_between, fork_between, IsFlushed, flushed}
+use Rattle.statement_runs.proofs.Places.{between_at, jump_between, fork_between, flushed}
 use Rattle.outside_runs.specs.Without.{IsWithout}
 
 module _ (p : Checked) (t : Run) where
@@ -33,10 +32,10 @@ module _ (p : Checked) (t : Run) where
 
 -- the run comes from one state of the program, seen in f, to another one, seen in g, with the same free registers
 pub record IsPassed (p : Checked) (t : Run) (free : ℕ) (left : Bool) (place : ℕ) (start : State) (f : Flat) (spent : ℕ) (m : State)
-  (g : Flat) : Type 0 where
-    pub without : IsWithout p t left m place spent g
-    pub registers : (r : ℕ) → behind_variables p.uniforms ≤ r → r < free → g.uniform.registers r ≡ f.uniform.registers r
-    pub later : start.count ≤ m.count
+    (g : Flat) : Type 0 where
+  pub without : IsWithout p t left m place spent g
+  pub registers : (r : ℕ) → behind_variables p.uniforms ≤ r → r < free → g.uniform.registers r ≡ f.uniform.registers r
+  pub later : start.count ≤ m.count
 
 abbrev pub Passes : Checked → Run → (free : ℕ) → (left : Bool) → (place : ℕ) → State → Flat → ℕ → Unit {0} → State → Type 0
 Passes p t free left place start f spent u m = (g : Flat) × IsPassed p t free left place start f spent m g

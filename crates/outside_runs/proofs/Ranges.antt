@@ -1,5 +1,5 @@
 -- A pardo: the run goes in, follows its body on all its processors, and goes out.
-use Rattle.std.proofs.Common.{◌≡◌, ℕ, zero, suc, ◌+◌, ◌<◌, ◌≤◌, List, [], ◌∷◌, ◌++◌, length, Bool, false, None, ℤ, refl, sym, ap, ◌∙◌, subst, arith}
+use Rattle.std.proofs.Common.{◌≡◌, ℕ, zero, suc, ◌+◌, ◌≤◌, List, [], ◌∷◌, ◌++◌, length, Bool, false, ℤ, refl, sym, ap, ◌∙◌, subst, arith}
 use Rattle.std.proofs.Common.{length-append}
 use Rattle.std.specs.List.{range_with_len}
 use Rattle.superstep_code.specs.declared.instr.Instr.{Instr}
@@ -40,7 +40,7 @@ use Rattle.inside_runs.proofs.Steps.{steps_are_followed}
 use Rattle.outside_runs.specs.Without.{IsWithout}
 use Rattle.outside_runs.proofs.Entering.{HasEntered, Enters, enters_follow}
 use Rattle.outside_runs.proofs.Leads.{Leads, leads_then, leads_after, leads_by}
-use Rattle.outside_runs.proofs.Passed.{IsPassed, Passes}
+use Rattle.outside_runs.proofs.Passed.{Passes}
 
 -- ---- out of the range
 
@@ -159,8 +159,7 @@ module _ (p : Checked) (t : Run) (of : IsRunOf p t) (keep : Bool) (free line : �
       let inside = y.0 in
       let out = leave_range p t locals base (everybody k) last m2 (at + length steps) s inside.behind inside.within leave in
       let begun = x.later in
-      let grown = y.1 in
-      (
+      let grown = y.1 in (
         after_instr t.code Leave inside.behind,
         record {
           without = subst (λ n. IsWithout p t last (without_team m2) n s (after_instr t.code Leave inside.behind))

@@ -17,7 +17,7 @@ use Rattle.stretches.specs.Folds.{acts_at_once}
 use Rattle.stretches.specs.Notes.{notes}
 use Rattle.evaluation.specs.Noted.{notes_behind}
 use Rattle.evaluation.specs.Terms.{term_of}
-use Rattle.evaluation.specs.Whole.{Step, value, steps}
+use Rattle.evaluation.specs.Whole.{value, steps}
 use Rattle.plain_form.specs.Registers.{behind_variables}
 use Rattle.plain_form.specs.Formulas.{Formula, formula_of}
 use Rattle.plain_form.specs.Groups.{evaluated, value_at}
@@ -29,7 +29,7 @@ use Rattle.statement_runs.specs.Between.{IsRunOf}
 use Rattle.statement_runs.specs.Begins.{begun}
 use Rattle.statement_runs.proofs.Valued.{value_is}
 use Rattle.outside_runs.specs.Without.{IsWithout}
-use Rattle.outside_runs.proofs.OneStatement.{next}
+use Rattle.inside_runs.proofs.Attempted.{one_more}
 use Rattle.outside_runs.proofs.Evaluated.{Leaves, is_valued, valued_leaves, part_acts, part_notes}
 use Rattle.outside_runs.proofs.Values.{sees_values}
 
@@ -50,7 +50,7 @@ module _ (p : Checked) (t : Run) (of : IsRunOf p t) (keep : Bool) (free line : â
   formula_named : IsNamed (names_of p) formula
   formula_named = expressions_are_named (names_of p) e named
 
-  pub there_leaves : Leaves p free (next m) f there
+  pub there_leaves : Leaves p free (one_more m) f there
   there_leaves = valued_leaves p t of held m place spent f w line free formula formula_named free_ones free (omega arith)
 
   pub there_gives : there.uniform.registers (value_at Uniform free formula) â‰¡ result

@@ -1,9 +1,9 @@
 -- What the events of statements exchange and hold, beside what their code does.
-use Rattle.std.proofs.Common.{◌≡◌, ℕ, zero, suc, ◌+◌, ◌*◌, ◌≤◌, List, [], ◌∷◌, Bool, true, false, not, ◌&&◌, refl, ap, arith}
+use Rattle.std.proofs.Common.{◌≡◌, ℕ, zero, suc, ◌+◌, ◌*◌, ◌≤◌, [], ◌∷◌, Bool, true, false, not, ◌&&◌, refl, ap, arith}
 use Rattle.plain_form.specs.Formulas.{Formula, nesting}
 use Rattle.plain_form.specs.Shapes as shapes
 use Rattle.plain_form.specs.Shapes.{has_reads, still, waits}
-use Rattle.exchange_bound.specs.Events.{Event, Runs, Cut}
+use Rattle.exchange_bound.specs.Events.{Runs, Cut}
 use Rattle.exchange_bound.specs.Bound.{one_if}
 use Rattle.exchange_bound.specs.Spent.{any_level, spent, held_behind}
 

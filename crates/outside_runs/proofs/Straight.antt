@@ -1,5 +1,5 @@
 -- A straight part of a statement outside pardo: what it may be begun from, and the run behind it.
-use Rattle.std.proofs.Common.{◌≡◌, ℕ, ◌+◌, ◌<◌, ◌≤◌, List, [], ◌∷◌, length, Bool, refl, sym, ap, ◌∙◌, subst, arith}
+use Rattle.std.proofs.Common.{◌≡◌, ℕ, ◌+◌, ◌<◌, ◌≤◌, List, ◌∷◌, length, Bool, sym, ap, ◌∙◌, subst, arith}
 use Rattle.superstep_code.specs.declared.instr.Instr.{Instr}
 use Rattle.superstep_code.specs.declared.instr.Instr.TheVariants.{Mark}
 use Rattle.superstep_machine.specs.Run.{items}
@@ -7,7 +7,6 @@ use Rattle.pram_check.specs.Checked.{Checked}
 use Rattle.pram_meaning.specs.Store.{State}
 use Rattle.pram_meaning.specs.Values.{HasValues}
 use Rattle.flat_machine.specs.Flat.{Flat, after_instr}
-use Rattle.stretches.specs.Applied.{applied}
 use Rattle.stretches.specs.Along.{Run}
 use Rattle.stretches.specs.Folds.{Stand, costs, IsFine}
 use Rattle.stretches.specs.Tells.{IsCalm}
@@ -18,19 +17,20 @@ use Rattle.statement_runs.specs.Begins.{done, HasPassed}
 use Rattle.statement_runs.specs.Costs.{Costs}
 use Rattle.statement_runs.proofs.Places.{between_at}
 use Rattle.outside_runs.specs.Without.{IsWithout}
-use Rattle.outside_runs.proofs.OneStatement.{next, MayBegin}
+use Rattle.inside_runs.proofs.Attempted.{one_more}
+use Rattle.outside_runs.proofs.OneStatement.{MayBegin}
 use Rattle.outside_runs.proofs.Evaluated.{Leaves}
 use Rattle.outside_runs.proofs.Passed.{IsPassed}
 
 -- behind the part the program is in this state, with one statement more begun
 pub record IsStraight (p : Checked) (t : Run) (free line : ℕ) (is : List Instr) (before behind : Bool) (m : State) (f : Flat) (cost : ℕ)
-  (after : State) : Type 0 where
-    pub fine : IsFine before is behind
-    pub few : Costs before is cost
-    pub leaves : Leaves p free after f (done t.code line is f)
-    pub count : after.count ≡ m.count + 1
-    pub sizes : HasSizes p after
-    pub values : HasValues after
+    (after : State) : Type 0 where
+  pub fine : IsFine before is behind
+  pub few : Costs before is cost
+  pub leaves : Leaves p free after f (done t.code line is f)
+  pub count : after.count ≡ m.count + 1
+  pub sizes : HasSizes p after
+  pub values : HasValues after
 
 module _ (p : Checked) (t : Run) (of : IsRunOf p t) (free line : ℕ) (is : List Instr) (before behind : Bool) (m : State) (place spent : ℕ)
     (f : Flat) (w : IsWithout p t before m place spent f) (cost : ℕ) (after : State)
@@ -64,7 +64,7 @@ module _ (p : Checked) (t : Run) (of : IsRunOf p t) (free line : ℕ) (is : List
     seen_register r = ap (λ (x : Flat). x.uniform.registers r) h.seen
 
     pub part_passed : (most : ℕ) → spent + cost ≤ most →
-        IsPassed p t free behind (place + length (Mark line ∷ is)) (next m) f most after g
+        IsPassed p t free behind (place + length (Mark line ∷ is)) (one_more m) f most after g
     part_passed most few =
         let l = s.leaves in
         let c = s.count in
@@ -91,7 +91,7 @@ module _ (p : Checked) (t : Run) (of : IsRunOf p t) (free line : ℕ) (is : List
 
 -- a state is behind a part also if it is seen with one statement less
 pub passed_since : (p : Checked) (t : Run) (free : ℕ) (left : Bool) (place : ℕ) (start : State) (f : Flat) (spent : ℕ) (m : State) (g : Flat) →
-    IsPassed p t free left place (next start) f spent m g → IsPassed p t free left place start f spent m g
+    IsPassed p t free left place (one_more start) f spent m g → IsPassed p t free left place start f spent m g
 passed_since p t free left place start f spent m g a = record {
   without = a.without;
   registers = a.registers;

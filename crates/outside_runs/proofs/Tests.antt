@@ -1,5 +1,5 @@
 -- The test of an `if`, behind which what is held is sent, and that of a loop: the run follows them, and a register has the value.
-use Rattle.std.proofs.Common.{◌≡◌, ℕ, ◌+◌, ◌*◌, ◌<◌, ◌≤◌, List, [], ◌∷◌, ◌++◌, length, Bool, false, None, ℤ, refl, sym, ap, ◌∙◌, subst, arith}
+use Rattle.std.proofs.Common.{◌≡◌, ℕ, ◌+◌, ◌*◌, ◌≤◌, List, [], ◌∷◌, ◌++◌, length, Bool, false, None, ℤ, refl, sym, ap, ◌∙◌, subst, arith}
 use Rattle.std.proofs.Common.{append-nil}
 use Rattle.pram_values.specs.Truth.{is_nonzero}
 use Rattle.superstep_code.specs.declared.instr.Side.TheVariants.{Uniform}
@@ -32,13 +32,14 @@ use Rattle.exchange_bound.specs.Bound.{one_if}
 use Rattle.exchange_bound.specs.Spent as exchanged
 use Rattle.exchange_bound.specs.Spent.{held_behind}
 use Rattle.statement_runs.specs.Between.{IsRunOf}
-use Rattle.statement_runs.specs.Begins.{begun, done}
+use Rattle.statement_runs.specs.Begins.{done}
 use Rattle.statement_runs.specs.Costs.{Costs}
 use Rattle.statement_runs.proofs.Costs.{straight_parts_cost}
 use Rattle.outside_runs.specs.Without.{IsWithout}
 use Rattle.outside_runs.proofs.Leads.{Leads, leads_after}
 use Rattle.outside_runs.proofs.Passed.{IsPassed}
-use Rattle.outside_runs.proofs.OneStatement.{next, evaluates_by}
+use Rattle.inside_runs.proofs.Attempted.{one_more}
+use Rattle.outside_runs.proofs.OneStatement.{evaluates_by}
 use Rattle.outside_runs.proofs.Evaluated.{Leaves}
 use Rattle.outside_runs.proofs.Also.{sent_acts, sent_notes}
 use Rattle.outside_runs.proofs.Sole.{there, there_leaves, there_gives, sole_acts, sole_notes}
@@ -49,7 +50,7 @@ use Rattle.outside_runs.proofs.Values.{next_values, next_sizes}
 -- the run is behind a test that came out so
 abbrev pub Tests : Checked → Run → (free register place : ℕ) → State → Flat → ℕ → Bool → State → Type 0
 Tests p t free register place start f spent b m =
-    (g : Flat) × IsPassed p t free false place (next start) f spent m g × (is_nonzero (g.uniform.registers register) ≡ b)
+    (g : Flat) × IsPassed p t free false place (one_more start) f spent m g × (is_nonzero (g.uniform.registers register) ≡ b)
 
 module _ (p : Checked) (t : Run) (of : IsRunOf p t) (keep : Bool) (free line : ℕ) (free_ones : behind_variables p.uniforms ≤ free) (held : Bool)
     (m : State) (place spent : ℕ) (f : Flat) (w : IsWithout p t held m place spent f) (e : Expression)
@@ -66,7 +67,7 @@ module _ (p : Checked) (t : Run) (of : IsRunOf p t) (keep : Bool) (free line : �
   abbrev end : Flat
   end = there p t of keep free line free_ones held m place spent f w e named
 
-  end_leaves : Leaves p free (next m) f end
+  end_leaves : Leaves p free (one_more m) f end
   end_leaves = there_leaves p t of keep free line free_ones held m place spent f w e named
 
   -- any stretch that evaluates it, and then sends what is held, or nothing
@@ -78,21 +79,21 @@ module _ (p : Checked) (t : Run) (of : IsRunOf p t) (keep : Bool) (free line : �
     flush_acts : acts_at_once t.code (flush some) end ≡ end
     flush_acts =
         let l = end_leaves in
-        ap (λ is. acts_at_once t.code is end) (sym (append-nil (flush some))) ∙ sent_acts t.code p (next m) end l.shows some []
+        ap (λ is. acts_at_once t.code is end) (sym (append-nil (flush some))) ∙ sent_acts t.code p (one_more m) end l.shows some []
 
     flush_notes : notes t.code (flush some) end ≡ None
     flush_notes =
         let l = end_leaves in
-        ap (λ is. notes t.code is end) (sym (append-nil (flush some))) ∙ sent_notes t.code p (next m) end l.shows some []
+        ap (λ is. notes t.code is end) (sym (append-nil (flush some))) ∙ sent_notes t.code p (one_more m) end l.shows some []
 
     test_acts : done t.code line test f ≡ end
     test_acts = sole_acts p t of keep free line free_ones held m place spent f w e named (flush some) ∙ flush_acts
 
-    is_tested : IsStraight p t free line test held false m f cost (next m)
+    is_tested : IsStraight p t free line test held false m f cost (one_more m)
     is_tested = record {
       fine = fine;
       few = few;
-      leaves = subst (Leaves p free (next m) f) (sym test_acts) end_leaves;
+      leaves = subst (Leaves p free (one_more m) f) (sym test_acts) end_leaves;
       count = refl;
       sizes = next_sizes p m w.sizes;
       values = next_values m w.values;
@@ -106,20 +107,20 @@ module _ (p : Checked) (t : Run) (of : IsRunOf p t) (keep : Bool) (free line : �
         (tested p t.bound line e m)
     test_follows start before same es none enough stand calm =
         let goes = λ (n : ℕ) (v : ℤ) (k : State). Tests p t free r (place + length (Mark line ∷ test)) m f n (is_nonzero v) k in
-        let s = seen p (next m) in
+        let s = seen p (one_more m) in
         leads_after t start before false (events.begun t.bound m es) goes (Tests p t free r (place + length (Mark line ∷ test)) m f)
         (found p t.bound line e m) (λ v m. is_nonzero v) (λ v m. m)
         (evaluates_by t line test held false m place spent f
-        (may_begin p t of free line test held false m place spent f w cost (next m) is_tested stand calm) start before false same es
+        (may_begin p t of free line test held false m place spent f w cost (one_more m) is_tested stand calm) start before false same es
         (λ m. attempt (seen p m) e []) (record { steps = steps s (term_of e); value = result }) goes (whole_expressions s e [])
         (sole_notes p t of keep free line free_ones held m place spent f w e named (flush some) flush_notes)
         (λ below g h. (
           none,
           (
             g,
-            part_passed p t of free line test held false m place spent f w cost (next m) is_tested below g h _ enough,
+            part_passed p t of free line test held false m place spent f w cost (one_more m) is_tested below g h _ enough,
             ap is_nonzero
-                (seen_register p t of free line test held false m place spent f w cost (next m) is_tested below g h r
+                (seen_register p t of free line test held false m place spent f w cost (one_more m) is_tested below g h r
                 ∙ ap (λ (x : Flat). x.uniform.registers r) test_acts
                 ∙ there_gives p t of keep free line free_ones held m place spent f w e named),
           ),

@@ -1,8 +1,8 @@
 -- The registers of a `for`: what its bounds leave in them, and each setting of its variable; none of that notes anything.
-use Rattle.std.proofs.Common.{◌≡◌, ◌≢◌, ℕ, ◌+◌, ◌<◌, ◌≤◌, List, [], ◌∷◌, ◌++◌, Bool, true, false, Option, None, Ok, ℤ, ◌+ℤ◌, int_lt, int_le, refl, sym, ap, ◌∙◌}
+use Rattle.std.proofs.Common.{◌≡◌, ◌≢◌, ℕ, ◌<◌, ◌≤◌, List, [], ◌∷◌, ◌++◌, Bool, true, false, None, Ok, ℤ, ◌+ℤ◌, int_lt, int_le, refl, ap, ◌∙◌}
 use Rattle.std.proofs.Common.{subst, arith}
 use Rattle.pram_values.specs.Truth.{truth, is_nonzero}
-use Rattle.pram_values.specs.Value.{Value, checked}
+use Rattle.pram_values.specs.Value.{checked}
 use Rattle.superstep_code.specs.declared.instr.Side.TheVariants.{Uniform}
 use Rattle.superstep_code.specs.declared.instr.Arithmetic.TheVariants as arithmetic
 use Rattle.superstep_code.specs.declared.instr.Truth.TheVariants as comparison
@@ -11,7 +11,7 @@ use Rattle.superstep_code.specs.declared.instr.Instr.TheVariants.{Copy, Decide, 
 use Rattle.superstep_code.specs.Code.{SuperstepCode}
 use Rattle.superstep_machine.specs.Keys.{least}
 use Rattle.superstep_machine.specs.Results.{or_zero, kind_of}
-use Rattle.pram_check.specs.Bounded.{Names, names_of}
+use Rattle.pram_check.specs.Bounded.{names_of}
 use Rattle.pram_check.specs.Checked.{Checked}
 use Rattle.pram_meaning.specs.Store.{State, with_uniform}
 use Rattle.flat_machine.specs.Flat.{Flat, after_instr}
@@ -19,14 +19,14 @@ use Rattle.flat_machine.proofs.Late.{none_least}
 use Rattle.stretches.specs.Folds.{acts_at_once}
 use Rattle.stretches.specs.Notes.{note, notes}
 use Rattle.plain_form.specs.Registers.{variable, behind_variables, turn, high, more}
-use Rattle.plain_form.specs.Formulas.{Formula, Zero, Number, Variable, Index, Local, Read, Before, Between, Pair, reads}
+use Rattle.plain_form.specs.Formulas.{Formula, Zero, Number, Variable, Index, Local, Read, Before, Between, Pair}
 use Rattle.plain_form.specs.Regions.{place}
 use Rattle.plain_form.specs.Shapes.{flush}
 use Rattle.formula_values.specs.Environments.{IsNamed}
 use Rattle.statement_runs.specs.Between.{HasSizes}
 use Rattle.outside_runs.proofs.Evaluated.{Leaves}
 use Rattle.outside_runs.proofs.Effects.{got_leaves}
-use Rattle.outside_runs.proofs.Also.{sent_acts, sent_notes, SetsOne, copy_sets, decide_sets, calculate_sets, copy_notes, decide_notes}
+use Rattle.outside_runs.proofs.Also.{sent_acts, sent_notes, copy_sets, decide_sets, calculate_sets, copy_notes, decide_notes}
 use Rattle.outside_runs.proofs.Also.{calculate_notes, set_one, set_others, free_set_leaves}
 
 -- the registers of a `for`: the number whose turn comes next, the last number, and whether there is a turn

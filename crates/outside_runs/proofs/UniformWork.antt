@@ -1,7 +1,6 @@
 -- Instructions on the uniform part alone: processors stay as they were, and note nothing.
 use Rattle.std.proofs.Common.{◌≡◌, ℕ, Bool, true, false, Option, None, refl, ap, ◌∙◌}
 use Rattle.std.specs.Prelude.{if◌then◌else◌}
-use Rattle.pram_values.specs.Total.{total}
 use Rattle.pram_values.proofs.Totals.{total_none}
 use Rattle.superstep_code.specs.declared.instr.Instr.{Instr}
 use Rattle.superstep_code.specs.Code.{SuperstepCode}
@@ -13,11 +12,6 @@ use Rattle.superstep_machine.proofs.KeyOrder.{keys_are_monoid}
 use Rattle.flat_machine.specs.Flat.{Flat, range, noted}
 use Rattle.flat_machine.proofs.Late.{none_least}
 use Rattle.stretches.specs.Applied.{AsksNone}
-
--- the same part, whether the processor is active or not
-pub same_either : (b : Bool) (x : PrivatePart) → (if b then x else x) ≡ x
-same_either true x = refl
-same_either false x = refl
 
 pub nothing_either : (b : Bool) → (let none : Option Key = None in if b then none else None) ≡ None
 nothing_either true = refl

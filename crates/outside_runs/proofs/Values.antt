@@ -1,5 +1,5 @@
 -- What a program's state has behind its statements: values of 64 bits, and as many variables and cells as before.
-use Rattle.std.proofs.Common.{◌≡◌, ℕ, ◌+◌, List, [], ◌∷◌, length, Option, Some, None, ℤ, refl, ◌∙◌}
+use Rattle.std.proofs.Common.{◌≡◌, ℕ, [], ◌∷◌, Option, Some, None, ℤ, refl, ◌∙◌}
 use Rattle.std.proofs.lemmas.List.{length-set}
 use Rattle.pram_check.specs.Checked.{Checked}
 use Rattle.pram_meaning.specs.Store.{State, seen, with_uniform, printed}
@@ -8,17 +8,17 @@ use Rattle.pram_meaning.specs.Values.{HasValues, IsValue}
 use Rattle.pram_meaning.proofs.SoundValues.{all_set, all_append, zero_is}
 use Rattle.pram_meaning.proofs.ValuesOfAttempts.{SeesValues}
 use Rattle.statement_runs.specs.Between.{HasSizes}
-use Rattle.outside_runs.proofs.OneStatement.{next}
+use Rattle.inside_runs.proofs.Attempted.{one_more}
 
 pub sees_values : (p : Checked) (m : State) → HasValues m → SeesValues (seen p m)
 sees_values p m h = record { uniforms = h.uniforms; cells = h.cells; index = zero_is; locals = tt }
 
 -- ---- one statement more
 
-pub next_values : (m : State) → HasValues m → HasValues (next m)
+pub next_values : (m : State) → HasValues m → HasValues (one_more m)
 next_values m h = record { output = h.output; uniforms = h.uniforms; cells = h.cells; team = h.team }
 
-pub next_sizes : (p : Checked) (m : State) → HasSizes p m → HasSizes p (next m)
+pub next_sizes : (p : Checked) (m : State) → HasSizes p m → HasSizes p (one_more m)
 next_sizes p m h = record { uniforms = h.uniforms; cells = h.cells }
 
 -- ---- a value for a variable

@@ -1,8 +1,7 @@
 -- A `while` outside pardo, from its head on: the run follows its turns.
-use Rattle.std.proofs.Common.{◌≡◌, ℕ, zero, suc, ◌+◌, ◌<◌, ◌≤◌, List, [], ◌∷◌, ◌++◌, length, Bool, true, false, refl, sym, ap, ◌∙◌, subst, arith}
+use Rattle.std.proofs.Common.{◌≡◌, ℕ, zero, suc, ◌+◌, ◌<◌, ◌≤◌, List, [], ◌∷◌, ◌++◌, length, Bool, true, false, refl, subst, arith}
 use Rattle.std.proofs.Common.{length-append}
 use Rattle.std.specs.Prelude.{if◌then◌else◌}
-use Rattle.pram_values.specs.Truth.{is_nonzero}
 use Rattle.superstep_code.specs.declared.instr.Side.TheVariants.{Uniform}
 use Rattle.superstep_code.specs.declared.instr.Instr.{Instr}
 use Rattle.superstep_code.specs.declared.instr.Instr.TheVariants.{Mark, Jump, JumpIfZero}
@@ -29,7 +28,7 @@ use Rattle.statement_runs.specs.Between.{IsRunOf}
 use Rattle.outside_runs.specs.Without.{IsWithout}
 use Rattle.outside_runs.proofs.Leads.{Leads, leads_then, leads_as}
 use Rattle.outside_runs.proofs.Passed.{IsPassed, Passes, passed_both, passed_there, passed_flush, passed_jump, forks_without}
-use Rattle.outside_runs.proofs.OneStatement.{next}
+use Rattle.inside_runs.proofs.Attempted.{one_more}
 use Rattle.outside_runs.proofs.Parts.{RunsPart}
 use Rattle.outside_runs.proofs.Straight.{passed_since}
 use Rattle.outside_runs.proofs.Tests.{Tests, loop_test_follows}
@@ -92,7 +91,7 @@ module _ (p : Checked) (t : Run) (of : IsRunOf p t) (keep : Bool) (free line : �
         ((m2 : State) (j : ℕ) (g : Flat) → IsWithout p t false m2 head (j + one_if left) g → m.count + 1 ≤ m2.count →
         Leads t j left false (turns_events k heads (tested p t.bound line e) performed inside m2) (Passes p t free false end m2 g)
         (turns k (tested p t.bound line e) performed m2)) →
-        (n : ℕ) (m1 : State) (g : Flat) (b : Bool) → IsPassed p t free false (head + length test) (next m) f n m1 g →
+        (n : ℕ) (m1 : State) (g : Flat) (b : Bool) → IsPassed p t free false (head + length test) (one_more m) f n m1 g →
         IsWithout p t false m1 (if b then head + length test + 1 else end) n g →
         Leads t n false false
         (if b then inside m1 ++ behind (performed m1) (λ u. turns_events k heads (tested p t.bound line e) performed inside) else [])

@@ -1,5 +1,5 @@
 -- A write outside pardo: the run follows it. What is held before it is sent before its mark, or waits for its reads.
-use Rattle.std.proofs.Common.{◌≡◌, ℕ, ◌+◌, ◌*◌, ◌<◌, ◌≤◌, List, [], ◌∷◌, ◌++◌, length, Bool, true, false, not, ◌&&◌, Option, Some, None, ℤ, refl, sym, ap}
+use Rattle.std.proofs.Common.{◌≡◌, ℕ, ◌+◌, ◌*◌, ◌≤◌, List, [], ◌∷◌, ◌++◌, length, Bool, true, false, not, ◌&&◌, Option, ℤ, refl, sym, ap}
 use Rattle.std.proofs.Common.{◌∙◌, subst, arith, length-append}
 use Rattle.std.specs.Prelude.{FitsSigned}
 use Rattle.std.specs.Int.{w64}
@@ -16,7 +16,7 @@ use Rattle.pram_check.specs.Bounded as bounded
 use Rattle.pram_check.specs.Bounded.{names_of}
 use Rattle.pram_meaning.specs.Attempt.{Attempt, Effect}
 use Rattle.pram_meaning.specs.Store.{State, View, seen}
-use Rattle.pram_meaning.specs.Bounded.{Done, Goes, then_do, evaluated}
+use Rattle.pram_meaning.specs.Bounded.{Goes, then_do, evaluated}
 use Rattle.pram_meaning.specs.Together.{after_write}
 use Rattle.pram_meaning.specs.Values.{IsValue}
 use Rattle.flat_machine.specs.Flat.{Flat}
@@ -28,7 +28,7 @@ use Rattle.stretches.specs.Tells.{IsCalm}
 use Rattle.stretches.proofs.Joins.{stands_split}
 use Rattle.evaluation.specs.Noted.{note_key, notes_behind}
 use Rattle.evaluation.specs.Terms.{Writes, term_of}
-use Rattle.evaluation.specs.Whole.{Step, testing, value, steps, whole, cut}
+use Rattle.evaluation.specs.Whole.{testing, value, steps, whole, cut}
 use Rattle.evaluation.proofs.Sums.{IsBelow}
 use Rattle.evaluation.proofs.Tasks.{write_below}
 use Rattle.plain_form.specs.Registers.{behind_variables}
@@ -56,7 +56,8 @@ use Rattle.statement_runs.proofs.Valued.{value_is, value_fits}
 use Rattle.outside_runs.specs.Without.{IsWithout}
 use Rattle.outside_runs.proofs.Leads.{Leads, leads_after}
 use Rattle.outside_runs.proofs.Passed.{IsPassed, Passes, passed_both, passed_there, passed_here, passed_flush}
-use Rattle.outside_runs.proofs.OneStatement.{next, evaluates_by}
+use Rattle.inside_runs.proofs.Attempted.{one_more}
+use Rattle.outside_runs.proofs.OneStatement.{evaluates_by}
 use Rattle.outside_runs.proofs.Evaluated.{Leaves, may, valued_leaves, valued_heading, part_acts, part_notes}
 use Rattle.outside_runs.proofs.PairNotes.{pair_then_test}
 use Rattle.outside_runs.proofs.Wrote.{put_notes, wrote_leaves}
@@ -68,12 +69,16 @@ use Rattle.outside_runs.proofs.Values.{sees_values, next_values, next_sizes, wri
 before_write : (p : Checked) (t : Run) (free : ℕ) (held reads : Bool) (m : State) (place spent : ℕ) (f : Flat) → IsWithout p t held m place spent f →
     Stand t place (flush (held && not reads)) →
     Passes p t free (held && reads) (place + length (flush (held && not reads))) m f (spent + one_if (held && not reads)) tt m
-before_write p t free false reads m place spent f w h =
-    (f, passed_there p t free false place (place + 0) m f spent (spent + 0) m f (omega arith) (omega arith)
-    (passed_here p t free false place spent m f w))
-before_write p t free true true m place spent f w h =
-    (f, passed_there p t free true place (place + 0) m f spent (spent + 0) m f (omega arith) (omega arith)
-    (passed_here p t free true place spent m f w))
+before_write p t free false reads m place spent f w h = (
+  f,
+  passed_there p t free false place (place + 0) m f spent (spent + 0) m f (omega arith) (omega arith)
+      (passed_here p t free false place spent m f w),
+)
+before_write p t free true true m place spent f w h = (
+  f,
+  passed_there p t free true place (place + 0) m f spent (spent + 0) m f (omega arith) (omega arith)
+      (passed_here p t free true place spent m f w),
+)
 before_write p t free true false m place spent f w h =
     passed_flush p t free true place m f spent m f h (passed_here p t free true place spent m f w)
 
@@ -87,7 +92,7 @@ module _ (p : Checked) (t : Run) (of : IsRunOf p t) (keep : Bool) (free line : �
   both = Pair d formula
 
   abbrev view : View
-  view = seen p (next m)
+  view = seen p (one_more m)
 
   abbrev cell : Option ℕ
   cell = cell_of p.layout entry (value view (term d))
@@ -96,7 +101,7 @@ module _ (p : Checked) (t : Run) (of : IsRunOf p t) (keep : Bool) (free line : �
   result = value view (term_of e)
 
   abbrev after : State
-  after = after_write cell result (next m)
+  after = after_write cell result (one_more m)
 
   -- ---- behind the send before its mark
 
@@ -116,22 +121,22 @@ module _ (p : Checked) (t : Run) (of : IsRunOf p t) (keep : Bool) (free line : �
     abbrev end : Flat
     end = acts_at_once t.code (groups.evaluated Uniform free both) start
 
-    end_leaves : Leaves p free (next m) f end
+    end_leaves : Leaves p free (one_more m) f end
     end_leaves = valued_leaves p t of held m place spent f w line free both both_named free_ones free (omega arith)
 
     first_is : end.uniform.registers (first_at Uniform free d formula) ≡ value view (term d)
     first_is =
-        (pairs_are_evaluated_outside t.code p (next m) free d formula start
-            (may p t of held m place spent f w line free both both_named free_ones)).0
+        (pairs_are_evaluated_outside t.code p (one_more m) free d formula start
+        (may p t of held m place spent f w line free both both_named free_ones)).0
 
     second_is : end.uniform.registers (second_at Uniform free d formula) ≡ result
     second_is =
-        (pairs_are_evaluated_outside t.code p (next m) free d formula start
-            (may p t of held m place spent f w line free both both_named free_ones)).1
+        (pairs_are_evaluated_outside t.code p (one_more m) free d formula start
+        (may p t of held m place spent f w line free both both_named free_ones)).1
         ∙ ap (value view) (expressions_are_terms e)
 
     result_is : IsValue result
-    result_is = value_is (names_of p) view (sees_values p (next m) (next_values m w.values)) e named
+    result_is = value_is (names_of p) view (sees_values p (one_more m) (next_values m w.values)) e named
 
     fits : FitsSigned w64 (end.uniform.registers (second_at Uniform free d formula))
     fits = subst (FitsSigned w64) (sym second_is) (value_fits result result_is)
@@ -145,9 +150,9 @@ module _ (p : Checked) (t : Run) (of : IsRunOf p t) (keep : Bool) (free line : �
     writes_leave : Leaves p free after f (done t.code line write f)
     writes_leave =
         subst (Leaves p free after f) (sym (part_acts p t of held m place spent f w line free both both_named free_ones keep held (put ∷ [])))
-        (subst (λ z. Leaves p free (after_write cell z (next m)) f (wrote t.code put end)) second_is
+        (subst (λ z. Leaves p free (after_write cell z (one_more m)) f (wrote t.code put end)) second_is
         (wrote_leaves t.code end entry (first_at Uniform free d formula) (second_at Uniform free d formula)
-        (positions d + positions formula + 1) fits cell cell_is p free (next m) f end_leaves (next_sizes p m w.sizes) below))
+        (positions d + positions formula + 1) fits cell cell_is p free (one_more m) f end_leaves (next_sizes p m w.sizes) below))
 
     writes_note : notes t.code write start ≡ notes_behind (heading_of start) 0 All (whole view (Writes entry (term d) (term_of e))).steps
     writes_note =
@@ -171,7 +176,7 @@ module _ (p : Checked) (t : Run) (of : IsRunOf p t) (keep : Bool) (free line : �
     abbrev all : List Instr
     all = first ++ Mark line ∷ second
 
-    pub write_follows : (a : State → Attempt Effect) → a (next m) ≡ cut (whole view (Writes entry (term d) (term_of e))) →
+    pub write_follows : (a : State → Attempt Effect) → a (one_more m) ≡ cut (whole view (Writes entry (term d) (term_of e))) →
         Stand t place all → IsCalm t.code (place + length all) →
         Leads t spent held true (events.begun t.bound m (Runs (nesting both) true ∷ []))
         (Passes p t free true (place + length all) m f)
@@ -192,9 +197,9 @@ module _ (p : Checked) (t : Run) (of : IsRunOf p t) (keep : Bool) (free line : �
           fine = straight_parts_are_fine.written keep held Uniform free entry d formula;
           few = straight_parts_cost.written keep (waits held both) Uniform free entry d formula;
           leaves = writes_leave (waits held both) from came g here;
-          count = write_count cell result (next m);
-          sizes = write_sizes p cell result (next m) (next_sizes p m here.sizes);
-          values = write_values cell result (next m) (result_is (waits held both) from came g here) (next_values m here.values);
+          count = write_count cell result (one_more m);
+          sizes = write_sizes p cell result (one_more m) (next_sizes p m here.sizes);
+          values = write_values cell result (one_more m) (result_is (waits held both) from came g here) (next_values m here.values);
         } in
         let behind : from + length (Mark line ∷ second) ≡ to = omega (arith, n) in
         let total = spent + exchanged.spent es held in

@@ -1,17 +1,14 @@
 -- What a write outside pardo leaves and notes: there is one writer, whose value the cell gets under every rule.
-use Rattle.std.proofs.Common.{◌≡◌, ◌≢◌, ℕ, ◌+◌, ◌<◌, ◌≤◌, List, [], ◌∷◌, ◌++◌, length, Bool, true, false, Option, Some, None, Ok, ℤ, pos, refl, sym, ap}
-use Rattle.std.proofs.Common.{◌∙◌, subst, arith, eqb, cond, get_or, zero, suc, rules}
-use Rattle.std.specs.Prelude.{slice_index_or, slice_set, nat_eq, if◌then◌else◌, FitsSigned}
+use Rattle.std.proofs.Common.{◌≡◌, ◌≢◌, ℕ, ◌<◌, [], ◌∷◌, Bool, true, false, Option, Some, None, Ok, ℤ, pos, refl, sym, ap}
+use Rattle.std.proofs.Common.{◌∙◌, arith, eqb, get_or, zero, suc, rules}
+use Rattle.std.specs.Prelude.{slice_index_or, slice_set, if◌then◌else◌, FitsSigned}
 use Rattle.std.specs.Int.{w64}
 use Rattle.std.proofs.lemmas.List.{get_or-set_same, get_or-set_other}
-use Rattle.std.proofs.lemmas.Int.{ints}
 use Rattle.pram_model.specs.declared.rule.Rule.{Rule}
 use Rattle.pram_model.specs.Layout.{cell_of, total_size}
 use Rattle.pram_values.specs.declared.place.Place.TheVariants.{All}
-use Rattle.pram_values.specs.Total.{total}
 use Rattle.pram_values.specs.Value.{Value}
 use Rattle.pram_values.proofs.Totals.{total_none, neutral_right}
-use Rattle.write_rules.specs.declared.entry.Entry.{Entry}
 use Rattle.write_rules.specs.declared.write.Write.{Write}
 use Rattle.write_rules.specs.Combining.{AreWriters}
 use Rattle.superstep_code.specs.declared.instr.Side.TheVariants.{Uniform}
@@ -27,23 +24,22 @@ use Rattle.superstep_machine.proofs.Collected.{entries_are_monoid}
 use Rattle.superstep_machine.proofs.KeyOrder.{keys_are_monoid}
 use Rattle.superstep_machine.proofs.Numbers.{same_number, with_itself}
 use Rattle.pram_check.specs.Checked.{Checked}
-use Rattle.pram_meaning.specs.Store.{State, View, with_cell}
+use Rattle.pram_meaning.specs.Store.{State}
 use Rattle.pram_meaning.specs.Together.{after_write}
 use Rattle.flat_machine.specs.Flat.{Flat, range, cells, noted, single_to, written}
 use Rattle.flat_machine.proofs.Late.{none_least}
 use Rattle.stretches.specs.Applied.{wrote, write_conflict}
 use Rattle.stretches.specs.Notes.{note, notes}
-use Rattle.evaluation.specs.Noted.{note_key, writes_at, verdict}
+use Rattle.evaluation.specs.Noted.{note_key}
 use Rattle.evaluation.specs.Rows.{Row}
-use Rattle.evaluation.specs.Effects.{entry_by, entry_at}
 use Rattle.evaluation.proofs.Effects.{entries_are_the_rule, one_writer}
 use Rattle.evaluation.proofs.Sums.{IsBelow}
 use Rattle.formula_values.specs.Headings.{heading_of}
 use Rattle.formula_values.proofs.UniformSteps.{fault_is}
-use Rattle.plain_form.specs.Registers.{behind_variables}
 use Rattle.statement_runs.specs.Between.{HasSizes}
 use Rattle.outside_runs.proofs.Evaluated.{Leaves}
-use Rattle.outside_runs.proofs.UniformWork.{same_either, nothing_either, rests_behind, noted_alone}
+use Rattle.outside_runs.proofs.Values.{write_count}
+use Rattle.outside_runs.proofs.UniformWork.{nothing_either, noted_alone}
 
 -- ---- one writer
 
@@ -161,10 +157,6 @@ module _ (code : SuperstepCode) (h : Flat) (entry a b q : ℕ) where
       same_uniforms None = refl
       same_uniforms (Some d) = refl
 
-      same_count : (k : Option ℕ) → (after_write k (h.uniform.registers b) m).count ≡ m.count
-      same_count None = refl
-      same_count (Some d) = refl
-
       same_output : (k : Option ℕ) → (after_write k (h.uniform.registers b) m).output ≡ m.output
       same_output None = refl
       same_output (Some d) = refl
@@ -186,7 +178,7 @@ module _ (code : SuperstepCode) (h : Flat) (entry a b q : ℕ) where
               bare = record { put = n.put; held = n.held };
               rests = record { asks = r.asks; awaited = r.awaited; own_asks = r.own_asks; own_awaited = r.own_awaited };
             };
-            count = l.count ∙ sym (same_count cell);
+            count = l.count ∙ sym (write_count cell (h.uniform.registers b) m);
             output = l.output ∙ sym (same_output cell);
             registers = l.registers;
           }

@@ -25,21 +25,21 @@ pub record GoesWithout (p : Checked) (t : Run) (free : ℕ) (left : Bool) (place
 
 -- what a part of a program is run from: it stands there, faults behind it are told, its registers are free and its names can be named
 pub record MayRunWithout (p : Checked) (t : Run) (keep : Bool) (free : ℕ) (held : Bool) (ss : List Statement) (m : State) (place spent : ℕ)
-  (f : Flat) : Type 0 where
-    pub of : IsRunOf p t
-    pub free_ones : behind_variables p.uniforms ≤ free
-    pub named : AreStatements (names_of p) ss
-    pub stand : Stand t place (statements_code keep free place held ss)
-    pub calm : IsCalm t.code (place + length (statements_code keep free place held ss))
-    pub without : IsWithout p t held m place spent f
+    (f : Flat) : Type 0 where
+  pub of : IsRunOf p t
+  pub free_ones : behind_variables p.uniforms ≤ free
+  pub named : AreStatements (names_of p) ss
+  pub stand : Stand t place (statements_code keep free place held ss)
+  pub calm : IsCalm t.code (place + length (statements_code keep free place held ss))
+  pub without : IsWithout p t held m place spent f
 
 -- The statements of a list: the run follows them, by no more exchanges than their events have.
 pub record FollowsStatements (p : Checked) (t : Run) (keep : Bool) (free : ℕ) (held : Bool) (ss : List Statement) (m : State)
-  (place spent : ℕ) (f : Flat) : Type 0 where
-    pub follows : Follows t spent held (list_events p t.bound ss m)
-        (GoesWithout p t free (statements_left held ss) (place + length (statements_code keep free place held ss))
-        (spent + events.spent (list_events p t.bound ss m) held) f) (perform_list p t.bound ss m)
-    pub left : HoldsBehind held (list_events p t.bound ss m) (statements_left held ss) (perform_list p t.bound ss m)
+    (place spent : ℕ) (f : Flat) : Type 0 where
+  pub follows : Follows t spent held (list_events p t.bound ss m)
+      (GoesWithout p t free (statements_left held ss) (place + length (statements_code keep free place held ss))
+      (spent + events.spent (list_events p t.bound ss m) held) f) (perform_list p t.bound ss m)
+  pub left : HoldsBehind held (list_events p t.bound ss m) (statements_left held ss) (perform_list p t.bound ss m)
 
 abbrev pub StatementsAreFollowed : Type 0
 StatementsAreFollowed = (p : Checked) (t : Run) (keep : Bool) (free : ℕ) (held : Bool) (ss : List Statement) (m : State) (place spent : ℕ)

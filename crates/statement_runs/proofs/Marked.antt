@@ -22,7 +22,7 @@ use Rattle.plain_form.specs.Groups.{only, evaluated}
 use Rattle.formed_code.specs.Straight.{evaluation}
 use Rattle.statement_runs.specs.Begins.{begun}
 
-unmoved : (b : Bool) (x : PrivatePart) → (if b then x else x) ≡ x
+pub unmoved : (b : Bool) (x : PrivatePart) → (if b then x else x) ≡ x
 unmoved true x = refl
 unmoved false x = refl
 
