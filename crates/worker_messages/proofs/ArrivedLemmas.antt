@@ -1,5 +1,5 @@
 -- A worker comes to an exchange.
-use Rattle.std.proofs.Common.{◌≡◌, ℕ, ◌+◌, ◌-◌, ◌*◌, ◌<◌, ◌≤◌, [], length, map, Bool, true, false, Some, refl, sym, ap, subst, ◌∙◌, arith}
+use Rattle.std.proofs.Common.{◌≡◌, ℕ, ◌+◌, ◌-◌, ◌*◌, ◌^◌, ◌<◌, ◌≤◌, [], length, map, Bool, true, false, Some, refl, sym, ap, subst, ◌∙◌, arith}
 use Rattle.std.specs.Prelude.{slice_get, slice_index_or, if◌then◌else◌}
 use Rattle.std.proofs.lemmas.Nat.{mul-le}
 use Rattle.address_map.specs.Lawful.{Shape}
@@ -136,9 +136,9 @@ module _ (code : SuperstepCode) (m : Shape) (bound : ℕ) (a : Local) (y : Worke
     }
 
   pub arrived : (stop : Stop) → ArrivesAt code bound (stop_is stop) a.steps y → StandsAt code bound (stop_is stop) y → IsFitted code y →
-      IsVerifiedAt code y → y.uniform.count ≤ bound → IsSameBank a.steps.bank y.bank → rank code bound y ≤ rank code bound a.steps →
+      IsVerifiedAt code y → y.uniform.count ≤ bound → 2 ^ 16 ≤ length y.uniform.registers.items → IsSameBank a.steps.bank y.bank → rank code bound y ≤ rank code bound a.steps →
       HasArrived code m bound a (stopped_at stop moved)
-  arrived stop arrives stands fitted verified count same falls =
+  arrived stop arrives stands fitted verified count registers same falls =
       let e = equipped_still fitted same in record {
         at = record {
           equipped = record {
@@ -153,6 +153,7 @@ module _ (code : SuperstepCode) (m : Shape) (bound : ℕ) (a : Local) (y : Worke
           going = still_going stop a.way go.going;
           count = count;
           verified = λ h. verified;
+          registers = λ h. registers;
           stands = stands_at stop stands;
         };
         shown = λ n s enough sh.
@@ -202,6 +203,7 @@ ended code m bound a go off =
         going = go.going;
         count = go.count;
         verified = go.verified;
+        registers = λ h. absurd (off h);
         stands = λ h. absurd (off h);
       };
       shown = λ n s enough sh.

@@ -1,5 +1,6 @@
 pub mod ActiveLemmas
 pub mod ReachedLemmas
+pub mod RoomLemmas
 pub mod ArrivedLemmas
 pub mod WrittenLemmas
 pub mod ToldLemmas

@@ -194,6 +194,7 @@ module _ (b : Local) (z : Buffers) where
     going = h.going;
     count = h.count;
     verified = h.verified;
+    registers = h.registers;
     stands = h.stands;
   }
 

@@ -1,10 +1,11 @@
 -- A worker of a run goes on up to its next exchange.
-use Rattle.std.specs.Prelude.{◌≡◌, ℕ, ◌<◌, ◌≤◌, length, map, Bool, vec_capacity, if◌then◌else◌}
+use Rattle.std.specs.Prelude.{◌≡◌, ℕ, ◌^◌, ◌<◌, ◌≤◌, length, map, Bool, vec_capacity, if◌then◌else◌}
 use Rattle.pram_model.specs.declared.rule.Rule.{Rule}
 use Rattle.address_map.specs.Lawful.{Shape}
 use Rattle.superstep_code.specs.Code.{SuperstepCode}
 use Rattle.superstep_machine.specs.Run.{State, setting, is_held}
-use Rattle.superstep_steps.specs.Views.{put_is}
+use Rattle.superstep_steps.specs.declared.uniform.UniformState.{UniformState}
+use Rattle.superstep_steps.specs.Views.{put_is, uniform_of}
 use Rattle.worker_bank.specs.Bank.{IsBank}
 use Rattle.combining.specs.AllModules.{column, room_at}
 use Rattle.worker_steps.specs.declared.stop.Stop.{Stop}
@@ -32,6 +33,16 @@ way_at stop way = way
 
 abbrev pub stopped_at : Stop → Local → Local
 stopped_at stop x = record x { way = way_at stop x.way; step = step_at stop (is_held (put_is x.steps.uniform.put)) }
+
+-- the same, with room for all registers
+pub record IsRoomier (u v : UniformState) : Type 0 where
+  pub shown : uniform_of v ≡ uniform_of u
+  pub count : v.count ≡ u.count
+  pub width : v.width ≡ u.width
+  pub asks : v.asks ≡ u.asks
+  pub awaited : v.awaited ≡ u.awaited
+  pub put : v.put ≡ u.put
+  pub registers : 2 ^ 16 ≤ length v.registers.items
 
 -- In b the worker is at the exchange that it comes to from a: whatever state a shows, b shows where the definition's worker stands then.
 pub record HasArrived (code : SuperstepCode) (m : Shape) (bound : ℕ) (a b : Local) : Type 0 where

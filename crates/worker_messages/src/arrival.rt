@@ -17,7 +17,7 @@ ghost use Rattle.worker_messages.specs.declared.step.Step.TheVariants as step_is
 ghost use Rattle.worker_messages.specs.Reached.{most_instructions};
 ghost use Rattle.worker_messages.specs.Shown.{is_stopped, purpose_is, marked, IsShown, IsAtExchange};
 ghost use Rattle.worker_messages.specs.Equipped.{most_words, left, AreBuffers, MayGoOn, IsAtStep};
-ghost use Rattle.worker_messages.specs.Arrived.{step_at as spec_step_at, way_at as spec_way_at, stopped_at, HasArrived, CanTell};
+ghost use Rattle.worker_messages.specs.Arrived.{step_at as spec_step_at, way_at as spec_way_at, IsRoomier, HasArrived, CanTell};
 ghost use Rattle.worker_messages.specs.Told.{told, told_mark, IsWrittenFor};
 
 use crate::local::Local;
@@ -29,9 +29,20 @@ use message_rows::{Row, fill_replies};
 use std::alloc::AllocError;
 use superstep_code::Code;
 use superstep_machine::HeaderMark;
-use superstep_steps::Moment;
+use superstep_steps::{Moment, UniformState, make_room};
 use worker_steps::Stop;
 use write_rules::WriteRule;
+
+// So many registers of the program there can be. There is room for all of them at an exchange, so that none comes without a place.
+const REGISTERS: usize = 65_536;
+
+// There is room for all registers of the program.
+fn make_registers(u: &mut UniformState) -> Result<(), AllocError>
+    ensures { OnOk result (IsRoomier u.old u.new) }
+{
+    make_room(&mut u.registers, REGISTERS)?;
+    Ok(())
+}
 
 // What the exchange is for at which a worker stops.
 fn step_at(stop: Stop, put: Option<Moment>) -> Step
@@ -70,6 +81,7 @@ impl Local {
         ensures { OnOk result ((m : Shape) → MayGoOn code.now m bound self.old → HasArrived code.now m bound self.old self.new) }
     {
         let stop = self.steps.advance(code, rule, bound)?;
+        make_registers(&mut self.steps.uniform)?;
         self.step = step_at(stop, self.steps.uniform.put);
         self.way = way_at(stop, self.way);
         Ok(())

@@ -1,7 +1,9 @@
-use Rattle.std.proofs.Common.{sym, subst}
+use Rattle.std.proofs.Common.{◌≤◌, ◌-◌, sym, subst}
 use Rattle.worker_messages.specs.declared.step.Step.{Step}
 use Rattle.worker_messages.specs.declared.way.Way.{Way}
 use Rattle.worker_messages.specs.Arrived.{HasArrived}
+use Rattle.worker_steps.specs.Stretch.{stop_is, rank_of, rank}
+use Rattle.worker_messages.proofs.RoomLemmas.{roomy, still_arrives, still_fitted, still_verified, still_there}
 use Rattle.worker_messages.proofs.ArrivedLemmas.{arrived}
 use Rattle.worker_messages.proofs.local.Local.go_on.Goals as goal
 
@@ -11,7 +13,13 @@ returns g c = λ m go.
     let bound = c.args.bound in
     let a = c.args.self.now in
     let y = c.advance.new.self in
+    let u = c.make_registers.new.u in
     let e = c.in_ok-stop.ensures in
-    subst (λ (p : Way × Step). HasArrived code m bound a (record a { steps = y; way = p.0; step = p.1 }))
+    let room = c.in_ok-make_registers.ensures in
+    let stop = c.in_ok-stop.stop in
+    subst (λ (p : Way × Step). HasArrived code m bound a (record a { steps = roomy y u; way = p.0; step = p.1 }))
     (λ i. (sym c.way_at-self.ensures i, sym c.step_at-self.ensures i))
-    (arrived code m bound a y c.requires.on go c.in_ok-stop.stop e.arrives e.stands e.fitted e.verified e.count e.same e.rank)
+    (arrived code m bound a (roomy y u) c.requires.on go stop (still_arrives code y u room bound (stop_is stop) a.steps e.arrives)
+    (still_there code y u room bound (stop_is stop) e.stands)
+    (still_fitted code y u room e.fitted) (still_verified code y u room e.verified) (subst (λ n. n ≤ bound) (sym room.count) e.count) room.registers e.same
+    (subst (λ n. rank_of code (bound - n) y.place ≤ rank code bound a.steps) (sym room.count) e.rank))
