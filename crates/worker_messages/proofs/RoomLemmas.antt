@@ -1,5 +1,5 @@
 -- More room for the registers of the program changes nothing else.
-use Rattle.std.proofs.Common.{◌≡◌, ℕ, ◌+◌, ◌*◌, ◌<◌, ◌≤◌, ◌∙◌, length, map, false, true, ap, sym, subst, Vec}
+use Rattle.std.proofs.Common.{ℕ, ◌+◌, ◌*◌, ◌<◌, ◌≤◌, ◌∙◌, length, map, false, true, ap, sym, subst, Vec}
 use Rattle.std.specs.Prelude.{nat_lt}
 use Rattle.std.specs.List.{range_with_len}
 use Rattle.std.specs.Global.{Global}
@@ -15,7 +15,7 @@ use Rattle.worker_bank.specs.Bank.{part_at, number_of}
 use Rattle.worker_steps.specs.declared.worker.WorkerState.{WorkerState}
 use Rattle.worker_steps.specs.Shown.{cells_at}
 use Rattle.worker_steps.specs.Fitted.{IsFitted}
-use Rattle.worker_steps.specs.Met.{Describes, IsVerifiedAt}
+use Rattle.worker_steps.specs.Met.{IsVerifiedAt}
 use Rattle.worker_steps.specs.Stretch.{ArrivesAt, StandsAt}
 use Rattle.worker_messages.specs.Arrived.{IsRoomier}
 

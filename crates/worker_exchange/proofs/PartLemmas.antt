@@ -1,0 +1,14 @@
+-- Parts of words, message by message.
+use Rattle.std.proofs.Common.{◌≡◌, ℕ, ◌+◌, ◌<◌, List, [], length, set, sym, ap, ◌∙◌, arith, ⊎_elim, Bor}
+use Rattle.std.proofs.lemmas.Bool.{cases_eq}
+use Rattle.combining.proofs.AllColumns.{changed_here, changed_elsewhere}
+use Rattle.worker_exchange.specs.Parts.{part_at}
+
+pub one_part : (parts : List (Bor (List ℕ))) (i : ℕ) (x : Bor (List ℕ)) (part : ℕ → List ℕ) → i < length parts → x.now ≡ part i →
+    ((j : ℕ) → j < i → part_at parts j ≡ part j) → (j : ℕ) → j < i + 1 → part_at (set parts i x) j ≡ part j
+one_part parts i x part l is h j k =
+    ⊎_elim
+    (λ (same : i ≡ j). ap (part_at (set parts i x)) (sym same)
+    ∙ changed_here (λ (y : Bor (List ℕ)). y.now) parts i x [] l ∙ is ∙ ap part same)
+    (λ (apart : i ≡ j → ⊥). changed_elsewhere (λ (y : Bor (List ℕ)). y.now) parts i j x [] apart ∙ h j (omega (arith, k, apart)))
+    (cases_eq i j)
