@@ -19,14 +19,14 @@ none_between a b = by (int_le a b)
     by false e = refl
 
 -- and with k and one more the last one is k further on
-pub record Reaches (a b : ℤ) (k : ℕ) : Type 0 where
+pub record IsFurther (a b : ℤ) (k : ℕ) : Type 0 where
   pub any : int_le a b ≡ true
   pub last : b ≡ a +ℤ pos k
 
-pub some_between : (a b : ℤ) (k : ℕ) → width a b ≡ suc k → Reaches a b k
+pub some_between : (a b : ℤ) (k : ℕ) → width a b ≡ suc k → IsFurther a b k
 some_between a b k = by (int_le a b) refl
   where
-    by : (t : Bool) → int_le a b ≡ t → (if t then nat_abs (b -ℤ a) + 1 else 0) ≡ suc k → Reaches a b k
+    by : (t : Bool) → int_le a b ≡ t → (if t then nat_abs (b -ℤ a) + 1 else 0) ≡ suc k → IsFurther a b k
     by true e h =
         let n : nat_abs (b -ℤ a) ≡ k = omega (arith, h) in
         record { any = e; last = far n }

@@ -41,6 +41,7 @@ pub record FollowsStatements (p : Checked) (t : Run) (keep : Bool) (free : ℕ) 
       (spent + events.spent (list_events p t.bound ss m) held) f) (perform_list p t.bound ss m)
   pub left : HoldsBehind held (list_events p t.bound ss m) (statements_left held ss) (perform_list p t.bound ss m)
 
+-- so it is of every program, code and list of statements, from each state between two statements
 abbrev pub StatementsAreFollowed : Type 0
 StatementsAreFollowed = (p : Checked) (t : Run) (keep : Bool) (free : ℕ) (held : Bool) (ss : List Statement) (m : State) (place spent : ℕ)
     (f : Flat) → MayRunWithout p t keep free held ss m place spent f → FollowsStatements p t keep free held ss m place spent f

@@ -9,6 +9,7 @@ use Rattle.stretches.specs.Along.{Run}
 use Rattle.formula_values.specs.Outside.{ShowsOutside}
 use Rattle.statement_runs.specs.Between.{IsBetween, HasSizes}
 
+-- the registers and the memory show it, seen with the held write applied; and each of its values has 64 bits
 pub record IsWithout (p : Checked) (t : Run) (held : Bool) (m : State) (place spent : ℕ) (f : Flat) : Type 0 where
   pub between : IsBetween t held m place spent f
   pub shows : ShowsOutside p m (applied t.code f)
