@@ -1,0 +1,4 @@
+pub mod Opening
+pub mod Ending
+pub mod Outcomes
+pub mod Supersteps

@@ -1,0 +1,29 @@
+-- How many supersteps the workers of a machine take for a compiled program, at most.
+use Rattle.std.specs.Prelude.{ℕ, ◌≤◌, List, length, Bool, ℤ}
+use Rattle.write_rules.specs.Verdict.{Verdict}
+use Rattle.address_map.specs.Lawful.{Shape}
+use Rattle.superstep_code.specs.Code.{SuperstepCode}
+use Rattle.superstep_machine.specs.Trace.{Exchange, AreBspExchanges}
+use Rattle.flat_machine.specs.Flatness.{IsMapFor}
+use Rattle.fusing.specs.Fusing.{Fuses, IsFaultless}
+use Rattle.pram_check.specs.Checked.{Checked}
+use Rattle.pram_check.specs.Bounded.{IsBounded}
+use Rattle.pram_meaning.specs.Outcome.{IsOutcome}
+use Rattle.plain_form.specs.PlainForm.{form_of}
+use Rattle.exchange_bound.specs.Bound.{exchange_bound}
+use Rattle.compiled_meaning.specs.PlainForm.{IsInputFor, IsPlainForm}
+
+-- the workers of every lawful map make at most so many exchanges, each with its words, up to a verdict of the program that is no fault
+abbrev pub KeepsTheBound : Checked → SuperstepCode → Type 0
+KeepsTheBound p code = (map : Shape) → IsMapFor code map → (input : List ℤ) → IsInputFor p input → (bound : ℕ) (verdict : Verdict) →
+    IsOutcome p input bound verdict → IsFaultless verdict → (made : List Exchange) → AreBspExchanges code map input bound verdict made →
+    length made ≤ exchange_bound p input bound
+
+-- it means what the program means, and keeps the bound
+pub record IsFusedForm (p : Checked) (code : SuperstepCode) : Type 0 where
+  pub form : IsPlainForm p code
+  pub supersteps : KeepsTheBound p code
+
+-- so does the plain form of every program within bounds once it is fused
+abbrev pub FusedFormsArePlain : Type 0
+FusedFormsArePlain = (keep : Bool) (p : Checked) (code : SuperstepCode) → IsBounded p → Fuses (form_of keep p) code → IsFusedForm p code

@@ -1,0 +1,4 @@
+//! That compiled code means what its program means.
+#![tactic(auto)]
+
+pub mod law;
