@@ -2,6 +2,7 @@
 
 ghost use Rattle.std.specs.Prelude.{◌≡◌, IfOk};
 ghost use Rattle.pramc.specs.Report.{IsNoProgram};
+ghost use Rattle.compiled_meaning.specs.Supersteps.{IsFusedForm};
 ghost use Rattle.compiling.specs.Compiled.{IsCodeOf, IsCompiledFrom};
 
 use bsp_verify::Verified;
@@ -11,11 +12,15 @@ use pram_check::Program;
 use pramc::{Refusal, read_program};
 use std::alloc::{AllocError, Global};
 
-/// The code of a program: what is left of its plain form without the sends that send nothing. E16
-/// where memory was refused.
+/// The code of a program: what is left of its plain form without the sends that send nothing. On the
+/// workers of every lawful map it comes out as the program does, by at most as many supersteps as
+/// the program's bound. E16 where memory was refused.
+#[tactic(auto, using(crate::proofs::Meant::means_program))]
 pub fn compile_program(alloc: Global, program: &Program) -> Result<Verified, AllocError>
     ensures code { IfOk result (λ code. IsCodeOf program.now code) }
+    ensures meaning { IfOk result (λ code. IsFusedForm program.now code) }
 {
+    program.bounded();
     // Code of an accepted program is never too long (`formed_code::law::forms_are_code`).
     let plain = match lower(alloc, program) {
         Ok(plain) => plain,
@@ -27,8 +32,10 @@ pub fn compile_program(alloc: Global, program: &Program) -> Result<Verified, All
     }
 }
 
-/// The code of the program of a text. It is refused for E1 to E10, and for E16 where memory was
-/// refused; so each text of an accepted program is compiled.
+/// The code of the program of a text, which on the workers of every lawful map comes out as the
+/// program does, for every input and every bound: it ends, faults and goes on where the program does,
+/// and nowhere else. It is refused for E1 to E10, and for E16 where memory was refused; so each
+/// text of an accepted program is compiled.
 pub fn compile(alloc: Global, text: &[u8]) -> Result<Verified, Refusal>
     ensures code { IfOk result (IsCompiledFrom text.now) }
     ensures refused { IsNoProgram text.now result }
