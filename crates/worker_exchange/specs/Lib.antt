@@ -1,3 +1,4 @@
 pub mod Received
 pub mod Parts
 pub mod Settled
+pub mod Taken

@@ -4,6 +4,8 @@
 mod hearing;
 mod parts;
 mod settling;
+mod taking;
 
 pub use hearing::{Heard, hear};
 pub use settling::settle;
+pub use taking::take_send;

@@ -21,7 +21,7 @@ use Rattle.worker_messages.specs.Reached.{most_instructions}
 use Rattle.worker_messages.specs.Shown.{way_is, cells_asked, IsShown}
 use Rattle.worker_messages.specs.Equipped.{IsEquipped, IsRunnable, MayGoOn}
 
-mapped_twice : {A B C : Type 0} (f : B → C) (g : A → B) (xs : List A) → map f (map g xs) ≡ map (λ x. f (g x)) xs
+pub mapped_twice : {A B C : Type 0} (f : B → C) (g : A → B) (xs : List A) → map f (map g xs) ≡ map (λ x. f (g x)) xs
 mapped_twice f g [] = refl
 mapped_twice f g (x ∷ xs) = ap (λ ys. f (g x) ∷ ys) (mapped_twice f g xs)
 
