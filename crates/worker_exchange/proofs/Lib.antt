@@ -1,3 +1,4 @@
 pub mod PartLemmas
 pub mod SettleLemmas
 pub mod SentLemmas
+pub mod HeardLemmas

@@ -1,0 +1,53 @@
+//! The verdict of an exchange.
+
+ghost use Rattle.std.specs.Prelude.{◌≡◌};
+ghost use Rattle.superstep_machine.specs.Parts.{UniformPart};
+ghost use Rattle.superstep_machine.specs.Run as machine;
+ghost use Rattle.worker_messages.specs.Shown.{way_is, purpose_is};
+
+use superstep_machine::Key;
+use worker_messages::{Step, Way};
+
+// A key whose statement is over.
+fn due(key: Option<Key>, count: u32) -> Option<Key>
+    ensures { result ≡ machine.due key count }
+{
+    match key {
+        Some(key) => { if key.count < count { Some(key) } else { None } }
+        None => None,
+    }
+}
+
+// A key ends a run that would go on.
+fn unless(key: Option<Key>, way: Way) -> Way
+    ensures { way_is result ≡ machine.unless key (way_is way) }
+{
+    match key {
+        None => way,
+        Some(_) => Way::Past { key, ended: false },
+    }
+}
+
+// What closes is over.
+fn closed_by(key: Option<Key>, way: Way) -> Way
+    ensures { way_is result ≡ machine.closed_by key (way_is way) }
+{
+    match way {
+        Way::Ending { ended } => Way::Past { key, ended },
+        _ => way,
+    }
+}
+
+/// How it stands with a run behind an exchange: a key ends it whose statement is over, at a send only where no put is held; and a close
+/// ends it by any key, or as it was to end. `held` and `count` are those before the exchange.
+pub fn decide(step: Step, held: bool, count: u32, key: Option<Key>, way: Way) -> Way
+    ensures { (u : UniformPart) → machine.is_held u.put ≡ held → u.count ≡ count →
+        way_is result ≡ machine.decided (purpose_is step) u key (way_is way) }
+{
+    match step {
+        Step::Send => { if held { way } else { unless(due(key, count), way) } }
+        Step::Reply => unless(due(key, count), way),
+        Step::Vote { destination: _ } => unless(due(key, count), way),
+        Step::Close => closed_by(key, way),
+    }
+}
