@@ -2,3 +2,4 @@ pub mod PartLemmas
 pub mod SettleLemmas
 pub mod SentLemmas
 pub mod HeardLemmas
+pub mod BehindLemmas
