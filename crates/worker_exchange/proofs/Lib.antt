@@ -3,3 +3,4 @@ pub mod SettleLemmas
 pub mod SentLemmas
 pub mod HeardLemmas
 pub mod BehindLemmas
+pub mod FittedLemmas

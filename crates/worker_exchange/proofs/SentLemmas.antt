@@ -7,7 +7,6 @@ use Rattle.address_map.specs.Lawful.{Shape}
 use Rattle.superstep_machine.specs.declared.key.Key.{Key}
 use Rattle.superstep_machine.specs.Keys.{least}
 use Rattle.superstep_machine.specs.Setting.{Setting}
-use Rattle.superstep_machine.specs.Parts.{PrivatePart}
 use Rattle.superstep_machine.specs.HeaderWords.{read_header}
 use Rattle.superstep_machine.specs.Words.{CellAsk, Message}
 use Rattle.superstep_machine.specs.WordReading.{ask_part}
@@ -19,7 +18,7 @@ use Rattle.worker_bank.specs.Bank.{part_at}
 use Rattle.combining.specs.AllModules.{column}
 use Rattle.combining.specs.Adding.{unanswered}
 use Rattle.worker_steps.specs.declared.worker.WorkerState.{WorkerState}
-use Rattle.worker_steps.specs.Shown.{cells_at, part_in, own_in, Shows}
+use Rattle.worker_steps.specs.Shown.{cells_at, part_in, own_in}
 use Rattle.message_rows.specs.Rows.{WrittenMessage, message_at}
 use Rattle.message_rows.specs.Sends.{words_of}
 use Rattle.worker_messages.specs.declared.local.Local.{Local}
@@ -45,8 +44,8 @@ module _ (x y : WorkerState) (noted : Option Key) (sent : IsSentWorker x y noted
   -- one processor: the cells of its reads are awaited
   part_sent : (j : ℕ) → own_sent (part_in x j) ≡ part_in y j
   part_sent j = λ i.
-    part_at (sym sent.bank i) (cells_at (length (sym sent.uniform.asks i)) (sym sent.asked i).items j)
-    (cells_at (length (sym sent.uniform.awaited i)) (sym sent.awaited i).items j) j
+      part_at (sym sent.bank i) (cells_at (length (sym sent.uniform.asks i)) (sym sent.asked i).items j)
+      (cells_at (length (sym sent.uniform.awaited i)) (sym sent.awaited i).items j) j
 
   own_is_sent : map own_sent (own_in x) ≡ own_in y
   own_is_sent =

@@ -1,11 +1,10 @@
 -- What a send leaves of a worker between two exchanges.
-use Rattle.std.specs.Prelude.{◌≡◌, ℕ, List, [], length, Option, None}
+use Rattle.std.specs.Prelude.{◌≡◌, [], Option, None}
 use Rattle.superstep_machine.specs.declared.key.Key.{Key}
 use Rattle.superstep_machine.specs.Keys.{least}
 use Rattle.superstep_machine.specs.Sending.{uniform_sent}
 use Rattle.superstep_steps.specs.declared.uniform.UniformState.{UniformState}
 use Rattle.superstep_steps.specs.Views.{uniform_of}
-use Rattle.combining.specs.Asked.{HeldAsks}
 use Rattle.worker_steps.specs.declared.worker.WorkerState.{WorkerState}
 
 -- the uniform part: what was held is on its way

@@ -45,7 +45,13 @@ pub fn decide(step: Step, held: bool, count: u32, key: Option<Key>, way: Way) ->
         way_is result ≡ machine.decided (purpose_is step) u key (way_is way) }
 {
     match step {
-        Step::Send => { if held { way } else { unless(due(key, count), way) } }
+        Step::Send => {
+            if held {
+                way
+            } else {
+                unless(due(key, count), way)
+            }
+        }
         Step::Reply => unless(due(key, count), way),
         Step::Vote { destination: _ } => unless(due(key, count), way),
         Step::Close => closed_by(key, way),

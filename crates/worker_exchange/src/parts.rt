@@ -28,7 +28,11 @@ fn puts_of<'w, R: WriteRule>(rule: &R, header: MessageHeader, words: &'w [u64]) 
 }
 
 /// The words of the asks of a message.
-pub(crate) fn asks_of<'w, R: WriteRule>(rule: &R, header: MessageHeader, words: &'w [u64]) -> &'w [u64]
+pub(crate) fn asks_of<'w, R: WriteRule>(
+    rule: &R,
+    header: MessageHeader,
+    words: &'w [u64],
+) -> &'w [u64]
     ensures { result.now ≡ ask_part (R.WriteRule.rule rule.now) header words.now }
 {
     let n = put_words(rule, header.puts, words);

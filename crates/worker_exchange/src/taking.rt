@@ -79,7 +79,12 @@ pub(crate) fn keep_asks<R: WriteRule, C: Column>(rule: &R, column: &C, asked: &m
 
 /// What came in a send: the puts are merged into the cells of the worker's module, what others ask is kept, and what the worker held is on
 /// its way.
-pub fn take_send<R: WriteRule, M: AddressMap, C: Column>(local: &mut Local, rule: &R, map: &M, column: &C)
+pub fn take_send<R: WriteRule, M: AddressMap, C: Column>(
+    local: &mut Local,
+    rule: &R,
+    map: &M,
+    column: &C,
+)
     requires part { local.old.steps.bank.worker < (M.shape map.now).parts }
     requires cells { length local.old.cells ≡ (M.shape map.now).width local.old.steps.bank.worker }
     requires column { length (C.came column.now) ≡ (M.shape map.now).parts }
@@ -95,7 +100,14 @@ pub fn take_send<R: WriteRule, M: AddressMap, C: Column>(local: &mut Local, rule
         (messages_to code.rule (M.shape map.now) local.old.steps.bank.worker Sends (C.came column.now))) }
 {
     let part = local.steps.bank.worker;
-    let noted = settle(rule, map, part, column, &local.steps.uniform, &mut local.cells);
+    let noted = settle(
+        rule,
+        map,
+        part,
+        column,
+        &local.steps.uniform,
+        &mut local.cells,
+    );
     keep_asks(rule, column, local.asked.as_mut_slice());
     send_worker(&mut local.steps, &mut local.sent, noted);
 }

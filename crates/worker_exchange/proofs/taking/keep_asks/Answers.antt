@@ -1,4 +1,4 @@
-use Rattle.std.proofs.Common.{◌≡◌, ◌<◌, length, sym, ap, ◌∙◌, arith, vec_capacity}
+use Rattle.std.proofs.Common.{sym, ap, ◌∙◌, arith, vec_capacity}
 use Rattle.superstep_machine.specs.HeaderWords.{read_header}
 use Rattle.superstep_machine.specs.WordReading.{ask_part}
 use Rattle.combining.proofs.AllColumns.{same_of_all}

@@ -1,4 +1,4 @@
-use Rattle.std.proofs.Common.{◌≡◌, ℕ, ◌<◌, length, sym, ap, ◌∙◌, arith, Vec}
+use Rattle.std.proofs.Common.{◌≡◌, ℕ, length, sym, ap, ◌∙◌, arith, Vec}
 use Rattle.std.specs.Vec.{with_items}
 use Rattle.std.specs.Global.{Global}
 use Rattle.std.proofs.lemmas.List.{with_items_is, length-map}
