@@ -7,6 +7,7 @@ ghost use Rattle.write_rules.specs.Verdict.{verdict_of};
 ghost use Rattle.pramc.specs.Report.{IsProgramOf, IsRunOf};
 ghost use Rattle.pram_meaning.specs.Outcome.{IsOutcome};
 ghost use Rattle.pramc.specs.StoppedFields.{stop_text};
+ghost use Rattle.compiled_meaning.specs.Supersteps.{IsFusedForm};
 ghost use Rattle.compiling.specs.Compiled.{IsCodeOf, IsCompiledFrom};
 ghost use Rattle.pramc_command.specs.Answered.{Answers, accepted_line, IsNoFailure, IsReported, Leaves};
 
@@ -107,6 +108,7 @@ fn program_of<'a>(alloc: Global, text: &[u8]) -> Result<Program, Stop<'a>>
 // The code of a program.
 fn code_of<'a>(alloc: Global, program: &Program) -> Result<Verified, Stop<'a>>
     ensures code { IfOk result (λ code. IsCodeOf program.now code) }
+    ensures meaning { IfOk result (λ code. IsFusedForm program.now code) }
     ensures refused { IfErr result IsNoFailure }
 {
     Ok(compile_program(alloc, program)?)

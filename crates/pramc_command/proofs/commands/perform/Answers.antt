@@ -1,5 +1,6 @@
 use Rattle.std.proofs.Common.{subst, sym}
 use Rattle.superstep_code.specs.Code.{SuperstepCode}
+use Rattle.compiled_meaning.specs.Supersteps.{IsFusedForm}
 use Rattle.compiling.specs.Compiled.{IsCodeOf}
 use Rattle.pramc_command.proofs.Answering.{with_layout}
 use Rattle.pramc_command.proofs.commands.perform.Goals as goal
@@ -19,5 +20,7 @@ returns-in-Plan g c =
         is_program = c.in_ok-program.ensures.program;
         is_code = subst (λ (code : SuperstepCode). IsCodeOf c.in_ok-program.program code) (sym c.code-in-Plan.ensures.value)
             c.in_ok-code-in-Plan.ensures.code;
+        means = subst (λ (code : SuperstepCode). IsFusedForm c.in_ok-program.program code) (sym c.code-in-Plan.ensures.value)
+            c.in_ok-code-in-Plan.ensures.meaning;
       });
     }
