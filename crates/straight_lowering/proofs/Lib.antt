@@ -1,3 +1,4 @@
 pub mod Chains
 pub mod Appended
 pub mod Levels
+pub mod Rooms

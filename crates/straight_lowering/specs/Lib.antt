@@ -4,3 +4,4 @@ pub mod Operands
 pub mod Depths
 pub mod Cursors
 pub mod Operators
+pub mod Room

@@ -1,19 +1,20 @@
 //! The code of statements without parts.
 
-ghost use Rattle.std.specs.Prelude.{◌≡◌, OnOk, true};
+ghost use Rattle.std.specs.Prelude.{◌≡◌, ◌<◌, ◌^◌, OnOk, true};
 ghost use Rattle.plain_form.specs.Formulas.{formula_of};
 ghost use Rattle.plain_form.specs.Inside as inside;
 ghost use Rattle.plain_form.specs.Outside as outside;
 ghost use Rattle.plain_form.specs.Shapes as shapes;
 ghost use Rattle.straight_lowering.specs.Operands.{formula, held_behind, waiting, writes_of};
+ghost use Rattle.straight_lowering.specs.Room.{IsRoomFor, IsAssignRoom, IsInnerAssignRoom};
 ghost use Rattle.straight_lowering.specs.Written.{wrote};
 
 use crate::cursor::next_number;
 use crate::emitter::{Emitter, short};
-use crate::refusal::LowerRefusal;
 use crate::region::{local, variable};
 use crate::values::{Operands, count, depth};
 use pram_check::{Expression, StepTarget, Target};
+use std::alloc::AllocError;
 use superstep_code::{Instr, Side};
 
 // A value for a variable or a local.
@@ -24,7 +25,8 @@ fn get(
     value: &Expression,
     base: u16,
     destination: u16,
-) -> Result<(), LowerRefusal>
+) -> Result<(), AllocError>
+    requires room { IsRoomFor (formula_of value.now) base }
     ensures { OnOk result (out.new ≡ wrote
         (shapes.gets true out.old.held line side base (formula_of value.now) destination)
         (shapes.still out.old.held (formula_of value.now)) out.old) }
@@ -38,7 +40,7 @@ fn get(
 }
 
 // Sends a write that is held, where no reads of so many levels send it.
-fn send_before(out: &mut Emitter, levels: u32) -> Result<(), LowerRefusal>
+fn send_before(out: &mut Emitter, levels: u32) -> Result<(), AllocError>
     ensures { OnOk result (out.new ≡ wrote (shapes.flush (held_behind out.old.held levels)) (waiting out.old.held levels) out.old) }
 {
     if levels == 0 {
@@ -55,14 +57,16 @@ fn write(
     entry: usize,
     operands: Operands,
     base: u16,
-) -> Result<(), LowerRefusal>
+) -> Result<(), AllocError>
+    requires entry { entry < 2 ^ 16 }
+    requires room { IsRoomFor (formula operands) base }
     ensures { OnOk result (out.new ≡ wrote (writes_of out.old.held line side base entry operands.entry) true out.old) }
 {
-    let entry = short(entry)?;
-    let levels = depth(operands)?;
+    let entry = short(entry);
+    let levels = depth(operands);
     send_before(out, levels)?;
     let values = count(out, side, line, operands, base)?;
-    let position = next_number(values.behind.position)?;
+    let position = next_number(values.behind.position);
     out.hold(Instr::Put {
         side,
         entry,
@@ -73,12 +77,8 @@ fn write(
 }
 
 /// A print.
-pub fn print(
-    out: &mut Emitter,
-    line: u32,
-    value: &Expression,
-    free: u16,
-) -> Result<(), LowerRefusal>
+pub fn print(out: &mut Emitter, line: u32, value: &Expression, free: u16) -> Result<(), AllocError>
+    requires room { IsRoomFor (formula_of value.now) free }
     ensures { OnOk result (out.new ≡ wrote (shapes.prints true out.old.held line free (formula_of value.now))
         (shapes.still out.old.held (formula_of value.now)) out.old) }
 {
@@ -95,13 +95,14 @@ pub fn assign(
     target: &Target,
     value: &Expression,
     free: u16,
-) -> Result<(), LowerRefusal>
+) -> Result<(), AllocError>
+    requires room { IsAssignRoom target.now (formula_of value.now) free }
     ensures { OnOk result (out.new ≡ wrote (outside.assign true out.old.held line free target.now (formula_of value.now))
         (outside.assign_left out.old.held target.now (formula_of value.now)) out.old) }
 {
     match target {
         Target::Uniform(number) => {
-            let destination = variable(*number)?;
+            let destination = variable(*number);
             get(out, Side::Uniform, line, value, free, destination)
         }
         Target::Cell(entry) => write(
@@ -131,14 +132,15 @@ pub fn step_assign(
     value: &Expression,
     base: u16,
     vote: u16,
-) -> Result<(), LowerRefusal>
+) -> Result<(), AllocError>
+    requires room { IsInnerAssignRoom target.now (formula_of value.now) base }
     ensures { OnOk result (out.new ≡ wrote
         (inside.inner_assign (record { keep = true; vote = vote }) out.old.held line base target.now (formula_of value.now))
         (inside.inner_assign_left out.old.held target.now (formula_of value.now)) out.old) }
 {
     match target {
         StepTarget::Local(number) => {
-            let destination = local(*number)?;
+            let destination = local(*number);
             get(out, Side::Private, line, value, base, destination)
         }
         StepTarget::Cell(entry) => write(

@@ -4,23 +4,20 @@ ghost use Rattle.std.specs.Prelude.{◌≡◌, OnOk, IfOk, true, false};
 ghost use Rattle.plain_form.specs.Formulas.{formula_of};
 ghost use Rattle.plain_form.specs.Groups as groups;
 ghost use Rattle.plain_form.specs.Shapes as shapes;
+ghost use Rattle.straight_lowering.specs.Room.{IsRoomFor};
 ghost use Rattle.straight_lowering.specs.Straight as straight;
 ghost use Rattle.straight_lowering.specs.Written.{wrote};
 ghost use Rattle.superstep_code.specs.declared.instr.Side.TheVariants as Side;
 
 use crate::emitter::Emitter;
-use crate::refusal::LowerRefusal;
 use crate::values::{Operands, count};
 use pram_check::Expression;
+use std::alloc::AllocError;
 use superstep_code::{Instr, Side};
 
 /// The test of an `if` or a `while`: the register with its value.
-pub fn tested(
-    out: &mut Emitter,
-    line: u32,
-    test: &Expression,
-    free: u16,
-) -> Result<u16, LowerRefusal>
+pub fn tested(out: &mut Emitter, line: u32, test: &Expression, free: u16) -> Result<u16, AllocError>
+    requires room { IsRoomFor (formula_of test.now) free }
     ensures register { IfOk result (λ r. r ≡ groups.value_at Side.Uniform free (formula_of test.now)) }
     ensures written { IfOk result (λ r. out.new ≡ wrote
         (shapes.counted true out.old.held line Side.Uniform free (formula_of test.now))
@@ -31,12 +28,8 @@ pub fn tested(
 }
 
 /// The test of an `if`, behind which nothing is held.
-pub fn parted(
-    out: &mut Emitter,
-    line: u32,
-    test: &Expression,
-    free: u16,
-) -> Result<u16, LowerRefusal>
+pub fn parted(out: &mut Emitter, line: u32, test: &Expression, free: u16) -> Result<u16, AllocError>
+    requires room { IsRoomFor (formula_of test.now) free }
     ensures register { IfOk result (λ r. r ≡ groups.value_at Side.Uniform free (formula_of test.now)) }
     ensures written { IfOk result (λ r. out.new ≡ wrote (straight.parted out.old.held line free (formula_of test.now)) false out.old) }
 {
@@ -46,12 +39,8 @@ pub fn parted(
 }
 
 /// The test of an `if`.
-pub fn masked(
-    out: &mut Emitter,
-    line: u32,
-    test: &Expression,
-    base: u16,
-) -> Result<(), LowerRefusal>
+pub fn masked(out: &mut Emitter, line: u32, test: &Expression, base: u16) -> Result<(), AllocError>
+    requires room { IsRoomFor (formula_of test.now) base }
     ensures { OnOk result (out.new ≡ wrote (straight.masked out.old.held line base (formula_of test.now))
         (shapes.still out.old.held (formula_of test.now)) out.old) }
 {
@@ -62,7 +51,7 @@ pub fn masked(
 }
 
 /// The flag of a `while` is set, and the mask on it.
-pub fn flagged(out: &mut Emitter, flag: u16) -> Result<(), LowerRefusal>
+pub fn flagged(out: &mut Emitter, flag: u16) -> Result<(), AllocError>
     ensures { OnOk result (out.new ≡ wrote (shapes.flagged out.old.held flag) false out.old) }
 {
     out.flush()?;
@@ -82,7 +71,8 @@ pub fn flags(
     vote: u16,
     flag: u16,
     base: u16,
-) -> Result<(), LowerRefusal>
+) -> Result<(), AllocError>
+    requires room { IsRoomFor (formula_of test.now) base }
     ensures { OnOk result (out.new ≡ wrote (straight.flags out.old.held line vote flag base (formula_of test.now))
         (shapes.still out.old.held (formula_of test.now)) out.old) }
 {

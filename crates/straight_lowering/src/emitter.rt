@@ -1,16 +1,13 @@
 //! Code that grows.
 
-ghost use Rattle.std.specs.Prelude.{◌≡◌, ◌<◌, ◌+◌, ◌∷◌, [], IfOk, OnOk, length, true, false};
+ghost use Rattle.std.specs.Prelude.{◌≡◌, ◌<◌, ◌+◌, ◌^◌, ◌∷◌, [], IfOk, OnOk, length, true, false};
 ghost use Rattle.superstep_code.specs.declared.instr.Instr.TheVariants.{Send, Reply, Halt};
 ghost use Rattle.plain_form.specs.Shapes as shapes;
 ghost use Rattle.straight_lowering.specs.Written.{added, wrote, patched};
 
-use crate::refusal::LowerRefusal;
-use std::alloc::Global;
+use std::alloc::{AllocError, Global};
 use std::marker::Model;
 use superstep_code::Instr;
-
-const MOST: usize = 65_535;
 
 /// The instructions so far, and whether a write is held behind them.
 #[derive(Drop)]
@@ -28,13 +25,11 @@ impl Model for Emitter {
 }
 
 /// A number of a register, a declaration or an instruction, as code has it.
-pub fn short(number: usize) -> Result<u16, LowerRefusal>
-    ensures { IfOk result (λ n. n ≡ number) }
+pub fn short(number: usize) -> u16
+    requires { number < 2 ^ 16 }
+    ensures { result ≡ number }
 {
-    if number > MOST {
-        return Err(LowerRefusal::TooLong);
-    }
-    Ok(number as u16)
+    number as u16
 }
 
 impl Emitter {
@@ -57,7 +52,7 @@ impl Emitter {
         instructions
     }
 
-    pub fn push(&mut self, instr: Instr) -> Result<(), LowerRefusal>
+    pub fn push(&mut self, instr: Instr) -> Result<(), AllocError>
         ensures { OnOk result (self.new ≡ added (instr ∷ []) self.old) }
     {
         self.instructions.push(instr)?;
@@ -65,23 +60,25 @@ impl Emitter {
     }
 
     /// Where the next instruction will stand.
-    pub fn place(&self) -> Result<u16, LowerRefusal>
-        ensures { IfOk result (λ n. n ≡ length self.now.instructions) }
+    pub fn place(&self) -> u16
+        requires { length self.now.instructions < 2 ^ 16 }
+        ensures { result ≡ length self.now.instructions }
     {
         short(self.instructions.len())
     }
 
     /// The place behind so many instructions more.
-    pub fn place_behind(&self, more: usize) -> Result<u16, LowerRefusal>
-        requires { more < 8 }
-        ensures { IfOk result (λ n. n ≡ length self.now.instructions + more) }
+    pub fn place_behind(&self, more: usize) -> u16
+        requires few { more < 8 }
+        requires room { length self.now.instructions + more < 2 ^ 16 }
+        ensures { result ≡ length self.now.instructions + more }
     {
-        let next = self.place()?;
+        let next = self.place();
         short(next as usize + more)
     }
 
     /// Leaves a place for an instruction that comes to be known later.
-    pub fn gap(&mut self) -> Result<usize, LowerRefusal>
+    pub fn gap(&mut self) -> Result<usize, AllocError>
         ensures place { IfOk result (λ n. n ≡ length self.old.instructions) }
         ensures added { OnOk result (self.new ≡ added (Halt ∷ []) self.old) }
     {
@@ -99,7 +96,7 @@ impl Emitter {
     }
 
     /// Sends the write that is held.
-    pub fn flush(&mut self) -> Result<(), LowerRefusal>
+    pub fn flush(&mut self) -> Result<(), AllocError>
         ensures { OnOk result (self.new ≡ wrote (shapes.flush self.old.held) false self.old) }
     {
         if self.held {
@@ -110,7 +107,7 @@ impl Emitter {
     }
 
     /// A statement begins.
-    pub(crate) fn mark(&mut self, line: u32) -> Result<(), LowerRefusal>
+    pub(crate) fn mark(&mut self, line: u32) -> Result<(), AllocError>
         ensures { OnOk result (self.new ≡ added (shapes.begun true self.old.held line) self.old) }
     {
         self.push(Instr::Mark { line })?;
@@ -121,7 +118,7 @@ impl Emitter {
     }
 
     /// The exchanges of a group of reads.
-    pub(crate) fn exchange(&mut self) -> Result<(), LowerRefusal>
+    pub(crate) fn exchange(&mut self) -> Result<(), AllocError>
         ensures { OnOk result (self.new ≡ wrote (Send ∷ Reply ∷ []) false self.old) }
     {
         self.push(Instr::Send)?;
@@ -131,7 +128,7 @@ impl Emitter {
     }
 
     /// A write, which is held from here on.
-    pub(crate) fn hold(&mut self, write: Instr) -> Result<(), LowerRefusal>
+    pub(crate) fn hold(&mut self, write: Instr) -> Result<(), AllocError>
         ensures { OnOk result (self.new ≡ wrote (write ∷ []) true self.old) }
     {
         self.push(write)?;

@@ -8,7 +8,6 @@ mod emitter;
 mod operator;
 mod ranges;
 mod reads;
-mod refusal;
 mod region;
 mod values;
 
@@ -17,5 +16,4 @@ pub use conditions::{flagged, flags, masked, parted, tested};
 pub use cursor::next_register;
 pub use emitter::{Emitter, short};
 pub use ranges::{Turns, bounds, entered, setting, turns_from};
-pub use refusal::LowerRefusal;
 pub use region::{local, variable};

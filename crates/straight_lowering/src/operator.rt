@@ -7,8 +7,8 @@ ghost use Rattle.straight_lowering.specs.Operators as spec;
 ghost use Rattle.superstep_code.specs.declared.instr.Instr.TheVariants as Instr;
 
 use crate::emitter::Emitter;
-use crate::refusal::LowerRefusal;
 use pram_syntax::{Binary, Prefix};
+use std::alloc::AllocError;
 use superstep_code::{Arithmetic, Instr, Side, Truth};
 
 /// What an operation works on: the registers of a side, and its position.
@@ -29,7 +29,7 @@ pub(crate) fn before(
     destination: u16,
     source: u16,
     position: u32,
-) -> Result<(), LowerRefusal>
+) -> Result<(), AllocError>
     ensures { OnOk result (out.new ≡ added (before_code side operator destination source position) out.old) }
 {
     out.push(match operator {
@@ -119,7 +119,7 @@ impl Operation {
     }
 
     /// An operator between the values of two registers.
-    pub(crate) fn between(self, out: &mut Emitter, operator: Binary) -> Result<(), LowerRefusal>
+    pub(crate) fn between(self, out: &mut Emitter, operator: Binary) -> Result<(), AllocError>
         ensures { OnOk result (out.new ≡ added
             (between_code self.side operator self.destination self.left self.right self.position) out.old) }
     {

@@ -1,19 +1,20 @@
 //! Bounds: of a `for` and a pardo, and the settings of a `for`.
 
-ghost use Rattle.std.specs.Prelude.{◌≡◌, OnOk, IfOk, true, false};
+ghost use Rattle.std.specs.Prelude.{◌≡◌, ◌+◌, ◌<◌, ◌^◌, OnOk, true, false};
 ghost use Rattle.plain_form.specs.Formulas.{formula_of};
 ghost use Rattle.plain_form.specs.Formulas as formulas;
 ghost use Rattle.plain_form.specs.Registers as registers;
 ghost use Rattle.plain_form.specs.Shapes as shapes;
+ghost use Rattle.straight_lowering.specs.Room.{IsRoomFor};
 ghost use Rattle.straight_lowering.specs.Straight as straight;
 ghost use Rattle.straight_lowering.specs.Written.{wrote};
 
 use crate::cursor::{next_number, next_register};
 use crate::emitter::Emitter;
-use crate::refusal::LowerRefusal;
 use crate::region::{INDEX, variable};
 use crate::values::{Operands, count};
 use pram_check::Expression;
+use std::alloc::AllocError;
 use superstep_code::{Arithmetic, Instr, Side, Truth};
 
 /// The uniform registers of an open `for`.
@@ -26,23 +27,24 @@ pub struct Turns {
 }
 
 /// Those from the first that is free on.
-pub fn turns_from(free: u16) -> Result<Turns, LowerRefusal>
-    ensures { IfOk result (λ t. t ≡ record {
+pub fn turns_from(free: u16) -> Turns
+    requires { free + 3 < 2 ^ 16 }
+    ensures { result ≡ record {
       turn = registers.turn free;
       high = registers.high free;
       more = registers.more free;
       behind = registers.behind_turns free;
-    }) }
+    } }
 {
-    let high = next_register(free)?;
-    let more = next_register(high)?;
-    let behind = next_register(more)?;
-    Ok(Turns {
+    let high = next_register(free);
+    let more = next_register(high);
+    let behind = next_register(more);
+    Turns {
         turn: free,
         high,
         more,
         behind,
-    })
+    }
 }
 
 /// The bounds of a `for`, and whether there is a first turn.
@@ -52,7 +54,8 @@ pub fn bounds(
     low: &Expression,
     high: &Expression,
     turns: Turns,
-) -> Result<(), LowerRefusal>
+) -> Result<(), AllocError>
+    requires room { IsRoomFor (formulas.Pair (formula_of low.now) (formula_of high.now)) turns.behind }
     ensures { OnOk result (out.new ≡ wrote
         (straight.bounds out.old.held line turns (formula_of low.now) (formula_of high.now)) false out.old) }
 {
@@ -84,15 +87,11 @@ pub fn bounds(
 }
 
 /// A setting of the variable of a `for`.
-pub fn setting(
-    out: &mut Emitter,
-    line: u32,
-    number: usize,
-    turns: Turns,
-) -> Result<(), LowerRefusal>
+pub fn setting(out: &mut Emitter, line: u32, number: usize, turns: Turns) -> Result<(), AllocError>
+    requires { number + 1 < 2 ^ 16 }
     ensures { OnOk result (out.new ≡ wrote (straight.setting out.old.held line turns number) out.old.held out.old) }
 {
-    let destination = variable(number)?;
+    let destination = variable(number);
     out.mark(line)?;
     out.push(Instr::Copy {
         side: Side::Uniform,
@@ -123,13 +122,14 @@ pub fn entered(
     low: &Expression,
     high: &Expression,
     free: u16,
-) -> Result<(), LowerRefusal>
+) -> Result<(), AllocError>
+    requires room { IsRoomFor (formulas.Pair (formula_of low.now) (formula_of high.now)) free }
     ensures { OnOk result (out.new ≡ wrote
         (shapes.entered true out.old.held line free (formula_of low.now) (formula_of high.now))
         (shapes.still out.old.held (formulas.Pair (formula_of low.now) (formula_of high.now))) out.old) }
 {
     let values = count(out, Side::Uniform, line, Operands::Both(low, high), free)?;
-    let position = next_number(values.behind.position)?;
+    let position = next_number(values.behind.position);
     out.push(Instr::Enter {
         low: values.first,
         high: values.second,

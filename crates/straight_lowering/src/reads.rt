@@ -1,18 +1,19 @@
 //! The reads of an expression, level by level.
 
-ghost use Rattle.std.specs.Prelude.{◌≡◌, ◌∷◌, [], IfOk, OnOk, max};
+ghost use Rattle.std.specs.Prelude.{◌≡◌, ◌∷◌, [], IfOk, OnOk, max, ◌+◌, ◌<◌, ◌^◌};
 ghost use Rattle.superstep_code.specs.declared.instr.Instr.TheVariants.{Ask};
 ghost use Rattle.plain_form.specs.Formulas as formulas;
 ghost use Rattle.plain_form.specs.Formulas.{formula_of};
 ghost use Rattle.plain_form.specs.Groups as groups;
 ghost use Rattle.straight_lowering.specs.Depths.{depth_of, read_depth, cell_asks};
+ghost use Rattle.straight_lowering.specs.Room.{HasRoom};
 ghost use Rattle.straight_lowering.specs.Written.{added};
 
 use crate::cursor::{Cursor, next_number};
 use crate::emitter::{Emitter, short};
-use crate::refusal::LowerRefusal;
 use crate::region::region;
 use pram_check::Expression;
+use std::alloc::AllocError;
 use superstep_code::{Instr, Side};
 
 /// The register that stays 0.
@@ -26,28 +27,29 @@ pub(crate) fn greater(a: u32, b: u32) -> u32
 }
 
 /// How deep reads nest in subscripts of reads.
-#[tactic(auto, using(crate::proofs::Chains::so_far_none, crate::proofs::Chains::so_far_more, crate::proofs::Chains::so_far_all))]
-pub(crate) fn nesting(e: &Expression) -> Result<u32, LowerRefusal>
-    ensures { IfOk result (λ n. n ≡ formulas.nesting (formula_of e.now)) }
+#[tactic(auto, using(crate::proofs::Chains::so_far_none, crate::proofs::Chains::so_far_more, crate::proofs::Chains::so_far_all, crate::proofs::Rooms::nesting_reads))]
+pub(crate) fn nesting(e: &Expression) -> u32
+    requires { formulas.reads (formula_of e.now) + 1 < 2 ^ 32 }
+    ensures { result ≡ formulas.nesting (formula_of e.now) }
 {
     match e {
-        Expression::Number(_) => Ok(0),
-        Expression::Uniform(_) => Ok(0),
-        Expression::Index => Ok(0),
-        Expression::Local(_) => Ok(0),
-        Expression::Cell(_) => Ok(1),
+        Expression::Number(_) => 0,
+        Expression::Uniform(_) => 0,
+        Expression::Index => 0,
+        Expression::Local(_) => 0,
+        Expression::Cell(_) => 1,
         Expression::Element(_, subscript) => {
-            let inner = nesting(subscript)?;
+            let inner = nesting(subscript);
             next_number(inner)
         }
         Expression::Prefix(_, operand) => nesting(operand),
         Expression::Chain(first, links) => {
-            let mut most = nesting(first)?;
+            let mut most = nesting(first);
             for link in links {
-                let operand = nesting(&link.operand)?;
+                let operand = nesting(&link.operand);
                 most = greater(most, operand);
             }
-            Ok(most)
+            most
         }
     }
 }
@@ -60,12 +62,16 @@ pub(crate) struct Depth {
 }
 
 // The read behind a subscript.
-fn behind_subscript(inner: Depth) -> Result<Depth, LowerRefusal>
-    ensures { IfOk result (λ d. d ≡ read_depth inner) }
+fn behind_subscript(inner: Depth) -> Depth
+    requires register { inner.behind.read + 1 < 2 ^ 16 }
+    requires position { inner.behind.position + 1 < 2 ^ 32 }
+    requires nesting { inner.nesting + 1 < 2 ^ 32 }
+    ensures { result ≡ read_depth inner }
 {
-    let behind = inner.behind.behind_read()?;
-    let nesting = next_number(inner.nesting)?;
-    Ok(Depth { nesting, behind })
+    Depth {
+        nesting: next_number(inner.nesting),
+        behind: inner.behind.behind_read(),
+    }
 }
 
 // A read of a cell at a subscript.
@@ -76,10 +82,11 @@ fn ask(
     subscript: u16,
     destination: u16,
     position: u32,
-) -> Result<(), LowerRefusal>
+) -> Result<(), AllocError>
+    requires { entry < 2 ^ 16 }
     ensures { OnOk result (out.new ≡ added (Ask side destination entry subscript position ∷ []) out.old) }
 {
-    let entry = short(entry)?;
+    let entry = short(entry);
     out.push(Instr::Ask {
         side,
         destination,
@@ -105,11 +112,14 @@ fn ask_cell(
     level: u32,
     entry: usize,
     at: Cursor,
-) -> Result<Depth, LowerRefusal>
+) -> Result<Depth, AllocError>
+    requires entry { entry < 2 ^ 16 }
+    requires register { at.read + 1 < 2 ^ 16 }
+    requires position { at.position + 1 < 2 ^ 32 }
     ensures written { IfOk result (λ d. out.new ≡ added (cell_asks side level entry at) out.old) }
     ensures depth { IfOk result (λ d. d ≡ depth_of (formulas.Read entry formulas.Zero) at) }
 {
-    let behind = at.behind_read()?;
+    let behind = at.behind_read();
     if level == 0 {
         ask(out, side, entry, ZERO, at.read, behind.position)?;
     }
@@ -118,7 +128,7 @@ fn ask_cell(
 
 /// The asks of the reads with so many reads nested in their subscripts, each behind its subscript.
 /// The stack begins at `base`.
-#[tactic(auto, using(crate::proofs::Chains::so_far_none, crate::proofs::Chains::so_far_more, crate::proofs::Chains::so_far_all))]
+#[tactic(auto, using(crate::proofs::Chains::so_far_none, crate::proofs::Chains::so_far_more, crate::proofs::Chains::so_far_all, crate::proofs::Rooms::nesting_reads))]
 pub(crate) fn asks(
     out: &mut Emitter,
     side: Side,
@@ -126,7 +136,8 @@ pub(crate) fn asks(
     e: &Expression,
     at: Cursor,
     base: u16,
-) -> Result<Depth, LowerRefusal>
+) -> Result<Depth, AllocError>
+    requires room { HasRoom (formula_of e.now) at.read base at.position }
     ensures written { IfOk result (λ d. out.new ≡ added (groups.asks side level (formula_of e.now) at.read base at.position) out.old) }
     ensures depth { IfOk result (λ d. d ≡ depth_of (formula_of e.now) at) }
 {
@@ -138,7 +149,7 @@ pub(crate) fn asks(
         Expression::Cell(entry) => ask_cell(out, side, level, *entry, at),
         Expression::Element(entry, subscript) => {
             let inner = asks(out, side, level, subscript, at, base)?;
-            let depth = behind_subscript(inner)?;
+            let depth = behind_subscript(inner);
             if inner.nesting == level {
                 let value = region(out, side, subscript, at, base)?;
                 let read = value.behind;
@@ -155,7 +166,7 @@ pub(crate) fn asks(
         }
         Expression::Prefix(_, operand) => {
             let inner = asks(out, side, level, operand, at, base)?;
-            let behind = inner.behind.behind_operator()?;
+            let behind = inner.behind.behind_operator();
             Ok(Depth {
                 nesting: inner.nesting,
                 behind,
@@ -165,7 +176,7 @@ pub(crate) fn asks(
             let mut left = asks(out, side, level, first, at, base)?;
             for link in links {
                 let right = asks(out, side, level, &link.operand, left.behind, base)?;
-                let behind = right.behind.behind_operator()?;
+                let behind = right.behind.behind_operator();
                 left = Depth {
                     nesting: greater(left.nesting, right.nesting),
                     behind,

@@ -1,17 +1,18 @@
 //! The code of what stands around the reads of an expression, on a stack of registers.
 
-ghost use Rattle.std.specs.Prelude.{◌≡◌, IfOk};
+ghost use Rattle.std.specs.Prelude.{◌≡◌, ◌+◌, ◌<◌, ◌^◌, IfOk};
 ghost use Rattle.plain_form.specs.Formulas.{formula_of};
 ghost use Rattle.plain_form.specs.Registers as registers;
 ghost use Rattle.plain_form.specs.Regions as regions;
 ghost use Rattle.straight_lowering.specs.Cursors.{behind};
+ghost use Rattle.straight_lowering.specs.Room.{HasRoom};
 ghost use Rattle.straight_lowering.specs.Written.{added};
 
 use crate::cursor::{Cursor, next_register, passed};
 use crate::emitter::{Emitter, short};
 use crate::operator::{Operation, before};
-use crate::refusal::LowerRefusal;
 use pram_check::Expression;
+use std::alloc::AllocError;
 use superstep_code::{Instr, Side};
 
 pub(crate) const INDEX: u16 = 1;
@@ -24,27 +25,28 @@ pub(crate) struct Found {
 }
 
 /// The register of a uniform variable.
-pub fn variable(number: usize) -> Result<u16, LowerRefusal>
-    ensures { IfOk result (λ r. r ≡ registers.variable number) }
+pub fn variable(number: usize) -> u16
+    requires { number + 1 < 2 ^ 16 }
+    ensures { result ≡ registers.variable number }
 {
-    let register = short(number)?;
-    next_register(register)
+    next_register(short(number))
 }
 
 /// The private register of a local.
-pub fn local(number: usize) -> Result<u16, LowerRefusal>
-    ensures { IfOk result (λ r. r ≡ registers.local number) }
+pub fn local(number: usize) -> u16
+    requires { number + 2 < 2 ^ 16 }
+    ensures { result ≡ registers.local number }
 {
-    let register = variable(number)?;
-    next_register(register)
+    next_register(variable(number))
 }
 
 // A uniform variable, which is copied inside pardo, to a register of the stack.
-fn uniform(out: &mut Emitter, side: Side, number: usize, base: u16) -> Result<u16, LowerRefusal>
+fn uniform(out: &mut Emitter, side: Side, number: usize, base: u16) -> Result<u16, AllocError>
+    requires { number + 1 < 2 ^ 16 }
     ensures register { IfOk result (λ r. r ≡ regions.variable_at side number base) }
     ensures written { IfOk result (λ r. out.new ≡ added (regions.variable_code side number base) out.old) }
 {
-    let source = variable(number)?;
+    let source = variable(number);
     match side {
         Side::Uniform => Ok(source),
         Side::Private => {
@@ -65,7 +67,8 @@ pub(crate) fn region(
     e: &Expression,
     at: Cursor,
     base: u16,
-) -> Result<Found, LowerRefusal>
+) -> Result<Found, AllocError>
+    requires room { HasRoom (formula_of e.now) at.read base at.position }
     ensures written { IfOk result (λ r. out.new ≡ added (regions.region side (formula_of e.now) at.read base at.position) out.old) }
     ensures register { IfOk result (λ r. r.register ≡ regions.place side (formula_of e.now) at.read base) }
     ensures behind { IfOk result (λ r. r.behind ≡ behind (formula_of e.now) at) }
@@ -94,22 +97,22 @@ pub(crate) fn region(
             behind: at,
         }),
         Expression::Local(number) => {
-            let register = local(*number)?;
+            let register = local(*number);
             Ok(Found {
                 register,
                 behind: at,
             })
         }
         Expression::Cell(_) => {
-            let behind = at.behind_read()?;
+            let behind = at.behind_read();
             Ok(Found {
                 register: at.read,
                 behind,
             })
         }
         Expression::Element(_, subscript) => {
-            let inner = passed(subscript, at)?;
-            let behind = inner.behind_read()?;
+            let inner = passed(subscript, at);
+            let behind = inner.behind_read();
             Ok(Found {
                 register: inner.read,
                 behind,
@@ -117,7 +120,7 @@ pub(crate) fn region(
         }
         Expression::Prefix(operator, operand) => {
             let value = region(out, side, operand, at, base)?;
-            let behind = value.behind.behind_operator()?;
+            let behind = value.behind.behind_operator();
             before(out, side, *operator, base, value.register, behind.position)?;
             Ok(Found {
                 register: base,
@@ -125,11 +128,11 @@ pub(crate) fn region(
             })
         }
         Expression::Chain(first, links) => {
-            let above = next_register(base)?;
+            let above = next_register(base);
             let mut left = region(out, side, first, at, base)?;
             for link in links {
                 let right = region(out, side, &link.operand, left.behind, above)?;
-                let behind = right.behind.behind_operator()?;
+                let behind = right.behind.behind_operator();
                 let operation = Operation {
                     side,
                     destination: base,

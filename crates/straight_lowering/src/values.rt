@@ -1,20 +1,21 @@
 //! The code of what a statement evaluates: its reads by level, and then what stands around them.
 
-ghost use Rattle.std.specs.Prelude.{◌≡◌, IfOk, OnOk, true};
+ghost use Rattle.std.specs.Prelude.{◌≡◌, ◌+◌, ◌<◌, ◌^◌, IfOk, OnOk, true};
 ghost use Rattle.plain_form.specs.Formulas as formulas;
 ghost use Rattle.plain_form.specs.Groups as groups;
 ghost use Rattle.plain_form.specs.Regions as regions;
 ghost use Rattle.plain_form.specs.Shapes as shapes;
 ghost use Rattle.straight_lowering.specs.Cursors.{behind};
 ghost use Rattle.straight_lowering.specs.Operands.{formula, second_place, held_behind};
+ghost use Rattle.straight_lowering.specs.Room.{HasRoom, IsRoomFor};
 ghost use Rattle.straight_lowering.specs.Written.{added, wrote};
 
 use crate::cursor::{Cursor, next_register, passed};
 use crate::emitter::Emitter;
 use crate::reads::{ZERO, asks, greater, nesting};
-use crate::refusal::LowerRefusal;
 use crate::region::region;
 use pram_check::Expression;
+use std::alloc::AllocError;
 use superstep_code::Side;
 
 /// What a statement evaluates.
@@ -37,29 +38,28 @@ pub(crate) struct Values {
 }
 
 // How deep reads nest in subscripts of reads.
-pub(crate) fn depth(operands: Operands) -> Result<u32, LowerRefusal>
-    ensures { IfOk result (λ n. n ≡ formulas.nesting (formula operands.entry)) }
+pub(crate) fn depth(operands: Operands) -> u32
+    requires { formulas.reads (formula operands) + 1 < 2 ^ 32 }
+    ensures { result ≡ formulas.nesting (formula operands.entry) }
 {
     match operands {
         Operands::Value(e) => nesting(e),
         Operands::ForCell(e) => nesting(e),
-        Operands::Both(e, f) => {
-            let first = nesting(e)?;
-            let second = nesting(f)?;
-            Ok(greater(first, second))
-        }
+        Operands::Both(e, f) => greater(nesting(e), nesting(f)),
     }
 }
 
 // Behind all of it.
-fn behind_all(operands: Operands, at: Cursor) -> Result<Cursor, LowerRefusal>
-    ensures { IfOk result (λ r. r ≡ behind (formula operands.entry) at) }
+fn behind_all(operands: Operands, at: Cursor) -> Cursor
+    requires registers { at.read + formulas.reads (formula operands) < 2 ^ 16 }
+    requires numbers { at.position + formulas.positions (formula operands) < 2 ^ 32 }
+    ensures { result ≡ behind (formula operands.entry) at }
 {
     match operands {
         Operands::Value(e) => passed(e, at),
         Operands::ForCell(e) => passed(e, at),
         Operands::Both(e, f) => {
-            let first = passed(e, at)?;
+            let first = passed(e, at);
             passed(f, first)
         }
     }
@@ -73,7 +73,8 @@ fn level_asks(
     operands: Operands,
     at: Cursor,
     base: u16,
-) -> Result<(), LowerRefusal>
+) -> Result<(), AllocError>
+    requires room { HasRoom (formula operands) at.read base at.position }
     ensures { OnOk result (out.new ≡ added (groups.asks side level (formula operands.entry) at.read base at.position) out.old) }
 {
     match operands {
@@ -99,7 +100,8 @@ fn gather(
     operands: Operands,
     base: u16,
     stack: u16,
-) -> Result<(), LowerRefusal>
+) -> Result<(), AllocError>
+    requires room { HasRoom (formula operands) base stack 0 }
     ensures { OnOk result (out.new ≡ wrote
         (groups.groups side levels 0 (formula operands.entry) base stack) (held_behind out.old.held levels) out.old) }
 {
@@ -121,7 +123,8 @@ fn regions(
     operands: Operands,
     at: Cursor,
     base: u16,
-) -> Result<Values, LowerRefusal>
+) -> Result<Values, AllocError>
+    requires room { HasRoom (formula operands) at.read base at.position }
     ensures written { IfOk result (λ v. out.new ≡ added (regions.region side (formula operands.entry) at.read base at.position) out.old) }
     ensures first { IfOk result (λ v. v.first ≡ regions.place side (formula operands.entry) at.read base) }
     ensures second { IfOk result (λ v. v.second ≡ second_place side operands.entry at.read base) }
@@ -137,7 +140,7 @@ fn regions(
             })
         }
         Operands::ForCell(e) => {
-            let above = next_register(base)?;
+            let above = next_register(base);
             let found = region(out, side, e, at, above)?;
             Ok(Values {
                 first: ZERO,
@@ -146,7 +149,7 @@ fn regions(
             })
         }
         Operands::Both(e, f) => {
-            let above = next_register(base)?;
+            let above = next_register(base);
             let first = region(out, side, e, at, base)?;
             let second = region(out, side, f, first.behind, above)?;
             Ok(Values {
@@ -164,7 +167,8 @@ pub(crate) fn evaluate(
     side: Side,
     operands: Operands,
     base: u16,
-) -> Result<Values, LowerRefusal>
+) -> Result<Values, AllocError>
+    requires room { IsRoomFor (formula operands) base }
     ensures written { IfOk result (λ v. out.new ≡ wrote
         (groups.evaluated side base (formula operands.entry)) (shapes.still out.old.held (formula operands.entry)) out.old) }
     ensures first { IfOk result (λ v. v.first ≡ groups.value_at side base (formula operands.entry)) }
@@ -175,8 +179,8 @@ pub(crate) fn evaluate(
         read: base,
         position: 0,
     };
-    let levels = depth(operands)?;
-    let stack = behind_all(operands, start)?;
+    let levels = depth(operands);
+    let stack = behind_all(operands, start);
     gather(out, side, levels, operands, base, stack.read)?;
     regions(out, side, operands, start, stack.read)
 }
@@ -188,7 +192,8 @@ pub(crate) fn count(
     line: u32,
     operands: Operands,
     base: u16,
-) -> Result<Values, LowerRefusal>
+) -> Result<Values, AllocError>
+    requires room { IsRoomFor (formula operands) base }
     ensures written { IfOk result (λ v. out.new ≡ wrote
         (shapes.counted true out.old.held line side base (formula operands.entry))
         (shapes.still out.old.held (formula operands.entry)) out.old) }
