@@ -7,7 +7,7 @@ ghost use Rattle.compiling.specs.Compiled.{IsCodeOf, IsCompiledFrom};
 
 use bsp_verify::Verified;
 use fusing::fuse;
-use lowering::{LowerRefusal, lower};
+use lowering::lower;
 use pram_check::Program;
 use pramc::{Refusal, read_program};
 use std::alloc::{AllocError, Global};
@@ -20,12 +20,7 @@ pub fn compile_program(alloc: Global, program: &Program) -> Result<Verified, All
     ensures code { IfOk result (λ code. IsCodeOf program.now code) }
     ensures meaning { IfOk result (λ code. IsFusedForm program.now code) }
 {
-    program.bounded();
-    // Code of an accepted program is never too long (`formed_code::law::forms_are_code`).
-    let plain = match lower(alloc, program) {
-        Ok(plain) => plain,
-        Err(LowerRefusal::OutOfMemory | LowerRefusal::TooLong) => return Err(AllocError),
-    };
+    let plain = lower(alloc, program)?;
     match fuse(alloc, plain) {
         Ok(code) => Ok(code),
         Err((refused, _plain)) => Err(refused),

@@ -82,7 +82,7 @@ on_ok (Ok u) f p = f p
 on_ok (Err x) f p = p
 
 -- the same length, with another instruction
-length_of_patched : (at : ℕ) (i : Instr) (w : Written) → length (patched at i w).instructions ≡ length w.instructions
+pub length_of_patched : (at : ℕ) (i : Instr) (w : Written) → length (patched at i w).instructions ≡ length w.instructions
 length_of_patched at i w = length-set w.instructions at i
 
 -- the turns of a `for`

@@ -1,16 +1,14 @@
 -- The code of statements outside pardo, whose parts are lists.
 use Rattle.std.specs.Prelude.{ℕ, ◌+◌, Bool, true, false, List, [], ◌∷◌, ◌++◌, length}
 use Rattle.superstep_code.specs.declared.instr.Side.TheVariants.{Uniform}
-use Rattle.superstep_code.specs.declared.instr.Arithmetic.TheVariants as arithmetic
-use Rattle.superstep_code.specs.declared.instr.Truth.TheVariants as truth
 use Rattle.superstep_code.specs.declared.instr.Instr.{Instr}
-use Rattle.superstep_code.specs.declared.instr.Instr.TheVariants.{Copy, Calculate, Decide, Jump, JumpIfZero}
+use Rattle.superstep_code.specs.declared.instr.Instr.TheVariants.{Jump, JumpIfZero}
 use Rattle.pram_names.specs.declared.body.Step.{Step}
 use Rattle.pram_names.specs.declared.body.Statement.{Statement}
-use Rattle.plain_form.specs.Registers.{variable, behind_locals}
+use Rattle.plain_form.specs.Registers.{behind_locals}
 use Rattle.plain_form.specs.Formulas.{Formula, Pair}
-use Rattle.plain_form.specs.Groups.{value_at, first_at, second_at}
-use Rattle.plain_form.specs.Shapes.{still, flush, begun, counted, sent, looped, turned, pardo_code}
+use Rattle.plain_form.specs.Groups.{value_at}
+use Rattle.plain_form.specs.Shapes.{still, flush, counted, sent, looped, turned, pardo_code}
 use Rattle.plain_form.specs.Inside.{steps_code, steps_left}
 use Rattle.plain_form.specs.Outside.{statements_code, statements_left}
 use Rattle.straight_lowering.specs.declared.ranges.Turns.{Turns}

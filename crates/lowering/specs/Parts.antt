@@ -1,11 +1,9 @@
 -- The code of statements with parts, whose parts are lists.
 use Rattle.std.specs.Prelude.{ℕ, ◌+◌, Bool, true, false, List, [], ◌∷◌, ◌++◌, length}
-use Rattle.superstep_code.specs.declared.instr.Side.TheVariants.{Private}
 use Rattle.superstep_code.specs.declared.instr.Instr.{Instr}
-use Rattle.superstep_code.specs.declared.instr.Instr.TheVariants.{Copy, Mask, Unmask, Vote}
+use Rattle.superstep_code.specs.declared.instr.Instr.TheVariants.{Unmask}
 use Rattle.pram_names.specs.declared.body.Step.{Step}
 use Rattle.plain_form.specs.Formulas.{Formula}
-use Rattle.plain_form.specs.Groups.{value_at}
 use Rattle.plain_form.specs.Shapes as shapes
 use Rattle.plain_form.specs.Shapes.{still, counted, sent, looped, flipped}
 use Rattle.plain_form.specs.Inside.{Frame, steps_code, steps_left}

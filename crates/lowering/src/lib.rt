@@ -7,4 +7,3 @@ mod outside;
 mod program;
 
 pub use program::lower;
-pub use straight_lowering::LowerRefusal;

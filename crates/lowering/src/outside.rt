@@ -1,6 +1,6 @@
 //! The code of statements outside pardo.
 
-ghost use Rattle.std.specs.Prelude.{◌≡◌, ◌<◌, ◌+◌, OnOk, IfOk, length, true, false};
+ghost use Rattle.std.specs.Prelude.{◌≡◌, ◌<◌, ◌+◌, ◌^◌, OnOk, IfOk, length, true, false};
 ghost use Rattle.plain_form.specs.Formulas.{formula_of};
 ghost use Rattle.plain_form.specs.Formulas as formulas;
 ghost use Rattle.plain_form.specs.Groups as groups;
@@ -8,14 +8,16 @@ ghost use Rattle.plain_form.specs.Outside as outside;
 ghost use Rattle.plain_form.specs.Registers as registers;
 ghost use Rattle.plain_form.specs.Shapes as shapes;
 ghost use Rattle.lowering.specs.Blocks as blocks;
+ghost use Rattle.lowering.specs.Room.{StepsHaveRoom, StatementHasRoom, StatementsHaveRoom};
 ghost use Rattle.superstep_code.specs.declared.instr.Side.TheVariants as Side;
+ghost use Rattle.straight_lowering.specs.Room.{IsRoomFor};
 ghost use Rattle.straight_lowering.specs.Written.{wrote};
 
 use crate::inside::steps;
 use pram_check::{Expression, Statement, Step};
+use std::alloc::AllocError;
 use straight_lowering::{
-    Emitter, LowerRefusal, Turns, assign, bounds, entered, local, parted, print, setting, short,
-    tested, turns_from,
+    Emitter, Turns, assign, bounds, entered, local, parted, print, setting, tested, turns_from,
 };
 use superstep_code::Instr;
 
@@ -28,12 +30,17 @@ fn pardo(
     locals: usize,
     body: &Vec<Step>,
     free: u16,
-) -> Result<(), LowerRefusal>
+) -> Result<(), AllocError>
+    requires bounds { IsRoomFor (formulas.Pair (formula_of low.now) (formula_of high.now)) free }
+    requires locals { locals + 2 < 2 ^ 16 }
+    requires body { StepsHaveRoom (registers.behind_locals locals) body.now.items }
+    requires short { length out.old.instructions + length
+        (blocks.pardo free (length out.old.instructions) out.old.held line (formula_of low.now) (formula_of high.now) locals body.now.items) < 2 ^ 16 }
     ensures { OnOk result (out.new ≡ wrote
         (blocks.pardo free (length out.old.instructions) out.old.held line (formula_of low.now) (formula_of high.now) locals body.now.items)
         (blocks.pardo_left out.old.held (formula_of low.now) (formula_of high.now) body.now.items) out.old) }
 {
-    let base = local(locals)?;
+    let base = local(locals);
     entered(out, line, low, high, free)?;
     steps(out, body, free, base)?;
     out.push(Instr::Leave)
@@ -41,7 +48,10 @@ fn pardo(
 
 /// A statement outside pardo, with all that it holds. The uniform registers from `free` on are free.
 #[cycle(outside)]
-pub(crate) fn statement(out: &mut Emitter, s: &Statement, free: u16) -> Result<(), LowerRefusal>
+pub(crate) fn statement(out: &mut Emitter, s: &Statement, free: u16) -> Result<(), AllocError>
+    requires room { StatementHasRoom free s.now }
+    requires short { length out.old.instructions + length
+        (outside.code true free (length out.old.instructions) out.old.held s.now) < 2 ^ 16 }
     ensures { OnOk result (out.new ≡ wrote (outside.code true free (length out.old.instructions) out.old.held s.now)
         (outside.left out.old.held s.now) out.old) }
 {
@@ -71,7 +81,7 @@ pub(crate) fn statement(out: &mut Emitter, s: &Statement, free: u16) -> Result<(
             high,
             body,
         } => {
-            let turns = turns_from(free)?;
+            let turns = turns_from(free);
             bounds(out, *line, low, high, turns)?;
             for_turns(out, body, *line, *variable, turns)
         }
@@ -93,7 +103,11 @@ fn while_loop(
     line: u32,
     test: &Expression,
     free: u16,
-) -> Result<(), LowerRefusal>
+) -> Result<(), AllocError>
+    requires test { IsRoomFor (formula_of test.now) free }
+    requires body { StatementsHaveRoom free body.now.items }
+    requires short { length out.old.instructions + length
+        (blocks.while_loop free (length out.old.instructions) out.old.held line (formula_of test.now) body.now.items) < 2 ^ 16 }
     ensures { OnOk result (out.new ≡ wrote
         (blocks.while_loop free (length out.old.instructions) out.old.held line (formula_of test.now) body.now.items) false out.old) }
 {
@@ -109,16 +123,20 @@ fn while_turns(
     line: u32,
     test: &Expression,
     free: u16,
-) -> Result<(), LowerRefusal>
+) -> Result<(), AllocError>
+    requires test { IsRoomFor (formula_of test.now) free }
+    requires body { StatementsHaveRoom free body.now.items }
+    requires short { length out.old.instructions + length
+        (blocks.while_turns free (length out.old.instructions) out.old.held line (formula_of test.now) body.now.items) < 2 ^ 16 }
     ensures { OnOk result (out.new ≡ wrote
         (blocks.while_turns free (length out.old.instructions) out.old.held line (formula_of test.now) body.now.items) false out.old) }
 {
-    let head = out.place()?;
+    let head = out.place();
     let source = tested(out, line, test, free)?;
     let exit = out.gap()?;
     part(out, body, free)?;
     out.push(Instr::Jump { target: head })?;
-    let target = out.place()?;
+    let target = out.place();
     out.fill(exit, Instr::JumpIfZero { source, target });
     Ok(())
 }
@@ -131,15 +149,19 @@ fn for_turns(
     line: u32,
     number: usize,
     turns: Turns,
-) -> Result<(), LowerRefusal>
+) -> Result<(), AllocError>
+    requires variable { number + 1 < 2 ^ 16 }
+    requires body { StatementsHaveRoom turns.behind body.now.items }
+    requires short { length out.old.instructions + length
+        (blocks.for_turns (length out.old.instructions) out.old.held line turns number body.now.items) < 2 ^ 16 }
     ensures { OnOk result (out.new ≡ wrote
         (blocks.for_turns (length out.old.instructions) out.old.held line turns number body.now.items) false out.old) }
 {
     let exit = out.gap()?;
-    let head = out.place()?;
+    let head = out.place();
     setting(out, line, number, turns)?;
     part(out, body, turns.behind)?;
-    let end = out.place_behind(2)?;
+    let end = out.place_behind(2);
     let leave = Instr::JumpIfZero {
         source: turns.more,
         target: end,
@@ -158,16 +180,18 @@ fn joined(
     over: usize,
     source: u16,
     free: u16,
-) -> Result<(), LowerRefusal>
-    requires { over < length out.old.instructions }
+) -> Result<(), AllocError>
+    requires over { over < length out.old.instructions }
+    requires room { StatementsHaveRoom free else_part.now.items }
+    requires short { length (blocks.joined over source free else_part.now.items out.old).instructions < 2 ^ 16 }
     ensures { OnOk result (out.new ≡ blocks.joined over source free else_part.now.items out.old) }
 {
     if else_part.is_empty() {
-        let target = out.place()?;
+        let target = out.place();
         out.fill(over, Instr::JumpIfZero { source, target });
         return Ok(());
     }
-    let other = out.place_behind(1)?;
+    let other = out.place_behind(1);
     out.fill(
         over,
         Instr::JumpIfZero {
@@ -177,14 +201,17 @@ fn joined(
     );
     let end = out.gap()?;
     part(out, else_part, free)?;
-    let target = out.place()?;
+    let target = out.place();
     out.fill(end, Instr::Jump { target });
     Ok(())
 }
 
 // A part, and the send of what it holds.
 #[cycle(outside)]
-fn part(out: &mut Emitter, body: &Vec<Statement>, free: u16) -> Result<(), LowerRefusal>
+fn part(out: &mut Emitter, body: &Vec<Statement>, free: u16) -> Result<(), AllocError>
+    requires room { StatementsHaveRoom free body.now.items }
+    requires short { length out.old.instructions + length
+        (blocks.part free out.old.held body.now.items (length out.old.instructions)) < 2 ^ 16 }
     ensures { OnOk result (out.new ≡ wrote (blocks.part free out.old.held body.now.items (length out.old.instructions)) false out.old) }
 {
     block(out, body, free)?;
@@ -193,7 +220,10 @@ fn part(out: &mut Emitter, body: &Vec<Statement>, free: u16) -> Result<(), Lower
 
 // The statements of a part, in order.
 #[cycle(outside)]
-fn block(out: &mut Emitter, body: &Vec<Statement>, free: u16) -> Result<(), LowerRefusal>
+fn block(out: &mut Emitter, body: &Vec<Statement>, free: u16) -> Result<(), AllocError>
+    requires room { StatementsHaveRoom free body.now.items }
+    requires short { length out.old.instructions + length
+        (outside.statements_code true free (length out.old.instructions) out.old.held body.now.items) < 2 ^ 16 }
     ensures { OnOk result (out.new ≡ wrote
         (outside.statements_code true free (length out.old.instructions) out.old.held body.now.items)
         (outside.statements_left out.old.held body.now.items) out.old) }

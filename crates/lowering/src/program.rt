@@ -11,15 +11,17 @@ use crate::outside::statement;
 use bsp_verify::{Verified, VerifyFault, verify};
 use pram_check::Program;
 use pram_model::Layout;
-use std::alloc::Global;
-use straight_lowering::{Emitter, LowerRefusal, variable};
+use std::alloc::{AllocError, Global};
+use straight_lowering::{Emitter, variable};
 use superstep_code::{Code, Instr, Side};
 
 // The instructions of a program.
-fn instructions(alloc: Global, program: &Program) -> Result<Vec<Instr>, LowerRefusal>
+fn instructions(alloc: Global, program: &Program) -> Result<Vec<Instr>, AllocError>
+    requires bounded { IsBounded program.now }
+    requires resolved { IsResolved program.now }
     ensures { IfOk result (λ is. is.items ≡ instructions_of true program.now) }
 {
-    let free = variable(program.uniforms())?;
+    let free = variable(program.uniforms());
     let mut out = Emitter::new(alloc);
     for s in program.body() {
         statement(&mut out, s, free)?;
@@ -51,21 +53,21 @@ fn code(program: &Program, layout: Layout, instructions: Vec<Instr>) -> Code
 }
 
 // Code that is well formed, as verified.
-fn verified(alloc: Global, code: Code) -> Result<Verified, LowerRefusal>
+fn verified(alloc: Global, code: Code) -> Result<Verified, AllocError>
     requires { IsWellFormed code }
     ensures { IfOk result (λ verified. verified ≡ code) }
 {
     match verify(alloc, code) {
         Ok(verified) => Ok(verified),
-        Err((VerifyFault::OutOfMemory, _)) => Err(LowerRefusal::OutOfMemory),
+        Err((VerifyFault::OutOfMemory, _)) => Err(AllocError),
         Err((VerifyFault::NotVerified { .. }, _)) => unreachable!(),
     }
 }
 
 /// The code of an accepted program, instruction for instruction: with a send behind each mark where
-/// no write is held. It is well formed. E16 where memory was refused. `TooLong` where a register, a
-/// position or the target of a jump has no number in a listing.
-pub fn lower(alloc: Global, program: &Program) -> Result<Verified, LowerRefusal>
+/// no write is held. It is well formed. It fails for want of memory alone: each register, position
+/// and target of a jump has a number in a listing.
+pub fn lower(alloc: Global, program: &Program) -> Result<Verified, AllocError>
     ensures form { IfOk result (λ code. code ≡ form_of true program.now) }
 {
     program.bounded();
