@@ -20,6 +20,7 @@ pub fn compile_program(alloc: Global, program: &Program) -> Result<Verified, All
     ensures code { IfOk result (λ code. IsCodeOf program.now code) }
     ensures meaning { IfOk result (λ code. IsFusedForm program.now code) }
 {
+    program.bounded();
     let plain = lower(alloc, program)?;
     match fuse(alloc, plain) {
         Ok(code) => Ok(code),
