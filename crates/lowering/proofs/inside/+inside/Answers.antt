@@ -54,12 +54,12 @@ step-step_else-requires t c =
 
 pub steps-step-requires : goal.steps-step-requires
 steps-step-requires t c =
-    let items = c.deref-s-items.result.now in let i = c.loop-s.s-index in let s = c.s-item.result in (
+    let items = c.deref-s-items.result.now in let all = c.args.body.now.items in let same = c.deref-s-items.ensures.value in
+    let i = c.loop-s.s-index in let s = c.s-item.result in let here = c.loop-s-test.true in (
       search (rules, the_lemmas),
       (
-        room_of_each c.args.base items c.args.body.now.items i s c.deref-s-items.ensures.value c.loop-s-test.true c.s-item.is c.requires.room,
-        each_short c.args.vote c.args.base items c.args.body.now.items i s c.args.out.now c.loop-s.out c.deref-s-items.ensures.value c.loop-s.invariant c.loop-s-test.true c.s-item.is
-            c.requires.short,
+        room_of_each c.args.base items all i s same here c.s-item.is c.requires.room,
+        each_short c.args.vote c.args.base items all i s c.args.out.now c.loop-s.out same c.loop-s.invariant here c.s-item.is c.requires.short,
       ),
     )
 
