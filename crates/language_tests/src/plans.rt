@@ -1,6 +1,7 @@
 // Programs with the listings of their code, worked out by hand.
 
 use crate::rows::prints;
+use std::test::Fail;
 
 const SUM: &[u8] =
     b"rule crew; procs 1;\nvar i; var t;\nbegin\nfor i := 1 to 10 do\nt := t + i;\nend\nprint t;\nend\n";
@@ -239,8 +240,13 @@ fn plans_are_those_worked_by_hand(rt: HostRuntime) {
 }
 
 // A plan takes no option, and is refused as a check is.
-const REFUSED: [(&[&str], &[u8], &[u8]); 7] = [
+const REFUSED: [(&[&str], &[u8], &[u8]); 8] = [
     (&["plan", "nowhere"], b"", b"refused P2 nowhere\n"),
+    (
+        &["plan", "program"],
+        b"rule \xff",
+        b"refused E1 NotAscii at 5\n",
+    ),
     (&["plan", "program"], b"@", b"refused E3 BadToken at 0\n"),
     (&["plan", "program"], b"", b"refused E4 Syntax at 0\n"),
     (
@@ -270,4 +276,24 @@ fn plans_are_refused_as_checks(rt: HostRuntime) {
     for (words, text, line) in REFUSED {
         assert!(&rt; prints(rt.alloc(), words, text, b"", (b"", line, 2)));
     }
+}
+
+// So are a text that is too long and one that nests too deep.
+#[test]
+fn long_and_deep_texts_have_no_plan(rt: HostRuntime) -> Result<(), Fail> {
+    let alloc = rt.alloc();
+    let mut long = Vec::new(alloc);
+    for _ in 0..1_048_577 {
+        long.push(b' ')?;
+    }
+    let mut deep = Vec::from_slice(alloc, b"rule crew; procs 1; var x; begin x := ")?;
+    for _ in 0..65 {
+        deep.push(b'(')?;
+    }
+    let words = ["plan", "program"];
+    let refused: &[u8] = b"refused E2 TextTooLong\n";
+    assert!(&rt; prints(alloc, &words, long.as_slice(), b"", (b"", refused, 2)));
+    let refused: &[u8] = b"refused E5 TooDeep at 102\n";
+    assert!(&rt; prints(alloc, &words, deep.as_slice(), b"", (b"", refused, 2)));
+    Ok(())
 }

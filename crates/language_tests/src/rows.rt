@@ -97,14 +97,21 @@ pub(crate) fn holds(alloc: Global, row: &Row) -> bool {
     true
 }
 
-// Whether `check` prints that line for a text, where an accepted text's goes to standard output.
+// Whether `check` prints that line for a text. An accepted text's goes to standard output; any other is refused by `plan` in the
+// same words.
 pub(crate) fn checked(alloc: Global, text: &[u8], line: &str) -> bool {
-    let expected: (&[u8], &[u8], u8) = if line.as_bytes().starts_with(b"accepted") {
-        (line.as_bytes(), b"", 0)
-    } else {
-        (b"", line.as_bytes(), 2)
-    };
-    prints(alloc, &["check", "program"], text, b"", expected)
+    if line.as_bytes().starts_with(b"accepted") {
+        return prints(
+            alloc,
+            &["check", "program"],
+            text,
+            b"",
+            (line.as_bytes(), b"", 0),
+        );
+    }
+    let refused: (&[u8], &[u8], u8) = (b"", line.as_bytes(), 2);
+    prints(alloc, &["check", "program"], text, b"", refused)
+        && prints(alloc, &["plan", "program"], text, b"", refused)
 }
 
 // Whether every row holds, by the interpreter and by the code that its program is lowered to, which is read back too.

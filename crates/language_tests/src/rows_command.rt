@@ -103,11 +103,12 @@ fn the_program_is_judged_before_the_input(rt: HostRuntime) -> Result<(), Fail> {
 // The words of the command line's parser are not fixed, but that they are there is.
 #[test]
 fn a_wrong_command_line_is_explained(rt: HostRuntime) -> Result<(), Fail> {
-    let rows: [&[&str]; 6] = [
+    let rows: [&[&str]; 7] = [
         &[],
         &["run"],
         &["walk", "program"],
         &["check", "program", "--bound", "3"],
+        &["plan", "program", "--bound", "3"],
         &["run", "program", "more"],
         &["--help"],
     ];
@@ -166,6 +167,34 @@ fn a_full_output_is_told(rt: HostRuntime) -> Result<(), Fail> {
         } else {
             b"refused E17 WriteFailed\n"
         };
+        assert!(&rt; err.bytes() == line);
+    }
+    Ok(())
+}
+
+// The listing of a plan is written whole, or the failure is told.
+#[test]
+fn a_plan_that_is_cut_off_is_told(rt: HostRuntime) -> Result<(), Fail> {
+    let plan = call(rt.alloc(), &["plan", "program"], SUM, b"")?;
+    let size = plan.out.bytes().len();
+    let words = [
+        String::from_str(rt.alloc(), "plan")?,
+        String::from_str(rt.alloc(), "program")?,
+    ];
+    for room in 0..size + 1 {
+        let mut shelf = Shelf {
+            program: SUM,
+            input: b"",
+        };
+        let mut out = Full { room, failures: 0 };
+        let mut err = Buffer::new(rt.alloc());
+        let status = command(rt.alloc(), &words, &mut shelf, &mut out, &mut err);
+        let line: &[u8] = if room == size {
+            b""
+        } else {
+            b"refused E17 WriteFailed\n"
+        };
+        assert!(&rt; (status == Status::Done) == (room == size));
         assert!(&rt; err.bytes() == line);
     }
     Ok(())
