@@ -10,20 +10,22 @@ all: bin/pramc
 bin/pramc: $(sources)
 	bash gate/build.sh
 
-# Runs every example and compares what it prints.
+# Runs every example and compares what it prints, and what its code comes to.
 examples:
 	bash gate/examples.sh
+	bash gate/plans.sh
 
 # Proves every crate over what earlier runs kept.
 check:
 	rt all check
 
-# The merge gate: the scripts of gate/, the examples, the callers that must not compile; then every proof from nothing, every
+# The merge gate: the scripts of gate/, the examples and their plans, the callers that must not compile; then every proof from nothing, every
 # must-fail edit, every test and program.
 test:
 	python3 gate/crates_diagram.py
 	python3 gate/definitions.py
 	bash gate/examples.sh
+	bash gate/plans.sh
 	set -e; for check in crates/*/refusals/check.sh; do bash $$check; done
 	rt ci
 

@@ -6,7 +6,7 @@ trap 'rm -rf "$work"' EXIT
 
 # prepare FOLDER CRATE..: lays out the program of that bench, which stands on these crates, and on `libraries` if that is set.
 prepare() {
-    here=$top/bench/$1
+    here=$top/${bench:-bench}/$1
     program=$work/crates/bench_$1
     mkdir -p "$program/src"
     cp "$top/HANDLES" "$work/"

@@ -1,10 +1,11 @@
 #!/usr/bin/env bash
 # Prints how long parsing, checking, lowering, verifying and fusing take for dense texts of many tokens, how fast a text of 1 MiB
-# is compiled, and for each example its size, the size of its code, and the statements and exchanges of its run. It asserts nothing.
-set -eu
+# is compiled, and for each example its size, the size of its code, the statements and exchanges of its run, and the exchange bound.
+# It asserts nothing.
+set -eu -o pipefail
 . "$(dirname "$0")/../lib.sh"
 libraries="itoa thiserror" prepare lower pram_model text_out pram_tokens pram_syntax pram_parser pram_names pram_check address_map pram_values \
     write_rules superstep_code superstep_machine bsp_verify flat_machine superstep_steps flat_run fusing stretches pram_meaning plain_form \
     evaluation formed_code formula_values exchange_bound statement_runs inside_runs outside_runs compiled_meaning straight_lowering lowering \
     pramc compiling
-figures -- "$top/examples" $(basename -s .pram "$top"/examples/*.pram)
+figures -- "$top/examples" $(basename -s .pram "$top"/examples/*.pram) | python3 "$here/bound.py" "$top/examples"

@@ -1,0 +1,16 @@
+#!/usr/bin/env bash
+# Reads the plan of each example back from its listing, verifies it, and runs it on one memory at several bounds, beside the
+# definition of the language. The program for that is built by `rt try`, which proves nothing, in a temporary folder.
+set -eu
+. "$(dirname "$0")/../bench/lib.sh"
+bench=gate
+libraries="itoa thiserror" prepare plans pram_model text_out pram_tokens pram_syntax pram_parser pram_names pram_check address_map pram_values \
+    write_rules superstep_code superstep_listing superstep_machine bsp_verify flat_machine superstep_steps flat_run fusing stretches pram_meaning \
+    plain_form evaluation formed_code formula_values exchange_bound statement_runs inside_runs outside_runs compiled_meaning straight_lowering \
+    lowering pramc compiling
+cd "$program"
+if ! rt try -- "$top/examples" $(basename -s .pram "$top"/examples/*.pram) > "$work/log" 2>&1; then
+    cat "$work/log"
+    exit 1
+fi
+grep '^plans: ' "$work/log"
