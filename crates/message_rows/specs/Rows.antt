@@ -1,5 +1,6 @@
 -- Messages as they lie in rows and columns.
 use Rattle.std.specs.Prelude.{◌≡◌, ℕ, ◌<◌, List, [], length, slice_index_or}
+use Rattle.std.specs.List.{sum_by}
 use Rattle.pram_model.specs.declared.rule.Rule.{Rule}
 use Rattle.superstep_machine.specs.Words.{Message, words}
 use Rattle.superstep_machine.specs.HeaderWords.{header_words}
@@ -20,6 +21,10 @@ unwritten = record { header = []; words = [] }
 
 abbrev pub message_at : List WrittenMessage → ℕ → WrittenMessage
 message_at messages j = slice_index_or messages j unwritten
+
+-- how many words these messages have together; their headers aren't counted
+abbrev pub words_in : List WrittenMessage → ℕ
+words_in = sum_by (λ (m : WrittenMessage). length m.words)
 
 -- a row to p workers, with this message to each
 pub record IsRow (p : ℕ) (message : ℕ → WrittenMessage) (row : List WrittenMessage) : Type 0 where

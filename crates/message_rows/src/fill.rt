@@ -1,9 +1,9 @@
 //! Rows are filled.
 
-ghost use Rattle.std.specs.Prelude.{◌≡◌, ◌<◌, ◌≤◌, ℕ, [], length};
+ghost use Rattle.std.specs.Prelude.{◌≡◌, ◌<◌, ◌≤◌, ◌^◌, ℕ, [], length};
 ghost use Rattle.superstep_machine.specs.HeaderWords.{header_words};
 ghost use Rattle.combining.specs.AllModules.{column};
-ghost use Rattle.message_rows.specs.Rows.{IsRow};
+ghost use Rattle.message_rows.specs.Rows.{IsRow, words_in};
 ghost use Rattle.message_rows.specs.Sends.{words_of, header_with as spec_header, send_message, reply_message};
 
 use crate::row::Row;
@@ -24,10 +24,11 @@ fn header_with(key: Option<Key>, puts: u32) -> [u64; 4]
     header.to_words()
 }
 
-/// Fills a row with a header and no words, the same for each worker.
-pub fn fill_headers<W: Row>(row: &mut W, workers: usize, header: MessageHeader)
+/// Fills a row with a header and no words, the same for each worker. Answers how many words the messages have together: none.
+pub fn fill_headers<W: Row>(row: &mut W, workers: usize, header: MessageHeader) -> u64
     requires { length (W.filled row.old) ≡ workers }
     ensures filled { IsRow workers (λ j. record { header = header_words header; words = [] }) (W.filled row.new) }
+    ensures words { result ≡ words_in (W.filled row.new) }
     ensures room { W.room row.new ≡ W.room row.old }
     ensures kept { W.kept row.old row.new }
 {
@@ -35,24 +36,39 @@ pub fn fill_headers<W: Row>(row: &mut W, workers: usize, header: MessageHeader)
     'workers: for j in 0..workers {
         let _filled = row.fill(j, words, &[]);
     }
+    0
 }
 
-/// Fills a row with the words of a send, behind a header with the key and the number of the puts.
-pub fn fill_sends<W: Row>(row: &mut W, key: Option<Key>, columns: &[Vec<u64>], counts: &[u32])
+/// Fills a row with the words of a send, behind a header with the key and the number of the puts. Answers how many words the messages
+/// have together.
+pub fn fill_sends<W: Row>(
+    row: &mut W,
+    key: Option<Key>,
+    columns: &[Vec<u64>],
+    counts: &[u32],
+) -> u64
     requires workers { length (W.filled row.old) ≡ length columns.now }
     requires counts { length counts.now ≡ length columns.now }
     requires room { (j : ℕ) → length (column (words_of columns.now) j) ≤ W.room row.old }
+    // Their number has 64 bits.
+    requires few { length columns.now < 2 ^ 32 }
+    requires short { (j : ℕ) → length (column (words_of columns.now) j) < 2 ^ 32 }
     ensures filled { IsRow (length columns.now) (send_message key (words_of columns.now) counts.now) (W.filled row.new) }
+    ensures words { result ≡ words_in (W.filled row.new) }
     ensures room { W.room row.new ≡ W.room row.old }
     ensures kept { W.kept row.old row.new }
 {
+    let mut sent = 0;
     'workers: for j in 0..columns.len() {
-        let _filled = row.fill(j, header_with(key, counts[j]), columns[j].as_slice());
+        let words = columns[j].as_slice();
+        let _filled = row.fill(j, header_with(key, counts[j]), words);
+        sent += words.len() as u64;
     }
+    sent
 }
 
 /// Fills a row with the values of the cells that each worker asked the module for, in the order of its ask words, behind a header with
-/// the key. `reply` is room for the words of one reply.
+/// the key. `reply` is room for the words of one reply. Answers how many words the messages have together.
 pub fn fill_replies<M: AddressMap, W: Row>(
     row: &mut W,
     key: Option<Key>,
@@ -61,19 +77,26 @@ pub fn fill_replies<M: AddressMap, W: Row>(
     asked: &[Vec<u64>],
     cells: &Cells,
     reply: &mut [u64],
-)
+) -> u64
     requires part { part < (M.shape map.now).parts }
     requires cells { length cells.now ≡ (M.shape map.now).width part }
     requires workers { length (W.filled row.old) ≡ length asked.now }
     requires reply { (j : ℕ) → length (column (words_of asked.now) j) ≤ length reply.old }
     requires room { length reply.old ≤ W.room row.old }
+    // Their number has 64 bits.
+    requires few { length asked.now < 2 ^ 32 }
+    requires short { length reply.old < 2 ^ 32 }
     ensures filled { IsRow (length asked.now) (reply_message key (M.shape map.now) part cells.now (words_of asked.now)) (W.filled row.new) }
+    ensures words { result ≡ words_in (W.filled row.new) }
     ensures room { W.room row.new ≡ W.room row.old }
     ensures kept { W.kept row.old row.new }
 {
     let header = header_with(key, 0);
+    let mut sent = 0;
     'workers: for j in 0..asked.len() {
         let n = answer_asks(map, part, asked[j].as_slice(), cells, reply);
         let _filled = row.fill(j, header, &reply[..n]);
+        sent += n as u64;
     }
+    sent
 }

@@ -1,4 +1,5 @@
-use Rattle.std.proofs.Common.{◌≡◌, length}
+use Rattle.std.proofs.Common.{◌≡◌, ◌≤◌, ◌*◌, ◌^◌, length, take}
+use Rattle.message_rows.specs.Rows.{words_in}
 use Rattle.message_rows.specs.Sends.{words_of, reply_message}
 use Rattle.message_rows.proofs.RowLemmas.{AreFilled}
 use Rattle.message_rows.proofs.fill.fill_replies.Given as goal
@@ -6,6 +7,8 @@ use Rattle.message_rows.proofs.fill.fill_replies.Given as goal
 abbrev pub invariant-workers : goal.invariant-workers
 invariant-workers g l = record {
   filled : AreFilled (reply_message l.fn.key (g.M.AddressMap.shape l.map) l.part l.cells (words_of l.asked)) l.j (g.W.Row.filled l.row);
+  words : l.sent ≡ words_in (take l.j (g.W.Row.filled l.row));
+  fits : l.sent ≤ l.j * 2 ^ 32;
   long : length (g.W.Row.filled l.row) ≡ length l.asked;
   reply : length l.reply ≡ length l.fn.reply;
   room : g.W.Row.room l.row ≡ g.W.Row.room l.fn.row;
