@@ -42,7 +42,7 @@ use Rattle.worker_messages.specs.Equipped.{most_words, AreBuffers, MayGoOn, IsAt
 use Rattle.worker_messages.specs.Arrived.{HasArrived, CanTell}
 use Rattle.worker_messages.specs.Told.{IsWrittenFor, told_in_send, told_alone, told_at, told}
 use Rattle.worker_messages.proofs.ReachedLemmas.{IsPathed, exchange_pathed}
-use Rattle.worker_messages.proofs.WrittenLemmas.{fits, puts_to, words_are, can_be_written}
+use Rattle.worker_messages.proofs.WrittenLemmas.{fits, puts_to, words_are, can_be_written, words_small, share_small}
 
 -- ---- one message
 
@@ -158,6 +158,7 @@ can_tell code m bound a b room is go arrived enough =
       asked = e.asked.count;
       few = λ j. let n = e.few j in let r = e.buffers.reply in omega (arith, n, r);
       reply = (let r = e.buffers.reply in omega (arith, r, enough));
+      short = (let r = e.buffers.reply in let s = words_small code.rule (share t) (share_small t is go.runnable.map) in omega (arith, r, s));
       counts = e.buffers.counts;
       rooms = λ j l. let r = e.buffers.words.room j l in omega (arith, r, enough);
       held = held_can t is go.runnable.map go.runnable.formed w (omega (arith, same, below)) b go.state

@@ -33,11 +33,11 @@ asks_alone [] = refl
 asks_alone (x ∷ xs) = ap (λ ys. x ∷ ys) (asks_alone xs)
 
 -- no more than 12 words for each of the most processors
-words_small : (rule : Rule) (n : ℕ) → n < 2 ^ 20 → words_for_each rule * n < 2 ^ 32
+pub words_small : (rule : Rule) (n : ℕ) → n < 2 ^ 20 → words_for_each rule * n < 2 ^ 32
 words_small Sum n h = omega (arith, h)
 words_small rule n h = omega (arith, h)
 
-share_small : (t : Setting) → IsCode t.code → IsMapFor t.code t.map → share t < 2 ^ 20
+pub share_small : (t : Setting) → IsCode t.code → IsMapFor t.code t.map → share t < 2 ^ 20
 share_small t code room =
     let b = div-le_self (t.code.procs + (workers t - 1)) (workers t) in
     let few = room.lawful.few in

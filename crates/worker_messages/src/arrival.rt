@@ -4,6 +4,7 @@ ghost use Rattle.std.specs.Prelude.{◌≡◌, ◌≤◌, ◌<◌, ℕ, length, 
 ghost use Rattle.address_map.specs.Lawful.{Shape};
 ghost use Rattle.superstep_machine.specs.declared.mark.HeaderMark.{HeaderMark as MarkOfHeader};
 ghost use Rattle.superstep_machine.specs.declared.mark.HeaderMark.TheVariants as mark_is;
+ghost use Rattle.superstep_machine.specs.Setting.{Setting};
 ghost use Rattle.superstep_machine.specs.Run.{State, setting, message_of, is_held};
 ghost use Rattle.superstep_machine.specs.declared.key.Key.{Key as NotedKey};
 ghost use Rattle.superstep_machine.specs.HeaderWords.{FitsKey};
@@ -11,7 +12,7 @@ ghost use Rattle.superstep_steps.specs.Views.{put_is};
 ghost use Rattle.bsp_verify.specs.WellFormed.{IsWellFormed};
 ghost use Rattle.worker_steps.specs.Fitted.{IsFitted};
 ghost use Rattle.worker_steps.specs.Met.{IsVerifiedAt};
-ghost use Rattle.message_rows.specs.Rows.{IsRow, written, message_at};
+ghost use Rattle.message_rows.specs.Rows.{IsRow, written, message_at, words_in};
 ghost use Rattle.worker_messages.specs.declared.way.Way.TheVariants as way_is_one_of;
 ghost use Rattle.worker_messages.specs.declared.step.Step.TheVariants as step_is;
 ghost use Rattle.worker_messages.specs.Reached.{most_instructions};
@@ -115,6 +116,7 @@ impl Local {
         requires workers { length (W.filled row.old) ≡ (M.shape map.now).parts }
         ensures filled { IsRow (M.shape map.now).parts (told (R.WriteRule.rule rule.now) (M.shape map.now) self.old) (W.filled row.new) }
         ensures same { self.new ≡ record self.old { buffers = self.new.buffers } }
+        ensures sent { self.new.buffers.sent ≡ words_in (W.filled row.new) }
         ensures keys { (key : NotedKey) → self.old.steps.key ≡ Some key → FitsKey key }
         ensures buffers { (most : ℕ) → AreBuffers (M.shape map.now).parts most self.old.buffers → AreBuffers (M.shape map.now).parts most
             self.new.buffers }
@@ -124,7 +126,7 @@ impl Local {
         let workers = map.modules() as usize;
         let key = self.steps.key;
         key_fits(key);
-        match self.step {
+        let sent = match self.step {
             Step::Send => tell_send(rule, map, &self.steps, &mut self.buffers, row),
             Step::Reply => fill_replies(
                 row,
@@ -136,25 +138,34 @@ impl Local {
                 self.buffers.reply.as_mut_slice(),
             ),
             Step::Vote { destination: _ } => {
-                tell_alone(row, workers, key, any_active(&self.steps));
+                tell_alone(row, workers, key, any_active(&self.steps))
             }
             Step::Close => tell_alone(row, workers, key, false),
-        }
+        };
+        self.buffers.sent = sent;
     }
 
-    // Memory was refused: it has stopped, and tells so.
-    fn give_up<M: AddressMap, W: Row>(&mut self, map: &M, row: &mut W)
+    /// Memory was refused elsewhere: the worker stops, and each message of the row is the mark that says so.
+    pub fn refuse<M: AddressMap, W: Row>(&mut self, map: &M, row: &mut W)
         requires { length (W.filled row.old) ≡ (M.shape map.now).parts }
         ensures filled { IsRow (M.shape map.now).parts (told_mark mark_is.OutOfMemory) (W.filled row.new) }
+        // These are the messages of every worker of a run in which memory was refused, and each is read by the one that it is sent to.
+        ensures row { (t : Setting) (w : ℕ) (s : State) → IsRow (M.shape map.now).parts
+            (λ j. written t.code.rule (message_of t w (marked self.new.way s) j)) (W.filled row.new) }
+        ensures read { (t : Setting) (w : ℕ) (s : State) (j : ℕ) → j < (M.shape map.now).parts →
+            IsWrittenFor t.code.rule t.map j (purpose_is self.new.step) (message_of t w (marked self.new.way s) j)
+            (message_at (W.filled row.new) j) }
         ensures way { self.new.way ≡ way_is_one_of.Stopped mark_is.OutOfMemory }
         ensures step { self.new.step ≡ step_is.Close }
+        ensures steps { self.new.steps ≡ self.old.steps }
+        ensures sent { self.new.buffers.sent ≡ words_in (W.filled row.new) }
         ensures room { W.room row.new ≡ W.room row.old }
         ensures kept { W.kept row.old row.new }
     {
         let mark = HeaderMark::OutOfMemory;
         self.way = Way::Stopped { mark };
         self.step = Step::Close;
-        tell_mark(row, map.modules() as usize, mark);
+        self.buffers.sent = tell_mark(row, map.modules() as usize, mark);
     }
 
     /// Goes on up to the next exchange, and fills a row with the messages for it. Says what the exchange is for. Where memory is
@@ -191,6 +202,7 @@ impl Local {
         ensures left { is_stopped self.new.way ≡ false → left code.now bound self.new ≤ left code.now bound self.old }
         ensures refused { (mark : MarkOfHeader) → self.new.way ≡ way_is_one_of.Stopped mark → mark ≡ mark_is.OutOfMemory }
         ensures step { result ≡ self.new.step }
+        ensures sent { self.new.buffers.sent ≡ words_in (W.filled row.new) }
         ensures room { W.room row.new ≡ W.room row.old }
         ensures kept { W.kept row.old row.new }
     {
@@ -201,7 +213,7 @@ impl Local {
                 self.step
             }
             Err(_) => {
-                self.give_up(map, row);
+                self.refuse(map, row);
                 Step::Close
             }
         }

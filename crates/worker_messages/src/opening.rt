@@ -57,6 +57,7 @@ fn buffers(alloc: Global, workers: u32, most: usize) -> Result<Buffers, AllocErr
         words,
         counts,
         reply,
+        sent: 0,
     })
 }
 

@@ -6,7 +6,7 @@ ghost use Rattle.superstep_machine.specs.declared.key.Key.{Key as NotedKey};
 ghost use Rattle.superstep_machine.specs.HeaderWords.{FitsKey, FitsPlace};
 ghost use Rattle.worker_bank.specs.Bank.{IsBank};
 ghost use Rattle.combining.specs.AllModules.{room_at};
-ghost use Rattle.message_rows.specs.Rows.{IsRow};
+ghost use Rattle.message_rows.specs.Rows.{IsRow, words_in};
 ghost use Rattle.message_rows.specs.Sends.{CanBeWritten, header_with};
 ghost use Rattle.worker_messages.specs.Equipped.{AreBuffers};
 ghost use Rattle.worker_messages.specs.Told.{any_active as spec_any_active, told_in_send, told_alone, told_mark};
@@ -54,14 +54,14 @@ pub(crate) fn key_fits(noted: Option<Key>)
     }
 }
 
-/// Fills a row with what is held for each module.
+/// Fills a row with what is held for each module. Like the others here it answers how many words the messages have together.
 pub(crate) fn tell_send<R: WriteRule, M: AddressMap, W: Row>(
     rule: &R,
     map: &M,
     steps: &WorkerState,
     buffers: &mut Buffers,
     row: &mut W,
-)
+) -> u64
     requires held { CanBeWritten (R.WriteRule.rule rule.now) (M.shape map.now) (each vec_capacity buffers.old.words.items)
         steps.now.puts.held steps.now.asks.held }
     requires counts { length buffers.old.counts.items ≡ (M.shape map.now).parts }
@@ -69,6 +69,7 @@ pub(crate) fn tell_send<R: WriteRule, M: AddressMap, W: Row>(
     requires room { (j : ℕ) → j < (M.shape map.now).parts → room_at (each vec_capacity buffers.old.words.items) j ≤ W.room row.old }
     ensures filled { IsRow (M.shape map.now).parts (told_in_send (R.WriteRule.rule rule.now) (M.shape map.now) steps.now)
         (W.filled row.new) }
+    ensures words { result ≡ words_in (W.filled row.new) }
     ensures buffers { (most : ℕ) → AreBuffers (M.shape map.now).parts most buffers.old → AreBuffers (M.shape map.now).parts most
         buffers.new }
     ensures room { W.room row.new ≡ W.room row.old }
@@ -87,13 +88,14 @@ pub(crate) fn tell_send<R: WriteRule, M: AddressMap, W: Row>(
         steps.key,
         buffers.words.as_slice(),
         buffers.counts.as_slice(),
-    );
+    )
 }
 
 /// Fills a row with a header alone: a key, and whether a processor is active.
-pub(crate) fn tell_alone<W: Row>(row: &mut W, workers: usize, key: Option<Key>, active: bool)
+pub(crate) fn tell_alone<W: Row>(row: &mut W, workers: usize, key: Option<Key>, active: bool) -> u64
     requires { length (W.filled row.old) ≡ workers }
     ensures filled { IsRow workers (told_alone (record (header_with key 0) { active = active })) (W.filled row.new) }
+    ensures words { result ≡ words_in (W.filled row.new) }
     ensures room { W.room row.new ≡ W.room row.old }
     ensures kept { W.kept row.old row.new }
 {
@@ -103,13 +105,14 @@ pub(crate) fn tell_alone<W: Row>(row: &mut W, workers: usize, key: Option<Key>, 
         active,
         puts: 0,
     };
-    fill_headers(row, workers, header);
+    fill_headers(row, workers, header)
 }
 
 /// Fills a row with a mark alone.
-pub(crate) fn tell_mark<W: Row>(row: &mut W, workers: usize, mark: HeaderMark)
+pub(crate) fn tell_mark<W: Row>(row: &mut W, workers: usize, mark: HeaderMark) -> u64
     requires { length (W.filled row.old) ≡ workers }
     ensures filled { IsRow workers (told_mark mark) (W.filled row.new) }
+    ensures words { result ≡ words_in (W.filled row.new) }
     ensures room { W.room row.new ≡ W.room row.old }
     ensures kept { W.kept row.old row.new }
 {
@@ -119,5 +122,5 @@ pub(crate) fn tell_mark<W: Row>(row: &mut W, workers: usize, mark: HeaderMark)
         active: false,
         puts: 0,
     };
-    fill_headers(row, workers, header);
+    fill_headers(row, workers, header)
 }
