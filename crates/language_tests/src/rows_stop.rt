@@ -74,6 +74,16 @@ fn any_other_stop_is_written_by_its_text(rt: HostRuntime) -> Result<(), Fail> {
             Stop::Refused(Refusal::InputTooLong),
             "refused E11 InputTooLong\n",
         ),
+        (Stop::Refused(Refusal::BadMap), "refused E12 BadMap\n"),
+        (
+            Stop::Refused(Refusal::BadWorkers),
+            "refused E13 BadWorkers\n",
+        ),
+        (
+            Stop::NotVerified(0, "exchange"),
+            "refused E14 NotVerified at 0 exchange\n",
+        ),
+        (Stop::BadListing(24), "refused E15 BadListing at 24\n"),
         (
             Stop::Refused(Refusal::OutOfMemory),
             "refused E16 OutOfMemory\n",

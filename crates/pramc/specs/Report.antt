@@ -71,12 +71,16 @@ IsNoProgram text (Ok x) = Unit {0}
 IsNoProgram text (Err (refusal.Text fault)) = IsTextRefusal text fault
 IsNoProgram text (Err (refusal.Program breach)) = HasBreach text breach
 IsNoProgram text (Err refusal.InputTooLong) = ⊥
+IsNoProgram text (Err refusal.BadMap) = ⊥
+IsNoProgram text (Err refusal.BadWorkers) = ⊥
 IsNoProgram text (Err refusal.OutOfMemory) = IsPlain text
 
--- each refusal of a run says what is wrong with the text or with the input
+-- Each refusal of a run says what is wrong with the text or with the input. A run by the definition has no workers and no map.
 abbrev pub IsRefusedRightly : {X : Type 0} → List ℕ → List ℤ → Result X Refusal → Type 0
 IsRefusedRightly text input (Err refusal.InputTooLong) = HasTooFewCells text input
 IsRefusedRightly text input (Ok x) = Unit {0}
+IsRefusedRightly text input (Err refusal.BadMap) = ⊥
+IsRefusedRightly text input (Err refusal.BadWorkers) = ⊥
 IsRefusedRightly text input (Err (refusal.Text fault)) = IsTextRefusal text fault
 IsRefusedRightly text input (Err (refusal.Program breach)) = HasBreach text breach
 IsRefusedRightly text input (Err refusal.OutOfMemory) = IsPlain text

@@ -59,6 +59,8 @@ abbrev pub refusal_words : Refusal → List ℕ
 refusal_words (refusal.Text fault) = text_words fault
 refusal_words (refusal.Program breach) = cause_words breach.cause
 refusal_words refusal.InputTooLong = codes "E11 InputTooLong"
+refusal_words refusal.BadMap = codes "E12 BadMap"
+refusal_words refusal.BadWorkers = codes "E13 BadWorkers"
 refusal_words refusal.OutOfMemory = codes "E16 OutOfMemory"
 
 -- its place
@@ -66,6 +68,8 @@ abbrev pub refusal_place : Refusal → Option ℕ
 refusal_place (refusal.Text fault) = text_place fault
 refusal_place (refusal.Program breach) = cause_place breach.spot breach.cause
 refusal_place refusal.InputTooLong = None
+refusal_place refusal.BadMap = None
+refusal_place refusal.BadWorkers = None
 refusal_place refusal.OutOfMemory = None
 
 -- `refused E6 UnknownName at 57`, or `refused E2 TextTooLong`

@@ -20,6 +20,10 @@ pub enum Refusal {
     Program(Breach),
     /// E11: the input has more values than the program has cells.
     InputTooLong,
+    /// E12: the map has not one module for each worker, or not a place for each cell.
+    BadMap,
+    /// E13: the number of workers is none of 1 to 32.
+    BadWorkers,
     /// E16: memory was refused.
     OutOfMemory,
 }

@@ -3,7 +3,7 @@
 ghost use Rattle.std.specs.Prelude.{◌≡◌, ◌<◌, ◌^◌};
 ghost use Rattle.text_out.specs.Out.{Writes};
 ghost use Rattle.pramc.specs.Stopped as stopped;
-ghost use Rattle.pramc.specs.StoppedFields.{stop_text};
+ghost use Rattle.pramc.specs.StoppedFields.{stop_text, unverified_line};
 ghost use Rattle.pramc.specs.declared.stop.Stop.TheVariants.{Refused, WriteFailed};
 ghost use Rattle.pramc.specs.declared.from_text.Refusal.TheVariants.{OutOfMemory};
 
@@ -28,9 +28,15 @@ pub enum Stop<'a> {
     /// P2: a file that can't be read.
     #[error("P2 {0}")]
     Unreadable(&'a str),
-    /// E1 to E11 and E16.
+    /// E1 to E13 and E16.
     #[error(transparent)]
     Refused(Refusal),
+    /// E14: code that isn't well formed, by the instruction that can't be met and the word for the reason.
+    #[error("E14 NotVerified at {0} {1}")]
+    NotVerified(u32, &'a str),
+    /// E15: a text that is no listing, by the offset of its first wrong line.
+    #[error("E15 BadListing at {0}")]
+    BadListing(u32),
     /// E17: standard output failed.
     #[error("E17 WriteFailed")]
     WriteFailed,
@@ -62,17 +68,41 @@ pub fn write_stop<W: Out>(out: &mut W, stop: &Stop<'_>) -> Result<(), WriteFault
         Stop::Number(word) => out.write_parts(&[b"refused P1 ", word.as_bytes(), b"\n"]),
         Stop::Unreadable(name) => out.write_parts(&[b"refused P2 ", name.as_bytes(), b"\n"]),
         Stop::Refused(refusal) => write_refusal(out, *refusal),
+        Stop::NotVerified(at, reason) => write_unverified(out, *at, reason),
+        Stop::BadListing(at) => write_refused(out, "E15 BadListing", Some(*at)),
         Stop::WriteFailed => out.write_all(b"refused E17 WriteFailed\n"),
     }
 }
 
-// `refused E6 UnknownName at 57`, or the same without a place.
+// `refused E14 NotVerified at 0 exchange`.
+fn write_unverified<W: Out>(out: &mut W, at: u32, reason: &str) -> Result<(), WriteFault>
+    requires counted { (W.Out.state out.old).failures < 2 ^ 63 }
+    ensures written { Writes (W.Out.state out.old) (W.Out.state out.new) (unverified_line at reason.now) result }
+{
+    let mut digits = Buffer::new();
+    out.write_parts(&[
+        b"refused E14 NotVerified at ",
+        digits.format(at).as_bytes(),
+        b" ",
+        reason.as_bytes(),
+        b"\n",
+    ])
+}
+
 fn write_refusal<W: Out>(out: &mut W, refusal: Refusal) -> Result<(), WriteFault>
     requires counted { (W.Out.state out.old).failures < 2 ^ 63 }
     ensures written { Writes (W.Out.state out.old) (W.Out.state out.new)
         (stopped.refused_line (stopped.refusal_words refusal) (stopped.refusal_place refusal)) result }
 {
     let (words, place) = words_of(refusal);
+    write_refused(out, words, place)
+}
+
+// `refused E6 UnknownName at 57`, or the same without a place.
+fn write_refused<W: Out>(out: &mut W, words: &str, place: Option<u32>) -> Result<(), WriteFault>
+    requires counted { (W.Out.state out.old).failures < 2 ^ 63 }
+    ensures written { Writes (W.Out.state out.old) (W.Out.state out.new) (stopped.refused_line words.now place) result }
+{
     match place {
         None => out.write_parts(&[b"refused ", words.as_bytes(), b"\n"]),
         Some(at) => {
@@ -110,6 +140,8 @@ fn words_of(refusal: Refusal) -> (&'static str, Option<u32>)
         Refusal::Text(fault) => text_words(fault),
         Refusal::Program(breach) => breach_words(breach),
         Refusal::InputTooLong => ("E11 InputTooLong", None),
+        Refusal::BadMap => ("E12 BadMap", None),
+        Refusal::BadWorkers => ("E13 BadWorkers", None),
         Refusal::OutOfMemory => ("E16 OutOfMemory", None),
     }
 }

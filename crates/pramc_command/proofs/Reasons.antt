@@ -9,4 +9,6 @@ pub no_run_is_true : (X : Type 0) (text : List ℕ) (input : List ℤ) (r : Refu
 no_run_is_true X text input (refusal.Text fault) h = (text, inl h)
 no_run_is_true X text input (refusal.Program breach) h = (text, h)
 no_run_is_true X text input refusal.InputTooLong h = (text, input, h)
+no_run_is_true X text input refusal.BadMap h = h
+no_run_is_true X text input refusal.BadWorkers h = h
 no_run_is_true X text input refusal.OutOfMemory h = tt

@@ -51,6 +51,8 @@ abbrev pub IsTrueOf : Refusal → Type 0
 IsTrueOf (refusal.Text fault) = (text : List ℕ) × (IsTextRefusal text fault ⊎ IsInputRefusal text fault)
 IsTrueOf (refusal.Program breach) = (text : List ℕ) × HasBreach text breach
 IsTrueOf refusal.InputTooLong = (text : List ℕ) × (input : List ℤ) × HasTooFewCells text input
+IsTrueOf refusal.BadMap = ⊥
+IsTrueOf refusal.BadWorkers = ⊥
 IsTrueOf refusal.OutOfMemory = Unit {0}
 
 -- before the program stops without an outcome nothing is written, but where the writer failed
