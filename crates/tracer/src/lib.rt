@@ -1,0 +1,9 @@
+//! The trace of a run: a line for each of its exchanges.
+#![tactic(auto)]
+
+mod exchange_line;
+pub mod law;
+mod trace;
+
+pub use exchange_counts::{Count, Counts, Step};
+pub use trace::write_trace;
