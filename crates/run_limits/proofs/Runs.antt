@@ -47,13 +47,14 @@ pub all_also : {A : Type 0} (P Q : A → Type 0) → ((x : A) → P x → Q x) �
 all_also P Q f [] h = tt
 all_also P Q f (x ∷ xs) h = (f x h.0, all_also P Q f xs h.1)
 
--- Whatever instructions keep, stretches keep.
-module _ (t : Setting) (code : IsCode t.code) (w : ℕ) (K : Worker → Type 0) (keeps : (i : Instr) → IsInstr i → (x : Worker) → K x →
-    K (after_instr t w i x)) where
+-- Whatever the instructions of a code keep, stretches keep.
+module _ (t : Setting) (w : ℕ) (P : Instr → Type 0)
+    (stands : (place : ℕ) (i : Instr) → slice_get t.code.instructions place ≡ Some i → P i) (K : Worker → Type 0)
+    (keeps : (i : Instr) → P i → (x : Worker) → K x → K (after_instr t w i x)) where
   module _ {R : Type 0} (Good : R → Type 0) (nowhere : R) (lost : Good nowhere) (stops : Stop → ℕ → Worker → R)
       (stopping : (stop : Stop) (place : ℕ) (x : Worker) → K x → Good (stops stop place x))
       (next : ℕ → Worker → R) (going : (place : ℕ) (x : Worker) → K x → Good (next place x)) (place : ℕ) (x : Worker) (h : K x) where
-    marked : (line : ℕ) → IsInstr (Mark line) → (b : Bool) →
+    marked : (line : ℕ) → P (Mark line) → (b : Bool) →
         Good (if b then stops (ToClose false) place x else next (place + 1) (after_instr t w (Mark line) x))
     marked line a true = stopping (ToClose false) place x h
     marked line a false = going (place + 1) (after_instr t w (Mark line) x) (keeps (Mark line) a x h)
@@ -62,8 +63,7 @@ module _ (t : Setting) (code : IsCode t.code) (w : ℕ) (K : Worker → Type 0) 
     forked target true = going (place + 1) x h
     forked target false = going target x h
 
-    by_instr : (i : Instr) → IsInstr i →
-        Good (advance t.bound (λ (y : Worker). y.uniform) (after_instr t w) nowhere stops next (Some i) place x)
+    by_instr : (i : Instr) → P i → Good (advance t.bound (λ (y : Worker). y.uniform) (after_instr t w) nowhere stops next (Some i) place x)
     by_instr (Mark line) a = marked line a (eqb x.uniform.count t.bound)
     by_instr Send a = stopping ToSend place x h
     by_instr Reply a = stopping ToReply place x h
@@ -76,37 +76,37 @@ module _ (t : Setting) (code : IsCode t.code) (w : ℕ) (K : Worker → Type 0) 
     goes : (o : Option Instr) → slice_get t.code.instructions place ≡ o →
         Good (advance t.bound (λ (y : Worker). y.uniform) (after_instr t w) nowhere stops next o place x)
     goes None e = lost
-    goes (Some i) e = by_instr i (all_at IsInstr t.code.instructions code.instructions place i e)
+    goes (Some i) e = by_instr i (stands place i e)
 
-  abbrev pub KeptAt : Arrival Worker → Type 0
-  KeptAt Nowhere = Unit {0}
-  KeptAt (At stop place x) = K x
+  abbrev pub KeepsAt : Arrival Worker → Type 0
+  KeepsAt Nowhere = Unit {0}
+  KeepsAt (At stop place x) = K x
 
-  pub until_kept : (n place : ℕ) (x : Worker) → K x →
-      KeptAt (until t.bound (λ (y : Worker). y.uniform) (after_instr t w) t.code.instructions n place x)
-  until_kept zero place x h = tt
-  until_kept (suc n) place x h =
-      goes KeptAt Nowhere tt (λ stop k y. At stop k y) (λ stop k y g. g) (until t.bound (λ (y : Worker). y.uniform) (after_instr t w)
-      t.code.instructions n) (until_kept n) place x h
+  pub until_keeps : (n place : ℕ) (x : Worker) → K x →
+      KeepsAt (until t.bound (λ (y : Worker). y.uniform) (after_instr t w) t.code.instructions n place x)
+  until_keeps zero place x h = tt
+  until_keeps (suc n) place x h =
+      goes KeepsAt Nowhere tt (λ stop k y. At stop k y) (λ stop k y g. g) (until t.bound (λ (y : Worker). y.uniform) (after_instr t w)
+      t.code.instructions n) (until_keeps n) place x h
       (slice_get t.code.instructions place) refl
 
-  abbrev pub KeptThen : Option (ℕ × Worker) → Type 0
-  KeptThen None = Unit {0}
-  KeptThen (Some (place, x)) = K x
+  abbrev pub KeepsThen : Option (ℕ × Worker) → Type 0
+  KeepsThen None = Unit {0}
+  KeepsThen (Some (place, x)) = K x
 
-  pub walked_kept : (n place : ℕ) (x : Worker) → K x →
-      KeptThen (walked t.bound (λ (y : Worker). y.uniform) (after_instr t w) t.code.instructions n place x)
-  walked_kept zero place x h = h
-  walked_kept (suc n) place x h =
-      goes KeptThen None tt (λ stop k y. None) (λ stop k y g. tt) (walked t.bound (λ (y : Worker). y.uniform) (after_instr t w)
-      t.code.instructions n) (walked_kept n) place x h
+  pub walked_keeps : (n place : ℕ) (x : Worker) → K x →
+      KeepsThen (walked t.bound (λ (y : Worker). y.uniform) (after_instr t w) t.code.instructions n place x)
+  walked_keeps zero place x h = h
+  walked_keeps (suc n) place x h =
+      goes KeepsThen None tt (λ stop k y. None) (λ stop k y g. tt) (walked t.bound (λ (y : Worker). y.uniform) (after_instr t w)
+      t.code.instructions n) (walked_keeps n) place x h
       (slice_get t.code.instructions place) refl
 
   -- up to an exchange
-  pub ready_kept : K no_worker → (s : State) → K s.worker → K (ready t w s).state.worker
-  ready_kept none s h = marks (mark_now s.refusals)
+  pub ready_keeps : K no_worker → (s : State) → K s.worker → K (ready t w s).state.worker
+  ready_keeps none s h = marks (mark_now s.refusals)
     where
-      arrived : (a : Arrival Worker) → KeptAt a → K (ready_at s a).state.worker
+      arrived : (a : Arrival Worker) → KeepsAt a → K (ready_at s a).state.worker
       arrived Nowhere g = h
       arrived (At ToSend place x) g = g
       arrived (At ToReply place x) g = g
@@ -114,7 +114,7 @@ module _ (t : Setting) (code : IsCode t.code) (w : ℕ) (K : Worker → Type 0) 
       arrived (At (ToClose ended) place x) g = g
 
       by_way : (way : Way) → K (ready_by t w s way).state.worker
-      by_way On = arrived (stretch t w s) (until_kept t.enough s.place s.worker h)
+      by_way On = arrived (stretch t w s) (until_keeps t.enough s.place s.worker h)
       by_way (Ending ended) = h
       by_way (Past key ended) = h
       by_way (Refused mark) = h
@@ -124,6 +124,29 @@ module _ (t : Setting) (code : IsCode t.code) (w : ℕ) (K : Worker → Type 0) 
       marks Clear = by_way s.way
       marks OutOfMemory = none
       marks OutOfReserve = none
+
+-- So it is by what is so of every instruction of a code.
+module _ (t : Setting) (code : IsCode t.code) (w : ℕ) (K : Worker → Type 0) (keeps : (i : Instr) → IsInstr i → (x : Worker) → K x →
+    K (after_instr t w i x)) where
+  pub stands_in : (place : ℕ) (i : Instr) → slice_get t.code.instructions place ≡ Some i → IsInstr i
+  stands_in place i e = all_at IsInstr t.code.instructions code.instructions place i e
+
+  abbrev pub KeptAt : Arrival Worker → Type 0
+  KeptAt = KeepsAt t w IsInstr stands_in K keeps
+
+  pub until_kept : (n place : ℕ) (x : Worker) → K x →
+      KeptAt (until t.bound (λ (y : Worker). y.uniform) (after_instr t w) t.code.instructions n place x)
+  until_kept = until_keeps t w IsInstr stands_in K keeps
+
+  abbrev pub KeptThen : Option (ℕ × Worker) → Type 0
+  KeptThen = KeepsThen t w IsInstr stands_in K keeps
+
+  pub walked_kept : (n place : ℕ) (x : Worker) → K x →
+      KeptThen (walked t.bound (λ (y : Worker). y.uniform) (after_instr t w) t.code.instructions n place x)
+  walked_kept = walked_keeps t w IsInstr stands_in K keeps
+
+  pub ready_kept : K no_worker → (s : State) → K s.worker → K (ready t w s).state.worker
+  ready_kept = ready_keeps t w IsInstr stands_in K keeps
 
 -- ---- exchanges
 
