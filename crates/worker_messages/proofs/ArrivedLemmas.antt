@@ -3,6 +3,7 @@ use Rattle.std.proofs.Common.{◌≡◌, ℕ, ◌+◌, ◌-◌, ◌*◌, ◌^◌
 use Rattle.std.specs.Prelude.{slice_get, slice_index_or, if◌then◌else◌}
 use Rattle.std.proofs.lemmas.Nat.{mul-le}
 use Rattle.address_map.specs.Lawful.{Shape}
+use Rattle.superstep_code.specs.Limits.{IsCode}
 use Rattle.superstep_code.specs.Code.{SuperstepCode}
 use Rattle.superstep_machine.specs.Setting.{Setting}
 use Rattle.superstep_machine.specs.Parts.{UniformPart}
@@ -12,6 +13,7 @@ use Rattle.superstep_machine.specs.Run as machine
 use Rattle.superstep_machine.specs.Run.{setting, is_held}
 use Rattle.superstep_steps.specs.Views.{put_is}
 use Rattle.bsp_verify.specs.Judging.{is_mark}
+use Rattle.bsp_verify.proofs.PathLemmas.{paths_sound}
 use Rattle.worker_bank.specs.Bank.{IsSameBank}
 use Rattle.combining.specs.Adding.{unanswered}
 use Rattle.worker_steps.specs.declared.stop.Stop.{Stop}
@@ -25,9 +27,10 @@ use Rattle.worker_messages.specs.declared.way.Way.{Way}
 use Rattle.worker_messages.specs.declared.way.Way.TheVariants as ways
 use Rattle.worker_messages.specs.declared.local.Local.{Local}
 use Rattle.worker_messages.specs.Reached.{IsReached, most_instructions}
-use Rattle.worker_messages.specs.Shown.{way_is, purpose_is, place_behind, ShowsWorker, IsAtExchange}
-use Rattle.worker_messages.specs.Equipped.{IsEquipped, MayGoOn, instr_of, left_by}
+use Rattle.worker_messages.specs.Shown.{way_is, purpose_is, place_behind, ShowsWorker, IsShown, IsAtExchange}
+use Rattle.worker_messages.specs.Equipped.{IsEquipped, MayGoOn, GoesWith, instr_of, left_by, left_at_by}
 use Rattle.worker_messages.specs.Arrived.{step_at, way_at, stopped_at, HasArrived}
+use Rattle.worker_messages.proofs.AwaitedLemmas.{awaits}
 
 -- ---- the definition's worker
 
@@ -78,11 +81,22 @@ still_going : (stop : Stop) (way : Way) → machine.is_over (way_is way) ≡ fal
 still_going (stops.Close ended) way h = refl
 still_going stop way h = h
 
-fewer : (stop : Stop) (way : Way) → way ≡ ways.On → (n k : ℕ) → n ≤ k → left_by (way_at stop way) n ≤ left_by way k
-fewer (stops.Close ended) way e n k h = subst (λ v. 1 ≤ left_by v k) (sym e) (omega arith)
-fewer stop way e n k h = subst (λ v. left_by v n ≤ left_by v k) (sym e) (omega (arith, h))
+fewer : (stop : Stop) (way : Way) (held : Bool) → way ≡ ways.On → (n k : ℕ) → n ≤ k →
+    left_at_by (way_at stop way) (step_at stop held) n ≤ left_by way k
+fewer (stops.Close ended) way true e n k h = subst (λ v. 2 ≤ left_by v k) (sym e) (omega arith)
+fewer (stops.Close ended) way false e n k h = subst (λ v. 1 ≤ left_by v k) (sym e) (omega arith)
+fewer stops.Send way held e n k h = subst (λ v. left_at_by v steps.Send n ≤ left_by v k) (sym e) (omega (arith, h))
+fewer stops.Reply way held e n k h = subst (λ v. left_at_by v steps.Reply n ≤ left_by v k) (sym e) (omega (arith, h))
+fewer (stops.Vote d) way held e n k h = subst (λ v. left_at_by v (steps.Vote d) n ≤ left_by v k) (sym e) (omega (arith, h))
 
-module _ (code : SuperstepCode) (m : Shape) (bound : ℕ) (a : Local) (y : WorkerState) (on : a.way ≡ ways.On)
+goes_at : (stop : Stop) (way : Way) (held : Bool) → way ≡ ways.On → GoesWith (way_at stop way) (step_at stop held)
+goes_at stops.Send way held e = subst (λ v. GoesWith v steps.Send) (sym e) tt
+goes_at stops.Reply way held e = subst (λ v. GoesWith v steps.Reply) (sym e) tt
+goes_at (stops.Vote d) way held e = subst (λ v. GoesWith v (steps.Vote d)) (sym e) tt
+goes_at (stops.Close ended) way true e = tt
+goes_at (stops.Close ended) way false e = tt
+
+module _ (code : SuperstepCode) (m : Shape) (bound : ℕ) (is_code : IsCode code) (a : Local) (y : WorkerState) (on : a.way ≡ ways.On)
     (go : MayGoOn code m bound a) where
   abbrev moved : Local
   moved = record a { steps = y }
@@ -104,6 +118,8 @@ module _ (code : SuperstepCode) (m : Shape) (bound : ℕ) (a : Local) (y : Worke
         asked = e.asked;
         few = e.few;
         buffers = e.buffers;
+        values = e.values ∙ sym same.most;
+        below = e.below;
       }
 
   module _ (t : Setting) (s : machine.State) (place : ℕ) (z : Worker) (way : s.way ≡ way_is a.way)
@@ -135,11 +151,49 @@ module _ (code : SuperstepCode) (m : Shape) (bound : ℕ) (a : Local) (y : Worke
       worker = record { shows = worker.shows; cells = worker.cells; sent = worker.sent; taken = worker.taken };
     }
 
+  -- at most eight reads are held on a path
+  few_held : IsVerifiedAt code y → length y.uniform.asks.items ≤ 8
+  few_held v =
+      let within = (paths_sound code go.runnable.formed v.steps v.point v.comes).within.asks in
+      let held = v.describes.asks in
+      omega (arith, within, held)
+
+  -- the state at the exchange
+  at_next : (stop : Stop) → ArrivesAt code bound (stop_is stop) a.steps y → IsSameBank a.steps.bank y.bank → (n : ℕ) (s : machine.State) →
+      most_instructions code bound < n → IsShown (setting code m bound n) a.steps.bank.worker a s →
+      IsAtExchange (setting code m bound n) a.steps.bank.worker (stopped_at stop moved) s
+  at_next stop arrives same n s enough sh =
+      let t = setting code m bound n in
+      let lt : rank code bound a.steps < n = (let r = rank_most code bound a.steps in omega (arith, r, enough)) in
+      let k = arrives t s.worker n (record {
+        code_is = refl;
+        bound_is = refl;
+        as_many = sym go.equipped.workers;
+        shows = sh.worker.shows;
+      }) lt in
+      let at : machine.stretch t a.steps.bank.worker s ≡ At (stop_is stop) y.place k.worker =
+      ap (λ p. stretch_by t a.steps.bank.worker n p s.worker) sh.place ∙ k.at in
+      let is : machine.ready t a.steps.bank.worker s ≡ machine.ready_at s (At (stop_is stop) y.place k.worker) =
+      ready_is t a.steps.bank.worker s sh.clear
+      ∙ ap (machine.ready_by t a.steps.bank.worker s) (sh.way ∙ ap way_is on)
+      ∙ ap (machine.ready_at s) at in
+      at_exchange t a.steps.bank.worker s sh.clear (stopped_at stop moved) sh.exchanges sh.reached
+      (machine.ready_at s (At (stop_is stop) y.place k.worker)) is
+      (at_ready t s y.place k.worker sh.way
+      (record {
+        shows = k.shows;
+        cells = k.carried.cells ∙ sh.worker.cells;
+        sent = sh.worker.sent ∙ ap (map unanswered) (sym k.carried.wanted);
+        taken = λ j. ap (λ l. slice_index_or l j []) k.carried.taken ∙ sh.worker.taken j;
+      }) stop)
+
   pub arrived : (stop : Stop) → ArrivesAt code bound (stop_is stop) a.steps y → StandsAt code bound (stop_is stop) y → IsFitted code y →
       IsVerifiedAt code y → y.uniform.count ≤ bound → 2 ^ 16 ≤ length y.uniform.registers.items → IsSameBank a.steps.bank y.bank → rank code bound y ≤ rank code bound a.steps →
       HasArrived code m bound a (stopped_at stop moved)
   arrived stop arrives stands fitted verified count registers same falls =
-      let e = equipped_still fitted same in record {
+      let e = equipped_still fitted same in
+      let comes = at_next stop arrives same in
+      record {
         at = record {
           equipped = record {
             fitted = e.fitted;
@@ -149,39 +203,23 @@ module _ (code : SuperstepCode) (m : Shape) (bound : ℕ) (a : Local) (y : Worke
             asked = e.asked;
             few = e.few;
             buffers = e.buffers;
+            values = e.values;
+            below = e.below;
           };
           going = still_going stop a.way go.going;
           count = count;
           verified = λ h. verified;
           registers = λ h. registers;
           stands = stands_at stop stands;
+          goes = goes_at stop a.way (is_held (put_is y.uniform.put)) on;
+          few = λ h. few_held verified;
+          awaited = λ h.
+              awaits (setting code m bound go.enough) is_code go.runnable.map go.runnable.formed a.steps.bank.worker (stopped_at stop moved)
+              go.state (comes go.enough go.state go.is_enough go.shown) fitted.registers h;
         };
-        shown = λ n s enough sh.
-            let t = setting code m bound n in
-            let lt : rank code bound a.steps < n = (let r = rank_most code bound a.steps in omega (arith, r, enough)) in
-            let k = arrives t s.worker n (record {
-              code_is = refl;
-              bound_is = refl;
-              as_many = sym go.equipped.workers;
-              shows = sh.worker.shows;
-            }) lt in
-            let at : machine.stretch t a.steps.bank.worker s ≡ At (stop_is stop) y.place k.worker =
-            ap (λ p. stretch_by t a.steps.bank.worker n p s.worker) sh.place ∙ k.at in
-            let is : machine.ready t a.steps.bank.worker s ≡ machine.ready_at s (At (stop_is stop) y.place k.worker) =
-            ready_is t a.steps.bank.worker s sh.clear
-            ∙ ap (machine.ready_by t a.steps.bank.worker s) (sh.way ∙ ap way_is on)
-            ∙ ap (machine.ready_at s) at in
-            at_exchange t a.steps.bank.worker s sh.clear (stopped_at stop moved) sh.exchanges sh.reached
-            (machine.ready_at s (At (stop_is stop) y.place k.worker)) is
-            (at_ready t s y.place k.worker sh.way
-            (record {
-              shows = k.shows;
-              cells = k.carried.cells ∙ sh.worker.cells;
-              sent = sh.worker.sent ∙ ap (map unanswered) (sym k.carried.wanted);
-              taken = λ j. ap (λ l. slice_index_or l j []) k.carried.taken ∙ sh.worker.taken j;
-            }) stop);
+        shown = comes;
         worker = same.worker;
-        falls = fewer stop a.way on (rank code bound y) (rank code bound a.steps) falls;
+        falls = fewer stop a.way (is_held (put_is y.uniform.put)) on (rank code bound y) (rank code bound a.steps) falls;
       }
 
 -- ---- a run that ends
@@ -199,12 +237,17 @@ ended code m bound a go off =
           asked = e.asked;
           few = e.few;
           buffers = e.buffers;
+          values = e.values;
+          below = e.below;
         };
         going = go.going;
         count = go.count;
         verified = go.verified;
         registers = λ h. absurd (off h);
         stands = λ h. absurd (off h);
+        goes = closing a.way off go.going;
+        few = λ h. cc;
+        awaited = λ h. cc;
       };
       shown = λ n s enough sh.
           let t = setting code m bound n in
@@ -217,9 +260,21 @@ ended code m bound a go off =
             worker = (let q = sh.worker in record { shows = q.shows; cells = q.cells; sent = q.sent; taken = q.taken });
           });
       worker = refl;
-      falls = omega arith;
+      falls = no_more a.way off (rank code bound a.steps);
     }
   where
+    closing : (way : Way) → (way ≡ ways.On → ⊥) → machine.is_over (way_is way) ≡ false → GoesWith way steps.Close
+    closing ways.On h k = absurd (h refl)
+    closing (ways.Ending ended) h k = tt
+    closing (ways.Past key ended) h k = cc
+    closing (ways.Stopped mark) h k = cc
+
+    no_more : (way : Way) → (way ≡ ways.On → ⊥) → (n : ℕ) → left_at_by way steps.Close n ≤ left_by way n
+    no_more ways.On h n = absurd (h refl)
+    no_more (ways.Ending ended) h n = omega arith
+    no_more (ways.Past key ended) h n = omega arith
+    no_more (ways.Stopped mark) h n = omega arith
+
     stays : (way : Way) → (way ≡ ways.On → ⊥) → (place : ℕ) → place ≡ place_behind way place
     stays ways.On h place = absurd (h refl)
     stays way h place = refl

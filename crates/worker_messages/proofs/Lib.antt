@@ -1,5 +1,6 @@
 pub mod ActiveLemmas
 pub mod ReachedLemmas
+pub mod AwaitedLemmas
 pub mod RoomLemmas
 pub mod ArrivedLemmas
 pub mod WrittenLemmas

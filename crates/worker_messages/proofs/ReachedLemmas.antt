@@ -1,6 +1,8 @@
 -- What is so of every state that a worker may come to.
 use Rattle.std.proofs.Common.{◌≡◌, ℕ, zero, suc, List, [], ℤ, refl, sym, ap, subst}
 use Rattle.superstep_code.specs.Limits.{IsCode}
+use Rattle.superstep_machine.specs.declared.mark.HeaderMark.{HeaderMark}
+use Rattle.superstep_machine.specs.declared.mark.HeaderMark.TheVariants.{Clear, OutOfMemory, OutOfReserve}
 use Rattle.superstep_machine.specs.Setting.{Setting}
 use Rattle.superstep_machine.specs.Worker.{Worker}
 use Rattle.superstep_machine.specs.Stretch.{Stop, ToSend, ToReply, ToVote, ToClose, Arrival, Nowhere, At}
@@ -65,11 +67,9 @@ module _ (t : Setting) (code : IsCode t.code) (room : IsMapFor t.code t.map) (fo
   pathed_at s (At (ToVote d) place y) p k h = on_path (ToVote d) place y p k
   pathed_at s (At (ToClose ended) place y) p k h = on_path (ToClose ended) place y p k
 
-  pub exchange_pathed : (n : ℕ) (s : machine.State) → IsReached t w n s → s.refusals ≡ [] →
-      ((machine.ready t w s).purpose ≡ machine.Closes → ⊥) → IsPathed t w (machine.ready t w s).state.worker
-  exchange_pathed n s r clear =
-      subst (λ (r : machine.Ready). (r.purpose ≡ machine.Closes → ⊥) → IsPathed t w r.state.worker)
-      (ap (λ ms. machine.ready_with t w s (machine.mark_now ms)) (sym clear)) (go s.way refl)
+  pub ready_pathed : (n : ℕ) (s : machine.State) → IsReached t w n s → ((machine.ready t w s).purpose ≡ machine.Closes → ⊥) →
+      IsPathed t w (machine.ready t w s).state.worker
+  ready_pathed n s r = marks (machine.mark_now s.refusals)
     where
       go : (way : machine.Way) → s.way ≡ way → ((machine.ready_by t w s way).purpose ≡ machine.Closes → ⊥) →
           IsPathed t w (machine.ready_by t w s way).state.worker
@@ -80,3 +80,13 @@ module _ (t : Setting) (code : IsCode t.code) (room : IsMapFor t.code t.map) (fo
       go (machine.Past key ended) e = λ h. absurd (h refl)
       go (machine.Refused mark) e = λ h. absurd (h refl)
       go machine.Lost e = λ h. absurd (h refl)
+
+      marks : (mark : HeaderMark) → ((machine.ready_with t w s mark).purpose ≡ machine.Closes → ⊥) →
+          IsPathed t w (machine.ready_with t w s mark).state.worker
+      marks Clear = go s.way refl
+      marks OutOfMemory = λ h. absurd (h refl)
+      marks OutOfReserve = λ h. absurd (h refl)
+
+  pub exchange_pathed : (n : ℕ) (s : machine.State) → IsReached t w n s → s.refusals ≡ [] →
+      ((machine.ready t w s).purpose ≡ machine.Closes → ⊥) → IsPathed t w (machine.ready t w s).state.worker
+  exchange_pathed n s r clear = ready_pathed n s r

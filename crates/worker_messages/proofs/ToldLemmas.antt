@@ -191,12 +191,17 @@ module _ (b : Local) (z : Buffers) where
       asked = e.asked;
       few = e.few;
       buffers = buffers;
+      values = e.values;
+      below = e.below;
     });
     going = h.going;
     count = h.count;
     verified = h.verified;
     registers = h.registers;
     stands = h.stands;
+    goes = h.goes;
+    few = h.few;
+    awaited = λ e. let q = h.awaited e in record { few = q.few; reads = q.reads; own = q.own };
   }
 
 -- ---- marks

@@ -18,7 +18,7 @@ use Rattle.worker_messages.specs.declared.way.Way.TheVariants as ways
 use Rattle.worker_messages.specs.declared.local.Local.{Local}
 use Rattle.worker_messages.specs.Reached.{most_instructions}
 use Rattle.worker_messages.specs.Shown.{IsShown, IsAtExchange}
-use Rattle.worker_messages.specs.Equipped.{IsAtStep, left}
+use Rattle.worker_messages.specs.Equipped.{IsAtStep, left, left_at}
 
 -- what the exchange is for at which a worker stops: a close sends first what is held
 abbrev pub step_at : Stop → Bool → Step
@@ -50,7 +50,7 @@ pub record HasArrived (code : SuperstepCode) (m : Shape) (bound : ℕ) (a b : Lo
   pub shown : (n : ℕ) (s : State) → most_instructions code bound < n → IsShown (setting code m bound n) a.steps.bank.worker a s →
       IsAtExchange (setting code m bound n) a.steps.bank.worker b s
   pub worker : b.steps.bank.worker ≡ a.steps.bank.worker
-  pub falls : left code bound b ≤ left code bound a
+  pub falls : left_at code bound b ≤ left code bound a
 
 -- It can write its messages to rows of that room.
 pub record CanTell (rule : Rule) (m : Shape) (room : ℕ) (x : Local) : Type 0 where

@@ -1,16 +1,22 @@
 -- What a worker of a run has room for, and what it may take for granted.
 use Rattle.std.specs.Prelude.{◌≡◌, ℕ, ◌+◌, ◌-◌, ◌*◌, ◌/◌, ◌^◌, ◌<◌, ◌≤◌, List, length, map, Some, false, Vec, vec_capacity, slice_get}
 use Rattle.std.specs.Global.{Global}
+use Rattle.std.specs.List.{AllByRecursion}
 use Rattle.address_map.specs.Lawful.{Shape}
+use Rattle.superstep_code.specs.declared.instr.Side.TheVariants.{Uniform, Private}
 use Rattle.superstep_code.specs.declared.instr.Instr.{Instr}
 use Rattle.superstep_code.specs.declared.instr.Instr.TheVariants.{Send, Reply, Vote, Halt}
 use Rattle.superstep_code.specs.Code.{SuperstepCode}
 use Rattle.superstep_machine.specs.Run.{State, setting, is_over}
+use Rattle.superstep_machine.specs.Fitting.{IsCellBelow}
+use Rattle.superstep_steps.specs.declared.read.Read.{Read}
 use Rattle.bsp_verify.specs.WellFormed.{IsWellFormed}
 use Rattle.flat_machine.specs.Flatness.{IsMapFor}
 use Rattle.run_limits.specs.Within.{words_for_each}
 use Rattle.combining.specs.AllModules.{column, room_at}
+use Rattle.combining.specs.Asked.{IsAskBelow}
 use Rattle.message_rows.specs.Sends.{words_of}
+use Rattle.worker_steps.specs.Shown.{cells_at}
 use Rattle.worker_steps.specs.Fitted.{IsFitted}
 use Rattle.worker_steps.specs.Met.{IsVerifiedAt}
 use Rattle.worker_steps.specs.Stretch.{rank}
@@ -37,8 +43,8 @@ pub record AreBuffers (p most : ℕ) (buffers : Buffers) : Type 0 where
   pub counts : length buffers.counts.items ≡ p
   pub reply : length buffers.reply.items ≡ most
 
--- It has room for its processors and for what it sends and is asked, it is one of as many workers as the map has modules, and
--- it has the cells of its module.
+-- It has room for its processors, for what it sends and is asked, and for a value of each processor; it is one of as many workers as the
+-- map has modules; it has the cells of its module; and what it sent asks for cells of the map.
 pub record IsEquipped (code : SuperstepCode) (m : Shape) (x : Local) : Type 0 where
   pub fitted : IsFitted code x.steps
   pub workers : x.steps.bank.workers ≡ m.parts
@@ -47,6 +53,8 @@ pub record IsEquipped (code : SuperstepCode) (m : Shape) (x : Local) : Type 0 wh
   pub asked : HaveRoom m.parts (most_words code m) x.asked.items
   pub few : (j : ℕ) → length (column (words_of x.asked.items) j) ≤ most_words code m
   pub buffers : AreBuffers m.parts (most_words code m) x.buffers
+  pub values : length x.values.items ≡ x.steps.bank.masks.most
+  pub below : AllByRecursion (IsAskBelow m.count) x.sent.held
 
 -- Verified code and a map with a place for each cell.
 pub record IsRunnable (code : SuperstepCode) (m : Shape) : Type 0 where
@@ -73,8 +81,30 @@ instr_of steps.Reply = Reply
 instr_of (steps.Vote d) = Vote d
 instr_of steps.Close = Halt
 
+-- A read that awaits an answer, of a worker with so many private registers and so many processors: its cell is one of so many, the
+-- register of a private read is there, and a uniform read is awaited where there are no processors.
+pub record IsAwaited (cells registers many : ℕ) (r : Read) : Type 0 where
+  pub cell : IsCellBelow cells r.cell
+  pub register : r.side ≡ Private → r.destination < registers
+  pub alone : r.side ≡ Uniform → many ≡ 0
+
+-- At most eight reads await an answer, and the cells that the processors asked for are of the map.
+pub record AwaitsAnswers (m : Shape) (x : Local) : Type 0 where
+  pub few : length x.steps.uniform.awaited.items ≤ 8
+  pub reads : AllByRecursion (IsAwaited m.count (length x.steps.bank.columns.items) x.steps.bank.masks.many) x.steps.uniform.awaited.items
+  pub own : (j : ℕ) → j < x.steps.bank.masks.many →
+      AllByRecursion (IsCellBelow m.count) (cells_at (length x.steps.uniform.awaited.items) x.steps.awaited.items j)
+
+-- for which exchanges there is which way: what goes on doesn't close, and what ends sends first what is held
+abbrev pub GoesWith : Way → Step → Type 0
+GoesWith ways.On steps.Close = ⊥
+GoesWith ways.On step = Unit {0}
+GoesWith (ways.Ending ended) steps.Send = Unit {0}
+GoesWith (ways.Ending ended) steps.Close = Unit {0}
+GoesWith way step = ⊥
+
 -- A worker at an exchange, at whose place that stands; there is room for all registers of the program, so that what the exchange brings
--- takes no memory.
+-- takes no memory; at a send at most eight reads are held, and a reply answers what is awaited.
 pub record IsAtStep (code : SuperstepCode) (m : Shape) (bound : ℕ) (x : Local) : Type 0 where
   pub equipped : IsEquipped code m x
   pub going : is_over (way_is x.way) ≡ false
@@ -82,6 +112,9 @@ pub record IsAtStep (code : SuperstepCode) (m : Shape) (bound : ℕ) (x : Local)
   pub verified : x.way ≡ ways.On → IsVerifiedAt code x.steps
   pub registers : x.way ≡ ways.On → 2 ^ 16 ≤ length x.steps.uniform.registers.items
   pub stands : x.way ≡ ways.On → slice_get code.instructions x.steps.place ≡ Some (instr_of x.step)
+  pub goes : GoesWith x.way x.step
+  pub few : x.step ≡ steps.Send → length x.steps.uniform.asks.items ≤ 8
+  pub awaited : x.step ≡ steps.Reply → AwaitsAnswers m x
 
 -- how many instructions and exchanges may still come before the run is over
 abbrev pub left_by : Way → ℕ → ℕ
@@ -91,3 +124,13 @@ left_by way rank = 0
 
 abbrev pub left : SuperstepCode → ℕ → Local → ℕ
 left code bound x = left_by x.way (rank code bound x.steps)
+
+-- how many may still come for a worker that stands at an exchange: one that ends sends first what is held
+abbrev pub left_at_by : Way → Step → ℕ → ℕ
+left_at_by ways.On step rank = rank + 2
+left_at_by (ways.Ending ended) steps.Send rank = 2
+left_at_by (ways.Ending ended) step rank = 1
+left_at_by way step rank = 0
+
+abbrev pub left_at : SuperstepCode → ℕ → Local → ℕ
+left_at code bound x = left_at_by x.way x.step (rank code bound x.steps)

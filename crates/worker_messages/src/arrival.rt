@@ -17,7 +17,7 @@ ghost use Rattle.worker_messages.specs.declared.way.Way.TheVariants as way_is_on
 ghost use Rattle.worker_messages.specs.declared.step.Step.TheVariants as step_is;
 ghost use Rattle.worker_messages.specs.Reached.{most_instructions};
 ghost use Rattle.worker_messages.specs.Shown.{is_stopped, purpose_is, marked, IsShown, IsAtExchange};
-ghost use Rattle.worker_messages.specs.Equipped.{most_words, left, AreBuffers, MayGoOn, IsAtStep};
+ghost use Rattle.worker_messages.specs.Equipped.{most_words, left, left_at, AreBuffers, MayGoOn, IsAtStep};
 ghost use Rattle.worker_messages.specs.Arrived.{step_at as spec_step_at, way_at as spec_way_at, IsRoomier, HasArrived, CanTell};
 ghost use Rattle.worker_messages.specs.Told.{told, told_mark, IsWrittenFor};
 
@@ -81,6 +81,7 @@ impl Local {
         requires on { self.old.way ≡ way_is_one_of.On }
         ensures { OnOk result ((m : Shape) → MayGoOn code.now m bound self.old → HasArrived code.now m bound self.old self.new) }
     {
+        let _instructions = code.instructions();
         let stop = self.steps.advance(code, rule, bound)?;
         make_registers(&mut self.steps.uniform)?;
         self.step = step_at(stop, self.steps.uniform.put);
@@ -199,7 +200,7 @@ impl Local {
             self.old.steps.bank.worker (marked self.new.way s) j) (message_at (W.filled row.new) j) }
         ensures at { is_stopped self.new.way ≡ false → IsAtStep code.now (M.shape map.now) bound self.new }
         ensures worker { is_stopped self.new.way ≡ false → self.new.steps.bank.worker ≡ self.old.steps.bank.worker }
-        ensures left { is_stopped self.new.way ≡ false → left code.now bound self.new ≤ left code.now bound self.old }
+        ensures fewer { is_stopped self.new.way ≡ false → left_at code.now bound self.new ≤ left code.now bound self.old }
         ensures refused { (mark : MarkOfHeader) → self.new.way ≡ way_is_one_of.Stopped mark → mark ≡ mark_is.OutOfMemory }
         ensures step { result ≡ self.new.step }
         ensures sent { self.new.buffers.sent ≡ words_in (W.filled row.new) }

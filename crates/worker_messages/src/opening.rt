@@ -138,12 +138,14 @@ fn open<M: AddressMap>(
     let sent = Asks::with_room(alloc, 8 * (most as usize + 1))?;
     let asked = lists(alloc, workers, words)?;
     let buffers = buffers(alloc, workers, words)?;
+    let values = vec![in alloc; 0; most as usize]?;
     Ok(Local {
         steps,
         cells,
         sent,
         asked,
         buffers,
+        values,
         way: Way::On,
         step: Step::Close,
     })

@@ -1,10 +1,11 @@
 use Rattle.std.proofs.Common.{◌≡◌, ℕ, ◌≤◌, ◌+◌, ◌-◌, ◌*◌, ◌/◌, pos, length, map, sym, ap, subst, ◌∙◌, arith, refl}
 use Rattle.std.specs.Prelude.{slice_index_or}
-use Rattle.std.specs.List.{range_with_len}
+use Rattle.std.specs.List.{AllByRecursion, range_with_len}
 use Rattle.superstep_machine.specs.Run.{setting, opening}
 use Rattle.superstep_machine.specs.Setting.{workers, processors}
 use Rattle.run_limits.specs.Within.{words_for_each}
 use Rattle.run_limits.proofs.Shares.{few_processors}
+use Rattle.combining.specs.Asked.{IsAskBelow}
 use Rattle.worker_messages.specs.declared.local.Local.{Local}
 use Rattle.worker_messages.specs.declared.way.Way.TheVariants as ways
 use Rattle.worker_messages.specs.declared.step.Step.TheVariants as steps
@@ -23,6 +24,7 @@ returns-clause-shown g c = λ bound n.
       sent = c.in_ok-sent.sent;
       asked = c.in_ok-asked.asked;
       buffers = c.in_ok-buffers.buffers;
+      values = c.in_ok-values.values;
       way = ways.On;
       step = steps.Close;
     } in
@@ -43,6 +45,7 @@ returns-clause-going g c = λ bound runnable.
       sent = c.in_ok-sent.sent;
       asked = c.in_ok-asked.asked;
       buffers = c.in_ok-buffers.buffers;
+      values = c.in_ok-values.values;
       way = ways.On;
       step = steps.Close;
     } in
@@ -64,6 +67,8 @@ returns-clause-going g c = λ bound runnable.
       asked = subst (λ (s : ℕ × ℕ). HaveRoom s.0 s.1 x.asked.items) (λ i. (c.modules-workers.ensures i, same i)) c.in_ok-asked.ensures.room;
       few = λ j. let none = ap length (c.in_ok-asked.ensures.empty j) in omega (arith, none);
       buffers = subst (λ (s : ℕ × ℕ). AreBuffers s.0 s.1 x.buffers) (λ i. (c.modules-workers.ensures i, same i)) c.in_ok-buffers.ensures;
+      values = (let n = c.in_ok-values.ensures.len in let most = c.in_ok-steps.ensures.most in omega (arith, n, most));
+      below = subst (AllByRecursion (IsAskBelow m.count)) (sym c.in_ok-sent.ensures.ok.0) tt;
     } in
     may_open code m c.args.input.now x c.in_ok-cells.ensures.fit refl c.in_ok-steps.ensures.place (c.in_ok-steps.ensures.shows code.rule)
     (c.in_ok-cells.ensures.values
