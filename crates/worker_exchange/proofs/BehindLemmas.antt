@@ -1,5 +1,6 @@
 -- The state behind an exchange.
 use Rattle.std.proofs.Common.{◌≡◌, ℕ, suc, List, [], ◌∷◌, map, refl, sym, ap, subst, ◌∙◌, rules}
+use Rattle.std.specs.Prelude.{FitsSigned}
 use Rattle.std.specs.List.{AllByRecursion}
 use Rattle.std.specs.Int.{w64, cast_signed}
 use Rattle.pram_model.specs.declared.rule.Rule.{Rule}
@@ -19,9 +20,12 @@ use Rattle.worker_exchange.specs.Received.{messages_to}
 
 -- ---- messages that are read have values of 64 bits
 
+pub word_fits : (w : ℕ) → FitsSigned w64 (cast_signed w64 w)
+word_fits w = search rules
+
 words_fit : (words : List ℕ) → AreValues (map (cast_signed w64) words)
 words_fit [] = tt
-words_fit (w ∷ words) = (search rules, words_fit words)
+words_fit (w ∷ words) = (word_fits w, words_fit words)
 
 pub values_read : (rule : Rule) (m : Shape) (w : ℕ) (purpose : machine.Purpose) (came : List WrittenMessage) →
     AllByRecursion (λ (x : Message). AreValues x.values) (messages_to rule m w purpose came)

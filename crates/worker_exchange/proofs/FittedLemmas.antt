@@ -1,16 +1,30 @@
 -- A worker behind a send has room still, and stands on the path of control.
-use Rattle.std.proofs.Common.{◌≡◌, ℕ, ◌+◌, ◌*◌, ◌<◌, ◌≤◌, length, Option, Some, Vec, refl, sym, ap, subst, ◌∙◌, arith}
+use Rattle.std.proofs.Common.{◌≡◌, ℕ, zero, suc, ◌+◌, ◌*◌, ◌<◌, ◌≤◌, List, [], ◌∷◌, length, map, drop, Option, Some, Vec, vec_capacity, ℤ}
+use Rattle.std.proofs.Common.{refl, sym, ap, subst, ◌∙◌, arith}
 use Rattle.std.specs.Prelude.{nat_lt, slice_get}
 use Rattle.std.specs.Global.{Global}
-use Rattle.superstep_code.specs.declared.instr.Instr.TheVariants.{Send}
+use Rattle.std.specs.List.{AllByRecursion, zip, range_with_len}
+use Rattle.std.proofs.lemmas.List.{length-map}
+use Rattle.std.proofs.lemmas.List.FromFn.{length-map-range_with_len}
+use Rattle.address_map.specs.Lawful.{Shape}
+use Rattle.superstep_code.specs.declared.instr.Instr.TheVariants.{Send, Vote}
 use Rattle.superstep_code.specs.Code.{SuperstepCode}
 use Rattle.superstep_machine.specs.declared.key.Key.{Key}
-use Rattle.superstep_machine.specs.Setting.{processors}
-use Rattle.superstep_machine.specs.Run.{is_held}
+use Rattle.superstep_machine.specs.Setting.{Setting, processors}
+use Rattle.superstep_machine.specs.Parts.{UniformPart}
+use Rattle.superstep_machine.specs.Words.{Message}
+use Rattle.superstep_machine.specs.Run.{no_worker, is_held}
+use Rattle.superstep_steps.specs.declared.read.Read.{Read}
+use Rattle.superstep_steps.specs.declared.uniform.UniformState.{UniformState}
 use Rattle.superstep_steps.specs.Views.{put_is}
 use Rattle.bsp_verify.specs.declared.state.State.{State}
 use Rattle.bsp_verify.specs.States.{after}
 use Rattle.bsp_verify.specs.WellFormed.{IsWellFormed}
+use Rattle.combining.specs.AllModules.{column, room_at}
+use Rattle.combining.specs.Asked.{HeldAsks, IsAskBelow}
+use Rattle.message_rows.specs.Sends.{words_of}
+use Rattle.worker_messages.specs.declared.local.Local.{Local}
+use Rattle.worker_messages.specs.Equipped.{most_words, AreBuffers, IsEquipped}
 use Rattle.worker_bank.specs.declared.bank.Bank.{Bank}
 use Rattle.worker_bank.specs.Bank.{number_of, IsBank}
 use Rattle.worker_steps.specs.declared.worker.WorkerState.{WorkerState}
@@ -18,6 +32,7 @@ use Rattle.worker_steps.specs.Shown.{numbers_in}
 use Rattle.worker_steps.specs.Fitted.{AreColumns, IsFitted}
 use Rattle.worker_steps.specs.Met.{Describes, IsVerifiedAt}
 use Rattle.worker_steps.proofs.StretchLemmas.{verified_next}
+use Rattle.worker_exchange.specs.Settled.{IsSettled}
 use Rattle.worker_exchange.specs.Taken.{IsSentWorker}
 
 module _ (code : SuperstepCode) (x y : WorkerState) (noted : Option Key) (sent : IsSentWorker x y noted) where
@@ -67,3 +82,76 @@ module _ (code : SuperstepCode) (x y : WorkerState) (noted : Option Key) (sent :
       IsVerifiedAt code (record y { place = x.place + 1 })
   verified_sent formed v there =
       verified_next code x Send formed v there (record y { place = x.place + 1 }) refl (λ state d allowed within. describes_sent state d)
+
+-- ---- a worker at all that it has room for
+
+pub drop_short : {A : Type 0} (k : ℕ) (xs : List A) → length (drop k xs) ≤ length xs
+drop_short zero xs = omega arith
+drop_short (suc k) [] = omega arith
+drop_short (suc k) (x ∷ xs) = let h = drop_short k xs in omega (arith, h)
+
+-- what is short within some columns is short behind them
+pub few_kept : (columns : List (List ℕ)) (most : ℕ) → ((j : ℕ) → j < length columns → length (column columns j) ≤ most) → (j : ℕ) →
+    length (column columns j) ≤ most
+few_kept [] most h j = omega arith
+few_kept (ws ∷ columns) most h zero = h 0 (omega arith)
+few_kept (ws ∷ columns) most h (suc j) = few_kept columns most (λ k l. h (suc k) (omega (arith, l))) j
+
+zip_long : {A B : Type 0} (xs : List A) (ys : List B) → length xs ≡ length ys → length (zip xs ys) ≡ length ys
+zip_long [] [] e = refl
+zip_long [] (y ∷ ys) e = absurd (omega (arith, e))
+zip_long (x ∷ xs) [] e = absurd (omega (arith, e))
+zip_long (x ∷ xs) (y ∷ ys) e = ap suc (zip_long xs ys (omega (arith, e)))
+
+-- a send leaves as many cells
+pub settled_long : (t : Setting) (w : ℕ) (u : UniformPart) (messages : List Message) (old new : List ℤ) (noted : Option Key) →
+    IsSettled t w u messages old new noted → length old ≡ t.map.width w → length new ≡ length old
+settled_long t w u messages old new noted settled long =
+    let range = length-map-range_with_len (λ k. k) 0 (t.map.width w) in
+    let same = mapped_same (range_with_len 0 (t.map.width w)) in
+    sym (ap length (settled.cells (record no_worker { cells = old }) refl))
+    ∙ length-map (zip (range_with_len 0 (t.map.width w)) old) _
+    ∙ zip_long (range_with_len 0 (t.map.width w)) old (ap length (sym same) ∙ range ∙ sym long)
+  where
+    mapped_same : (xs : List ℕ) → map (λ k. k) xs ≡ xs
+    mapped_same [] = refl
+    mapped_same (x ∷ xs) = ap (λ ys. x ∷ ys) (mapped_same xs)
+
+module _ (code : SuperstepCode) (m : Shape) (x z : Local) (noted : Option Key) (sent : IsSentWorker x.steps z.steps noted)
+    (room : z.steps.asks.room ≡ x.sent.room) (kept : z.sent ≡ x.steps.asks) (cells : length z.cells ≡ length x.cells)
+    (rooms : map vec_capacity z.asked.items ≡ map vec_capacity x.asked.items)
+    (few : (j : ℕ) → length (column (words_of z.asked.items) j) ≤ most_words code m) (buffers : z.buffers ≡ x.buffers)
+    (values : z.values ≡ x.values) where
+  pub equipped_sent : AllByRecursion (IsAskBelow m.count) x.steps.asks.held → IsEquipped code m x → IsEquipped code m z
+  equipped_sent below e =
+      let most = ap (λ (b : Bank). b.masks.most) sent.bank in
+      record {
+        fitted = fitted_sent code x.steps z.steps noted sent e.fitted (let r = e.sent in omega (arith, r, room));
+        workers = ap (λ (b : Bank). b.workers) sent.bank ∙ e.workers;
+        sent = (let r = e.fitted.asks in let k = ap (λ (a : HeldAsks). a.room) kept in omega (arith, r, k, most));
+        cells = cells ∙ e.cells ∙ ap m.width (ap (λ (b : Bank). b.worker) (sym sent.bank));
+        asked = record {
+          count = sym (length-map z.asked.items vec_capacity) ∙ ap length rooms ∙ length-map x.asked.items vec_capacity ∙ e.asked.count;
+          room = λ j l. ap (λ rs. room_at rs j) rooms ∙ e.asked.room j l;
+        };
+        few = few;
+        buffers = subst (λ b. AreBuffers m.parts (most_words code m) b) (sym buffers) e.buffers;
+        values = ap (λ (v : Vec ℤ Global). length v.items) values ∙ e.values ∙ sym most;
+        below = subst (λ (a : HeldAsks). AllByRecursion (IsAskBelow m.count) a.held) (sym kept) below;
+      }
+
+-- ---- a vote
+
+pub verified_voted : (code : SuperstepCode) (x : WorkerState) (u : UniformState) (d : ℕ) → IsWellFormed code → IsVerifiedAt code x →
+    slice_get code.instructions x.place ≡ Some (Vote d) → u.width ≡ x.uniform.width → u.asks ≡ x.uniform.asks →
+    u.awaited ≡ x.uniform.awaited → u.put ≡ x.uniform.put → IsVerifiedAt code (record x { uniform = u; place = x.place + 1 })
+verified_voted code x u d formed v there width asks awaited put =
+    verified_next code x (Vote d) formed v there (record x { uniform = u; place = x.place + 1 }) refl
+    (λ state q allowed within. record {
+      outside = λ e. width ∙ q.outside e;
+      narrow = subst (λ n. n ≤ code.procs) (sym width) q.narrow;
+      masks = q.masks;
+      asks = ap (λ (v : Vec Read Global). length v.items) asks ∙ q.asks;
+      put = ap (λ o. is_held (put_is o)) put ∙ q.put;
+      awaited = ap (λ (v : Vec Read Global). nat_lt 0 (length v.items)) awaited ∙ q.awaited;
+    })

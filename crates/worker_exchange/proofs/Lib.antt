@@ -4,3 +4,5 @@ pub mod SentLemmas
 pub mod HeardLemmas
 pub mod BehindLemmas
 pub mod FittedLemmas
+pub mod AnswerLemmas
+pub mod ReplyLemmas

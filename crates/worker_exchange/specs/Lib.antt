@@ -2,3 +2,5 @@ pub mod Received
 pub mod Parts
 pub mod Settled
 pub mod Taken
+pub mod Answered
+pub mod Behind

@@ -1,5 +1,5 @@
 -- The messages of a column, as they are read.
-use Rattle.std.specs.Prelude.{ℕ, List, map, Option, None, Bool}
+use Rattle.std.specs.Prelude.{ℕ, List, map, Option, None, Bool, true, false}
 use Rattle.std.specs.List.{list_any}
 use Rattle.pram_values.specs.Total.{total}
 use Rattle.pram_model.specs.declared.rule.Rule.{Rule}
@@ -7,6 +7,7 @@ use Rattle.address_map.specs.Lawful.{Shape}
 use Rattle.superstep_machine.specs.declared.key.Key.{Key}
 use Rattle.superstep_machine.specs.declared.mark.HeaderMark.{HeaderMark}
 use Rattle.superstep_machine.specs.declared.header.MessageHeader.{MessageHeader}
+use Rattle.superstep_machine.specs.declared.mark.HeaderMark.TheVariants.{Clear}
 use Rattle.superstep_machine.specs.Keys.{least}
 use Rattle.superstep_machine.specs.Marks.{mark_among}
 use Rattle.superstep_machine.specs.HeaderWords.{read_header}
@@ -33,3 +34,7 @@ key_heard = total None least (λ (x : WrittenMessage). (read_header x.header).ke
 
 abbrev pub any_heard : List WrittenMessage → Bool
 any_heard = list_any (λ (x : WrittenMessage). (read_header x.header).active)
+
+abbrev pub is_marked : HeaderMark → Bool
+is_marked Clear = false
+is_marked mark = true

@@ -1,4 +1,4 @@
--- What a send leaves of a worker between two exchanges.
+-- What the messages of an exchange leave of a worker between two exchanges.
 use Rattle.std.specs.Prelude.{◌≡◌, [], Option, None}
 use Rattle.superstep_machine.specs.declared.key.Key.{Key}
 use Rattle.superstep_machine.specs.Keys.{least}
@@ -6,6 +6,7 @@ use Rattle.superstep_machine.specs.Sending.{uniform_sent}
 use Rattle.superstep_steps.specs.declared.uniform.UniformState.{UniformState}
 use Rattle.superstep_steps.specs.Views.{uniform_of}
 use Rattle.worker_steps.specs.declared.worker.WorkerState.{WorkerState}
+use Rattle.worker_messages.specs.declared.local.Local.{Local}
 
 -- the uniform part: what was held is on its way
 pub record IsSentPart (u v : UniformState) : Type 0 where
@@ -29,3 +30,10 @@ pub record IsSentWorker (x y : WorkerState) (noted : Option Key) : Type 0 where
   pub puts_room : y.puts.room ≡ x.puts.room
   pub key : y.key ≡ least x.key noted
   pub place : y.place ≡ x.place
+
+-- What no message changes: which worker it is, how it stands with its run, its place, and how many statements began.
+pub record StandsStill (x y : Local) : Type 0 where
+  pub worker : y.steps.bank.worker ≡ x.steps.bank.worker
+  pub way : y.way ≡ x.way
+  pub place : y.steps.place ≡ x.steps.place
+  pub count : y.steps.uniform.count ≡ x.steps.uniform.count

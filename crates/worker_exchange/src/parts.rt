@@ -1,4 +1,4 @@
-//! The words of puts and of asks in the messages of a send.
+//! The words of each message, and in a send those of its puts and of its asks.
 
 ghost use Rattle.std.specs.Prelude.{◌≡◌, ◌<◌, ◌≤◌, ◌*◌, ℕ, length, min};
 ghost use Rattle.superstep_machine.specs.HeaderWords.{read_header};
@@ -72,5 +72,16 @@ pub(crate) fn ask_parts<'c, R: WriteRule, C: Column>(
     'messages: for i in 0..workers {
         let header = MessageHeader::from_words(column.header(i));
         parts[i] = asks_of(rule, header, column.words(i));
+    }
+}
+
+/// The words of each message.
+pub(crate) fn word_parts<'c, C: Column>(column: &'c C, workers: usize, parts: &mut [&'c [u64]])
+    requires column { length (C.came column.now) ≡ workers }
+    requires room { workers ≤ length parts.old }
+    ensures each { (i : ℕ) → i < workers → part_at parts.new i ≡ (message_at (C.came column.now) i).words }
+{
+    'messages: for i in 0..workers {
+        parts[i] = column.words(i);
     }
 }

@@ -1,19 +1,25 @@
 //! What was held is on its way, and what others ask is kept.
 
-ghost use Rattle.std.specs.Prelude.{◌≡◌, ◌<◌, ◌≤◌, ℕ, [], length, map as each, vec_capacity};
+ghost use Rattle.std.specs.Prelude.{◌≡◌, ◌<◌, ◌≤◌, ◌+◌, ℕ, [], Some, length, map as each, vec_capacity, slice_get};
+ghost use Rattle.std.specs.List.{AllByRecursion};
+ghost use Rattle.superstep_code.specs.declared.instr.Instr.TheVariants as instr_is;
 ghost use Rattle.superstep_code.specs.Code.{SuperstepCode};
 ghost use Rattle.superstep_machine.specs.Worker.{Worker};
 ghost use Rattle.superstep_machine.specs.Sending.{asks_held, after_send};
 ghost use Rattle.superstep_machine.specs.Run.{setting, Sends};
+ghost use Rattle.bsp_verify.specs.WellFormed.{IsWellFormed};
 ghost use Rattle.combining.specs.Adding.{unanswered};
+ghost use Rattle.combining.specs.Asked.{IsAskBelow};
+ghost use Rattle.worker_steps.specs.Met.{IsVerifiedAt};
 ghost use Rattle.worker_messages.specs.Shown.{ShowsWorker};
+ghost use Rattle.worker_messages.specs.Equipped.{IsEquipped};
 ghost use Rattle.worker_exchange.specs.Received.{messages_to};
 ghost use Rattle.superstep_machine.specs.HeaderWords.{read_header};
 ghost use Rattle.superstep_machine.specs.WordReading.{ask_part};
 ghost use Rattle.combining.specs.AllModules.{column as column_at, room_at};
 ghost use Rattle.message_rows.specs.Rows.{message_at};
 ghost use Rattle.message_rows.specs.Sends.{words_of};
-ghost use Rattle.worker_exchange.specs.Taken.{IsSentPart, IsSentWorker};
+ghost use Rattle.worker_exchange.specs.Taken.{IsSentPart, IsSentWorker, StandsStill};
 
 use crate::parts::asks_of;
 use crate::settling::settle;
@@ -98,6 +104,13 @@ pub fn take_send<R: WriteRule, M: AddressMap, C: Column>(
         ShowsWorker (setting code (M.shape map.now) bound n) local.old.steps.bank.worker local.new
         (after_send (setting code (M.shape map.now) bound n) local.old.steps.bank.worker y
         (messages_to code.rule (M.shape map.now) local.old.steps.bank.worker Sends (C.came column.now))) }
+    ensures equipped { (code : SuperstepCode) → R.WriteRule.rule rule.now ≡ code.rule →
+        AllByRecursion (IsAskBelow (M.shape map.now).count) local.old.steps.asks.held →
+        IsEquipped code (M.shape map.now) local.old → IsEquipped code (M.shape map.now) local.new }
+    ensures verified { (code : SuperstepCode) → IsWellFormed code → IsVerifiedAt code local.old.steps →
+        slice_get code.instructions local.old.steps.place ≡ Some instr_is.Send →
+        IsVerifiedAt code (record local.new.steps { place = local.old.steps.place + 1 }) }
+    ensures still { StandsStill local.old local.new }
 {
     let part = local.steps.bank.worker;
     let noted = settle(
