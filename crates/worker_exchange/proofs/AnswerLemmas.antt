@@ -5,12 +5,12 @@ use Rattle.std.specs.Global.{Global}
 use Rattle.std.specs.List.{AllByRecursion, zip}
 use Rattle.std.proofs.lemmas.List.{drop_all, length-map, get_or-set_same, get_or-set_other}
 use Rattle.std.proofs.lemmas.Bool.{cases_eq}
+use Rattle.superstep_code.specs.declared.instr.Side.TheVariants.{Uniform}
 use Rattle.superstep_machine.specs.Parts.{Registers, Read, set_register}
 use Rattle.superstep_machine.specs.Answering.{answer, answers, destinations}
 use Rattle.superstep_machine.specs.Fitting.{IsCellBelow}
 use Rattle.superstep_steps.specs.declared.read.Read.{Read as HeldRead}
 use Rattle.superstep_steps.specs.Views.{read_is, registers_of}
-use Rattle.superstep_steps.proofs.RegisterLemmas.{set_is}
 use Rattle.combining.specs.Asked.{HeldAsk, value_for}
 use Rattle.worker_bank.specs.Columns.{value_of}
 use Rattle.worker_bank.specs.Cells.{cell_in}
@@ -23,11 +23,9 @@ each_of P [] h k d l = absurd (omega (arith, l))
 each_of P (x ∷ xs) h zero d l = h.0
 each_of P (x ∷ xs) h (suc k) d l = each_of P xs h.1 k d (omega (arith, l))
 
--- what is meant by a default doesn't matter within a list
-pub same_within : {A : Type 0} (xs : List A) (k : ℕ) (d e : A) → k < length xs → get_or xs k d ≡ get_or xs k e
-same_within [] k d e l = absurd (omega (arith, l))
-same_within (x ∷ xs) zero d e l = refl
-same_within (x ∷ xs) (suc k) d e l = same_within xs k d e (omega (arith, l))
+-- what stands for a read behind the end
+abbrev pub no_read : HeldRead
+no_read = record { side = Uniform; destination = 0; moment = record { count = 0; line = 0; position = 0 }; cell = None }
 
 pub cell_small : (n : ℕ) (cell : Option ℕ) (c : ℕ) → IsCellBelow n cell → cell ≡ Some c → c < n
 cell_small n cell c h e = subst (IsCellBelow n) e h
@@ -110,12 +108,15 @@ module _ (value : ℕ → ℕ → ℤ) where
       ap (λ ps. answers value k ps r) (drop_all k (by_read reads columns j) (omega (arith, l, a)))
 
   -- a register gets the value that came
-  pub came_there : (held : List HeldAsk) → Gives held value → (k d cell : ℕ) (c : Option ℕ) (x : ℤ) (registers : List ℤ) → c ≡ Some cell →
-      cell < 2 ^ 20 → x ≡ value_for k cell held → d < length registers →
-      registers_of (set registers d x) ≡ answer (value k) d c (registers_of registers)
-  came_there held gives k d cell c x registers is low came l =
-      set_is registers d x l ∙ ap (λ z. set_register d z (registers_of registers)) (came ∙ gives k cell low)
-      ∙ ap (λ o. answer (value k) d o (registers_of registers)) (sym is)
+  pub came_there : (held : List HeldAsk) → Gives held value → (k d cell : ℕ) (c : Option ℕ) (x : ℤ) (r : Registers) → c ≡ Some cell →
+      cell < 2 ^ 20 → x ≡ value_for k cell held → set_register d x r ≡ answer (value k) d c r
+  came_there held gives k d cell c x r is low came =
+      ap (λ z. set_register d z r) (came ∙ gives k cell low) ∙ ap (λ o. answer (value k) d o r) (sym is)
+
+  -- or keeps what it holds
+  pub none_there : (k d : ℕ) (c : Option ℕ) (r : Registers) → ((cell : ℕ) → c ≡ Some cell → ⊥) → r ≡ answer (value k) d c r
+  none_there k d None r h = refl
+  none_there k d (Some cell) r h = absurd (h cell refl)
 
 -- one value more
 pub one_value : (want : ℕ → ℤ → Type 0) (values : List ℤ) (j : ℕ) (x : ℤ) → j < length values → want j x →

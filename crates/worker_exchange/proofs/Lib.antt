@@ -6,3 +6,5 @@ pub mod BehindLemmas
 pub mod FittedLemmas
 pub mod AnswerLemmas
 pub mod ReplyLemmas
+pub mod TakeLemmas
+pub mod StandLemmas

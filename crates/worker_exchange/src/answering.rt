@@ -4,7 +4,7 @@ ghost use Rattle.std.specs.Prelude.{◌≡◌, ◌<◌, ◌≤◌, ◌+◌, ◌^
 ghost use Rattle.std.specs.List.{AllByRecursion, zip};
 ghost use Rattle.superstep_machine.specs.Answering.{answer as spec_answer, answers, destinations};
 ghost use Rattle.superstep_machine.specs.Fitting.{IsCellBelow};
-ghost use Rattle.superstep_machine.specs.Parts.{Read as SpecRead};
+ghost use Rattle.superstep_machine.specs.Parts.{Read as SpecRead, set_register};
 ghost use Rattle.superstep_steps.specs.Views.{read_is, registers_of};
 ghost use Rattle.combining.specs.Asked.{value_for};
 ghost use Rattle.worker_bank.specs.Columns.{value_of};
@@ -21,6 +21,15 @@ use superstep_steps::{Read, UniformState};
 use worker_bank::Bank;
 use worker_steps::WorkerState;
 
+// A register of the program gets a value. There is room for all of them.
+fn put(registers: &mut [i64], number: u16, value: i64)
+    requires { 2 ^ 16 ≤ length registers.old }
+    ensures value { registers_of registers.new ≡ set_register number value (registers_of registers.old) }
+    ensures count { length registers.new ≡ length registers.old }
+{
+    registers[number as usize] = value;
+}
+
 // Each read of the uniform part gets the value that came for its cell.
 fn answer_uniform(sent: &Asks, awaited: &[Read], registers: &mut [i64])
     requires few { length awaited.now ≤ 8 }
@@ -33,7 +42,7 @@ fn answer_uniform(sent: &Asks, awaited: &[Read], registers: &mut [i64])
     'reads: for k in 0..awaited.len() {
         let read = awaited[k];
         if let Some(cell) = read.cell {
-            registers[read.destination as usize] = sent.value(k as u32, cell);
+            put(registers, read.destination, sent.value(k as u32, cell));
         }
     }
 }

@@ -9,6 +9,7 @@ workers-preserved c =
     let j = c.workers.j in
     record {
       none = one_kept asked j c.clear.new.self (λ i. []) (omega arith) c.clear.ensures.items c.workers.invariant.none;
-      rooms = same_of_all vec_capacity asked j c.index-asked-j.result c.clear.new.self c.index-asked-j.is c.clear.ensures.capacity
+      rooms = same_of_all vec_capacity asked j c.index-asked-j.result c.clear.new.self c.index-asked-j.is
+          (c.clear.ensures.capacity ∙ ap vec_capacity (sym c.index-asked-j.is))
           ∙ c.workers.invariant.rooms;
     }

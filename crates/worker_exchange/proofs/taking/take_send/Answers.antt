@@ -7,6 +7,7 @@ use Rattle.superstep_machine.specs.WordReading.{put_length, ask_part}
 use Rattle.superstep_machine.specs.Run.{setting, Sends}
 use Rattle.combining.specs.AllModules.{column}
 use Rattle.combining.specs.Asked.{HeldAsks}
+use Rattle.worker_bank.specs.declared.bank.Bank.{Bank}
 use Rattle.message_rows.specs.Rows.{message_at}
 use Rattle.message_rows.specs.Sends.{words_of}
 use Rattle.worker_messages.specs.declared.local.Local.{Local}
@@ -87,4 +88,6 @@ returns-clause-verified g c = λ code formed v there.
     verified_sent code c.args.local.now.steps c.send_worker.new.steps c.settle-noted.result c.send_worker.ensures.steps formed v there
 
 pub returns-clause-still : goal.returns-clause-still
-returns-clause-still g c = ?
+returns-clause-still g c =
+    let sent = c.send_worker.ensures.steps in
+    record { worker = ap (λ (b : Bank). b.worker) sent.bank; way = refl; place = sent.place; count = sent.uniform.count }
