@@ -45,6 +45,15 @@ held_is (Some at) = refl
 
 -- ---- the way
 
+pub never : true ≡ false → ⊥
+never e = cc
+
+pub stopped_over : (way : Way) → is_stopped way ≡ true → machine.is_over (way_is way) ≡ true
+stopped_over ways.On h = cc
+stopped_over (ways.Ending ended) h = cc
+stopped_over (ways.Past k ended) h = cc
+stopped_over (ways.Stopped mark) h = refl
+
 abbrev Decides : Step → UniformPart → Option Key → Way → Way → Type 0
 Decides step u key way new = way_is new ≡ machine.decided (purpose_is step) u key (way_is way)
 

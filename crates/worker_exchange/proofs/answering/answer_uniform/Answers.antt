@@ -1,4 +1,4 @@
-use Rattle.std.proofs.Common.{sym, ap, ◌∙◌, ◌+◌, ◌^◌, arith, get_or}
+use Rattle.std.proofs.Common.{sym, ap, ◌∙◌, ◌+◌, ◌^◌, arith, rules, get_or, FitsSigned}
 use Rattle.std.specs.Int.{w64}
 use Rattle.std.proofs.lemmas.Int.{to_z-of_z}
 use Rattle.superstep_machine.specs.Parts.{set_register}
@@ -15,13 +15,13 @@ reads-preserved c =
     let k = c.reads.k in
     let before = c.reads.invariant in
     elim c.match-read.branch [
-      in-Some w ↦ (record {
+      in-Some w ↦ (let fits : FitsSigned w64 w.value.result = search rules in record {
         answered = λ value gives.
             ap (λ rs. uniform_left value reads (k + 1) (registers_of rs)) w.registers-is
             ∙ ap (uniform_left value reads (k + 1))
             (w.put.ensures.value
             ∙ ap (λ z. set_register (get_or reads k no_read).destination z (registers_of c.reads.registers))
-            (to_z-of_z w64 w.value.result w.value.type_inv)
+            (to_z-of_z w64 w.value.result fits)
             ∙ came_there value c.args.sent.now.held gives k (get_or reads k no_read).destination w.in-Some.cell (get_or reads k no_read).cell w.value.result (registers_of c.reads.registers) w.in-Some.is
             (cell_small (2 ^ 20) (get_or reads k no_read).cell w.in-Some.cell (each_of (λ (r : Read). IsCellBelow (2 ^ 20) r.cell) reads c.requires.cells k no_read c.reads-test.true)
             w.in-Some.is) w.value.ensures.value)
