@@ -1,16 +1,17 @@
 -- Answers, read by read.
-use Rattle.std.proofs.Common.{◌≡◌, ℕ, zero, suc, ◌+◌, ◌^◌, ◌<◌, ◌≤◌, List, [], ◌∷◌, length, map, drop, get_or, set, Option, Some, None, ℤ, pos}
+use Rattle.std.proofs.Common.{◌≡◌, ℕ, zero, suc, ◌+◌, ◌^◌, ◌<◌, ◌≤◌, List, [], ◌∷◌, length, map, drop, get_or, set}
+use Rattle.std.proofs.Common.{Option, Some, None, ℤ, pos}
 use Rattle.std.proofs.Common.{refl, sym, ap, subst, ◌∙◌, arith, ⊎_elim, Vec}
 use Rattle.std.specs.Global.{Global}
 use Rattle.std.specs.List.{AllByRecursion, zip}
-use Rattle.std.proofs.lemmas.List.{drop_all, length-map, get_or-set_same, get_or-set_other}
+use Rattle.std.proofs.lemmas.List.{drop_all, get_or-set_same, get_or-set_other}
 use Rattle.std.proofs.lemmas.Bool.{cases_eq}
 use Rattle.superstep_code.specs.declared.instr.Side.TheVariants.{Uniform}
 use Rattle.superstep_machine.specs.Parts.{Registers, Read, set_register}
 use Rattle.superstep_machine.specs.Answering.{answer, answers, destinations}
 use Rattle.superstep_machine.specs.Fitting.{IsCellBelow}
 use Rattle.superstep_steps.specs.declared.read.Read.{Read as HeldRead}
-use Rattle.superstep_steps.specs.Views.{read_is, registers_of}
+use Rattle.superstep_steps.specs.Views.{read_is}
 use Rattle.combining.specs.Asked.{HeldAsk, value_for}
 use Rattle.worker_bank.specs.Columns.{value_of}
 use Rattle.worker_bank.specs.Cells.{cell_in}
@@ -64,7 +65,8 @@ by_read_more (x ∷ reads) [] j k d v l m = absurd (omega (arith, m))
 by_read_more (x ∷ reads) (c ∷ columns) j zero d v l m = refl
 by_read_more (x ∷ reads) (c ∷ columns) j (suc k) d v l m =
     by_read_more reads columns j k d v (omega (arith, l)) (omega (arith, m))
-    ∙ ap (λ n. ((get_or reads k d).destination, cell_in (get_or columns k v).items j) ∷ drop n (by_read (x ∷ reads) (c ∷ columns) j)) (next k)
+    ∙ ap (λ n. ((get_or reads k d).destination, cell_in (get_or columns k v).items j) ∷ drop n (by_read (x ∷ reads) (c ∷ columns) j))
+    (next k)
 
 length-by_read : (reads : List HeldRead) (columns : List (Vec (Option ℕ) Global)) (j : ℕ) → length (by_read reads columns j) ≤ length reads
 length-by_read [] columns j = omega arith
@@ -73,7 +75,8 @@ length-by_read (x ∷ reads) (c ∷ columns) j = let h = length-by_read reads co
 
 -- the cell of one read of processor j is below where all are
 pub own_small : (n : ℕ) (reads : ℕ) (columns : List (Vec (Option ℕ) Global)) (j k : ℕ) (v : Vec (Option ℕ) Global) → k < reads →
-    reads ≤ length columns → AllByRecursion (IsCellBelow n) (cells_at reads columns j) → IsCellBelow n (cell_in (get_or columns k v).items j)
+    reads ≤ length columns → AllByRecursion (IsCellBelow n) (cells_at reads columns j) →
+    IsCellBelow n (cell_in (get_or columns k v).items j)
 own_small n zero columns j k v l m h = absurd (omega (arith, l))
 own_small n (suc reads) [] j k v l m h = absurd (omega (arith, m))
 own_small n (suc reads) (c ∷ columns) j zero v l m h = h.0

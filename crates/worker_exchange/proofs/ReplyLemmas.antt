@@ -1,10 +1,10 @@
 -- What a worker shows behind a reply.
-use Rattle.std.proofs.Common.{◌≡◌, ℕ, zero, suc, ◌+◌, ◌^◌, ◌*◌, ◌<◌, ◌≤◌, List, [], ◌∷◌, map, length, take, Bool, Option, Some, None, ℤ}
+use Rattle.std.proofs.Common.{◌≡◌, ℕ, ◌+◌, ◌^◌, ◌<◌, ◌≤◌, List, [], ◌∷◌, map, length, take, Option, Some, None, ℤ}
 use Rattle.std.proofs.Common.{refl, sym, ap, subst, ◌∙◌, arith, eqb, Vec, vec_capacity}
 use Rattle.std.specs.Global.{Global}
 use Rattle.std.specs.Prelude.{slice_get, slice_index_or, nat_lt, if◌then◌else◌}
 use Rattle.std.specs.Int.{w64, cast_signed}
-use Rattle.std.specs.List.{AllByRecursion, zip, range_with_len}
+use Rattle.std.specs.List.{AllByRecursion, range_with_len}
 use Rattle.std.proofs.lemmas.Int.{to_z-of_z}
 use Rattle.std.proofs.lemmas.List.{length-map}
 use Rattle.pram_model.specs.declared.rule.Rule.{Rule}
@@ -13,27 +13,24 @@ use Rattle.superstep_code.specs.declared.instr.Instr.TheVariants.{Reply}
 use Rattle.superstep_code.specs.Code.{SuperstepCode}
 use Rattle.superstep_machine.specs.declared.header.MessageHeader.{MessageHeader}
 use Rattle.superstep_machine.specs.Setting.{Setting}
-use Rattle.superstep_machine.specs.Parts.{Registers, Read, UniformPart, PrivatePart}
-use Rattle.superstep_machine.specs.Words.{Message, CellAsk, word_of, values_words}
+use Rattle.superstep_machine.specs.Parts.{PrivatePart}
+use Rattle.superstep_machine.specs.Words.{Message, CellAsk, values_words}
 use Rattle.superstep_machine.specs.Worker.{Worker}
-use Rattle.superstep_machine.specs.Answering.{answers, destinations, value_came, uniform_answered, own_answered, after_reply}
+use Rattle.superstep_machine.specs.Answering.{value_came, uniform_answered, own_answered, after_reply}
 use Rattle.superstep_machine.specs.Fitting.{IsCellBelow}
 use Rattle.superstep_machine.specs.Run.{Replies, is_held}
 use Rattle.superstep_machine.proofs.Refused.{map_within}
 use Rattle.superstep_steps.specs.declared.read.Read.{Read as HeldRead}
-use Rattle.superstep_steps.specs.declared.uniform.UniformState.{UniformState}
-use Rattle.superstep_steps.specs.Views.{read_is, uniform_of, put_is}
+use Rattle.superstep_steps.specs.Views.{uniform_of, put_is}
 use Rattle.bsp_verify.specs.declared.state.State.{State}
 use Rattle.bsp_verify.specs.States.{after}
 use Rattle.bsp_verify.specs.WellFormed.{IsWellFormed}
 use Rattle.combining.specs.AllModules.{column, room_at}
-use Rattle.combining.specs.Asked.{HeldAsk, IsAskBelow, answered, replied, value_for}
+use Rattle.combining.specs.Asked.{HeldAsk, IsAskBelow, replied, value_for}
 use Rattle.combining.specs.Adding.{unanswered, asked_after}
-use Rattle.combining.specs.Came.{HasWords, all_replied, reply_words}
+use Rattle.combining.specs.Came.{all_replied, reply_words}
 use Rattle.combining.proofs.Came.{values_are_machines}
-use Rattle.worker_bank.specs.Bank.{part_at, registers_at, IsSameBank}
 use Rattle.worker_bank.specs.Masks.{masks_of}
-use Rattle.worker_bank.specs.declared.bank.Bank.{Bank}
 use Rattle.worker_bank.specs.declared.masks.Masks.{Masks}
 use Rattle.worker_steps.specs.declared.worker.WorkerState.{WorkerState}
 use Rattle.worker_steps.specs.Shown.{cells_at, part_in, own_in}
@@ -96,7 +93,8 @@ pub cell_of_map : (n m : ℕ) → n ≤ m → (cell : Option ℕ) → IsCellBelo
 cell_of_map n m l None h = tt
 cell_of_map n m l (Some c) h = omega (arith, l, h)
 
-pub cells_of_map : (n m : ℕ) → n ≤ m → (cells : List (Option ℕ)) → AllByRecursion (IsCellBelow n) cells → AllByRecursion (IsCellBelow m) cells
+pub cells_of_map : (n m : ℕ) → n ≤ m → (cells : List (Option ℕ)) → AllByRecursion (IsCellBelow n) cells →
+    AllByRecursion (IsCellBelow m) cells
 cells_of_map n m l [] h = tt
 cells_of_map n m l (c ∷ cells) h = (cell_of_map n m l c h.0, cells_of_map n m l cells h.1)
 
@@ -104,8 +102,8 @@ pub reads_of_map : (n m registers many : ℕ) → n ≤ m → (reads : List Held
     AllByRecursion (IsAwaited m registers many) reads
 reads_of_map n m registers many l [] h = tt
 reads_of_map n m registers many l (r ∷ reads) h = (
-    record { cell = cell_of_map n m l r.cell h.0.cell; register = h.0.register; alone = h.0.alone },
-    reads_of_map n m registers many l reads h.1,
+  record { cell = cell_of_map n m l r.cell h.0.cell; register = h.0.register; alone = h.0.alone },
+  reads_of_map n m registers many l reads h.1,
 )
 
 -- ---- the worker that is shown
@@ -199,7 +197,8 @@ module _ (code : SuperstepCode) (x y : WorkerState) (held : List HeldAsk) (done 
   pub verified_replied : IsWellFormed code → IsVerifiedAt code x → slice_get code.instructions x.place ≡ Some Reply →
       IsVerifiedAt code (record y { place = x.place + 1 })
   verified_replied formed v there =
-      verified_next code x Reply formed v there (record y { place = x.place + 1 }) refl (λ state d allowed within. describes_replied state d)
+      verified_next code x Reply formed v there (record y { place = x.place + 1 }) refl
+      (λ state d allowed within. describes_replied state d)
 
 -- no asks are kept, and as much room
 module _ (code : SuperstepCode) (m : Shape) (x z : Local) (held : List HeldAsk) (done : IsAnswered held x.steps z.steps)

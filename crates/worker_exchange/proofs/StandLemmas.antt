@@ -1,11 +1,9 @@
 -- A worker that has taken what came stands behind the exchange.
-use Rattle.std.proofs.Common.{◌≡◌, ℕ, ◌+◌, ◌-◌, ◌<◌, ◌≤◌, List, Bool, true, false, Option, Some, None, refl, sym, ap, subst, ◌∙◌, arith}
+use Rattle.std.proofs.Common.{◌≡◌, ℕ, ◌+◌, ◌-◌, ◌<◌, List, Bool, true, false, Option, Some, None, refl, sym, ap, subst, ◌∙◌, arith}
 use Rattle.std.specs.Prelude.{slice_get}
 use Rattle.std.specs.Option.{is_some}
 use Rattle.std.proofs.lemmas.Option.{slice_get_within}
 use Rattle.address_map.specs.Lawful.{Shape}
-use Rattle.superstep_code.specs.declared.instr.Instr.{Instr}
-use Rattle.superstep_code.specs.declared.instr.Instr.TheVariants as instrs
 use Rattle.superstep_code.specs.Code.{SuperstepCode}
 use Rattle.superstep_machine.specs.declared.key.Key.{Key}
 use Rattle.superstep_machine.specs.declared.mark.HeaderMark.TheVariants.{Clear}
@@ -21,7 +19,6 @@ use Rattle.bsp_verify.specs.Judging.{is_mark}
 use Rattle.bsp_verify.specs.WellFormed.{IsWellFormed}
 use Rattle.bsp_verify.proofs.RunLemmas.{decided_same}
 use Rattle.worker_steps.specs.declared.worker.WorkerState.{WorkerState}
-use Rattle.worker_steps.specs.Fitted.{IsFitted}
 use Rattle.worker_steps.specs.Met.{IsVerifiedAt}
 use Rattle.worker_steps.specs.Stretch.{rank_of, rank}
 use Rattle.worker_steps.proofs.StretchLemmas.{rank_on, rises_there}
@@ -32,7 +29,7 @@ use Rattle.worker_messages.specs.declared.way.Way.{Way}
 use Rattle.worker_messages.specs.declared.way.Way.TheVariants as ways
 use Rattle.worker_messages.specs.declared.local.Local.{Local}
 use Rattle.worker_messages.specs.Shown.{way_is, purpose_is, is_stopped, place_behind, ShowsWorker, IsShown}
-use Rattle.worker_messages.specs.Equipped.{IsEquipped, IsRunnable, MayGoOn, IsAtStep, GoesWith, instr_of, left_by, left_at_by, left, left_at}
+use Rattle.worker_messages.specs.Equipped.{IsEquipped, IsRunnable, IsAtStep, GoesWith, instr_of, left_by, left_at_by, left, left_at}
 use Rattle.worker_exchange.specs.Received.{messages_to, mark_heard, key_heard}
 use Rattle.worker_exchange.specs.Taken.{StandsStill}
 use Rattle.worker_exchange.specs.Behind.{ForEachState, ShowsTaken, ShowsBehind, MayGoOnBehind}
@@ -126,7 +123,8 @@ falls_behind code bound x step formed v there goes =
 abbrev placed : Local → ℕ → Way → Local
 placed a p way = record a { steps = record a.steps { place = p }; way = way }
 
-equipped_placed : (code : SuperstepCode) (m : Shape) (a : Local) (p : ℕ) (way : Way) → IsEquipped code m a → IsEquipped code m (placed a p way)
+equipped_placed : (code : SuperstepCode) (m : Shape) (a : Local) (p : ℕ) (way : Way) → IsEquipped code m a →
+    IsEquipped code m (placed a p way)
 equipped_placed code m a p way e = record {
   fitted = (let f = e.fitted in record {
     bank = f.bank;

@@ -1,5 +1,5 @@
 -- What a worker at a send holds.
-use Rattle.std.proofs.Common.{◌≡◌, ℕ, ◌<◌, map, length, vec_capacity, refl, sym, ap, ◌∙◌}
+use Rattle.std.proofs.Common.{◌≡◌, ◌<◌, map, vec_capacity, refl, sym, ap, ◌∙◌}
 use Rattle.std.specs.List.{AllByRecursion}
 use Rattle.std.proofs.lemmas.List.{length-map}
 use Rattle.superstep_code.specs.Limits.{IsCode}
@@ -17,7 +17,8 @@ use Rattle.worker_messages.proofs.WrittenLemmas.{asks_are}
 use Rattle.worker_messages.proofs.ToldLemmas.{held_can}
 
 module _ (t : Setting) (code : IsCode t.code) (run : IsRunnable t.code t.map) (x : Local)
-    (below : x.steps.bank.worker < workers t) (s : machine.State) (at : IsAtExchange t x.steps.bank.worker x s) (sends : x.step ≡ steps.Send) where
+    (below : x.steps.bank.worker < workers t) (s : machine.State) (at : IsAtExchange t x.steps.bank.worker x s)
+    (sends : x.step ≡ steps.Send) where
   pathed : IsPathed t x.steps.bank.worker (machine.ready t x.steps.bank.worker s).state.worker
   pathed = ready_pathed t code run.map run.formed x.steps.bank.worker at.exchanges s at.reached
       (λ e. none (sym (at.purpose ∙ ap purpose_is sends) ∙ e))
@@ -27,7 +28,8 @@ module _ (t : Setting) (code : IsCode t.code) (run : IsRunnable t.code t.map) (x
 
   -- the asks of the machine's worker
   pub asks_sent : x.steps.asks.held ≡ map unanswered (asks_held (machine.ready t x.steps.bank.worker s).state.worker)
-  asks_sent = asks_are t code run.map x.steps.bank.worker below x.steps (machine.ready t x.steps.bank.worker s).state.worker pathed at.worker.shows
+  asks_sent =
+      asks_are t code run.map x.steps.bank.worker below x.steps (machine.ready t x.steps.bank.worker s).state.worker pathed at.worker.shows
 
   -- for cells of the map
   pub asks_below : IsEquipped t.code t.map x → AllByRecursion (IsAskBelow t.map.count) x.steps.asks.held

@@ -26,7 +26,8 @@ pub record IsAnsweredPart (held : List HeldAsk) (u v : UniformState) : Type 0 wh
 pub record IsAnswered (held : List HeldAsk) (x y : WorkerState) : Type 0 where
   pub part : IsAnsweredPart held x.uniform y.uniform
   pub own : (value : ℕ → ℕ → ℤ) (j : ℕ) → Gives held value → j < x.bank.masks.many → registers_at y.bank j
-      ≡ answers value 0 (zip (destinations (map read_is x.uniform.awaited.items)) (cells_at (length x.uniform.awaited.items) x.awaited.items j))
+      ≡ answers value 0
+      (zip (destinations (map read_is x.uniform.awaited.items)) (cells_at (length x.uniform.awaited.items) x.awaited.items j))
       (registers_at x.bank j)
   pub bank : IsBank y.bank
   pub masks : y.bank.masks ≡ x.bank.masks

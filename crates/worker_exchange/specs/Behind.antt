@@ -7,7 +7,7 @@ use Rattle.message_rows.specs.Rows.{WrittenMessage}
 use Rattle.worker_messages.specs.declared.local.Local.{Local}
 use Rattle.worker_messages.specs.Reached.{most_instructions}
 use Rattle.worker_messages.specs.Shown.{way_is, purpose_is, ShowsWorker, IsShown, IsAtExchange}
-use Rattle.worker_messages.specs.Equipped.{IsEquipped, MayGoOn}
+use Rattle.worker_messages.specs.Equipped.{MayGoOn}
 use Rattle.worker_exchange.specs.declared.progress.Progress.{Progress}
 use Rattle.worker_exchange.specs.declared.progress.Progress.TheVariants.{GoOn, Over}
 use Rattle.worker_exchange.specs.Received.{messages_to}
@@ -20,7 +20,8 @@ ForEachState code m bound x Holds = (n : ℕ) (s : State) → most_instructions 
 -- by the messages that came z shows the worker behind the exchange at which x stands
 abbrev pub ShowsTaken : SuperstepCode → Shape → ℕ → List WrittenMessage → Local → Local → Type 0
 ShowsTaken code m bound came x z = ForEachState code m bound x (λ n s.
-    ShowsWorker (setting code m bound n) x.steps.bank.worker z (after_exchange (setting code m bound n) x.steps.bank.worker (purpose_is x.step)
+    ShowsWorker (setting code m bound n) x.steps.bank.worker z
+    (after_exchange (setting code m bound n) x.steps.bank.worker (purpose_is x.step)
     (ready (setting code m bound n) x.steps.bank.worker s).state.worker
     (messages_to code.rule m x.steps.bank.worker (purpose_is x.step) came)))
 

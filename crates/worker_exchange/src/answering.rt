@@ -48,18 +48,13 @@ fn answer_uniform(sent: &Asks, awaited: &[Read], registers: &mut [i64])
 }
 
 // The values that came for the cells of the first processors, by a read of that number.
-fn values_for(
-    sent: &Asks,
-    ordinal: u32,
-    cells: &[Option<u32>],
-    many: usize,
-    values: &mut [i64],
-)
+fn values_for(sent: &Asks, ordinal: u32, cells: &[Option<u32>], many: usize, values: &mut [i64])
     requires ordinal { ordinal < 8 }
     requires cells { many ≤ length cells.now }
     requires below { (j cell : ℕ) → j < many → cell_in cells.now j ≡ Some cell → cell < 2 ^ 20 }
     requires values { many ≤ length values.old }
-    ensures each { (j cell : ℕ) → j < many → cell_in cells.now j ≡ Some cell → value_of values.new j ≡ value_for ordinal cell sent.now.held }
+    ensures each { (j cell : ℕ) → j < many → cell_in cells.now j ≡ Some cell →
+        value_of values.new j ≡ value_for ordinal cell sent.now.held }
     ensures count { length values.new ≡ length values.old }
 {
     'processors: for j in 0..many {

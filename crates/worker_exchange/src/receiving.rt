@@ -67,8 +67,8 @@ fn stand_behind(local: &mut Local, held: bool, count: u32, step: Step, key: Opti
         way_is local.new.way ≡ machine.decided (purpose_is step) u key (way_is local.old.way) }
     ensures place { local.new.steps.place ≡ place_behind local.old.way local.old.steps.place }
     ensures same { local.new ≡ record local.old {
-        steps = record local.old.steps { place = local.new.steps.place };
-        way = local.new.way;
+      steps = record local.old.steps { place = local.new.steps.place };
+      way = local.new.way;
     } }
 {
     if let Way::On = local.way {

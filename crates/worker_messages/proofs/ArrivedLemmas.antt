@@ -188,7 +188,8 @@ module _ (code : SuperstepCode) (m : Shape) (bound : ℕ) (is_code : IsCode code
       }) stop)
 
   pub arrived : (stop : Stop) → ArrivesAt code bound (stop_is stop) a.steps y → StandsAt code bound (stop_is stop) y → IsFitted code y →
-      IsVerifiedAt code y → y.uniform.count ≤ bound → 2 ^ 16 ≤ length y.uniform.registers.items → IsSameBank a.steps.bank y.bank → rank code bound y ≤ rank code bound a.steps →
+      IsVerifiedAt code y → y.uniform.count ≤ bound → 2 ^ 16 ≤ length y.uniform.registers.items → IsSameBank a.steps.bank y.bank →
+      rank code bound y ≤ rank code bound a.steps →
       HasArrived code m bound a (stopped_at stop moved)
   arrived stop arrives stands fitted verified count registers same falls =
       let e = equipped_still fitted same in

@@ -1,7 +1,7 @@
 -- What a worker awaits at a reply.
-use Rattle.std.proofs.Common.{◌≡◌, ℕ, zero, suc, ◌+◌, ◌<◌, ◌≤◌, List, [], ◌∷◌, map, length, Bool, true, false, Option, Some, ℤ, refl, sym}
+use Rattle.std.proofs.Common.{◌≡◌, ℕ, zero, suc, ◌+◌, ◌<◌, ◌≤◌, List, [], ◌∷◌, map, length, Bool, true, false, Some, refl, sym}
 use Rattle.std.proofs.Common.{ap, subst, ◌∙◌, arith, ⊎_elim}
-use Rattle.std.specs.Prelude.{nat_lt, slice_get, if◌then◌else◌}
+use Rattle.std.specs.Prelude.{nat_lt, slice_get}
 use Rattle.std.specs.List.{AllByRecursion, range_with_len, zip}
 use Rattle.std.proofs.lemmas.Bool.{cases_eq}
 use Rattle.std.proofs.lemmas.Bool.Decides.{nat_tests}
@@ -16,7 +16,7 @@ use Rattle.superstep_code.specs.Limits.{IsCode}
 use Rattle.superstep_code.specs.Code.{SuperstepCode}
 use Rattle.superstep_machine.specs.declared.mark.HeaderMark.{HeaderMark}
 use Rattle.superstep_machine.specs.declared.mark.HeaderMark.TheVariants.{Clear, OutOfMemory, OutOfReserve}
-use Rattle.superstep_machine.specs.Setting.{Setting, workers, processors}
+use Rattle.superstep_machine.specs.Setting.{Setting, processors}
 use Rattle.superstep_machine.specs.Parts.{Read, UniformPart, PrivatePart, fresh}
 use Rattle.superstep_machine.specs.Words.{Message}
 use Rattle.superstep_machine.specs.Worker.{Worker, after_instr}
@@ -26,23 +26,21 @@ use Rattle.superstep_machine.specs.Answering.{own_answered, value_came}
 use Rattle.superstep_machine.specs.Fitting.{IsCellBelow}
 use Rattle.superstep_machine.specs.Run as machine
 use Rattle.superstep_machine.proofs.MachineWords.{all_map}
-use Rattle.superstep_steps.specs.declared.read.Read.{Read as HeldRead}
-use Rattle.superstep_steps.specs.Views.{read_is, uniform_of}
+use Rattle.superstep_steps.specs.Views.{read_is}
 use Rattle.bsp_verify.specs.Judging.{is_register, has_registers}
 use Rattle.bsp_verify.specs.WellFormed.{IsWellFormed}
-use Rattle.bsp_verify.specs.Moments.{side_of, DescribesWorker}
+use Rattle.bsp_verify.specs.Moments.{side_of}
 use Rattle.bsp_verify.proofs.WorkerLemmas.{all_add, all_made, all_numbered, either_way}
 use Rattle.flat_machine.specs.Flatness.{IsMapFor}
 use Rattle.run_limits.proofs.Keeping.{IsReadBelow, IsOwnKept}
-use Rattle.run_limits.proofs.Runs.{ready_keeps, all_also}
-use Rattle.worker_steps.specs.declared.worker.WorkerState.{WorkerState}
-use Rattle.worker_steps.specs.Shown.{part_in, own_in, cells_at}
+use Rattle.run_limits.proofs.Runs.{ready_keeps}
+use Rattle.worker_steps.specs.Shown.{part_in}
 use Rattle.worker_messages.specs.declared.step.Step.TheVariants as steps
 use Rattle.worker_messages.specs.declared.local.Local.{Local}
 use Rattle.worker_messages.specs.Reached.{IsReached}
 use Rattle.worker_messages.specs.Shown.{purpose_is, IsAtExchange}
-use Rattle.worker_messages.specs.Equipped.{IsAwaited, AwaitsAnswers}
-use Rattle.worker_messages.proofs.ReachedLemmas.{IsPathed, ready_pathed, exchange_pathed}
+use Rattle.worker_messages.specs.Equipped.{AwaitsAnswers}
+use Rattle.worker_messages.proofs.ReachedLemmas.{IsPathed, ready_pathed}
 
 -- the register of a private read is there
 abbrev IsReadThere : ℕ → Read → Type 0
@@ -112,7 +110,8 @@ module _ (t : Setting) (formed : IsWellFormed t.code) (w : ℕ) where
   own_awaits i u v y h = either_way OwnBelow (is_active y) (on_active t.code i u v y) y (active_awaits i u v y h) h
 
   parts_await : (i : Instr) (x : Worker) → AllByRecursion OwnBelow x.own →
-      AllByRecursion OwnBelow (map (λ (y : ℕ × PrivatePart). on_own t.code i x.uniform y.0 y.1) (zip (processors t w x.uniform.width) x.own))
+      AllByRecursion OwnBelow
+      (map (λ (y : ℕ × PrivatePart). on_own t.code i x.uniform y.0 y.1) (zip (processors t w x.uniform.width) x.own))
   parts_await i x h =
       all_numbered OwnBelow OwnBelow (λ (y : ℕ × PrivatePart). on_own t.code i x.uniform y.0 y.1)
       (λ v y k. own_awaits i x.uniform v y k) (processors t w x.uniform.width) x.own h
@@ -179,7 +178,8 @@ module _ (t : Setting) (formed : IsWellFormed t.code) (w : ℕ) where
 
     reached_sent : (n : ℕ) (s : machine.State) → IsReached t w n s → AreSent t s.worker
     reached_sent zero s (input, values, e) =
-        subst (λ (q : machine.State). AreSent t q.worker) (sym e) (record { held = tt; few = omega arith; below = tt; there = tt; own = tt })
+        subst (λ (q : machine.State). AreSent t q.worker) (sym e)
+        (record { held = tt; few = omega arith; below = tt; there = tt; own = tt })
     reached_sent (suc n) s (before, column, r, values, e) =
         subst (λ (q : machine.State). AreSent t q.worker) (sym e)
         (after_sent (machine.ready t w before) column (ready_pathed t code room formed w n before r)
@@ -199,8 +199,8 @@ all_numbers P f (suc n) low h j a b =
     ⊎_elim (λ (e : low ≡ j). subst (λ k. P (f k)) e h.0)
     (λ (d : low ≡ j → ⊥). all_numbers P f n (low + 1) h.1 j (omega (arith, a, d)) (omega (arith, b))) (cases_eq low j)
 
-three : {A : Type 0} (P Q R S : A → Type 0) → ((x : A) → P x → Q x → R x → S x) → (xs : List A) → AllByRecursion P xs → AllByRecursion Q xs →
-    AllByRecursion R xs → AllByRecursion S xs
+three : {A : Type 0} (P Q R S : A → Type 0) → ((x : A) → P x → Q x → R x → S x) → (xs : List A) → AllByRecursion P xs →
+    AllByRecursion Q xs → AllByRecursion R xs → AllByRecursion S xs
 three P Q R S f [] p q r = tt
 three P Q R S f (x ∷ xs) p q r = (f x p.0 q.0 r.0, three P Q R S f xs p.1 q.1 r.1)
 
@@ -234,7 +234,8 @@ module _ (t : Setting) (code : IsCode t.code) (room : IsMapFor t.code t.map) (fo
 
   pub awaits : AwaitsAnswers t.map x
   awaits = record {
-    few = (let h = sent.few in let e = ap length awaited_is in let n = length-map x.steps.uniform.awaited.items read_is in omega (arith, h, e, n));
+    few = (let h = sent.few in let e = ap length awaited_is in let n = length-map x.steps.uniform.awaited.items read_is in
+        omega (arith, h, e, n));
     reads = three _ _ _ _
         (λ r below there side. record {
           cell = below.cell;

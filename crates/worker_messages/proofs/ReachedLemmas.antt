@@ -1,5 +1,5 @@
 -- What is so of every state that a worker may come to.
-use Rattle.std.proofs.Common.{◌≡◌, ℕ, zero, suc, List, [], ℤ, refl, sym, ap, subst}
+use Rattle.std.proofs.Common.{◌≡◌, ℕ, zero, suc, List, [], ℤ, refl, sym, subst}
 use Rattle.superstep_code.specs.Limits.{IsCode}
 use Rattle.superstep_machine.specs.declared.mark.HeaderMark.{HeaderMark}
 use Rattle.superstep_machine.specs.declared.mark.HeaderMark.TheVariants.{Clear, OutOfMemory, OutOfReserve}

@@ -1,4 +1,4 @@
-use Rattle.std.proofs.Common.{◌<◌, ◌≡◌, ◌+◌, ◌^◌, length, get_or, ℕ, Option, Vec, List, sym, ap, subst, ◌∙◌, arith}
+use Rattle.std.proofs.Common.{◌<◌, ◌≡◌, ◌+◌, ◌^◌, length, get_or, ℕ, Option, Vec, sym, ap, subst, ◌∙◌, arith}
 use Rattle.std.specs.Global.{Global}
 use Rattle.superstep_machine.specs.Answering.{answer}
 use Rattle.superstep_machine.specs.Fitting.{IsCellBelow}
@@ -39,7 +39,7 @@ reads-preserved c =
           let here : j < c.reads.bank.masks.many = subst (λ (m : Masks). j < m.many) (sym before.masks) l in
           let destination = (get_or reads k no_read).destination in
           let answered : registers_at c.answer_read.new.bank j
-              ≡ answer (value k) destination (cell_in c.as_slice.result.now j) (registers_at c.reads.bank j) =
+          ≡ answer (value k) destination (cell_in c.as_slice.result.now j) (registers_at c.reads.bank j) =
           done.answered value j gives here in
           ap (own_left value reads columns j (k + 1))
           (answered ∙ ap (λ cells. answer (value k) destination (cell_in cells j) (registers_at c.reads.bank j)) is)

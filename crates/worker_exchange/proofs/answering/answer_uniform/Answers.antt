@@ -5,7 +5,8 @@ use Rattle.superstep_machine.specs.Parts.{set_register}
 use Rattle.superstep_machine.specs.Fitting.{IsCellBelow}
 use Rattle.superstep_steps.specs.Views.{registers_of}
 use Rattle.superstep_steps.specs.declared.read.Read.{Read}
-use Rattle.worker_exchange.proofs.AnswerLemmas.{no_read, uniform_left, uniform_goes, uniform_ends, came_there, none_there, each_of, cell_small}
+use Rattle.worker_exchange.proofs.AnswerLemmas.{no_read, uniform_left, uniform_goes, uniform_ends, came_there, none_there}
+use Rattle.worker_exchange.proofs.AnswerLemmas.{each_of, cell_small}
 use Rattle.worker_exchange.proofs.answering.answer_uniform.Goals.{in-Some, in_default}
 use Rattle.worker_exchange.proofs.answering.answer_uniform.Goals as goal
 
@@ -14,22 +15,25 @@ reads-preserved c =
     let reads = c.args.awaited.now in
     let k = c.reads.k in
     let before = c.reads.invariant in
+    let read = get_or reads k no_read in
     elim c.match-read.branch [
-      in-Some w ↦ (let fits : FitsSigned w64 w.value.result = search rules in record {
+      | in-Some w ↦ (let fits : FitsSigned w64 w.value.result = search rules in record {
         answered = λ value gives.
             ap (λ rs. uniform_left value reads (k + 1) (registers_of rs)) w.registers-is
             ∙ ap (uniform_left value reads (k + 1))
             (w.put.ensures.value
-            ∙ ap (λ z. set_register (get_or reads k no_read).destination z (registers_of c.reads.registers))
+            ∙ ap (λ z. set_register read.destination z (registers_of c.reads.registers))
             (to_z-of_z w64 w.value.result fits)
-            ∙ came_there value c.args.sent.now.held gives k (get_or reads k no_read).destination w.in-Some.cell (get_or reads k no_read).cell w.value.result (registers_of c.reads.registers) w.in-Some.is
-            (cell_small (2 ^ 20) (get_or reads k no_read).cell w.in-Some.cell (each_of (λ (r : Read). IsCellBelow (2 ^ 20) r.cell) reads c.requires.cells k no_read c.reads-test.true)
+            ∙ came_there value c.args.sent.now.held gives k read.destination w.in-Some.cell read.cell w.value.result
+            (registers_of c.reads.registers) w.in-Some.is
+            (cell_small (2 ^ 20) read.cell w.in-Some.cell
+            (each_of (λ (r : Read). IsCellBelow (2 ^ 20) r.cell) reads c.requires.cells k no_read c.reads-test.true)
             w.in-Some.is) w.value.ensures.value)
             ∙ sym (uniform_goes value reads k no_read (registers_of c.reads.registers) c.reads-test.true)
             ∙ before.answered value gives;
         count = c.match-read.auto.registers ∙ before.count;
       })
-    | in_default w ↦ (record {
+      | in_default w ↦ (record {
         answered = λ value gives.
             ap (λ rs. uniform_left value reads (k + 1) (registers_of rs)) w.registers-is
             ∙ ap (uniform_left value reads (k + 1)) (none_there value k _ _ (registers_of c.reads.registers) w.in_default.not-Some)

@@ -1,4 +1,4 @@
-use Rattle.std.proofs.Common.{◌≡◌, ◌≤◌, ℕ, ℤ, length}
+use Rattle.std.proofs.Common.{◌≡◌, ℕ, ℤ, length}
 use Rattle.superstep_machine.specs.Answering.{answers}
 use Rattle.superstep_steps.specs.Views.{registers_of}
 use Rattle.worker_exchange.specs.Answered.{Gives}

@@ -8,5 +8,6 @@ messages-preserved g c =
     let came = g.C.Column.came c.args.column.now in
     let i = c.messages.i in
     record {
-      each = one_part c.messages.parts i c.words.result (λ j. (message_at came j).words) (omega arith) c.words.ensures c.messages.invariant.each;
+      each = one_part c.messages.parts i c.words.result (λ j. (message_at came j).words) (omega arith) c.words.ensures
+          c.messages.invariant.each;
     }

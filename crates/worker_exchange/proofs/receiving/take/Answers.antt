@@ -1,4 +1,4 @@
-use Rattle.std.proofs.Common.{◌≡◌, ◌<◌, sym, ap, subst, ◌∙◌, arith}
+use Rattle.std.proofs.Common.{◌<◌, sym, subst, ◌∙◌, arith}
 use Rattle.superstep_machine.specs.Setting.{workers}
 use Rattle.superstep_machine.specs.Run.{setting, ready, after_exchange, Votes}
 use Rattle.worker_messages.specs.declared.step.Step.{Step}

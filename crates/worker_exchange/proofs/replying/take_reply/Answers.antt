@@ -1,6 +1,5 @@
-use Rattle.std.proofs.Common.{◌≡◌, ℕ, List, length, map, take, vec_capacity, refl, sym, ap, subst, ◌∙◌, arith, Vec, ℤ, Bor}
+use Rattle.std.proofs.Common.{◌≡◌, ℕ, List, length, map, take, vec_capacity, refl, sym, ap, subst, ◌∙◌, arith, Bor}
 use Rattle.std.specs.Vec.{with_items}
-use Rattle.std.specs.Global.{Global}
 use Rattle.std.proofs.lemmas.List.{with_items_is}
 use Rattle.superstep_machine.specs.declared.header.MessageHeader.{MessageHeader}
 use Rattle.superstep_machine.specs.Answering.{value_came}
@@ -12,7 +11,7 @@ use Rattle.worker_messages.specs.declared.local.Local.{Local}
 use Rattle.worker_exchange.specs.Received.{received, messages_to}
 use Rattle.worker_exchange.specs.Answered.{Gives}
 use Rattle.worker_exchange.proofs.SettleLemmas.{parts_are}
-use Rattle.worker_exchange.proofs.ReplyLemmas.{gives_values, reply_shown, equipped_replied, verified_replied, reads_of_map, cells_of_map}
+use Rattle.worker_exchange.proofs.ReplyLemmas.{gives_values, reply_shown, equipped_replied, verified_replied}
 use Rattle.worker_exchange.proofs.replying.take_reply.Goals as goal
 
 pub returns-clause-shows : goal.returns-clause-shows
@@ -35,9 +34,11 @@ returns-clause-shows g c = λ code bound n y shows.
     let count = c.modules-workers.ensures in
     let kept = c.word_parts.auto.parts in
     let parts = c.word_parts.new.parts in
-    let words : map (λ (b : Bor (List ℕ)). b.now) (take c.modules-workers.result parts) ≡ map (λ (r : MessageHeader × List ℕ). r.1) (received came) =
+    let words : map (λ (b : Bor (List ℕ)). b.now) (take c.modules-workers.result parts)
+    ≡ map (λ (r : MessageHeader × List ℕ). r.1) (received came) =
     ap (λ k. map (λ (b : Bor (List ℕ)). b.now) (take k parts)) (count ∙ sym many)
-    ∙ parts_are came parts (λ h ws. ws) (omega (arith, few, many, kept)) (λ i l. c.word_parts.ensures.each i (omega (arith, l, many, count))) in
+    ∙ parts_are came parts (λ h ws. ws) (omega (arith, few, many, kept))
+    (λ i l. c.word_parts.ensures.each i (omega (arith, l, many, count))) in
     let values = value_came t y (messages_to code.rule m w Replies came) in
     let gives : Gives c.take_replies.new.self.held values =
     subst (λ held. Gives held values)
@@ -67,4 +68,5 @@ returns-clause-equipped g c = λ code e.
 
 pub returns-clause-verified : goal.returns-clause-verified
 returns-clause-verified g c = λ code formed v there.
-    verified_replied code c.args.local.now.steps c.answer_worker.new.steps c.take_replies.new.self.held c.answer_worker.ensures.answered formed v there
+    verified_replied code c.args.local.now.steps c.answer_worker.new.steps c.take_replies.new.self.held c.answer_worker.ensures.answered formed v
+    there

@@ -68,16 +68,17 @@ returns-clause-equipped g c = λ code is below e.
     let count = length-map new (λ (v : Vec ℕ Global). v.items) in
     let asked = c.requires.asked in
     equipped_sent code m x z c.settle-noted.result c.send_worker.ensures.steps c.send_worker.ensures.room c.send_worker.ensures.sent
-    (settled_long (setting code m 0 0) w (uniform_of x.steps.uniform) (messages_to code.rule m w Sends came) x.cells c.settle-noted.new.cells
-    c.settle-noted.result (c.settle-noted.ensures code 0 0 is) c.requires.cells)
+    (settled_long (setting code m 0 0) w (uniform_of x.steps.uniform) (messages_to code.rule m w Sends came) x.cells
+    c.settle-noted.new.cells c.settle-noted.result (c.settle-noted.ensures code 0 0 is) c.requires.cells)
     (ap (map vec_capacity) items ∙ c.keep_asks.ensures.rooms ∙ ap (map vec_capacity) value)
     (λ j. few_kept (words_of (with_items x.asked new).items) (most_words code m)
     (λ i l.
     let n : i < m.parts = (let q = ap length items in let k = length-map (with_items x.asked new).items (λ (v : Vec ℕ Global). v.items) in
-        omega (arith, l, k, q, same, long, asked)) in
-    let is_part = ap (λ xs. length (column (words_of xs) i)) items ∙ ap length (c.keep_asks.ensures.words i (omega (arith, n, long, asked))) in
+    omega (arith, l, k, q, same, long, asked)) in
+    let is_part = ap (λ xs. length (column (words_of xs) i)) items
+    ∙ ap length (c.keep_asks.ensures.words i (omega (arith, n, long, asked))) in
     let short = drop_short ((read_header (message_at came i).header).puts * put_length (g.R.WriteRule.rule c.args.rule.now))
-        (message_at came i).words in
+    (message_at came i).words in
     let within = c.requires.room i n in
     let most = e.asked.room i n in
     omega (arith, is_part, short, within, most)) j)

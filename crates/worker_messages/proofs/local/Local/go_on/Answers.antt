@@ -19,7 +19,9 @@ returns g c = λ m go.
     let stop = c.in_ok-stop.stop in
     subst (λ (p : Way × Step). HasArrived code m bound a (record a { steps = roomy y u; way = p.0; step = p.1 }))
     (λ i. (sym c.way_at-self.ensures i, sym c.step_at-self.ensures i))
-    (arrived code m bound c.instructions-instructions.ensures.stands a (roomy y u) c.requires.on go stop (still_arrives code y u room bound (stop_is stop) a.steps e.arrives)
+    (arrived code m bound c.instructions-instructions.ensures.stands a (roomy y u) c.requires.on go stop
+    (still_arrives code y u room bound (stop_is stop) a.steps e.arrives)
     (still_there code y u room bound (stop_is stop) e.stands)
-    (still_fitted code y u room e.fitted) (still_verified code y u room e.verified) (subst (λ n. n ≤ bound) (sym room.count) e.count) room.registers e.same
+    (still_fitted code y u room e.fitted) (still_verified code y u room e.verified) (subst (λ n. n ≤ bound) (sym room.count) e.count)
+    room.registers e.same
     (subst (λ n. rank_of code (bound - n) y.place ≤ rank code bound a.steps) (sym room.count) e.rank))
