@@ -1,5 +1,6 @@
 -- The greatest of some numbers.
-use Rattle.std.proofs.Common.{◌≡◌, ℕ, ◌+◌, suc, zero, ◌<◌, ◌≤◌, List, [], ◌∷◌, length, get_or, max, nat_le, Bool, true, false, if◌then◌else◌, ap, ◌∙◌, sym, ⊎_elim, arith}
+use Rattle.std.proofs.Common.{◌≡◌, ℕ, ◌+◌, suc, zero, ◌<◌, ◌≤◌, List, [], ◌∷◌, length, get_or, max, nat_le}
+use Rattle.std.proofs.Common.{Bool, true, false, if◌then◌else◌, ap, ◌∙◌, sym, ⊎_elim, arith}
 use Rattle.std.proofs.lemmas.Bool.Decides.{leb_tells}
 use Rattle.std.proofs.lemmas.Bool.{cases_eq}
 use Rattle.superstep_machine.specs.Trace.{Exchange, greatest, relation_of}

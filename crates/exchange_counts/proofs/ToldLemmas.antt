@@ -2,7 +2,8 @@
 use Rattle.std.proofs.Common.{◌≡◌, ℕ, ◌+◌, ◌-◌, ◌<◌, ◌≤◌, List, [], ◌∷◌, ◌++◌, length, map, get_or, Vec, sym, ap, ◌∙◌, arith}
 use Rattle.std.specs.Global.{Global}
 use Rattle.std.specs.List.{range_with_len}
-use Rattle.std.proofs.lemmas.List.{get_or-map, length-map, same_lists, length-append, get_or_append_left, get_or-append_right, get_or_default}
+use Rattle.std.proofs.lemmas.List.{get_or-map, length-map, same_lists, length-append}
+use Rattle.std.proofs.lemmas.List.{get_or_append_left, get_or-append_right, get_or_default}
 use Rattle.std.proofs.lemmas.List.FromFn.{get_or-map-range_with_len, length-map-range_with_len, map-range_with_len_more}
 use Rattle.superstep_machine.specs.Trace.{Exchange}
 use Rattle.worker_messages.specs.Shown.{purpose_is}
@@ -21,7 +22,8 @@ told_long columns = length-map-range_with_len (exchange_told columns) 0 (length 
 pub told_at : (columns : List (List Count)) (k : ℕ) → 1 ≤ k → k ≤ length (column_of columns 0) →
     exchange_at (exchanges_told columns) k ≡ exchange_told columns (k - 1)
 told_at columns k one within =
-    get_or-map-range_with_len (exchange_told columns) 0 (length (column_of columns 0)) (k - 1) (k - 1) no_exchange (omega (arith, one, within))
+    get_or-map-range_with_len (exchange_told columns) 0 (length (column_of columns 0)) (k - 1) (k - 1) no_exchange
+    (omega (arith, one, within))
     (omega arith)
 
 -- ---- the entries of an exchange
@@ -38,12 +40,15 @@ module _ (columns : List (List Count)) (k : ℕ) where
 
   pub sent_at : (w : ℕ) → w < length columns → get_or (exchange_told columns k).sent w 0 ≡ (entry_of k (column_of columns w)).sent
   sent_at w l =
-      get_or-map (λ (c : Count). c.sent) (map (entry_of k) columns) w nothing 0 (let n = length-map columns (entry_of k) in omega (arith, l, n))
+      get_or-map (λ (c : Count). c.sent) (map (entry_of k) columns) w nothing 0
+      (let n = length-map columns (entry_of k) in omega (arith, l, n))
       ∙ ap (λ (c : Count). c.sent) (entry_at w l)
 
-  pub received_at : (w : ℕ) → w < length columns → get_or (exchange_told columns k).received w 0 ≡ (entry_of k (column_of columns w)).received
+  pub received_at : (w : ℕ) → w < length columns →
+      get_or (exchange_told columns k).received w 0 ≡ (entry_of k (column_of columns w)).received
   received_at w l =
-      get_or-map (λ (c : Count). c.received) (map (entry_of k) columns) w nothing 0 (let n = length-map columns (entry_of k) in omega (arith, l, n))
+      get_or-map (λ (c : Count). c.received) (map (entry_of k) columns) w nothing 0
+      (let n = length-map columns (entry_of k) in omega (arith, l, n))
       ∙ ap (λ (c : Count). c.received) (entry_at w l)
 
   pub purpose_at : 0 < length columns → (exchange_told columns k).purpose ≡ purpose_is (entry_of k (column_of columns 0)).step

@@ -1,5 +1,6 @@
 -- A row is filled message by message.
-use Rattle.std.proofs.Common.{Bool, true, false, ◌≡◌, ℕ, ◌+◌, ◌<◌, List, [], ◌∷◌, length, take, sym, ap, ◌∙◌, arith, ⊎_elim, slice_set, length-set}
+use Rattle.std.proofs.Common.{Bool, true, false, ◌≡◌, ℕ, ◌+◌, ◌<◌, List, [], ◌∷◌, length, take}
+use Rattle.std.proofs.Common.{sym, ap, ◌∙◌, arith, ⊎_elim, slice_set, length-set}
 use Rattle.std.proofs.lemmas.List.{get_or-set_same, get_or-set_other, take_more_set}
 use Rattle.std.proofs.lemmas.List.Sums.{sum_by-append}
 use Rattle.std.proofs.Math.Seq.{take-length}

@@ -1,5 +1,6 @@
 -- Digits, and two numbers with a comma between them.
-use Rattle.std.proofs.Common.{◌≡◌, ℕ, suc, zero, ◌+◌, ◌-◌, ◌*◌, ◌<◌, ◌≢◌, List, [], ◌∷◌, true, false, Bool, ◌&&◌, Some, None, Option, if◌then◌else◌, length}
+use Rattle.std.proofs.Common.{◌≡◌, ℕ, suc, zero, ◌+◌, ◌-◌, ◌*◌, ◌<◌, ◌≢◌, List, [], ◌∷◌}
+use Rattle.std.proofs.Common.{true, false, Bool, ◌&&◌, Some, None, Option, if◌then◌else◌, length}
 use Rattle.std.proofs.Common.{get_or, drop, refl, sym, ap, subst, ◌∙◌, arith, Bor, drop-cons, nat_le}
 use Rattle.std.specs.Option.{MatchOption}
 use Rattle.std.proofs.lemmas.Bool.{lt-leb}
@@ -38,7 +39,8 @@ digits_of (b ∷ word) n h =
 -- the first comma is the one between the numbers
 pub split_of : (word : List ℕ) (a b : ℕ) (r : Option (Bor (List ℕ) × Bor (List ℕ))) → IsSplitOnceResult 44 word r → (p : IsPair word a b) →
     MatchOption r ⊥ (λ x. (x.0.now ≡ p.first) × (x.1.now ≡ p.second))
-split_of word a b r h p = split_after 44 word p.first p.second r h (omega arith) p.spelled (no_comma p.first (digits_of p.first a p.first_is))
+split_of word a b r h p =
+    split_after 44 word p.first p.second r h (omega arith) p.spelled (no_comma p.first (digits_of p.first a p.first_is))
 
 -- digits of a larger value are no number
 too_large : (word : List ℕ) → most_number < value_after 0 word → None ≡ number_of word

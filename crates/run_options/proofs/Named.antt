@@ -14,7 +14,8 @@ no_colon i l e =
     absurd (cc none)
 
 -- the first colon is the one before the numbers
-pub numbers_of : (word : List ℕ) (a b : ℕ) (r : Option (Bor (List ℕ) × Bor (List ℕ))) → IsSplitOnceResult 58 word r → (p : IsAffine word a b) →
+pub numbers_of : (word : List ℕ) (a b : ℕ) (r : Option (Bor (List ℕ) × Bor (List ℕ))) → IsSplitOnceResult 58 word r →
+    (p : IsAffine word a b) →
     MatchOption r ⊥ (λ x. (x.0.now ≡ codes "affine") × (x.1.now ≡ p.numbers))
 numbers_of word a b r h p = split_after 58 word (codes "affine") p.numbers r h (omega arith) p.spelled no_colon
 

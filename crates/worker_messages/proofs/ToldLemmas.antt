@@ -158,7 +158,8 @@ can_tell code m bound a b room is go arrived enough =
       asked = e.asked.count;
       few = λ j. let n = e.few j in let r = e.buffers.reply in omega (arith, n, r);
       reply = (let r = e.buffers.reply in omega (arith, r, enough));
-      short = (let r = e.buffers.reply in let s = words_small code.rule (share t) (share_small t is go.runnable.map) in omega (arith, r, s));
+      short = (let r = e.buffers.reply in
+          let s = words_small code.rule (share t) (share_small t is go.runnable.map) in omega (arith, r, s));
       counts = e.buffers.counts;
       rooms = λ j l. let r = e.buffers.words.room j l in omega (arith, r, enough);
       held = held_can t is go.runnable.map go.runnable.formed w (omega (arith, same, below)) b go.state

@@ -11,7 +11,8 @@ workers-preserved g c =
     let x : WrittenMessage = record { header = c.to_words-words.result; words = [] } in
     let known = c.workers.invariant in
     let l : j < length row = (let long = known.long in omega (arith, long)) in
-    let e : after ≡ slice_set row j x = is_filled c.fill-filled.result (after ≡ slice_set row j x) (c.fill-filled.ensures.fits (omega arith)) c.fill-filled.ensures.filled in
+    let e : after ≡ slice_set row j x =
+    is_filled c.fill-filled.result (after ≡ slice_set row j x) (c.fill-filled.ensures.fits (omega arith)) c.fill-filled.ensures.filled in
     record {
       filled = one_filled (λ i. x) row after j x l e refl known.filled;
       words = (let more = words_filled row after j x l e in let none = known.words in omega (arith, more, none));

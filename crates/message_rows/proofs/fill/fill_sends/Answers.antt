@@ -31,7 +31,10 @@ workers-preserved g c =
     let e : after ≡ slice_set row j x =
     is_filled c.fill-filled.result (after ≡ slice_set row j x)
     (c.fill-filled.ensures.fits
-    (let room = c.requires.room j in let k = ap length is in let same = known.room in omega (arith, room, k, same))) c.fill-filled.ensures.filled in
+    (let room = c.requires.room j in
+    let k = ap length is in
+    let same = known.room in omega (arith, room, k, same)))
+    c.fill-filled.ensures.filled in
     record {
       filled = one_filled (send_message c.args.key (words_of c.args.columns.now) c.args.counts.now) row after j x l e
           (λ i. record { header = c.header_with.ensures i; words = is i }) known.filled;

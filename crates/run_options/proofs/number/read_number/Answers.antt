@@ -5,7 +5,8 @@ use Rattle.run_options.proofs.number.read_number.Goals as goal
 
 pub returns-then-value-from : goal.returns-then-value-from
 returns-then-value-from c =
-    let within : c.digits.byte-index < length c.args.word.now = (let t = c.digits-test.true in let n = ap length c.as_bytes-byte-items.ensures.value in omega (arith, t, n)) in
+    let within : c.digits.byte-index < length c.args.word.now =
+    (let t = c.digits-test.true in let n = ap length c.as_bytes-byte-items.ensures.value in omega (arith, t, n)) in
     let over : most_number < c.digits.value * 10 + (get_or c.args.word.now c.digits.byte-index 0 - 48) =
     (let most = c.from-in-digits.ensures in
     let digit = c.from.ensures ∙ c.saturating_sub.ensures in

@@ -26,7 +26,8 @@ returns-in_err-write_sent g c =
     let at = head_split (decimal c.args.k) (kind_text e.purpose) c.as_bytes.result.now c.kind_word.result.now (behind_sent e) digits word in
     let headed = goes_on _ _ _ _ _ _ (behind_sent e) (starts _ _ c.requires.counted) at c.in_ok-write_parts.ensures.written in
     record {
-      written = breaks_off _ _ _ _ _ _ (codes " received" ++ behind_received e) c.from_residual-in_err-write_sent.result _ c.from_residual-in_err-write_sent.ensures.1 headed refl
+      written = breaks_off _ _ _ _ _ _ (codes " received" ++ behind_received e)
+          c.from_residual-in_err-write_sent.result _ c.from_residual-in_err-write_sent.ensures.1 headed refl
           c.in_err-write_sent.ensures.written;
     }
 
@@ -39,7 +40,8 @@ returns-in_err-write_all g c =
     let headed = goes_on _ _ _ _ _ _ (behind_sent e) (starts _ _ c.requires.counted) at c.in_ok-write_parts.ensures.written in
     let sent = goes_on _ _ _ _ _ _ (codes " received" ++ behind_received e) headed refl c.in_ok-write_sent.ensures.written in
     record {
-      written = breaks_off _ _ _ _ _ _ (behind_received e) c.from_residual-in_err-write_all.result _ c.from_residual-in_err-write_all.ensures.1 sent refl
+      written = breaks_off _ _ _ _ _ _ (behind_received e)
+          c.from_residual-in_err-write_all.result _ c.from_residual-in_err-write_all.ensures.1 sent refl
           c.in_err-write_all.ensures.written;
     }
 
@@ -53,7 +55,8 @@ returns-in_err-write_received g c =
     let sent = goes_on _ _ _ _ _ _ (codes " received" ++ behind_received e) headed refl c.in_ok-write_sent.ensures.written in
     let named = goes_on _ _ _ _ _ _ (behind_received e) sent refl c.in_ok-write_all.ensures.written in
     record {
-      written = breaks_off _ _ _ _ _ _ (ending e) c.from_residual-in_err-write_received.result _ c.from_residual-in_err-write_received.ensures.1 named refl
+      written = breaks_off _ _ _ _ _ _ (ending e)
+          c.from_residual-in_err-write_received.result _ c.from_residual-in_err-write_received.ensures.1 named refl
           c.in_err-write_received.ensures.written;
     }
 

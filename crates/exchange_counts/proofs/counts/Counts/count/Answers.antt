@@ -64,7 +64,8 @@ returns-clause-received c =
     let is : c.index-2.result.now ≡ entry_of (k - 1) (column_of columns c.args.w) =
     entry_is (column_of columns c.args.w) c.index.result.now.items (k - 1) c.index-2.result.now column
     (let one = c.requires.first in omega (arith, within, long, one)) c.index-2.ensures in
-    ap (λ (x : Count). x.received) is ∙ sym (received_is columns c.args.self.now c.self.view_is k c.requires.first c.requires.last c.args.w l)
+    ap (λ (x : Count). x.received) is
+    ∙ sym (received_is columns c.args.self.now c.self.view_is k c.requires.first c.requires.last c.args.w l)
 
 pub returns-clause-purpose : goal.returns-clause-purpose
 returns-clause-purpose c = λ zeroth.
