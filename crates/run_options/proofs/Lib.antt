@@ -1,3 +1,4 @@
 pub mod Digits
 pub mod Powers
 pub mod Named
+pub mod Printed

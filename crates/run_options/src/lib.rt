@@ -1,6 +1,7 @@
 //! The options of a run: numbers, the maps of its cells, and how many places those have.
 #![tactic(auto)]
 
+pub mod law;
 mod map_choice;
 mod number;
 mod place_count;
