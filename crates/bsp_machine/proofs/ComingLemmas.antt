@@ -1,0 +1,235 @@
+-- What comes to a worker in an exchange, and what it counts.
+use Rattle.std.proofs.Common.{◌≡◌, ℕ, suc, ◌+◌, ◌<◌, List, [], ◌∷◌, ◌++◌, length, map}
+use Rattle.std.proofs.Common.{false, Some, ℤ, refl, sym, ap, ◌∙◌}
+use Rattle.std.proofs.Common.{arith}
+use Rattle.std.specs.Prelude.{slice_get, slice_index_or, ◌||◌}
+use Rattle.std.specs.List.{range_with_len}
+use Rattle.std.proofs.lemmas.List.{length-map, get_or_default}
+use Rattle.std.proofs.lemmas.List.FromFn.{get_or-map-range_with_len}
+use Rattle.pram_values.specs.Total.{total}
+use Rattle.address_map.specs.Lawful.{Shape}
+use Rattle.superstep_code.specs.Code.{SuperstepCode}
+use Rattle.superstep_machine.specs.declared.mark.HeaderMark.TheVariants.{OutOfMemory}
+use Rattle.superstep_machine.specs.HeaderWords.{read_header}
+use Rattle.superstep_machine.specs.Words.{Message}
+use Rattle.superstep_machine.specs.WordReading.{read_message}
+use Rattle.superstep_machine.specs.Setting.{Setting, workers}
+use Rattle.superstep_machine.specs.declared.header.MessageHeader.{MessageHeader}
+use Rattle.superstep_machine.specs.Run.{State, setting, ready, message_of, mark_now}
+use Rattle.superstep_machine.specs.Trace.{exchange_of, sum_over, words_between}
+use Rattle.flat_machine.specs.Flatness.{IsMapFor}
+use Rattle.flat_machine.proofs.Laws.{one_exchange}
+use Rattle.flat_machine.proofs.Lists.{map_twice, map_joined}
+use Rattle.bsp_verify.specs.Runs.{worker_after}
+use Rattle.std.proofs.lemmas.List.Sums.{sum_by-cons}
+use Rattle.message_rows.specs.Rows.{WrittenMessage, written, message_at, words_in, unwritten}
+use Rattle.worker_messages.specs.declared.way.Way.{Way}
+use Rattle.worker_messages.specs.declared.way.Way.TheVariants as ways
+use Rattle.worker_messages.specs.Reached.{most_instructions}
+use Rattle.worker_messages.specs.Shown.{purpose_is, is_stopped, marked}
+use Rattle.worker_exchange.specs.Received.{mark_heard, is_marked}
+use Rattle.exchange_counts.specs.declared.count.Count.{Count}
+use Rattle.bsp_machine.specs.declared.counted.CountedWorker.{CountedWorker}
+use Rattle.bsp_machine.specs.declared.sheet.Sheet.{Sheet}
+use Rattle.bsp_machine.specs.Sheets.{messages_in, no_words, picked}
+use Rattle.bsp_machine.specs.Workers.{share_told, share_of, shares, IsAt, HasCome, AreAt}
+use Rattle.bsp_machine.proofs.ListLemmas.{map_by, map_at, there_at, get_within, range_more, get_is, one_there}
+use Rattle.bsp_machine.proofs.PhaseLemmas.{mark_sent}
+use Rattle.bsp_machine.proofs.MarkLemmas.{unstopped, header_marked, mark_read, any_stopped, stops_with_any}
+
+-- ---- words
+
+-- the words of messages, number by number
+words_by : {A : Type 0} (f : A → WrittenMessage) (g : ℕ → ℕ) (xs : List A) (a : ℕ) →
+    ((i : ℕ) (x : A) → slice_get xs i ≡ Some x → length (f x).words ≡ g (a + i)) →
+    words_in (map f xs) ≡ total 0 (λ (b c : ℕ). b + c) g (range_with_len a (length xs))
+words_by f g [] a h = refl
+words_by f g (x ∷ xs) a h =
+    let e : length (f x).words ≡ g a = h 0 x refl ∙ ap g (omega arith) in
+    let r = words_by f g xs (a + 1) (λ i y k. h (suc i) y k ∙ ap g (omega arith)) in
+    sum_by-cons (λ (m : WrittenMessage). length m.words) (f x) (map f xs) ∙ (λ t. e t + r t)
+
+alone : (row : List WrittenMessage) → map (λ (x : WrittenMessage). x) row ≡ row
+alone [] = refl
+alone (x ∷ row) = ap (λ ys. x ∷ ys) (alone row)
+
+-- ---- one worker's row
+
+module _ (code : SuperstepCode) (m : Shape) (bound : ℕ) (input : List ℤ) (k w : ℕ) (x : CountedWorker) (row : List WrittenMessage)
+    (at : IsAt code m bound input k w x row) where
+  abbrev set_to : ℕ → Setting
+  set_to n = setting code m bound n
+
+  -- a header has a mark exactly where the worker has stopped
+  marked_by : (way : Way) (s : State) → ((mark : _) → way ≡ ways.Stopped mark → mark ≡ OutOfMemory) →
+      (is_stopped way ≡ false → s.refusals ≡ []) → is_marked (mark_now (marked way s).refusals) ≡ is_stopped way
+  marked_by ways.On s h clear = ap (λ ms. is_marked (mark_now ms)) (clear refl)
+  marked_by (ways.Ending ended) s h clear = ap (λ ms. is_marked (mark_now ms)) (clear refl)
+  marked_by (ways.Past key ended) s h clear = ap (λ ms. is_marked (mark_now ms)) (clear refl)
+  marked_by (ways.Stopped mark) s h clear = ap is_marked (h mark refl)
+
+  pub row_marked : (n j : ℕ) → most_instructions code bound < n → j < m.parts →
+      header_marked (message_at row j) ≡ is_stopped x.local.way
+  row_marked n j low within =
+      let s = worker_after (set_to n) input k w in
+      let h = read_header (message_at row j).header in
+      ap is_marked
+      (sym (mark_read code.rule m j (purpose_is x.local.step) h (message_at row j).words)
+      ∙ ap (λ (q : Message). q.mark) (at.read n j low within) ∙ mark_sent (set_to n) w (marked x.local.way s) j)
+      ∙ marked_by x.local.way s at.refused (λ going. (at.shown going n low).clear)
+
+  module _ (going : is_stopped x.local.way ≡ false) (n : ℕ) (low : most_instructions code bound < n) where
+    abbrev s : State
+    s = worker_after (set_to n) input k w
+
+    clear : marked x.local.way s ≡ s
+    clear = unstopped x.local.way s going
+
+    pub row_is : (j : ℕ) → j < m.parts → message_at row j ≡ written code.rule (message_of (set_to n) w s j)
+    row_is j within = (at.filled n low).each j within ∙ ap (λ q. written code.rule (message_of (set_to n) w q j)) clear
+
+    pub row_read : (j : ℕ) → j < m.parts →
+        read_message code.rule m j (purpose_is x.local.step) (read_header (message_at row j).header) (message_at row j).words
+        ≡ message_of (set_to n) w s j
+    row_read j within = at.read n j low within ∙ ap (λ q. message_of (set_to n) w q j) clear
+
+    pub words_sent : words_in row ≡ sum_over (set_to n) (λ j. words_between (set_to n) (worker_after (set_to n) input k) w j)
+    words_sent =
+        ap words_in (sym (alone row))
+        ∙ words_by (λ (y : WrittenMessage). y) (λ j. words_between (set_to n) (worker_after (set_to n) input k) w j) row 0
+        (λ i y e.
+        let l = get_within row i y e in
+        let long = (at.filled n low).long in
+        ap (λ (z : WrittenMessage). length z.words) (sym (get_is row i y unwritten e) ∙ row_is i (omega (arith, l, long)))
+        ∙ ap (λ j. words_between (set_to n) (worker_after (set_to n) input k) w j) (let same : i ≡ 0 + i = omega arith in same))
+        ∙ ap (λ p. total 0 (λ (b c : ℕ). b + c) (λ j. words_between (set_to n) (worker_after (set_to n) input k) w j) (range_with_len 0 p))
+        (at.filled n low).long
+
+    pub purpose_at : (ready (set_to n) w s).purpose ≡ purpose_is x.local.step
+    purpose_at = (at.shown going n low).purpose
+
+-- ---- a column
+
+module _ (code : SuperstepCode) (m : Shape) (map_for : IsMapFor code m) (bound : ℕ) (input : List ℤ) (k : ℕ) (all : List CountedWorker)
+    (rows : List Sheet) (at : AreAt code m bound input k all rows) (many : length all ≡ m.parts) (long : length rows ≡ m.parts)
+    (none : (i : ℕ) (x : CountedWorker) → slice_get all i ≡ Some x → is_stopped x.local.way ≡ false) where
+  module _ (w : ℕ) (x : CountedWorker) (here : slice_get all w ≡ Some x) (within : w < m.parts) where
+    abbrev entry : Sheet → WrittenMessage
+    entry row = slice_index_or (messages_in row) w no_words
+
+    -- what is known of worker i, whose row this is
+    module _ (n : ℕ) (low : most_instructions code bound < n) (i : ℕ) (row : Sheet) (e : slice_get rows i ≡ Some row) where
+      abbrev t : Setting
+      t = setting code m bound n
+
+      below : i < m.parts
+      below = let l = get_within rows i row e in omega (arith, l, long)
+
+      sender : (y : CountedWorker) × (slice_get all i ≡ Some y)
+      sender = there_at all i (let b = below in omega (arith, b, many))
+
+      has : IsAt code m bound input k i sender.0 (messages_in row)
+      has = at i sender.0 row sender.1 e
+
+      entry_is : entry row ≡ message_at (messages_in row) w
+      entry_is = get_or_default (messages_in row) w no_words unwritten (let l = (has.filled n low).long in omega (arith, l, within))
+
+      mine : (row' : Sheet) × (slice_get rows w ≡ Some row')
+      mine = there_at rows w (omega (arith, within, long))
+
+      one_purpose : purpose_is x.local.step ≡ purpose_is sender.0.local.step
+      one_purpose =
+          sym (purpose_at code m bound input k w x (messages_in mine.0) (at w x mine.0 here mine.1) (none w x here) n low)
+          ∙ (one_exchange t map_for input k w i within below).0
+          ∙ purpose_at code m bound input k i sender.0 (messages_in row) has (none i sender.0 sender.1) n low
+
+      entry_read : read_message code.rule m w (purpose_is x.local.step) (read_header (entry row).header) (entry row).words
+          ≡ message_of t i (worker_after t input k i) w
+      entry_read =
+          (λ j. read_message code.rule m w (one_purpose j) (read_header (entry_is j).header) (entry_is j).words)
+          ∙ row_read code m bound input k i sender.0 (messages_in row) has (none i sender.0 sender.1) n low w within
+
+      entry_words : length (entry row).words ≡ words_between t (worker_after t input k) i w
+      entry_words =
+          ap (λ (c : WrittenMessage). length c.words)
+          (entry_is ∙ row_is code m bound input k i sender.0 (messages_in row) has (none i sender.0 sender.1) n low w within)
+
+    pub coming : HasCome code m bound input k w x.local.step (picked w rows)
+    coming = record {
+      messages = λ n low.
+          map_twice (λ (r : MessageHeader × List ℕ). read_message code.rule m w (purpose_is x.local.step) r.0 r.1)
+          (λ (c : WrittenMessage). (read_header c.header, c.words)) (picked w rows)
+          ∙ map_twice (λ (c : WrittenMessage). read_message code.rule m w (purpose_is x.local.step)
+          (read_header c.header) c.words) entry rows
+          ∙ map_by (λ row. read_message code.rule m w (purpose_is x.local.step) (read_header (entry row).header) (entry row).words)
+          (λ i. message_of (setting code m bound n) i (worker_after (setting code m bound n) input k i) w) rows 0
+          (λ i row e. entry_read n low i row e
+          ∙ ap (λ j. message_of (setting code m bound n) j (worker_after (setting code m bound n) input k j) w)
+          (let same : i ≡ 0 + i = omega arith in same))
+          ∙ ap (λ p. map (λ i. message_of (setting code m bound n) i (worker_after (setting code m bound n) input k i) w)
+          (range_with_len 0 p))
+          long;
+      words = λ n low.
+          words_by entry (λ i. words_between (setting code m bound n) (worker_after (setting code m bound n) input k) i w) rows 0
+          (λ i row e. entry_words n low i row e
+          ∙ ap (λ j. words_between (setting code m bound n) (worker_after (setting code m bound n) input k) j w)
+          (let same : i ≡ 0 + i = omega arith in same))
+          ∙ ap (λ p. total 0 (λ (b c : ℕ). b + c)
+          (λ i. words_between (setting code m bound n) (worker_after (setting code m bound n) input k) i w) (range_with_len 0 p)) long;
+    }
+
+-- ---- who stops
+
+module _ (code : SuperstepCode) (m : Shape) (bound : ℕ) (input : List ℤ) (k : ℕ) (all : List CountedWorker) (rows : List Sheet)
+    (at : AreAt code m bound input k all rows) (many : length all ≡ m.parts) (long : length rows ≡ m.parts) where
+  pub stopping : (w : ℕ) (x : CountedWorker) → slice_get all w ≡ Some x → w < m.parts →
+      (is_stopped x.local.way || is_marked (mark_heard (picked w rows))) ≡ any_stopped all
+  stopping w x here within = stops_with_any all (picked w rows) w x (length-map rows entry ∙ long ∙ sym many) here each
+    where
+      entry : Sheet → WrittenMessage
+      entry row = slice_index_or (messages_in row) w no_words
+
+      n : ℕ
+      n = suc (most_instructions code bound)
+
+      each : (i : ℕ) (c : WrittenMessage) (y : CountedWorker) → slice_get (picked w rows) i ≡ Some c → slice_get all i ≡ Some y →
+          header_marked c ≡ is_stopped y.local.way
+      each i c y e f =
+          let l = get_within all i y f in
+          let there = there_at rows i (omega (arith, l, many, long)) in
+          let row = there.0 in
+          let is = at i y row f there.1 in
+          let low : most_instructions code bound < n = omega arith in
+          let wide = (is.filled n low).long in
+          ap header_marked
+          (one_there (picked w rows) i c (entry row) e (map_at (λ (s : Sheet). slice_index_or
+          (messages_in s) w no_words) rows i row there.1)
+          ∙ get_or_default (messages_in row) w no_words unwritten (omega (arith, wide, within)))
+          ∙ row_marked code m bound input k i y (messages_in row) is n w low within
+
+-- ---- what is counted
+
+module _ (t : Setting) (input : List ℤ) (k w : ℕ) (within : w < workers t) where
+  abbrev ws : ℕ → State
+  ws = worker_after t input k
+
+  -- one exchange more
+  pub counted_more : (counts : List Count) (count : Count) → map share_told counts ≡ shares t input w k →
+      (ready t 0 (ws 0)).purpose ≡ purpose_is count.step → count.sent ≡ sum_over t (λ j. words_between t ws w j) →
+      count.received ≡ sum_over t (λ i. words_between t ws i w) → map share_told (counts ++ count ∷ []) ≡ shares t input w (suc k)
+  counted_more counts count before purpose sent received =
+      map_joined share_told counts (count ∷ [])
+      ∙ (λ i. before i ++ share_is i ∷ [])
+      ∙ sym (range_more (λ i. share_of w (exchange_of t (worker_after t input i))) k 0
+      ∙ ap (λ j. shares t input w k ++ share_of w (exchange_of t (worker_after t input j)) ∷ [])
+      (let same : 0 + k ≡ k = omega arith in same))
+    where
+      by_worker : (f : ℕ → ℕ) → slice_index_or (map f (range_with_len 0 (workers t))) w 0 ≡ f w
+      by_worker f = get_or-map-range_with_len f 0 (workers t) w w 0 within (omega arith)
+
+      share_is : share_told count ≡ share_of w (exchange_of t ws)
+      share_is = λ i. record {
+        purpose = sym purpose i;
+        sent = (sent ∙ sym (by_worker (λ v. sum_over t (λ j. words_between t ws v j)))) i;
+        received = (received ∙ sym (by_worker (λ v. sum_over t (λ j. words_between t ws j v)))) i;
+      }

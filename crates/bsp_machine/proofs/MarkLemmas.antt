@@ -1,0 +1,123 @@
+-- Marks: who has stopped, and what the headers say of it.
+use Rattle.std.proofs.Common.{◌≡◌, ℕ, zero, suc, List, [], ◌∷◌, length, Bool, true, false}
+use Rattle.std.proofs.Common.{Some, refl, sym, ap, ◌∙◌, arith}
+use Rattle.std.specs.Prelude.{slice_get, ◌||◌}
+use Rattle.std.specs.List.{list_any}
+use Rattle.pram_model.specs.declared.rule.Rule.{Rule}
+use Rattle.address_map.specs.Lawful.{Shape}
+use Rattle.superstep_machine.specs.declared.mark.HeaderMark.{HeaderMark}
+use Rattle.superstep_machine.specs.declared.mark.HeaderMark.TheVariants.{Clear, OutOfMemory, OutOfReserve}
+use Rattle.superstep_machine.specs.declared.header.MessageHeader.{MessageHeader}
+use Rattle.superstep_machine.specs.Marks.{worse}
+use Rattle.superstep_machine.specs.HeaderWords.{read_header}
+use Rattle.superstep_machine.specs.WordReading.{read_message}
+use Rattle.superstep_machine.specs.Run.{Purpose, Sends, Replies, Votes, Closes, State, is_over}
+use Rattle.message_rows.specs.Rows.{WrittenMessage}
+use Rattle.worker_messages.specs.declared.way.Way.{Way}
+use Rattle.worker_messages.specs.declared.way.Way.TheVariants as ways
+use Rattle.worker_messages.specs.Shown.{way_is, is_stopped, marked}
+use Rattle.worker_exchange.specs.Received.{mark_heard, is_marked}
+use Rattle.bsp_machine.specs.declared.counted.CountedWorker.{CountedWorker}
+
+-- ---- one worker
+
+pub unstopped : (way : Way) (s : State) → is_stopped way ≡ false → marked way s ≡ s
+unstopped ways.On s h = refl
+unstopped (ways.Ending ended) s h = refl
+unstopped (ways.Past key ended) s h = refl
+unstopped (ways.Stopped mark) s h = absurd (cc h)
+
+-- what goes on hasn't stopped
+pub going_on : (way : Way) → is_over (way_is way) ≡ false → is_stopped way ≡ false
+going_on ways.On h = refl
+going_on (ways.Ending ended) h = refl
+going_on (ways.Past key ended) h = refl
+going_on (ways.Stopped mark) h = h
+
+pub never : (way : Way) (mark : HeaderMark) → way ≡ ways.Stopped mark → is_stopped way ≡ false → ⊥
+never way mark e h = true_no_false (sym (ap is_stopped e) ∙ h)
+  where
+    true_no_false : true ≡ false → ⊥
+    true_no_false h = cc
+
+-- ---- marks together
+
+marked_worse : (a b : HeaderMark) → is_marked (worse a b) ≡ (is_marked a || is_marked b)
+marked_worse Clear b = refl
+marked_worse OutOfMemory b = refl
+marked_worse OutOfReserve Clear = refl
+marked_worse OutOfReserve OutOfMemory = refl
+marked_worse OutOfReserve OutOfReserve = refl
+
+abbrev pub header_marked : WrittenMessage → Bool
+header_marked x = is_marked (read_header x.header).mark
+
+marks_are : (came : List WrittenMessage) → is_marked (mark_heard came) ≡ list_any header_marked came
+marks_are [] = refl
+marks_are (x ∷ came) =
+    marked_worse (read_header x.header).mark (mark_heard came) ∙ ap (λ b. header_marked x || b) (marks_are came)
+
+-- ---- two lists with the same marks
+
+any_by : {A B : Type 0} (f : A → Bool) (g : B → Bool) (xs : List A) (ys : List B) → length xs ≡ length ys →
+    ((i : ℕ) (x : A) (y : B) → slice_get xs i ≡ Some x → slice_get ys i ≡ Some y → f x ≡ g y) → list_any f xs ≡ list_any g ys
+any_by f g [] [] l h = refl
+any_by f g [] (y ∷ ys) l h = cc
+any_by f g (x ∷ xs) [] l h = cc
+any_by f g (x ∷ xs) (y ∷ ys) l h =
+    let e = h 0 x y refl refl in
+    let r = any_by f g xs ys (omega (arith, l)) (λ i a b p q. h (suc i) a b p q) in
+    (λ i. e i || r i)
+
+abbrev pub any_stopped : List CountedWorker → Bool
+any_stopped = list_any (λ (x : CountedWorker). is_stopped x.local.way)
+
+or_true : (b : Bool) → (b || true) ≡ true
+or_true true = refl
+or_true false = refl
+
+pub or_false : (a b : Bool) → (a || b) ≡ false → (a ≡ false) × (b ≡ false)
+or_false true b h = absurd (cc h)
+or_false false b h = (refl, h)
+
+-- it is one of them
+one_of_any : (xs : List CountedWorker) (i : ℕ) (x : CountedWorker) → slice_get xs i ≡ Some x →
+    (is_stopped x.local.way || any_stopped xs) ≡ any_stopped xs
+one_of_any xs i x h = go (is_stopped x.local.way) refl
+  where
+    has : (xs : List CountedWorker) (i : ℕ) → slice_get xs i ≡ Some x → is_stopped x.local.way ≡ true → any_stopped xs ≡ true
+    has [] i h s = cc
+    has (y ∷ xs) zero h s = ap (λ (z : CountedWorker). is_stopped z.local.way || any_stopped xs) (unsome y x h)
+        ∙ ap (λ b. b || any_stopped xs) s
+      where
+        unsome : (a b : CountedWorker) → Some a ≡ Some b → a ≡ b
+        unsome a b e = cc
+    has (y ∷ xs) (suc i) h s = ap (λ b. is_stopped y.local.way || b) (has xs i h s) ∙ or_true (is_stopped y.local.way)
+
+    go : (b : Bool) → is_stopped x.local.way ≡ b → (b || any_stopped xs) ≡ any_stopped xs
+    go true s = sym (has xs i h s)
+    go false s = refl
+
+-- where none has stopped, this one hasn't
+pub none_stopped : (xs : List CountedWorker) (i : ℕ) (x : CountedWorker) → slice_get xs i ≡ Some x → any_stopped xs ≡ false →
+    is_stopped x.local.way ≡ false
+none_stopped xs i x h none = (or_false (is_stopped x.local.way) (any_stopped xs) (one_of_any xs i x h ∙ none)).0
+
+-- A worker stops at an exchange exactly where any has: from each comes a mark exactly where it has stopped.
+pub stops_with_any : (xs : List CountedWorker) (came : List WrittenMessage) (w : ℕ) (x : CountedWorker) → length came ≡ length xs →
+    slice_get xs w ≡ Some x →
+    ((i : ℕ) (c : WrittenMessage) (y : CountedWorker) → slice_get came i ≡ Some c → slice_get xs i ≡ Some y →
+    header_marked c ≡ is_stopped y.local.way) → (is_stopped x.local.way || is_marked (mark_heard came)) ≡ any_stopped xs
+stops_with_any xs came w x long here each =
+    ap (λ b. is_stopped x.local.way || b)
+    (marks_are came ∙ any_by header_marked (λ (y : CountedWorker). is_stopped y.local.way) came xs long each)
+    ∙ one_of_any xs w x here
+
+-- ---- the mark of a message that is read
+
+pub mark_read : (rule : Rule) (m : Shape) (j : ℕ) (purpose : Purpose) (h : MessageHeader) (ws : List ℕ) →
+    (read_message rule m j purpose h ws).mark ≡ h.mark
+mark_read rule m j Sends h ws = refl
+mark_read rule m j Replies h ws = refl
+mark_read rule m j (Votes d) h ws = refl
+mark_read rule m j Closes h ws = refl

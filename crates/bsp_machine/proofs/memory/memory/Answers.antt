@@ -1,0 +1,35 @@
+use Rattle.std.proofs.Common.{◌≡◌, ◌+◌, suc, [], ◌∷◌, ◌++◌, Some, get_or, map, pos, sym, ap, ◌∙◌, w64, FitsSigned, rules, arith}
+use Rattle.std.specs.Prelude.{slice_get, slice_index_or}
+use Rattle.std.specs.List.{range_with_len}
+use Rattle.std.proofs.lemmas.Int.{to_z-of_z}
+use Rattle.pram_model.specs.Layout.{total_size}
+use Rattle.bsp_machine.specs.Ended.{cells_of, value_of}
+use Rattle.bsp_machine.proofs.ListLemmas.{get_there, range_more}
+use Rattle.bsp_machine.proofs.memory.memory.Goals as goal
+
+pub cells-preserved : goal.cells-preserved
+cells-preserved g c =
+    let m = g.M.AddressMap.shape c.args.map.now in
+    let workers = c.args.workers.now in
+    let cell = c.cells.cell in
+    let value = value_of m workers in
+    let test = c.cells-test.true in
+    let total = c.cells-cells.ensures.total ∙ ap total_size c.layout.ensures.value in
+    let places = c.requires.places in
+    let within = (g.met.M.AddressMap.lawful c.args.map.now).part_below cell (omega (arith, test, total, places)) in
+    let part = c.place-part.ensures.part in
+    let many = c.requires.workers in
+    let y = get_or workers c.place-part.result.0 c.index-workers-part.result in
+    let here : slice_get workers c.place-part.result.0 ≡ Some y =
+    get_there workers c.place-part.result.0 c.index-workers-part.result (omega (arith, within, part, many)) in
+    let is : c.get-value.result ≡ value cell =
+    (c.get-value.ensures.value ∙ ap (λ o. slice_index_or y.local.cells o (pos 0)) c.place-part.ensures.offset
+    ∙ ap (λ x. slice_index_or (cells_of x) (m.offset cell) (pos 0)) (sym here)
+    ∙ ap (λ part. slice_index_or (cells_of (slice_get workers part)) (m.offset cell) (pos 0)) c.place-part.ensures.part) in
+    let fits : FitsSigned w64 c.get-value.result = search rules in
+    c.in_ok-push.ensures.items
+    ∙ ap (λ v. c.cells.found.items ++ v ∷ []) (to_z-of_z w64 c.get-value.result fits)
+    ∙ (λ i. c.cells.invariant i ++ is i ∷ [])
+    ∙ ap (λ k. map value (range_with_len 0 cell) ++ value k ∷ []) (let same : cell ≡ 0 + cell = omega arith in same)
+    ∙ sym (range_more value cell 0)
+    ∙ ap (λ k. map value (range_with_len 0 k)) (let same : suc cell ≡ cell + 1 = omega arith in same)

@@ -1,0 +1,91 @@
+use Rattle.std.proofs.Common.{◌≡◌, ◌<◌, ℕ, suc, ◌+◌, List, ℤ, Some, length, length-set, get_or, false, sym, subst, ◌∙◌}
+use Rattle.std.proofs.Common.{arith}
+use Rattle.std.specs.Prelude.{slice_get}
+use Rattle.superstep_machine.specs.Run.{is_over}
+use Rattle.worker_messages.specs.Shown.{way_is, is_stopped}
+use Rattle.worker_messages.specs.Equipped.{most_words, left, left_at}
+use Rattle.worker_exchange.specs.Received.{is_marked, mark_heard}
+use Rattle.bsp_machine.specs.declared.counted.CountedWorker.{CountedWorker}
+use Rattle.bsp_machine.specs.Sheets.{messages_in, picked}
+use Rattle.bsp_machine.specs.Workers.{AreAt, IsBehind}
+use Rattle.bsp_machine.proofs.ListLemmas.{get_there, get_other, get_within, set_each, one_there, there_at}
+use Rattle.bsp_machine.proofs.SheetLemmas.{column_short}
+use Rattle.bsp_machine.proofs.MarkLemmas.{going_on, or_false, any_stopped, none_stopped}
+use Rattle.bsp_machine.proofs.ComingLemmas.{coming, stopping}
+use Rattle.bsp_machine.proofs.phase.receive_all.Goals as goal
+
+pub receive-requires-clause-room : goal.receive-requires-clause-room
+receive-requires-clause-room g c =
+    let m = g.M.AddressMap.shape c.args.map.now in
+    column_short m.parts (most_words c.args.code.now m) c.workers.w c.args.rows.now c.requires.rows.each
+
+pub workers-preserved : goal.workers-preserved
+workers-preserved g c =
+    let code = c.args.code.now in
+    let m = g.M.AddressMap.shape c.args.map.now in
+    let bound = c.args.bound in
+    let olds = c.args.workers.now in
+    let rows = c.args.rows.now in
+    let xs = c.workers.workers in
+    let w = c.workers.w in
+    let i = c.workers.invariant in
+    let y = get_or xs w c.index-workers-w.result in
+    let x' = c.receive.new.self in
+    let e = c.receive.ensures in
+    let many = c.requires.workers in
+    let now = i.long in
+    let long = c.requires.rows.long in
+    let test = c.workers-test.true in
+    let lt : w < length xs = omega (arith, test) in
+    let within : w < m.parts = omega (arith, lt, now) in
+    let here : slice_get xs w ≡ Some y = get_there xs w c.index-workers-w.result lt in
+    let before : slice_get olds w ≡ Some y = sym (i.later w (omega arith)) ∙ here in
+    let row = there_at rows w (omega (arith, within, long)) in
+    let stops : (input : List ℤ) (k : ℕ) → AreAt code m bound input k olds rows → is_stopped x'.local.way ≡ any_stopped olds =
+    (λ input k at. e.stopped ∙ stopping code m bound input k olds rows at many long w y before within) in
+    record {
+      long = length-set xs w x' ∙ now;
+      later = λ v low. get_other xs w v x' (λ (same : v ≡ w). omega (arith, same, low)) ∙ i.later v (omega (arith, low));
+      behind = λ input k at v x below there.
+          set_each xs w x' (λ v x. v < w + 1 → IsBehind code m bound input (suc k) v x) lt
+          (λ below.
+          e.behind input k w (messages_in row.0) within (at w y row.0 before row.1)
+          (λ alive.
+          coming code m c.requires.runnable.map bound input k olds rows at many long
+          (λ j z f. none_stopped olds j z f (sym (stops input k at) ∙ alive)) w y before within))
+          (λ v x n there below. i.behind input k at v x (omega (arith, n, below)) there) v x there below;
+      stopped = λ input k at v x below there.
+          set_each xs w x' (λ v x. v < w + 1 → is_stopped x.local.way ≡ any_stopped olds) lt (λ below. stops input k at)
+          (λ v x n there below. i.stopped input k at v x (omega (arith, n, below)) there) v x there below;
+      left = λ v x z below was there.
+          set_each xs w x' (λ v z. (x : CountedWorker) → v < w + 1 → slice_get olds v ≡ Some x → is_over (way_is z.local.way) ≡ false →
+          (is_stopped x.local.way ≡ false) × (left code bound z.local < left_at code bound x.local)) lt
+          (λ x below was on. subst (λ (q : CountedWorker). (is_stopped q.local.way ≡ false)
+          × (left code bound x'.local < left_at code bound q.local)) (one_there olds w y x before was) (
+            (or_false (is_stopped y.local.way) (is_marked (mark_heard (picked w rows)))
+                (sym e.stopped ∙ going_on x'.local.way on)).0,
+            e.left on,
+          ))
+          (λ v z n there x below was on. i.left v x z (omega (arith, n, below)) was there on) v z there x below was;
+    }
+
+pub returns-clause-behind : goal.returns-clause-behind
+returns-clause-behind g c = λ input k at w x there.
+    let l = get_within c.workers.workers w x there in
+    let stop = c.workers-test.false in
+    c.workers.invariant.behind input k at w x (omega (arith, l, stop)) there
+
+pub returns-clause-together : goal.returns-clause-together
+returns-clause-together g c = λ input k at w v x y here there.
+    let xs = c.workers.workers in
+    let l = get_within xs w x here in
+    let r = get_within xs v y there in
+    let stop = c.workers-test.false in
+    c.workers.invariant.stopped input k at w x (omega (arith, l, stop)) here
+    ∙ sym (c.workers.invariant.stopped input k at v y (omega (arith, r, stop)) there)
+
+pub returns-clause-left : goal.returns-clause-left
+returns-clause-left g c = λ w x y was there.
+    let l = get_within c.workers.workers w y there in
+    let stop = c.workers-test.false in
+    c.workers.invariant.left w x y (omega (arith, l, stop)) was there

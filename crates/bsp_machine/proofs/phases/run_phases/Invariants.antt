@@ -1,0 +1,16 @@
+use Rattle.std.proofs.Common.{◌≡◌, List, ℤ, length}
+use Rattle.worker_messages.specs.Equipped.{most_words}
+use Rattle.bsp_machine.specs.Workers.{AreSheets}
+use Rattle.bsp_machine.specs.Ended.{AreRunning, left_first}
+use Rattle.bsp_machine.proofs.phases.run_phases.Given as goal
+
+abbrev pub decreases-phases : goal.decreases-phases
+decreases-phases g l = left_first l.code l.bound l.workers
+
+abbrev pub invariant-phases : goal.invariant-phases
+invariant-phases g l = record {
+  long : length l.workers ≡ (g.M.AddressMap.shape l.map).parts;
+  rows : AreSheets (g.M.AddressMap.shape l.map).parts (most_words l.code (g.M.AddressMap.shape l.map)) l.rows;
+  running : (input : List ℤ) → AreRunning l.code (g.M.AddressMap.shape l.map) l.bound input l.fn.workers →
+      AreRunning l.code (g.M.AddressMap.shape l.map) l.bound input l.workers;
+}

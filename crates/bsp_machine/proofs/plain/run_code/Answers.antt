@@ -1,0 +1,34 @@
+use Rattle.std.proofs.Common.{Ok, Err}
+use Rattle.std.specs.Prelude.{IfOk, Result}
+use Rattle.bsp_machine.proofs.OpeningLemmas.{fresh_run}
+use Rattle.bsp_machine.proofs.plain.run_code.Goals as goal
+
+if_ok : {A E : Type 0} (P Q : A → Type 0) → ((a : A) → P a → Q a) → (r : Result A E) → IfOk r P → IfOk r Q
+if_ok P Q f (Ok a) h = f a h
+if_ok P Q f (Err e) h = h
+
+pub collect-requires-clause-run : goal.collect-requires-clause-run
+collect-requires-clause-run g c =
+    let m = g.M.AddressMap.shape c.args.map.now in
+    record {
+      bound = c.args.bound;
+      running = record {
+        input = c.args.input.now;
+        running = c.in-Ok.ensures.running c.args.input.now
+            (fresh_run c.args.code.now m c.args.input.now c.args.bound c.in_ok-opened.opened.items c.in_ok-opened.ensures.opened);
+      };
+    }
+
+pub returns-in-Ok-clause-outcome : goal.returns-in-Ok-clause-outcome
+returns-in-Ok-clause-outcome g c =
+    let m = g.M.AddressMap.shape c.args.map.now in
+    let run = c.in-Ok.ensures.running c.args.input.now
+    (fresh_run c.args.code.now m c.args.input.now c.args.bound c.in_ok-opened.opened.items c.in_ok-opened.ensures.opened) in
+    if_ok _ _ (λ found h. h c.args.bound c.args.input.now run) c.collect.result c.collect.ensures.outcome
+
+pub returns-in-Ok-clause-counts : goal.returns-in-Ok-clause-counts
+returns-in-Ok-clause-counts g c =
+    let m = g.M.AddressMap.shape c.args.map.now in
+    let run = c.in-Ok.ensures.running c.args.input.now
+    (fresh_run c.args.code.now m c.args.input.now c.args.bound c.in_ok-opened.opened.items c.in_ok-opened.ensures.opened) in
+    if_ok _ _ (λ found h. h c.args.bound c.args.input.now run) c.collect.result c.collect.ensures.counts

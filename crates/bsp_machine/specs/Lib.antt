@@ -1,0 +1,5 @@
+pub mod Sheets
+pub mod ColumnLaws
+pub mod Workers
+pub mod Opening
+pub mod Ended

@@ -1,0 +1,31 @@
+-- Workers before the first instruction.
+use Rattle.std.specs.Prelude.{◌≡◌, ℕ, List, [], ◌∷◌, ◌++◌, Some, ℤ, slice_get}
+use Rattle.address_map.specs.Lawful.{Shape}
+use Rattle.superstep_code.specs.Code.{SuperstepCode}
+use Rattle.superstep_machine.specs.Run.{opening, setting}
+use Rattle.worker_messages.specs.declared.local.Local.{Local}
+use Rattle.worker_messages.specs.Shown.{IsShown}
+use Rattle.worker_messages.specs.Equipped.{MayGoOn}
+use Rattle.bsp_machine.specs.declared.counted.CountedWorker.{CountedWorker}
+
+-- one worker more at the end, which has counted nothing
+pub record IsAdded (opened : Local) (old new : List CountedWorker) : Type 0 where
+  pub worker : CountedWorker
+  pub local : worker.local ≡ opened
+  pub none : worker.counts.items ≡ []
+  pub added : new ≡ old ++ (worker ∷ [])
+
+-- Worker w before the first instruction, within any bound.
+pub record IsFresh (code : SuperstepCode) (m : Shape) (input : List ℤ) (w : ℕ) (x : CountedWorker) : Type 0 where
+  pub worker : x.local.steps.bank.worker ≡ w
+  pub shown : (bound n : ℕ) → IsShown (setting code m bound n) w x.local (opening (setting code m bound n) input w)
+  pub going : (bound : ℕ) → MayGoOn code m bound x.local
+  pub none : x.counts.items ≡ []
+
+abbrev pub AreFresh : SuperstepCode → Shape → List ℤ → List CountedWorker → Type 0
+AreFresh code m input workers = (w : ℕ) (x : CountedWorker) → slice_get workers w ≡ Some x → IsFresh code m input w x
+
+-- from some input
+pub record AreOpened (code : SuperstepCode) (m : Shape) (workers : List CountedWorker) : Type 0 where
+  pub input : List ℤ
+  pub fresh : AreFresh code m input workers

@@ -1,0 +1,114 @@
+-- The workers of a run, between two exchanges and at one.
+use Rattle.std.specs.Prelude.{◌≡◌, ℕ, ◌<◌, List, map, length, Some, false, ℤ, vec_capacity, slice_get, slice_index_or}
+use Rattle.std.specs.List.{range_with_len}
+use Rattle.address_map.specs.Lawful.{Shape}
+use Rattle.superstep_code.specs.Code.{SuperstepCode}
+use Rattle.superstep_machine.specs.declared.mark.HeaderMark.{HeaderMark}
+use Rattle.superstep_machine.specs.declared.mark.HeaderMark.TheVariants.{OutOfMemory}
+use Rattle.superstep_machine.specs.Setting.{Setting}
+use Rattle.superstep_machine.specs.Machine.{column}
+use Rattle.superstep_machine.specs.Run.{Purpose, bsp, is_over, message_of, setting}
+use Rattle.superstep_machine.specs.Trace.{Exchange, exchange_of, sum_over, words_between}
+use Rattle.bsp_verify.specs.Runs.{worker_after}
+use Rattle.message_rows.specs.Rows.{WrittenMessage, IsRow, written, message_at, words_in}
+use Rattle.worker_messages.specs.declared.step.Step.{Step}
+use Rattle.worker_messages.specs.declared.way.Way.TheVariants.{Stopped}
+use Rattle.worker_messages.specs.declared.local.Local.{Local}
+use Rattle.worker_messages.specs.Reached.{most_instructions}
+use Rattle.worker_messages.specs.Shown.{way_is, purpose_is, is_stopped, marked, IsShown, IsAtExchange}
+use Rattle.worker_messages.specs.Equipped.{MayGoOn, IsAtStep}
+use Rattle.worker_messages.specs.Told.{IsWrittenFor}
+use Rattle.worker_exchange.specs.Received.{messages_to}
+use Rattle.exchange_counts.specs.declared.count.Count.{Count}
+use Rattle.bsp_machine.specs.declared.counted.CountedWorker.{CountedWorker}
+use Rattle.bsp_machine.specs.declared.sheet.Sheet.{Sheet}
+use Rattle.bsp_machine.specs.Sheets.{messages_in, IsSheet}
+
+-- ---- what a worker counts
+
+-- a worker's part of an exchange
+pub record Share : Type 0 where
+  pub purpose : Purpose
+  pub sent : ℕ
+  pub received : ℕ
+
+-- what a worker counts at an exchange at which so many words came to it
+abbrev pub count_of : Local → ℕ → Count
+count_of x received = record { step = x.step; sent = x.buffers.sent; received = received }
+
+abbrev pub share_told : Count → Share
+share_told c = record { purpose = purpose_is c.step; sent = c.sent; received = c.received }
+
+abbrev pub share_of : ℕ → Exchange → Share
+share_of w e = record { purpose = e.purpose; sent = slice_index_or e.sent w 0; received = slice_index_or e.received w 0 }
+
+-- worker w's parts of the first k exchanges
+abbrev pub shares : Setting → List ℤ → ℕ → ℕ → List Share
+shares t input w k = map (λ i. share_of w (exchange_of t (worker_after t input i))) (range_with_len 0 k)
+
+-- ---- one worker
+
+module _ (code : SuperstepCode) (m : Shape) (bound : ℕ) where
+  -- Behind k exchanges it is worker w of the run from an input, and has counted them; if it hasn't stopped.
+  pub record IsBehind (input : List ℤ) (k w : ℕ) (x : CountedWorker) : Type 0 where
+    pub worker : is_stopped x.local.way ≡ false → x.local.steps.bank.worker ≡ w
+    pub shown : is_stopped x.local.way ≡ false → (n : ℕ) → most_instructions code bound < n →
+        IsShown (setting code m bound n) w x.local (worker_after (setting code m bound n) input k w)
+    pub going : is_over (way_is x.local.way) ≡ false → MayGoOn code m bound x.local
+    pub counted : is_stopped x.local.way ≡ false → (n : ℕ) → most_instructions code bound < n →
+        map share_told x.counts.items ≡ shares (setting code m bound n) input w k
+
+  -- At the exchange behind k it has a row of the messages of worker w, with a mark if it has stopped.
+  pub record IsAt (input : List ℤ) (k w : ℕ) (x : CountedWorker) (row : List WrittenMessage) : Type 0 where
+    pub worker : is_stopped x.local.way ≡ false → x.local.steps.bank.worker ≡ w
+    pub shown : is_stopped x.local.way ≡ false → (n : ℕ) → most_instructions code bound < n →
+        IsAtExchange (setting code m bound n) w x.local (worker_after (setting code m bound n) input k w)
+    pub filled : (n : ℕ) → most_instructions code bound < n →
+        IsRow m.parts (λ j. written code.rule (message_of (setting code m bound n) w
+        (marked x.local.way (worker_after (setting code m bound n) input k w)) j)) row
+    pub read : (n j : ℕ) → most_instructions code bound < n → j < m.parts →
+        IsWrittenFor code.rule m j (purpose_is x.local.step) (message_of (setting code m bound n) w
+        (marked x.local.way (worker_after (setting code m bound n) input k w)) j) (message_at row j)
+    pub refused : (mark : HeaderMark) → x.local.way ≡ Stopped mark → mark ≡ OutOfMemory
+    pub sent : is_stopped x.local.way ≡ false → x.local.buffers.sent ≡ words_in row
+    pub counted : is_stopped x.local.way ≡ false → (n : ℕ) → most_instructions code bound < n →
+        map share_told x.counts.items ≡ shares (setting code m bound n) input w k
+
+  -- If it hasn't stopped it stands at an exchange, with room to count it.
+  pub record IsReady (x : CountedWorker) : Type 0 where
+    pub step : is_stopped x.local.way ≡ false → IsAtStep code m bound x.local
+    pub room : is_stopped x.local.way ≡ false → length x.counts.items < vec_capacity x.counts
+
+  -- What came to worker w in the exchange behind k is what the machine's workers send to it.
+  pub record HasCome (input : List ℤ) (k w : ℕ) (step : Step) (came : List WrittenMessage) : Type 0 where
+    pub messages : (n : ℕ) → most_instructions code bound < n →
+        messages_to code.rule m w (purpose_is step) came ≡ column (bsp (setting code m bound n)) m.parts
+        (worker_after (setting code m bound n) input k) w
+    pub words : (n : ℕ) → most_instructions code bound < n →
+        words_in came ≡ sum_over (setting code m bound n)
+        (λ i. words_between (setting code m bound n) (worker_after (setting code m bound n) input k) i w)
+
+  -- ---- all workers
+
+  abbrev pub AreBehind : List ℤ → ℕ → List CountedWorker → Type 0
+  AreBehind input k workers = (w : ℕ) (x : CountedWorker) → slice_get workers w ≡ Some x → IsBehind input k w x
+
+  abbrev pub AreAt : List ℤ → ℕ → List CountedWorker → List Sheet → Type 0
+  AreAt input k workers rows = (w : ℕ) (x : CountedWorker) (row : Sheet) → slice_get workers w ≡ Some x → slice_get rows w ≡ Some row →
+      IsAt input k w x (messages_in row)
+
+  abbrev pub AreReady : List CountedWorker → Type 0
+  AreReady workers = (w : ℕ) (x : CountedWorker) → slice_get workers w ≡ Some x → IsReady x
+
+  abbrev pub MayAllGoOn : List CountedWorker → Type 0
+  MayAllGoOn workers = (w : ℕ) (x : CountedWorker) → slice_get workers w ≡ Some x → MayGoOn code m bound x.local
+
+-- all have stopped, or none
+abbrev pub AreTogether : List CountedWorker → Type 0
+AreTogether workers = (w v : ℕ) (x y : CountedWorker) → slice_get workers w ≡ Some x → slice_get workers v ≡ Some y →
+    is_stopped x.local.way ≡ is_stopped y.local.way
+
+-- a row for each of p workers, to all of them
+pub record AreSheets (p most : ℕ) (rows : List Sheet) : Type 0 where
+  pub long : length rows ≡ p
+  pub each : (w : ℕ) (row : Sheet) → slice_get rows w ≡ Some row → IsSheet p most row

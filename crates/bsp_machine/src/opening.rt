@@ -1,0 +1,65 @@
+//! All workers before the first instruction.
+
+ghost use Rattle.std.specs.Prelude.{◌≡◌, length, IfOk, IfErr, OnOk};
+ghost use Rattle.bsp_verify.specs.WellFormed.{IsWellFormed};
+ghost use Rattle.worker_messages.specs.declared.refusal.RunRefusal.TheVariants as refusal_is;
+ghost use Rattle.worker_messages.specs.Opened.{IsAccepted, IsRefusal};
+ghost use Rattle.bsp_machine.specs.Workers.{AreSheets};
+ghost use Rattle.bsp_machine.specs.Opening.{IsAdded, AreFresh};
+
+use crate::counted::CountedWorker;
+use crate::sheet::Sheet;
+use address_map::AddressMap;
+use std::alloc::{AllocError, Global};
+use superstep_code::Code;
+use worker_messages::{Local, RunRefusal};
+
+// One worker more, which has counted nothing.
+fn add(alloc: Global, all: &mut Vec<CountedWorker>, local: Local) -> Result<(), RunRefusal>
+    ensures added { OnOk result (IsAdded local all.old.items all.new.items) }
+    ensures memory { IfErr result (λ refusal. refusal ≡ refusal_is.OutOfMemory) }
+{
+    match all.reserve(1) {
+        Ok(()) => {
+            let counts = Vec::new(alloc);
+            all.push_reserved(CountedWorker { local, counts });
+            Ok(())
+        }
+        Err(_) => Err(RunRefusal::OutOfMemory),
+    }
+}
+
+/// All workers, each with the cells of its module. They are judged as worker 0 is, before anything else is asked for.
+pub(crate) fn open_all<M: AddressMap>(
+    alloc: Global,
+    code: &Code,
+    map: &M,
+    workers: u32,
+    input: &[i64],
+) -> Result<Vec<CountedWorker>, RunRefusal>
+    requires formed { IsWellFormed code.now }
+    ensures refused { IfErr result (IsRefusal code.now (M.shape map.now) workers input.now) }
+    ensures accepted { IfOk result (λ all. IsAccepted code.now (M.shape map.now) workers input.now) }
+    ensures count { IfOk result (λ all. length all.items ≡ workers) }
+    ensures opened { IfOk result (λ all. AreFresh code.now (M.shape map.now) input.now all.items) }
+{
+    let first = Local::new(alloc, code, map, workers, 0, input)?;
+    let mut all = Vec::new(alloc);
+    add(alloc, &mut all, first)?;
+    'workers: for worker in 1..workers {
+        let local = Local::new(alloc, code, map, workers, worker, input)?;
+        add(alloc, &mut all, local)?;
+    }
+    Ok(all)
+}
+
+/// A row for each worker, to all of them, each message with room for so many words.
+pub(crate) fn open_rows(alloc: Global, workers: u32, most: usize) -> Result<Vec<Sheet>, AllocError>
+    ensures { IfOk result (λ rows. AreSheets workers most rows.items) }
+{
+    let mut rows = Vec::with_capacity(alloc, workers as usize)?;
+    'workers: for _w in 0..workers {
+        rows.push(Sheet::with_room(alloc, workers, most)?)?;
+    }
+    Ok(rows)
+}

@@ -1,0 +1,124 @@
+//! A whole run.
+
+ghost use Rattle.std.specs.Prelude.{◌≡◌, ℕ, List, ℤ, length, IfOk, IfErr};
+ghost use Rattle.write_rules.specs.Verdict.{verdict_of};
+ghost use Rattle.superstep_machine.specs.Run.{IsBspOutcome};
+ghost use Rattle.superstep_machine.specs.Trace.{AreBspExchanges};
+ghost use Rattle.worker_messages.specs.declared.refusal.RunRefusal.TheVariants as refusal_is;
+ghost use Rattle.bsp_verify.specs.WellFormed.{IsWellFormed};
+ghost use Rattle.worker_messages.specs.Equipped.{IsRunnable};
+ghost use Rattle.worker_messages.specs.Opened.{IsAccepted, IsRefusal};
+ghost use Rattle.bsp_machine.specs.Opening.{AreOpened};
+ghost use Rattle.bsp_machine.specs.Ended.{AreRunning, HaveRun, IsFirstOver};
+
+use crate::columns::take_columns;
+use crate::counted::CountedWorker;
+use crate::opening::{open_all, open_rows};
+use crate::outcome::outcome;
+use crate::phases::Phases;
+use address_map::AddressMap;
+use bsp_verify::Verified;
+use exchange_counts::Counts;
+use std::alloc::{AllocError, Global};
+use superstep_code::Code;
+use worker_messages::RunRefusal;
+use write_rules::{Outcome, under};
+
+// What workers come to whose run is over, and the exchanges that they counted. They may have stopped.
+fn collect<M: AddressMap>(
+    alloc: Global,
+    code: &Code,
+    map: &M,
+    workers: Vec<CountedWorker>,
+) -> Result<(Outcome, Counts), RunRefusal>
+    requires runnable { IsRunnable code.now (M.shape map.now) }
+    requires workers { length workers.items ≡ (M.shape map.now).parts }
+    requires run { HaveRun code.now (M.shape map.now) workers.items }
+    requires over { IsFirstOver workers.items }
+    ensures memory { IfErr result (λ refusal. refusal ≡ refusal_is.OutOfMemory) }
+    ensures outcome { IfOk result (λ found. (bound : ℕ) (input : List ℤ) → AreRunning code.now (M.shape map.now) bound input workers.items →
+        IsBspOutcome code.now (M.shape map.now) input bound (verdict_of found.0)) }
+    ensures counts { IfOk result (λ found. (bound : ℕ) (input : List ℤ) → AreRunning code.now (M.shape map.now) bound input workers.items →
+        AreBspExchanges code.now (M.shape map.now) input bound (verdict_of found.0) found.1) }
+{
+    let Ok(Some(found)) = outcome(alloc, code, map, workers.as_slice()) else {
+        return Err(RunRefusal::OutOfMemory);
+    };
+    match take_columns(alloc, workers) {
+        Ok(columns) => Ok((found, Counts::of_columns(columns))),
+        Err(_) => Err(RunRefusal::OutOfMemory),
+    }
+}
+
+// All workers go on up to the end of their run.
+fn run_all<M: AddressMap>(
+    alloc: Global,
+    code: &Code,
+    map: &M,
+    workers: Vec<CountedWorker>,
+    bound: u32,
+) -> Result<Vec<CountedWorker>, AllocError>
+    requires runnable { IsRunnable code.now (M.shape map.now) }
+    requires workers { length workers.items ≡ (M.shape map.now).parts }
+    requires opened { AreOpened code.now (M.shape map.now) workers.items }
+    ensures workers { IfOk result (λ ended. length ended.items ≡ (M.shape map.now).parts) }
+    ensures running { IfOk result (λ ended. (input : List ℤ) → AreRunning code.now (M.shape map.now) bound input workers.items →
+        AreRunning code.now (M.shape map.now) bound input ended.items) }
+    ensures over { IfOk result (λ ended. IsFirstOver ended.items) }
+{
+    let count = map.modules();
+    let most = workers[0].local.buffers.reply.len();
+    let rows = open_rows(alloc, count, most)?;
+    Ok(under(
+        code.rule(),
+        Phases {
+            code,
+            map,
+            bound,
+            workers,
+            rows,
+        },
+    ))
+}
+
+// A run of well-formed code.
+fn run_code<M: AddressMap>(
+    alloc: Global,
+    code: &Code,
+    map: &M,
+    workers: u32,
+    input: &[i64],
+    bound: u32,
+) -> Result<(Outcome, Counts), RunRefusal>
+    requires formed { IsWellFormed code.now }
+    ensures refused { IfErr result (IsRefusal code.now (M.shape map.now) workers input.now) }
+    ensures accepted { IfOk result (λ found. IsAccepted code.now (M.shape map.now) workers input.now) }
+    ensures outcome { IfOk result (λ found. IsBspOutcome code.now (M.shape map.now) input.now bound (verdict_of found.0)) }
+    ensures counts { IfOk result (λ found. AreBspExchanges code.now (M.shape map.now) input.now bound (verdict_of found.0) found.1) }
+{
+    let opened = open_all(alloc, code, map, workers, input)?;
+    match run_all(alloc, code, map, opened, bound) {
+        Ok(ended) => collect(alloc, code, map, ended),
+        Err(_) => Err(RunRefusal::OutOfMemory),
+    }
+}
+
+/// Runs verified code on an input by so many workers, in turn on one thread, within a bound on statements: what the run comes to, and
+/// its exchanges with the words of each. The outcome is that of the machine of so many workers, which is the flat machine's for every
+/// number of workers and every map. The first refusal that holds comes, before anything of the run is done; `OutOfMemory` comes where
+/// memory was refused, here or to any worker on the way.
+pub fn run_plain<M: AddressMap>(
+    alloc: Global,
+    verified: &Verified,
+    map: &M,
+    workers: u32,
+    input: &[i64],
+    bound: u32,
+) -> Result<(Outcome, Counts), RunRefusal>
+    ensures refused { IfErr result (λ refusal. IsRefusal verified.now (M.shape map.now) workers input.now refusal) }
+    ensures accepted { IfOk result (λ found. IsAccepted verified.now (M.shape map.now) workers input.now) }
+    ensures outcome { IfOk result (λ found. IsBspOutcome verified.now (M.shape map.now) input.now bound (verdict_of found.0)) }
+    ensures counts { IfOk result (λ found. AreBspExchanges verified.now (M.shape map.now) input.now bound (verdict_of found.0) found.1) }
+{
+    run_code(alloc, verified.code(), map, workers, input, bound)
+}
