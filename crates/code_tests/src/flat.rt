@@ -40,7 +40,7 @@ fn goes_on(found: Option<Outcome>, wanted: &[i64]) -> bool {
 }
 
 // Code, input and bound, with the output and the memory of its end.
-const ENDED: [(&[u8], &[i64], u32, &[i64], &[i64]); 10] = [
+pub(crate) const ENDED: [(&[u8], &[i64], u32, &[i64], &[i64]); 10] = [
     (BROADCAST, &[9, 8], 2, &[], &[9, 8, 9, 9, 9, 9]),
     (THREE_TURNS, &[], 9, &[], &[3, 6]),
     (CROSSED_READS, &[1, 2], 9, &[], &[1, 2, 12, 21]),
@@ -60,16 +60,22 @@ fn runs_end(rt: HostRuntime) {
     }
 }
 
+// Code, input and bound, with the output so far.
+pub(crate) const GOING_ON: [(&[u8], &[i64], u32, &[i64]); 3] = [
+    (BROADCAST, &[9, 8], 1, &[]),
+    (COUNTING_DOWN, &[], 11, &[]),
+    (LATE_OUTPUT, &[], 1, &[4]),
+];
+
 #[test]
 fn runs_go_on_at_their_bound(rt: HostRuntime) {
-    let alloc = rt.alloc();
-    assert!(rt; goes_on(run(alloc, BROADCAST, &[9, 8], 1), &[]));
-    assert!(rt; goes_on(run(alloc, COUNTING_DOWN, &[], 11), &[]));
-    assert!(rt; goes_on(run(alloc, LATE_OUTPUT, &[], 1), &[4]));
+    for (text, input, bound, output) in GOING_ON {
+        assert!(rt; goes_on(run(rt.alloc(), text, input, bound), output));
+    }
 }
 
 // Code, input and bound, with the fault by kind, line and place, and the output before it.
-const FAULTED: [(&[u8], &[i64], u32, Kind, u32, Place, &[i64]); 8] = [
+pub(crate) const FAULTED: [(&[u8], &[i64], u32, Kind, u32, Place, &[i64]); 8] = [
     (
         BROADCAST_EREW,
         &[9, 8],

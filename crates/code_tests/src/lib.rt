@@ -1,6 +1,9 @@
-//! Tests of superstep code: its listing, its verifier, address maps, held messages, the run on one memory, and fusing.
+//! Tests of superstep code: its listing, its verifier, address maps, held messages, the run on one memory, the runs of
+//! workers, and fusing.
 #![tactic(auto)]
 
+#[cfg(test)]
+mod by_workers;
 #[cfg(test)]
 mod codes;
 #[cfg(test)]

@@ -7,7 +7,7 @@ use Rattle.pramc.proofs.stop.write_unverified.Goals as goal
 pub returns : goal.returns
 returns g c =
     let is = λ (digits reason : List ℕ). Writes (g.W.Out.state c.args.out.now) (g.W.Out.state c.write_parts.new.self)
-            (codes "refused E14 NotVerified at " ++ (digits ++ (codes " " ++ (reason ++ codes "\n")))) c.write_parts.result in
+    (codes "refused E14 NotVerified at " ++ (digits ++ (codes " " ++ (reason ++ codes "\n")))) c.write_parts.result in
     record {
       written = subst (is (decimal c.args.at)) c.as_bytes-2.ensures.value
           (subst (λ digits. is digits c.as_bytes-2.result.now) (c.as_bytes.ensures.value ∙ c.format.ensures.text)
