@@ -1,0 +1,89 @@
+//! From a text to the outcome of its program, by workers.
+
+ghost use Rattle.std.specs.Prelude.{◌≡◌, ℕ, List, IfOk};
+ghost use Rattle.write_rules.specs.Verdict.{verdict_of};
+ghost use Rattle.pram_meaning.specs.Values.{AreValues};
+ghost use Rattle.pramc.specs.Report.{IsProgramOf, IsRunOf};
+ghost use Rattle.program_runs.specs.Runs.{IsRunByWorkers, IsRunRefused};
+
+use crate::on_map::run_code;
+use crate::options::Options;
+use compiling::compile_program;
+use exchange_counts::Counts;
+use pram_check::Program;
+use pram_syntax::Layout;
+use pramc::{Refusal, read_program};
+use std::alloc::{AllocError, Global};
+use write_rules::Outcome;
+
+/// How a run came out, the shared declarations by which its cells are named, and the exchanges of its workers.
+#[derive(Drop)]
+pub struct Report {
+    pub layout: Layout,
+    pub outcome: Outcome,
+    pub counts: Counts,
+}
+
+// The values of an input have 64 bits: that is known of a value which is read.
+fn have_64_bits(input: &[i64])
+    ensures { AreValues input.now }
+{
+    'values: for place in 0..input.len() {
+        let _value = input[place];
+    }
+}
+
+/// Compiles a program and runs its code on an input, by the workers and the map of the options, in turn on one thread: its outcome,
+/// which is the program's by its meaning, and the exchanges of the workers. It is refused for the first of E13, E12 and E11 that
+/// holds, and for E16 where memory was refused.
+pub fn run_program(
+    alloc: Global,
+    program: &Program,
+    input: &[i64],
+    options: Options,
+) -> Result<(Outcome, Counts), Refusal>
+    ensures outcome { IfOk result (λ found. (text : List ℕ) → IsProgramOf text program.now →
+        IsRunOf text input.now options.bound program.now.layout (verdict_of found.0)) }
+    ensures exchanges { IfOk result (λ found. (text : List ℕ) → IsProgramOf text program.now →
+        IsRunByWorkers text input.now options (verdict_of found.0) found.1) }
+    ensures refused { (text : List ℕ) → IsProgramOf text program.now → IsRunRefused text input.now options result }
+{
+    have_64_bits(input);
+    match compile_program(alloc, program) {
+        Ok(code) => run_code(alloc, &code, input, options),
+        Err(AllocError) => Err(Refusal::OutOfMemory),
+    }
+}
+
+/// Compiles the program of a text and runs it on an input by the workers and the map of the options, in turn on one thread. The
+/// outcome is the program's by its meaning, whatever the workers and the map; the exchanges are those of its compiled code. It is
+/// refused for the first of these: E1 to E10 for what is wrong with the text, E13 where there are no workers or more than 32, E12
+/// where there is no such map, E11 where the input has more values than the program has cells; and for E16 where memory was refused.
+pub fn run_text_on_one_thread(
+    alloc: Global,
+    text: &[u8],
+    input: &[i64],
+    options: Options,
+) -> Result<Report, Refusal>
+    // The outcome is that of the text's program on the input, within the bound.
+    ensures outcome { IfOk result (λ r. IsRunOf text.now input.now options.bound r.layout (verdict_of r.outcome)) }
+    // The exchanges are those of the program's code up to there.
+    ensures exchanges { IfOk result (λ r. IsRunByWorkers text.now input.now options (verdict_of r.outcome) r.counts) }
+    ensures refused { IsRunRefused text.now input.now options result }
+{
+    let program = match read_program(alloc, text) {
+        Ok(program) => program,
+        Err(refusal) => return Err(refusal),
+    };
+    match run_program(alloc, &program, input, options) {
+        Ok((outcome, counts)) => {
+            let layout = program.into_layout();
+            Ok(Report {
+                layout,
+                outcome,
+                counts,
+            })
+        }
+        Err(refusal) => Err(refusal),
+    }
+}
