@@ -5,6 +5,8 @@ use crate::compiled::number;
 use compiling::compile;
 use flat_run::flat_exchanges;
 use pram_syntax::read_input;
+use program_runs::{Options, run_text_on_one_thread};
+use run_options::MapChoice;
 use std::alloc::Global;
 
 // A text, its input and its bound, and how many exchanges its run has.
@@ -18,9 +20,24 @@ fn exchanges(alloc: Global, text: &str, input: &str, bound: &str) -> Option<usiz
     Some(all.len())
 }
 
+// How many three workers make.
+fn by_three(alloc: Global, text: &str, input: &str, bound: &str) -> Option<usize> {
+    let values = read_input(alloc, input.as_bytes()).ok()?;
+    let options = Options {
+        workers: 3,
+        map: MapChoice::Identity,
+        bound: number(bound)?,
+    };
+    let report = run_text_on_one_thread(alloc, text.as_bytes(), values.as_slice(), options).ok()?;
+    Some(report.counts.len())
+}
+
 fn all_counted(alloc: Global, rows: &[Count]) -> bool {
     for (text, input, bound, count) in rows {
         if exchanges(alloc, text, input, bound) != Some(*count) {
+            return false;
+        }
+        if by_three(alloc, text, input, bound) != Some(*count) {
             return false;
         }
     }

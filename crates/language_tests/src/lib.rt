@@ -2,6 +2,8 @@
 #![tactic(auto)]
 
 #[cfg(test)]
+mod by_workers;
+#[cfg(test)]
 mod compiled;
 #[cfg(test)]
 mod exchanges;
@@ -25,5 +27,7 @@ mod rows_parallel;
 mod rows_stop;
 #[cfg(test)]
 mod rows_uniform;
+#[cfg(test)]
+mod rows_workers;
 #[cfg(test)]
 mod syntax;

@@ -1,5 +1,6 @@
 // How a row of the tests is tried: what the program prints for it, and its exit status.
 
+use crate::by_workers::is_run;
 use crate::compiled::is_compiled;
 use crate::read_back::is_read_back;
 use pram_syntax::Buffer;
@@ -114,10 +115,13 @@ pub(crate) fn checked(alloc: Global, text: &[u8], line: &str) -> bool {
         && prints(alloc, &["plan", "program"], text, b"", refused)
 }
 
-// Whether every row holds, by the interpreter and by the code that its program is lowered to, which is read back too.
+// Whether every row holds, by the interpreter, by the code that its program is lowered to, and by workers; its text is read back too.
 pub(crate) fn all_hold(alloc: Global, rows: &[Row]) -> bool {
     for row in rows {
-        if !holds(alloc, row) || !is_compiled(alloc, row) || !is_read_back(alloc, row) {
+        if !holds(alloc, row) || !is_compiled(alloc, row) || !is_run(alloc, row) {
+            return false;
+        }
+        if !is_read_back(alloc, row) {
             return false;
         }
     }

@@ -1,14 +1,39 @@
 -- What is refused is refused for a true reason.
-use Rattle.std.proofs.Common.{ℕ, List, ℤ, Err, inl}
+use Rattle.std.proofs.Common.{ℕ, List, ℤ, Err, inl, inr}
+use Rattle.superstep_code.specs.Code.{SuperstepCode}
 use Rattle.pramc.specs.Report.{IsRefusedRightly}
 use Rattle.pramc.specs.declared.from_text.Refusal.{Refusal}
 use Rattle.pramc.specs.declared.from_text.Refusal.TheVariants as refusal
-use Rattle.pramc_command.specs.Answered.{IsTrueOf}
+use Rattle.program_runs.specs.declared.options.Options.{Options}
+use Rattle.program_runs.specs.Runs.{IsCodeRefused, IsRunRefused}
+use Rattle.pramc_command.specs.Answered.{IsAListing, IsTrueOf}
 
-pub no_run_is_true : (X : Type 0) (text : List ℕ) (input : List ℤ) (r : Refusal) → IsRefusedRightly {X = X} text input (Err r) → IsTrueOf r
-no_run_is_true X text input (refusal.Text fault) h = (text, inl h)
-no_run_is_true X text input (refusal.Program breach) h = (text, h)
-no_run_is_true X text input refusal.InputTooLong h = (text, input, h)
-no_run_is_true X text input refusal.BadMap h = h
-no_run_is_true X text input refusal.BadWorkers h = h
-no_run_is_true X text input refusal.OutOfMemory h = tt
+-- by the definition
+pub no_meaning_is_true : (X : Type 0) (text : List ℕ) (input : List ℤ) (r : Refusal) → IsRefusedRightly {X = X} text input (Err r) →
+    IsTrueOf r
+no_meaning_is_true X text input (refusal.Text fault) h = (text, inl h)
+no_meaning_is_true X text input (refusal.Program breach) h = (text, h)
+no_meaning_is_true X text input refusal.InputTooLong h = inl (text, input, h)
+no_meaning_is_true X text input refusal.BadMap h = absurd h
+no_meaning_is_true X text input refusal.BadWorkers h = absurd h
+no_meaning_is_true X text input refusal.OutOfMemory h = tt
+
+-- by workers
+pub no_run_is_true : (X : Type 0) (text : List ℕ) (input : List ℤ) (options : Options) (r : Refusal) →
+    IsRunRefused {X = X} text input options (Err r) → IsTrueOf r
+no_run_is_true X text input options (refusal.Text fault) h = (text, inl h)
+no_run_is_true X text input options (refusal.Program breach) h = (text, h)
+no_run_is_true X text input options refusal.InputTooLong h = inl (text, input, h.2)
+no_run_is_true X text input options refusal.BadMap h = (options.map, h.2)
+no_run_is_true X text input options refusal.BadWorkers h = (options.workers, h.1)
+no_run_is_true X text input options refusal.OutOfMemory h = tt
+
+-- of a listing
+pub no_code_run_is_true : (code : SuperstepCode) (input : List ℤ) (options : Options) (r : Refusal) → IsAListing code →
+    IsCodeRefused code input options r → IsTrueOf r
+no_code_run_is_true code input options (refusal.Text fault) is h = absurd h
+no_code_run_is_true code input options (refusal.Program breach) is h = absurd h
+no_code_run_is_true code input options refusal.InputTooLong is h = inr (code, input, is, h.2)
+no_code_run_is_true code input options refusal.BadMap is h = (options.map, h.1)
+no_code_run_is_true code input options refusal.BadWorkers is h = (options.workers, h)
+no_code_run_is_true code input options refusal.OutOfMemory is h = tt

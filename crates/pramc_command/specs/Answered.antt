@@ -1,11 +1,19 @@
 -- What a call of the program leaves on its streams.
-use Rattle.std.specs.Prelude.{◌≡◌, ◌⊎◌, ℕ, ℤ, List, ◌++◌, Result, Ok, Err, codes, decimal}
+use Rattle.std.specs.Prelude.{◌≡◌, ◌⊎◌, ◌<◌, ℕ, ℤ, List, length, ◌++◌, Result, Ok, Err, codes, decimal}
 use Rattle.pram_model.specs.Layout.{SharedEntry, total_size}
 use Rattle.text_out.specs.Out.{OutState, StopsIn, with_bytes}
 use Rattle.pram_model.specs.Rules.{rule_word}
+use Rattle.address_map.specs.Outcome.{IsWorkers}
 use Rattle.pram_check.specs.Checked.{Checked}
 use Rattle.superstep_code.specs.Code.{SuperstepCode}
 use Rattle.superstep_listing.specs.Listing.{spelling}
+use Rattle.superstep_listing.specs.Text.{IsFirstBad, IsListing}
+use Rattle.superstep_machine.specs.Trace.{Exchange}
+use Rattle.bsp_verify.specs.WellFormed.{IsWellFormed}
+use Rattle.bsp_verify.specs.FirstFault.{IsFirstFault}
+use Rattle.bsp_verify.specs.declared.fault.Reason.{Reason}
+use Rattle.bsp_verify.specs.declared.fault.Reason.TheVariants as reason
+use Rattle.tracer.specs.Traced.{trace_text}
 use Rattle.compiling.specs.Compiled.{IsCompiledFrom}
 use Rattle.write_rules.specs.Verdict.{verdict_of}
 use Rattle.write_rules.specs.declared.outcome.Outcome.{Outcome}
@@ -19,6 +27,9 @@ use Rattle.pramc.specs.declared.status.Status.{Status}
 use Rattle.pramc.specs.declared.status.Status.TheVariants.{Done, Refused}
 use Rattle.pramc.specs.declared.stop.Stop.{Stop}
 use Rattle.pramc.specs.declared.stop.Stop.TheVariants as stop
+use Rattle.run_options.specs.declared.map_choice.MapChoice.{MapChoice}
+use Rattle.program_runs.specs.declared.options.Options.{Options}
+use Rattle.program_runs.specs.Runs.{IsChoice, IsCodeRun, IsRunByWorkers}
 
 -- `accepted cells 16 procs 8 rule erew`
 abbrev pub accepted_line : Checked → List ℕ
@@ -26,12 +37,44 @@ accepted_line program =
     line (codes "accepted cells " ++ (decimal (total_size program.layout)
     ++ (codes " procs " ++ (decimal program.procs ++ (codes " rule " ++ rule_word program.rule)))))
 
--- the texts that go with an exit status: of a text's program that it is accepted, the listing of its code, or how it comes out
+-- ---- what is told
+
+-- an accepted program of some text
+abbrev pub IsAProgram : Checked → Type 0
+IsAProgram program = (text : List ℕ) × IsProgramOf text program
+
+-- the code of such a program
+abbrev pub IsPlanned : SuperstepCode → Type 0
+IsPlanned code = (text : List ℕ) × IsCompiledFrom text code
+
+-- the outcome of some text's program, with these shared declarations, on some input within some bound
+abbrev pub HasOutcome : List SharedEntry → Outcome → Type 0
+HasOutcome layout outcome = (text : List ℕ) × (input : List ℤ) × (n : ℕ) × IsRunOf text input n layout (verdict_of outcome)
+
+-- the exchanges of such a run by workers
+abbrev pub HasTrace : Outcome → List Exchange → Type 0
+HasTrace outcome exchanges =
+    (text : List ℕ) × (input : List ℤ) × (options : Options) × IsRunByWorkers text input options (verdict_of outcome) exchanges
+
+-- the well-formed code of some listing
+abbrev pub IsAListing : SuperstepCode → Type 0
+IsAListing code = ((text : List ℕ) × IsListing text code) × IsWellFormed code
+
+-- the outcome of code on some input, by workers
+abbrev pub HasRun : SuperstepCode → Outcome → Type 0
+HasRun code outcome =
+    (input : List ℤ) × (options : Options) × (exchanges : List Exchange) × IsCodeRun code input options (verdict_of outcome) exchanges
+
+-- The texts that go with an exit status: of a text's program that it is accepted, the listing of its code, how it comes out, or the
+-- exchanges of its run; of a listing how its code comes out.
 pub data Tells : Status → List ℕ → Type 0 where
-  Accepted : (text : List ℕ) (program : Checked) → IsProgramOf text program → Tells Done (accepted_line program)
-  Planned : (text : List ℕ) (code : SuperstepCode) → IsCompiledFrom text code → Tells Done (spelling code)
-  Ran : (text : List ℕ) (input : List ℤ) (n : ℕ) (layout : List SharedEntry) (outcome : Outcome)
-      → IsRunOf text input n layout (verdict_of outcome) → Tells (status_of outcome) (shown layout (verdict_of outcome))
+  Accepted : (program : Checked) → IsAProgram program → Tells Done (accepted_line program)
+  Planned : (code : SuperstepCode) → IsPlanned code → Tells Done (spelling code)
+  Ran : (layout : List SharedEntry) (outcome : Outcome) → HasOutcome layout outcome
+      → Tells (status_of outcome) (shown layout (verdict_of outcome))
+  Traced : (outcome : Outcome) (exchanges : List Exchange) → HasTrace outcome exchanges → Tells (status_of outcome) (trace_text exchanges)
+  Executed : (code : SuperstepCode) (outcome : Outcome) → IsAListing code → HasRun code outcome
+      → Tells (status_of outcome) (shown code.layout (verdict_of outcome))
 
 -- all of such a text was written
 pub record IsTold (status : Status) (old new : OutState) : Type 0 where
@@ -46,20 +89,49 @@ pub record IsCutOff (old new : OutState) : Type 0 where
   pub tells : Tells status text
   pub stops : StopsIn old new text
 
--- A refusal is true: there is a text, or an input, or both, which has what it tells. Of want of memory nothing is said.
+-- A refusal is true: there is a text, an input, code, a number of workers or a map which has what it tells. Of want of memory nothing is
+-- said.
 abbrev pub IsTrueOf : Refusal → Type 0
 IsTrueOf (refusal.Text fault) = (text : List ℕ) × (IsTextRefusal text fault ⊎ IsInputRefusal text fault)
 IsTrueOf (refusal.Program breach) = (text : List ℕ) × HasBreach text breach
-IsTrueOf refusal.InputTooLong = (text : List ℕ) × (input : List ℤ) × HasTooFewCells text input
-IsTrueOf refusal.BadMap = ⊥
-IsTrueOf refusal.BadWorkers = ⊥
+IsTrueOf refusal.InputTooLong =
+    ((text : List ℕ) × (input : List ℤ) × HasTooFewCells text input) ⊎ ((code : SuperstepCode) × (input : List ℤ) × IsAListing code
+    × (total_size code.layout < length input))
+IsTrueOf refusal.BadMap = (map : MapChoice) × ¬ (IsChoice map)
+IsTrueOf refusal.BadWorkers = (workers : ℕ) × ¬ (IsWorkers workers)
 IsTrueOf refusal.OutOfMemory = Unit {0}
+
+-- the word for what is wrong with an instruction
+abbrev pub reason_word : Reason → List ℕ
+reason_word reason.State = codes "state"
+reason_word reason.Register = codes "register"
+reason_word reason.Entry = codes "entry"
+reason_word reason.Target = codes "target"
+reason_word reason.Mode = codes "mode"
+reason_word reason.Mask = codes "mask"
+reason_word reason.Exchange = codes "exchange"
+reason_word reason.End = codes "end"
+
+-- code has that first fault, which is told by its word
+pub record IsUnverified (at : ℕ) (word : List ℕ) : Type 0 where
+  pub code : SuperstepCode
+  pub why : Reason
+  pub first : IsFirstFault code at why
+  pub told : word ≡ reason_word why
+
+-- The reason has nothing to do with standard output, and is true. Of the words of a command line, and of which files there are, nothing is
+-- said.
+abbrev pub IsTrueStop : Stop → Type 0
+IsTrueStop stop.WriteFailed = ⊥
+IsTrueStop (stop.Refused r) = IsTrueOf r
+IsTrueStop (stop.NotVerified at word) = IsUnverified at word.now
+IsTrueStop (stop.BadListing at) = (text : List ℕ) × IsFirstBad text at
+IsTrueStop _ = Unit {0}
 
 -- before the program stops without an outcome nothing is written, but where the writer failed
 abbrev pub IsStopped : Stop → OutState → OutState → Type 0
 IsStopped stop.WriteFailed old new = IsCutOff old new
-IsStopped (stop.Refused r) old new = IsTrueOf r × (new ≡ old)
-IsStopped _ old new = new ≡ old
+IsStopped why old new = IsTrueStop why × (new ≡ old)
 
 -- standard output, and how the call ended
 abbrev pub Answers : OutState → OutState → Result Status Stop → Type 0
@@ -76,9 +148,3 @@ pub data Leaves (out out_new err err_new : OutState) : Status → Type 0 where
   Answered : (status : Status) → IsTold status out out_new → err_new ≡ err → Leaves out out_new err err_new status
   Stopped : (why : Stop) → IsStopped why out out_new → IsReported err err_new (stop_text why)
       → Leaves out out_new err err_new Refused
-
--- the reason has nothing to do with standard output, and is true
-abbrev pub IsNoFailure : Stop → Type 0
-IsNoFailure stop.WriteFailed = ⊥
-IsNoFailure (stop.Refused r) = IsTrueOf r
-IsNoFailure _ = Unit {0}

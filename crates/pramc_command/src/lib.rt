@@ -2,6 +2,9 @@
 #![tactic(auto)]
 
 mod commands;
+mod loading;
 mod request;
+mod running;
+mod writing;
 
 pub use commands::command;

@@ -1,0 +1,74 @@
+//! What programs and listings come to.
+
+ghost use Rattle.std.specs.Prelude.{IfOk, IfErr};
+ghost use Rattle.pramc_command.specs.Answered.{HasOutcome, HasRun, HasTrace, IsAListing, IsAProgram, IsPlanned, IsTrueStop};
+
+use bsp_verify::Verified;
+use compiling::compile_program;
+use exchange_counts::Counts;
+use pram_check::Program;
+use pramc::{Stop, mean_program};
+use program_runs::{Options, run_code, run_program};
+use std::alloc::Global;
+use write_rules::Outcome;
+
+/// The code of a program.
+pub(crate) fn code_of<'a>(alloc: Global, program: &Program) -> Result<Verified, Stop<'a>>
+    requires program { IsAProgram program.now }
+    ensures code { IfOk result IsPlanned }
+    ensures refused { IfErr result IsTrueStop }
+{
+    Ok(compile_program(alloc, program)?)
+}
+
+/// The outcome by the definition.
+pub(crate) fn mean<'a>(
+    alloc: Global,
+    program: &Program,
+    input: &[i64],
+    bound: u32,
+) -> Result<Outcome, Stop<'a>>
+    requires program { IsAProgram program.now }
+    ensures outcome { IfOk result (HasOutcome program.now.layout) }
+    ensures refused { IfErr result IsTrueStop }
+{
+    match mean_program(alloc, program, input, bound) {
+        Ok(outcome) => Ok(outcome),
+        Err(refusal) => Err(Stop::Refused(refusal)),
+    }
+}
+
+/// The outcome by workers, and the exchanges.
+pub(crate) fn run<'a>(
+    alloc: Global,
+    program: &Program,
+    input: &[i64],
+    options: Options,
+) -> Result<(Outcome, Counts), Stop<'a>>
+    requires program { IsAProgram program.now }
+    ensures outcome { IfOk result (λ found. HasOutcome program.now.layout found.0) }
+    ensures trace { IfOk result (λ found. HasTrace found.0 found.1) }
+    ensures refused { IfErr result IsTrueStop }
+{
+    match run_program(alloc, program, input, options) {
+        Ok(found) => Ok(found),
+        Err(refusal) => Err(Stop::Refused(refusal)),
+    }
+}
+
+/// What code comes to.
+pub(crate) fn execute<'a>(
+    alloc: Global,
+    code: &Verified,
+    input: &[i64],
+    options: Options,
+) -> Result<(Outcome, Counts), Stop<'a>>
+    requires listing { IsAListing code.now }
+    ensures run { IfOk result (λ found. HasRun code.now found.0) }
+    ensures refused { IfErr result IsTrueStop }
+{
+    match run_code(alloc, code, input, options) {
+        Ok(found) => Ok(found),
+        Err(refusal) => Err(Stop::Refused(refusal)),
+    }
+}

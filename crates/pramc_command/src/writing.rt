@@ -1,0 +1,110 @@
+//! What a call writes to standard output.
+
+ghost use Rattle.std.specs.Prelude.{◌≡◌, ◌<◌, ◌^◌};
+ghost use Rattle.text_out.specs.Out.{Writes};
+ghost use Rattle.pram_model.specs.Rules.{rule_word as spec_rule_word};
+ghost use Rattle.write_rules.specs.Verdict.{verdict_of};
+ghost use Rattle.pramc.specs.Shown.{shown};
+ghost use Rattle.pramc.specs.Status.{status_of};
+ghost use Rattle.pramc_command.specs.Answered.{Answers, HasTrace, IsAProgram, IsPlanned, Tells, accepted_line};
+
+use exchange_counts::Counts;
+use itoa::Buffer;
+use pram_check::Program;
+use pram_syntax::{Layout, Out, Rule, WriteFault};
+use pramc::{Status, Stop, finish, show};
+use superstep_code::Code;
+use superstep_listing::write_listing;
+use tracer::write_trace;
+use write_rules::Outcome;
+
+/// Writes an outcome.
+pub(crate) fn write_outcome<'a, O: Out>(
+    out: &mut O,
+    layout: &Layout,
+    outcome: &Outcome,
+) -> Result<Status, Stop<'a>>
+    requires out { (O.Out.state out.old).failures < 2 ^ 62 }
+    requires tells { Tells (status_of outcome.now) (shown layout.now (verdict_of outcome.now)) }
+    ensures answers { Answers (O.Out.state out.old) (O.Out.state out.new) result }
+{
+    match show(layout, outcome, out) {
+        Ok(()) => {
+            let status = Status::of(outcome);
+            finish(out, status)
+        }
+        Err(WriteFault) => Err(Stop::WriteFailed),
+    }
+}
+
+/// Writes the exchanges of a run.
+pub(crate) fn write_exchanges<'a, O: Out>(
+    out: &mut O,
+    outcome: &Outcome,
+    counts: &Counts,
+) -> Result<Status, Stop<'a>>
+    requires out { (O.Out.state out.old).failures < 2 ^ 62 }
+    requires trace { HasTrace outcome.now counts.now }
+    ensures answers { Answers (O.Out.state out.old) (O.Out.state out.new) result }
+{
+    match write_trace(counts, out) {
+        Ok(()) => {
+            let status = Status::of(outcome);
+            finish(out, status)
+        }
+        Err(WriteFault) => Err(Stop::WriteFailed),
+    }
+}
+
+/// Writes the listing of a program's code.
+pub(crate) fn write_plan<'a, O: Out>(out: &mut O, code: &Code) -> Result<Status, Stop<'a>>
+    requires out { (O.Out.state out.old).failures < 2 ^ 62 }
+    requires planned { IsPlanned code.now }
+    ensures answers { Answers (O.Out.state out.old) (O.Out.state out.new) result }
+{
+    match write_listing(code, out) {
+        Ok(()) => finish(out, Status::Done),
+        Err(WriteFault) => Err(Stop::WriteFailed),
+    }
+}
+
+/// Writes that a program is accepted.
+pub(crate) fn write_accepted<'a, O: Out>(out: &mut O, program: &Program) -> Result<Status, Stop<'a>>
+    requires out { (O.Out.state out.old).failures < 2 ^ 62 }
+    requires program { IsAProgram program.now }
+    ensures answers { Answers (O.Out.state out.old) (O.Out.state out.new) result }
+{
+    match write_accepted_line(out, program) {
+        Ok(()) => finish(out, Status::Done),
+        Err(WriteFault) => Err(Stop::WriteFailed),
+    }
+}
+
+fn write_accepted_line<O: Out>(out: &mut O, program: &Program) -> Result<(), WriteFault>
+    requires out { (O.Out.state out.old).failures < 2 ^ 62 }
+    ensures written { Writes (O.Out.state out.old) (O.Out.state out.new) (accepted_line program.now) result }
+{
+    let mut cells = Buffer::new();
+    let mut procs = Buffer::new();
+    out.write_parts(&[
+        b"accepted cells ",
+        cells.format(program.layout().cells()).as_bytes(),
+        b" procs ",
+        procs.format(program.procs()).as_bytes(),
+        b" rule ",
+        rule_word(program.rule()),
+        b"\n",
+    ])
+}
+
+fn rule_word(rule: Rule) -> &'static [u8]
+    ensures { result.now ≡ spec_rule_word rule }
+{
+    match rule {
+        Rule::Erew => b"erew",
+        Rule::Crew => b"crew",
+        Rule::Common => b"common",
+        Rule::Priority => b"priority",
+        Rule::Sum => b"sum",
+    }
+}
