@@ -179,20 +179,20 @@ fn refusals_come_in_order(rt: HostRuntime) {
 // The worked listing with another byte in one place.
 fn changed(alloc: Global, at: usize, byte: u8) -> Option<Vec<u8>> {
     let mut text = Vec::from_slice(alloc, BROADCAST).ok()?;
-    text[at] = byte;
+    *text.get_mut(at)? = byte;
     Some(text)
 }
 
 // How many of every twentieth change of a byte leave verified code, and whether two workers come to what each comes to on one memory.
 fn tried(alloc: Global) -> (u32, bool) {
-    let mut runs = 0;
+    let mut runs: u32 = 0;
     let mut all = true;
     for change in 0..BROADCAST.len() * 256 / 20 {
         let at = change * 20 / 256;
         let byte = (change * 20 % 256) as u8;
         if let Some(text) = changed(alloc, at, byte) {
             if let Some(same) = is_one_result(alloc, text.as_slice(), &[9, 8], 100, &[2]) {
-                runs += 1;
+                runs = runs.saturating_add(1);
                 all = all && same;
             }
         }

@@ -11,7 +11,7 @@ const WORKERS: [&str; 5] = ["1", "2", "3", "4", "32"];
 const MAPS: [&str; 2] = ["identity", "affine:5,3"];
 
 // Whether `run` prints what the row says, by that map.
-fn by_map(alloc: Global, row: &Row, workers: &str, map: &str) -> bool {
+fn by_map(alloc: Global, row: &Row, workers: &'static str, map: &'static str) -> bool {
     let words = [
         "run",
         "program",
@@ -35,7 +35,7 @@ fn by_map(alloc: Global, row: &Row, workers: &str, map: &str) -> bool {
 }
 
 // Whether so many workers print it, by each map.
-fn by_each_map(alloc: Global, row: &Row, workers: &str) -> bool {
+fn by_each_map(alloc: Global, row: &Row, workers: &'static str) -> bool {
     for map in MAPS {
         if !by_map(alloc, row, workers, map) {
             return false;
