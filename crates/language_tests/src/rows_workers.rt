@@ -307,6 +307,11 @@ fn long_listing(alloc: Global) -> Result<String, AllocError> {
     Ok(text)
 }
 
+// A text of so many digits.
+fn zeros(alloc: Global, many: usize) -> Result<Vec<u8>, AllocError> {
+    vec![in alloc; b'0'; many]
+}
+
 #[test]
 fn a_long_listing_is_run(rt: HostRuntime) -> Result<(), Fail> {
     let alloc = rt.alloc();
@@ -321,15 +326,22 @@ fn a_long_listing_is_run(rt: HostRuntime) -> Result<(), Fail> {
             (b"ended\n", b"", 0)
         )
     );
-    let blank = vec![in alloc; b'0'; 8_388_609]?;
     let long: (&[u8], &[u8], u8) = (b"", b"refused E2 TextTooLong\n", 2);
-    assert!(&rt; prints(alloc, &["exec", "program"], blank.as_slice(), b"", long));
+    assert!(&rt;
+        prints(
+            alloc,
+            &["exec", "program"],
+            &zeros(alloc, 8_388_609)?,
+            b"",
+            long
+        )
+    );
     let listing: (&[u8], &[u8], u8) = (b"", b"refused E15 BadListing at 0\n", 2);
     assert!(&rt;
         prints(
             alloc,
             &["exec", "program"],
-            &blank[..8_388_608],
+            &zeros(alloc, 8_388_608)?,
             b"",
             listing
         )
