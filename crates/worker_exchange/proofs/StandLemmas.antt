@@ -201,6 +201,9 @@ module _ (code : SuperstepCode) (m : Shape) (bound : ℕ) (came : List WrittenMe
   pub worker_is : z.steps.bank.worker ≡ x.steps.bank.worker
   worker_is = ap (λ (q : Local). q.steps.bank.worker) same ∙ still.worker
 
+  pub output_is : z.steps.uniform.output ≡ x.steps.uniform.output
+  output_is = ap (λ (q : Local). q.steps.uniform.output) same ∙ still.output
+
   -- where it goes on, it stands on the path
   verified_behind : (x.way ≡ ways.On → IsVerifiedAt code (record a.steps { place = x.steps.place + 1 })) → z.way ≡ ways.On →
       IsVerifiedAt code z.steps

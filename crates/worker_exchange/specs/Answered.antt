@@ -21,6 +21,7 @@ pub record IsAnsweredPart (held : List HeldAsk) (u v : UniformState) : Type 0 wh
   pub put : v.put ≡ u.put
   pub count : v.count ≡ u.count
   pub width : v.width ≡ u.width
+  pub output : v.output ≡ u.output
 
 -- Each processor got them too, and all else of the worker is as it was.
 pub record IsAnswered (held : List HeldAsk) (x y : WorkerState) : Type 0 where

@@ -16,6 +16,7 @@ pub record IsSentPart (u v : UniformState) : Type 0 where
   pub put : v.put ≡ None
   pub count : v.count ≡ u.count
   pub width : v.width ≡ u.width
+  pub output : v.output ≡ u.output
 
 -- The worker: nothing is held any more, the cells of the reads are awaited, and the key is the least of its own and of what its module
 -- noted.
@@ -31,9 +32,10 @@ pub record IsSentWorker (x y : WorkerState) (noted : Option Key) : Type 0 where
   pub key : y.key ≡ least x.key noted
   pub place : y.place ≡ x.place
 
--- What no message changes: which worker it is, how it stands with its run, its place, and how many statements began.
+-- What no message changes: which worker it is, how it stands with its run, its place, how many statements began, and the output.
 pub record StandsStill (x y : Local) : Type 0 where
   pub worker : y.steps.bank.worker ≡ x.steps.bank.worker
   pub way : y.way ≡ x.way
   pub place : y.steps.place ≡ x.steps.place
   pub count : y.steps.uniform.count ≡ x.steps.uniform.count
+  pub output : y.steps.uniform.output ≡ x.steps.uniform.output

@@ -98,6 +98,7 @@ fn exchange<R: WriteRule, M: AddressMap, C: Column>(
     ensures shown { ShowsBehind code.now (M.shape map.now) bound (C.came column.now) local.old local.new }
     ensures going { MayGoOnBehind code.now (M.shape map.now) bound local.old local.new }
     ensures worker { local.new.steps.bank.worker ≡ local.old.steps.bank.worker }
+    ensures output { local.new.steps.uniform.output ≡ local.old.steps.uniform.output }
     ensures runs { spec_is_stopped local.new.way ≡ false }
     ensures left { machine.is_over (way_is local.new.way) ≡ false → left code.now bound local.new < left_at code.now bound local.old }
 {
@@ -145,6 +146,7 @@ pub fn receive<R: WriteRule, M: AddressMap, C: Column>(
         IsAtExchange (setting code.now (M.shape map.now) bound n) local.old.steps.bank.worker local.old s →
         MayGoOn code.now (M.shape map.now) bound local.new }
     ensures worker { local.new.steps.bank.worker ≡ local.old.steps.bank.worker }
+    ensures output { local.new.steps.uniform.output ≡ local.old.steps.uniform.output }
     // It has stopped where it had, or where a header has a mark, ..
     ensures stopped { spec_is_stopped local.new.way ≡ (spec_is_stopped local.old.way || is_marked (mark_heard (C.came column.now))) }
     // .. by its own mark, or else by the worst that it heard.

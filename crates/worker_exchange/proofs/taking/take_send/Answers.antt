@@ -91,4 +91,10 @@ returns-clause-verified g c = λ code formed v there.
 pub returns-clause-still : goal.returns-clause-still
 returns-clause-still g c =
     let sent = c.send_worker.ensures.steps in
-    record { worker = ap (λ (b : Bank). b.worker) sent.bank; way = refl; place = sent.place; count = sent.uniform.count }
+    record {
+      worker = ap (λ (b : Bank). b.worker) sent.bank;
+      way = refl;
+      place = sent.place;
+      count = sent.uniform.count;
+      output = sent.uniform.output;
+    }
