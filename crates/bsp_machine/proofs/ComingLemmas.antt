@@ -1,6 +1,6 @@
 -- What comes to a worker in an exchange, and what it counts.
 use Rattle.std.proofs.Common.{◌≡◌, ℕ, suc, ◌+◌, ◌<◌, List, [], ◌∷◌, ◌++◌, length, map}
-use Rattle.std.proofs.Common.{false, Some, ℤ, refl, sym, ap, ◌∙◌}
+use Rattle.std.proofs.Common.{false, Some, ℤ, refl, sym, ap, subst, ◌∙◌}
 use Rattle.std.proofs.Common.{arith}
 use Rattle.std.specs.Prelude.{slice_get, slice_index_or, ◌||◌}
 use Rattle.std.specs.List.{range_with_len}
@@ -15,26 +15,25 @@ use Rattle.superstep_machine.specs.Words.{Message}
 use Rattle.superstep_machine.specs.WordReading.{read_message}
 use Rattle.superstep_machine.specs.Setting.{Setting, workers}
 use Rattle.superstep_machine.specs.declared.header.MessageHeader.{MessageHeader}
-use Rattle.superstep_machine.specs.Run.{State, setting, ready, message_of, mark_now}
+use Rattle.superstep_machine.specs.Run.{State, setting, ready, after, message_of, mark_now}
 use Rattle.superstep_machine.specs.Trace.{exchange_of, sum_over, words_between}
 use Rattle.flat_machine.specs.Flatness.{IsMapFor}
 use Rattle.flat_machine.proofs.Laws.{one_exchange}
-use Rattle.flat_machine.proofs.Lists.{map_twice, map_joined}
+use Rattle.flat_machine.proofs.Lists.{map_twice}
 use Rattle.bsp_verify.specs.Runs.{worker_after}
 use Rattle.std.proofs.lemmas.List.Sums.{sum_by-cons}
 use Rattle.message_rows.specs.Rows.{WrittenMessage, written, message_at, words_in, unwritten}
 use Rattle.worker_messages.specs.declared.way.Way.{Way}
 use Rattle.worker_messages.specs.declared.way.Way.TheVariants as ways
 use Rattle.worker_messages.specs.Reached.{most_instructions}
-use Rattle.worker_messages.specs.Shown.{purpose_is, is_stopped, marked}
+use Rattle.worker_messages.specs.Shown.{purpose_is, is_stopped, marked, IsShown}
 use Rattle.worker_exchange.specs.Received.{mark_heard, is_marked}
-use Rattle.exchange_counts.specs.declared.count.Count.{Count}
 use Rattle.bsp_machine.specs.declared.counted.CountedWorker.{CountedWorker}
 use Rattle.bsp_machine.specs.declared.sheet.Sheet.{Sheet}
 use Rattle.bsp_machine.specs.Sheets.{messages_in, no_words, picked}
-use Rattle.bsp_machine.specs.Workers.{share_told, share_of, shares, IsAt, HasCome, AreAt}
+use Rattle.bsp_machine.specs.Workers.{Share, share_of, shares, share_at, state_behind, IsBetween, IsBehind, IsAt, HasCome, AreAt}
 use Rattle.bsp_machine.proofs.ListLemmas.{map_by, map_at, there_at, get_within, range_more, get_is, one_there}
-use Rattle.bsp_machine.proofs.PhaseLemmas.{mark_sent}
+use Rattle.bsp_machine.proofs.PhaseLemmas.{mark_sent, state_more}
 use Rattle.bsp_machine.proofs.MarkLemmas.{unstopped, header_marked, mark_read, any_stopped, stops_with_any}
 
 -- ---- words
@@ -214,12 +213,10 @@ module _ (t : Setting) (input : List ℤ) (k w : ℕ) (within : w < workers t) w
   ws = worker_after t input k
 
   -- one exchange more
-  pub counted_more : (counts : List Count) (count : Count) → map share_told counts ≡ shares t input w k →
-      (ready t 0 (ws 0)).purpose ≡ purpose_is count.step → count.sent ≡ sum_over t (λ j. words_between t ws w j) →
-      count.received ≡ sum_over t (λ i. words_between t ws i w) → map share_told (counts ++ count ∷ []) ≡ shares t input w (suc k)
-  counted_more counts count before purpose sent received =
-      map_joined share_told counts (count ∷ [])
-      ∙ (λ i. before i ++ share_is i ∷ [])
+  pub shares_more : (share : Share) → (ready t 0 (ws 0)).purpose ≡ share.purpose → share.sent ≡ sum_over t (λ j. words_between t ws w j) →
+      share.received ≡ sum_over t (λ i. words_between t ws i w) → shares t input w k ++ share ∷ [] ≡ shares t input w (suc k)
+  shares_more share purpose sent received =
+      ap (λ (s : Share). shares t input w k ++ s ∷ []) share_is
       ∙ sym (range_more (λ i. share_of w (exchange_of t (worker_after t input i))) k 0
       ∙ ap (λ j. shares t input w k ++ share_of w (exchange_of t (worker_after t input j)) ∷ [])
       (let same : 0 + k ≡ k = omega arith in same))
@@ -227,9 +224,37 @@ module _ (t : Setting) (input : List ℤ) (k w : ℕ) (within : w < workers t) w
       by_worker : (f : ℕ → ℕ) → slice_index_or (map f (range_with_len 0 (workers t))) w 0 ≡ f w
       by_worker f = get_or-map-range_with_len f 0 (workers t) w w 0 within (omega arith)
 
-      share_is : share_told count ≡ share_of w (exchange_of t ws)
+      share_is : share ≡ share_of w (exchange_of t ws)
       share_is = λ i. record {
         purpose = sym purpose i;
         sent = (sent ∙ sym (by_worker (λ v. sum_over t (λ j. words_between t ws v j)))) i;
         received = (received ∙ sym (by_worker (λ v. sum_over t (λ j. words_between t ws j v)))) i;
       }
+
+-- Behind the exchange at which this came, which the machine's workers send, a worker is the one of the run behind one exchange more.
+module _ (code : SuperstepCode) (m : Shape) (map_for : IsMapFor code m) (bound : ℕ) (input : List ℤ) (k w : ℕ) (within : w < m.parts)
+    (old new : CountedWorker) (row came : List WrittenMessage) (at : IsAt code m bound input k w old row)
+    (alive : is_stopped new.local.way ≡ false → is_stopped old.local.way ≡ false)
+    (come : is_stopped new.local.way ≡ false → HasCome code m bound input k w old.local.step came)
+    (here : IsBetween code m bound
+    (λ n. state_behind code m bound w old came (worker_after (setting code m bound n) input k w) n)
+    (λ n. shares (setting code m bound n) input w k ++ share_at old row came ∷ []) w new) where
+  pub behind_more : IsBehind code m bound input (suc k) w new
+  behind_more = record {
+    worker = here.worker;
+    shown = λ h n low.
+        let t = setting code m bound n in
+        let s = worker_after t input k w in
+        subst (IsShown t w new.local) (ap (after t w (ready t w s)) ((come h).messages n low) ∙ sym (state_more t input k w))
+        (here.shown h n low);
+    going = here.going;
+    counted = λ h n low.
+        let t = setting code m bound n in
+        here.counted h n low
+        ∙ shares_more t input k w within (share_at old row came)
+        ((one_exchange t map_for input k 0 w (omega (arith, within)) within).0
+        ∙ purpose_at code m bound input k w old row at (alive h) n low)
+        (words_sent code m bound input k w old row at (alive h) n low)
+        ((come h).words n low);
+    items = here.items;
+  }

@@ -2,7 +2,9 @@ pub mod ListLemmas
 pub mod SheetLemmas
 pub mod PhaseLemmas
 pub mod MarkLemmas
+pub mod CountedLemmas
 pub mod ComingLemmas
 pub mod LeftLemmas
+pub mod SwapLemmas
 pub mod OutcomeLemmas
 pub mod OpeningLemmas

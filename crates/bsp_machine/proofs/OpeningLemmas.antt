@@ -1,13 +1,12 @@
 -- Workers before the first instruction are a run.
-use Rattle.std.proofs.Common.{◌≡◌, ℕ, ◌+◌, List, [], ◌∷◌, length, map, ℤ, sym, ap, ◌∙◌, subst, arith}
+use Rattle.std.proofs.Common.{◌≡◌, ℕ, ◌+◌, List, [], ◌∷◌, ◌++◌, length, map, ℤ, sym, ap, ◌∙◌, subst, arith}
 use Rattle.std.specs.Prelude.{slice_get}
 use Rattle.std.proofs.lemmas.List.{length-append}
 use Rattle.address_map.specs.Lawful.{Shape}
 use Rattle.superstep_code.specs.Code.{SuperstepCode}
-use Rattle.worker_messages.specs.declared.local.Local.{Local}
 use Rattle.bsp_machine.specs.declared.counted.CountedWorker.{CountedWorker}
 use Rattle.bsp_machine.specs.Workers.{share_told}
-use Rattle.bsp_machine.specs.Opening.{IsAdded, IsFresh, AreFresh}
+use Rattle.bsp_machine.specs.Opening.{IsFresh, AreFresh}
 use Rattle.bsp_machine.specs.Ended.{AreRunning}
 use Rattle.bsp_machine.proofs.ListLemmas.{each_added}
 use Rattle.bsp_machine.proofs.MarkLemmas.{going_on}
@@ -21,22 +20,22 @@ module _ (code : SuperstepCode) (m : Shape) (input : List ℤ) where
       shown = λ alive n low. f.shown bound n;
       going = λ on. f.going bound;
       counted = λ alive n low. ap (map share_told) f.none;
+      items = λ alive. f.items;
     });
     together = λ w v x y at too.
         going_on x.local.way ((fresh w x at).going 0).going ∙ sym (going_on y.local.way ((fresh v y too).going 0).going);
     before = λ n low i l. absurd (omega (arith, l));
   }
 
-  pub more_fresh : (opened : Local) (old new : List CountedWorker) (w : ℕ) → IsAdded opened old new → length old ≡ w →
-      AreFresh code m input old →
-      ((x : CountedWorker) → x.local ≡ opened → x.counts.items ≡ [] → IsFresh code m input w x) → AreFresh code m input new
-  more_fresh opened old new w added long fresh last v x at =
+  pub more_fresh : (worker : CountedWorker) (old new : List CountedWorker) (w : ℕ) → new ≡ old ++ worker ∷ [] → length old ≡ w →
+      AreFresh code m input old → IsFresh code m input w worker → AreFresh code m input new
+  more_fresh worker old new w added long fresh last v x at =
       subst (λ j. IsFresh code m input j x) (let same : 0 + v ≡ v = omega arith in same)
-      (each_added old added.worker (IsFresh code m input) 0
+      (each_added old worker (IsFresh code m input) 0
       (λ i y e. subst (λ j. IsFresh code m input j y) (let same : i ≡ 0 + i = omega arith in same) (fresh i y e))
-      (subst (λ j. IsFresh code m input j added.worker) (let same : w ≡ 0 + length old = omega (arith, long) in same)
-      (last added.worker added.local added.none)) v x (ap (λ ys. slice_get ys v) (sym added.added) ∙ at))
+      (subst (λ j. IsFresh code m input j worker) (let same : w ≡ 0 + length old = omega (arith, long) in same) last) v x
+      (ap (λ ys. slice_get ys v) (sym added) ∙ at))
 
-  pub more_long : (opened : Local) (old new : List CountedWorker) (w : ℕ) → IsAdded opened old new → length old ≡ w → length new ≡ w + 1
-  more_long opened old new w added long =
-      ap length added.added ∙ length-append old (added.worker ∷ []) ∙ ap (λ k. k + 1) long
+pub more_long : (worker : CountedWorker) (old new : List CountedWorker) (w : ℕ) → new ≡ old ++ worker ∷ [] → length old ≡ w →
+    length new ≡ w + 1
+more_long worker old new w added long = ap length added ∙ length-append old (worker ∷ []) ∙ ap (λ k. k + 1) long

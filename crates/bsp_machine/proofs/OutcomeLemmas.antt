@@ -1,6 +1,6 @@
 -- What workers come to whose run is over, and what they counted.
 use Rattle.std.proofs.Common.{◌≡◌, ℕ, zero, suc, ◌+◌, ◌<◌, List, [], ◌∷◌, length, map, true, false}
-use Rattle.std.proofs.Common.{Some, ℤ, pos, refl, sym, ap, ◌∙◌}
+use Rattle.std.proofs.Common.{Option, Some, None, ℤ, pos, refl, sym, ap, ◌∙◌}
 use Rattle.std.proofs.Common.{arith, get_or}
 use Rattle.std.specs.Prelude.{slice_get, slice_index_or}
 use Rattle.std.specs.List.{range_with_len}
@@ -8,6 +8,7 @@ use Rattle.std.proofs.lemmas.List.{length-map}
 use Rattle.std.proofs.lemmas.List.FromFn.{get_or-map-range_with_len, length-range_with_len}
 use Rattle.pram_model.specs.Layout.{total_size}
 use Rattle.address_map.specs.Lawful.{Shape}
+use Rattle.write_rules.specs.declared.outcome.Outcome.{Outcome}
 use Rattle.write_rules.specs.Verdict.{Verdict}
 use Rattle.superstep_code.specs.Code.{SuperstepCode}
 use Rattle.superstep_machine.specs.Setting.{Setting, module_cells}
@@ -29,7 +30,7 @@ use Rattle.exchange_counts.specs.Columns.{column_of, entry_of, nothing, AreColum
 use Rattle.exchange_counts.specs.Told.{exchange_told, exchanges_told}
 use Rattle.bsp_machine.specs.declared.counted.CountedWorker.{CountedWorker}
 use Rattle.bsp_machine.specs.Workers.{Share, share_told, share_of}
-use Rattle.bsp_machine.specs.Ended.{AreRunning, AreWide, cells_of, value_of, memory_of, counts_of}
+use Rattle.bsp_machine.specs.Ended.{AreRunning, AreWide, cells_of, value_of, memory_of, verdict_in, counts_of}
 use Rattle.bsp_machine.proofs.ListLemmas.{there_at, get_within, map_by}
 use Rattle.bsp_machine.proofs.PhaseLemmas.{run_ends, exchanges_are}
 
@@ -40,6 +41,17 @@ told_alive ways.On output memory v e = refl
 told_alive (ways.Ending ended) output memory v e = refl
 told_alive (ways.Past key ended) output memory v e = refl
 told_alive (ways.Stopped mark) output memory v e = absurd (cc e)
+
+-- what is over and has no outcome has stopped
+pub none_told : (way : Way) (output : List (ℕ × ℤ)) (memory : List ℤ) (o : Option Outcome) → is_over (way_is way) ≡ true →
+    verdict_in o ≡ verdict_by (way_is way) output memory → ((found : Outcome) → o ≡ Some found → ⊥) → is_stopped way ≡ true
+none_told ways.On output memory o over e none = absurd (cc over)
+none_told (ways.Ending ended) output memory o over e none = absurd (cc over)
+none_told (ways.Stopped mark) output memory o over e none = refl
+none_told (ways.Past key ended) output memory (Some found) over e none = absurd (none found refl)
+none_told (ways.Past (Some key) ended) output memory None over e none = absurd (cc e)
+none_told (ways.Past None true) output memory None over e none = absurd (cc e)
+none_told (ways.Past None false) output memory None over e none = absurd (cc e)
 
 column_is : (all : List CountedWorker) (w : ℕ) (x : CountedWorker) → slice_get all w ≡ Some x →
     column_of (counts_of all) w ≡ x.counts.items

@@ -10,7 +10,7 @@ use Rattle.superstep_machine.specs.Run.{bsp, opening, is_over, setting}
 use Rattle.write_rules.specs.declared.outcome.Outcome.{Outcome}
 use Rattle.write_rules.specs.Verdict.{Verdict, verdict_of}
 use Rattle.worker_messages.specs.Reached.{most_instructions}
-use Rattle.worker_messages.specs.Shown.{way_is}
+use Rattle.worker_messages.specs.Shown.{way_is, is_stopped}
 use Rattle.worker_messages.specs.Equipped.{most_words, left, IsRunnable}
 use Rattle.exchange_counts.specs.declared.count.Count.{Count}
 use Rattle.bsp_machine.specs.declared.counted.CountedWorker.{CountedWorker}
@@ -55,6 +55,10 @@ pub record HaveRun (code : SuperstepCode) (m : Shape) (workers : List CountedWor
 -- worker 0's run is over
 abbrev pub IsFirstOver : List CountedWorker → Type 0
 IsFirstOver workers = (x : CountedWorker) → slice_get workers 0 ≡ Some x → is_over (way_is x.local.way) ≡ true
+
+-- worker 0 has stopped
+abbrev pub IsFirstStopped : List CountedWorker → Type 0
+IsFirstStopped workers = (x : CountedWorker) → slice_get workers 0 ≡ Some x → is_stopped x.local.way ≡ true
 
 -- ---- what they come to
 

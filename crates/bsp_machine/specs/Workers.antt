@@ -1,5 +1,5 @@
 -- The workers of a run, between two exchanges and at one.
-use Rattle.std.specs.Prelude.{◌≡◌, ℕ, ◌<◌, List, map, length, Some, false, ℤ, vec_capacity, slice_get, slice_index_or}
+use Rattle.std.specs.Prelude.{◌≡◌, ℕ, ◌<◌, ◌≤◌, List, [], map, length, Some, false, ℤ, vec_capacity, slice_get, slice_index_or}
 use Rattle.std.specs.List.{range_with_len}
 use Rattle.address_map.specs.Lawful.{Shape}
 use Rattle.superstep_code.specs.Code.{SuperstepCode}
@@ -7,7 +7,7 @@ use Rattle.superstep_machine.specs.declared.mark.HeaderMark.{HeaderMark}
 use Rattle.superstep_machine.specs.declared.mark.HeaderMark.TheVariants.{OutOfMemory}
 use Rattle.superstep_machine.specs.Setting.{Setting}
 use Rattle.superstep_machine.specs.Machine.{column}
-use Rattle.superstep_machine.specs.Run.{Purpose, bsp, is_over, message_of, setting}
+use Rattle.superstep_machine.specs.Run.{Purpose, State, bsp, after, is_over, message_of, ready, setting}
 use Rattle.superstep_machine.specs.Trace.{Exchange, exchange_of, sum_over, words_between}
 use Rattle.bsp_verify.specs.Runs.{worker_after}
 use Rattle.message_rows.specs.Rows.{WrittenMessage, IsRow, written, message_at, words_in}
@@ -42,37 +42,66 @@ share_told c = record { purpose = purpose_is c.step; sent = c.sent; received = c
 abbrev pub share_of : ℕ → Exchange → Share
 share_of w e = record { purpose = e.purpose; sent = slice_index_or e.sent w 0; received = slice_index_or e.received w 0 }
 
+-- the part of a worker at an exchange, from whom this row went and to whom this came
+abbrev pub share_at : CountedWorker → List WrittenMessage → List WrittenMessage → Share
+share_at x row came = record { purpose = purpose_is x.local.step; sent = words_in row; received = words_in came }
+
 -- worker w's parts of the first k exchanges
 abbrev pub shares : Setting → List ℤ → ℕ → ℕ → List Share
 shares t input w k = map (λ i. share_of w (exchange_of t (worker_after t input i))) (range_with_len 0 k)
 
 -- ---- one worker
 
+-- there is room for all items of its output
+pub record HasItems (x : CountedWorker) : Type 0 where
+  pub none : x.items.items ≡ []
+  pub room : length x.local.steps.uniform.output.items ≤ vec_capacity x.items
+
 module _ (code : SuperstepCode) (m : Shape) (bound : ℕ) where
-  -- Behind k exchanges it is worker w of the run from an input, and has counted them; if it hasn't stopped.
-  pub record IsBehind (input : List ℤ) (k w : ℕ) (x : CountedWorker) : Type 0 where
+  -- Between two exchanges it is worker w, shows this state for each number of instructions that is enough, and has counted this much; if
+  -- it hasn't stopped.
+  pub record IsBetween (states : ℕ → State) (told : ℕ → List Share) (w : ℕ) (x : CountedWorker) : Type 0 where
     pub worker : is_stopped x.local.way ≡ false → x.local.steps.bank.worker ≡ w
     pub shown : is_stopped x.local.way ≡ false → (n : ℕ) → most_instructions code bound < n →
-        IsShown (setting code m bound n) w x.local (worker_after (setting code m bound n) input k w)
+        IsShown (setting code m bound n) w x.local (states n)
     pub going : is_over (way_is x.local.way) ≡ false → MayGoOn code m bound x.local
     pub counted : is_stopped x.local.way ≡ false → (n : ℕ) → most_instructions code bound < n →
-        map share_told x.counts.items ≡ shares (setting code m bound n) input w k
+        map share_told x.counts.items ≡ told n
+    pub items : is_stopped x.local.way ≡ false → HasItems x
 
-  -- At the exchange behind k it has a row of the messages of worker w, with a mark if it has stopped.
-  pub record IsAt (input : List ℤ) (k w : ℕ) (x : CountedWorker) (row : List WrittenMessage) : Type 0 where
+  -- At the exchange behind such a state it has a row of the messages of worker w, with a mark if it has stopped.
+  pub record IsStanding (states : ℕ → State) (told : ℕ → List Share) (w : ℕ) (x : CountedWorker) (row : List WrittenMessage) : Type 0 where
     pub worker : is_stopped x.local.way ≡ false → x.local.steps.bank.worker ≡ w
     pub shown : is_stopped x.local.way ≡ false → (n : ℕ) → most_instructions code bound < n →
-        IsAtExchange (setting code m bound n) w x.local (worker_after (setting code m bound n) input k w)
+        IsAtExchange (setting code m bound n) w x.local (states n)
     pub filled : (n : ℕ) → most_instructions code bound < n →
-        IsRow m.parts (λ j. written code.rule (message_of (setting code m bound n) w
-        (marked x.local.way (worker_after (setting code m bound n) input k w)) j)) row
+        IsRow m.parts (λ j. written code.rule (message_of (setting code m bound n) w (marked x.local.way (states n)) j)) row
     pub read : (n j : ℕ) → most_instructions code bound < n → j < m.parts →
-        IsWrittenFor code.rule m j (purpose_is x.local.step) (message_of (setting code m bound n) w
-        (marked x.local.way (worker_after (setting code m bound n) input k w)) j) (message_at row j)
+        IsWrittenFor code.rule m j (purpose_is x.local.step)
+        (message_of (setting code m bound n) w (marked x.local.way (states n)) j) (message_at row j)
     pub refused : (mark : HeaderMark) → x.local.way ≡ Stopped mark → mark ≡ OutOfMemory
     pub sent : is_stopped x.local.way ≡ false → x.local.buffers.sent ≡ words_in row
     pub counted : is_stopped x.local.way ≡ false → (n : ℕ) → most_instructions code bound < n →
-        map share_told x.counts.items ≡ shares (setting code m bound n) input w k
+        map share_told x.counts.items ≡ told n
+    pub items : is_stopped x.local.way ≡ false → HasItems x
+
+  -- the state behind the exchange at which these words came
+  abbrev pub state_behind : ℕ → CountedWorker → List WrittenMessage → State → ℕ → State
+  state_behind w x came s n =
+      after (setting code m bound n) w (ready (setting code m bound n) w s)
+      (messages_to code.rule m w (purpose_is x.local.step) came)
+
+  -- ---- one worker of the run from an input
+
+  -- behind k exchanges
+  abbrev pub IsBehind : List ℤ → ℕ → ℕ → CountedWorker → Type 0
+  IsBehind input k w x =
+      IsBetween (λ n. worker_after (setting code m bound n) input k w) (λ n. shares (setting code m bound n) input w k) w x
+
+  -- at the exchange behind them
+  abbrev pub IsAt : List ℤ → ℕ → ℕ → CountedWorker → List WrittenMessage → Type 0
+  IsAt input k w x row =
+      IsStanding (λ n. worker_after (setting code m bound n) input k w) (λ n. shares (setting code m bound n) input w k) w x row
 
   -- If it hasn't stopped it stands at an exchange, with room to count it.
   pub record IsReady (x : CountedWorker) : Type 0 where

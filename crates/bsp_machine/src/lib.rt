@@ -1,8 +1,10 @@
-//! A run of verified code by all workers in turn, on one thread.
+//! A worker that counts its exchanges, what such workers come to, and a run of verified code by all of them in turn, on one thread.
 #![tactic(auto)]
 
+mod collecting;
 mod columns;
 mod counted;
+mod end_room;
 mod letter;
 mod memory;
 mod opening;
@@ -13,4 +15,7 @@ mod picked;
 mod plain;
 mod sheet;
 
+pub use collecting::collect;
+pub use counted::CountedWorker;
+pub use end_room::EndRoom;
 pub use plain::run_plain;

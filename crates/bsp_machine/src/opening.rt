@@ -1,30 +1,26 @@
 //! All workers before the first instruction.
 
-ghost use Rattle.std.specs.Prelude.{◌≡◌, length, IfOk, IfErr, OnOk};
+ghost use Rattle.std.specs.Prelude.{◌≡◌, ◌++◌, ◌∷◌, [], length, IfOk, IfErr, OnOk};
 ghost use Rattle.bsp_verify.specs.WellFormed.{IsWellFormed};
 ghost use Rattle.worker_messages.specs.declared.refusal.RunRefusal.TheVariants as refusal_is;
 ghost use Rattle.worker_messages.specs.Opened.{IsAccepted, IsRefusal};
 ghost use Rattle.bsp_machine.specs.Workers.{AreSheets};
-ghost use Rattle.bsp_machine.specs.Opening.{IsAdded, AreFresh};
+ghost use Rattle.bsp_machine.specs.Opening.{AreFresh};
 
 use crate::counted::CountedWorker;
 use crate::sheet::Sheet;
 use address_map::AddressMap;
 use std::alloc::{AllocError, Global};
 use superstep_code::Code;
-use worker_messages::{Local, RunRefusal};
+use worker_messages::RunRefusal;
 
-// One worker more, which has counted nothing.
-fn add(alloc: Global, all: &mut Vec<CountedWorker>, local: Local) -> Result<(), RunRefusal>
-    ensures added { OnOk result (IsAdded local all.old.items all.new.items) }
+// One worker more.
+fn add(all: &mut Vec<CountedWorker>, worker: CountedWorker) -> Result<(), RunRefusal>
+    ensures added { OnOk result (all.new.items ≡ all.old.items ++ worker ∷ []) }
     ensures memory { IfErr result (λ refusal. refusal ≡ refusal_is.OutOfMemory) }
 {
-    match all.reserve(1) {
-        Ok(()) => {
-            let counts = Vec::new(alloc);
-            all.push_reserved(CountedWorker { local, counts });
-            Ok(())
-        }
+    match all.push(worker) {
+        Ok(()) => Ok(()),
         Err(_) => Err(RunRefusal::OutOfMemory),
     }
 }
@@ -43,12 +39,12 @@ pub(crate) fn open_all<M: AddressMap>(
     ensures count { IfOk result (λ all. length all.items ≡ workers) }
     ensures opened { IfOk result (λ all. AreFresh code.now (M.shape map.now) input.now all.items) }
 {
-    let first = Local::new(alloc, code, map, workers, 0, input)?;
+    let first = CountedWorker::new(alloc, code, map, workers, 0, input)?;
     let mut all = Vec::new(alloc);
-    add(alloc, &mut all, first)?;
+    add(&mut all, first)?;
     'workers: for worker in 1..workers {
-        let local = Local::new(alloc, code, map, workers, worker, input)?;
-        add(alloc, &mut all, local)?;
+        let next = CountedWorker::new(alloc, code, map, workers, worker, input)?;
+        add(&mut all, next)?;
     }
     Ok(all)
 }

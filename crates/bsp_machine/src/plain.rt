@@ -1,20 +1,19 @@
 //! A whole run.
 
-ghost use Rattle.std.specs.Prelude.{◌≡◌, ℕ, List, ℤ, length, IfOk, IfErr};
+ghost use Rattle.std.specs.Prelude.{◌≡◌, List, ℤ, length, IfOk, IfErr};
 ghost use Rattle.write_rules.specs.Verdict.{verdict_of};
 ghost use Rattle.superstep_machine.specs.Run.{IsBspOutcome};
 ghost use Rattle.superstep_machine.specs.Trace.{AreBspExchanges};
-ghost use Rattle.worker_messages.specs.declared.refusal.RunRefusal.TheVariants as refusal_is;
 ghost use Rattle.bsp_verify.specs.WellFormed.{IsWellFormed};
 ghost use Rattle.worker_messages.specs.Equipped.{IsRunnable};
 ghost use Rattle.worker_messages.specs.Opened.{IsAccepted, IsRefusal};
 ghost use Rattle.bsp_machine.specs.Opening.{AreOpened};
-ghost use Rattle.bsp_machine.specs.Ended.{AreRunning, HaveRun, IsFirstOver};
+ghost use Rattle.bsp_machine.specs.Ended.{AreRunning, IsFirstOver};
 
-use crate::columns::take_columns;
+use crate::collecting::collect;
 use crate::counted::CountedWorker;
+use crate::end_room::EndRoom;
 use crate::opening::{open_all, open_rows};
-use crate::outcome::outcome;
 use crate::phases::Phases;
 use address_map::AddressMap;
 use bsp_verify::Verified;
@@ -23,32 +22,6 @@ use std::alloc::{AllocError, Global};
 use superstep_code::Code;
 use worker_messages::RunRefusal;
 use write_rules::{Outcome, under};
-
-// What workers come to whose run is over, and the exchanges that they counted. They may have stopped.
-fn collect<M: AddressMap>(
-    alloc: Global,
-    code: &Code,
-    map: &M,
-    workers: Vec<CountedWorker>,
-) -> Result<(Outcome, Counts), RunRefusal>
-    requires runnable { IsRunnable code.now (M.shape map.now) }
-    requires workers { length workers.items ≡ (M.shape map.now).parts }
-    requires run { HaveRun code.now (M.shape map.now) workers.items }
-    requires over { IsFirstOver workers.items }
-    ensures memory { IfErr result (λ refusal. refusal ≡ refusal_is.OutOfMemory) }
-    ensures outcome { IfOk result (λ found. (bound : ℕ) (input : List ℤ) → AreRunning code.now (M.shape map.now) bound input workers.items →
-        IsBspOutcome code.now (M.shape map.now) input bound (verdict_of found.0)) }
-    ensures counts { IfOk result (λ found. (bound : ℕ) (input : List ℤ) → AreRunning code.now (M.shape map.now) bound input workers.items →
-        AreBspExchanges code.now (M.shape map.now) input bound (verdict_of found.0) found.1) }
-{
-    let Ok(Some(found)) = outcome(alloc, code, map, workers.as_slice()) else {
-        return Err(RunRefusal::OutOfMemory);
-    };
-    match take_columns(alloc, workers) {
-        Ok(columns) => Ok((found, Counts::of_columns(columns))),
-        Err(_) => Err(RunRefusal::OutOfMemory),
-    }
-}
 
 // All workers go on up to the end of their run.
 fn run_all<M: AddressMap>(
@@ -97,8 +70,11 @@ fn run_code<M: AddressMap>(
     ensures counts { IfOk result (λ found. AreBspExchanges code.now (M.shape map.now) input.now bound (verdict_of found.0) found.1) }
 {
     let opened = open_all(alloc, code, map, workers, input)?;
+    let Ok(room) = EndRoom::new(alloc, code, workers) else {
+        return Err(RunRefusal::OutOfMemory);
+    };
     match run_all(alloc, code, map, opened, bound) {
-        Ok(ended) => collect(alloc, code, map, ended),
+        Ok(ended) => collect(code, map, ended, room),
         Err(_) => Err(RunRefusal::OutOfMemory),
     }
 }

@@ -3,8 +3,8 @@ use Rattle.worker_messages.specs.Shown.{is_stopped}
 use Rattle.bsp_machine.proofs.ListLemmas.{get_there}
 use Rattle.bsp_machine.proofs.outcome.outcome.Goals as goal
 
-pub memory-requires-clause-wide : goal.memory-requires-clause-wide
-memory-requires-clause-wide g c =
+pub take_memory-requires-clause-wide : goal.take_memory-requires-clause-wide
+take_memory-requires-clause-wide g c =
     let workers = c.args.workers.now in
     c.requires.wide (get_or workers 0 c.index-workers-0.result) (get_there workers 0 c.index-workers-0.result c.requires.some)
     (ap is_stopped c.in-Past-None-true.is)

@@ -1,17 +1,18 @@
 use Rattle.std.proofs.Common.{◌≡◌, ◌<◌, ℕ, suc, ◌+◌, List, ℤ, Some, length, length-set, get_or, false, sym, subst, ◌∙◌}
 use Rattle.std.proofs.Common.{arith}
 use Rattle.std.specs.Prelude.{slice_get}
-use Rattle.superstep_machine.specs.Run.{is_over}
+use Rattle.superstep_machine.specs.Run.{is_over, setting}
+use Rattle.bsp_verify.specs.Runs.{worker_after}
 use Rattle.worker_messages.specs.Shown.{way_is, is_stopped}
 use Rattle.worker_messages.specs.Equipped.{most_words, left, left_at}
 use Rattle.worker_exchange.specs.Received.{is_marked, mark_heard}
 use Rattle.bsp_machine.specs.declared.counted.CountedWorker.{CountedWorker}
 use Rattle.bsp_machine.specs.Sheets.{messages_in, picked}
-use Rattle.bsp_machine.specs.Workers.{AreAt, IsBehind}
+use Rattle.bsp_machine.specs.Workers.{shares, AreAt, IsBehind}
 use Rattle.bsp_machine.proofs.ListLemmas.{get_there, get_other, get_within, set_each, one_there, there_at}
 use Rattle.bsp_machine.proofs.SheetLemmas.{column_short}
 use Rattle.bsp_machine.proofs.MarkLemmas.{going_on, or_false, any_stopped, none_stopped}
-use Rattle.bsp_machine.proofs.ComingLemmas.{coming, stopping}
+use Rattle.bsp_machine.proofs.ComingLemmas.{behind_more, coming, stopping}
 use Rattle.bsp_machine.proofs.phase.receive_all.Goals as goal
 
 pub receive-requires-clause-room : goal.receive-requires-clause-room
@@ -49,10 +50,13 @@ workers-preserved g c =
       behind = λ input k at v x below there.
           set_each xs w x' (λ v x. v < w + 1 → IsBehind code m bound input (suc k) v x) lt
           (λ below.
-          e.behind input k w (messages_in row.0) within (at w y row.0 before row.1)
+          behind_more code m c.requires.runnable.map bound input k w within y x' (messages_in row.0) (picked w rows) (at w y row.0 before row.1)
+          (λ alive. none_stopped olds w y before (sym (stops input k at) ∙ alive))
           (λ alive.
           coming code m c.requires.runnable.map bound input k olds rows at many long
-          (λ j z f. none_stopped olds j z f (sym (stops input k at) ∙ alive)) w y before within))
+          (λ j z f. none_stopped olds j z f (sym (stops input k at) ∙ alive)) w y before within)
+          (e.behind (λ n. worker_after (setting code m bound n) input k w) (λ n. shares (setting code m bound n) input w k) w
+          (messages_in row.0) (at w y row.0 before row.1)))
           (λ v x n there below. i.behind input k at v x (omega (arith, n, below)) there) v x there below;
       stopped = λ input k at v x below there.
           set_each xs w x' (λ v x. v < w + 1 → is_stopped x.local.way ≡ any_stopped olds) lt (λ below. stops input k at)

@@ -1,12 +1,14 @@
 use Rattle.std.proofs.Common.{◌≡◌, refl, set, ◌<◌, ◌≤◌, ◌+◌, Some, length, length-set}
 use Rattle.std.proofs.Common.{get_or, false, sym, subst, ◌∙◌, arith}
 use Rattle.std.specs.Prelude.{slice_get}
+use Rattle.superstep_machine.specs.Run.{setting}
+use Rattle.bsp_verify.specs.Runs.{worker_after}
 use Rattle.worker_messages.specs.Shown.{is_stopped}
 use Rattle.worker_messages.specs.Equipped.{most_words, left, left_at}
 use Rattle.bsp_machine.specs.declared.counted.CountedWorker.{CountedWorker}
 use Rattle.bsp_machine.specs.declared.sheet.Sheet.{Sheet}
 use Rattle.bsp_machine.specs.Sheets.{messages_in, IsSheet}
-use Rattle.bsp_machine.specs.Workers.{IsAt, IsReady}
+use Rattle.bsp_machine.specs.Workers.{shares, IsAt, IsReady}
 use Rattle.bsp_machine.proofs.ListLemmas.{get_there, get_other, get_within, set_each, one_there}
 use Rattle.bsp_machine.proofs.SheetLemmas.{sheet_long, sheet_room, still_sheet}
 use Rattle.bsp_machine.proofs.phase.send_all.Goals as goal
@@ -81,7 +83,8 @@ workers-preserved g c =
           IsAt code m bound input k v x (messages_in s)) lt
           (λ s below on.
           set_each rows w row' (λ v s. v ≡ w → IsAt code m bound input k w x' (messages_in s)) lts
-          (λ same. e.at input k w (behind w y before)) (λ v s n at same. absurd (n same)) w s on refl)
+          (λ same. e.at (λ n. worker_after (setting code m bound n) input k w)
+          (λ n. shares (setting code m bound n) input w k) w (behind w y before)) (λ v s n at same. absurd (n same)) w s on refl)
           (λ v x n at s below on. i.at input k behind v x s (omega (arith, n, below)) at (sym (get_other rows w v row' n) ∙ on))
           v x at s below on;
       fewer = λ v x z below was at.

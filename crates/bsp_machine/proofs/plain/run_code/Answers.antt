@@ -14,21 +14,21 @@ collect-requires-clause-run g c =
       bound = c.args.bound;
       running = record {
         input = c.args.input.now;
-        running = c.in-Ok.ensures.running c.args.input.now
+        running = c.in-Ok-run_all.ensures.running c.args.input.now
             (fresh_run c.args.code.now m c.args.input.now c.args.bound c.in_ok-opened.opened.items c.in_ok-opened.ensures.opened);
       };
     }
 
-pub returns-in-Ok-clause-outcome : goal.returns-in-Ok-clause-outcome
-returns-in-Ok-clause-outcome g c =
+pub returns-in-Ok-run_all-clause-outcome : goal.returns-in-Ok-run_all-clause-outcome
+returns-in-Ok-run_all-clause-outcome g c =
     let m = g.M.AddressMap.shape c.args.map.now in
-    let run = c.in-Ok.ensures.running c.args.input.now
+    let run = c.in-Ok-run_all.ensures.running c.args.input.now
     (fresh_run c.args.code.now m c.args.input.now c.args.bound c.in_ok-opened.opened.items c.in_ok-opened.ensures.opened) in
     if_ok _ _ (λ found h. h c.args.bound c.args.input.now run) c.collect.result c.collect.ensures.outcome
 
-pub returns-in-Ok-clause-counts : goal.returns-in-Ok-clause-counts
-returns-in-Ok-clause-counts g c =
+pub returns-in-Ok-run_all-clause-counts : goal.returns-in-Ok-run_all-clause-counts
+returns-in-Ok-run_all-clause-counts g c =
     let m = g.M.AddressMap.shape c.args.map.now in
-    let run = c.in-Ok.ensures.running c.args.input.now
+    let run = c.in-Ok-run_all.ensures.running c.args.input.now
     (fresh_run c.args.code.now m c.args.input.now c.args.bound c.in_ok-opened.opened.items c.in_ok-opened.ensures.opened) in
     if_ok _ _ (λ found h. h c.args.bound c.args.input.now run) c.collect.result c.collect.ensures.counts

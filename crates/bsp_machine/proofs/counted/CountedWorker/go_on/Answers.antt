@@ -1,0 +1,58 @@
+use Rattle.std.proofs.Common.{length, sym, subst, ◌∙◌, arith}
+use Rattle.superstep_machine.specs.Run.{setting, message_of}
+use Rattle.message_rows.specs.Rows.{IsRow, written, message_at}
+use Rattle.worker_messages.specs.Shown.{purpose_is, marked, IsShown, IsAtExchange}
+use Rattle.worker_messages.specs.Told.{IsWrittenFor}
+use Rattle.bsp_machine.proofs.MarkLemmas.{going_on}
+use Rattle.bsp_machine.proofs.CountedLemmas.{standing_refused}
+use Rattle.bsp_machine.proofs.counted.CountedWorker.go_on.Goals as goal
+
+pub refuse-requires : goal.refuse-requires
+refuse-requires g c =
+    let r = c.requires.going in
+    (c.until_exchange-step.ensures.row r.enough r.state r.is_enough r.shown).long
+
+pub returns-in-Ok-clause-at : goal.returns-in-Ok-clause-at
+returns-in-Ok-clause-at g c = λ states told w b.
+    let code = c.args.code.now in
+    let m = g.M.AddressMap.shape c.args.map.now in
+    let old = c.args.self.now.local in
+    let new = c.until_exchange-step.new.self in
+    let row = g.W.Row.filled c.until_exchange-step.new.row in
+    let e = c.until_exchange-step.ensures in
+    let alive = going_on old.way c.requires.going.going in
+    let same = b.worker alive in
+    record {
+      worker = λ h. e.worker h ∙ same;
+      shown = λ h n low.
+          let t = setting code m c.args.bound n in
+          subst (λ v. IsAtExchange t v new (states n)) same
+          (e.shown h n (states n) low (subst (λ v. IsShown t v old (states n)) (sym same) (b.shown alive n low)));
+      filled = λ n low.
+          let t = setting code m c.args.bound n in
+          let s = states n in
+          subst (λ v. IsRow m.parts (λ j. written code.rule (message_of t v (marked new.way s) j)) row) same
+          (e.row n s low (subst (λ v. IsShown t v old s) (sym same) (b.shown alive n low)));
+      read = λ n j low within.
+          let t = setting code m c.args.bound n in
+          let s = states n in
+          subst (λ v. IsWrittenFor code.rule m j (purpose_is new.step) (message_of t v (marked new.way s) j) (message_at row j)) same
+          (e.read n s j low within (subst (λ v. IsShown t v old s) (sym same) (b.shown alive n low)));
+      refused = e.refused;
+      sent = λ h. e.sent;
+      counted = λ h n low. b.counted alive n low;
+      items = λ h. record {
+        none = c.keep_room.ensures.none ∙ (b.items alive).none;
+        room =
+            (let most = c.len-most.ensures in
+            let long = new.steps.uniform.output.ok.0 in
+            let room = c.in-Ok.ensures.room in
+            omega (arith, most, long, room));
+      };
+    }
+
+pub returns-in-Err-clause-at : goal.returns-in-Err-clause-at
+returns-in-Err-clause-at g c = λ states told w b.
+    let e = c.refuse.ensures in
+    standing_refused c.args.code.now (g.M.AddressMap.shape c.args.map.now) c.args.bound states told w _ (g.W.Row.filled c.refuse.new.row)
+    e.way e.row e.read

@@ -1,0 +1,66 @@
+//! What workers come to whose run is over.
+
+ghost use Rattle.std.specs.Prelude.{◌≡◌, ◌<◌, ℕ, List, ℤ, Some, length, slice_get, slice_set, IfOk, IfErr};
+ghost use Rattle.write_rules.specs.Verdict.{verdict_of};
+ghost use Rattle.superstep_machine.specs.Run.{IsBspOutcome};
+ghost use Rattle.superstep_machine.specs.Trace.{AreBspExchanges};
+ghost use Rattle.worker_messages.specs.declared.refusal.RunRefusal.TheVariants as refusal_is;
+ghost use Rattle.worker_messages.specs.Equipped.{IsRunnable};
+ghost use Rattle.bsp_machine.specs.declared.counted.CountedWorker.{CountedWorker as Counted};
+ghost use Rattle.bsp_machine.specs.Opening.{IsRoom};
+ghost use Rattle.bsp_machine.specs.Ended.{AreRunning, HaveRun, IsFirstOver, IsFirstStopped};
+
+use crate::columns::take_columns;
+use crate::counted::CountedWorker;
+use crate::end_room::EndRoom;
+use crate::outcome::outcome;
+use address_map::AddressMap;
+use exchange_counts::Counts;
+use std::mem;
+use superstep_code::Code;
+use worker_messages::RunRefusal;
+use write_rules::Outcome;
+
+// Takes worker 0's room for items.
+fn take_items(workers: &mut Vec<CountedWorker>, items: &mut Vec<i64>)
+    requires some { 0 < length workers.old.items }
+    ensures items { (x : Counted) → slice_get workers.old.items 0 ≡ Some x → items.new ≡ x.items }
+    ensures left { (x : Counted) → slice_get workers.old.items 0 ≡ Some x →
+        workers.new.items ≡ slice_set workers.old.items 0 (record x { items = items.old }) }
+    ensures count { length workers.new.items ≡ length workers.old.items }
+{
+    mem::swap(&mut workers[0].items, items);
+}
+
+/// What the workers of one run come to, in their order, whose run is over, and the exchanges that they counted. It takes no memory.
+/// `OutOfMemory` comes exactly where they have stopped: memory was refused to one of them, and all stop at one exchange or none does.
+pub fn collect<M: AddressMap>(
+    code: &Code,
+    map: &M,
+    mut workers: Vec<CountedWorker>,
+    room: EndRoom,
+) -> Result<(Outcome, Counts), RunRefusal>
+    requires runnable { IsRunnable code.now (M.shape map.now) }
+    requires workers { length workers.items ≡ (M.shape map.now).parts }
+    requires run { HaveRun code.now (M.shape map.now) workers.items }
+    requires over { IsFirstOver workers.items }
+    requires room { IsRoom code.now (M.shape map.now) room }
+    ensures memory { IfErr result (λ refusal. refusal ≡ refusal_is.OutOfMemory) }
+    ensures stopped { IfErr result (λ refusal. IsFirstStopped workers.items) }
+    ensures outcome { IfOk result (λ found. (bound : ℕ) (input : List ℤ) → AreRunning code.now (M.shape map.now) bound input workers.items →
+        IsBspOutcome code.now (M.shape map.now) input bound (verdict_of found.0)) }
+    ensures counts { IfOk result (λ found. (bound : ℕ) (input : List ℤ) → AreRunning code.now (M.shape map.now) bound input workers.items →
+        AreBspExchanges code.now (M.shape map.now) input bound (verdict_of found.0) found.1) }
+{
+    let EndRoom {
+        mut items,
+        memory,
+        mut columns,
+    } = room;
+    take_items(&mut workers, &mut items);
+    let Some(found) = outcome(code, map, workers.as_slice(), items, memory) else {
+        return Err(RunRefusal::OutOfMemory);
+    };
+    take_columns(workers, &mut columns);
+    Ok((found, Counts::of_columns(columns)))
+}
