@@ -1,0 +1,4 @@
+pub mod Histories
+pub mod Growing
+pub mod Shares
+pub mod Joined
