@@ -2,3 +2,5 @@ pub mod Growing
 pub mod Lists
 pub mod Joining
 pub mod Parts
+pub mod Reading
+pub mod Marking

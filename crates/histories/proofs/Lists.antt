@@ -1,7 +1,9 @@
 -- Lists of lists, and their entries.
 use Rattle.std.proofs.Common.{◌≡◌, ℕ, zero, suc, ◌+◌, ◌<◌, List, [], ◌∷◌, length, map, Option, Some, refl, ap, ◌∙◌, arith}
 use Rattle.std.specs.Prelude.{slice_get}
-use Rattle.std.specs.List.{range_with_len}
+use Rattle.std.specs.List.{range_with_len, sum_by}
+use Rattle.std.proofs.lemmas.List.Sums.{sum_by-cons}
+use Rattle.pram_values.specs.Total.{total}
 use Rattle.histories.specs.Histories.{entry}
 
 module _ {A : Type 0} where
@@ -51,3 +53,10 @@ module _ {A : Type 0} where
       let e : f (a + 1) ≡ f (suc a) = ap f (omega arith) in
       let r = range_shift f n (a + 1) in
       (λ t. e t ∷ r t)
+
+  -- a sum over what is made of numbers
+  pub sum_of_range : (size : A → ℕ) (f : ℕ → A) (n a : ℕ) →
+      sum_by size (map f (range_with_len a n)) ≡ total 0 (λ (x y : ℕ). x + y) (λ i. size (f i)) (range_with_len a n)
+  sum_of_range size f zero a = refl
+  sum_of_range size f (suc n) a =
+      sum_by-cons size (f a) (map f (range_with_len (a + 1) n)) ∙ ap (λ k. size (f a) + k) (sum_of_range size f n (a + 1))

@@ -1,9 +1,7 @@
 -- The workers' parts of the exchanges of a run.
-use Rattle.std.proofs.Common.{◌≡◌, ℕ, zero, suc, ◌+◌, ◌<◌, List, [], ◌∷◌, length, map, true, ℤ, refl, sym, ap, ◌∙◌, arith}
+use Rattle.std.proofs.Common.{◌≡◌, ℕ, zero, suc, ◌<◌, List, [], ◌∷◌, length, map, true, ℤ, refl, sym, ap, ◌∙◌, arith}
 use Rattle.std.specs.Prelude.{if◌then◌else◌}
-use Rattle.std.specs.List.{range_with_len, sum_by}
-use Rattle.std.proofs.lemmas.List.Sums.{sum_by-cons}
-use Rattle.pram_values.specs.Total.{total}
+use Rattle.std.specs.List.{range_with_len}
 use Rattle.superstep_machine.specs.Setting.{Setting, workers}
 use Rattle.superstep_machine.specs.Words.{Message, words}
 use Rattle.superstep_machine.specs.Machine.{Machine, row, column, phase, phases}
@@ -17,7 +15,7 @@ use Rattle.flat_machine.proofs.Lists.{map_twice, item_at}
 use Rattle.histories.specs.Histories.{GoesOn}
 use Rattle.histories.specs.Shares.{Share, share_of, shares_by, purpose_of, words_of}
 use Rattle.histories.specs.Joined.{HistoriesMakeARun}
-use Rattle.histories.proofs.Lists.{rest, range_shift}
+use Rattle.histories.proofs.Lists.{rest, range_shift, sum_of_range}
 use Rattle.histories.proofs.Joining.{AreJoined, parts, first_column, next_is, less, histories_are_a_run}
 
 -- ---- every machine
@@ -26,6 +24,15 @@ module _ {S M O : Type 0} (b : Machine S M O) (purpose : ℕ → S → Purpose) 
   -- worker w's part of the exchange behind these states
   abbrev pub share_at : ℕ → (ℕ → S) → Share
   share_at w ws = record { purpose = purpose w (ws w); sent = size (row b p w (ws w)); received = size (column b p ws w) }
+
+  -- it is one for states that agree below p
+  pub share_within : (w : ℕ) → w < p → (ws vs : ℕ → S) → ((v : ℕ) → v < p → ws v ≡ vs v) → share_at w ws ≡ share_at w vs
+  share_within w h ws vs e = λ i. record {
+    purpose = purpose w (e w h i);
+    sent = size (row b p w (e w h i));
+    received = size (map_within (λ v. b.message v (ws v) w) (λ v. b.message v (vs v) w) p 0
+        (λ v l. ap (λ (s : S). b.message v s w) (e v (omega (arith, l)))) i);
+  }
 
   none_left : (cs : List (List M)) (w : ℕ) (s : S) → length cs ≡ 0 → shares_by b purpose size p w s cs ≡ []
   none_left [] w s h = refl
@@ -59,13 +66,6 @@ module _ (t : Setting) where
       (exchanges_are n (phase (bsp t) (workers t) ws) (λ i l. going (suc i) (omega (arith, l))) over
       ∙ sym (range_shift (λ k. exchange_of t (phases (bsp t) (workers t) k ws)) n 0))
 
-  -- the words of messages, number by number
-  words_by : {A : Type 0} (size : A → ℕ) (f : ℕ → A) (n a : ℕ) →
-      sum_by size (map f (range_with_len a n)) ≡ total 0 (λ (x y : ℕ). x + y) (λ i. size (f i)) (range_with_len a n)
-  words_by size f zero a = refl
-  words_by size f (suc n) a =
-      sum_by-cons size (f a) (map f (range_with_len (a + 1) n)) ∙ ap (λ k. size (f a) + k) (words_by size f n (a + 1))
-
   module _ (room : IsMapFor t.code t.map) (input : List ℤ) where
     module _ (w k : ℕ) (h : w < workers t) where
       abbrev ws : ℕ → State
@@ -78,9 +78,9 @@ module _ (t : Setting) where
       pub part_is : share_at (bsp t) (purpose_of t) (words_of t.code.rule) (workers t) w ws ≡ share_of w (exchange_of t ws)
       part_is = λ i. record {
         purpose = (one_exchange t room input k w 0 h (let l = room.lawful.one in omega (arith, l))).0 i;
-        sent = (words_by size (message_of t w (ws w)) (workers t) 0
+        sent = (sum_of_range size (message_of t w (ws w)) (workers t) 0
             ∙ sym (item_at (λ v. sum_over t (λ j. words_between t ws v j)) (workers t) w 0 h)) i;
-        received = (words_by size (λ v. message_of t v (ws v) w) (workers t) 0
+        received = (sum_of_range size (λ v. message_of t v (ws v) w) (workers t) 0
             ∙ sym (item_at (λ v. sum_over t (λ j. words_between t ws j v)) (workers t) w 0 h)) i;
       }
 

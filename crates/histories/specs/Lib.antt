@@ -2,3 +2,5 @@ pub mod Histories
 pub mod Growing
 pub mod Shares
 pub mod Joined
+pub mod InWords
+pub mod Marked

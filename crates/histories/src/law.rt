@@ -4,14 +4,28 @@ ghost use Rattle.superstep_machine.specs.Setting.{Setting};
 ghost use Rattle.superstep_machine.specs.Run.{bsp};
 ghost use Rattle.histories.specs.Growing.{HistoriesGrow};
 ghost use Rattle.histories.specs.Joined.{HistoriesMakeARun};
+ghost use Rattle.histories.specs.InWords.{in_words, HistoriesInWordsMakeARun};
+ghost use Rattle.histories.specs.Marked.{AllStopOrNone, ClearGrows, MarksEndAllOrNone};
 
 /// A history grows by an exchange at its end: by a row from the worker's last state, and to the state behind the column.
 pub fn histories_grow()
-    ensures { (t : Setting) → HistoriesGrow (bsp t) }
+    ensures messages { (t : Setting) → HistoriesGrow (bsp t) }
+    ensures words { (t : Setting) → HistoriesGrow (in_words t) }
+    // So does one without a mark, unless the exchange brings one.
+    ensures clear { ClearGrows }
 {}
 
 /// The histories of workers that exchanged, each of its own steps from the opening, are the run of the machine's definition: their ends
-/// are its states, its outcome is theirs, and its exchanges are those at which they sent and received so many words.
+/// are its states, its outcome is theirs, and its exchanges are those at which they sent and received so many words. So it is where
+/// messages are words that give them back, and each worker reads those that come by what the exchange is for itself.
 pub fn histories_make_a_run()
-    ensures { HistoriesMakeARun }
+    ensures messages { HistoriesMakeARun }
+    ensures words { HistoriesInWordsMakeARun }
+{}
+
+/// Where each worker marks its whole last row or nothing of it, and stops where its row or a message that came has a mark, all
+/// stop or none: so one history that came to the end of its run says that all did.
+pub fn marks_end_all_or_none()
+    ensures exchange { AllStopOrNone }
+    ensures histories { MarksEndAllOrNone }
 {}

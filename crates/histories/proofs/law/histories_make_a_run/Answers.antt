@@ -1,5 +1,6 @@
 use Rattle.histories.proofs.Parts.{histories_make_a_run}
+use Rattle.histories.proofs.Reading.{histories_in_words_make_a_run}
 use Rattle.histories.proofs.law.histories_make_a_run.Goals as goal
 
 pub returns : goal.returns
-returns c = histories_make_a_run
+returns c = record { messages = histories_make_a_run; words = histories_in_words_make_a_run }
