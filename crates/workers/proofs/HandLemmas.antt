@@ -1,0 +1,26 @@
+-- Messages of a seat as words of the machine's messages.
+use Rattle.std.proofs.Common.{◌≡◌, ℕ, zero, suc, ◌<◌, ◌≤◌, List, [], ◌∷◌, length, set, refl, ap, ◌∙◌, arith}
+use Rattle.std.specs.Prelude.{map, slice_index_or}
+use Rattle.message_rows.specs.Rows.{message_at}
+use Rattle.turnstile.specs.declared.views.Message.{Message}
+use Rattle.turnstile.specs.Seats.{RowState}
+use Rattle.turnstile.specs.Turns.{blank}
+use Rattle.workers.specs.Seating.{letter_of, letters}
+
+map_set : {A B : Type 0} (f : A → B) (xs : List A) (i : ℕ) (x : A) → map f (set xs i x) ≡ set (map f xs) i (f x)
+map_set f [] i x = refl
+map_set f (y ∷ ys) zero x = refl
+map_set f (y ∷ ys) (suc i) x = ap (λ r. f y ∷ r) (map_set f ys i x)
+
+-- a message that is put into a row
+pub filled_is : (a b : RowState) (i : ℕ) (m : Message) → b ≡ record a { row = set a.row i m } →
+    letters b.row ≡ set (letters a.row) i (letter_of m)
+filled_is a b i m e = ap (λ (s : RowState). letters s.row) e ∙ map_set letter_of a.row i m
+
+-- where each is short, so are those behind the end, which have no words
+pub all_short : (column : List Message) (room : ℕ) →
+    ((i : ℕ) → i < length column → length (slice_index_or column i blank).words ≤ room) → (i : ℕ) →
+    length (message_at (letters column) i).words ≤ room
+all_short [] room h i = omega arith
+all_short (m ∷ column) room h zero = h 0 (omega arith)
+all_short (m ∷ column) room h (suc i) = all_short column room (λ j l. h (suc j) (omega (arith, l))) i

@@ -1,0 +1,2 @@
+pub mod HandLemmas
+pub mod ExchangeLemmas

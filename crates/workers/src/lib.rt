@@ -1,0 +1,9 @@
+//! Workers of a run at the seats of a barrier.
+#![tactic(auto)]
+
+mod gates;
+mod hands;
+pub mod law;
+
+pub use gates::{Gate, OpenGate};
+pub use hands::{ColumnHand, RowHand};
