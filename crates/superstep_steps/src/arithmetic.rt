@@ -11,7 +11,9 @@ use pram_values::{
 };
 use superstep_code::{Arithmetic, Instr, Side, Truth};
 
-fn calculated(operation: Arithmetic, x: i64, y: i64) -> Result<i64, Kind>
+/// What an operation gives.
+#[inline(always)]
+pub(crate) fn calculated(operation: Arithmetic, x: i64, y: i64) -> Result<i64, Kind>
     ensures { result ≡ spec.calculated operation x y }
 {
     match operation {
@@ -23,8 +25,9 @@ fn calculated(operation: Arithmetic, x: i64, y: i64) -> Result<i64, Kind>
     }
 }
 
-// Whether a comparison or a connective is true.
-fn tested(operation: Truth, x: i64, y: i64) -> bool
+/// Whether a comparison or a connective is true.
+#[inline(always)]
+pub(crate) fn tested(operation: Truth, x: i64, y: i64) -> bool
     ensures { result ≡ spec.tested operation x y }
 {
     match operation {

@@ -2,6 +2,7 @@
 #![tactic(auto)]
 
 mod arithmetic;
+mod computing;
 mod range;
 mod read;
 mod registers;
@@ -11,10 +12,11 @@ mod uniform_fault;
 mod uniform_step;
 
 pub use arithmetic::{computed, computed_on, is_of, position_of, wrong_in};
+pub use computing::compute_uniform;
 pub use range::range_width;
 pub use read::{Moment, Read};
 pub use registers::{make_room, register, set_number, set_result, value_at, zero_without};
 pub use rule::{join, single, verdict_on, with_writer};
 pub use uniform::UniformState;
 pub use uniform_fault::{fault_at, missing, uniform_key, uniform_write, write_to};
-pub use uniform_step::{index_of, moment_of, open_uniform, step_uniform};
+pub use uniform_step::{begin_statement, index_of, moment_of, open_uniform, step_uniform};

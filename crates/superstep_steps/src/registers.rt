@@ -1,6 +1,6 @@
 //! Registers by number. One that was never set is 0, also where there is no place for it yet.
 
-ghost use Rattle.std.specs.Prelude.{◌≡◌, ◌≤◌, length, FitsSigned, OnOk};
+ghost use Rattle.std.specs.Prelude.{◌≡◌, ◌≤◌, ◌<◌, length, FitsSigned, OnOk};
 ghost use Rattle.std.specs.Int.{w64};
 ghost use Rattle.superstep_machine.specs.Parts.{set_register};
 ghost use Rattle.superstep_machine.specs.Steps as spec;
@@ -10,6 +10,7 @@ use pram_values::Kind;
 use std::alloc::AllocError;
 
 /// The value at a place; 0 where there is none.
+#[inline(always)]
 pub fn value_at(values: &[i64], place: usize) -> i64
     ensures value { result ≡ registers_of values.now place }
     ensures fits { FitsSigned w64 result }
@@ -21,24 +22,39 @@ pub fn value_at(values: &[i64], place: usize) -> i64
 }
 
 /// The value of a register.
+#[inline(always)]
 pub fn register(registers: &[i64], number: u16) -> i64
     ensures { result ≡ registers_of registers.now number }
 {
     value_at(registers, number as usize)
 }
 
+// Places for that many more values than there are.
+#[cold]
+#[inline(never)]
+fn grow(values: &mut Vec<i64>, count: usize) -> Result<(), AllocError>
+    requires more { length values.old.items < count }
+    ensures room { OnOk result (count ≤ length values.new.items) }
+    ensures same { OnOk result (registers_of values.new.items ≡ registers_of values.old.items) }
+{
+    values.resize(count, 0)?;
+    Ok(())
+}
+
 /// There are places for so many values.
+#[inline(always)]
 pub fn make_room(values: &mut Vec<i64>, count: usize) -> Result<(), AllocError>
     ensures room { OnOk result (count ≤ length values.new.items) }
     ensures same { OnOk result (registers_of values.new.items ≡ registers_of values.old.items) }
 {
     if values.len() < count {
-        values.resize(count, 0)?;
+        grow(values, count)?;
     }
     Ok(())
 }
 
 /// A register gets a value.
+#[inline(always)]
 pub fn set_number(registers: &mut Vec<i64>, number: u16, value: i64) -> Result<(), AllocError>
     ensures { OnOk result (registers_of registers.new.items ≡ set_register number value (registers_of registers.old.items)) }
 {

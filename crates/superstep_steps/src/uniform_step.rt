@@ -1,6 +1,6 @@
 //! What an instruction does to the uniform part.
 
-ghost use Rattle.std.specs.Prelude.{◌≡◌, ◌<◌, ◌++◌, ◌∷◌, [], None, OnOk, FitsSigned};
+ghost use Rattle.std.specs.Prelude.{◌≡◌, ◌<◌, ◌+◌, ◌^◌, ◌++◌, ◌∷◌, [], None, OnOk, FitsSigned};
 ghost use Rattle.std.specs.Int.{w64};
 ghost use Rattle.superstep_machine.specs.Parts.{opening_part};
 ghost use Rattle.superstep_code.specs.declared.instr.Instr.TheVariants as instr_is;
@@ -51,6 +51,15 @@ pub fn index_of(u: &UniformState, v: u32) -> i64
     ensures fits { FitsSigned w64 result }
 {
     u.low + i64::from(v)
+}
+
+/// A statement begins.
+pub fn begin_statement(u: &mut UniformState, line: u32)
+    requires room { u.old.count + 1 < 2 ^ 32 }
+    ensures { uniform_of u.new ≡ record (uniform_of u.old) { count = u.old.count + 1; line = line } }
+{
+    u.count += 1;
+    u.line = line;
 }
 
 // The range begins.
@@ -116,8 +125,8 @@ fn ask_private(u: &mut UniformState, destination: u16, position: u32) -> Result<
     Ok(())
 }
 
-// An item of the output.
-fn print(u: &mut UniformState, source: u16) -> Result<(), AllocError>
+/// An item of the output.
+pub fn print(u: &mut UniformState, source: u16) -> Result<(), AllocError>
     ensures { OnOk result (uniform_of u.new ≡ record (uniform_of u.old) {
       output = (uniform_of u.old).output
           ++ (u.old.count, (uniform_of u.old).registers source) ∷ [];
@@ -135,10 +144,7 @@ pub fn step_uniform(u: &mut UniformState, code: &Code, instr: Instr) -> Result<(
     ensures { OnOk result (uniform_of u.new ≡ spec.on_uniform code.now instr (uniform_of u.old)) }
 {
     match instr {
-        Instr::Mark { line } => {
-            u.count += 1;
-            u.line = line;
-        }
+        Instr::Mark { line } => begin_statement(u, line),
         Instr::Enter {
             low,
             high,
