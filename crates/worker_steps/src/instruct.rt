@@ -13,6 +13,7 @@ use superstep_code::{Code, Instr, Side};
 use write_rules::WriteRule;
 
 // Whether an instruction works on private registers.
+#[inline(always)]
 fn is_own(instr: Instr) -> bool
     ensures { result ≡ spec_is_own instr }
 {
@@ -30,6 +31,7 @@ fn is_own(instr: Instr) -> bool
 
 impl WorkerState {
     // An instruction on registers, or an item of the output.
+    #[inline(always)]
     fn step_registers(&mut self, code: &Code, instr: Instr) -> Result<(), AllocError>
         requires fitted { IsFitted code.now self.old }
         requires registers { is_on_registers instr ≡ true }
@@ -45,6 +47,7 @@ impl WorkerState {
     }
 
     // A read of a side.
+    #[inline(never)]
     fn ask(
         &mut self,
         code: &Code,
@@ -65,6 +68,7 @@ impl WorkerState {
     }
 
     // A write of a side.
+    #[inline(never)]
     fn put<R: WriteRule>(
         &mut self,
         code: &Code,
@@ -88,6 +92,7 @@ impl WorkerState {
 
     /// What an instruction that leads on to the next place does to a worker. The error comes where memory was refused: nothing is said of
     /// the worker then.
+    #[inline(always)]
     pub fn instruct<R: WriteRule>(
         &mut self,
         code: &Code,

@@ -15,6 +15,7 @@ use worker_bank::how_many;
 
 impl WorkerState {
     /// A range begins or ends: the worker has its processors of it, all of them active and with all registers 0.
+    #[inline(never)]
     pub(crate) fn change_range(&mut self, code: &Code, instr: Instr) -> Result<(), AllocError>
         requires fitted { IsFitted code.now self.old }
         requires renews { renews instr ≡ true }
