@@ -12,7 +12,7 @@ mod uniform_fault;
 mod uniform_step;
 
 pub use arithmetic::{computed, computed_on, is_of, position_of, wrong_in};
-pub use computing::compute_uniform;
+pub use computing::{compute_uniform, is_on_uniform};
 pub use range::range_width;
 pub use read::{Moment, Read};
 pub use registers::{make_room, register, set_number, set_result, value_at, zero_without};

@@ -126,7 +126,8 @@ fn ask_private(u: &mut UniformState, destination: u16, position: u32) -> Result<
 }
 
 /// An item of the output.
-pub fn print(u: &mut UniformState, source: u16) -> Result<(), AllocError>
+#[inline(never)]
+pub(crate) fn print(u: &mut UniformState, source: u16) -> Result<(), AllocError>
     ensures { OnOk result (uniform_of u.new ≡ record (uniform_of u.old) {
       output = (uniform_of u.old).output
           ++ (u.old.count, (uniform_of u.old).registers source) ∷ [];

@@ -31,7 +31,6 @@ fn is_own(instr: Instr) -> bool
 
 impl WorkerState {
     // An instruction on registers, or an item of the output.
-    #[inline(always)]
     fn step_registers(&mut self, code: &Code, instr: Instr) -> Result<(), AllocError>
         requires fitted { IsFitted code.now self.old }
         requires registers { is_on_registers instr ≡ true }
@@ -42,7 +41,7 @@ impl WorkerState {
             self.step_own(code, instr);
             Ok(())
         } else {
-            self.step_shared(code, instr)
+            self.step_shared(code, &instr)
         }
     }
 
@@ -92,7 +91,6 @@ impl WorkerState {
 
     /// What an instruction that leads on to the next place does to a worker. The error comes where memory was refused: nothing is said of
     /// the worker then.
-    #[inline(always)]
     pub fn instruct<R: WriteRule>(
         &mut self,
         code: &Code,
