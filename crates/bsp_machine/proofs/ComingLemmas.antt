@@ -31,7 +31,8 @@ use Rattle.worker_exchange.specs.Received.{mark_heard, is_marked}
 use Rattle.bsp_machine.specs.declared.counted.CountedWorker.{CountedWorker}
 use Rattle.bsp_machine.specs.declared.sheet.Sheet.{Sheet}
 use Rattle.bsp_machine.specs.Sheets.{messages_in, no_words, picked}
-use Rattle.bsp_machine.specs.Workers.{Share, share_of, shares, share_at, state_behind, IsBetween, IsBehind, IsAt, HasCome, AreAt}
+use Rattle.histories.specs.Shares.{Share, share_of}
+use Rattle.bsp_machine.specs.Workers.{shares, share_at, state_behind, IsBetween, IsBehind, IsAt, HasCome, AreAt}
 use Rattle.bsp_machine.proofs.ListLemmas.{map_by, map_at, there_at, get_within, range_more, get_is, one_there}
 use Rattle.bsp_machine.proofs.PhaseLemmas.{mark_sent, state_more}
 use Rattle.bsp_machine.proofs.MarkLemmas.{unstopped, header_marked, mark_read, any_stopped, stops_with_any}

@@ -11,7 +11,8 @@ use Rattle.worker_messages.specs.declared.way.Way.TheVariants.{Stopped}
 use Rattle.worker_messages.specs.Shown.{purpose_is, marked}
 use Rattle.worker_messages.specs.Told.{IsWrittenFor}
 use Rattle.bsp_machine.specs.declared.counted.CountedWorker.{CountedWorker}
-use Rattle.bsp_machine.specs.Workers.{Share, IsStanding}
+use Rattle.histories.specs.Shares.{Share}
+use Rattle.bsp_machine.specs.Workers.{IsStanding}
 use Rattle.bsp_machine.proofs.MarkLemmas.{never}
 
 -- One that was refused memory stands at the exchange with a mark in each message.

@@ -29,7 +29,8 @@ use Rattle.exchange_counts.specs.declared.count.Count.{Count}
 use Rattle.exchange_counts.specs.Columns.{column_of, entry_of, nothing, AreColumns}
 use Rattle.exchange_counts.specs.Told.{exchange_told, exchanges_told}
 use Rattle.bsp_machine.specs.declared.counted.CountedWorker.{CountedWorker}
-use Rattle.bsp_machine.specs.Workers.{Share, share_told, share_of}
+use Rattle.histories.specs.Shares.{Share, share_of}
+use Rattle.bsp_machine.specs.Workers.{share_told}
 use Rattle.bsp_machine.specs.Ended.{AreRunning, AreWide, cells_of, value_of, memory_of, verdict_in, counts_of}
 use Rattle.bsp_machine.proofs.ListLemmas.{there_at, get_within, map_by}
 use Rattle.bsp_machine.proofs.PhaseLemmas.{run_ends, exchanges_are}

@@ -10,7 +10,7 @@ use Rattle.superstep_machine.specs.Run.{State, Ready, bsp, opening, after, is_ov
 use Rattle.superstep_machine.specs.Trace.{exchange_of, exchanges_from}
 use Rattle.bsp_verify.specs.Runs.{worker_after}
 use Rattle.superstep_machine.proofs.Refused.{for_clear}
-use Rattle.bsp_machine.specs.Ended.{GoesOn}
+use Rattle.histories.specs.Histories.{GoesOn}
 use Rattle.bsp_machine.proofs.ListLemmas.{range_shift}
 
 module _ {S M O : Type 0} (b : Machine S M O) (p : ℕ) where

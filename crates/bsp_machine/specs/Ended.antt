@@ -5,7 +5,6 @@ use Rattle.pram_model.specs.Layout.{total_size}
 use Rattle.address_map.specs.Lawful.{Shape}
 use Rattle.superstep_code.specs.Code.{SuperstepCode}
 use Rattle.superstep_machine.specs.Setting.{workers}
-use Rattle.superstep_machine.specs.Machine.{Machine, phases}
 use Rattle.superstep_machine.specs.Run.{bsp, opening, is_over, setting}
 use Rattle.write_rules.specs.declared.outcome.Outcome.{Outcome}
 use Rattle.write_rules.specs.Verdict.{Verdict, verdict_of}
@@ -13,6 +12,7 @@ use Rattle.worker_messages.specs.Reached.{most_instructions}
 use Rattle.worker_messages.specs.Shown.{way_is, is_stopped}
 use Rattle.worker_messages.specs.Equipped.{most_words, left, IsRunnable}
 use Rattle.exchange_counts.specs.declared.count.Count.{Count}
+use Rattle.histories.specs.Histories.{GoesOn}
 use Rattle.bsp_machine.specs.declared.counted.CountedWorker.{CountedWorker}
 use Rattle.bsp_machine.specs.Workers.{AreBehind, AreTogether, AreSheets}
 use Rattle.bsp_machine.specs.declared.sheet.Sheet.{Sheet}
@@ -21,10 +21,6 @@ use Rattle.bsp_machine.specs.declared.sheet.Sheet.{Sheet}
 abbrev pub left_first : SuperstepCode → ℕ → List CountedWorker → ℕ
 left_first code bound [] = 0
 left_first code bound (x ∷ workers) = left code bound x.local
-
--- worker 0's run isn't over before n phases are
-abbrev pub GoesOn : {S M O : Type 0} → Machine S M O → ℕ → ℕ → (ℕ → S) → Type 0
-GoesOn b p n ws = (i : ℕ) → i < n → b.over (phases b p i ws 0) ≡ false
 
 module _ (code : SuperstepCode) (m : Shape) (bound : ℕ) where
   -- They are the workers of the run from an input, behind so many exchanges; before, worker 0's run wasn't over.

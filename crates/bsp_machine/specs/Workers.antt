@@ -1,5 +1,5 @@
 -- The workers of a run, between two exchanges and at one.
-use Rattle.std.specs.Prelude.{◌≡◌, ℕ, ◌<◌, ◌≤◌, List, [], map, length, Some, false, ℤ, vec_capacity, slice_get, slice_index_or}
+use Rattle.std.specs.Prelude.{◌≡◌, ℕ, ◌<◌, ◌≤◌, List, [], map, length, Some, false, ℤ, vec_capacity, slice_get}
 use Rattle.std.specs.List.{range_with_len}
 use Rattle.address_map.specs.Lawful.{Shape}
 use Rattle.superstep_code.specs.Code.{SuperstepCode}
@@ -7,8 +7,8 @@ use Rattle.superstep_machine.specs.declared.mark.HeaderMark.{HeaderMark}
 use Rattle.superstep_machine.specs.declared.mark.HeaderMark.TheVariants.{OutOfMemory}
 use Rattle.superstep_machine.specs.Setting.{Setting}
 use Rattle.superstep_machine.specs.Machine.{column}
-use Rattle.superstep_machine.specs.Run.{Purpose, State, bsp, after, is_over, message_of, ready, setting}
-use Rattle.superstep_machine.specs.Trace.{Exchange, exchange_of, sum_over, words_between}
+use Rattle.superstep_machine.specs.Run.{State, bsp, after, is_over, message_of, ready, setting}
+use Rattle.superstep_machine.specs.Trace.{exchange_of, sum_over, words_between}
 use Rattle.bsp_verify.specs.Runs.{worker_after}
 use Rattle.message_rows.specs.Rows.{WrittenMessage, IsRow, written, message_at, words_in}
 use Rattle.worker_messages.specs.declared.step.Step.{Step}
@@ -20,17 +20,12 @@ use Rattle.worker_messages.specs.Equipped.{MayGoOn, IsAtStep}
 use Rattle.worker_messages.specs.Told.{IsWrittenFor}
 use Rattle.worker_exchange.specs.Received.{messages_to}
 use Rattle.exchange_counts.specs.declared.count.Count.{Count}
+use Rattle.histories.specs.Shares.{Share, share_of}
 use Rattle.bsp_machine.specs.declared.counted.CountedWorker.{CountedWorker}
 use Rattle.bsp_machine.specs.declared.sheet.Sheet.{Sheet}
 use Rattle.bsp_machine.specs.Sheets.{messages_in, IsSheet}
 
 -- ---- what a worker counts
-
--- a worker's part of an exchange
-pub record Share : Type 0 where
-  pub purpose : Purpose
-  pub sent : ℕ
-  pub received : ℕ
 
 -- what a worker counts at an exchange at which so many words came to it
 abbrev pub count_of : Local → ℕ → Count
@@ -38,9 +33,6 @@ count_of x received = record { step = x.step; sent = x.buffers.sent; received = 
 
 abbrev pub share_told : Count → Share
 share_told c = record { purpose = purpose_is c.step; sent = c.sent; received = c.received }
-
-abbrev pub share_of : ℕ → Exchange → Share
-share_of w e = record { purpose = e.purpose; sent = slice_index_or e.sent w 0; received = slice_index_or e.received w 0 }
 
 -- the part of a worker at an exchange, from whom this row went and to whom this came
 abbrev pub share_at : CountedWorker → List WrittenMessage → List WrittenMessage → Share

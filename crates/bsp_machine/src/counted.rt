@@ -9,7 +9,8 @@ ghost use Rattle.worker_messages.specs.Shown.{is_stopped, way_is};
 ghost use Rattle.worker_messages.specs.Equipped.{most_words, left, left_at, IsRunnable, MayGoOn};
 ghost use Rattle.worker_messages.specs.Opened.{IsAccepted, IsRefusal};
 ghost use Rattle.worker_exchange.specs.Received.{mark_heard, is_marked};
-ghost use Rattle.bsp_machine.specs.Workers.{count_of, share_at, state_behind, Share, HasItems, IsBetween, IsStanding, IsReady};
+ghost use Rattle.histories.specs.Shares.{Share};
+ghost use Rattle.bsp_machine.specs.Workers.{count_of, share_at, state_behind, HasItems, IsBetween, IsStanding, IsReady};
 ghost use Rattle.bsp_machine.specs.Opening.{IsFresh};
 
 use address_map::AddressMap;
