@@ -9,24 +9,20 @@ use Rattle.std.proofs.lemmas.List.FromFn.{get_or-map-range_with_len}
 use Rattle.pram_values.specs.Total.{total}
 use Rattle.address_map.specs.Lawful.{Shape}
 use Rattle.superstep_code.specs.Code.{SuperstepCode}
-use Rattle.superstep_machine.specs.declared.mark.HeaderMark.TheVariants.{OutOfMemory}
 use Rattle.superstep_machine.specs.HeaderWords.{read_header}
-use Rattle.superstep_machine.specs.Words.{Message}
 use Rattle.superstep_machine.specs.WordReading.{read_message}
 use Rattle.superstep_machine.specs.Setting.{Setting, workers}
 use Rattle.superstep_machine.specs.declared.header.MessageHeader.{MessageHeader}
-use Rattle.superstep_machine.specs.Run.{State, setting, ready, after, message_of, mark_now}
+use Rattle.superstep_machine.specs.Run.{State, setting, ready, after, message_of}
 use Rattle.superstep_machine.specs.Trace.{exchange_of, sum_over, words_between}
 use Rattle.flat_machine.specs.Flatness.{IsMapFor}
 use Rattle.flat_machine.proofs.Laws.{one_exchange}
-use Rattle.flat_machine.proofs.Lists.{map_twice}
+use Rattle.flat_machine.proofs.Lists.{map_twice, map_itself}
 use Rattle.bsp_verify.specs.Runs.{worker_after}
 use Rattle.std.proofs.lemmas.List.Sums.{sum_by-cons}
-use Rattle.message_rows.specs.Rows.{WrittenMessage, written, message_at, words_in, unwritten}
-use Rattle.worker_messages.specs.declared.way.Way.{Way}
-use Rattle.worker_messages.specs.declared.way.Way.TheVariants as ways
+use Rattle.message_rows.specs.Rows.{WrittenMessage, message_at, words_in, unwritten}
 use Rattle.worker_messages.specs.Reached.{most_instructions}
-use Rattle.worker_messages.specs.Shown.{purpose_is, is_stopped, marked, IsShown}
+use Rattle.worker_messages.specs.Shown.{purpose_is, is_stopped, IsShown}
 use Rattle.worker_exchange.specs.Received.{mark_heard, is_marked}
 use Rattle.bsp_machine.specs.declared.counted.CountedWorker.{CountedWorker}
 use Rattle.bsp_machine.specs.declared.sheet.Sheet.{Sheet}
@@ -34,8 +30,9 @@ use Rattle.bsp_machine.specs.Sheets.{messages_in, no_words, picked}
 use Rattle.histories.specs.Shares.{Share, share_of}
 use Rattle.bsp_machine.specs.Workers.{shares, share_at, state_behind, IsBetween, IsBehind, IsAt, HasCome, AreAt}
 use Rattle.bsp_machine.proofs.ListLemmas.{map_by, map_at, there_at, get_within, range_more, get_is, one_there}
-use Rattle.bsp_machine.proofs.PhaseLemmas.{mark_sent, state_more}
-use Rattle.bsp_machine.proofs.MarkLemmas.{unstopped, header_marked, mark_read, any_stopped, stops_with_any}
+use Rattle.bsp_machine.proofs.PhaseLemmas.{state_more}
+use Rattle.bsp_machine.proofs.MarkLemmas.{header_marked, any_stopped, stops_with_any}
+use Rattle.bsp_machine.proofs.StandingLemmas.{row_marked, row_is, row_read, purpose_at}
 
 -- ---- words
 
@@ -49,64 +46,26 @@ words_by f g (x ∷ xs) a h =
     let r = words_by f g xs (a + 1) (λ i y k. h (suc i) y k ∙ ap g (omega arith)) in
     sum_by-cons (λ (m : WrittenMessage). length m.words) (f x) (map f xs) ∙ (λ t. e t + r t)
 
-alone : (row : List WrittenMessage) → map (λ (x : WrittenMessage). x) row ≡ row
-alone [] = refl
-alone (x ∷ row) = ap (λ ys. x ∷ ys) (alone row)
-
 -- ---- one worker's row
 
-module _ (code : SuperstepCode) (m : Shape) (bound : ℕ) (input : List ℤ) (k w : ℕ) (x : CountedWorker) (row : List WrittenMessage)
-    (at : IsAt code m bound input k w x row) where
-  abbrev set_to : ℕ → Setting
-  set_to n = setting code m bound n
+module _ (code : SuperstepCode) (m : Shape) (bound : ℕ) (input : List ℤ) (k w : ℕ) where
+  module _ (x : CountedWorker) (row : List WrittenMessage) (at : IsAt code m bound input k w x row) (going : is_stopped x.local.way ≡ false)
+      (n : ℕ) (low : most_instructions code bound < n) where
+    abbrev t_of : Setting
+    t_of = setting code m bound n
 
-  -- a header has a mark exactly where the worker has stopped
-  marked_by : (way : Way) (s : State) → ((mark : _) → way ≡ ways.Stopped mark → mark ≡ OutOfMemory) →
-      (is_stopped way ≡ false → s.refusals ≡ []) → is_marked (mark_now (marked way s).refusals) ≡ is_stopped way
-  marked_by ways.On s h clear = ap (λ ms. is_marked (mark_now ms)) (clear refl)
-  marked_by (ways.Ending ended) s h clear = ap (λ ms. is_marked (mark_now ms)) (clear refl)
-  marked_by (ways.Past key ended) s h clear = ap (λ ms. is_marked (mark_now ms)) (clear refl)
-  marked_by (ways.Stopped mark) s h clear = ap is_marked (h mark refl)
-
-  pub row_marked : (n j : ℕ) → most_instructions code bound < n → j < m.parts →
-      header_marked (message_at row j) ≡ is_stopped x.local.way
-  row_marked n j low within =
-      let s = worker_after (set_to n) input k w in
-      let h = read_header (message_at row j).header in
-      ap is_marked
-      (sym (mark_read code.rule m j (purpose_is x.local.step) h (message_at row j).words)
-      ∙ ap (λ (q : Message). q.mark) (at.read n j low within) ∙ mark_sent (set_to n) w (marked x.local.way s) j)
-      ∙ marked_by x.local.way s at.refused (λ going. (at.shown going n low).clear)
-
-  module _ (going : is_stopped x.local.way ≡ false) (n : ℕ) (low : most_instructions code bound < n) where
-    abbrev s : State
-    s = worker_after (set_to n) input k w
-
-    clear : marked x.local.way s ≡ s
-    clear = unstopped x.local.way s going
-
-    pub row_is : (j : ℕ) → j < m.parts → message_at row j ≡ written code.rule (message_of (set_to n) w s j)
-    row_is j within = (at.filled n low).each j within ∙ ap (λ q. written code.rule (message_of (set_to n) w q j)) clear
-
-    pub row_read : (j : ℕ) → j < m.parts →
-        read_message code.rule m j (purpose_is x.local.step) (read_header (message_at row j).header) (message_at row j).words
-        ≡ message_of (set_to n) w s j
-    row_read j within = at.read n j low within ∙ ap (λ q. message_of (set_to n) w q j) clear
-
-    pub words_sent : words_in row ≡ sum_over (set_to n) (λ j. words_between (set_to n) (worker_after (set_to n) input k) w j)
+    pub words_sent : words_in row ≡ sum_over t_of (λ j. words_between t_of (worker_after t_of input k) w j)
     words_sent =
-        ap words_in (sym (alone row))
-        ∙ words_by (λ (y : WrittenMessage). y) (λ j. words_between (set_to n) (worker_after (set_to n) input k) w j) row 0
+        ap words_in (sym (map_itself row))
+        ∙ words_by (λ (y : WrittenMessage). y) (λ j. words_between t_of (worker_after t_of input k) w j) row 0
         (λ i y e.
         let l = get_within row i y e in
         let long = (at.filled n low).long in
-        ap (λ (z : WrittenMessage). length z.words) (sym (get_is row i y unwritten e) ∙ row_is i (omega (arith, l, long)))
-        ∙ ap (λ j. words_between (set_to n) (worker_after (set_to n) input k) w j) (let same : i ≡ 0 + i = omega arith in same))
-        ∙ ap (λ p. total 0 (λ (b c : ℕ). b + c) (λ j. words_between (set_to n) (worker_after (set_to n) input k) w j) (range_with_len 0 p))
+        ap (λ (z : WrittenMessage). length z.words) (sym (get_is row i y unwritten e)
+        ∙ row_is code m bound _ _ w x row at going n low i (omega (arith, l, long)))
+        ∙ ap (λ j. words_between t_of (worker_after t_of input k) w j) (let same : i ≡ 0 + i = omega arith in same))
+        ∙ ap (λ p. total 0 (λ (b c : ℕ). b + c) (λ j. words_between t_of (worker_after t_of input k) w j) (range_with_len 0 p))
         (at.filled n low).long
-
-    pub purpose_at : (ready (set_to n) w s).purpose ≡ purpose_is x.local.step
-    purpose_at = (at.shown going n low).purpose
 
 -- ---- a column
 
@@ -139,20 +98,20 @@ module _ (code : SuperstepCode) (m : Shape) (map_for : IsMapFor code m) (bound :
 
       one_purpose : purpose_is x.local.step ≡ purpose_is sender.0.local.step
       one_purpose =
-          sym (purpose_at code m bound input k w x (messages_in mine.0) (at w x mine.0 here mine.1) (none w x here) n low)
+          sym (purpose_at code m bound _ _ w x (messages_in mine.0) (at w x mine.0 here mine.1) (none w x here) n low)
           ∙ (one_exchange t map_for input k w i within below).0
-          ∙ purpose_at code m bound input k i sender.0 (messages_in row) has (none i sender.0 sender.1) n low
+          ∙ purpose_at code m bound _ _ i sender.0 (messages_in row) has (none i sender.0 sender.1) n low
 
       entry_read : read_message code.rule m w (purpose_is x.local.step) (read_header (entry row).header) (entry row).words
           ≡ message_of t i (worker_after t input k i) w
       entry_read =
           (λ j. read_message code.rule m w (one_purpose j) (read_header (entry_is j).header) (entry_is j).words)
-          ∙ row_read code m bound input k i sender.0 (messages_in row) has (none i sender.0 sender.1) n low w within
+          ∙ row_read code m bound _ _ i sender.0 (messages_in row) has (none i sender.0 sender.1) n low w within
 
       entry_words : length (entry row).words ≡ words_between t (worker_after t input k) i w
       entry_words =
           ap (λ (c : WrittenMessage). length c.words)
-          (entry_is ∙ row_is code m bound input k i sender.0 (messages_in row) has (none i sender.0 sender.1) n low w within)
+          (entry_is ∙ row_is code m bound _ _ i sender.0 (messages_in row) has (none i sender.0 sender.1) n low w within)
 
     pub coming : HasCome code m bound input k w x.local.step (picked w rows)
     coming = record {
@@ -205,7 +164,7 @@ module _ (code : SuperstepCode) (m : Shape) (bound : ℕ) (input : List ℤ) (k 
           (one_there (picked w rows) i c (entry row) e (map_at (λ (s : Sheet). slice_index_or
           (messages_in s) w no_words) rows i row there.1)
           ∙ get_or_default (messages_in row) w no_words unwritten (omega (arith, wide, within)))
-          ∙ row_marked code m bound input k i y (messages_in row) is n w low within
+          ∙ row_marked code m bound _ _ i y (messages_in row) is n w low within
 
 -- ---- what is counted
 
@@ -254,7 +213,7 @@ module _ (code : SuperstepCode) (m : Shape) (map_for : IsMapFor code m) (bound :
         here.counted h n low
         ∙ shares_more t input k w within (share_at old row came)
         ((one_exchange t map_for input k 0 w (omega (arith, within)) within).0
-        ∙ purpose_at code m bound input k w old row at (alive h) n low)
+        ∙ purpose_at code m bound _ _ w old row at (alive h) n low)
         (words_sent code m bound input k w old row at (alive h) n low)
         ((come h).words n low);
     items = here.items;

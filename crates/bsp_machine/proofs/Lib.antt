@@ -3,6 +3,7 @@ pub mod SheetLemmas
 pub mod PhaseLemmas
 pub mod MarkLemmas
 pub mod CountedLemmas
+pub mod StandingLemmas
 pub mod ComingLemmas
 pub mod LeftLemmas
 pub mod SwapLemmas

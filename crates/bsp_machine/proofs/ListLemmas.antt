@@ -86,13 +86,6 @@ module _ {A : Type 0} (f : ℕ → A) where
   range_more zero a = ap (λ k. f k ∷ []) (omega arith)
   range_more (suc n) a = ap (λ ys. f a ∷ ys) (range_more n (a + 1) ∙ ap (λ k. map f (range_with_len (a + 1) n) ++ f k ∷ []) (omega arith))
 
-  pub range_shift : (n a : ℕ) → map f (range_with_len (a + 1) n) ≡ map (λ i. f (suc i)) (range_with_len a n)
-  range_shift zero a = refl
-  range_shift (suc n) a =
-      let e : f (a + 1) ≡ f (suc a) = ap f (omega arith) in
-      let r = range_shift n (a + 1) in
-      (λ t. e t ∷ r t)
-
   pub range_at : (n a i : ℕ) → i < n → slice_get (map f (range_with_len a n)) i ≡ Some (f (a + i))
   range_at zero a i h = absurd (omega (arith, h))
   range_at (suc n) a zero h = ap (λ k. Some (f k)) (omega arith)

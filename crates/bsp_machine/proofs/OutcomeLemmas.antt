@@ -33,7 +33,8 @@ use Rattle.histories.specs.Shares.{Share, share_of}
 use Rattle.bsp_machine.specs.Workers.{share_told}
 use Rattle.bsp_machine.specs.Ended.{AreRunning, AreWide, cells_of, value_of, memory_of, verdict_in, counts_of}
 use Rattle.bsp_machine.proofs.ListLemmas.{there_at, get_within, map_by}
-use Rattle.bsp_machine.proofs.PhaseLemmas.{run_ends, exchanges_are}
+use Rattle.histories.proofs.Joining.{run_ends}
+use Rattle.histories.proofs.Parts.{exchanges_are}
 
 -- who has an outcome hasn't stopped
 pub told_alive : (way : Way) (output : List (ℕ × ℤ)) (memory : List ℤ) (v : Verdict) → Some v ≡ verdict_by (way_is way) output memory →

@@ -7,7 +7,7 @@ use Rattle.pram_model.specs.Layout.{total_size}
 use Rattle.address_map.specs.Lawful.{Shape}
 use Rattle.superstep_code.specs.Code.{SuperstepCode}
 use Rattle.bsp_machine.specs.declared.counted.CountedWorker.{CountedWorker}
-use Rattle.bsp_machine.specs.Ended.{AreWide, cells_of, value_of, memory_of, counts_of}
+use Rattle.bsp_machine.specs.Ended.{AreWide, cells_of, memory_of, counts_of}
 use Rattle.bsp_machine.proofs.ListLemmas.{some_is}
 
 abbrev pub without : CountedWorker → Vec ℤ Global → CountedWorker

@@ -40,9 +40,12 @@ cells-preserved g c =
     ∙ ap (λ x. slice_index_or (cells_of x) (m.offset cell) (pos 0)) (sym here)
     ∙ ap (λ part. slice_index_or (cells_of (slice_get workers part)) (m.offset cell) (pos 0)) c.place-part.ensures.part) in
     let fits : FitsSigned w64 c.get-value.result = search rules in
-    record { taken = c.push_reserved.ensures.items
-    ∙ ap (λ v. c.cells.memory.items ++ v ∷ []) (to_z-of_z w64 c.get-value.result fits)
-    ∙ (λ i. c.cells.invariant.taken i ++ is i ∷ [])
-    ∙ ap (λ k. map value (range_with_len 0 cell) ++ value k ∷ []) (let same : cell ≡ 0 + cell = omega arith in same)
-    ∙ sym (range_more value cell 0)
-    ∙ ap (λ k. map value (range_with_len 0 k)) (let same : suc cell ≡ cell + 1 = omega arith in same); room = c.push_reserved.ensures.capacity ∙ c.cells.invariant.room; }
+    record {
+      taken = c.push_reserved.ensures.items
+          ∙ ap (λ v. c.cells.memory.items ++ v ∷ []) (to_z-of_z w64 c.get-value.result fits)
+          ∙ (λ i. c.cells.invariant.taken i ++ is i ∷ [])
+          ∙ ap (λ k. map value (range_with_len 0 cell) ++ value k ∷ []) (let same : cell ≡ 0 + cell = omega arith in same)
+          ∙ sym (range_more value cell 0)
+          ∙ ap (λ k. map value (range_with_len 0 k)) (let same : suc cell ≡ cell + 1 = omega arith in same);
+      room = c.push_reserved.ensures.capacity ∙ c.cells.invariant.room;
+    }

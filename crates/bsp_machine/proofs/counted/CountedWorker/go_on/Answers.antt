@@ -1,4 +1,4 @@
-use Rattle.std.proofs.Common.{length, sym, subst, ◌∙◌, arith}
+use Rattle.std.proofs.Common.{sym, subst, ◌∙◌, arith}
 use Rattle.superstep_machine.specs.Run.{setting, message_of}
 use Rattle.message_rows.specs.Rows.{IsRow, written, message_at}
 use Rattle.worker_messages.specs.Shown.{purpose_is, marked, IsShown, IsAtExchange}

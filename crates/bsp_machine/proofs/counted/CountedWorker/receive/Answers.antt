@@ -1,4 +1,4 @@
-use Rattle.std.proofs.Common.{◌≡◌, ◌<◌, ◌≤◌, suc, [], ◌∷◌, ◌++◌, map, length, vec_capacity, false, sym, subst, ap, ◌∙◌, arith}
+use Rattle.std.proofs.Common.{◌≡◌, ◌<◌, suc, [], ◌∷◌, ◌++◌, map, length, false, sym, subst, ap, ◌∙◌, arith}
 use Rattle.superstep_machine.specs.Run.{setting, ready, after}
 use Rattle.flat_machine.proofs.Lists.{map_joined}
 use Rattle.message_rows.specs.Rows.{words_in}

@@ -1,0 +1,59 @@
+-- The row of a worker that stands at an exchange.
+use Rattle.std.proofs.Common.{◌≡◌, ℕ, ◌<◌, List, [], false, refl, sym, ap, ◌∙◌}
+use Rattle.address_map.specs.Lawful.{Shape}
+use Rattle.superstep_code.specs.Code.{SuperstepCode}
+use Rattle.superstep_machine.specs.declared.mark.HeaderMark.TheVariants.{OutOfMemory}
+use Rattle.superstep_machine.specs.HeaderWords.{read_header}
+use Rattle.superstep_machine.specs.Words.{Message}
+use Rattle.superstep_machine.specs.WordReading.{read_message}
+use Rattle.superstep_machine.specs.Setting.{Setting}
+use Rattle.superstep_machine.specs.Run.{State, setting, ready, message_of, mark_now}
+use Rattle.message_rows.specs.Rows.{WrittenMessage, written, message_at}
+use Rattle.worker_messages.specs.declared.way.Way.{Way}
+use Rattle.worker_messages.specs.declared.way.Way.TheVariants as ways
+use Rattle.worker_messages.specs.Reached.{most_instructions}
+use Rattle.worker_messages.specs.Shown.{purpose_is, is_stopped, marked}
+use Rattle.worker_exchange.specs.Received.{is_marked}
+use Rattle.histories.specs.Shares.{Share}
+use Rattle.bsp_machine.specs.declared.counted.CountedWorker.{CountedWorker}
+use Rattle.bsp_machine.specs.Workers.{IsStanding}
+use Rattle.bsp_machine.proofs.PhaseLemmas.{mark_sent}
+use Rattle.bsp_machine.proofs.MarkLemmas.{unstopped, header_marked, mark_read}
+
+module _ (code : SuperstepCode) (m : Shape) (bound : ℕ) (states : ℕ → State) (told : ℕ → List Share) (w : ℕ) (x : CountedWorker)
+    (row : List WrittenMessage) (at : IsStanding code m bound states told w x row) where
+  abbrev set_to : ℕ → Setting
+  set_to n = setting code m bound n
+
+  -- a header has a mark exactly where the worker has stopped
+  marked_by : (way : Way) (s : State) → ((mark : _) → way ≡ ways.Stopped mark → mark ≡ OutOfMemory) →
+      (is_stopped way ≡ false → s.refusals ≡ []) → is_marked (mark_now (marked way s).refusals) ≡ is_stopped way
+  marked_by ways.On s h clear = ap (λ ms. is_marked (mark_now ms)) (clear refl)
+  marked_by (ways.Ending ended) s h clear = ap (λ ms. is_marked (mark_now ms)) (clear refl)
+  marked_by (ways.Past key ended) s h clear = ap (λ ms. is_marked (mark_now ms)) (clear refl)
+  marked_by (ways.Stopped mark) s h clear = ap is_marked (h mark refl)
+
+  pub row_marked : (n j : ℕ) → most_instructions code bound < n → j < m.parts →
+      header_marked (message_at row j) ≡ is_stopped x.local.way
+  row_marked n j low within =
+      let h = read_header (message_at row j).header in
+      ap is_marked
+      (sym (mark_read code.rule m j (purpose_is x.local.step) h (message_at row j).words)
+      ∙ ap (λ (q : Message). q.mark) (at.read n j low within) ∙ mark_sent (set_to n) w (marked x.local.way (states n)) j)
+      ∙ marked_by x.local.way (states n) at.refused (λ going. (at.shown going n low).clear)
+
+  -- where it hasn't stopped, the row has the messages of the worker that it shows
+  module _ (going : is_stopped x.local.way ≡ false) (n : ℕ) (low : most_instructions code bound < n) where
+    clear : marked x.local.way (states n) ≡ states n
+    clear = unstopped x.local.way (states n) going
+
+    pub row_is : (j : ℕ) → j < m.parts → message_at row j ≡ written code.rule (message_of (set_to n) w (states n) j)
+    row_is j within = (at.filled n low).each j within ∙ ap (λ q. written code.rule (message_of (set_to n) w q j)) clear
+
+    pub row_read : (j : ℕ) → j < m.parts →
+        read_message code.rule m j (purpose_is x.local.step) (read_header (message_at row j).header) (message_at row j).words
+        ≡ message_of (set_to n) w (states n) j
+    row_read j within = at.read n j low within ∙ ap (λ q. message_of (set_to n) w q j) clear
+
+    pub purpose_at : (ready (set_to n) w (states n)).purpose ≡ purpose_is x.local.step
+    purpose_at = (at.shown going n low).purpose
