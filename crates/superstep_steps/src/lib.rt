@@ -19,4 +19,6 @@ pub use registers::{make_room, register, set_number, set_result, value_at, zero_
 pub use rule::{join, single, verdict_on, with_writer};
 pub use uniform::UniformState;
 pub use uniform_fault::{fault_at, missing, uniform_key, uniform_write, write_to};
-pub use uniform_step::{begin_statement, index_of, moment_of, open_uniform, step_uniform};
+pub use uniform_step::{
+    begin_statement, change_range, index_of, moment_of, open_uniform, step_uniform,
+};

@@ -1,6 +1,6 @@
 //! What an instruction does to the uniform part.
 
-ghost use Rattle.std.specs.Prelude.{◌≡◌, ◌<◌, ◌+◌, ◌^◌, ◌++◌, ◌∷◌, [], None, OnOk, FitsSigned};
+ghost use Rattle.std.specs.Prelude.{◌≡◌, ◌<◌, ◌+◌, ◌^◌, ◌++◌, ◌∷◌, [], true, None, OnOk, FitsSigned};
 ghost use Rattle.std.specs.Int.{w64};
 ghost use Rattle.superstep_machine.specs.Parts.{opening_part};
 ghost use Rattle.superstep_code.specs.declared.instr.Instr.TheVariants as instr_is;
@@ -13,6 +13,7 @@ use crate::range::range_width;
 use crate::read::{Moment, Read};
 use crate::registers::{register, set_result, zero_without};
 use crate::uniform::UniformState;
+use pram_values::Kind;
 use std::alloc::{AllocError, Global};
 use superstep_code::{Code, Instr, Side};
 
@@ -62,9 +63,10 @@ pub fn begin_statement(u: &mut UniformState, line: u32)
     u.line = line;
 }
 
-// The range begins.
-fn enter(u: &mut UniformState, code: &Code, low: u16, high: u16, position: u32)
-    ensures { uniform_of u.new ≡ spec.on_uniform code.now (instr_is.Enter low high position) (uniform_of u.old) }
+// The range begins. The answer is what is wrong in it.
+fn enter(u: &mut UniformState, code: &Code, low: u16, high: u16, position: u32) -> Option<Kind>
+    ensures after { uniform_of u.new ≡ spec.on_uniform code.now (instr_is.Enter low high position) (uniform_of u.old) }
+    ensures wrong { result ≡ spec.wrong_uniform code.now (instr_is.Enter low high position) (uniform_of u.old) }
 {
     let first = register(&u.registers, low);
     let last = register(&u.registers, high);
@@ -72,11 +74,40 @@ fn enter(u: &mut UniformState, code: &Code, low: u16, high: u16, position: u32)
         Ok(width) => {
             u.low = first;
             u.width = width;
+            None
         }
-        Err(_) => {
+        Err(kind) => {
             u.low = first;
             u.width = 0;
+            Some(kind)
         }
+    }
+}
+
+// The range ends.
+fn leave(u: &mut UniformState)
+    ensures { uniform_of u.new ≡ record (uniform_of u.old) { width = 0 } }
+{
+    u.width = 0;
+}
+
+/// A range begins or ends. The answer is what is wrong in it: it is empty then.
+pub fn change_range(u: &mut UniformState, code: &Code, instr: Instr) -> Option<Kind>
+    requires renews { spec.renews instr ≡ true }
+    ensures after { uniform_of u.new ≡ spec.on_uniform code.now instr (uniform_of u.old) }
+    ensures wrong { result ≡ spec.wrong_uniform code.now instr (uniform_of u.old) }
+{
+    match instr {
+        Instr::Enter {
+            low,
+            high,
+            position,
+        } => enter(u, code, low, high, position),
+        Instr::Leave => {
+            leave(u);
+            None
+        }
+        _ => unreachable!(),
     }
 }
 
@@ -146,12 +177,9 @@ pub fn step_uniform(u: &mut UniformState, code: &Code, instr: Instr) -> Result<(
 {
     match instr {
         Instr::Mark { line } => begin_statement(u, line),
-        Instr::Enter {
-            low,
-            high,
-            position,
-        } => enter(u, code, low, high, position),
-        Instr::Leave => u.width = 0,
+        Instr::Enter { .. } | Instr::Leave => {
+            let _wrong = change_range(u, code, instr);
+        }
         Instr::Ask {
             side: Side::Uniform,
             destination,

@@ -104,7 +104,10 @@ impl WorkerState {
         ensures { OnOk result (IsDone code.now instr self.old self.new) }
     {
         match instr {
-            Instr::Enter { .. } | Instr::Leave => self.change_range(code, instr),
+            Instr::Enter { .. } | Instr::Leave => {
+                self.change_range(code, instr);
+                Ok(())
+            }
             Instr::Mask { source } => {
                 self.mask(code, source);
                 Ok(())
