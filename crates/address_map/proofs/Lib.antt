@@ -1,3 +1,4 @@
 pub mod Inverse
 pub mod Faults
 pub mod RoundSteps
+pub mod Reciprocals

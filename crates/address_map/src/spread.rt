@@ -1,11 +1,13 @@
 //! Numbers below a power of two, dealt to the modules in turn.
 ghost use Rattle.std.specs.Prelude.{◌≡◌, ◌<◌, ◌≤◌, ◌^◌, ◌*◌, ◌+◌, ◌/◌, ◌%◌, Some, None, if◌then◌else◌, nat_lt, ◌&&◌, IfOk, IfErr, IfSome};
 ghost use Rattle.std.specs.Prelude.{MatchOption};
-ghost use Rattle.std.specs.Option.{ForSome};
 ghost use Rattle.address_map.specs.Lawful.{rows};
 ghost use Rattle.address_map.specs.Outcome.{IsWorkers, IsCells, IsFault};
 
 use crate::fault::MapFault;
+
+// 2 ^ 32.
+const ROUND: u64 = 4_294_967_296;
 
 /// Numbers 0 to cells - 1, dealt to the modules in turn: number n is at offset n / modules of module n % modules.
 #[derive(Clone, Copy, Debug)]
@@ -13,14 +15,14 @@ pub(crate) struct Spread {
     pub(crate) cells: u32,
     pub(crate) bits: u32,
     pub(crate) modules: u32,
-    // Where the number of modules is a power of two, its exponent: then a number is split by shift and mask.
-    shift: Option<u32>,
+    // 2 ^ 32 / modules, and one more: a number below 2 ^ 20 times it, without its low 32 bits, is the number divided by the modules.
+    reciprocal: u64,
     ghost power: { cells ≡ 2 ^ bits },
     ghost small: { bits ≤ 20 },
     ghost fits: { cells ≤ 2 ^ 20 },
     ghost one: { 1 ≤ modules },
     ghost few: { modules ≤ 32 },
-    ghost shifted: { ForSome shift (λ e. (e ≤ 20) × (modules ≡ 2 ^ e)) },
+    ghost divides: { reciprocal ≡ 2 ^ 32 / modules + 1 },
 }
 
 // The power of two that a number of cells is.
@@ -50,7 +52,7 @@ impl Spread {
                 cells,
                 bits,
                 modules,
-                shift: power_of(modules),
+                reciprocal: ROUND / u64::from(modules) + 1,
             }),
             None => Err(MapFault::BadMap),
         }
@@ -64,16 +66,16 @@ impl Spread {
         (self.cells + (self.modules - 1 - module)) / self.modules
     }
 
-    // The module of a number, and its offset there.
-    #[tactic(auto, using(std::proofs::lemmas::Nat::and_mask, std::proofs::lemmas::Nat::pow_pos))]
+    // The module of a number, and its offset there. It takes no division.
+    #[inline(always)]
+    #[tactic(auto, using(crate::proofs::Reciprocals::divided, crate::proofs::Reciprocals::divided_small))]
     pub(crate) fn split(self, number: u32) -> (u32, u32)
+        requires { number < 2 ^ 20 }
         ensures part { result.0 ≡ number % self.modules }
         ensures offset { result.1 ≡ number / self.modules }
     {
-        match self.shift {
-            Some(shift) => (number & (self.modules - 1), number >> shift),
-            None => (number % self.modules, number / self.modules),
-        }
+        let offset = ((u64::from(number) * self.reciprocal) >> 32) as u32;
+        (number - offset * self.modules, offset)
     }
 
     // What a value leaves below the number of cells: its low bits.
