@@ -1,5 +1,6 @@
 pub mod Places
 pub mod Held
+pub mod Compact
 pub mod Gathering
 pub mod Merged
 pub mod Asked

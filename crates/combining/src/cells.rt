@@ -3,15 +3,15 @@
 ghost use Rattle.std.specs.Prelude.{◌≡◌, ◌<◌, length, IfOk, replicate, pos, set};
 ghost use Rattle.combining.specs.Gathering.{value_at};
 
+use crate::slots::Slots;
 use std::alloc::{AllocError, Global};
 use std::marker::Model;
-use write_rules::Entry;
 
 /// The values of one module's cells, by offset, and places for what comes for them.
 #[derive(Drop)]
 pub struct Cells {
     pub(crate) values: Vec<i64>,
-    pub(crate) entries: Vec<Option<Entry>>,
+    pub(crate) entries: Slots,
     pub(crate) askers: Vec<Option<bool>>,
 }
 
@@ -24,8 +24,8 @@ impl Model for Cells {
     ghost view = { λ x. x.values.items };
 
     // Between two calls nothing is collected.
-    ghost invariant = { λ x. (length x.entries.items ≡ length x.values.items) × (length x.askers.items ≡ length x.values.items)
-        × ((o : ℕ) → slot x.entries.items o ≡ None) × ((o : ℕ) → slot x.askers.items o ≡ None) };
+    ghost invariant = { λ x. (length x.entries ≡ length x.values.items) × (length x.askers.items ≡ length x.values.items)
+        × ((o : ℕ) → slot x.entries o ≡ None) × ((o : ℕ) → slot x.askers.items o ≡ None) };
 }
 
 impl Cells {
@@ -34,7 +34,7 @@ impl Cells {
         ensures ok { IfOk result (λ x. x ≡ replicate size (pos 0)) }
     {
         let values = vec![in alloc; 0; size as usize]?;
-        let entries = vec![in alloc; None; size as usize]?;
+        let entries = Slots::empty(alloc, size as usize)?;
         let askers = vec![in alloc; None; size as usize]?;
         Ok(Cells {
             values,

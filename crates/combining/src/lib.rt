@@ -4,11 +4,13 @@
 mod answers;
 mod asks;
 mod cells;
+mod compact;
 mod index;
 pub mod law;
 mod merge;
 mod puts;
 mod readers;
+mod slots;
 mod words;
 
 pub use answers::answer_asks;

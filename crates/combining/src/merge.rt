@@ -7,6 +7,7 @@ ghost use Rattle.combining.specs.Gathering.{slot, value_at, note, Collects, Coll
 ghost use Rattle.combining.specs.Merged.{refusal, IsMerged};
 
 use crate::cells::Cells;
+use crate::slots::Slots;
 use crate::words::{PutWords, next};
 use address_map::AddressMap;
 use pram_values::Kind;
@@ -28,7 +29,7 @@ fn gather_column<R: WriteRule, M: AddressMap>(
     map: &M,
     part: u32,
     words: &[u64],
-    entries: &mut [Option<Entry>],
+    entries: &mut Slots,
 )
     requires { length entries.old ≡ (M.shape map.now).width part }
     ensures gathered { Collects (M.shape map.now) part (join (R.WriteRule.rule rule.now))
@@ -39,7 +40,8 @@ fn gather_column<R: WriteRule, M: AddressMap>(
     let mut rest = words;
     while let Some((put, behind)) = next(&format, rest) {
         let at = put.offset as usize;
-        entries[at] = Some(joined(rule, entries[at], put.entry));
+        let before = entries.get(at);
+        entries.keep(at, joined(rule, before, put.entry));
         rest = behind;
     }
 }
@@ -50,7 +52,7 @@ fn gather<R: WriteRule, M: AddressMap>(
     map: &M,
     part: u32,
     columns: &[&[u64]],
-    entries: &mut [Option<Entry>],
+    entries: &mut Slots,
 )
     requires { length entries.old ≡ (M.shape map.now).width part }
     ensures gathered { CollectsAll (M.shape map.now) part (join (R.WriteRule.rule rule.now))
@@ -77,7 +79,7 @@ fn settle_at<R: WriteRule>(
     rule: &R,
     cell: u32,
     at: usize,
-    entries: &mut [Option<Entry>],
+    entries: &mut Slots,
     values: &mut [i64],
     noted: Option<(u32, Kind)>,
 ) -> Option<(u32, Kind)>
@@ -88,10 +90,10 @@ fn settle_at<R: WriteRule>(
         (value_at values.old at)) }
     ensures noted { result ≡ note cell (refusal (verdict_on (R.WriteRule.rule rule.now) (slot entries.old at))) noted }
 {
-    let Some(entry) = entries[at] else {
+    let Some(entry) = entries.get(at) else {
         return noted;
     };
-    entries[at] = None;
+    entries.empty_at(at);
     match rule.verdict(entry) {
         Ok(value) => {
             values[at] = value;
@@ -107,7 +109,7 @@ fn settle_column<R: WriteRule, M: AddressMap>(
     map: &M,
     part: u32,
     words: &[u64],
-    entries: &mut [Option<Entry>],
+    entries: &mut Slots,
     values: &mut [i64],
     before: Option<(u32, Kind)>,
 ) -> Option<(u32, Kind)>
@@ -136,7 +138,7 @@ fn settle_all<R: WriteRule, M: AddressMap>(
     map: &M,
     part: u32,
     columns: &[&[u64]],
-    entries: &mut [Option<Entry>],
+    entries: &mut Slots,
     values: &mut [i64],
 ) -> Option<(u32, Kind)>
     requires entries { length entries.old ≡ (M.shape map.now).width part }
@@ -160,7 +162,7 @@ fn apply<R: WriteRule, M: AddressMap>(
     map: &M,
     part: u32,
     columns: &[&[u64]],
-    entries: &mut [Option<Entry>],
+    entries: &mut Slots,
     values: &mut [i64],
 ) -> Option<(u32, Kind)>
     requires part { part < (M.shape map.now).parts }

@@ -1,4 +1,4 @@
-use Rattle.std.proofs.Common.{ℕ, sym, ap, ◌∙◌, length-set, Option, Some}
+use Rattle.std.proofs.Common.{length, ℕ, sym, ap, ◌∙◌, length-set, Option, Some}
 use Rattle.write_rules.specs.declared.entry.Entry.{Entry}
 use Rattle.superstep_machine.specs.WordReading.{entry_of_column}
 use Rattle.superstep_machine.specs.Sending.{join, entry_in}
@@ -24,11 +24,12 @@ loop-put-preserved g c =
     let before : (ℕ → Option Entry) → ℕ → Option Entry = λ rest d. op (entry_of_column rule m j d c.loop-put.rest.now) (rest d) in
     let after : (ℕ → Option Entry) → ℕ → Option Entry = λ rest d. op (entry_of_column rule m j d c.in-Some.behind.now) (rest d) in
     record {
-      long = length-set _ _ _ ∙ inv.long;
-      gathered = λ whole rest known. rw placed.is
+      long = ap length c.keep.ensures ∙ length-set _ _ _ ∙ inv.long;
+      gathered = λ whole rest known. rw (c.keep.ensures, placed.is)
           (gather_one op monoid m lawful j c.loop-put.entries (inv.long ∙ c.requires) x.cell placed.of (λ d. entry_in d e) (after rest)
           (λ d ne. entry_other d e ne) whole c.joined.result
-          (c.joined.ensures ∙ ap (λ o. op (slot c.loop-put.entries o) (Some x.entry)) placed.is
+          (c.joined.ensures ∙ ap (λ b. op b (Some x.entry)) c.get-before.ensures
+          ∙ ap (λ o. op (slot c.loop-put.entries o) (Some x.entry)) placed.is
           ∙ ap (op (slot c.loop-put.entries (m.offset x.cell))) (sym (entry_here x.cell x.entry)))
           (Gathers_same op monoid m lawful j whole c.loop-put.entries (before rest) (λ d. op (entry_in d e) (after rest d))
           (column_next rule m j c.loop-put.rest.now c.in-Some.behind.now x c.in-Some.ensures.item rest) (inv.gathered whole rest known)));
