@@ -1,8 +1,9 @@
 -- A history grows at its end.
 use Rattle.std.proofs.Common.{◌≡◌, ℕ, List, [], ◌∷◌, ◌++◌, false, refl, ap}
 use Rattle.superstep_machine.specs.Machine.{Machine, row}
+use Rattle.superstep_machine.specs.Run.{Purpose}
 use Rattle.histories.specs.Histories.{rows_by, end_by, HoldsBefore}
-use Rattle.histories.specs.Growing.{HistoriesGrow}
+use Rattle.histories.specs.Growing.{HistoriesGrow, SharesGrow}
 
 module _ {S M O : Type 0} (b : Machine S M O) where
   rows_grow : (p w : ℕ) (s : S) (cs : List (List M)) (c : List M) →
@@ -26,3 +27,9 @@ module _ {S M O : Type 0} (b : Machine S M O) where
     end = end_grows w s cs c;
     going = before_grows (λ (q : S). b.over q ≡ false) w s cs c;
   }
+
+  pub shares_grow : (purpose : ℕ → S → Purpose) (size : List M → ℕ) → SharesGrow b purpose size
+  shares_grow purpose size p w s [] c = refl
+  shares_grow purpose size p w s (d ∷ cs) c =
+      ap (λ ss. record { purpose = purpose w s; sent = size (row b p w s); received = size d } ∷ ss)
+      (shares_grow purpose size p w (b.next w s d) cs c)

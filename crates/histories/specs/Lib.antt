@@ -1,6 +1,6 @@
 pub mod Histories
-pub mod Growing
 pub mod Shares
+pub mod Growing
 pub mod Joined
 pub mod InWords
 pub mod Marked

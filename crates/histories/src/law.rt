@@ -2,7 +2,9 @@
 
 ghost use Rattle.superstep_machine.specs.Setting.{Setting};
 ghost use Rattle.superstep_machine.specs.Run.{bsp};
-ghost use Rattle.histories.specs.Growing.{HistoriesGrow};
+ghost use Rattle.message_rows.specs.Rows.{words_in};
+ghost use Rattle.histories.specs.Growing.{HistoriesGrow, SharesGrow};
+ghost use Rattle.histories.specs.Shares.{purpose_of, words_of};
 ghost use Rattle.histories.specs.Joined.{HistoriesMakeARun};
 ghost use Rattle.histories.specs.InWords.{in_words, HistoriesInWordsMakeARun};
 ghost use Rattle.histories.specs.Marked.{AllStopOrNone, ClearGrows, MarksEndAllOrNone};
@@ -11,6 +13,9 @@ ghost use Rattle.histories.specs.Marked.{AllStopOrNone, ClearGrows, MarksEndAllO
 pub fn histories_grow()
     ensures messages { (t : Setting) → HistoriesGrow (bsp t) }
     ensures words { (t : Setting) → HistoriesGrow (in_words t) }
+    // So do the parts that it has in the exchanges.
+    ensures parts { (t : Setting) → SharesGrow (bsp t) (purpose_of t) (words_of t.code.rule) }
+    ensures parts_in_words { (t : Setting) → SharesGrow (in_words t) (purpose_of t) words_in }
     // So does one without a mark, unless the exchange brings one.
     ensures clear { ClearGrows }
 {}

@@ -1,2 +1,3 @@
 pub mod HandLemmas
 pub mod ExchangeLemmas
+pub mod PlayLemmas

@@ -4,6 +4,8 @@
 mod gates;
 mod hands;
 pub mod law;
+mod play;
 
 pub use gates::{Gate, OpenGate};
 pub use hands::{ColumnHand, RowHand};
+pub use play::work;

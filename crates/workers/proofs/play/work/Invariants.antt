@@ -1,0 +1,20 @@
+use Rattle.std.proofs.Common.{◌+◌, ◌≤◌, ℕ, List, length}
+use Rattle.superstep_machine.specs.Run.{State}
+use Rattle.worker_messages.specs.Equipped.{left}
+use Rattle.histories.specs.Shares.{Share}
+use Rattle.bsp_machine.specs.Workers.{IsBetween}
+use Rattle.workers.specs.Seating.{SameOwner}
+use Rattle.workers.specs.Worked.{HasWorked}
+use Rattle.workers.proofs.play.work.Given as goal
+
+abbrev pub invariant-exchanges : goal.invariant-exchanges
+invariant-exchanges g l = record {
+  owner : SameOwner l.fn.seat l.seat;
+  few : length l.seat.sent + left l.code l.bound l.worker.local ≤ left l.code l.bound l.fn.worker.local;
+  worked : (states : ℕ → State) (told : ℕ → List Share) →
+      IsBetween l.code (g.M.AddressMap.shape l.map) l.bound states told l.fn.seat.worker l.fn.worker →
+      HasWorked l.code (g.M.AddressMap.shape l.map) l.bound states told l.fn.seat.worker l.seat l.worker;
+}
+
+abbrev pub decreases-exchanges : goal.decreases-exchanges
+decreases-exchanges g l = left l.code l.bound l.worker.local
