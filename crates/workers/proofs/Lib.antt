@@ -1,3 +1,4 @@
 pub mod HandLemmas
 pub mod ExchangeLemmas
 pub mod PlayLemmas
+pub mod GatherLemmas

@@ -1,3 +1,4 @@
 pub mod Seating
 pub mod Exchanged
 pub mod Worked
+pub mod Gathered

@@ -1,0 +1,48 @@
+//! What workers come to that have played at the seats of a turnstile.
+
+ghost use Rattle.std.specs.Prelude.{◌≡◌, ℕ, List, ℤ, IfOk, IfErr};
+ghost use Rattle.write_rules.specs.Verdict.{verdict_of};
+ghost use Rattle.superstep_machine.specs.Run.{IsBspOutcome};
+ghost use Rattle.superstep_machine.specs.Trace.{AreBspExchanges};
+ghost use Rattle.turnstile.specs.Seats.{AreSeatsOf};
+ghost use Rattle.worker_messages.specs.declared.refusal.RunRefusal.TheVariants as refusal_is;
+ghost use Rattle.worker_messages.specs.Equipped.{IsRunnable};
+ghost use Rattle.bsp_machine.specs.Opening.{IsRoom};
+ghost use Rattle.bsp_machine.specs.Ended.{IsFirstStopped};
+ghost use Rattle.workers.specs.Gathered.{HaveEnded, HaveEndedSome};
+
+use address_map::AddressMap;
+use bsp_machine::{CountedWorker, EndRoom, collect};
+use exchange_counts::Counts;
+use superstep_code::Code;
+use turnstile::{RowSeat, Turnstile};
+use worker_messages::RunRefusal;
+use write_rules::Outcome;
+
+/// What the workers of one run come to, in their order, each with the seat at which it has played its part, and the exchanges that
+/// they counted. It closes the turnstile in any case, and takes no memory. `OutOfMemory` comes only where the workers have stopped, all of
+/// them at one exchange: memory was refused to one.
+pub fn gather<M: AddressMap>(
+    code: &Code,
+    map: &M,
+    turnstile: Turnstile,
+    seats: Vec<RowSeat>,
+    workers: Vec<CountedWorker>,
+    room: EndRoom,
+) -> Result<(Outcome, Counts), RunRefusal>
+    requires runnable { IsRunnable code.now (M.shape map.now) }
+    requires seats { AreSeatsOf turnstile seats.items }
+    requires ended { HaveEndedSome code.now (M.shape map.now) seats.items workers.items }
+    requires room { IsRoom code.now (M.shape map.now) room }
+    ensures memory { IfErr result (λ refusal. refusal ≡ refusal_is.OutOfMemory) }
+    ensures stopped { IfErr result (λ refusal. IsFirstStopped workers.items) }
+    ensures outcome { IfOk result (λ found. (bound : ℕ) (input : List ℤ) →
+        HaveEnded code.now (M.shape map.now) bound input seats.items workers.items →
+        IsBspOutcome code.now (M.shape map.now) input bound (verdict_of found.0)) }
+    ensures counts { IfOk result (λ found. (bound : ℕ) (input : List ℤ) →
+        HaveEnded code.now (M.shape map.now) bound input seats.items workers.items →
+        AreBspExchanges code.now (M.shape map.now) input bound (verdict_of found.0) found.1) }
+{
+    turnstile.close(seats);
+    collect(code, map, workers, room)
+}
