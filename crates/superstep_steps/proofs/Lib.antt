@@ -1,1 +1,2 @@
 pub mod RegisterLemmas
+pub mod ComputedLemmas
