@@ -17,3 +17,4 @@ pub mod ByTheRule
 pub mod AnswerWords
 pub mod AllColumns
 pub mod AllReplies
+pub mod CompactLemmas

@@ -26,6 +26,7 @@ pub(crate) struct Asked {
 }
 
 // Whether the next word of a reply is for this ask.
+#[inline(always)]
 fn is_due<M: AddressMap>(map: &M, part: u32, key: u32, words: &[u64], n: usize) -> bool
     requires { key % 2 ^ 20 < (M.shape map.now).count }
     ensures { result ≡ (nat_lt n (length words.now) && eqb ((M.shape map.now).part (key % 2 ^ 20)) part) }
@@ -129,6 +130,7 @@ impl Asks {
 
     /// Holds an ask for a cell by a read of that number, or marks that it was made again. Says at which
     /// place it is held, for `value_at`: no later ask or reply moves it.
+    #[inline(always)]
     pub fn add(&mut self, ordinal: u32, cell: u32) -> usize
         requires room { length self.old.held < self.old.room }
         requires ordinal { ordinal < 8 }
@@ -209,10 +211,16 @@ impl Asks {
         ensures held { self.new.held ≡ all_replied (M.shape map.now).part 0 (each (λ x. x.now) replies.now) self.old.held }
         ensures room { self.new.room ≡ self.old.room }
     {
+        // The count of the words that were taken then stays in a register.
+        if replies.len() == 1 {
+            keep(map, 0, replies[0], self.index.keys(), &mut self.asked);
+            return;
+        }
         keep_all(map, replies, self.index.keys(), &mut self.asked);
     }
 
     /// The value that came for a read and a cell, and 0 where none came.
+    #[inline(always)]
     pub fn value(&self, ordinal: u32, cell: u32) -> i64
         requires ordinal { ordinal < 8 }
         requires cell { cell < 2 ^ 20 }
@@ -227,6 +235,7 @@ impl Asks {
     }
 
     /// The value that came for the ask that is held at a place, and 0 where none came.
+    #[inline(always)]
     pub fn value_at(&self, place: usize) -> i64
         requires { place < length self.now.held }
         ensures value { result ≡ value_held self.now.held place }

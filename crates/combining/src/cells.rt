@@ -44,6 +44,7 @@ impl Cells {
     }
 
     /// The value at an offset.
+    #[inline(always)]
     pub fn get(&self, offset: u32) -> i64
         requires { offset < length self.now }
         ensures value { result ≡ value_at self.now offset }

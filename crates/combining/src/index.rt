@@ -27,6 +27,7 @@ impl Model for Index {
 }
 
 /// The head of a chain, if it is one of the keys that are held now.
+#[inline(always)]
 fn trusted(mask: u32, keys: &[u32], at: u32, head: u32) -> u32
     ensures head { result ≡ believed mask keys.now at head }
 {
@@ -90,6 +91,7 @@ impl Index {
     }
 
     /// The key's place, or the number of keys.
+    #[inline(always)]
     pub fn find(&self, key: u32) -> usize
         ensures place { result ≡ place_of key self.now.keys }
     {
@@ -106,6 +108,7 @@ impl Index {
     }
 
     /// Holds a new key.
+    #[inline(always)]
     pub fn push(&mut self, key: u32)
         requires new { place_of key self.old.keys ≡ length self.old.keys }
         requires room { length self.old.keys < self.old.room }

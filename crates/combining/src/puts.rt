@@ -9,27 +9,29 @@ ghost use Rattle.superstep_machine.specs.Fitting.{FitsPut, FitsValue};
 ghost use Rattle.combining.specs.AllModules.{HasRoomFor, HasGot};
 ghost use Rattle.combining.specs.Held.{put, put_at, packed_puts, IsPutBelow};
 
+use crate::compact::Compact;
 use crate::index::Index;
 use crate::words::{push_put, write_put};
 use address_map::AddressMap;
 use std::alloc::{AllocError, Global};
 use std::marker::Model;
-use write_rules::{Entry, WriteRule};
+use write_rules::WriteRule;
 
 /// The puts that a worker holds: an entry for each cell, in the order in which the cells were first held.
 #[derive(Drop)]
 pub struct Puts {
     index: Index,
-    entries: Vec<Entry>,
+    entries: Vec<Compact>,
 }
 
 impl Model for Puts {
     ghost use Rattle.std.specs.Prelude.{◌≡◌, vec_capacity, length};
-    ghost use Rattle.combining.specs.Held.{HeldPuts, paired, put_at};
+    ghost use Rattle.combining.specs.Held.{HeldPuts, paired};
+    ghost use Rattle.combining.specs.Compact.{held_at};
 
     ghost Value = { HeldPuts };
 
-    ghost view = { λ x. record { held = paired put_at x.index.keys x.entries.items; room = x.index.room } };
+    ghost view = { λ x. record { held = paired held_at x.index.keys x.entries.items; room = x.index.room } };
 
     ghost invariant = { λ x. (vec_capacity x.entries ≡ x.index.room) × (length x.entries.items ≡ length x.index.keys) };
 }
@@ -60,6 +62,7 @@ impl Puts {
     }
 
     /// Holds a write, joined to what is held for its cell.
+    #[inline(always)]
     pub fn add<R: WriteRule>(&mut self, rule: &R, cell: u32, processor: i64, value: i64)
         requires { length self.old.held < self.old.room }
         ensures held { self.new.held ≡ put (R.WriteRule.rule rule.now) (record { processor = processor; cell = cell; value = value })
@@ -69,10 +72,10 @@ impl Puts {
         let entry = rule.single(processor, value);
         let i = self.index.find(cell);
         if i < self.entries.len() {
-            self.entries[i] = rule.join(self.entries[i], entry);
+            self.entries[i] = Compact::of(rule.join(self.entries[i].entry(), entry));
         } else {
             self.index.push(cell);
-            self.entries.push_reserved(entry);
+            self.entries.push_reserved(Compact::of(entry));
         }
     }
 
@@ -97,7 +100,7 @@ impl Puts {
         for i in 0..self.entries.len() {
             let cell = keys[i];
             if map.place(cell).0 == part {
-                n = write_put(rule, out, n, cell, self.entries[i]);
+                n = write_put(rule, out, n, cell, self.entries[i].entry());
             }
         }
         n
@@ -119,7 +122,8 @@ impl Puts {
         for i in 0..self.entries.len() {
             let cell = keys[i];
             let (home, _offset) = map.place(cell);
-            push_put(rule, &mut columns[home as usize], cell, self.entries[i]);
+            let entry = self.entries[i].entry();
+            push_put(rule, &mut columns[home as usize], cell, entry);
         }
     }
 

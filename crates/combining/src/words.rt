@@ -87,6 +87,7 @@ fn write_sum(out: &mut [u64], n: usize, cell: u32, entry: Entry) -> usize
 }
 
 /// Writes the words of a put, from n on, and says where they end.
+#[inline(always)]
 pub(crate) fn write_put<R: WriteRule>(
     rule: &R,
     out: &mut [u64],
@@ -109,6 +110,7 @@ pub(crate) fn write_put<R: WriteRule>(
 }
 
 /// Adds the words of a put behind others, where there is room.
+#[inline(always)]
 pub(crate) fn push_put<R: WriteRule>(rule: &R, out: &mut Vec<u64>, cell: u32, entry: Entry)
     requires room { length out.old.items + length_of_put (R.WriteRule.rule rule.now) ≤ vec_capacity out.old }
     requires fits { FitsValue (R.WriteRule.rule rule.now) entry.value }
@@ -163,6 +165,7 @@ pub(crate) fn cell_of(key: u32) -> u32
 }
 
 /// Writes the word of an ask at n, and says where it ends.
+#[inline(always)]
 pub(crate) fn write_ask(out: &mut [u64], n: usize, key: u32, asked: Asked) -> usize
     requires { n + 1 ≤ length out.old }
     ensures done { take result out.new ≡ take n out.old ++ ask_word (ask_at key asked).ask ∷ [] }
@@ -176,6 +179,7 @@ pub(crate) fn write_ask(out: &mut [u64], n: usize, key: u32, asked: Asked) -> us
 }
 
 /// Adds the word of an ask behind others, where there is room.
+#[inline(always)]
 pub(crate) fn push_ask(out: &mut Vec<u64>, key: u32, asked: Asked)
     requires { length out.old.items + 1 ≤ vec_capacity out.old }
     ensures word { out.new.items ≡ out.old.items ++ ask_word (ask_at key asked).ask ∷ [] }
@@ -222,6 +226,7 @@ pub(crate) trait Format {
 }
 
 /// The next that some words are, and the words behind it. What is not for the module is passed over.
+#[inline(always)]
 pub(crate) fn next<'w, F: Format>(format: &F, words: &'w [u64]) -> Option<(F::Item, &'w [u64])>
     ensures item { IfSome result (λ x. F.listed format.now words.now ≡ x.0 ∷ F.listed format.now x.1.now) }
     ensures fits { IfSome result (λ x. F.fits format.now x.0) }

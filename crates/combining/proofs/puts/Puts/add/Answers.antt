@@ -1,4 +1,4 @@
-use Rattle.std.proofs.Common.{◌≡◌, ◌<◌, length, ap, ◌∙◌, arith, refl, eqb}
+use Rattle.std.proofs.Common.{◌≡◌, ◌<◌, length, sym, ap, ◌∙◌, arith, refl, eqb}
 use Rattle.std.proofs.Common.{w64, to_z, of_z}
 use Rattle.std.proofs.lemmas.Int.{to_z-of_z}
 use Rattle.write_rules.specs.declared.entry.Entry.{Entry}
@@ -7,7 +7,10 @@ use Rattle.superstep_machine.specs.Setting.{combining}
 use Rattle.superstep_machine.specs.Words.{CellPut}
 use Rattle.superstep_machine.specs.Worker.{HeldWrite}
 use Rattle.combining.specs.Places.{place_of}
-use Rattle.combining.specs.Held.{put_at, entry_of_write}
+use Rattle.combining.specs.declared.compact.Compact.{Compact}
+use Rattle.combining.specs.Compact.{entry_of, compact_of, held_at}
+use Rattle.combining.specs.Held.{entry_of_write, hold, paired, put_at}
+use Rattle.combining.proofs.CompactLemmas.{held_back}
 use Rattle.combining.proofs.Pairs.{hold_at, hold_new, place_bound, length_paired}
 use Rattle.combining.proofs.puts.Puts.add.Goals as goal
 
@@ -21,14 +24,14 @@ push-requires-clause-new g c =
 pub push-requires-clause-room : goal.push-requires-clause-room
 push-requires-clause-room g c =
     let inv = c.self.invariant in
-    let n = length_paired put_at c.self.inside.index.keys c.self.inside.entries.items inv.1 in
+    let n = length_paired held_at c.self.inside.index.keys c.self.inside.entries.items inv.1 in
     let r = rw (← c.self.view_is) at c.requires in
     omega arith
 
 pub push_reserved-requires : goal.push_reserved-requires
 push_reserved-requires g c =
     let inv = c.self.invariant in
-    let n = length_paired put_at c.self.inside.index.keys c.self.inside.entries.items inv.1 in
+    let n = length_paired held_at c.self.inside.index.keys c.self.inside.entries.items inv.1 in
     let r = rw (← c.self.view_is) at c.requires in
     omega (arith, c.self.inside.entries.ok.0)
 
@@ -50,11 +53,17 @@ returns-then-i-len-clause-held g c =
     let l : place_of c.args.cell ks < length xs = (let v = c.self.inside.entries.ok.0 in omega arith) in
     let x = c.index.result.now in
     let is = rw f at c.index.ensures in
-    let joined : c.join.result ≡ (combining rule).join x e = c.join.ensures ∙ ap (λ (k : Combining). k.join x c.single-entry.result) known
-    ∙ ap ((combining rule).join x) s in
+    let old = entry_of x in
+    let joined : c.join.result ≡ (combining rule).join old e = c.join.ensures
+    ∙ ap (λ y. (g.R.WriteRule.combining c.args.rule.now).join y c.single-entry.result) c.entry.ensures
+    ∙ ap (λ (k : Combining). k.join old c.single-entry.result) known
+    ∙ ap ((combining rule).join old) s in
+    let change = λ (x : CellPut). put_at x.cell ((combining rule).join x.entry e) in
     rw (f, ← c.self.view_is)
-    (hold_at put_at (λ (x : CellPut). eqb x.cell c.args.cell) (λ (x : CellPut). put_at x.cell ((combining rule).join x.entry e))
-    (λ (x : Entry). (combining rule).join x e) c.args.cell e (λ k x. refl) (λ k x. refl) ks xs x c.join.result n l is joined)
+    (hold_at held_at (λ (x : CellPut). eqb x.cell c.args.cell) change
+    (λ (x : Compact). compact_of ((combining rule).join (entry_of x) e)) c.args.cell (compact_of e) (λ k x. refl)
+    (λ k x. sym (held_back k ((combining rule).join (entry_of x) e))) ks xs x c.of.result n l is (c.of.ensures.compact ∙ ap compact_of joined)
+    ∙ ap (λ (y : CellPut). hold (λ (x : CellPut). eqb x.cell c.args.cell) change y (paired held_at ks xs)) (held_back c.args.cell e))
 
 pub returns-else-i-len-clause-held : goal.returns-else-i-len-clause-held
 returns-else-i-len-clause-held g c =
@@ -72,6 +81,9 @@ returns-else-i-len-clause-held g c =
     let n : length xs ≡ length ks = c.self.invariant.1 in
     let b = place_bound c.args.cell ks in
     let p : place_of c.args.cell ks ≡ length ks = (let v = c.self.inside.entries.ok.0 in let f = c.find-i.ensures.place in omega arith) in
-    rw (c.push.ensures.keys, c.push_reserved.ensures.items, s, ← c.self.view_is)
-    (hold_new put_at (λ (x : CellPut). eqb x.cell c.args.cell) (λ (x : CellPut). put_at x.cell ((combining rule).join x.entry e))
-    (λ (x : Entry). (combining rule).join x e) c.args.cell e (λ k x. refl) (λ k x. refl) ks xs n p)
+    let change = λ (x : CellPut). put_at x.cell ((combining rule).join x.entry e) in
+    rw (c.push.ensures.keys, c.push_reserved.ensures.items, c.of-else-i-len.ensures.compact, s, ← c.self.view_is)
+    (hold_new held_at (λ (x : CellPut). eqb x.cell c.args.cell) change
+    (λ (x : Compact). compact_of ((combining rule).join (entry_of x) e)) c.args.cell (compact_of e) (λ k x. refl)
+    (λ k x. sym (held_back k ((combining rule).join (entry_of x) e))) ks xs n p
+    ∙ ap (λ (y : CellPut). hold (λ (x : CellPut). eqb x.cell c.args.cell) change y (paired held_at ks xs)) (held_back c.args.cell e))

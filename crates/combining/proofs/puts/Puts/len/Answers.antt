@@ -1,5 +1,5 @@
 use Rattle.std.proofs.Common.{sym, ◌∙◌}
-use Rattle.combining.specs.Held.{put_at}
+use Rattle.combining.specs.Compact.{held_at}
 use Rattle.combining.proofs.Pairs.{length_paired}
 use Rattle.combining.proofs.puts.Puts.len.Goals as goal
 
@@ -8,5 +8,5 @@ returns c =
     let x = c.self.inside in
     record {
       length = rw (← c.self.view_is)
-          (c.len.ensures.length ∙ sym (length_paired put_at x.index.keys x.entries.items c.self.invariant.1));
+          (c.len.ensures.length ∙ sym (length_paired held_at x.index.keys x.entries.items c.self.invariant.1));
     }
