@@ -4,6 +4,7 @@ ghost use Rattle.std.specs.Prelude.{◌≡◌, ◌≤◌, length, vec_capacity, 
 ghost use Rattle.std.specs.Bool.{OnTrue, OnFalse};
 ghost use Rattle.bsp_machine.specs.Sheets.{message_in, no_words};
 
+use message_rows::put_words;
 use std::alloc::{AllocError, Global};
 
 /// A message: the words of its header, and its words, for which there is room from the beginning.
@@ -11,18 +12,6 @@ use std::alloc::{AllocError, Global};
 pub(crate) struct Letter {
     pub(crate) header: [u64; 4],
     pub(crate) words: Vec<u64>,
-}
-
-// Puts some words in place of others.
-fn copy(words: &[u64], to: &mut Vec<u64>)
-    requires { length words.now ≤ vec_capacity to.old }
-    ensures words { to.new.items ≡ words.now }
-    ensures room { vec_capacity to.new ≡ vec_capacity to.old }
-{
-    to.clear();
-    for word in words {
-        to.push_reserved(*word);
-    }
 }
 
 impl Letter {
@@ -48,7 +37,7 @@ impl Letter {
         if words.len() > self.words.capacity() {
             return false;
         }
-        copy(words, &mut self.words);
+        put_words(words, &mut self.words);
         self.header = header;
         true
     }

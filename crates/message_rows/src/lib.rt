@@ -2,11 +2,13 @@
 #![tactic(auto)]
 
 mod column;
+mod copying;
 mod fill;
 mod pack;
 mod row;
 
 pub use column::Column;
+pub use copying::put_words;
 pub use fill::{fill_headers, fill_replies, fill_sends};
 pub use pack::pack_send;
 pub use row::Row;

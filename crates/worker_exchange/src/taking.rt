@@ -25,7 +25,7 @@ use crate::parts::asks_of;
 use crate::settling::settle;
 use address_map::AddressMap;
 use combining::Asks;
-use message_rows::Column;
+use message_rows::{Column, put_words};
 use std::mem;
 use superstep_machine::{Key, MessageHeader, least};
 use superstep_steps::UniformState;
@@ -56,18 +56,6 @@ pub(crate) fn send_worker(steps: &mut WorkerState, sent: &mut Asks, noted: Optio
     steps.key = least(steps.key, noted);
 }
 
-// Puts some words in place of others.
-fn copy(words: &[u64], to: &mut Vec<u64>)
-    requires { length words.now ≤ vec_capacity to.old }
-    ensures words { to.new.items ≡ words.now }
-    ensures room { vec_capacity to.new ≡ vec_capacity to.old }
-{
-    to.clear();
-    for word in words {
-        to.push_reserved(*word);
-    }
-}
-
 /// Keeps the words of the asks of each message.
 pub(crate) fn keep_asks<R: WriteRule, C: Column>(rule: &R, column: &C, asked: &mut [Vec<u64>])
     requires workers { length (C.came column.now) ≡ length asked.old }
@@ -79,7 +67,7 @@ pub(crate) fn keep_asks<R: WriteRule, C: Column>(rule: &R, column: &C, asked: &m
     'messages: for j in 0..asked.len() {
         let header = MessageHeader::from_words(column.header(j));
         let words = asks_of(rule, header, column.words(j));
-        copy(words, &mut asked[j]);
+        put_words(words, &mut asked[j]);
     }
 }
 

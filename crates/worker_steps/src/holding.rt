@@ -16,6 +16,7 @@ use worker_bank::Bank;
 use write_rules::WriteRule;
 
 /// Holds the ask by a read of that number for a cell, if there is one.
+#[inline(always)]
 pub fn hold_ask(asks: &mut Asks, ordinal: u32, cell: Option<u32>)
     requires ordinal { ordinal < 8 }
     requires below { (c : ℕ) → cell ≡ Some c → c < 2 ^ 20 }
@@ -45,6 +46,7 @@ pub fn hold_asks(asks: &mut Asks, ordinal: u32, cells: &[Option<u32>], many: usi
 }
 
 /// Holds the write of a processor, if there is one.
+#[inline(always)]
 pub fn hold_write<R: WriteRule>(
     puts: &mut Puts,
     rule: &R,
