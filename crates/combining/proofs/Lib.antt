@@ -18,3 +18,4 @@ pub mod AnswerWords
 pub mod AllColumns
 pub mod AllReplies
 pub mod CompactLemmas
+pub mod OneModule

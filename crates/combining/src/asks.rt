@@ -13,6 +13,7 @@ ghost use Rattle.combining.specs.Held.{paired};
 ghost use Rattle.combining.specs.Asked.{ask, ask_at, asks_for, value_for, replied, IsAskBelow, place_held, value_held};
 
 use crate::index::Index;
+use crate::single::{append_asks, keep_in_order, taken_out};
 use crate::words::{ask_key, cell_of, push_ask, write_ask};
 use address_map::AddressMap;
 use std::alloc::{AllocError, Global};
@@ -188,6 +189,11 @@ impl Asks {
         ensures rooms { each vec_capacity columns.new ≡ each vec_capacity columns.old }
     {
         let keys = self.index.keys();
+        if columns.len() == 1 {
+            let list = taken_out(&mut columns[0]);
+            columns[0] = append_asks(map, keys, &self.asked, list);
+            return;
+        }
         for i in 0..self.asked.len() {
             let key = keys[i];
             let (home, _offset) = map.place(cell_of(key));
@@ -211,9 +217,8 @@ impl Asks {
         ensures held { self.new.held ≡ all_replied (M.shape map.now).part 0 (each (λ x. x.now) replies.now) self.old.held }
         ensures room { self.new.room ≡ self.old.room }
     {
-        // The count of the words that were taken then stays in a register.
         if replies.len() == 1 {
-            keep(map, 0, replies[0], self.index.keys(), &mut self.asked);
+            keep_in_order(map, replies[0], self.index.keys(), &mut self.asked);
             return;
         }
         keep_all(map, replies, self.index.keys(), &mut self.asked);

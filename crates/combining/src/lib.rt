@@ -10,6 +10,7 @@ pub mod law;
 mod merge;
 mod puts;
 mod readers;
+mod single;
 mod slots;
 mod words;
 

@@ -11,6 +11,7 @@ ghost use Rattle.combining.specs.Held.{put, put_at, packed_puts, IsPutBelow};
 
 use crate::compact::Compact;
 use crate::index::Index;
+use crate::single::{append_puts, taken_out};
 use crate::words::{push_put, write_put};
 use address_map::AddressMap;
 use std::alloc::{AllocError, Global};
@@ -119,6 +120,11 @@ impl Puts {
         ensures rooms { each vec_capacity columns.new ≡ each vec_capacity columns.old }
     {
         let keys = self.index.keys();
+        if columns.len() == 1 {
+            let list = taken_out(&mut columns[0]);
+            columns[0] = append_puts(rule, map, keys, &self.entries, list);
+            return;
+        }
         for i in 0..self.entries.len() {
             let cell = keys[i];
             let (home, _offset) = map.place(cell);

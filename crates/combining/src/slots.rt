@@ -58,6 +58,6 @@ impl Slots {
         requires { at < length self.old }
         ensures { self.new ≡ set self.old at None }
     {
-        self.slots[at] = Compact::none();
+        self.slots[at].state = 0;
     }
 }

@@ -1,0 +1,92 @@
+//! Where there is one module, all that is held is for it.
+
+ghost use Rattle.std.specs.Prelude.{◌≡◌, ◌≤◌, ◌+◌, ◌++◌, length, vec_capacity};
+ghost use Rattle.std.specs.List.{AllByRecursion};
+ghost use Rattle.superstep_machine.specs.Words.{ask_words};
+ghost use Rattle.superstep_machine.specs.Fitting.{FitsPut};
+ghost use Rattle.combining.specs.Held.{paired, packed_puts, IsPutBelow};
+ghost use Rattle.combining.specs.Compact.{held_at};
+ghost use Rattle.combining.specs.Asked.{ask_at, asks_for, replied, IsAskBelow};
+
+use crate::asks::Asked;
+use crate::compact::Compact;
+use crate::words::{push_ask, push_put};
+use address_map::AddressMap;
+use std::mem;
+use write_rules::WriteRule;
+
+/// A list that is taken out of its place, to be put back.
+#[inline(always)]
+pub(crate) fn taken_out(place: &mut Vec<u64>) -> Vec<u64>
+    ensures { result ≡ place.old }
+{
+    let empty = Vec::new(*place.allocator());
+    mem::replace(place, empty)
+}
+
+/// Adds the words of all asks behind those of a list. It is passed by value, so that its length stays in a register over the loop.
+pub(crate) fn append_asks<M: AddressMap>(
+    map: &M,
+    keys: &[u32],
+    asked: &[Asked],
+    mut list: Vec<u64>,
+) -> Vec<u64>
+    requires one { (M.shape map.now).parts ≡ 1 }
+    requires cells { AllByRecursion (IsAskBelow (M.shape map.now).count) (paired ask_at keys.now asked.now) }
+    requires long { length asked.now ≡ length keys.now }
+    requires room { length list.items + length (ask_words (asks_for (M.shape map.now).part 0 (paired ask_at keys.now asked.now)))
+        ≤ vec_capacity list }
+    ensures words { result.items ≡ list.items ++ ask_words (asks_for (M.shape map.now).part 0 (paired ask_at keys.now asked.now)) }
+    ensures room { vec_capacity result ≡ vec_capacity list }
+{
+    let _one = map.modules();
+    for i in 0..asked.len() {
+        push_ask(&mut list, keys[i], asked[i]);
+    }
+    list
+}
+
+/// Adds the words of all puts behind those of a list.
+pub(crate) fn append_puts<R: WriteRule, M: AddressMap>(
+    rule: &R,
+    map: &M,
+    keys: &[u32],
+    entries: &[Compact],
+    mut list: Vec<u64>,
+) -> Vec<u64>
+    requires one { (M.shape map.now).parts ≡ 1 }
+    requires cells { AllByRecursion (IsPutBelow (M.shape map.now).count) (paired held_at keys.now entries.now) }
+    requires fit { AllByRecursion (FitsPut (R.WriteRule.rule rule.now)) (paired held_at keys.now entries.now) }
+    requires long { length entries.now ≡ length keys.now }
+    requires room { length list.items + length (packed_puts (R.WriteRule.rule rule.now) (M.shape map.now).part 0
+        (paired held_at keys.now entries.now)) ≤ vec_capacity list }
+    ensures words { result.items ≡ list.items ++ packed_puts (R.WriteRule.rule rule.now) (M.shape map.now).part 0
+        (paired held_at keys.now entries.now) }
+    ensures room { vec_capacity result ≡ vec_capacity list }
+{
+    let _one = map.modules();
+    for i in 0..entries.len() {
+        push_put(rule, &mut list, keys[i], entries[i].entry());
+    }
+    list
+}
+
+/// Keeps a reply's words at the asks, in order and as far as they reach.
+pub(crate) fn keep_in_order<M: AddressMap>(
+    map: &M,
+    words: &[u64],
+    keys: &[u32],
+    asked: &mut [Asked],
+)
+    requires one { (M.shape map.now).parts ≡ 1 }
+    requires cells { AllByRecursion (IsAskBelow (M.shape map.now).count) (paired ask_at keys.now asked.old) }
+    requires long { length asked.old ≡ length keys.now }
+    ensures held { paired ask_at keys.now asked.new ≡ replied (M.shape map.now).part 0 words.now (paired ask_at keys.now asked.old) }
+    ensures length { length asked.new ≡ length asked.old }
+{
+    let _one = map.modules();
+    let _key = keys.len();
+    for i in 0..asked.len().min(words.len()) {
+        asked[i].value = words[i].cast_signed();
+    }
+}
