@@ -7,7 +7,7 @@ pub split-requires : goal.split-requires
 split-requires c =
     let m = c.args.self.now in
     let inverse =
-        rounds_inverse_at m.spread.cells m.spread.bits (take m.count m.rounds) m.spread.power m.spread.small m.undone
+    rounds_inverse_at m.spread.cells m.spread.bits (take m.count m.rounds) m.spread.power m.spread.small m.undone
     in
     let below = inverse.below c.args.cell c.requires in
     let fits = m.spread.fits in
