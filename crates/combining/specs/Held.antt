@@ -1,5 +1,5 @@
 -- What is held for the next exchange: puts by cell, in the order first held.
-use Rattle.std.specs.Prelude.{ℕ, List, [], ◌∷◌, Bool, true, false, if◌then◌else◌, ◌<◌}
+use Rattle.std.specs.Prelude.{ℕ, List, [], ◌∷◌, Bool, if◌then◌else◌, ◌<◌}
 use Rattle.std.specs.List.{filter, flat_map}
 use Rattle.std.proofs.Common.{eqb}
 use Rattle.pram_model.specs.declared.rule.Rule.{Rule}

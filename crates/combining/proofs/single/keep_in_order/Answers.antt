@@ -1,4 +1,4 @@
-use Rattle.std.proofs.Common.{rules, ◌≡◌, ◌<◌, ◌≤◌, ◌+◌, ◌%◌, ◌^◌, ◌++◌, [], ◌∷◌, length, take, drop, sym, ap, ◌∙◌, arith, true, false}
+use Rattle.std.proofs.Common.{rules, ◌≡◌, ◌<◌, ◌+◌, ◌%◌, ◌^◌, ◌++◌, [], ◌∷◌, length, take, drop, sym, ap, ◌∙◌, arith, true, false}
 use Rattle.std.proofs.Common.{get_or, length-set, pos, FitsSigned, w64, to_z, of_z, append-nil, take-append-drop, ⊎_elim}
 use Rattle.std.proofs.lemmas.List.{get_or_default, drop-set-lt, drop_all, take_all}
 use Rattle.std.proofs.lemmas.Bool.{cases_lt}
