@@ -1,17 +1,17 @@
 -- Workers that played their parts are those of the run.
-use Rattle.std.proofs.Common.{◌≡◌, ℕ, zero, suc, ◌+◌, ◌<◌, List, [], ◌∷◌, length, map, Bool, true, false}
+use Rattle.std.proofs.Common.{◌≡◌, ℕ, suc, ◌<◌, List, map, Bool, true, false}
 use Rattle.std.proofs.Common.{Option, Some, None, ℤ, refl, sym, ap, subst, ◌∙◌, arith}
 use Rattle.std.specs.Prelude.{slice_get}
 use Rattle.std.specs.List.{range_with_len}
 use Rattle.address_map.specs.Lawful.{Shape}
 use Rattle.superstep_code.specs.Code.{SuperstepCode}
 use Rattle.superstep_machine.specs.Setting.{Setting}
-use Rattle.superstep_machine.specs.Run.{State, bsp, opening, is_over, setting}
+use Rattle.superstep_machine.specs.Run.{State, opening, is_over, setting}
 use Rattle.superstep_machine.specs.Trace.{exchange_of}
 use Rattle.flat_machine.proofs.Lists.{map_twice}
 use Rattle.bsp_verify.specs.Runs.{worker_after}
 use Rattle.worker_messages.specs.Reached.{most_instructions}
-use Rattle.worker_messages.specs.Shown.{way_is, is_stopped, IsShown}
+use Rattle.worker_messages.specs.Shown.{is_stopped, IsShown}
 use Rattle.worker_messages.specs.Equipped.{IsRunnable}
 use Rattle.turnstile.specs.Seats.{RowState, SamePhases, ReceivedAsSent, AreWhole}
 use Rattle.histories.specs.Histories.{end_by, HaveExchanged}
