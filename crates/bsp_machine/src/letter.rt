@@ -9,14 +9,14 @@ use std::alloc::{AllocError, Global};
 
 /// A message: the words of its header, and its words, for which there is room from the beginning.
 #[derive(Drop)]
-pub struct Letter {
-    pub header: [u64; 4],
-    pub words: Vec<u64>,
+pub(crate) struct Letter {
+    pub(crate) header: [u64; 4],
+    pub(crate) words: Vec<u64>,
 }
 
 impl Letter {
     /// A message without words, with room for so many. The error comes where memory was refused.
-    pub fn with_room(alloc: Global, most: usize) -> Result<Letter, AllocError>
+    pub(crate) fn with_room(alloc: Global, most: usize) -> Result<Letter, AllocError>
         ensures empty { IfOk result (λ x. message_in x ≡ no_words) }
         ensures room { IfOk result (λ x. vec_capacity x.words ≡ most) }
     {
@@ -28,7 +28,7 @@ impl Letter {
     }
 
     /// Puts this header and these words in place of what it has. `false` says that there is no room: then nothing is changed.
-    pub fn write(&mut self, header: [u64; 4], words: &[u64]) -> bool
+    pub(crate) fn write(&mut self, header: [u64; 4], words: &[u64]) -> bool
         ensures written { OnTrue result (message_in self.new ≡ record { header = header; words = words.now }) }
         ensures fits { length words.now ≤ vec_capacity self.old.words → IsTrue result }
         ensures refused { OnFalse result (message_in self.new ≡ message_in self.old) }

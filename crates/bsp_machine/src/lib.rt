@@ -18,8 +18,4 @@ mod sheet;
 pub use collecting::collect;
 pub use counted::CountedWorker;
 pub use end_room::EndRoom;
-pub use letter::Letter;
-pub use opening::open_rows;
-pub use picked::Picked;
 pub use plain::run_plain;
-pub use sheet::Sheet;

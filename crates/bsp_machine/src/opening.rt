@@ -49,8 +49,8 @@ pub(crate) fn open_all<M: AddressMap>(
     Ok(all)
 }
 
-/// A row for each worker, to all of them, each message with room for so many words. The error comes where memory was refused.
-pub fn open_rows(alloc: Global, workers: u32, most: usize) -> Result<Vec<Sheet>, AllocError>
+/// A row for each worker, to all of them, each message with room for so many words.
+pub(crate) fn open_rows(alloc: Global, workers: u32, most: usize) -> Result<Vec<Sheet>, AllocError>
     ensures { IfOk result (λ rows. AreSheets workers most rows.items) }
 {
     let mut rows = Vec::with_capacity(alloc, workers as usize)?;

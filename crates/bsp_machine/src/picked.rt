@@ -5,9 +5,9 @@ use message_rows::Column;
 
 /// A column: of each row the message to one worker.
 #[derive(Drop)]
-pub struct Picked<'a> {
-    pub rows: &'a [Sheet],
-    pub worker: usize,
+pub(crate) struct Picked<'a> {
+    pub(crate) rows: &'a [Sheet],
+    pub(crate) worker: usize,
 }
 
 impl<'a> Column for Picked<'a> {

@@ -9,8 +9,8 @@ use std::alloc::{AllocError, Global};
 
 /// A row: a message for each worker.
 #[derive(Drop)]
-pub struct Sheet {
-    pub letters: Vec<Letter>,
+pub(crate) struct Sheet {
+    pub(crate) letters: Vec<Letter>,
 }
 
 impl Row for Sheet {
@@ -35,8 +35,8 @@ impl Row for Sheet {
 }
 
 impl Sheet {
-    /// A row to so many workers, each message with room for so many words. The error comes where memory was refused.
-    pub fn with_room(alloc: Global, workers: u32, most: usize) -> Result<Sheet, AllocError>
+    /// A row to so many workers, each message with room for so many words.
+    pub(crate) fn with_room(alloc: Global, workers: u32, most: usize) -> Result<Sheet, AllocError>
         ensures { IfOk result (λ s. IsSheet workers most s) }
     {
         let mut letters = Vec::with_capacity(alloc, workers as usize)?;

@@ -17,8 +17,6 @@ mod listing;
 #[cfg(test)]
 mod maps;
 #[cfg(test)]
-mod strange_words;
-#[cfg(test)]
 mod texts;
 #[cfg(test)]
 mod verify;
