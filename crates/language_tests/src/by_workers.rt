@@ -1,13 +1,10 @@
 // The same rows by workers: however many, and by two maps.
 
-use crate::narrow::Narrow;
 use crate::rows::{Row, prints};
-use pram_syntax::WriteFault;
 use pramc::Refusal;
 use program_runs::{Options, run_text_on_one_thread};
 use run_options::MapChoice;
 use std::alloc::Global;
-use tracer::write_trace;
 
 const WORKERS: [&str; 5] = ["1", "2", "3", "4", "32"];
 
@@ -109,35 +106,4 @@ fn refusals_come_in_order(rt: HostRuntime) {
         refusal_of(alloc, text, &long[..2], 3, MapChoice::Identity),
         None
     );
-}
-
-// One write, which goes with an exchange of its own, and the close behind it.
-const TRACE: &[u8] = b"1 send sent 3 0 received 3 0 h 3
-2 close sent 0 0 received 0 0 h 0
-";
-
-// What a writer has taken of a trace when it fails is a beginning of it.
-#[test]
-fn a_trace_is_cut_off(rt: HostRuntime) {
-    let alloc = rt.alloc();
-    let text = b"rule crew; procs 2;\nshared a[1..2];\nbegin\na[1] := 1;\nend\n";
-    let options = Options {
-        workers: 2,
-        map: MapChoice::Identity,
-        bound: 9,
-    };
-    match run_text_on_one_thread(alloc, text, &[], options) {
-        Ok(report) => {
-            let mut slow = Narrow::new(alloc, 1, 1000);
-            assert_eq!(rt; write_trace(&report.counts, &mut slow), Ok(()));
-            assert_eq!(rt; slow.bytes.as_slice(), TRACE);
-            for room in 0..TRACE.len() {
-                let mut short = Narrow::new(alloc, 1, room);
-                assert_eq!(rt; write_trace(&report.counts, &mut short), Err(WriteFault));
-                assert_eq!(rt; short.failures, 1);
-                assert_eq!(rt; short.bytes.as_slice(), &TRACE[..room]);
-            }
-        }
-        Err(refusal) => assert_eq!(rt; Some(refusal), None),
-    }
 }
