@@ -6,6 +6,7 @@ ghost use Rattle.superstep_machine.specs.declared.mark.HeaderMark.TheVariants as
 ghost use Rattle.superstep_machine.specs.Parts.{UniformPart};
 ghost use Rattle.superstep_machine.specs.Run as machine;
 ghost use Rattle.superstep_machine.specs.Run.{State, setting, ready, after};
+ghost use Rattle.superstep_steps.specs.Views.{KeepsReserve};
 ghost use Rattle.worker_steps.specs.Met.{IsVerifiedAt};
 ghost use Rattle.worker_messages.specs.declared.way.Way.TheVariants as way_is_one_of;
 ghost use Rattle.worker_messages.specs.Reached.{most_instructions};
@@ -99,6 +100,7 @@ fn exchange<R: WriteRule, M: AddressMap, C: Column>(
     ensures going { MayGoOnBehind code.now (M.shape map.now) bound local.old local.new }
     ensures worker { local.new.steps.bank.worker ≡ local.old.steps.bank.worker }
     ensures output { local.new.steps.uniform.output ≡ local.old.steps.uniform.output }
+    ensures reserve { KeepsReserve local.old.steps.uniform local.new.steps.uniform }
     ensures runs { spec_is_stopped local.new.way ≡ false }
     ensures left { machine.is_over (way_is local.new.way) ≡ false → left code.now bound local.new < left_at code.now bound local.old }
 {
@@ -147,6 +149,7 @@ pub fn receive<R: WriteRule, M: AddressMap, C: Column>(
         MayGoOn code.now (M.shape map.now) bound local.new }
     ensures worker { local.new.steps.bank.worker ≡ local.old.steps.bank.worker }
     ensures output { local.new.steps.uniform.output ≡ local.old.steps.uniform.output }
+    ensures reserve { KeepsReserve local.old.steps.uniform local.new.steps.uniform }
     // It has stopped where it had, or where a header has a mark, ..
     ensures stopped { spec_is_stopped local.new.way ≡ (spec_is_stopped local.old.way || is_marked (mark_heard (C.came column.now))) }
     // .. by its own mark, or else by the worst that it heard.
