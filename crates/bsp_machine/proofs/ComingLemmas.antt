@@ -217,4 +217,5 @@ module _ (code : SuperstepCode) (m : Shape) (map_for : IsMapFor code m) (bound :
         (words_sent code m bound input k w old row at (alive h) n low)
         ((come h).words n low);
     items = here.items;
+    reserved = here.reserved;
   }

@@ -21,6 +21,7 @@ module _ (code : SuperstepCode) (m : Shape) (input : List ℤ) where
       going = λ on. f.going bound;
       counted = λ alive n low. ap (map share_told) f.none;
       items = λ alive. f.items;
+      reserved = λ alive. f.reserved;
     });
     together = λ w v x y at too.
         going_on x.local.way ((fresh w x at).going 0).going ∙ sym (going_on y.local.way ((fresh v y too).going 0).going);

@@ -18,7 +18,7 @@ ghost use Rattle.worker_exchange.specs.Behind.{ForEachState, ShowsTaken, ShowsBe
 
 use crate::deciding::decide;
 use crate::hearing::{Heard, hear};
-use crate::progress::{Progress, is_over};
+use crate::progress::{Progress, is_over, is_stopped};
 use crate::replying::take_reply;
 use crate::taking::take_send;
 use crate::voting::take_vote;
@@ -110,15 +110,6 @@ fn exchange<R: WriteRule, M: AddressMap, C: Column>(
     let count = local.steps.uniform.count;
     take(local, code, rule, map, bound, column, heard.active);
     stand_behind(local, held, count, step, heard.key);
-}
-
-fn is_stopped(way: Way) -> bool
-    ensures { result ≡ spec_is_stopped way }
-{
-    match way {
-        Way::Stopped { mark: _ } => true,
-        _ => false,
-    }
 }
 
 /// What came in an exchange: a mark in any header stops the worker; else it takes what the messages bring, by what the exchange is for, and
