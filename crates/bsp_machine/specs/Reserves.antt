@@ -6,6 +6,9 @@ use Rattle.superstep_machine.specs.declared.mark.HeaderMark.TheVariants.{Clear, 
 use Rattle.superstep_machine.specs.HeaderWords.{read_header}
 use Rattle.superstep_steps.specs.Views.{HasReserve}
 use Rattle.message_rows.specs.Rows.{WrittenMessage}
+use Rattle.worker_messages.specs.declared.refusal.RunRefusal.{RunRefusal}
+use Rattle.worker_messages.specs.declared.refusal.RunRefusal.TheVariants as refusals
+use Rattle.worker_messages.specs.declared.way.Way.{Way}
 use Rattle.worker_messages.specs.declared.way.Way.TheVariants.{Stopped}
 use Rattle.bsp_machine.specs.declared.counted.CountedWorker.{CountedWorker}
 use Rattle.bsp_machine.specs.declared.reserve.Reserve.{Reserve}
@@ -32,8 +35,26 @@ IsMark own mark = (mark ≡ Clear) ⊎ (mark ≡ own)
 abbrev pub AreMarked : HeaderMark → List WrittenMessage → Type 0
 AreMarked own = AllByRecursion (λ (x : WrittenMessage). IsMark own (read_header x.header).mark)
 
--- All were given this reserve, or none was given one; and who has stopped was stopped by the mark for that.
-pub record AreGiven (reserve : Option Reserve) (workers : List CountedWorker) : Type 0 where
-  pub given : (w : ℕ) (x : CountedWorker) → slice_get workers w ≡ Some x → x.reserve ≡ reserve
-  pub stopped : (w : ℕ) (x : CountedWorker) (mark : HeaderMark) → slice_get workers w ≡ Some x → x.local.way ≡ Stopped mark →
-      mark ≡ own_mark reserve
+-- It was given this reserve, or none; and if it has stopped, it was stopped by the mark for that.
+pub record IsGiven (reserve : Option Reserve) (x : CountedWorker) : Type 0 where
+  pub given : x.reserve ≡ reserve
+  pub stopped : (mark : HeaderMark) → x.local.way ≡ Stopped mark → mark ≡ own_mark reserve
+
+-- all of them
+abbrev pub HaveReserve : Option Reserve → List CountedWorker → Type 0
+HaveReserve reserve workers = (w : ℕ) (x : CountedWorker) → slice_get workers w ≡ Some x → x.reserve ≡ reserve
+
+abbrev pub AreGiven : Option Reserve → List CountedWorker → Type 0
+AreGiven reserve workers = (w : ℕ) (x : CountedWorker) → slice_get workers w ≡ Some x → IsGiven reserve x
+
+-- ---- why a run is refused whose workers have stopped
+
+-- as the mark says that has stopped them
+abbrev pub refusal_by : Way → RunRefusal
+refusal_by (Stopped OutOfReserve) = refusals.OutOfReserve
+refusal_by way = refusals.OutOfMemory
+
+-- for workers that were given this reserve, or none
+abbrev pub refusal_for : Option Reserve → RunRefusal
+refusal_for None = refusals.OutOfMemory
+refusal_for (Some r) = refusals.OutOfReserve

@@ -264,7 +264,8 @@ impl CountedWorker {
         requires room { C.room column.now ≤ most_words code.now (M.shape map.now) }
         ensures stopped { spec_is_stopped self.new.local.way ≡ (spec_is_stopped self.old.local.way || is_marked (mark_heard (C.came column.now))) }
         ensures mark { (mark : MarkOfHeader) → self.new.local.way ≡ way_is_one_of.Stopped mark →
-            (self.old.local.way ≡ way_is_one_of.Stopped mark) ⊎ (mark_heard (C.came column.now) ≡ mark) }
+            (self.old.local.way ≡ way_is_one_of.Stopped mark)
+            ⊎ ((spec_is_stopped self.old.local.way ≡ false) × (mark_heard (C.came column.now) ≡ mark)) }
         ensures reserve { self.new.reserve ≡ self.old.reserve }
         ensures behind { (states : ℕ → State) (told : ℕ → List Share) (w : ℕ) (row : List WrittenMessage) →
             IsStanding code.now (M.shape map.now) bound states told w self.old row →

@@ -145,7 +145,8 @@ pub fn receive<R: WriteRule, M: AddressMap, C: Column>(
     ensures stopped { spec_is_stopped local.new.way ≡ (spec_is_stopped local.old.way || is_marked (mark_heard (C.came column.now))) }
     // .. by its own mark, or else by the worst that it heard.
     ensures mark { (mark : MarkOfHeader) → local.new.way ≡ way_is_one_of.Stopped mark →
-        (local.old.way ≡ way_is_one_of.Stopped mark) ⊎ (mark_heard (C.came column.now) ≡ mark) }
+        (local.old.way ≡ way_is_one_of.Stopped mark)
+        ⊎ ((spec_is_stopped local.old.way ≡ false) × (mark_heard (C.came column.now) ≡ mark)) }
     ensures over { is_the_end result ≡ machine.is_over (way_is local.new.way) }
     // Fewer instructions and exchanges may come.
     ensures left { machine.is_over (way_is local.new.way) ≡ false → left code.now bound local.new < left_at code.now bound local.old }
