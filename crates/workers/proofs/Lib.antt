@@ -1,4 +1,5 @@
 pub mod HandLemmas
 pub mod ExchangeLemmas
 pub mod PlayLemmas
+pub mod ReceivedLemmas
 pub mod GatherLemmas

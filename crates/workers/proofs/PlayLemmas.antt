@@ -1,7 +1,7 @@
 -- A worker behind an exchange, and its history with one exchange more.
 use Rattle.std.proofs.Common.{◌≡◌, ℕ, suc, ◌+◌, ◌-◌, ◌^◌, ◌<◌, ◌≤◌, List, [], ◌∷◌, ◌++◌, length, map, Bool}
 use Rattle.std.proofs.Common.{true, false, refl, sym, ap, ◌∙◌, subst}
-use Rattle.std.proofs.Common.{append_assoc, arith}
+use Rattle.std.proofs.Common.{append_assoc, arith, ◌⊎◌}
 use Rattle.std.specs.Prelude.{◌||◌, slice_get, if◌then◌else◌}
 use Rattle.std.proofs.lemmas.List.{append-nil, length-append, length-map}
 use Rattle.std.proofs.Math.Nat.{mul-le-mul}
@@ -15,6 +15,7 @@ use Rattle.worker_messages.specs.declared.way.Way.{Way}
 use Rattle.worker_messages.specs.declared.way.Way.TheVariants as ways
 use Rattle.worker_messages.specs.declared.local.Local.{Local}
 use Rattle.worker_messages.specs.Equipped.{left, left_by}
+use Rattle.superstep_machine.specs.declared.mark.HeaderMark.{HeaderMark}
 use Rattle.superstep_machine.specs.HeaderWords.{read_header}
 use Rattle.superstep_machine.specs.WordReading.{read_message}
 use Rattle.superstep_machine.specs.Setting.{Setting}
@@ -22,7 +23,7 @@ use Rattle.superstep_machine.specs.Run.{Purpose, State, setting, ready, after, m
 use Rattle.message_rows.specs.Rows.{WrittenMessage, written, message_at, words_in}
 use Rattle.worker_messages.specs.Reached.{most_instructions}
 use Rattle.worker_messages.specs.Shown.{way_is, purpose_is, is_stopped, IsShown}
-use Rattle.worker_exchange.specs.Received.{messages_to}
+use Rattle.worker_exchange.specs.Received.{messages_to, mark_heard}
 use Rattle.histories.specs.Shares.{Share, purpose_of}
 use Rattle.histories.specs.Histories.{end_by}
 use Rattle.histories.specs.InWords.{in_words, shares_in_words}
@@ -32,8 +33,9 @@ use Rattle.histories.proofs.Marking.{clear_grows}
 use Rattle.turnstile.specs.Seats.{RowState}
 use Rattle.bsp_machine.specs.declared.counted.CountedWorker.{CountedWorker}
 use Rattle.bsp_machine.specs.Workers.{IsBetween, IsStanding, state_behind, share_at}
-use Rattle.bsp_machine.proofs.MarkLemmas.{or_false, going_on}
-use Rattle.bsp_machine.proofs.StandingLemmas.{row_marked, row_is, row_read, purpose_at}
+use Rattle.bsp_machine.specs.Reserves.{own_mark, IsMark, AreMarked}
+use Rattle.bsp_machine.proofs.MarkLemmas.{or_false, going_on, never, given_behind}
+use Rattle.bsp_machine.proofs.StandingLemmas.{row_marked, row_mark, row_is, row_read, purpose_at}
 use Rattle.workers.specs.Seating.{letters, sent_of, received_of}
 use Rattle.workers.specs.Worked.{IsBehindExchange, HasExchanged, HasWorked}
 
@@ -43,6 +45,14 @@ all_at : (P : WrittenMessage → Type 0) (row : List WrittenMessage) → ((j : �
     AllByRecursion P row
 all_at P [] h = tt
 all_at P (x ∷ row) h = (h 0 (omega arith), all_at P row (λ j l. h (suc j) (omega (arith, l))))
+
+all_added : {A : Type 0} (P : A → Type 0) (xs : List A) (x : A) → AllByRecursion P xs → P x → AllByRecursion P (xs ++ x ∷ [])
+all_added P [] x h p = (p, tt)
+all_added P (y ∷ xs) x h p = (h.0, all_added P xs x h.1 p)
+
+all_last : {A : Type 0} (P : A → Type 0) (xs : List A) (x : A) → AllByRecursion P (xs ++ x ∷ []) → P x
+all_last P [] x h = h.0
+all_last P (y ∷ xs) x h = all_last P xs x h.1
 
 -- a row by its entries
 row_by : (f : ℕ → WrittenMessage) (row : List WrittenMessage) (a : ℕ) → ((j : ℕ) → j < length row → message_at row j ≡ f (a + j)) →
@@ -58,6 +68,8 @@ row_by f (x ∷ row) a h =
 module _ (code : SuperstepCode) (m : Shape) (bound : ℕ) (states : ℕ → State) (told : ℕ → List Share) (w : ℕ) (mid new : CountedWorker)
     (row came : List WrittenMessage) (at : IsStanding code m bound states told w mid row)
     (stopped : is_stopped new.local.way ≡ (is_stopped mid.local.way || any_mark came))
+    (same : new.reserve ≡ mid.reserve) (by : (mark : HeaderMark) → new.local.way ≡ ways.Stopped mark →
+    (mid.local.way ≡ ways.Stopped mark) ⊎ ((is_stopped mid.local.way ≡ false) × (mark_heard came ≡ mark)))
     (here : IsBetween code m bound (λ n. state_behind code m bound w mid came (states n) n)
     (λ n. told n ++ share_at mid row came ∷ []) w new) where
   abbrev t : ℕ → Setting
@@ -109,7 +121,12 @@ module _ (code : SuperstepCode) (m : Shape) (bound : ℕ) (states : ℕ → Stat
       counted = λ h n low. here.counted h n low
           ∙ ap (λ (p : Purpose). told n ++ record { purpose = p; sent = words_in row; received = words_in came } ∷ []) (for_it h n low);
       items = here.items;
+      reserved = here.reserved;
     };
+    own_marks = subst (λ r. AreMarked (own_mark r) row) (sym same) (all_at (λ (x : WrittenMessage). IsMark (own_mark mid.reserve)
+        (read_header x.header).mark) row (λ j l. row_mark code m bound states told w mid row at (suc (most_instructions code bound)) j
+        (omega arith) (omega (arith, l, long))));
+    given = λ marks. given_behind new.reserve mid new came (sym same) at.refused marks same stopped by;
   }
 
 -- ---- a history with one exchange more
@@ -138,7 +155,10 @@ module _ (code : SuperstepCode) (m : Shape) (bound : ℕ) (states : ℕ → Stat
           counted = λ h n low. b.counted h n low ∙ sym (append-nil (told n))
               ∙ ap (λ cs. told n ++ shares_in_words (t_at n) w (states n) cs) (sym columns);
           items = b.items;
+          reserved = b.reserved;
         };
+        own_marks = subst (AllByRecursion (AreMarked (own_mark x.reserve))) (sym rows) tt;
+        given = λ marks. record { given = refl; stopped = λ mark way. absurd (never x.local.way mark way alive) };
       }
 
   module _ (r r' : RowState) (x x' : CountedWorker) (on : is_over (way_is x.local.way) ≡ false)
@@ -202,7 +222,13 @@ module _ (code : SuperstepCode) (m : Shape) (bound : ℕ) (states : ℕ → Stat
         going = behind.between.going;
         counted = λ h n low. behind.between.counted h n low ∙ share_is n low h;
         items = behind.between.items;
+        reserved = behind.between.reserved;
       };
+      own_marks = subst (AllByRecursion (AreMarked (own_mark x'.reserve))) (sym one.sent)
+          (all_added (AreMarked (own_mark x'.reserve)) (sent_of r) one.row
+          (subst (λ o. AllByRecursion (AreMarked (own_mark o)) (sent_of r)) (sym one.reserve) before.own_marks) behind.own_marks);
+      given = λ marks. behind.given (all_last (AreMarked (own_mark x'.reserve)) cs one.column
+          (subst (AllByRecursion (AreMarked (own_mark x'.reserve))) one.received marks));
     }
 
 -- ---- how many exchanges there may be
