@@ -19,7 +19,6 @@ use Rattle.worker_steps.specs.Shown.{cells_at, Shows}
 use Rattle.worker_steps.specs.Fitted.{IsFitted}
 use Rattle.worker_steps.specs.Met.{IsVerifiedAt}
 use Rattle.worker_steps.specs.Stretch.{ArrivesAt, StandsAt}
-use Rattle.worker_messages.specs.declared.way.Way.TheVariants as ways
 use Rattle.worker_messages.specs.declared.local.Local.{Local}
 use Rattle.worker_messages.specs.Shown.{IsShown}
 use Rattle.worker_messages.specs.Equipped.{MayGoOn}

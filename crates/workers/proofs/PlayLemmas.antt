@@ -27,17 +27,18 @@ use Rattle.worker_exchange.specs.Received.{messages_to, mark_heard}
 use Rattle.histories.specs.Shares.{Share, purpose_of}
 use Rattle.histories.specs.Histories.{end_by}
 use Rattle.histories.specs.InWords.{in_words, shares_in_words}
-use Rattle.histories.specs.Marked.{has_mark, any_mark, HasGone, IsClear}
+use Rattle.histories.specs.Marked.{has_mark, any_mark, IsMarked, HasGone, IsClear}
 use Rattle.histories.proofs.Growing.{histories_grow, shares_grow}
 use Rattle.histories.proofs.Marking.{clear_grows}
 use Rattle.turnstile.specs.Seats.{RowState}
 use Rattle.bsp_machine.specs.declared.counted.CountedWorker.{CountedWorker}
 use Rattle.bsp_machine.specs.Workers.{IsBetween, IsStanding, state_behind, share_at}
-use Rattle.bsp_machine.specs.Reserves.{own_mark, IsMark, AreMarked}
+use Rattle.bsp_machine.specs.declared.reserve.Reserve.{Reserve}
+use Rattle.bsp_machine.specs.Reserves.{is_past, own_mark, IsMark, AreMarked}
 use Rattle.bsp_machine.proofs.MarkLemmas.{or_false, going_on, never, given_behind}
 use Rattle.bsp_machine.proofs.StandingLemmas.{row_marked, row_mark, row_is, row_read, purpose_at}
 use Rattle.workers.specs.Seating.{letters, sent_of, received_of}
-use Rattle.workers.specs.Worked.{IsBehindExchange, HasExchanged, HasWorked}
+use Rattle.workers.specs.Worked.{items_at, MarksWherePast, IsBehindExchange, HasExchanged, HasWorked}
 
 -- ---- rows
 
@@ -53,6 +54,26 @@ all_added P (y ∷ xs) x h p = (h.0, all_added P xs x h.1 p)
 all_last : {A : Type 0} (P : A → Type 0) (xs : List A) (x : A) → AllByRecursion P (xs ++ x ∷ []) → P x
 all_last P [] x h = h.0
 all_last P (y ∷ xs) x h = all_last P xs x h.1
+
+-- one exchange more
+marks_more : (t : Setting) (w : ℕ) (q : Reserve) (made : ℕ) (s : State) (cs rows : List (List WrittenMessage)) (c row : List WrittenMessage) →
+    MarksWherePast t w q made s cs rows →
+    IsMarked (is_past q (items_at t w (end_by (in_words t) w s cs)) (made + length cs)) row →
+    MarksWherePast t w q made s (cs ++ c ∷ []) (rows ++ row ∷ [])
+marks_more t w q made s [] [] c row h p =
+    (subst (λ k. IsMarked (is_past q (items_at t w s) k) row) (let e : made + 0 ≡ made = omega arith in e) p, tt)
+marks_more t w q made s [] (r ∷ rows) c row h p = absurd h
+marks_more t w q made s (x ∷ cs) [] c row h p = absurd h
+marks_more t w q made s (x ∷ cs) (r ∷ rows) c row h p = (
+  h.0,
+  marks_more t w q (made + 1) ((in_words t).next w s x) cs rows c row h.1
+      (subst (λ k. IsMarked (is_past q (items_at t w (end_by (in_words t) w ((in_words t).next w s x) cs)) k) row)
+      (let e : made + suc (length cs) ≡ (made + 1) + length cs = omega arith in e) p),
+)
+
+shares_long : (t : Setting) (w : ℕ) (s : State) (cs : List (List WrittenMessage)) → length (shares_in_words t w s cs) ≡ length cs
+shares_long t w s [] = refl
+shares_long t w s (c ∷ cs) = ap suc (shares_long t w ((in_words t).next w s c) cs)
 
 -- a row by its entries
 row_by : (f : ℕ → WrittenMessage) (row : List WrittenMessage) (a : ℕ) → ((j : ℕ) → j < length row → message_at row j ≡ f (a + j)) →
@@ -97,13 +118,15 @@ module _ (code : SuperstepCode) (m : Shape) (bound : ℕ) (states : ℕ → Stat
       (λ i. read_message code.rule m j (for i) (read_header (is i).header) (is i).words)
       ∙ row_read code m bound states told w mid row at (alive h) n low j within
 
+  row_is_marked : IsMarked (is_stopped mid.local.way) row
+  row_is_marked = all_at (λ x. has_mark x ≡ is_stopped mid.local.way) row
+      (λ j l. row_marked code m bound states told w mid row at (suc (most_instructions code bound)) j (omega arith) (omega (arith, l, long)))
+
   pub behind_exchange : IsBehindExchange code m bound states told w row came new
   behind_exchange = record {
     marks = record {
       mine = is_stopped mid.local.way;
-      marked = all_at (λ x. has_mark x ≡ is_stopped mid.local.way) row
-          (λ j l. row_marked code m bound states told w mid row at (suc (most_instructions code bound)) j (omega arith)
-          (omega (arith, l, long)));
+      marked = row_is_marked;
       by_marks = stopped;
     };
     as_sent = λ n low h. record {
@@ -123,6 +146,7 @@ module _ (code : SuperstepCode) (m : Shape) (bound : ℕ) (states : ℕ → Stat
       items = here.items;
       reserved = here.reserved;
     };
+    past = λ r n some low. subst (λ b. IsMarked b row) (at.past r n (sym same ∙ some) low) row_is_marked;
     own_marks = subst (λ r. AreMarked (own_mark r) row) (sym same) (all_at (λ (x : WrittenMessage). IsMark (own_mark mid.reserve)
         (read_header x.header).mark) row (λ j l. row_mark code m bound states told w mid row at (suc (most_instructions code bound)) j
         (omega arith) (omega (arith, l, long))));
@@ -157,6 +181,9 @@ module _ (code : SuperstepCode) (m : Shape) (bound : ℕ) (states : ℕ → Stat
           items = b.items;
           reserved = b.reserved;
         };
+        past = λ q n some low.
+            subst (λ cs. MarksWherePast (t_at n) w q (length (told n)) (states n) cs (sent_of r)) (sym columns)
+            (subst (MarksWherePast (t_at n) w q (length (told n)) (states n) []) (sym rows) tt);
         own_marks = subst (AllByRecursion (AreMarked (own_mark x.reserve))) (sym rows) tt;
         given = λ marks. record { given = refl; stopped = λ mark way. absurd (never x.local.way mark way alive) };
       }
@@ -224,6 +251,14 @@ module _ (code : SuperstepCode) (m : Shape) (bound : ℕ) (states : ℕ → Stat
         items = behind.between.items;
         reserved = behind.between.reserved;
       };
+      past = λ q n some low.
+          let more = marks_more (t_at n) w q (length (told n)) (states n) cs (sent_of r) one.column one.row
+          (before.past q n (sym one.reserve ∙ some) low)
+          (subst (λ k. IsMarked (is_past q (items_at (t_at n) w (end n)) k) one.row)
+          (length-append (told n) (shares_in_words (t_at n) w (states n) cs)
+          ∙ ap (λ k. length (told n) + k) (shares_long (t_at n) w (states n) cs)) (behind.past q n some low)) in
+          subst (λ cs'. MarksWherePast (t_at n) w q (length (told n)) (states n) cs' (sent_of r')) (sym one.received)
+          (subst (MarksWherePast (t_at n) w q (length (told n)) (states n) (cs ++ one.column ∷ [])) (sym one.sent) more);
       own_marks = subst (AllByRecursion (AreMarked (own_mark x'.reserve))) (sym one.sent)
           (all_added (AreMarked (own_mark x'.reserve)) (sent_of r) one.row
           (subst (λ o. AllByRecursion (AreMarked (own_mark o)) (sent_of r)) (sym one.reserve) before.own_marks) behind.own_marks);
