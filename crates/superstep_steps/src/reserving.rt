@@ -14,8 +14,8 @@ const REGISTERS: usize = 65_536;
 const READS: usize = 8;
 
 /// Takes the memory by which the uniform part of verified code grows up to so many items of output: for all registers, for the reads that
-/// are held and those that are awaited, and for the items. The error comes where memory was refused: nothing is said of the uniform part
-/// then.
+/// are held and those that are awaited, and for the items; it takes none on the way any more. The error comes where memory was refused:
+/// nothing is said of the uniform part then.
 pub fn reserve(u: &mut UniformState, items: usize) -> Result<(), AllocError>
     ensures reserved { OnOk result (HasReserve items u.new) }
     ensures same { OnOk result (IsRoomier u.old u.new) }
@@ -24,5 +24,6 @@ pub fn reserve(u: &mut UniformState, items: usize) -> Result<(), AllocError>
     u.asks.reserve(READS)?;
     u.awaited.reserve(READS)?;
     u.output.reserve(items)?;
+    u.reserved = true;
     Ok(())
 }

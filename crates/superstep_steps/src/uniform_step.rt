@@ -31,6 +31,7 @@ pub fn open_uniform(alloc: Global) -> UniformState
         awaited: Vec::new(alloc),
         put: None,
         output: Vec::new(alloc),
+        reserved: false,
     }
 }
 
@@ -176,6 +177,9 @@ pub(crate) fn print(u: &mut UniformState, source: u16) -> Result<(), AllocError>
 {
     let value = register(&u.registers, source);
     let count = u.count;
+    if u.reserved && u.output.len() == u.output.capacity() {
+        return Err(AllocError);
+    }
     u.output.push((count, value))?;
     Ok(())
 }
