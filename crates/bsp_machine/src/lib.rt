@@ -13,11 +13,9 @@ mod phase;
 mod phases;
 mod picked;
 mod plain;
-mod reserve;
 mod sheet;
 
 pub use collecting::collect;
 pub use counted::CountedWorker;
 pub use end_room::EndRoom;
 pub use plain::run_plain;
-pub use reserve::Reserve;

@@ -41,8 +41,6 @@ fn run_on<M: AddressMap>(
         Err(RunRefusal::BadMap) => Err(Refusal::BadMap),
         Err(RunRefusal::InputTooLong) => Err(Refusal::InputTooLong),
         Err(RunRefusal::OutOfMemory) => Err(Refusal::OutOfMemory),
-        // No worker of it has a reserve.
-        Err(RunRefusal::OutOfReserve) => unreachable!(),
     }
 }
 

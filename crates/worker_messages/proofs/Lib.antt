@@ -6,4 +6,3 @@ pub mod ArrivedLemmas
 pub mod WrittenLemmas
 pub mod ToldLemmas
 pub mod OpeningLemmas
-pub mod PastLemmas

@@ -6,7 +6,6 @@ mod buffers;
 mod local;
 mod opening;
 mod refusal;
-mod reserving;
 mod step;
 mod telling;
 mod way;

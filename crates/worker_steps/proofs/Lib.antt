@@ -10,4 +10,3 @@ pub mod WriteLemmas
 pub mod PutDone
 pub mod StretchLemmas
 pub mod WayLemmas
-pub mod PastLemmas

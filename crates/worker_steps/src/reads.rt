@@ -1,9 +1,8 @@
 //! Reads.
 
-ghost use Rattle.std.specs.Prelude.{OnOk, OnErr};
+ghost use Rattle.std.specs.Prelude.{OnOk};
 ghost use Rattle.superstep_code.specs.declared.instr.Instr.TheVariants as instr_is;
 ghost use Rattle.superstep_code.specs.declared.instr.Side.TheVariants as side_is;
-ghost use Rattle.superstep_steps.specs.Views.{IsShort};
 ghost use Rattle.worker_steps.specs.Fitted.{IsFitted};
 ghost use Rattle.worker_steps.specs.Met.{IsMetAt};
 ghost use Rattle.worker_steps.specs.Done.{IsDone};
@@ -28,8 +27,7 @@ impl WorkerState {
     ) -> Result<(), AllocError>
         requires fitted { IsFitted code.now self.old }
         requires met { IsMetAt code.now (instr_is.Ask side_is.Uniform destination entry subscript position) self.old }
-        ensures done { OnOk result (IsDone code.now (instr_is.Ask side_is.Uniform destination entry subscript position) self.old self.new) }
-        ensures refused { OnErr result (IsShort (instr_is.Ask side_is.Uniform destination entry subscript position) self.old.uniform) }
+        ensures { OnOk result (IsDone code.now (instr_is.Ask side_is.Uniform destination entry subscript position) self.old self.new) }
     {
         let instr = Instr::Ask {
             side: Side::Uniform,
@@ -61,8 +59,7 @@ impl WorkerState {
     ) -> Result<(), AllocError>
         requires fitted { IsFitted code.now self.old }
         requires met { IsMetAt code.now (instr_is.Ask side_is.Private destination entry subscript position) self.old }
-        ensures done { OnOk result (IsDone code.now (instr_is.Ask side_is.Private destination entry subscript position) self.old self.new) }
-        ensures refused { OnErr result (IsShort (instr_is.Ask side_is.Private destination entry subscript position) self.old.uniform) }
+        ensures { OnOk result (IsDone code.now (instr_is.Ask side_is.Private destination entry subscript position) self.old self.new) }
     {
         let k = self.uniform.asks.len();
         let layout = code.layout();

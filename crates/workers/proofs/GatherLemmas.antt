@@ -2,10 +2,9 @@
 use Rattle.std.proofs.Common.{◌≡◌, ℕ, suc, ◌<◌, List, map, Bool, true, false}
 use Rattle.std.proofs.Common.{Option, Some, None, ℤ, refl, sym, ap, subst, ◌∙◌, arith}
 use Rattle.std.specs.Prelude.{slice_get}
-use Rattle.std.specs.List.{range_with_len, AllByRecursion}
+use Rattle.std.specs.List.{range_with_len}
 use Rattle.address_map.specs.Lawful.{Shape}
 use Rattle.superstep_code.specs.Code.{SuperstepCode}
-use Rattle.superstep_machine.specs.HeaderWords.{read_header}
 use Rattle.superstep_machine.specs.Setting.{Setting}
 use Rattle.superstep_machine.specs.Run.{State, opening, is_over, setting}
 use Rattle.superstep_machine.specs.Trace.{exchange_of}
@@ -24,9 +23,6 @@ use Rattle.histories.proofs.Parts.{exchanges_are}
 use Rattle.histories.proofs.Reading.{histories_in_words_make_a_run}
 use Rattle.histories.proofs.Marking.{marks_end_all_or_none}
 use Rattle.bsp_machine.specs.declared.counted.CountedWorker.{CountedWorker}
-use Rattle.message_rows.specs.Rows.{WrittenMessage}
-use Rattle.bsp_machine.specs.declared.reserve.Reserve.{Reserve}
-use Rattle.bsp_machine.specs.Reserves.{own_mark, IsMark, AreMarked, IsGiven, HaveReserve, AreGiven}
 use Rattle.bsp_machine.specs.Workers.{share_told, shares, AreTogether, IsBehind}
 use Rattle.bsp_machine.specs.Ended.{AreRunning, IsFirstOver}
 use Rattle.bsp_machine.proofs.ListLemmas.{there_at, get_within, one_there}
@@ -34,7 +30,6 @@ use Rattle.workers.specs.Exchanged.{rows_at, columns_at, sent_by, received_by, c
 use Rattle.workers.specs.Seating.{sent_of, received_of}
 use Rattle.workers.specs.Gathered.{HasEnded, HaveEnded}
 use Rattle.workers.proofs.ExchangeLemmas.{seats_have_exchanged}
-use Rattle.workers.proofs.ReceivedLemmas.{received_all}
 
 abbrev stopped_at : Option CountedWorker → Bool
 stopped_at None = false
@@ -123,7 +118,6 @@ module _ (code : SuperstepCode) (m : Shape) (runnable : IsRunnable code m) (boun
           going = λ h. absurd (true_no_false (sym over ∙ h));
           counted = λ h n low. absurd (true_no_false (sym is ∙ h));
           items = λ h. absurd (true_no_false (sym is ∙ h));
-          reserved = λ h. absurd (true_no_false (sym is ∙ h));
         };
     together = together;
     before = λ n low i l. absurd (omega (arith, l));
@@ -192,7 +186,6 @@ module _ (code : SuperstepCode) (m : Shape) (runnable : IsRunnable code m) (boun
           going = b.going;
           counted = λ h n low. counted_behind alive n low w l;
           items = b.items;
-          reserved = b.reserved;
         });
     together = together;
     before = λ n low. (is_run alive n low).run.going;
@@ -207,24 +200,6 @@ module _ (code : SuperstepCode) (m : Shape) (runnable : IsRunnable code m) (boun
       by_first : (b : Bool) → stops 0 ≡ b → AreRunning code m bound input workers
       by_first true is = all_stopped (λ w l. alike w 0 l first ∙ is)
       by_first false is = none_stopped (λ w l. alike w 0 l first ∙ is)
-
-  -- ---- by which mark
-
-  pub all_given : (reserve : Option Reserve) → HaveReserve reserve workers → AreGiven reserve workers
-  all_given reserve have w x at =
-      let r = seat w (below w x at) in
-      subst (λ o. IsGiven o x) (have w x at) ((ended.each w r.0 x r.1 at).worked.given
-      (subst (λ o. AllByRecursion (AreMarked (own_mark o)) (received_of r.0)) (sym (have w x at))
-      (subst (AllByRecursion (AreMarked (own_mark reserve))) (received_is w r.0 r.1)
-      (received_all (λ (c : WrittenMessage). IsMark (own_mark reserve) (read_header c.header).mark) m.parts (crossings seats)
-      (sent_by seats) (received_by seats) exchange sent_marked w (below w x at)))))
-    where
-      sent_marked : (v : ℕ) → v < m.parts → AllByRecursion (AreMarked (own_mark reserve)) (sent_by seats v)
-      sent_marked v l =
-          let r = seat v l in
-          let y = many v l in
-          subst (AllByRecursion (AreMarked (own_mark reserve))) (sym (sent_is v r.0 r.1))
-          (subst (λ o. AllByRecursion (AreMarked (own_mark o)) (sent_of r.0)) (have v y.0 y.1) (one v l).worked.own_marks)
 
   pub first_over : IsFirstOver workers
   first_over x here =

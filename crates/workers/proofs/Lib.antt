@@ -1,5 +1,4 @@
 pub mod HandLemmas
 pub mod ExchangeLemmas
 pub mod PlayLemmas
-pub mod ReceivedLemmas
 pub mod GatherLemmas

@@ -97,5 +97,4 @@ returns-clause-still g c =
       place = sent.place;
       count = sent.uniform.count;
       output = sent.uniform.output;
-      reserve = sent.uniform.reserve;
     }

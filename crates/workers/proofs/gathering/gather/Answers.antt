@@ -1,6 +1,6 @@
 use Rattle.std.proofs.Common.{Ok, Err}
 use Rattle.std.specs.Prelude.{IfOk, Result}
-use Rattle.workers.proofs.GatherLemmas.{have_run, first_over, all_given}
+use Rattle.workers.proofs.GatherLemmas.{have_run, first_over}
 use Rattle.workers.proofs.gathering.gather.Goals as goal
 
 if_ok : {A E : Type 0} (P Q : A → Type 0) → ((a : A) → P a → Q a) → (r : Result A E) → IfOk r P → IfOk r Q
@@ -42,10 +42,3 @@ returns-clause-counts g c =
     (λ found h bound input ended. h bound input
     (have_run c.args.code.now (g.M.AddressMap.shape c.args.map.now) c.requires.runnable bound input c.args.seats.items
     c.args.workers.items ended closed.phases closed.exchanged closed.whole)) c.collect.result c.collect.ensures.counts
-
-pub returns-clause-given : goal.returns-clause-given
-returns-clause-given g c = λ reserve have.
-    let e = c.requires.ended in
-    let closed = c.close.ensures in
-    c.collect.ensures.given reserve (all_given c.args.code.now (g.M.AddressMap.shape c.args.map.now) c.requires.runnable e.bound e.input
-    c.args.seats.items c.args.workers.items e.ended closed.phases closed.exchanged closed.whole reserve have)
