@@ -18,4 +18,5 @@ mod sheet;
 pub use collecting::collect;
 pub use counted::CountedWorker;
 pub use end_room::EndRoom;
+pub use opening::open_all;
 pub use plain::run_plain;

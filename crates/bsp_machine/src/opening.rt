@@ -26,7 +26,7 @@ fn add(all: &mut Vec<CountedWorker>, worker: CountedWorker) -> Result<(), RunRef
 }
 
 /// All workers, each with the cells of its module. They are judged as worker 0 is, before anything else is asked for.
-pub(crate) fn open_all<M: AddressMap>(
+pub fn open_all<M: AddressMap>(
     alloc: Global,
     code: &Code,
     map: &M,
