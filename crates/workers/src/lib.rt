@@ -1,13 +1,24 @@
-//! Workers of a run at the seats of a barrier.
+//! Workers of a run at the seats of a barrier, and a run of verified code by workers in threads.
 #![tactic(auto)]
 
+mod crew;
+mod deed;
 mod gates;
 mod gathering;
 mod hands;
+mod job;
 pub mod law;
+mod lists;
+mod part;
 mod play;
+mod report;
+mod room;
+mod run;
+mod task;
+mod threads;
 
 pub use gates::{Gate, OpenGate};
 pub use gathering::gather;
 pub use hands::{ColumnHand, RowHand};
 pub use play::work;
+pub use run::run_workers;

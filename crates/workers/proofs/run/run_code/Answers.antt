@@ -1,0 +1,90 @@
+use Rattle.std.proofs.Common.{◌≡◌, Ok, Err, Option, Some, sym, ap, ◌∙◌, subst, arith, Vec, Global}
+use Rattle.std.specs.Prelude.{slice_get, IfOk, IfSome, Result, List, ℤ}
+use Rattle.worker_messages.specs.Equipped.{most_words}
+use Rattle.bsp_machine.specs.declared.counted.CountedWorker.{CountedWorker}
+use Rattle.bsp_machine.specs.Opening.{AreFresh}
+use Rattle.bsp_machine.proofs.ListLemmas.{get_there}
+use Rattle.workers.specs.Gathered.{HaveEnded}
+use Rattle.workers.proofs.RunLemmas.{few_words}
+use Rattle.workers.proofs.run.run_code.Goals as goal
+
+if_ok : {A E : Type 0} (P Q : A → Type 0) → ((a : A) → P a → Q a) → (r : Result A E) → IfOk r P → IfOk r Q
+if_ok P Q f (Ok a) h = f a h
+if_ok P Q f (Err e) h = h
+
+pub new-requires-2-clause-room : goal.new-requires-2-clause-room
+new-requires-2-clause-room g c =
+    let code = c.args.code.now in
+    let m = g.M.AddressMap.shape c.args.map.now in
+    let workers = c.in_ok-opened.opened.items in
+    let x = c.index.result.now in
+    let accepted = c.in_ok-opened.ensures.accepted in
+    let parts = accepted.map.modules in
+    let few = accepted.few in
+    let many = c.in_ok-opened.ensures.count in
+    let here : slice_get workers 0 ≡ Some x = get_there workers 0 x (omega (arith, few, many)) ∙ ap (λ y. Some y) (sym c.index.ensures) in
+    let reply = ((c.in_ok-opened.ensures.opened 0 x here).going c.args.bound).equipped.buffers.reply in
+    let most : c.len-most.result ≡ most_words code m = c.len-most.ensures ∙ x.local.buffers.reply.ok.0 ∙ reply in
+    let short = few_words code m c.instructions-instructions.ensures.stands (omega (arith, few, parts)) in
+    omega (arith, most, short)
+
+pub play_all-seats-requires-clause-begin : goal.play_all-seats-requires-clause-begin
+play_all-seats-requires-clause-begin g c κs within =
+    let code = c.args.code.now in
+    let m = g.M.AddressMap.shape c.args.map.now in
+    let workers = c.in_ok-opened.opened.items in
+    let x = c.index.result.now in
+    let accepted = c.in_ok-opened.ensures.accepted in
+    let parts = accepted.map.modules in
+    let few = accepted.few in
+    let many = c.in_ok-opened.ensures.count in
+    let here : slice_get workers 0 ≡ Some x = get_there workers 0 x (omega (arith, few, many)) ∙ ap (λ y. Some y) (sym c.index.ensures) in
+    let goes = (c.in_ok-opened.ensures.opened 0 x here).going c.args.bound in
+    let most : c.len-most.result ≡ most_words code m = c.len-most.ensures ∙ x.local.buffers.reply.ok.0 ∙ goes.equipped.buffers.reply in
+    let made = c.in-Ok-new.ensures in
+    record {
+      runnable = goes.runnable;
+      parts = made.workers ∙ sym parts;
+      room = made.room ∙ most;
+      all = made.seats;
+      fresh = made.fresh;
+      many = many ∙ sym parts;
+      opened = record { input = c.args.input.now; fresh = c.in_ok-opened.ensures.opened };
+    }
+
+pub gather-requires-clause-runnable : goal.gather-requires-clause-runnable
+gather-requires-clause-runnable g c =
+    let workers = c.in_ok-opened.opened.items in
+    let x = c.index.result.now in
+    let few = c.in_ok-opened.ensures.accepted.few in
+    let many = c.in_ok-opened.ensures.count in
+    let here : slice_get workers 0 ≡ Some x = get_there workers 0 x (omega (arith, few, many)) ∙ ap (λ y. Some y) (sym c.index.ensures) in
+    ((c.in_ok-opened.ensures.opened 0 x here).going c.args.bound).runnable
+
+pub gather-requires-clause-ended : goal.gather-requires-clause-ended
+gather-requires-clause-ended g c = record {
+  bound = c.args.bound;
+  input = c.args.input.now;
+  ended = (subst (λ (o : Option (Vec CountedWorker Global)). IfSome o (λ ended. (input : List ℤ) →
+      AreFresh c.args.code.now (g.M.AddressMap.shape c.args.map.now) input c.in_ok-opened.opened.items →
+      HaveEnded c.args.code.now (g.M.AddressMap.shape c.args.map.now) c.args.bound input c.play_all-seats.result.0.items ended.items))
+      c.in-Some.is c.play_all-seats.ensures.ended c.args.input.now c.in_ok-opened.ensures.opened);
+}
+
+pub returns-in-Some-clause-outcome : goal.returns-in-Some-clause-outcome
+returns-in-Some-clause-outcome g c =
+    if_ok _ _ (λ found h. h c.args.bound c.args.input.now
+    (subst (λ (o : Option (Vec CountedWorker Global)). IfSome o (λ ended. (input : List ℤ) →
+    AreFresh c.args.code.now (g.M.AddressMap.shape c.args.map.now) input c.in_ok-opened.opened.items →
+    HaveEnded c.args.code.now (g.M.AddressMap.shape c.args.map.now) c.args.bound input c.play_all-seats.result.0.items ended.items))
+    c.in-Some.is c.play_all-seats.ensures.ended c.args.input.now c.in_ok-opened.ensures.opened)) c.gather.result
+    c.gather.ensures.outcome
+
+pub returns-in-Some-clause-counts : goal.returns-in-Some-clause-counts
+returns-in-Some-clause-counts g c =
+    if_ok _ _ (λ found h. h c.args.bound c.args.input.now
+    (subst (λ (o : Option (Vec CountedWorker Global)). IfSome o (λ ended. (input : List ℤ) →
+    AreFresh c.args.code.now (g.M.AddressMap.shape c.args.map.now) input c.in_ok-opened.opened.items →
+    HaveEnded c.args.code.now (g.M.AddressMap.shape c.args.map.now) c.args.bound input c.play_all-seats.result.0.items ended.items))
+    c.in-Some.is c.play_all-seats.ensures.ended c.args.input.now c.in_ok-opened.ensures.opened)) c.gather.result
+    c.gather.ensures.counts

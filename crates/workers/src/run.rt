@@ -1,0 +1,126 @@
+//! A run by workers in threads.
+
+ghost use Rattle.std.specs.Prelude.{◌≡◌, List, ℤ, length, IfOk, IfErr, IfSome};
+ghost use Rattle.write_rules.specs.Verdict.{verdict_of};
+ghost use Rattle.superstep_machine.specs.Run.{IsBspOutcome};
+ghost use Rattle.superstep_machine.specs.Trace.{AreBspExchanges};
+ghost use Rattle.bsp_verify.specs.WellFormed.{IsWellFormed};
+ghost use Rattle.worker_messages.specs.Opened.{IsAccepted, IsRefusal};
+ghost use Rattle.turnstile.specs.Seats.{AreSeatsOf};
+ghost use Rattle.bsp_machine.specs.Opening.{AreFresh};
+ghost use Rattle.workers.specs.Gathered.{HaveEnded};
+ghost use Rattle.workers.specs.Tasks.{CanBegin};
+
+use crate::gates::Gate;
+use crate::gathering::gather;
+use crate::lists::{tasks_of, unused, unzipped};
+use crate::room::RunRoom;
+use address_map::AddressMap;
+use bsp_machine::{CountedWorker, EndRoom, open_all};
+use bsp_verify::Verified;
+use exchange_counts::Counts;
+use std::alloc::Global;
+use std::sync::Wait;
+use std::thread::Threads;
+use superstep_code::Code;
+use turnstile::{RowSeat, Turnstile};
+use worker_messages::RunRefusal;
+use write_rules::Outcome;
+
+// All workers play their parts, each in a thread of its own. All seats come back, and the workers if they began: where the start of a
+// thread is refused, none does.
+fn play_all<'a, R: Threads + Wait + Sync, M: AddressMap + Sync, G: Gate + Sync>(
+    rt: &R,
+    turnstile: &'a Turnstile,
+    code: &'a Code,
+    map: &'a M,
+    bound: u32,
+    gate: &G,
+    seats: Vec<RowSeat>,
+    workers: Vec<CountedWorker>,
+    room: RunRoom<'a, M>,
+) -> (Vec<RowSeat>, Option<Vec<CountedWorker>>)
+    requires begin { CanBegin M.shape (record { turnstile = turnstile.now; code = code.now; map = map.now; bound = bound }) seats.items
+        workers.items }
+    requires room { room.crew.line.runners ≡ length seats.items }
+    ensures seats { AreSeatsOf turnstile.entry.now result.0.items }
+    ensures ended { IfSome result.1 (λ ended. (input : List ℤ) → AreFresh code.entry.now (M.shape map.entry.now) input workers.items →
+        HaveEnded code.entry.now (M.shape map.entry.now) bound input result.0.items ended.items) }
+{
+    let RunRoom {
+        crew,
+        tasks,
+        seats: back,
+        workers: ended,
+    } = room;
+    let tasks = tasks_of(turnstile, code, map, bound, seats, workers, tasks);
+    match crew.work_all(rt, tasks, gate) {
+        Ok(played) => {
+            let (back, ended) = unzipped(played, back, ended);
+            (back, Some(ended))
+        }
+        Err(tasks) => (unused(tasks, back), None),
+    }
+}
+
+// A run of well-formed code.
+fn run_code<R: Threads + Wait + Sync, M: AddressMap + Sync, G: Gate + Sync>(
+    rt: &R,
+    alloc: Global,
+    code: &Code,
+    map: &M,
+    workers: u32,
+    input: &[i64],
+    bound: u32,
+    gate: &G,
+) -> Result<(Outcome, Counts), RunRefusal>
+    requires formed { IsWellFormed code.now }
+    ensures refused { IfErr result (IsRefusal code.now (M.shape map.now) workers input.now) }
+    ensures accepted { IfOk result (λ found. IsAccepted code.now (M.shape map.now) workers input.now) }
+    ensures outcome { IfOk result (λ found. IsBspOutcome code.now (M.shape map.now) input.now bound (verdict_of found.0)) }
+    ensures counts { IfOk result (λ found. AreBspExchanges code.now (M.shape map.now) input.now bound (verdict_of found.0) found.1) }
+{
+    let _instructions = code.instructions();
+    let opened = open_all(alloc, code, map, workers, input)?;
+    let Ok(end_room) = EndRoom::new(alloc, code, workers) else {
+        return Err(RunRefusal::OutOfMemory);
+    };
+    let most = opened[0].local.buffers.reply.len();
+    let Ok((turnstile, seats)) = Turnstile::new(alloc, workers as usize, most) else {
+        return Err(RunRefusal::OutOfMemory);
+    };
+    let Ok(room) = RunRoom::new(alloc, workers as usize) else {
+        turnstile.close(seats);
+        return Err(RunRefusal::OutOfMemory);
+    };
+    let (seats, ended) = play_all(rt, &turnstile, code, map, bound, gate, seats, opened, room);
+    match ended {
+        Some(ended) => gather(code, map, turnstile, seats, ended, end_room),
+        None => {
+            turnstile.close(seats);
+            Err(RunRefusal::OutOfMemory)
+        }
+    }
+}
+
+/// Runs verified code on an input by so many workers, each in a thread of its own, within a bound on statements: what the run comes to,
+/// and its exchanges with the words of each. They are those of the machine of so many workers, in whatever order the threads get on.
+/// Each worker passes the gate before each exchange. The first refusal that holds comes, before anything of the run is done;
+/// `OutOfMemory` comes where memory was refused, here, to any worker on the way, or for the start of a thread: then no worker begins.
+pub fn run_workers<R: Threads + Wait + Sync, M: AddressMap + Sync, G: Gate + Sync>(
+    rt: &R,
+    alloc: Global,
+    verified: &Verified,
+    map: &M,
+    workers: u32,
+    input: &[i64],
+    bound: u32,
+    gate: &G,
+) -> Result<(Outcome, Counts), RunRefusal>
+    ensures refused { IfErr result (λ refusal. IsRefusal verified.now (M.shape map.now) workers input.now refusal) }
+    ensures accepted { IfOk result (λ found. IsAccepted verified.now (M.shape map.now) workers input.now) }
+    ensures outcome { IfOk result (λ found. IsBspOutcome verified.now (M.shape map.now) input.now bound (verdict_of found.0)) }
+    ensures counts { IfOk result (λ found. AreBspExchanges verified.now (M.shape map.now) input.now bound (verdict_of found.0) found.1) }
+{
+    run_code(rt, alloc, verified.code(), map, workers, input, bound, gate)
+}
