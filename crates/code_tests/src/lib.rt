@@ -17,6 +17,10 @@ mod listing;
 #[cfg(test)]
 mod maps;
 #[cfg(test)]
+mod strange_words;
+#[cfg(test)]
 mod texts;
+#[cfg(test)]
+mod two_messages;
 #[cfg(test)]
 mod verify;

@@ -1,0 +1,2 @@
+pub mod Flood
+pub mod TwoMessages
