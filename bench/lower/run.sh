@@ -7,5 +7,5 @@ set -eu -o pipefail
 libraries="itoa thiserror" prepare lower pram_model text_out pram_tokens pram_syntax pram_parser pram_names pram_check address_map pram_values \
     write_rules superstep_code superstep_machine bsp_verify flat_machine superstep_steps flat_run fusing stretches pram_meaning plain_form \
     evaluation formed_code formula_values exchange_bound statement_runs inside_runs outside_runs compiled_meaning straight_lowering lowering \
-    pramc compiling
+    program_texts compiling
 figures -- "$top/examples" $(basename -s .pram "$top"/examples/*.pram) | python3 "$here/bound.py" "$top/examples"

@@ -4,7 +4,7 @@ use Rattle.superstep_code.specs.Code.{SuperstepCode}
 use Rattle.pram_check.specs.Checked.{Checked}
 use Rattle.plain_form.specs.PlainForm.{form_of}
 use Rattle.fusing.specs.Fusing.{Fuses}
-use Rattle.pramc.specs.Report.{IsProgramOf}
+use Rattle.program_texts.specs.Report.{IsProgramOf}
 use Rattle.compiled_meaning.specs.Supersteps.{IsFusedForm}
 
 -- The code of a program: its plain form, fused. So it has the outcomes of that form, and no other, without the sends that send nothing.

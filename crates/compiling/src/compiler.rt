@@ -1,7 +1,7 @@
 //! The compiler: parse, check, lower and fuse.
 
 ghost use Rattle.std.specs.Prelude.{◌≡◌, IfOk};
-ghost use Rattle.pramc.specs.Report.{IsNoProgram};
+ghost use Rattle.program_texts.specs.Report.{IsNoProgram};
 ghost use Rattle.compiled_meaning.specs.Supersteps.{IsFusedForm};
 ghost use Rattle.compiling.specs.Compiled.{IsCodeOf, IsCompiledFrom};
 
@@ -9,7 +9,7 @@ use bsp_verify::Verified;
 use fusing::fuse;
 use lowering::lower;
 use pram_check::Program;
-use pramc::{Refusal, read_program};
+use program_texts::{Refusal, read_program};
 use std::alloc::{AllocError, Global};
 
 /// The code of a program: what is left of its plain form without the sends that send nothing. On the

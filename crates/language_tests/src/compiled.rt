@@ -7,7 +7,7 @@ use lowering::lower;
 use pram_check::{Program, check};
 use pram_parser::parse;
 use pram_syntax::{Buffer, read_input};
-use pramc::show;
+use program_texts::show;
 use std::alloc::Global;
 use superstep_code::Code;
 

@@ -5,9 +5,12 @@ use crate::compiled::number;
 use compiling::compile;
 use flat_run::flat_exchanges;
 use pram_syntax::read_input;
-use program_runs::{Options, run_text_on_one_thread};
+use pramc::{Options, run_text};
 use run_options::MapChoice;
 use std::alloc::Global;
+use std::sync::Wait;
+use std::thread::Threads;
+use workers::OpenGate;
 
 // A text, its input and its bound, and how many exchanges its run has.
 type Count = (&'static str, &'static str, &'static str, usize);
@@ -21,23 +24,37 @@ fn exchanges(alloc: Global, text: &str, input: &str, bound: &str) -> Option<usiz
 }
 
 // How many three workers make.
-fn by_three(alloc: Global, text: &str, input: &str, bound: &str) -> Option<usize> {
+fn by_three<R: Threads + Wait + Sync>(
+    rt: &R,
+    alloc: Global,
+    text: &str,
+    input: &str,
+    bound: &str,
+) -> Option<usize> {
     let values = read_input(alloc, input.as_bytes()).ok()?;
     let options = Options {
         workers: 3,
         map: MapChoice::Identity,
         bound: number(bound)?,
     };
-    let report = run_text_on_one_thread(alloc, text.as_bytes(), values.as_slice(), options).ok()?;
+    let report = run_text(
+        rt,
+        alloc,
+        text.as_bytes(),
+        values.as_slice(),
+        options,
+        &OpenGate,
+    )
+    .ok()?;
     Some(report.counts.len())
 }
 
-fn all_counted(alloc: Global, rows: &[Count]) -> bool {
+fn all_counted<R: Threads + Wait + Sync>(rt: &R, alloc: Global, rows: &[Count]) -> bool {
     for (text, input, bound, count) in rows {
         if exchanges(alloc, text, input, bound) != Some(*count) {
             return false;
         }
-        if by_three(alloc, text, input, bound) != Some(*count) {
+        if by_three(rt, alloc, text, input, bound) != Some(*count) {
             return false;
         }
     }
@@ -158,10 +175,10 @@ const WRITES: [Count; 11] = [
 
 #[test]
 fn algorithms_have_the_exchanges_worked_by_hand(rt: HostRuntime) {
-    assert!(&rt; all_counted(rt.alloc(), &ALGORITHMS));
+    assert!(&rt; all_counted(&rt, rt.alloc(), &ALGORITHMS));
 }
 
 #[test]
 fn writes_wait_for_reads_and_cuts(rt: HostRuntime) {
-    assert!(&rt; all_counted(rt.alloc(), &WRITES));
+    assert!(&rt; all_counted(&rt, rt.alloc(), &WRITES));
 }

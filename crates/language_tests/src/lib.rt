@@ -10,6 +10,8 @@ mod exchanges;
 #[cfg(test)]
 mod limits;
 #[cfg(test)]
+mod narrow;
+#[cfg(test)]
 mod plans;
 #[cfg(test)]
 mod read_back;

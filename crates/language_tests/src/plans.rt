@@ -235,7 +235,16 @@ const PLANS: [(&[u8], &[u8]); 6] = [
 #[test]
 fn plans_are_those_worked_by_hand(rt: HostRuntime) {
     for (text, plan) in PLANS {
-        assert!(&rt; prints(rt.alloc(), &["plan", "program"], text, b"", (plan, b"", 0)));
+        assert!(&rt;
+            prints(
+                &rt,
+                rt.alloc(),
+                &["plan", "program"],
+                text,
+                b"",
+                (plan, b"", 0)
+            )
+        );
     }
 }
 
@@ -274,7 +283,7 @@ const REFUSED: [(&[&str], &[u8], &[u8]); 8] = [
 #[test]
 fn plans_are_refused_as_checks(rt: HostRuntime) {
     for (words, text, line) in REFUSED {
-        assert!(&rt; prints(rt.alloc(), words, text, b"", (b"", line, 2)));
+        assert!(&rt; prints(&rt, rt.alloc(), words, text, b"", (b"", line, 2)));
     }
 }
 
@@ -292,8 +301,8 @@ fn long_and_deep_texts_have_no_plan(rt: HostRuntime) -> Result<(), Fail> {
     }
     let words = ["plan", "program"];
     let refused: &[u8] = b"refused E2 TextTooLong\n";
-    assert!(&rt; prints(alloc, &words, long.as_slice(), b"", (b"", refused, 2)));
+    assert!(&rt; prints(&rt, alloc, &words, long.as_slice(), b"", (b"", refused, 2)));
     let refused: &[u8] = b"refused E5 TooDeep at 102\n";
-    assert!(&rt; prints(alloc, &words, deep.as_slice(), b"", (b"", refused, 2)));
+    assert!(&rt; prints(&rt, alloc, &words, deep.as_slice(), b"", (b"", refused, 2)));
     Ok(())
 }

@@ -9,7 +9,7 @@ use fusing::fuse;
 use lowering::lower;
 use pram_check::Program;
 use pram_syntax::{Buffer, read_input};
-use pramc::{mean_program, show};
+use program_texts::{mean_program, show};
 use std::alloc::Global;
 use superstep_listing::{read_listing, write_listing};
 use write_rules::Outcome;

@@ -4,9 +4,11 @@ use crate::by_workers::is_run;
 use crate::compiled::is_compiled;
 use crate::read_back::is_read_back;
 use pram_syntax::Buffer;
-use pramc::{SourceFault, Sources, Status};
 use pramc_command::command;
+use program_texts::{SourceFault, Sources, Status};
 use std::alloc::{AllocError, Global};
+use std::sync::Wait;
+use std::thread::Threads;
 
 // A program with its input and bound, and what is written to standard output and standard error.
 #[derive(Drop)]
@@ -49,7 +51,8 @@ pub(crate) struct Said {
 }
 
 // Calls the program with these words over these files.
-pub(crate) fn call(
+pub(crate) fn call<R: Threads + Wait + Sync>(
+    rt: &R,
     alloc: Global,
     words: &[&str],
     program: &[u8],
@@ -62,19 +65,20 @@ pub(crate) fn call(
     let mut shelf = Shelf { program, input };
     let mut out = Buffer::new(alloc);
     let mut err = Buffer::new(alloc);
-    let status = command(alloc, owned.as_slice(), &mut shelf, &mut out, &mut err);
+    let status = command(rt, alloc, owned.as_slice(), &mut shelf, &mut out, &mut err);
     Ok(Said { status, out, err })
 }
 
 // Whether a call of the program prints just that.
-pub(crate) fn prints(
+pub(crate) fn prints<R: Threads + Wait + Sync>(
+    rt: &R,
     alloc: Global,
     words: &[&str],
     program: &[u8],
     input: &[u8],
     expected: (&[u8], &[u8], u8),
 ) -> bool {
-    match call(alloc, words, program, input) {
+    match call(rt, alloc, words, program, input) {
         Ok(said) => {
             said.out.bytes() == expected.0
                 && said.err.bytes() == expected.1
@@ -85,13 +89,13 @@ pub(crate) fn prints(
 }
 
 // Whether both `meaning` and `run` print what the row says.
-pub(crate) fn holds(alloc: Global, row: &Row) -> bool {
+pub(crate) fn holds<R: Threads + Wait + Sync>(rt: &R, alloc: Global, row: &Row) -> bool {
     let expected = (row.out.as_bytes(), row.err.as_bytes(), row.code);
     let program = row.text.as_bytes();
     let input = row.input.as_bytes();
     for verb in ["meaning", "run"] {
         let words = [verb, "program", "--bound", row.bound, "--input", "input"];
-        if !prints(alloc, &words, program, input, expected) {
+        if !prints(rt, alloc, &words, program, input, expected) {
             return false;
         }
     }
@@ -100,9 +104,15 @@ pub(crate) fn holds(alloc: Global, row: &Row) -> bool {
 
 // Whether `check` prints that line for a text. An accepted text's goes to standard output; any other is refused by `plan` in the
 // same words.
-pub(crate) fn checked(alloc: Global, text: &[u8], line: &str) -> bool {
+pub(crate) fn checked<R: Threads + Wait + Sync>(
+    rt: &R,
+    alloc: Global,
+    text: &[u8],
+    line: &str,
+) -> bool {
     if line.as_bytes().starts_with(b"accepted") {
         return prints(
+            rt,
             alloc,
             &["check", "program"],
             text,
@@ -111,14 +121,14 @@ pub(crate) fn checked(alloc: Global, text: &[u8], line: &str) -> bool {
         );
     }
     let refused: (&[u8], &[u8], u8) = (b"", line.as_bytes(), 2);
-    prints(alloc, &["check", "program"], text, b"", refused)
-        && prints(alloc, &["plan", "program"], text, b"", refused)
+    prints(rt, alloc, &["check", "program"], text, b"", refused)
+        && prints(rt, alloc, &["plan", "program"], text, b"", refused)
 }
 
 // Whether every row holds, by the interpreter, by the code that its program is lowered to, and by workers; its text is read back too.
-pub(crate) fn all_hold(alloc: Global, rows: &[Row]) -> bool {
+pub(crate) fn all_hold<R: Threads + Wait + Sync>(rt: &R, alloc: Global, rows: &[Row]) -> bool {
     for row in rows {
-        if !holds(alloc, row) || !is_compiled(alloc, row) || !is_run(alloc, row) {
+        if !holds(rt, alloc, row) || !is_compiled(alloc, row) || !is_run(rt, alloc, row) {
             return false;
         }
         if !is_read_back(alloc, row) {
@@ -129,9 +139,13 @@ pub(crate) fn all_hold(alloc: Global, rows: &[Row]) -> bool {
 }
 
 // Whether `check` prints for each text the line beside it.
-pub(crate) fn all_checked(alloc: Global, rows: &[(&str, &str)]) -> bool {
+pub(crate) fn all_checked<R: Threads + Wait + Sync>(
+    rt: &R,
+    alloc: Global,
+    rows: &[(&str, &str)],
+) -> bool {
     for (text, line) in rows {
-        if !checked(alloc, text.as_bytes(), line) {
+        if !checked(rt, alloc, text.as_bytes(), line) {
             return false;
         }
     }

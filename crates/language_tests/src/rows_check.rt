@@ -101,7 +101,7 @@ const ACCEPTED_PROGRAMS: [(&str, &str); 23] = [
 
 #[test]
 fn accepted_programs(rt: HostRuntime) {
-    assert!(rt; all_checked(rt.alloc(), &ACCEPTED_PROGRAMS));
+    assert!(rt; all_checked(&rt, rt.alloc(), &ACCEPTED_PROGRAMS));
 }
 
 const UNKNOWN_NAMES: [(&str, &str); 19] = [
@@ -185,7 +185,7 @@ const UNKNOWN_NAMES: [(&str, &str); 19] = [
 
 #[test]
 fn unknown_names(rt: HostRuntime) {
-    assert!(rt; all_checked(rt.alloc(), &UNKNOWN_NAMES));
+    assert!(rt; all_checked(&rt, rt.alloc(), &UNKNOWN_NAMES));
 }
 
 const DOUBLE_NAMES: [(&str, &str); 14] = [
@@ -249,7 +249,7 @@ const DOUBLE_NAMES: [(&str, &str); 14] = [
 
 #[test]
 fn double_names(rt: HostRuntime) {
-    assert!(rt; all_checked(rt.alloc(), &DOUBLE_NAMES));
+    assert!(rt; all_checked(&rt, rt.alloc(), &DOUBLE_NAMES));
 }
 
 const WRONG_KINDS: [(&str, &str); 19] = [
@@ -333,7 +333,7 @@ const WRONG_KINDS: [(&str, &str); 19] = [
 
 #[test]
 fn wrong_kinds(rt: HostRuntime) {
-    assert!(rt; all_checked(rt.alloc(), &WRONG_KINDS));
+    assert!(rt; all_checked(&rt, rt.alloc(), &WRONG_KINDS));
 }
 
 const ASSIGNED_LOOP_VARIABLES: [(&str, &str); 6] = [
@@ -365,7 +365,7 @@ const ASSIGNED_LOOP_VARIABLES: [(&str, &str); 6] = [
 
 #[test]
 fn assigned_loop_variables(rt: HostRuntime) {
-    assert!(rt; all_checked(rt.alloc(), &ASSIGNED_LOOP_VARIABLES));
+    assert!(rt; all_checked(&rt, rt.alloc(), &ASSIGNED_LOOP_VARIABLES));
 }
 
 const LIMITS_THAT_ARE_PASSED: [(&str, &str); 22] = [
@@ -458,7 +458,7 @@ const LIMITS_THAT_ARE_PASSED: [(&str, &str); 22] = [
 
 #[test]
 fn limits_that_are_passed(rt: HostRuntime) {
-    assert!(rt; all_checked(rt.alloc(), &LIMITS_THAT_ARE_PASSED));
+    assert!(rt; all_checked(&rt, rt.alloc(), &LIMITS_THAT_ARE_PASSED));
 }
 
 // A program of that many assignments and prints, and these last words.
@@ -479,16 +479,25 @@ fn tokens_are_counted_last(rt: HostRuntime) -> Result<(), Fail> {
     let most = long_text(rt.alloc(), 4091, 3, "end")?;
     assert!(&rt;
         checked(
+            &rt,
             rt.alloc(),
             most.as_bytes(),
             "accepted cells 0 procs 1 rule crew\n"
         )
     );
     let more = long_text(rt.alloc(), 4092, 2, "end")?;
-    assert!(&rt; checked(rt.alloc(), more.as_bytes(), "refused E10 Limit tokens\n"));
+    assert!(&rt;
+        checked(
+            &rt,
+            rt.alloc(),
+            more.as_bytes(),
+            "refused E10 Limit tokens\n"
+        )
+    );
     let wrong = long_text(rt.alloc(), 4092, 1, "print y; end")?;
     assert!(&rt;
         checked(
+            &rt,
             rt.alloc(),
             wrong.as_bytes(),
             "refused E6 UnknownName at 32784\n"

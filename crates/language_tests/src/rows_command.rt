@@ -2,8 +2,8 @@
 
 use crate::rows::{Shelf, call, prints};
 use pram_syntax::{Buffer, Out, OutFailed};
-use pramc::Status;
 use pramc_command::command;
+use program_texts::Status;
 use std::test::Fail;
 
 const SUM: &[u8] =
@@ -16,6 +16,7 @@ fn a_text_is_checked(rt: HostRuntime) -> Result<(), Fail> {
     let accepted: &[u8] = b"accepted cells 16 procs 8 rule erew\n";
     assert!(&rt;
         prints(
+            &rt,
             rt.alloc(),
             &["check", "program"],
             text,
@@ -25,6 +26,7 @@ fn a_text_is_checked(rt: HostRuntime) -> Result<(), Fail> {
     );
     assert!(&rt;
         prints(
+            &rt,
             rt.alloc(),
             &["check", "program"],
             SUM,
@@ -52,7 +54,7 @@ fn the_words_are_judged_before_the_files(rt: HostRuntime) -> Result<(), Fail> {
         (&["check", "no program"], b"refused P2 no program\n"),
     ];
     for (words, line) in rows {
-        assert!(&rt; prints(rt.alloc(), words, SUM, b"", (b"", line, 2)));
+        assert!(&rt; prints(&rt, rt.alloc(), words, SUM, b"", (b"", line, 2)));
     }
     Ok(())
 }
@@ -63,6 +65,7 @@ fn the_program_is_judged_before_the_input(rt: HostRuntime) -> Result<(), Fail> {
     let no_input = ["run", "program", "--input", "nowhere"];
     assert!(&rt;
         prints(
+            &rt,
             rt.alloc(),
             &words,
             b"@",
@@ -72,6 +75,7 @@ fn the_program_is_judged_before_the_input(rt: HostRuntime) -> Result<(), Fail> {
     );
     assert!(&rt;
         prints(
+            &rt,
             rt.alloc(),
             &no_input,
             b"",
@@ -81,6 +85,7 @@ fn the_program_is_judged_before_the_input(rt: HostRuntime) -> Result<(), Fail> {
     );
     assert!(&rt;
         prints(
+            &rt,
             rt.alloc(),
             &words,
             SUM,
@@ -90,6 +95,7 @@ fn the_program_is_judged_before_the_input(rt: HostRuntime) -> Result<(), Fail> {
     );
     assert!(&rt;
         prints(
+            &rt,
             rt.alloc(),
             &words,
             SUM,
@@ -113,7 +119,7 @@ fn a_wrong_command_line_is_explained(rt: HostRuntime) -> Result<(), Fail> {
         &["--help"],
     ];
     for words in rows {
-        let said = call(rt.alloc(), words, SUM, b"")?;
+        let said = call(&rt, rt.alloc(), words, SUM, b"")?;
         assert!(&rt; said.status == Status::Refused);
         assert!(&rt; said.out.bytes().is_empty());
         assert!(&rt; !said.err.bytes().is_empty());
@@ -161,7 +167,7 @@ fn a_full_output_is_told(rt: HostRuntime) -> Result<(), Fail> {
         };
         let mut out = Full { room, failures: 0 };
         let mut err = Buffer::new(rt.alloc());
-        assert!(&rt; command(rt.alloc(), &words, &mut shelf, &mut out, &mut err) == status);
+        assert!(&rt; command(&rt, rt.alloc(), &words, &mut shelf, &mut out, &mut err) == status);
         let line: &[u8] = if status == Status::Done {
             b""
         } else {
@@ -175,7 +181,7 @@ fn a_full_output_is_told(rt: HostRuntime) -> Result<(), Fail> {
 // The listing of a plan is written whole, or the failure is told.
 #[test]
 fn a_plan_that_is_cut_off_is_told(rt: HostRuntime) -> Result<(), Fail> {
-    let plan = call(rt.alloc(), &["plan", "program"], SUM, b"")?;
+    let plan = call(&rt, rt.alloc(), &["plan", "program"], SUM, b"")?;
     let size = plan.out.bytes().len();
     let words = [
         String::from_str(rt.alloc(), "plan")?,
@@ -188,7 +194,7 @@ fn a_plan_that_is_cut_off_is_told(rt: HostRuntime) -> Result<(), Fail> {
         };
         let mut out = Full { room, failures: 0 };
         let mut err = Buffer::new(rt.alloc());
-        let status = command(rt.alloc(), &words, &mut shelf, &mut out, &mut err);
+        let status = command(&rt, rt.alloc(), &words, &mut shelf, &mut out, &mut err);
         let line: &[u8] = if room == size {
             b""
         } else {

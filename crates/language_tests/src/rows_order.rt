@@ -32,7 +32,7 @@ const AN_OPERATION_STANDS_BEHIND_ITS_OPERANDS: [Row; 3] = [
 
 #[test]
 fn an_operation_stands_behind_its_operands(rt: HostRuntime) {
-    assert!(rt; all_hold(rt.alloc(), &AN_OPERATION_STANDS_BEHIND_ITS_OPERANDS));
+    assert!(rt; all_hold(&rt, rt.alloc(), &AN_OPERATION_STANDS_BEHIND_ITS_OPERANDS));
 }
 
 const THE_LOW_BOUND_COMES_FIRST_AND_THE_WIDTH_LAST: [Row; 5] = [
@@ -80,7 +80,13 @@ const THE_LOW_BOUND_COMES_FIRST_AND_THE_WIDTH_LAST: [Row; 5] = [
 
 #[test]
 fn the_low_bound_comes_first_and_the_width_last(rt: HostRuntime) {
-    assert!(rt; all_hold(rt.alloc(), &THE_LOW_BOUND_COMES_FIRST_AND_THE_WIDTH_LAST));
+    assert!(rt;
+        all_hold(
+            &rt,
+            rt.alloc(),
+            &THE_LOW_BOUND_COMES_FIRST_AND_THE_WIDTH_LAST
+        )
+    );
 }
 
 const A_SUBSCRIPT_COMES_BEFORE_THE_VALUE: [Row; 3] = [
@@ -112,7 +118,7 @@ const A_SUBSCRIPT_COMES_BEFORE_THE_VALUE: [Row; 3] = [
 
 #[test]
 fn a_subscript_comes_before_the_value(rt: HostRuntime) {
-    assert!(rt; all_hold(rt.alloc(), &A_SUBSCRIPT_COMES_BEFORE_THE_VALUE));
+    assert!(rt; all_hold(&rt, rt.alloc(), &A_SUBSCRIPT_COMES_BEFORE_THE_VALUE));
 }
 
 const A_PART_COUNTS_WHERE_NOBODY_IS_IN_IT: [Row; 4] = [
@@ -152,7 +158,7 @@ const A_PART_COUNTS_WHERE_NOBODY_IS_IN_IT: [Row; 4] = [
 
 #[test]
 fn a_part_counts_where_nobody_is_in_it(rt: HostRuntime) {
-    assert!(rt; all_hold(rt.alloc(), &A_PART_COUNTS_WHERE_NOBODY_IS_IN_IT));
+    assert!(rt; all_hold(&rt, rt.alloc(), &A_PART_COUNTS_WHERE_NOBODY_IS_IN_IT));
 }
 
 const A_PROCESSOR_IS_TOLD_BY_ITS_INDEX: [Row; 2] = [
@@ -176,7 +182,7 @@ const A_PROCESSOR_IS_TOLD_BY_ITS_INDEX: [Row; 2] = [
 
 #[test]
 fn a_processor_is_told_by_its_index(rt: HostRuntime) {
-    assert!(rt; all_hold(rt.alloc(), &A_PROCESSOR_IS_TOLD_BY_ITS_INDEX));
+    assert!(rt; all_hold(&rt, rt.alloc(), &A_PROCESSOR_IS_TOLD_BY_ITS_INDEX));
 }
 
 const THE_LEAST_CELL_IN_CONFLICT_IS_TOLD: [Row; 4] = [
@@ -216,7 +222,7 @@ const THE_LEAST_CELL_IN_CONFLICT_IS_TOLD: [Row; 4] = [
 
 #[test]
 fn the_least_cell_in_conflict_is_told(rt: HostRuntime) {
-    assert!(rt; all_hold(rt.alloc(), &THE_LEAST_CELL_IN_CONFLICT_IS_TOLD));
+    assert!(rt; all_hold(&rt, rt.alloc(), &THE_LEAST_CELL_IN_CONFLICT_IS_TOLD));
 }
 
 const A_LONE_CR_ENDS_NO_LINE: [Row; 2] = [
@@ -240,7 +246,7 @@ const A_LONE_CR_ENDS_NO_LINE: [Row; 2] = [
 
 #[test]
 fn a_lone_cr_ends_no_line(rt: HostRuntime) {
-    assert!(rt; all_hold(rt.alloc(), &A_LONE_CR_ENDS_NO_LINE));
+    assert!(rt; all_hold(&rt, rt.alloc(), &A_LONE_CR_ENDS_NO_LINE));
 }
 
 const READS_ARE_COUNTED_IN_THE_ORDER_OF_THE_TEXT: [Row; 2] = [
@@ -264,5 +270,5 @@ const READS_ARE_COUNTED_IN_THE_ORDER_OF_THE_TEXT: [Row; 2] = [
 
 #[test]
 fn reads_are_counted_in_the_order_of_the_text(rt: HostRuntime) {
-    assert!(rt; all_hold(rt.alloc(), &READS_ARE_COUNTED_IN_THE_ORDER_OF_THE_TEXT));
+    assert!(rt; all_hold(&rt, rt.alloc(), &READS_ARE_COUNTED_IN_THE_ORDER_OF_THE_TEXT));
 }

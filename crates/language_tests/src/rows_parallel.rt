@@ -31,7 +31,7 @@ const A_TREE_OF_SUMS: [Row; 3] = [
 
 #[test]
 fn a_tree_of_sums(rt: HostRuntime) {
-    assert!(rt; all_hold(rt.alloc(), &A_TREE_OF_SUMS));
+    assert!(rt; all_hold(&rt, rt.alloc(), &A_TREE_OF_SUMS));
 }
 
 const READERS_OF_ONE_CELL: [Row; 7] = [
@@ -95,7 +95,7 @@ const READERS_OF_ONE_CELL: [Row; 7] = [
 
 #[test]
 fn readers_of_one_cell(rt: HostRuntime) {
-    assert!(rt; all_hold(rt.alloc(), &READERS_OF_ONE_CELL));
+    assert!(rt; all_hold(&rt, rt.alloc(), &READERS_OF_ONE_CELL));
 }
 
 const WRITERS_OF_ONE_CELL: [Row; 10] = [
@@ -183,7 +183,7 @@ const WRITERS_OF_ONE_CELL: [Row; 10] = [
 
 #[test]
 fn writers_of_one_cell(rt: HostRuntime) {
-    assert!(rt; all_hold(rt.alloc(), &WRITERS_OF_ONE_CELL));
+    assert!(rt; all_hold(&rt, rt.alloc(), &WRITERS_OF_ONE_CELL));
 }
 
 const SUMS_OF_WRITERS: [Row; 5] = [
@@ -231,7 +231,7 @@ const SUMS_OF_WRITERS: [Row; 5] = [
 
 #[test]
 fn sums_of_writers(rt: HostRuntime) {
-    assert!(rt; all_hold(rt.alloc(), &SUMS_OF_WRITERS));
+    assert!(rt; all_hold(&rt, rt.alloc(), &SUMS_OF_WRITERS));
 }
 
 const ALL_READS_COME_BEFORE_ALL_WRITES: [Row; 4] = [
@@ -271,7 +271,7 @@ const ALL_READS_COME_BEFORE_ALL_WRITES: [Row; 4] = [
 
 #[test]
 fn all_reads_come_before_all_writes(rt: HostRuntime) {
-    assert!(rt; all_hold(rt.alloc(), &ALL_READS_COME_BEFORE_ALL_WRITES));
+    assert!(rt; all_hold(&rt, rt.alloc(), &ALL_READS_COME_BEFORE_ALL_WRITES));
 }
 
 const THE_FAULT_OF_LEAST_POSITION_IS_TOLD: [Row; 8] = [
@@ -343,7 +343,7 @@ const THE_FAULT_OF_LEAST_POSITION_IS_TOLD: [Row; 8] = [
 
 #[test]
 fn the_fault_of_least_position_is_told(rt: HostRuntime) {
-    assert!(rt; all_hold(rt.alloc(), &THE_FAULT_OF_LEAST_POSITION_IS_TOLD));
+    assert!(rt; all_hold(&rt, rt.alloc(), &THE_FAULT_OF_LEAST_POSITION_IS_TOLD));
 }
 
 const WIDTHS_AND_EMPTY_RANGES: [Row; 7] = [
@@ -407,7 +407,7 @@ const WIDTHS_AND_EMPTY_RANGES: [Row; 7] = [
 
 #[test]
 fn widths_and_empty_ranges(rt: HostRuntime) {
-    assert!(rt; all_hold(rt.alloc(), &WIDTHS_AND_EMPTY_RANGES));
+    assert!(rt; all_hold(&rt, rt.alloc(), &WIDTHS_AND_EMPTY_RANGES));
 }
 
 const LOOPS_INSIDE_PARDO: [Row; 8] = [
@@ -479,5 +479,5 @@ const LOOPS_INSIDE_PARDO: [Row; 8] = [
 
 #[test]
 fn loops_inside_pardo(rt: HostRuntime) {
-    assert!(rt; all_hold(rt.alloc(), &LOOPS_INSIDE_PARDO));
+    assert!(rt; all_hold(&rt, rt.alloc(), &LOOPS_INSIDE_PARDO));
 }

@@ -87,7 +87,7 @@ const STATEMENTS_ARE_COUNTED: [Row; 10] = [
 
 #[test]
 fn statements_are_counted(rt: HostRuntime) {
-    assert!(rt; all_hold(rt.alloc(), &STATEMENTS_ARE_COUNTED));
+    assert!(rt; all_hold(&rt, rt.alloc(), &STATEMENTS_ARE_COUNTED));
 }
 
 const LOOPS_OUTSIDE_PARDO: [Row; 7] = [
@@ -151,7 +151,7 @@ const LOOPS_OUTSIDE_PARDO: [Row; 7] = [
 
 #[test]
 fn loops_outside_pardo(rt: HostRuntime) {
-    assert!(rt; all_hold(rt.alloc(), &LOOPS_OUTSIDE_PARDO));
+    assert!(rt; all_hold(&rt, rt.alloc(), &LOOPS_OUTSIDE_PARDO));
 }
 
 const VALUES: [Row; 8] = [
@@ -223,7 +223,7 @@ const VALUES: [Row; 8] = [
 
 #[test]
 fn values(rt: HostRuntime) {
-    assert!(rt; all_hold(rt.alloc(), &VALUES));
+    assert!(rt; all_hold(&rt, rt.alloc(), &VALUES));
 }
 
 const SUBSCRIPTS: [Row; 6] = [
@@ -279,7 +279,7 @@ const SUBSCRIPTS: [Row; 6] = [
 
 #[test]
 fn subscripts(rt: HostRuntime) {
-    assert!(rt; all_hold(rt.alloc(), &SUBSCRIPTS));
+    assert!(rt; all_hold(&rt, rt.alloc(), &SUBSCRIPTS));
 }
 
 const TEXTS_THAT_ARE_REFUSED: [Row; 16] = [
@@ -415,5 +415,5 @@ const TEXTS_THAT_ARE_REFUSED: [Row; 16] = [
 
 #[test]
 fn texts_that_are_refused(rt: HostRuntime) {
-    assert!(rt; all_hold(rt.alloc(), &TEXTS_THAT_ARE_REFUSED));
+    assert!(rt; all_hold(&rt, rt.alloc(), &TEXTS_THAT_ARE_REFUSED));
 }

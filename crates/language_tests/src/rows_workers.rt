@@ -2,7 +2,9 @@
 
 use crate::rows::prints;
 use std::alloc::{AllocError, Global};
+use std::sync::Wait;
 use std::test::Fail;
+use std::thread::Threads;
 
 const SUM: &[u8] =
     b"rule crew; procs 1;\nvar i; var t;\nbegin\nfor i := 1 to 10 do\nt := t + i;\nend\nprint t;\nend\n";
@@ -44,9 +46,10 @@ type Row = (
     u8,
 );
 
-fn all_print(alloc: Global, rows: &[Row]) -> bool {
+fn all_print<R: Threads + Wait + Sync>(rt: &R, alloc: Global, rows: &[Row]) -> bool {
     for (words, file, input, out, err, status) in rows {
         if !prints(
+            rt,
             alloc,
             words,
             file,
@@ -96,7 +99,7 @@ const TRACES: [Row; 4] = [
 
 #[test]
 fn the_exchanges_of_a_run_are_written(rt: HostRuntime) {
-    assert!(rt; all_print(rt.alloc(), &TRACES));
+    assert!(rt; all_print(&rt, rt.alloc(), &TRACES));
 }
 
 const LISTINGS: [Row; 7] = [
@@ -160,7 +163,7 @@ const LISTINGS: [Row; 7] = [
 
 #[test]
 fn listings_are_run(rt: HostRuntime) {
-    assert!(rt; all_print(rt.alloc(), &LISTINGS));
+    assert!(rt; all_print(&rt, rt.alloc(), &LISTINGS));
 }
 
 const OPTIONS: [Row; 11] = [
@@ -290,7 +293,7 @@ const OPTIONS: [Row; 11] = [
 
 #[test]
 fn options_are_judged_in_order(rt: HostRuntime) {
-    assert!(rt; all_print(rt.alloc(), &OPTIONS));
+    assert!(rt; all_print(&rt, rt.alloc(), &OPTIONS));
 }
 
 // A listing of 65,536 instructions, of more than two mebibytes.
@@ -319,6 +322,7 @@ fn a_long_listing_is_run(rt: HostRuntime) -> Result<(), Fail> {
     assert!(&rt; text.as_bytes().len() > 2 * 1_048_576);
     assert!(&rt;
         prints(
+            &rt,
             alloc,
             &["exec", "program"],
             text.as_bytes(),
@@ -329,6 +333,7 @@ fn a_long_listing_is_run(rt: HostRuntime) -> Result<(), Fail> {
     let long: (&[u8], &[u8], u8) = (b"", b"refused E2 TextTooLong\n", 2);
     assert!(&rt;
         prints(
+            &rt,
             alloc,
             &["exec", "program"],
             &zeros(alloc, 8_388_609)?,
@@ -339,6 +344,7 @@ fn a_long_listing_is_run(rt: HostRuntime) -> Result<(), Fail> {
     let listing: (&[u8], &[u8], u8) = (b"", b"refused E15 BadListing at 0\n", 2);
     assert!(&rt;
         prints(
+            &rt,
             alloc,
             &["exec", "program"],
             &zeros(alloc, 8_388_608)?,

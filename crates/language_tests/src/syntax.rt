@@ -1,10 +1,9 @@
 //! Texts, each with the refusal and the offset that were worked out by hand.
 
-ghost use Rattle.std.specs.Prelude.{◌<◌, Some};
-
+use crate::narrow::Narrow;
 use pram_parser::parse;
 use pram_printer::print_tree;
-use pram_syntax::{Buffer, Location, Out, OutFailed, Rule, TextFault, WriteFault, read_input};
+use pram_syntax::{Buffer, Location, Rule, TextFault, WriteFault, read_input};
 use std::alloc::Global;
 use std::test::Fail;
 
@@ -304,38 +303,6 @@ fn places(rt: HostRuntime) {
     }
 }
 
-/// A writer that takes at most so many bytes a call, and no more than it has room for.
-#[derive(Drop)]
-struct Narrow {
-    bytes: Vec<u8>,
-    width: usize,
-    room: usize,
-    failures: u64,
-    ghost wide: { 0 < width },
-}
-
-impl Out for Narrow {
-    ghost state = { λ w. record { taken = Some w.bytes.items; failures = w.failures } };
-
-    fn write(&mut self, bytes: &[u8]) -> Result<usize, OutFailed> {
-        let count = bytes.len().min(self.width).min(self.room);
-        if count == 0 && !bytes.is_empty() {
-            self.failures += 1;
-            return Err(OutFailed);
-        }
-        match self.bytes.extend_from_slice(&bytes[..count]) {
-            Ok(()) => {
-                self.room -= count;
-                Ok(count)
-            }
-            Err(_) => {
-                self.failures += 1;
-                Err(OutFailed)
-            }
-        }
-    }
-}
-
 const SPELLINGS: [(&str, &str); 3] = [
     (
         "rule crew;procs 01;begin print(1);end",
@@ -374,21 +341,11 @@ fn writers_take_less_and_fail(rt: HostRuntime) {
     let spelling = b"rule crew ;\nprocs 1 ;\nbegin\nprint ( 1 ) ;\nend\n";
     match parse(alloc, b"rule crew;procs 01;begin print(1);end") {
         Ok(tree) => {
-            let mut slow = Narrow {
-                bytes: Vec::new(alloc),
-                width: 3,
-                room: 1000,
-                failures: 0,
-            };
+            let mut slow = Narrow::new(alloc, 3, 1000);
             assert_eq!(rt; print_tree(&tree, &mut slow), Ok(()));
             assert_eq!(rt; slow.bytes.as_slice(), spelling.as_slice());
             for room in 0..spelling.len() {
-                let mut short = Narrow {
-                    bytes: Vec::new(alloc),
-                    width: 1000,
-                    room,
-                    failures: 0,
-                };
+                let mut short = Narrow::new(alloc, 1000, room);
                 assert_eq!(rt; print_tree(&tree, &mut short), Err(WriteFault));
                 assert_eq!(rt; short.failures, 1);
                 assert_eq!(rt; short.bytes.as_slice(), &spelling[..room]);

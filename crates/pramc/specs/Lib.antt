@@ -1,6 +1,2 @@
-pub mod Report
-pub mod Shown
-pub mod Status
-pub mod Stopped
-pub mod StoppedFields
-pub mod Held
+pub mod Runs
+pub mod Headline

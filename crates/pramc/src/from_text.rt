@@ -1,118 +1,101 @@
-//! From a text to the outcome of its program.
+//! From a text to the outcome of its program, by workers.
 
 ghost use Rattle.std.specs.Prelude.{◌≡◌, ℕ, List, IfOk};
 ghost use Rattle.write_rules.specs.Verdict.{verdict_of};
-ghost use Rattle.pramc.specs.Report.{IsNoProgram, IsProgramOf, IsRefusedRightly, IsRunOf, refusal_of};
+ghost use Rattle.pram_meaning.specs.Values.{AreValues};
+ghost use Rattle.program_texts.specs.Report.{IsProgramOf, IsRunOf};
+ghost use Rattle.pramc.specs.Runs.{IsRunByWorkers, IsRunRefused};
 
-use pram_check::{Breach, CheckFault, Program, check};
-use pram_meaning::{RunRefusal, reference_run};
-use pram_parser::parse;
-use pram_syntax::{Layout, TextFault};
-use std::alloc::Global;
+use crate::on_map::run_code;
+use crate::options::Options;
+use compiling::compile_program;
+use exchange_counts::Counts;
+use pram_check::Program;
+use pram_syntax::Layout;
+use program_texts::{Refusal, read_program};
+use std::alloc::{AllocError, Global};
+use std::sync::Wait;
+use std::thread::Threads;
+use workers::Gate;
 use write_rules::Outcome;
 
-/// Why a text is not run.
-#[derive(Clone, Copy, Debug, PartialEq, Eq)]
-pub enum Refusal {
-    /// E1 to E5: what is wrong with the text.
-    Text(TextFault),
-    /// E6 to E10: the first thing that is wrong with the program.
-    Program(Breach),
-    /// E11: the input has more values than the program has cells.
-    InputTooLong,
-    /// E12: the map has not one module for each worker, or not a place for each cell.
-    BadMap,
-    /// E13: the number of workers is none of 1 to 32.
-    BadWorkers,
-    /// E16: memory was refused.
-    OutOfMemory,
-}
-
-impl Refusal {
-    /// What a text, or an input, is refused for. Want of memory has one spelling, whoever asked.
-    pub fn of_text(fault: TextFault) -> Refusal
-        ensures { result ≡ refusal_of fault }
-    {
-        match fault {
-            TextFault::OutOfMemory => Refusal::OutOfMemory,
-            _ => Refusal::Text(fault),
-        }
-    }
-}
-
-/// How a run came out, and the shared declarations by which its cells are named.
+/// How a run came out, the shared declarations by which its cells are named, and the exchanges of its workers.
 #[derive(Drop)]
 pub struct Report {
     pub layout: Layout,
     pub outcome: Outcome,
+    pub counts: Counts,
 }
 
-/// The program of a text, with its names resolved. It is refused for E1 to E10, and for E16 where
-/// memory was refused.
-pub fn read_program(alloc: Global, text: &[u8]) -> Result<Program, Refusal>
-    ensures program { IfOk result (IsProgramOf text.now) }
-    ensures refused { IsNoProgram text.now result }
+// The values of an input have 64 bits: that is known of a value which is read.
+fn have_64_bits(input: &[i64])
+    ensures { AreValues input.now }
 {
-    let tree = match parse(alloc, text) {
-        Ok(tree) => tree,
-        Err(fault) => return Err(Refusal::of_text(fault)),
-    };
-    match check(alloc, tree) {
-        Ok(program) => Ok(program),
-        Err((CheckFault::Refused(breach), _tree)) => Err(Refusal::Program(breach)),
-        Err((CheckFault::OutOfMemory, _tree)) => Err(Refusal::OutOfMemory),
+    'values: for place in 0..input.len() {
+        let _value = input[place];
     }
 }
 
-/// The outcome of a program on an input by the definition, within at most `bound` statements. The
-/// first cells get the values of the input. It is refused for E11, and for E16 where memory was
-/// refused.
-pub fn mean_program(
+/// Compiles a program and runs its code on an input, by the workers and the map of the options, each in a thread of its own that passes
+/// the gate before its exchanges: its outcome, which is the program's by its meaning, and the exchanges of the workers. It is refused
+/// for the first of E13, E12 and E11 that holds, and for E16 where memory or a thread was refused.
+pub fn run_program<R: Threads + Wait + Sync, G: Gate + Sync>(
+    rt: &R,
     alloc: Global,
     program: &Program,
     input: &[i64],
-    bound: u32,
-) -> Result<Outcome, Refusal>
-    ensures outcome { IfOk result (λ o. (text : List ℕ) → IsProgramOf text program.now →
-        IsRunOf text input.now bound program.now.layout (verdict_of o)) }
-    ensures refused { (text : List ℕ) → IsProgramOf text program.now → IsRefusedRightly text input.now result }
+    options: Options,
+    gate: &G,
+) -> Result<(Outcome, Counts), Refusal>
+    ensures outcome { IfOk result (λ found. (text : List ℕ) → IsProgramOf text program.now →
+        IsRunOf text input.now options.bound program.now.layout (verdict_of found.0)) }
+    ensures exchanges { IfOk result (λ found. (text : List ℕ) → IsProgramOf text program.now →
+        IsRunByWorkers text input.now options (verdict_of found.0) found.1) }
+    ensures refused { (text : List ℕ) → IsProgramOf text program.now → IsRunRefused text input.now options result }
 {
-    match reference_run(alloc, program, input, bound) {
-        Ok(outcome) => Ok(outcome),
-        Err(RunRefusal::InputTooLong) => Err(Refusal::InputTooLong),
-        Err(RunRefusal::OutOfMemory) => Err(Refusal::OutOfMemory),
+    have_64_bits(input);
+    match compile_program(alloc, program) {
+        Ok(code) => run_code(rt, alloc, &code, input, options, gate),
+        Err(AllocError) => Err(Refusal::OutOfMemory),
     }
 }
 
-/// Runs a program on an input, for at most `bound` statements. The first cells get the values of
-/// the input. It is refused for E11, and for E16 where memory was refused.
-pub fn run_program(
+/// Compiles the program of a text and runs its code on an input by workers in threads of their own, which exchange messages at a
+/// barrier. However many workers there are, wherever the map lays the cells and however the threads take turns, the outcome is the
+/// program's by its meaning: it ends with that output and memory exactly when the program does within the bound, faults at that line and
+/// place with that output exactly when it does, and otherwise gives the same output so far. The exchanges are those of its compiled
+/// code. Each worker passes the gate before each of its exchanges; nothing is said of it.
+///
+/// A text is refused for the first of these: E1 to E10 for what is wrong with it, E13 where there are no workers or more than 32, E12
+/// where there is no such map, E11 where the input has more values than the program has cells; and for E16 where memory or a thread was
+/// refused.
+pub fn run_text<R: Threads + Wait + Sync, G: Gate + Sync>(
+    rt: &R,
     alloc: Global,
-    program: Program,
+    text: &[u8],
     input: &[i64],
-    bound: u32,
+    options: Options,
+    gate: &G,
 ) -> Result<Report, Refusal>
-    ensures outcome { IfOk result (λ r. (text : List ℕ) → IsProgramOf text program →
-        IsRunOf text input.now bound r.layout (verdict_of r.outcome)) }
-    ensures refused { (text : List ℕ) → IsProgramOf text program → IsRefusedRightly text input.now result }
+    // The outcome is that of the text's program on the input, within the bound.
+    ensures outcome { IfOk result (λ r. IsRunOf text.now input.now options.bound r.layout (verdict_of r.outcome)) }
+    // The exchanges are those of the program's code up to there, as many at most as its bound says where it doesn't fault.
+    ensures exchanges { IfOk result (λ r. IsRunByWorkers text.now input.now options (verdict_of r.outcome) r.counts) }
+    ensures refused { IsRunRefused text.now input.now options result }
 {
-    match mean_program(alloc, &program, input, bound) {
-        Ok(outcome) => {
+    let program = match read_program(alloc, text) {
+        Ok(program) => program,
+        Err(refusal) => return Err(refusal),
+    };
+    match run_program(rt, alloc, &program, input, options, gate) {
+        Ok((outcome, counts)) => {
             let layout = program.into_layout();
-            Ok(Report { layout, outcome })
+            Ok(Report {
+                layout,
+                outcome,
+                counts,
+            })
         }
-        Err(refusal) => Err(refusal),
-    }
-}
-
-/// Runs the program of a text on an input, for at most `bound` statements. The first cells get the
-/// values of the input. It is refused for E1 to E11, and for E16 where memory was refused.
-pub fn run_text(alloc: Global, text: &[u8], input: &[i64], bound: u32) -> Result<Report, Refusal>
-    ensures outcome { IfOk result (λ r. IsRunOf text.now input.now bound r.layout (verdict_of r.outcome)) }
-    ensures refused { IsRefusedRightly text.now input.now result }
-{
-    match read_program(alloc, text) {
-        Ok(program) => run_program(alloc, program, input, bound),
         Err(refusal) => Err(refusal),
     }
 }

@@ -1,9 +1,11 @@
-//! What a run of a text is.
+//! The headline, for any map.
 
-ghost use Rattle.pramc.specs.Report.{HasOneRunAtMost};
+ghost use Rattle.pramc.specs.Headline.{CompiledTextsMeanTheirPrograms};
 
-/// A text has one run at most on an input, within a bound: by the clauses of `run_text` alone its
-/// answer is the only one, want of memory aside.
-pub fn one_run_at_most()
-    ensures { HasOneRunAtMost }
+/// Whatever lawful map lays the cells out, with a place for each, and so for 1 to 32 workers: on every input of values of 64 bits, at most
+/// one a cell, and within every bound, the code that `compile` gives for a text has the outcome of the text's program on these workers, and
+/// no other. That `run_workers` comes to the outcome of the machine's definition, whatever the map, is its own contract; so what it
+/// answers for such code is the program's outcome.
+pub fn compiled_texts_mean_their_programs()
+    ensures { CompiledTextsMeanTheirPrograms }
 {}

@@ -1,20 +1,11 @@
-//! Runs a PRAM program from its text.
+//! From the text of a PRAM program to its outcome: compiled, and run by workers in threads.
 #![tactic(auto)]
 
-mod console;
 mod from_text;
-mod last_flush;
 pub mod law;
-mod outcome_text;
-mod show_parts;
-mod sources;
-mod status;
-mod stop;
+mod on_map;
+mod options;
 
-pub use console::{Stream, SystemFiles};
-pub use from_text::{Refusal, Report, mean_program, read_program, run_program, run_text};
-pub use last_flush::finish;
-pub use outcome_text::show;
-pub use sources::{SourceFault, Sources};
-pub use status::Status;
-pub use stop::{Stop, write_stop};
+pub use from_text::{Report, run_program, run_text};
+pub use on_map::run_code;
+pub use options::Options;

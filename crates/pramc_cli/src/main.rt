@@ -1,7 +1,7 @@
 //! The program `pramc`, over the system's files and streams.
 #![tactic(auto)]
 
-use pramc::{Stream, SystemFiles};
+use program_texts::{Stream, SystemFiles};
 use pramc_command::command;
 use std::process::ExitCode;
 use std::{env, io};
@@ -12,6 +12,6 @@ fn main(rt: HostRuntime) -> io::Result<ExitCode> {
     let mut files = SystemFiles { system: &rt };
     let mut out = Stream::new(rt.stdout());
     let mut err = Stream::new(rt.stderr());
-    let status = command(alloc, words.as_slice(), &mut files, &mut out, &mut err);
+    let status = command(&rt, alloc, words.as_slice(), &mut files, &mut out, &mut err);
     Ok(ExitCode::from(status.code()))
 }

@@ -5,9 +5,9 @@ use Rattle.std.specs.Prelude.{Result, Ok, Err, IfOk, IfErr}
 use Rattle.text_out.specs.Out.{OutState, StopsIn, with_bytes, with_failure}
 use Rattle.pram_model.specs.Layout.{SharedEntry}
 use Rattle.write_rules.specs.declared.outcome.Outcome.{Outcome}
-use Rattle.pramc.specs.declared.status.Status.{Status}
-use Rattle.pramc.specs.declared.stop.Stop.{Stop}
-use Rattle.pramc.specs.declared.stop.Stop.TheVariants.{WriteFailed}
+use Rattle.program_texts.specs.declared.status.Status.{Status}
+use Rattle.program_texts.specs.declared.stop.Stop.{Stop}
+use Rattle.program_texts.specs.declared.stop.Stop.TheVariants.{WriteFailed}
 use Rattle.pramc_command.specs.Answered.{Answers, HasOutcome, IsStopped, IsTold, Tells}
 
 -- a beginning of the text, and the writer failed

@@ -1,11 +1,11 @@
 -- What is refused is refused for a true reason.
 use Rattle.std.proofs.Common.{ℕ, List, ℤ, Err, inl, inr}
 use Rattle.superstep_code.specs.Code.{SuperstepCode}
-use Rattle.pramc.specs.Report.{IsRefusedRightly}
-use Rattle.pramc.specs.declared.from_text.Refusal.{Refusal}
-use Rattle.pramc.specs.declared.from_text.Refusal.TheVariants as refusal
-use Rattle.program_runs.specs.declared.options.Options.{Options}
-use Rattle.program_runs.specs.Runs.{IsCodeRefused, IsRunRefused}
+use Rattle.program_texts.specs.Report.{IsRefusedRightly}
+use Rattle.program_texts.specs.declared.from_text.Refusal.{Refusal}
+use Rattle.program_texts.specs.declared.from_text.Refusal.TheVariants as refusal
+use Rattle.pramc.specs.declared.options.Options.{Options}
+use Rattle.pramc.specs.Runs.{IsCodeRefused, IsRunRefused}
 use Rattle.pramc_command.specs.Answered.{IsAListing, IsTrueOf}
 
 -- by the definition

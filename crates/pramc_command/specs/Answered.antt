@@ -17,19 +17,19 @@ use Rattle.tracer.specs.Traced.{trace_text}
 use Rattle.compiling.specs.Compiled.{IsCompiledFrom}
 use Rattle.write_rules.specs.Verdict.{verdict_of}
 use Rattle.write_rules.specs.declared.outcome.Outcome.{Outcome}
-use Rattle.pramc.specs.Report.{HasBreach, HasTooFewCells, IsInputRefusal, IsProgramOf, IsRunOf, IsTextRefusal}
-use Rattle.pramc.specs.Shown.{line, shown}
-use Rattle.pramc.specs.Status.{status_of}
-use Rattle.pramc.specs.StoppedFields.{stop_text}
-use Rattle.pramc.specs.declared.from_text.Refusal.{Refusal}
-use Rattle.pramc.specs.declared.from_text.Refusal.TheVariants as refusal
-use Rattle.pramc.specs.declared.status.Status.{Status}
-use Rattle.pramc.specs.declared.status.Status.TheVariants.{Done, Refused}
-use Rattle.pramc.specs.declared.stop.Stop.{Stop}
-use Rattle.pramc.specs.declared.stop.Stop.TheVariants as stop
+use Rattle.program_texts.specs.Report.{HasBreach, HasTooFewCells, IsInputRefusal, IsProgramOf, IsRunOf, IsTextRefusal}
+use Rattle.program_texts.specs.Shown.{line, shown}
+use Rattle.program_texts.specs.Status.{status_of}
+use Rattle.program_texts.specs.StoppedFields.{stop_text}
+use Rattle.program_texts.specs.declared.from_text.Refusal.{Refusal}
+use Rattle.program_texts.specs.declared.from_text.Refusal.TheVariants as refusal
+use Rattle.program_texts.specs.declared.status.Status.{Status}
+use Rattle.program_texts.specs.declared.status.Status.TheVariants.{Done, Refused}
+use Rattle.program_texts.specs.declared.stop.Stop.{Stop}
+use Rattle.program_texts.specs.declared.stop.Stop.TheVariants as stop
 use Rattle.run_options.specs.declared.map_choice.MapChoice.{MapChoice}
-use Rattle.program_runs.specs.declared.options.Options.{Options}
-use Rattle.program_runs.specs.Runs.{IsChoice, IsCodeRun, IsRunByWorkers}
+use Rattle.pramc.specs.declared.options.Options.{Options}
+use Rattle.pramc.specs.Runs.{IsChoice, IsCodeRun, IsRunByWorkers}
 
 -- `accepted cells 16 procs 8 rule erew`
 abbrev pub accepted_line : Checked → List ℕ

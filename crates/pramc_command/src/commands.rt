@@ -1,7 +1,7 @@
 //! The program `pramc`, but for the real files and streams.
 
 ghost use Rattle.std.specs.Prelude.{◌<◌, ◌^◌};
-ghost use Rattle.pramc.specs.StoppedFields.{stop_text};
+ghost use Rattle.program_texts.specs.StoppedFields.{stop_text};
 ghost use Rattle.pramc_command.specs.Answered.{Answers, IsReported, Leaves};
 
 use crate::loading::{load_input, load_listing, load_program};
@@ -9,17 +9,20 @@ use crate::request::{Request, RunWords, Verb, read_words};
 use crate::running::{code_of, execute, mean, run};
 use crate::writing::{write_accepted, write_exchanges, write_outcome, write_plan};
 use pram_syntax::Out;
-use pramc::{Sources, Status, Stop, write_stop};
+use program_texts::{Sources, Status, Stop, write_stop};
 use std::alloc::Global;
+use std::sync::Wait;
+use std::thread::Threads;
 
 /// Does what the words behind the program's name ask for, and answers the exit status.
 ///
 /// `check FILE` writes `accepted cells N procs M rule R`; `plan FILE` the listing of the program's code; `meaning FILE` the outcome by
-/// the definition; `run FILE` that of its code, run by workers, and `trace FILE` the exchanges of that run; `exec LISTING` the outcome of
-/// a listing. What is refused is written to `err`: P1 for the words, P2 for a file that can't be read, and E1 to E17. It is judged in
+/// the definition; `run FILE` that of its code, run by workers in threads, and `trace FILE` the exchanges of that run; `exec LISTING` the
+/// outcome of a listing, run so. What is refused is written to `err`: P1 for the words, P2 for a file that can't be read, and E1 to E17. It is judged in
 /// this order: the words; the file and its text (of a listing E2, E15, E14); the input's file and its text; the number of workers
 /// (E13), the map (E12), and the number of the input's values (E11).
-pub fn command<S: Sources, O: Out, E: Out>(
+pub fn command<R: Threads + Wait + Sync, S: Sources, O: Out, E: Out>(
+    rt: &R,
     alloc: Global,
     words: &[String],
     sources: &mut S,
@@ -30,7 +33,7 @@ pub fn command<S: Sources, O: Out, E: Out>(
     requires err { (E.Out.state err.old).failures < 2 ^ 62 }
     ensures leaves { Leaves (O.Out.state out.old) (O.Out.state out.new) (E.Out.state err.old) (E.Out.state err.new) result }
 {
-    match perform(alloc, words, sources, out) {
+    match perform(rt, alloc, words, sources, out) {
         Ok(status) => status,
         Err(stop) => {
             report(err, &stop);
@@ -49,7 +52,8 @@ fn report<E: Out>(err: &mut E, stop: &Stop<'_>)
     }
 }
 
-fn perform<'a, S: Sources, O: Out>(
+fn perform<'a, R: Threads + Wait + Sync, S: Sources, O: Out>(
+    rt: &R,
     alloc: Global,
     words: &'a [String],
     sources: &mut S,
@@ -60,14 +64,15 @@ fn perform<'a, S: Sources, O: Out>(
 {
     match read_words(alloc, words)? {
         Request::Program { verb, file, words } => {
-            on_program(alloc, verb, file, words, sources, out)
+            on_program(rt, alloc, verb, file, words, sources, out)
         }
-        Request::Listing { file, words } => on_listing(alloc, file, words, sources, out),
+        Request::Listing { file, words } => on_listing(rt, alloc, file, words, sources, out),
     }
 }
 
 // What is done with the program of a file.
-fn on_program<'a, S: Sources, O: Out>(
+fn on_program<'a, R: Threads + Wait + Sync, S: Sources, O: Out>(
+    rt: &R,
     alloc: Global,
     verb: Verb,
     file: &'a str,
@@ -92,19 +97,20 @@ fn on_program<'a, S: Sources, O: Out>(
         }
         Verb::Run => {
             let input = load_input(alloc, sources, words.input)?;
-            let (outcome, _counts) = run(alloc, &program, &input, words.options)?;
+            let (outcome, _counts) = run(rt, alloc, &program, &input, words.options)?;
             write_outcome(out, program.layout(), &outcome)
         }
         Verb::Trace => {
             let input = load_input(alloc, sources, words.input)?;
-            let (outcome, counts) = run(alloc, &program, &input, words.options)?;
+            let (outcome, counts) = run(rt, alloc, &program, &input, words.options)?;
             write_exchanges(out, &outcome, &counts)
         }
     }
 }
 
 // A listing is run.
-fn on_listing<'a, S: Sources, O: Out>(
+fn on_listing<'a, R: Threads + Wait + Sync, S: Sources, O: Out>(
+    rt: &R,
     alloc: Global,
     file: &'a str,
     words: RunWords<'a>,
@@ -116,6 +122,6 @@ fn on_listing<'a, S: Sources, O: Out>(
 {
     let code = load_listing(alloc, sources, file)?;
     let input = load_input(alloc, sources, words.input)?;
-    let (outcome, _counts) = execute(alloc, &code, &input, words.options)?;
+    let (outcome, _counts) = execute(rt, alloc, &code, &input, words.options)?;
     write_outcome(out, code.code().layout(), &outcome)
 }

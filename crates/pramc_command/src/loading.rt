@@ -11,7 +11,7 @@ use bsp_verify::{Reason, Verified, VerifyFault, verify};
 use pram_check::Program;
 use pram_syntax::{TextFault, read_input};
 use pram_tokens::LONGEST;
-use pramc::{Refusal, SourceFault, Sources, Stop, read_program};
+use program_texts::{Refusal, SourceFault, Sources, Stop, read_program};
 use std::alloc::Global;
 use superstep_listing::{LONGEST as LONGEST_LISTING, ListingFault, read_listing};
 

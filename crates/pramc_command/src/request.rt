@@ -5,8 +5,8 @@ ghost use Rattle.pramc_command.specs.Answered.{IsTrueStop};
 
 use clap::error::ErrorKind;
 use clap::{Arg, ArgMatches, Command};
-use pramc::{Refusal, Stop};
-use program_runs::Options;
+use pramc::Options;
+use program_texts::{Refusal, Stop};
 use run_options::{MapChoice, read_map, read_number};
 use std::alloc::{AllocError, Global};
 

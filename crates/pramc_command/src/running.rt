@@ -7,9 +7,12 @@ use bsp_verify::Verified;
 use compiling::compile_program;
 use exchange_counts::Counts;
 use pram_check::Program;
-use pramc::{Stop, mean_program};
-use program_runs::{Options, run_code, run_program};
+use pramc::{Options, run_code, run_program};
+use program_texts::{Stop, mean_program};
 use std::alloc::Global;
+use std::sync::Wait;
+use std::thread::Threads;
+use workers::OpenGate;
 use write_rules::Outcome;
 
 /// The code of a program.
@@ -39,7 +42,8 @@ pub(crate) fn mean<'a>(
 }
 
 /// The outcome by workers, and the exchanges.
-pub(crate) fn run<'a>(
+pub(crate) fn run<'a, R: Threads + Wait + Sync>(
+    rt: &R,
     alloc: Global,
     program: &Program,
     input: &[i64],
@@ -50,14 +54,15 @@ pub(crate) fn run<'a>(
     ensures trace { IfOk result (λ found. HasTrace found.0 found.1) }
     ensures refused { IfErr result IsTrueStop }
 {
-    match run_program(alloc, program, input, options) {
+    match run_program(rt, alloc, program, input, options, &OpenGate) {
         Ok(found) => Ok(found),
         Err(refusal) => Err(Stop::Refused(refusal)),
     }
 }
 
 /// What code comes to.
-pub(crate) fn execute<'a>(
+pub(crate) fn execute<'a, R: Threads + Wait + Sync>(
+    rt: &R,
     alloc: Global,
     code: &Verified,
     input: &[i64],
@@ -67,7 +72,7 @@ pub(crate) fn execute<'a>(
     ensures run { IfOk result (λ found. HasRun code.now found.0) }
     ensures refused { IfErr result IsTrueStop }
 {
-    match run_code(alloc, code, input, options) {
+    match run_code(rt, alloc, code, input, options, &OpenGate) {
         Ok(found) => Ok(found),
         Err(refusal) => Err(Stop::Refused(refusal)),
     }

@@ -4,15 +4,15 @@ ghost use Rattle.std.specs.Prelude.{◌≡◌, ◌<◌, ◌^◌};
 ghost use Rattle.text_out.specs.Out.{Writes};
 ghost use Rattle.pram_model.specs.Rules.{rule_word as spec_rule_word};
 ghost use Rattle.write_rules.specs.Verdict.{verdict_of};
-ghost use Rattle.pramc.specs.Shown.{shown};
-ghost use Rattle.pramc.specs.Status.{status_of};
+ghost use Rattle.program_texts.specs.Shown.{shown};
+ghost use Rattle.program_texts.specs.Status.{status_of};
 ghost use Rattle.pramc_command.specs.Answered.{Answers, HasTrace, IsAProgram, IsPlanned, Tells, accepted_line};
 
 use exchange_counts::Counts;
 use itoa::Buffer;
 use pram_check::Program;
 use pram_syntax::{Layout, Out, Rule, WriteFault};
-use pramc::{Status, Stop, finish, show};
+use program_texts::{Status, Stop, finish, show};
 use superstep_code::Code;
 use superstep_listing::write_listing;
 use tracer::write_trace;

@@ -2,8 +2,8 @@ use Rattle.std.proofs.Common.{subst, sym, ap, ◌∙◌, List}
 use Rattle.write_rules.specs.Verdict.{verdict_of}
 use Rattle.pram_model.specs.Layout.{SharedEntry}
 use Rattle.superstep_code.specs.Code.{SuperstepCode}
-use Rattle.pramc.specs.Shown.{shown}
-use Rattle.pramc.specs.Status.{status_of}
+use Rattle.program_texts.specs.Shown.{shown}
+use Rattle.program_texts.specs.Status.{status_of}
 use Rattle.pramc_command.specs.Answered.{Executed, Tells}
 use Rattle.pramc_command.proofs.commands.on_listing.Goals as goal
 

@@ -4,16 +4,16 @@ use Rattle.pramc_command.proofs.Reasons.{no_run_is_true}
 use Rattle.pramc_command.proofs.running.run.Goals as goal
 
 pub returns-in-Ok-clause-outcome : goal.returns-in-Ok-clause-outcome
-returns-in-Ok-clause-outcome c =
+returns-in-Ok-clause-outcome g c =
     let is = c.requires.program in
     (is.0, c.args.input.now, c.args.options.bound, c.in-Ok.ensures.outcome is.0 is.1)
 
 pub returns-in-Ok-clause-trace : goal.returns-in-Ok-clause-trace
-returns-in-Ok-clause-trace c =
+returns-in-Ok-clause-trace g c =
     let is = c.requires.program in
     (is.0, c.args.input.now, c.args.options, c.in-Ok.ensures.exchanges is.0 is.1)
 
 pub returns-in-Err-clause-refused : goal.returns-in-Err-clause-refused
-returns-in-Err-clause-refused c =
+returns-in-Err-clause-refused g c =
     let is = c.requires.program in
     no_run_is_true (Outcome × Counts) is.0 c.args.input.now c.args.options c.in-Err.refusal (c.in-Err.ensures.refused is.0 is.1)

@@ -1,6 +1,6 @@
 use Rattle.std.proofs.Common.{subst, sym}
 use Rattle.write_rules.specs.Verdict.{verdict_of}
-use Rattle.pramc.specs.Shown.{shown}
+use Rattle.program_texts.specs.Shown.{shown}
 use Rattle.pramc_command.specs.Answered.{Tells}
 use Rattle.pramc_command.proofs.Answering.{cut_off, told}
 use Rattle.pramc_command.proofs.writing.write_outcome.Goals as goal

@@ -1,0 +1,97 @@
+//! A run by the workers of a map.
+
+ghost use Rattle.std.specs.Prelude.{List, ℤ, IfOk, IfErr};
+ghost use Rattle.superstep_code.specs.Code.{SuperstepCode};
+ghost use Rattle.address_map.specs.Outcome.{IsWorkers};
+ghost use Rattle.pramc.specs.declared.options.Options.{Options as RunOptions};
+ghost use Rattle.pram_model.specs.Layout.{total_size};
+ghost use Rattle.write_rules.specs.Verdict.{verdict_of};
+ghost use Rattle.run_options.specs.Places.{IsLeastPower};
+ghost use Rattle.pramc.specs.Runs.{IsChoice, IsCodeRefused, IsCodeRun, IsMapOf, IsNoMap};
+
+use crate::options::Options;
+use address_map::{AddressMap, Affine, Identity, MapFault};
+use bsp_verify::Verified;
+use exchange_counts::Counts;
+use program_texts::Refusal;
+use run_options::{MapChoice, places};
+use std::alloc::Global;
+use std::sync::Wait;
+use std::thread::Threads;
+use worker_messages::RunRefusal;
+use workers::{Gate, run_workers};
+use write_rules::Outcome;
+
+// Runs code by the workers of a map.
+fn run_on<R: Threads + Wait + Sync, M: AddressMap + Sync, G: Gate + Sync>(
+    rt: &R,
+    alloc: Global,
+    code: &Verified,
+    map: &M,
+    input: &[i64],
+    options: Options,
+    gate: &G,
+) -> Result<(Outcome, Counts), Refusal>
+    requires workers { IsWorkers options.workers }
+    requires choice { IsChoice options.map }
+    requires least { IsLeastPower (total_size code.now.layout) (M.shape map.now).count }
+    requires placed { IsMapOf options.map (M.shape map.now).count options.workers (M.shape map.now) }
+    ensures run { IfOk result (λ found. IsCodeRun code.now input.now options (verdict_of found.0) found.1) }
+    ensures refused { IfErr result (IsCodeRefused code.now input.now options) }
+{
+    match run_workers(
+        rt,
+        alloc,
+        code,
+        map,
+        options.workers,
+        input,
+        options.bound,
+        gate,
+    ) {
+        Ok(found) => Ok(found),
+        Err(RunRefusal::BadWorkers) => Err(Refusal::BadWorkers),
+        Err(RunRefusal::BadMap) => Err(Refusal::BadMap),
+        Err(RunRefusal::InputTooLong) => Err(Refusal::InputTooLong),
+        Err(RunRefusal::OutOfMemory) => Err(Refusal::OutOfMemory),
+    }
+}
+
+// Why there is no such map.
+fn refusal_of(fault: MapFault) -> Refusal
+    ensures { (code : SuperstepCode) (input : List ℤ) (how : RunOptions) → IsNoMap how fault → IsCodeRefused code input how result }
+{
+    match fault {
+        MapFault::BadWorkers => Refusal::BadWorkers,
+        MapFault::BadMap => Refusal::BadMap,
+    }
+}
+
+/// Runs verified code on an input, by the workers and the map of the options, each in a thread of its own that passes the gate before
+/// its exchanges: its outcome, and the exchanges of the workers. It is refused for the first of these: E13 where there are no workers or
+/// more than 32, E12 where there is no such map, E11 where the input has more values than the code has cells; and for E16 where memory
+/// or a thread was refused.
+pub fn run_code<R: Threads + Wait + Sync, G: Gate + Sync>(
+    rt: &R,
+    alloc: Global,
+    code: &Verified,
+    input: &[i64],
+    options: Options,
+    gate: &G,
+) -> Result<(Outcome, Counts), Refusal>
+    ensures run { IfOk result (λ found. IsCodeRun code.now input.now options (verdict_of found.0) found.1) }
+    ensures refused { IfErr result (IsCodeRefused code.now input.now options) }
+{
+    let cells = places(code.code().layout().cells());
+    let workers = options.workers;
+    match options.map {
+        MapChoice::Identity => match Identity::new(cells, workers) {
+            Ok(map) => run_on(rt, alloc, code, &map, input, options, gate),
+            Err(fault) => Err(refusal_of(fault)),
+        },
+        MapChoice::Affine { factor, shift } => match Affine::new(cells, workers, factor, shift) {
+            Ok(map) => run_on(rt, alloc, code, &map, input, options, gate),
+            Err(fault) => Err(refusal_of(fault)),
+        },
+    }
+}

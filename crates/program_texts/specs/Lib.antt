@@ -1,0 +1,6 @@
+pub mod Report
+pub mod Shown
+pub mod Status
+pub mod Stopped
+pub mod StoppedFields
+pub mod Held

@@ -1,0 +1,18 @@
+-- The line of each reason for a stop.
+use Rattle.std.specs.Prelude.{ℕ, List, ◌++◌, Some, None, codes, decimal}
+use Rattle.program_texts.specs.declared.stop.Stop.{Stop}
+use Rattle.program_texts.specs.declared.stop.Stop.TheVariants as stop
+use Rattle.program_texts.specs.Stopped.{refused_line, refusal_place, refusal_words}
+
+-- `refused E14 NotVerified at 0 exchange`
+abbrev pub unverified_line : ℕ → List ℕ → List ℕ
+unverified_line at reason = codes "refused E14 NotVerified at " ++ (decimal at ++ (codes " " ++ (reason ++ codes "\n")))
+
+abbrev pub stop_text : Stop → List ℕ
+stop_text (stop.Words text) = text.bytes.items
+stop_text (stop.Number word) = refused_line (codes "P1 " ++ word.now) None
+stop_text (stop.Unreadable name) = refused_line (codes "P2 " ++ name.now) None
+stop_text (stop.Refused r) = refused_line (refusal_words r) (refusal_place r)
+stop_text (stop.NotVerified at reason) = unverified_line at reason.now
+stop_text (stop.BadListing at) = refused_line (codes "E15 BadListing") (Some at)
+stop_text stop.WriteFailed = refused_line (codes "E17 WriteFailed") None

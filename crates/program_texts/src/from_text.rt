@@ -1,0 +1,109 @@
+//! From a text to its program, and to the outcome of that by the definition.
+
+ghost use Rattle.std.specs.Prelude.{◌≡◌, ℕ, List, IfOk};
+ghost use Rattle.write_rules.specs.Verdict.{verdict_of};
+ghost use Rattle.program_texts.specs.Report.{IsNoProgram, IsProgramOf, IsRefusedRightly, IsRunOf, refusal_of};
+
+use pram_check::{Breach, CheckFault, Program, check};
+use pram_meaning::{RunRefusal, reference_run};
+use pram_parser::parse;
+use pram_syntax::{Layout, TextFault};
+use std::alloc::Global;
+use write_rules::Outcome;
+
+/// Why a text is not run.
+#[derive(Clone, Copy, Debug, PartialEq, Eq)]
+pub enum Refusal {
+    /// E1 to E5: what is wrong with the text.
+    Text(TextFault),
+    /// E6 to E10: the first thing that is wrong with the program.
+    Program(Breach),
+    /// E11: the input has more values than the program has cells.
+    InputTooLong,
+    /// E12: the map has not one module for each worker, or not a place for each cell.
+    BadMap,
+    /// E13: the number of workers is none of 1 to 32.
+    BadWorkers,
+    /// E16: memory was refused.
+    OutOfMemory,
+}
+
+impl Refusal {
+    /// What a text, or an input, is refused for. Want of memory has one spelling, whoever asked.
+    pub fn of_text(fault: TextFault) -> Refusal
+        ensures { result ≡ refusal_of fault }
+    {
+        match fault {
+            TextFault::OutOfMemory => Refusal::OutOfMemory,
+            _ => Refusal::Text(fault),
+        }
+    }
+}
+
+/// How a run came out, and the shared declarations by which its cells are named.
+#[derive(Drop)]
+pub struct Report {
+    pub layout: Layout,
+    pub outcome: Outcome,
+}
+
+/// The program of a text, with its names resolved. It is refused for E1 to E10, and for E16 where
+/// memory was refused.
+pub fn read_program(alloc: Global, text: &[u8]) -> Result<Program, Refusal>
+    ensures program { IfOk result (IsProgramOf text.now) }
+    ensures refused { IsNoProgram text.now result }
+{
+    let tree = match parse(alloc, text) {
+        Ok(tree) => tree,
+        Err(fault) => return Err(Refusal::of_text(fault)),
+    };
+    match check(alloc, tree) {
+        Ok(program) => Ok(program),
+        Err((CheckFault::Refused(breach), _tree)) => Err(Refusal::Program(breach)),
+        Err((CheckFault::OutOfMemory, _tree)) => Err(Refusal::OutOfMemory),
+    }
+}
+
+/// The outcome of a program on an input by the definition, within at most `bound` statements. The
+/// first cells get the values of the input. It is refused for E11, and for E16 where memory was
+/// refused.
+pub fn mean_program(
+    alloc: Global,
+    program: &Program,
+    input: &[i64],
+    bound: u32,
+) -> Result<Outcome, Refusal>
+    ensures outcome { IfOk result (λ o. (text : List ℕ) → IsProgramOf text program.now →
+        IsRunOf text input.now bound program.now.layout (verdict_of o)) }
+    ensures refused { (text : List ℕ) → IsProgramOf text program.now → IsRefusedRightly text input.now result }
+{
+    match reference_run(alloc, program, input, bound) {
+        Ok(outcome) => Ok(outcome),
+        Err(RunRefusal::InputTooLong) => Err(Refusal::InputTooLong),
+        Err(RunRefusal::OutOfMemory) => Err(Refusal::OutOfMemory),
+    }
+}
+
+/// The outcome, by the definition, of the program of a text on an input, within at most `bound` statements, and the program's shared
+/// declarations. The first cells get the values of the input. It is refused for E1 to E11, and for E16 where memory was refused.
+pub fn meaning_of_text(
+    alloc: Global,
+    text: &[u8],
+    input: &[i64],
+    bound: u32,
+) -> Result<Report, Refusal>
+    ensures outcome { IfOk result (λ r. IsRunOf text.now input.now bound r.layout (verdict_of r.outcome)) }
+    ensures refused { IsRefusedRightly text.now input.now result }
+{
+    let program = match read_program(alloc, text) {
+        Ok(program) => program,
+        Err(refusal) => return Err(refusal),
+    };
+    match mean_program(alloc, &program, input, bound) {
+        Ok(outcome) => {
+            let layout = program.into_layout();
+            Ok(Report { layout, outcome })
+        }
+        Err(refusal) => Err(refusal),
+    }
+}

@@ -1,0 +1,21 @@
+//! The end of a call.
+
+ghost use Rattle.std.specs.Prelude.{◌≡◌, ◌<◌, ◌^◌, IfErr, IfOk};
+ghost use Rattle.text_out.specs.Out.{with_failure};
+ghost use Rattle.program_texts.specs.declared.stop.Stop.TheVariants.{WriteFailed};
+
+use crate::status::Status;
+use crate::stop::Stop;
+use pram_syntax::{Out, OutFailed};
+
+/// Has the writer give on what it still holds, and answers the status; or the writer failed (E17).
+pub fn finish<'a, O: Out>(out: &mut O, status: Status) -> Result<Status, Stop<'a>>
+    requires out { (O.Out.state out.old).failures < 2 ^ 63 }
+    ensures ok { IfOk result (λ s. (s ≡ status) × (O.Out.state out.new ≡ O.Out.state out.old)) }
+    ensures failed { IfErr result (λ stop. (stop ≡ WriteFailed) × (O.Out.state out.new ≡ with_failure (O.Out.state out.old))) }
+{
+    match out.flush() {
+        Ok(()) => Ok(status),
+        Err(OutFailed) => Err(Stop::WriteFailed),
+    }
+}

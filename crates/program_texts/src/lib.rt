@@ -1,0 +1,20 @@
+//! Programs from their texts, what they mean by the definition, and the texts of outcomes and refusals.
+#![tactic(auto)]
+
+mod console;
+mod from_text;
+mod last_flush;
+pub mod law;
+mod outcome_text;
+mod show_parts;
+mod sources;
+mod status;
+mod stop;
+
+pub use console::{Stream, SystemFiles};
+pub use from_text::{Refusal, Report, mean_program, meaning_of_text, read_program};
+pub use last_flush::finish;
+pub use outcome_text::show;
+pub use sources::{SourceFault, Sources};
+pub use status::Status;
+pub use stop::{Stop, write_stop};

@@ -1,0 +1,100 @@
+//! The text of an outcome.
+
+ghost use Rattle.std.specs.Prelude.{◌≡◌, ◌++◌, ◌<◌, ◌^◌, codes};
+ghost use Rattle.std.specs.Fmt.{decimal};
+ghost use Rattle.text_out.specs.Out.{Writes};
+ghost use Rattle.write_rules.specs.Verdict.{Ended, Faulted, verdict_of};
+ghost use Rattle.program_texts.specs.Shown as shown;
+
+use crate::show_parts::{write_cell, write_items, write_memory};
+use itoa::Buffer;
+use pram_syntax::{Layout, Out, WriteFault};
+use pram_values::{Kind, Place};
+use write_rules::{Fault, Outcome};
+
+/// Writes the text of an outcome: each output item in decimal on a line, and then how the run came
+/// out. At its end that is `ended` and a line for each shared declaration with the values of its
+/// cells, as `s = 7` or `a[1..4] = 4 3 2 1`; at a fault a line as `fault read-conflict a[1] line 4`;
+/// and `goes on` where the bound was met. The error is that the writer failed (E17).
+pub fn show<W: Out>(layout: &Layout, outcome: &Outcome, out: &mut W) -> Result<(), WriteFault>
+    requires counted { (W.Out.state out.old).failures < 2 ^ 63 }
+    ensures written { Writes (W.Out.state out.old) (W.Out.state out.new) (shown.shown layout.now (verdict_of outcome.now)) result }
+{
+    match outcome {
+        Outcome::Ended { output, memory } => show_end(layout, output, memory, out),
+        Outcome::Faulted { fault, output } => show_fault(layout, output, fault, out),
+        Outcome::GoesOn { output } => show_front(output, out),
+    }
+}
+
+fn show_end<W: Out>(
+    layout: &Layout,
+    output: &[i64],
+    memory: &[i64],
+    out: &mut W,
+) -> Result<(), WriteFault>
+    requires counted { (W.Out.state out.old).failures < 2 ^ 63 }
+    ensures written { Writes (W.Out.state out.old) (W.Out.state out.new) (shown.shown layout.now (Ended output.now memory.now)) result }
+{
+    write_items(out, output)?;
+    out.write_all(b"ended\n")?;
+    write_memory(out, layout, memory)
+}
+
+fn show_fault<W: Out>(
+    layout: &Layout,
+    output: &[i64],
+    fault: &Fault,
+    out: &mut W,
+) -> Result<(), WriteFault>
+    requires counted { (W.Out.state out.old).failures < 2 ^ 63 }
+    ensures written { Writes (W.Out.state out.old) (W.Out.state out.new) (shown.shown layout.now (Faulted fault.now output.now)) result }
+{
+    write_items(out, output)?;
+    write_fault(out, layout, fault)
+}
+
+fn show_front<W: Out>(output: &[i64], out: &mut W) -> Result<(), WriteFault>
+    requires counted { (W.Out.state out.old).failures < 2 ^ 63 }
+    ensures written { Writes (W.Out.state out.old) (W.Out.state out.new) (shown.item_lines output.now ++ shown.line (codes "goes on")) result }
+{
+    write_items(out, output)?;
+    out.write_all(b"goes on\n")
+}
+
+fn write_fault<W: Out>(out: &mut W, layout: &Layout, fault: &Fault) -> Result<(), WriteFault>
+    requires counted { (W.Out.state out.old).failures < 2 ^ 63 }
+    ensures written { Writes (W.Out.state out.old) (W.Out.state out.new) (shown.line (shown.fault_text layout.now fault.now)) result }
+{
+    let mut digits = Buffer::new();
+    out.write_parts(&[b"fault ", kind_word(fault.kind), b" "])?;
+    write_place(out, layout, fault.place)?;
+    out.write_parts(&[b" line ", digits.format(fault.line).as_bytes(), b"\n"])
+}
+
+fn write_place<W: Out>(out: &mut W, layout: &Layout, place: Place) -> Result<(), WriteFault>
+    requires counted { (W.Out.state out.old).failures < 2 ^ 63 }
+    ensures written { Writes (W.Out.state out.old) (W.Out.state out.new) (shown.place_text layout.now place) result }
+{
+    match place {
+        Place::All => out.write_all(b"all"),
+        Place::Processor(index) => {
+            let mut digits = Buffer::new();
+            out.write_parts(&[b"processor ", digits.format(index).as_bytes()])
+        }
+        Place::Cell(cell) => write_cell(out, layout, cell),
+    }
+}
+
+fn kind_word(kind: Kind) -> &'static [u8]
+    ensures { result.now ≡ shown.kind_text kind }
+{
+    match kind {
+        Kind::Overflow => b"overflow",
+        Kind::DivideByZero => b"divide-by-zero",
+        Kind::OutOfRange => b"out-of-range",
+        Kind::TooWide => b"too-wide",
+        Kind::ReadConflict => b"read-conflict",
+        Kind::WriteConflict => b"write-conflict",
+    }
+}
