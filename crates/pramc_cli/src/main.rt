@@ -1,8 +1,8 @@
 //! The program `pramc`, over the system's files and streams.
 #![tactic(auto)]
 
-use program_texts::{Stream, SystemFiles};
 use pramc_command::command;
+use program_texts::{Stream, SystemFiles};
 use std::process::ExitCode;
 use std::{env, io};
 
