@@ -1,4 +1,5 @@
 pub mod Checked
+pub mod OtherRule
 pub mod Program
 pub mod Faults
 pub mod Bounded

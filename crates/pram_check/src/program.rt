@@ -5,6 +5,7 @@ ghost use Rattle.pram_names.specs.Breaches.{breaches, Tells};
 ghost use Rattle.pram_check.specs.Bounded.{IsBounded};
 ghost use Rattle.pram_check.specs.Checked.{IsResolved};
 ghost use Rattle.pram_check.specs.Faults.{IsAccepted};
+ghost use Rattle.pram_check.specs.OtherRule.{under};
 
 use crate::resolve::{Parts, resolve};
 use pram_names::{CheckFault, Statement};
@@ -56,6 +57,17 @@ pub fn check(alloc: Global, tree: Tree) -> Result<Program, (CheckFault, Tree)>
 }
 
 impl Program {
+    /// The same program under another rule. Whether a program is accepted doesn't depend on its rule.
+    pub fn under(self, rule: Rule) -> Program
+        ensures value { result ≡ under rule self }
+    {
+        let Program { tree, parts } = self;
+        Program {
+            tree: tree.under(rule),
+            parts,
+        }
+    }
+
     /// The tree that was checked.
     pub fn tree(&self) -> &Tree
         ensures tree { result.now ≡ self.now.tree }

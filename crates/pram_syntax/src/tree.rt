@@ -3,6 +3,7 @@
 ghost use Rattle.std.specs.Prelude.{◌≡◌, length};
 ghost use Rattle.std.specs.Coded.{codes};
 ghost use Rattle.pram_syntax.specs.contracts.tree.Stmt as stmt;
+ghost use Rattle.pram_syntax.specs.OtherRule.{tree_under};
 ghost use Rattle.pram_syntax.specs.Program.{ProgramTree, IsTree, limit, program_tokens, tree_of};
 
 use pram_model::Rule;
@@ -134,6 +135,13 @@ impl Tree {
             body,
             count,
         }
+    }
+
+    /// The same tree under another rule: nothing else of it changes, the place of the rule's word included.
+    pub fn under(self, rule: Rule) -> Tree
+        ensures value { result ≡ tree_under rule self }
+    {
+        Tree { rule, ..self }
     }
 
     /// The rule of concurrent access.
