@@ -16,7 +16,7 @@ cases_lt_z : (a z : ℤ) → (a <ℤ z) ⊎ (z ≤ℤ a)
 cases_lt_z a z = by_lt_z a z inl inr
 
 -- from a number that isn't above the last one
-width_more : (a z : ℤ) → a ≤ℤ z → width a z ≡ suc (width (a +ℤ pos 1) z)
+pub width_more : (a z : ℤ) → a ≤ℤ z → width a z ≡ suc (width (a +ℤ pos 1) z)
 width_more a z h =
     let e : int_le a z ≡ true = grind (arith, ints) in
     elim (cases_lt_z a z) [
@@ -24,7 +24,7 @@ width_more a z h =
       | inr l ↦ let f : int_le (a +ℤ pos 1) z ≡ false = grind (arith, ints) in rw (e, f) (grind (arith, ints))
     ]
 
-width_none : (a z : ℤ) → z <ℤ a → width a z ≡ 0
+pub width_none : (a z : ℤ) → z <ℤ a → width a z ≡ 0
 width_none a z h = let e : int_le a z ≡ false = grind (arith, ints) in rw e
 
 -- what is left gives what the whole gives

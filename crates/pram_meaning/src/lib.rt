@@ -1,27 +1,30 @@
 //! The meaning of a checked program, and its reference interpreter.
+//!
+//! How one statement is run is public, for an interpreter that tells more of a run than its outcome.
 #![tactic(auto)]
 
 mod access;
 mod alone;
-mod attempt;
+pub mod attempt;
 mod conflict;
 mod inside;
-mod interpreter;
+pub mod interpreter;
 mod key;
 pub mod law;
+pub mod numbers;
 mod operation;
 mod outside;
-mod part;
+pub mod part;
 mod read;
 mod reference;
 mod rule;
-mod run;
-mod slate;
-mod team;
-mod together;
-mod view;
+pub mod run;
+pub mod slate;
+pub mod team;
+pub mod together;
+pub mod view;
 
 // `Key` and `Read` are types of the definitions.
 pub use key::Key;
 pub use read::Read;
-pub use reference::{RunRefusal, reference_run};
+pub use reference::{RunRefusal, open, reference_run};

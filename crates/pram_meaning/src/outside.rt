@@ -1,6 +1,6 @@
 //! Statements outside pardo.
 
-ghost use Rattle.std.specs.Prelude.{◌≡◌, ◌≤ℤ◌, ◌<ℤ◌, ◌+ℤ◌, pos, true, false, ◌≤◌, ◌<◌, ◌+◌, OnOk};
+ghost use Rattle.std.specs.Prelude.{◌≤◌, ◌≡◌, ◌<◌, ◌+◌, OnOk};
 ghost use Rattle.pram_model.specs.Layout.{width};
 ghost use Rattle.pram_meaning.specs.Attempt.{attempt_bounds};
 ghost use Rattle.pram_meaning.specs.Store.{seen, with_uniform};
@@ -9,43 +9,10 @@ ghost use Rattle.pram_meaning.specs.Bounded as spec;
 ghost use Rattle.pram_meaning.specs.Runs.{state_of, IsBehaviour};
 
 use crate::interpreter::Interpreter;
+use crate::numbers::Numbers;
 use crate::run::{Halt, Run, set_number};
 use pram_check::{Expression, Statement, Step, Target};
 use pram_values::is_true;
-
-// The numbers from `next` to `last`.
-#[derive(Clone, Copy)]
-struct Numbers {
-    next: i64,
-    last: i64,
-}
-
-impl Numbers {
-    fn is_empty(&self) -> bool
-        ensures some { result ≡ false → self.now.next ≤ℤ self.now.last }
-        ensures none { result ≡ true → self.now.last <ℤ self.now.next }
-    {
-        self.last < self.next
-    }
-
-    fn is_at_end(&self) -> bool
-        ensures more { result ≡ false → ¬ (self.now.next ≡ self.now.last) }
-        ensures last { result ≡ true → self.now.next ≡ self.now.last }
-    {
-        self.next == self.last
-    }
-
-    // The numbers behind the next one.
-    fn advance(&mut self)
-        requires { self.old.next <ℤ self.old.last }
-        ensures next { self.new.next ≡ self.old.next +ℤ pos 1 }
-        ensures last { self.new.last ≡ self.old.last }
-    {
-        let Numbers { next, last } = *self;
-        prove!(next < last);
-        self.next = next + 1;
-    }
-}
 
 // A uniform variable gets the next number.
 fn set_next(run: &mut Run, variable: usize, numbers: &Numbers)

@@ -24,8 +24,9 @@ pub enum RunRefusal {
     OutOfMemory,
 }
 
-// The store before the first statement.
-fn open(alloc: Global, program: &Program, input: &[i64]) -> Result<Run, AllocError>
+/// The store before the first statement, where the first cells have the values of the input. The
+/// error is that memory was refused.
+pub fn open(alloc: Global, program: &Program, input: &[i64]) -> Result<Run, AllocError>
     requires { length input.now ≤ total_size program.now.layout }
     ensures count { IfOk result (λ run. run.count ≡ 0) }
     ensures output { IfOk result (λ run. run.output.items ≡ []) }

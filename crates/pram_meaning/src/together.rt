@@ -2,10 +2,10 @@
 
 ghost use Rattle.std.specs.Prelude.{◌≡◌, IfSome, IfOk, OnOk, ◌++◌, map, ◌<◌, ◌≤◌, ◌+◌};
 ghost use Rattle.pram_meaning.specs.Attempt.{attempt_step};
-ghost use Rattle.pram_meaning.specs.Together.{part_of, parts, overwritten, those, those_of};
+ghost use Rattle.pram_meaning.specs.Together.{assigned_by, part_of, parts, overwritten, those, those_of, together};
 ghost use Rattle.pram_meaning.specs.Bounded.{counted, attempted_on, tested_on};
 ghost use Rattle.pram_meaning.specs.Bounded as spec;
-ghost use Rattle.pram_meaning.specs.Runs.{IsBehaviour};
+ghost use Rattle.pram_meaning.specs.Runs.{IsBehaviour, IsValue};
 ghost use Rattle.pram_meaning.specs.Judging.{part_is, with_value};
 ghost use Rattle.pram_meaning.specs.Sets.{state_in, IsParts};
 
@@ -99,8 +99,38 @@ impl<'a> Interpreter<'a> {
         Ok(())
     }
 
-    // A statement of a set: its least fault, or the parts.
-    #[tactic(auto, using(crate::proofs::Sets::set_halts, crate::proofs::Sets::set_faults, crate::proofs::Sets::set_goes))]
+    /// What a statement of a set comes to, where it has begun: its least fault, or the parts.
+    #[tactic(auto, using(crate::proofs::Sets::judged_faults, crate::proofs::Sets::judged_goes))]
+    pub fn judge_on(
+        &self,
+        run: &mut Run,
+        team: &Vec<Member>,
+        active: &Vec<u32>,
+        line: u32,
+        target: &StepTarget,
+        e: &Expression,
+    ) -> Result<Vec<Part>, Halt>
+        ensures value { IsValue (λ xs. map part_is xs.items) result (together self.now.program.now line
+            (parts self.now.program.now (state_in run.old team.now.items) (λ s. attempt_step s target.now e.now) active.now.items)) }
+        ensures kept { state_in run.new team.now.items ≡ state_in run.old team.now.items }
+        ensures count { run.new.count ≡ run.old.count }
+    {
+        let Some(all) = self.parts_in(run, team, active, target, e) else {
+            return Err(Halt::OutOfMemory);
+        };
+        match least_key(self.alloc, &mut run.slate, self.program.rule(), &all) {
+            Err(_) => Err(Halt::OutOfMemory),
+            Ok(Some(key)) => Err(Halt::Fault(Fault {
+                kind: key.kind,
+                line,
+                place: key.place,
+            })),
+            Ok(None) => Ok(all),
+        }
+    }
+
+    // A statement of a set: it counts, and then its least fault, or the parts.
+    #[tactic(auto, using(crate::proofs::Sets::set_halts, crate::proofs::Sets::set_judged))]
     fn attempt_on(
         &self,
         run: &mut Run,
@@ -117,18 +147,7 @@ impl<'a> Interpreter<'a> {
         ensures below { OnOk result (run.old.count < self.now.bound) }
     {
         self.begin_on(run, team)?;
-        let Some(all) = self.parts_in(run, team, active, target, e) else {
-            return Err(Halt::OutOfMemory);
-        };
-        match least_key(self.alloc, &mut run.slate, self.program.rule(), &all) {
-            Err(_) => Err(Halt::OutOfMemory),
-            Ok(Some(key)) => Err(Halt::Fault(Fault {
-                kind: key.kind,
-                line,
-                place: key.place,
-            })),
-            Ok(None) => Ok(all),
-        }
+        self.judge_on(run, team, active, line, target, e)
     }
 }
 
@@ -181,6 +200,31 @@ fn overwrite(
 }
 
 impl<'a> Interpreter<'a> {
+    /// The store gets what the parts of an assignment leave. The error is that memory was refused.
+    pub fn settle_on(
+        &self,
+        run: &mut Run,
+        team: &mut Vec<Member>,
+        target: &StepTarget,
+        parts: &[Part],
+    ) -> Result<(), AllocError>
+        ensures left { OnOk result (state_in run.new team.new.items ≡ assigned_by self.now.program.now target.now (map part_is parts.now)
+            (state_in run.old team.old.items)) }
+        ensures count { run.new.count ≡ run.old.count }
+    {
+        match target {
+            StepTarget::Local(x) => set_locals(team, *x, parts),
+            StepTarget::Cell(_) | StepTarget::Element(_, _) => overwrite(
+                self.alloc,
+                &mut run.slate,
+                self.program.rule(),
+                &mut run.cells,
+                parts,
+            )?,
+        }
+        Ok(())
+    }
+
     /// An assignment of a set.
     #[tactic(auto, using(crate::proofs::SetBlocks::assign_halts, crate::proofs::SetBlocks::assign_goes))]
     pub fn assign_on(
@@ -197,21 +241,8 @@ impl<'a> Interpreter<'a> {
         ensures grows { OnOk result (run.old.count ≤ run.new.count) }
     {
         let all = self.attempt_on(run, team, active, line, target, e)?;
-        match target {
-            StepTarget::Local(x) => set_locals(team, *x, &all),
-            StepTarget::Cell(_) | StepTarget::Element(_, _) => {
-                if overwrite(
-                    self.alloc,
-                    &mut run.slate,
-                    self.program.rule(),
-                    &mut run.cells,
-                    &all,
-                )
-                .is_err()
-                {
-                    return Err(Halt::OutOfMemory);
-                }
-            }
+        if self.settle_on(run, team, target, &all).is_err() {
+            return Err(Halt::OutOfMemory);
         }
         Ok(())
     }

@@ -1,0 +1,5 @@
+//! Tests of what runs cost.
+#![tactic(auto)]
+
+#[cfg(test)]
+mod rows;

@@ -1,0 +1,160 @@
+// What is written of the costs of a run. Each number is worked by hand from the statements of the program.
+
+use cost_texts::write_cost;
+use pram_check::check;
+use pram_parser::parse;
+use pram_syntax::Buffer;
+use std::alloc::Global;
+use work_time::cost_of;
+
+// A program, its input and bound, on how many processors it is scheduled, and what is written.
+#[derive(Clone, Copy)]
+struct Row {
+    text: &'static str,
+    input: &'static [i64],
+    bound: u32,
+    schedule: u32,
+    told: &'static str,
+}
+
+// The sum of eight numbers by a balanced tree: 17 statements, of which the copy has 8 processors and the turns have 4, 2 and 1.
+const TREE_SUM: &str = "rule erew; procs 8; shared a[1..8]; shared b[1..8]; var m; begin \
+    for 1 <= i <= 8 pardo b[i] := a[i]; end m := 8; while m > 1 do m := m div 2; \
+    for 1 <= i <= m pardo b[i] := b[2 * i - 1] + b[2 * i]; end end print b[1]; end";
+
+const EIGHT: &[i64] = &[1, 2, 3, 4, 5, 6, 7, 8];
+
+const ROWS: [Row; 5] = [
+    Row {
+        text: TREE_SUM,
+        input: EIGHT,
+        bound: 1000,
+        schedule: 2,
+        told: "time 17\nwork 28\nwidth 8\nreads 23\nwrites 15\nrounds on 2: 21\nat most 31\n",
+    },
+    // The bounds, the copy and the setting of m alone.
+    Row {
+        text: TREE_SUM,
+        input: EIGHT,
+        bound: 3,
+        schedule: 3,
+        told: "time 3\nwork 10\nwidth 8\nreads 8\nwrites 8\nrounds on 3: 5\nat most 6\n",
+    },
+    // No statement.
+    Row {
+        text: "rule crew; procs 1; begin end",
+        input: &[],
+        bound: 1000,
+        schedule: 1,
+        told: "time 0\nwork 0\nwidth 0\nreads 0\nwrites 0\nrounds on 1: 0\nat most 0\n",
+    },
+    // A statement of nobody costs time and no work, and one round.
+    Row {
+        text: "rule crew; procs 4; shared s; begin for 5 <= i <= 4 pardo s := 1; end end",
+        input: &[],
+        bound: 1000,
+        schedule: 4,
+        told: "time 2\nwork 1\nwidth 1\nreads 0\nwrites 0\nrounds on 4: 2\nat most 2\n",
+    },
+    // Four processors read one cell, which the rule forbids: none of the accesses counts.
+    Row {
+        text: "rule erew; procs 4; shared a[1..2]; shared b[1..4]; begin for 1 <= i <= 4 pardo b[i] := a[1]; end end",
+        input: &[9, 8],
+        bound: 1000,
+        schedule: 4,
+        told: "time 2\nwork 5\nwidth 4\nreads 0\nwrites 0\nrounds on 4: 2\nat most 3\n",
+    },
+];
+
+// Pointer jumping over n cells in k rounds, n = 2 ^ k: time 1 + 3 k and work 1 + k (n + 2), so O(log n) and O(n log n).
+const JUMPS: [Row; 3] = [
+    Row {
+        text: "rule crew; procs 2; shared s[1..2]; var k; begin for k := 1 to 1 do for 1 <= i <= 2 pardo s[i] := s[s[i]]; end end end",
+        input: &[1, 1],
+        bound: 1000,
+        schedule: 2,
+        told: "time 4\nwork 5\nwidth 2\nreads 4\nwrites 2\nrounds on 2: 4\nat most 6\n",
+    },
+    Row {
+        text: "rule crew; procs 4; shared s[1..4]; var k; begin for k := 1 to 2 do for 1 <= i <= 4 pardo s[i] := s[s[i]]; end end end",
+        input: &[1, 1, 2, 3],
+        bound: 1000,
+        schedule: 2,
+        told: "time 7\nwork 13\nwidth 4\nreads 16\nwrites 8\nrounds on 2: 9\nat most 13\n",
+    },
+    Row {
+        text: "rule crew; procs 8; shared s[1..8]; var k; begin for k := 1 to 3 do for 1 <= i <= 8 pardo s[i] := s[s[i]]; end end end",
+        input: &[1, 1, 2, 3, 4, 5, 6, 7],
+        bound: 1000,
+        schedule: 2,
+        told: "time 10\nwork 31\nwidth 8\nreads 48\nwrites 24\nrounds on 2: 19\nat most 25\n",
+    },
+];
+
+// Prefix sums of n numbers by doubling, n = 2 ^ k: k turns of n - 1, n - 2, n - 4 .. processors, so O(log n) time and O(n log n) work.
+const PREFIX_SUMS: [Row; 3] = [
+    Row {
+        text: "rule crew; procs 2; shared a[1..2]; var d; begin d := 1; while d < 2 do \
+            for d + 1 <= i <= 2 pardo a[i] := a[i] + a[i - d]; end d := 2 * d; end end",
+        input: &[1, 1],
+        bound: 1000,
+        schedule: 2,
+        told: "time 6\nwork 6\nwidth 1\nreads 2\nwrites 1\nrounds on 2: 6\nat most 9\n",
+    },
+    Row {
+        text: "rule crew; procs 4; shared a[1..4]; var d; begin d := 1; while d < 4 do \
+            for d + 1 <= i <= 4 pardo a[i] := a[i] + a[i - d]; end d := 2 * d; end end",
+        input: &[1, 1, 1, 1],
+        bound: 1000,
+        schedule: 2,
+        told: "time 10\nwork 13\nwidth 3\nreads 10\nwrites 5\nrounds on 2: 11\nat most 16\n",
+    },
+    Row {
+        text: "rule crew; procs 8; shared a[1..8]; var d; begin d := 1; while d < 8 do \
+            for d + 1 <= i <= 8 pardo a[i] := a[i] + a[i - d]; end d := 2 * d; end end",
+        input: &[1, 1, 1, 1, 1, 1, 1, 1],
+        bound: 1000,
+        schedule: 2,
+        told: "time 14\nwork 28\nwidth 7\nreads 34\nwrites 17\nrounds on 2: 20\nat most 28\n",
+    },
+];
+
+// Whether that is written of the costs of a row's run.
+fn is_told(alloc: Global, row: &Row) -> Option<bool> {
+    let tree = parse(alloc, row.text.as_bytes()).ok()?;
+    let program = check(alloc, tree).ok()?;
+    let (_outcome, cost) = cost_of(
+        alloc,
+        &program,
+        row.input,
+        row.bound,
+        row.schedule.max(1),
+    ).ok()?;
+    let mut out = Buffer::new(alloc);
+    write_cost(&cost, Some(row.schedule), &mut out).ok()?;
+    Some(out.bytes() == row.told.as_bytes())
+}
+
+#[test]
+fn costs_are_those_worked_by_hand(rt: HostRuntime) {
+    let alloc = rt.alloc();
+    for row in &ROWS {
+        assert_eq!(rt; is_told(alloc, row), Some(true));
+    }
+}
+
+#[test]
+fn pointer_jumping_costs_what_its_analysis_says(rt: HostRuntime) {
+    let alloc = rt.alloc();
+    for row in &JUMPS {
+        assert_eq!(rt; is_told(alloc, row), Some(true));
+    }
+}
+
+#[test]
+fn prefix_sums_cost_what_their_analysis_says(rt: HostRuntime) {
+    let alloc = rt.alloc();
+    for row in &PREFIX_SUMS {
+        assert_eq!(rt; is_told(alloc, row), Some(true));
+    }
+}

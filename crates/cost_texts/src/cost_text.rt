@@ -1,0 +1,78 @@
+//! The text of what a run costs.
+
+ghost use Rattle.std.specs.Prelude.{◌<◌, ◌^◌};
+ghost use Rattle.text_out.specs.Out.{Writes};
+ghost use Rattle.cost_texts.specs.CostText as spec;
+
+use itoa::Buffer;
+use text_out::{Out, WriteFault};
+use work_time::Cost;
+
+/// Writes what a run costs, one fact a line: its time, its work, its width, its reads and its
+/// writes; and where it is scheduled on some number of processors, the rounds on them and the most
+/// that Brent's principle allows. The error is that the writer failed (E17).
+pub fn write_cost<W: Out>(cost: &Cost, schedule: Option<u32>, out: &mut W) -> Result<(), WriteFault>
+    requires counted { (W.Out.state out.old).failures < 2 ^ 63 }
+    ensures written { Writes (W.Out.state out.old) (W.Out.state out.new) (spec.cost_text cost.now schedule) result }
+{
+    write_work(cost, out)?;
+    write_accesses(cost, out)?;
+    match schedule {
+        None => Ok(()),
+        Some(processors) => write_rounds(cost, processors, out),
+    }
+}
+
+// Time, work and width.
+fn write_work<W: Out>(cost: &Cost, out: &mut W) -> Result<(), WriteFault>
+    requires counted { (W.Out.state out.old).failures < 2 ^ 63 }
+    ensures written { Writes (W.Out.state out.old) (W.Out.state out.new) (spec.work_lines cost.now) result }
+{
+    let mut time = Buffer::new();
+    let mut work = Buffer::new();
+    let mut width = Buffer::new();
+    out.write_parts(&[
+        b"time ",
+        time.format(cost.time).as_bytes(),
+        b"\nwork ",
+        work.format(cost.work).as_bytes(),
+        b"\nwidth ",
+        width.format(cost.width).as_bytes(),
+        b"\n",
+    ])
+}
+
+// Reads and writes.
+fn write_accesses<W: Out>(cost: &Cost, out: &mut W) -> Result<(), WriteFault>
+    requires counted { (W.Out.state out.old).failures < 2 ^ 63 }
+    ensures written { Writes (W.Out.state out.old) (W.Out.state out.new) (spec.access_lines cost.now) result }
+{
+    let mut reads = Buffer::new();
+    let mut writes = Buffer::new();
+    out.write_parts(&[
+        b"reads ",
+        reads.format(cost.reads).as_bytes(),
+        b"\nwrites ",
+        writes.format(cost.writes).as_bytes(),
+        b"\n",
+    ])
+}
+
+// The rounds on so many processors.
+fn write_rounds<W: Out>(cost: &Cost, processors: u32, out: &mut W) -> Result<(), WriteFault>
+    requires counted { (W.Out.state out.old).failures < 2 ^ 63 }
+    ensures written { Writes (W.Out.state out.old) (W.Out.state out.new) (spec.round_lines cost.now processors) result }
+{
+    let mut on = Buffer::new();
+    let mut rounds = Buffer::new();
+    let mut most = Buffer::new();
+    out.write_parts(&[
+        b"rounds on ",
+        on.format(processors).as_bytes(),
+        b": ",
+        rounds.format(cost.rounds).as_bytes(),
+        b"\nat most ",
+        most.format(cost.most_rounds).as_bytes(),
+        b"\n",
+    ])
+}

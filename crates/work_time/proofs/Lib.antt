@@ -1,0 +1,14 @@
+pub mod Accesses
+pub mod Kept
+pub mod ByOne
+pub mod PartSums
+pub mod BySet
+pub mod Told
+pub mod InnerBlocks
+pub mod InnerLoops
+pub mod Blocks
+pub mod Loops
+pub mod ForLoops
+pub mod Sums
+pub mod Brent
+pub mod Complete

@@ -1,0 +1,36 @@
+-- What a run costs, as sums over its time steps.
+-- Time and work of an algorithm, and Brent's scheduling principle: JáJá, An Introduction to Parallel Algorithms, chapter 1.
+use Rattle.std.specs.Prelude.{ℕ, ◌+◌, ◌-◌, ◌/◌, ◌≤◌, ◌<◌, max, List, [], ◌∷◌, length}
+use Rattle.std.specs.List.{sum_by}
+use Rattle.work_time.specs.declared.time_step.TimeStep.{TimeStep}
+
+-- how many statements ran
+abbrev pub time : List TimeStep → ℕ
+time ss = length ss
+
+-- for each of them one for each processor that executed it
+abbrev pub work : List TimeStep → ℕ
+work ss = sum_by (λ s. s.processors) ss
+
+-- the most processors at once
+abbrev pub most_processors : List TimeStep → ℕ
+most_processors [] = 0
+most_processors (s ∷ ss) = max s.processors (most_processors ss)
+
+abbrev pub reads : List TimeStep → ℕ
+reads ss = sum_by (λ s. s.reads) ss
+
+abbrev pub writes : List TimeStep → ℕ
+writes ss = sum_by (λ s. s.writes) ss
+
+-- the rounds in which q processors do what k processors do at once: k / q, rounded up, and at least one
+abbrev pub rounds_for : ℕ → ℕ → ℕ
+rounds_for q k = 1 + (k - 1) / q
+
+-- those of a whole run
+abbrev pub rounds : ℕ → List TimeStep → ℕ
+rounds q ss = sum_by (λ s. rounds_for q s.processors) ss
+
+-- Brent's principle: q processors need no more rounds than the work divided by q, and the time.
+abbrev pub BrentsPrinciple : Type 0
+BrentsPrinciple = (q : ℕ) (ss : List TimeStep) → 0 < q → rounds q ss ≤ work ss / q + time ss

@@ -1,0 +1,71 @@
+//! What a run costs.
+
+ghost use Rattle.std.specs.Prelude.{◌≡◌, ◌↔◌, ◌<◌, ◌≤◌, ◌+◌, ◌/◌, IfOk, length};
+ghost use Rattle.pram_model.specs.Layout.{total_size};
+ghost use Rattle.write_rules.specs.Verdict.{verdict_of};
+ghost use Rattle.pram_meaning.specs.Outcome.{IsOutcome};
+ghost use Rattle.work_time.specs.Cost as spec;
+ghost use Rattle.work_time.specs.Steps.{run_steps};
+
+use crate::whole::run_whole;
+use pram_check::Program;
+use pram_meaning::RunRefusal;
+use std::alloc::Global;
+use write_rules::Outcome;
+
+/// What a run costs: its statements (time), one for each processor of each of them (work), the most
+/// processors at once, and its shared reads and writes; and, for a number of processors, the rounds
+/// in which they do that work, beside what Brent's principle allows.
+#[derive(Clone, Copy)]
+pub struct Cost {
+    pub time: u32,
+    pub work: u64,
+    pub width: u32,
+    pub reads: u128,
+    pub writes: u64,
+    pub rounds: u64,
+    pub most_rounds: u64,
+}
+
+/// Runs a program on an input, for at most `bound` statements, as [`pram_meaning::reference_run`]
+/// does, and says beside the outcome what the run costs; rounds are those on `schedule` processors.
+/// A statement that faults counts in time and work, and none of its accesses does. E11 where there
+/// are more values than cells; E16 only where memory was refused.
+///
+/// JáJá, An Introduction to Parallel Algorithms, chapter 1: work and time, and Brent's scheduling
+/// principle.
+#[tactic(auto, using(crate::proofs::Sums::time_is, crate::proofs::Sums::work_is, crate::proofs::Sums::width_is, crate::proofs::Sums::reads_are, crate::proofs::Sums::writes_are, crate::proofs::Sums::rounds_are, crate::proofs::Brent::brent))]
+pub fn cost_of(
+    alloc: Global,
+    program: &Program,
+    input: &[i64],
+    bound: u32,
+    schedule: u32,
+) -> Result<(Outcome, Cost), RunRefusal>
+    requires some { 0 < schedule }
+    ensures outcome { IfOk result (λ r. IsOutcome program.now input.now bound (verdict_of r.0)) }
+    ensures fits { IfOk result (λ r. length input.now ≤ total_size program.now.layout) }
+    ensures too_long { (result ≡ Err RunRefusal.InputTooLong) ↔ (total_size program.now.layout < length input.now) }
+    ensures time { IfOk result (λ r. r.1.time ≡ spec.time (run_steps program.now input.now bound)) }
+    ensures work { IfOk result (λ r. r.1.work ≡ spec.work (run_steps program.now input.now bound)) }
+    ensures width { IfOk result (λ r. r.1.width ≡ spec.most_processors (run_steps program.now input.now bound)) }
+    ensures reads { IfOk result (λ r. r.1.reads ≡ spec.reads (run_steps program.now input.now bound)) }
+    ensures writes { IfOk result (λ r. r.1.writes ≡ spec.writes (run_steps program.now input.now bound)) }
+    ensures rounds { IfOk result (λ r. r.1.rounds ≡ spec.rounds schedule (run_steps program.now input.now bound)) }
+    ensures most_rounds { IfOk result (λ r. r.1.most_rounds ≡ r.1.work / schedule + r.1.time) }
+    // Brent's principle.
+    ensures brent { IfOk result (λ r. r.1.rounds ≤ r.1.most_rounds) }
+{
+    let (outcome, tally) = run_whole(alloc, program, input, bound, schedule)?;
+    let most_rounds = tally.work / u64::from(schedule) + u64::from(tally.time);
+    let cost = Cost {
+        time: tally.time,
+        work: tally.work,
+        width: tally.width,
+        reads: tally.reads,
+        writes: tally.writes,
+        rounds: tally.rounds,
+        most_rounds,
+    };
+    Ok((outcome, cost))
+}

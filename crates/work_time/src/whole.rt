@@ -1,0 +1,70 @@
+//! A whole run.
+
+ghost use Rattle.std.specs.Prelude.{◌≡◌, ◌↔◌, ◌<◌, ◌≤◌, IfOk, length};
+ghost use Rattle.pram_model.specs.Layout.{total_size};
+ghost use Rattle.write_rules.specs.Verdict.{verdict_of};
+ghost use Rattle.pram_meaning.specs.Outcome.{IsOutcome};
+ghost use Rattle.work_time.specs.Counted.{counted};
+ghost use Rattle.work_time.specs.Kept.{tally_is};
+
+use crate::counter::Counter;
+use crate::meter::Meter;
+use crate::tally::Tally;
+use pram_check::Program;
+use pram_meaning::interpreter::Interpreter;
+use pram_meaning::run::Halt;
+use pram_meaning::{RunRefusal, open};
+use std::alloc::Global;
+use write_rules::Outcome;
+
+/// The outcome of a program on an input, and what was counted of its run.
+#[tactic(auto, using(crate::proofs::Complete::ended, crate::proofs::Complete::stopped, crate::proofs::Complete::reached, crate::proofs::Complete::opens))]
+pub fn run_whole(
+    alloc: Global,
+    program: &Program,
+    input: &[i64],
+    bound: u32,
+    schedule: u32,
+) -> Result<(Outcome, Tally), RunRefusal>
+    requires some { 0 < schedule }
+    ensures outcome { IfOk result (λ r. IsOutcome program.now input.now bound (verdict_of r.0)) }
+    ensures fits { IfOk result (λ r. length input.now ≤ total_size program.now.layout) }
+    ensures too_long { (result ≡ Err RunRefusal.InputTooLong) ↔ (total_size program.now.layout < length input.now) }
+    ensures totals { IfOk result (λ r. tally_is r.1 ≡ counted program.now input.now bound schedule) }
+{
+    if input.len() > program.layout().cells() as usize {
+        return Err(RunRefusal::InputTooLong);
+    }
+    let run = match open(alloc, program, input) {
+        Ok(run) => run,
+        Err(_) => return Err(RunRefusal::OutOfMemory),
+    };
+    let tally = Tally::new();
+    let mut counter = Counter { run, tally };
+    let interpreter = Interpreter {
+        alloc,
+        program,
+        bound,
+    };
+    let meter = Meter {
+        interpreter,
+        schedule,
+    };
+    let done = meter.run_body(&mut counter);
+    let Counter { run, tally } = counter;
+    match done {
+        Ok(()) => {
+            let (output, memory) = (run.output, run.cells);
+            Ok((Outcome::Ended { output, memory }, tally))
+        }
+        Err(Halt::Fault(fault)) => {
+            let output = run.output;
+            Ok((Outcome::Faulted { fault, output }, tally))
+        }
+        Err(Halt::Bound) => {
+            let output = run.output;
+            Ok((Outcome::GoesOn { output }, tally))
+        }
+        Err(Halt::OutOfMemory) => Err(RunRefusal::OutOfMemory),
+    }
+}
