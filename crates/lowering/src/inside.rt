@@ -31,7 +31,7 @@ fn step(out: &mut Emitter, s: &Step, vote: u16, base: u16) -> Result<(), AllocEr
             line,
             target,
             value,
-        } => step_assign(out, *line, target, value, base, vote),
+        } => step_assign(out, *line, target, value, base),
         Step::While { line, test, body } => step_while(out, body, *line, test, vote, base),
         Step::If {
             line,

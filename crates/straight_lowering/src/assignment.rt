@@ -1,6 +1,6 @@
 //! The code of statements without parts.
 
-ghost use Rattle.std.specs.Prelude.{◌≡◌, ◌<◌, ◌^◌, OnOk, true};
+ghost use Rattle.std.specs.Prelude.{◌≡◌, ◌<◌, ◌^◌, ℕ, OnOk, true};
 ghost use Rattle.plain_form.specs.Formulas.{formula_of};
 ghost use Rattle.plain_form.specs.Inside as inside;
 ghost use Rattle.plain_form.specs.Outside as outside;
@@ -131,10 +131,10 @@ pub fn step_assign(
     target: &StepTarget,
     value: &Expression,
     base: u16,
-    vote: u16,
 ) -> Result<(), AllocError>
     requires room { IsInnerAssignRoom target.now (formula_of value.now) base }
-    ensures { OnOk result (out.new ≡ wrote
+    // Whichever register votes are in.
+    ensures { (vote : ℕ) → OnOk result (out.new ≡ wrote
         (inside.inner_assign (record { keep = true; vote = vote }) out.old.held line base target.now (formula_of value.now))
         (inside.inner_assign_left out.old.held target.now (formula_of value.now)) out.old) }
 {
