@@ -1,9 +1,9 @@
 -- What comes to a worker in an exchange, and what it counts.
 use Rattle.std.proofs.Common.{◌≡◌, ℕ, suc, ◌+◌, ◌<◌, List, [], ◌∷◌, ◌++◌, length, map}
-use Rattle.std.proofs.Common.{false, Some, ℤ, refl, sym, ap, subst, ◌∙◌}
+use Rattle.std.proofs.Common.{false, Option, Some, ℤ, refl, sym, ap, subst, ◌∙◌}
 use Rattle.std.proofs.Common.{arith}
 use Rattle.std.specs.Prelude.{slice_get, slice_index_or, ◌||◌}
-use Rattle.std.specs.List.{range_with_len}
+use Rattle.std.specs.List.{range_with_len, AllByRecursion}
 use Rattle.std.proofs.lemmas.List.{length-map, get_or_default}
 use Rattle.std.proofs.lemmas.List.FromFn.{get_or-map-range_with_len}
 use Rattle.pram_values.specs.Total.{total}
@@ -28,11 +28,13 @@ use Rattle.bsp_machine.specs.declared.counted.CountedWorker.{CountedWorker}
 use Rattle.bsp_machine.specs.declared.sheet.Sheet.{Sheet}
 use Rattle.bsp_machine.specs.Sheets.{messages_in, no_words, picked}
 use Rattle.histories.specs.Shares.{Share, share_of}
+use Rattle.bsp_machine.specs.declared.reserve.Reserve.{Reserve}
+use Rattle.bsp_machine.specs.Reserves.{own_mark, IsMark, AreMarked, HaveReserve}
 use Rattle.bsp_machine.specs.Workers.{shares, share_at, state_behind, IsBetween, IsBehind, IsAt, HasCome, AreAt}
 use Rattle.bsp_machine.proofs.ListLemmas.{map_by, map_at, there_at, get_within, range_more, get_is, one_there}
 use Rattle.bsp_machine.proofs.PhaseLemmas.{state_more}
 use Rattle.bsp_machine.proofs.MarkLemmas.{header_marked, any_stopped, stops_with_any}
-use Rattle.bsp_machine.proofs.StandingLemmas.{row_marked, row_is, row_read, purpose_at}
+use Rattle.bsp_machine.proofs.StandingLemmas.{row_marked, row_mark, row_is, row_read, purpose_at}
 
 -- ---- words
 
@@ -166,6 +168,38 @@ module _ (code : SuperstepCode) (m : Shape) (bound : ℕ) (input : List ℤ) (k 
           ∙ get_or_default (messages_in row) w no_words unwritten (omega (arith, wide, within)))
           ∙ row_marked code m bound _ _ i y (messages_in row) is n w low within
 
+-- ---- which marks come
+
+all_there : {A : Type 0} (P : A → Type 0) (xs : List A) → ((i : ℕ) (x : A) → slice_get xs i ≡ Some x → P x) → AllByRecursion P xs
+all_there P [] h = tt
+all_there P (x ∷ xs) h = (h 0 x refl, all_there P xs (λ i y e. h (suc i) y e))
+
+module _ (code : SuperstepCode) (m : Shape) (bound : ℕ) (input : List ℤ) (k : ℕ) (all : List CountedWorker) (rows : List Sheet)
+    (at : AreAt code m bound input k all rows) (many : length all ≡ m.parts) (long : length rows ≡ m.parts) (reserve : Option Reserve)
+    (have : HaveReserve reserve all) where
+  pub marked_by_own : (w : ℕ) → w < m.parts → AreMarked (own_mark reserve) (picked w rows)
+  marked_by_own w within =
+      all_there (λ (c : WrittenMessage). IsMark (own_mark reserve) (read_header c.header).mark) (picked w rows) each
+    where
+      entry : Sheet → WrittenMessage
+      entry row = slice_index_or (messages_in row) w no_words
+
+      each : (i : ℕ) (c : WrittenMessage) → slice_get (picked w rows) i ≡ Some c → IsMark (own_mark reserve) (read_header c.header).mark
+      each i c e =
+          let n = suc (most_instructions code bound) in
+          let low : most_instructions code bound < n = omega arith in
+          let count = length-map rows entry in
+          let l = get_within (picked w rows) i c e in
+          let row = there_at rows i (omega (arith, l, count)) in
+          let y = there_at all i (omega (arith, l, count, long, many)) in
+          let is = at i y.0 row.0 y.1 row.1 in
+          let wide = (is.filled n low).long in
+          subst (λ (z : WrittenMessage). IsMark (own_mark reserve) (read_header z.header).mark)
+          (sym (one_there (picked w rows) i c (entry row.0) e (map_at (λ (s : Sheet). slice_index_or (messages_in s) w no_words) rows i
+          row.0 row.1) ∙ get_or_default (messages_in row.0) w no_words unwritten (omega (arith, wide, within))))
+          (subst (λ r. IsMark (own_mark r) (read_header (message_at (messages_in row.0) w).header).mark) (have i y.0 y.1)
+          (row_mark code m bound _ _ i y.0 (messages_in row.0) is n w low within))
+
 -- ---- what is counted
 
 module _ (t : Setting) (input : List ℤ) (k w : ℕ) (within : w < workers t) where
@@ -217,4 +251,5 @@ module _ (code : SuperstepCode) (m : Shape) (map_for : IsMapFor code m) (bound :
         (words_sent code m bound input k w old row at (alive h) n low)
         ((come h).words n low);
     items = here.items;
+    reserved = here.reserved;
   }

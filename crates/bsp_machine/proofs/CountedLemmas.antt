@@ -1,33 +1,104 @@
 -- A worker at an exchange, and behind it.
-use Rattle.std.proofs.Common.{◌≡◌, ℕ, ◌<◌, List}
+use Rattle.std.proofs.Common.{◌≡◌, ℕ, ◌<◌, ◌≤◌, List, length, Bool, true, false, Option, Some, None, refl, sym, ap, subst, ◌∙◌, arith}
+use Rattle.std.specs.Prelude.{◌||◌, nat_lt, nat_le, vec_capacity}
+use Rattle.std.proofs.lemmas.Bool.Decides.{nat_tests}
+use Rattle.std.proofs.lemmas.List.{length-map}
 use Rattle.address_map.specs.Lawful.{Shape}
 use Rattle.superstep_code.specs.Code.{SuperstepCode}
-use Rattle.superstep_machine.specs.declared.mark.HeaderMark.TheVariants.{OutOfMemory}
+use Rattle.superstep_machine.specs.declared.mark.HeaderMark.{HeaderMark}
 use Rattle.superstep_machine.specs.Setting.{Setting}
-use Rattle.superstep_machine.specs.Run.{State, setting, message_of}
+use Rattle.superstep_machine.specs.Parts.{UniformPart}
+use Rattle.superstep_machine.specs.Run.{State, setting, message_of, ready}
+use Rattle.superstep_steps.specs.Views.{HasReserve}
 use Rattle.message_rows.specs.Rows.{WrittenMessage, IsRow, written, message_at}
 use Rattle.worker_messages.specs.declared.way.Way.TheVariants.{Stopped}
-use Rattle.worker_messages.specs.Shown.{purpose_is, marked}
+use Rattle.worker_messages.specs.declared.local.Local.{Local}
+use Rattle.worker_messages.specs.Reached.{most_instructions}
+use Rattle.worker_messages.specs.Shown.{purpose_is, marked, is_stopped, IsShown, IsAtExchange}
+use Rattle.worker_messages.specs.Arrived.{ComesPast}
 use Rattle.worker_messages.specs.Told.{IsWrittenFor}
 use Rattle.bsp_machine.specs.declared.counted.CountedWorker.{CountedWorker}
+use Rattle.bsp_machine.specs.declared.reserve.Reserve.{Reserve}
 use Rattle.histories.specs.Shares.{Share}
-use Rattle.bsp_machine.specs.Workers.{IsStanding}
+use Rattle.bsp_machine.specs.Reserves.{is_past, own_mark}
+use Rattle.bsp_machine.specs.Workers.{share_told, IsBetween, IsStanding}
 use Rattle.bsp_machine.proofs.MarkLemmas.{never}
 
--- One that was refused memory stands at the exchange with a mark in each message.
+pub no_reserve : {A : Type 0} (o : Option Reserve) (r : Reserve) → o ≡ None → o ≡ Some r → A
+no_reserve o r none some = absurd (clash (sym none ∙ some))
+  where
+    clash : None ≡ Some r → ⊥
+    clash e = cc
+
+pub one_reserve : (o : Option Reserve) (r q : Reserve) → o ≡ Some r → o ≡ Some q → r ≡ q
+one_reserve o r q some other = unsome (sym some ∙ other)
+  where
+    unsome : Some r ≡ Some q → r ≡ q
+    unsome e = cc
+
+-- One that stops by itself stands at the exchange with its mark in each message.
 pub standing_refused : (code : SuperstepCode) (m : Shape) (bound : ℕ) (states : ℕ → State) (told : ℕ → List Share) (w : ℕ)
-    (x : CountedWorker) (row : List WrittenMessage) → x.local.way ≡ Stopped OutOfMemory →
+    (x : CountedWorker) (row : List WrittenMessage) (mark : HeaderMark) → x.local.way ≡ Stopped mark → mark ≡ own_mark x.reserve →
+    ((r : Reserve) (n : ℕ) → x.reserve ≡ Some r → most_instructions code bound < n →
+    is_past r (length (ready (setting code m bound n) w (states n)).state.worker.uniform.output) (length (told n)) ≡ true) →
     ((t : Setting) (w : ℕ) (s : State) → IsRow m.parts (λ j. written t.code.rule (message_of t w (marked x.local.way s) j)) row) →
     ((t : Setting) (w : ℕ) (s : State) (j : ℕ) → j < m.parts →
     IsWrittenFor t.code.rule t.map j (purpose_is x.local.step) (message_of t w (marked x.local.way s) j) (message_at row j)) →
     IsStanding code m bound states told w x row
-standing_refused code m bound states told w x row way filled read = record {
-  worker = λ h. absurd (never x.local.way OutOfMemory way h);
-  shown = λ h n low. absurd (never x.local.way OutOfMemory way h);
+standing_refused code m bound states told w x row mark way own past filled read = record {
+  worker = λ h. absurd (never x.local.way mark way h);
+  shown = λ h n low. absurd (never x.local.way mark way h);
   filled = λ n low. filled (setting code m bound n) w (states n);
   read = λ n j low within. read (setting code m bound n) w (states n) j within;
-  refused = λ mark h. (let is = way in cc);
-  sent = λ h. absurd (never x.local.way OutOfMemory way h);
-  counted = λ h n low. absurd (never x.local.way OutOfMemory way h);
-  items = λ h. absurd (never x.local.way OutOfMemory way h);
+  refused = λ other h. (let is = way in let by = own in cc);
+  past = λ r n e low. ap is_stopped way ∙ sym (past r n e low);
+  sent = λ h. absurd (never x.local.way mark way h);
+  counted = λ h n low. absurd (never x.local.way mark way h);
+  items = λ h. absurd (never x.local.way mark way h);
+  reserved = λ h. absurd (never x.local.way mark way h);
 }
+
+-- Where a worker comes to its next exchange, with the memory of a reserve, the state there is past that exactly where the worker has
+-- stopped or is past it.
+module _ (code : SuperstepCode) (m : Shape) (bound : ℕ) (states : ℕ → State) (told : ℕ → List Share) (w : ℕ) (x : CountedWorker) (y : Local)
+    (r : Reserve) (between : IsBetween code m bound states told w x) (alive : is_stopped x.local.way ≡ false)
+    (has : HasReserve r.items x.local.steps.uniform) (room : r.exchanges ≤ vec_capacity x.counts)
+    (shown : is_stopped y.way ≡ false → (n : ℕ) (s : State) → most_instructions code bound < n →
+    IsShown (setting code m bound n) x.local.steps.bank.worker x.local s →
+    IsAtExchange (setting code m bound n) x.local.steps.bank.worker y s)
+    (past : is_stopped y.way ≡ true → (items : ℕ) → HasReserve items x.local.steps.uniform → ComesPast code m bound x.local items)
+    (n : ℕ) (low : most_instructions code bound < n) where
+  abbrev printed : ℕ → ℕ
+  printed v = length (ready (setting code m bound n) v (states n)).state.worker.uniform.output
+
+  here : IsShown (setting code m bound n) x.local.steps.bank.worker x.local (states n)
+  here = subst (λ v. IsShown (setting code m bound n) v x.local (states n)) (sym (between.worker alive)) (between.shown alive n low)
+
+  less : (a b : ℕ) → a < b → nat_lt a b ≡ true
+  less a b l = grind (arith, nat_tests)
+
+  -- where there is no room to count, no exchange is left
+  no_room : (a b c : ℕ) (d : Bool) → a ≤ b → (d || nat_le a c) ≡ ((d || nat_le a c) || nat_le b c)
+  no_room a b c true l = refl
+  no_room a b c false l = go (nat_le a c) refl
+    where
+      go : (e : Bool) → nat_le a c ≡ e → e ≡ (e || nat_le b c)
+      go true h = refl
+      go false h = grind (arith, nat_tests)
+
+  pub past_is : is_past r (printed w) (length (told n)) ≡ (is_stopped y.way || is_past r (length y.steps.uniform.output.items)
+      (length x.counts.items) || nat_le (vec_capacity x.counts) (length x.counts.items))
+  past_is = go (is_stopped y.way) refl
+    where
+      go : (b : Bool) → is_stopped y.way ≡ b → is_past r (printed w) (length (told n))
+          ≡ (b || is_past r (length y.steps.uniform.output.items) (length x.counts.items) || nat_le (vec_capacity x.counts) (length x.counts.items))
+      go true e =
+          let l : r.items < printed w = subst (λ v. r.items < printed v) (between.worker alive) (past e r.items has n (states n) low here) in
+          ap (λ d. d || nat_le r.exchanges (length (told n))) (less r.items (printed w) l)
+      go false e =
+          let output : printed w ≡ length y.steps.uniform.output.items = ap printed (sym (between.worker alive))
+          ∙ ap (λ (u : UniformPart). length u.output) (shown e n (states n) low here).worker.shows.uniform in
+          let many : length (told n) ≡ length x.counts.items =
+          ap length (sym (between.counted alive n low)) ∙ length-map x.counts.items share_told in
+          (λ i. is_past r (output i) (many i))
+          ∙ no_room r.exchanges (vec_capacity x.counts) (length x.counts.items) (nat_lt r.items (length y.steps.uniform.output.items)) room

@@ -1,6 +1,6 @@
 -- Marks: who has stopped, and what the headers say of it.
 use Rattle.std.proofs.Common.{◌≡◌, ℕ, zero, suc, List, [], ◌∷◌, length, Bool, true, false}
-use Rattle.std.proofs.Common.{Some, refl, sym, ap, ◌∙◌, arith}
+use Rattle.std.proofs.Common.{Option, None, Some, refl, sym, ap, subst, ◌∙◌, arith, ◌⊎◌, inl, inr, ⊎_elim}
 use Rattle.std.specs.Prelude.{slice_get, ◌||◌}
 use Rattle.std.specs.List.{list_any}
 use Rattle.pram_model.specs.declared.rule.Rule.{Rule}
@@ -18,6 +18,8 @@ use Rattle.worker_messages.specs.declared.way.Way.TheVariants as ways
 use Rattle.worker_messages.specs.Shown.{way_is, is_stopped, marked}
 use Rattle.worker_exchange.specs.Received.{mark_heard, is_marked}
 use Rattle.bsp_machine.specs.declared.counted.CountedWorker.{CountedWorker}
+use Rattle.bsp_machine.specs.declared.reserve.Reserve.{Reserve}
+use Rattle.bsp_machine.specs.Reserves.{own_mark, IsMark, AreMarked, IsGiven, refusal_by, refusal_for}
 
 -- ---- one worker
 
@@ -112,6 +114,59 @@ stops_with_any xs came w x long here each =
     ap (λ b. is_stopped x.local.way || b)
     (marks_are came ∙ any_by header_marked (λ (y : CountedWorker). is_stopped y.local.way) came xs long each)
     ∙ one_of_any xs w x here
+
+-- ---- which mark
+
+worse_clear : (own : HeaderMark) → worse own Clear ≡ own
+worse_clear Clear = refl
+worse_clear OutOfMemory = refl
+worse_clear OutOfReserve = refl
+
+worse_self : (own : HeaderMark) → worse own own ≡ own
+worse_self Clear = refl
+worse_self OutOfMemory = refl
+worse_self OutOfReserve = refl
+
+worse_mark : (own a b : HeaderMark) → IsMark own a → IsMark own b → IsMark own (worse a b)
+worse_mark own a b h k =
+    ⊎_elim (λ e. subst (λ z. IsMark own (worse z b)) (sym e) k)
+    (λ (e : a ≡ own). ⊎_elim (λ (f : b ≡ Clear). inr ((λ i. worse (e i) (f i)) ∙ worse_clear own))
+    (λ (f : b ≡ own). inr ((λ i. worse (e i) (f i)) ∙ worse_self own)) k) h
+
+heard_mark : (own : HeaderMark) (came : List WrittenMessage) → AreMarked own came → IsMark own (mark_heard came)
+heard_mark own [] h = inl refl
+heard_mark own (x ∷ came) h = worse_mark own (read_header x.header).mark (mark_heard came) h.0 (heard_mark own came h.1)
+
+-- Behind an exchange at which no other mark came, a worker that has stopped was stopped by that for its reserve.
+pub given_behind : (reserve : Option Reserve) (old new : CountedWorker) (came : List WrittenMessage) → old.reserve ≡ reserve →
+    ((mark : HeaderMark) → old.local.way ≡ ways.Stopped mark → mark ≡ own_mark old.reserve) → AreMarked (own_mark reserve) came →
+    new.reserve ≡ old.reserve → is_stopped new.local.way ≡ (is_stopped old.local.way || is_marked (mark_heard came)) →
+    ((mark : HeaderMark) → new.local.way ≡ ways.Stopped mark →
+    (old.local.way ≡ ways.Stopped mark) ⊎ ((is_stopped old.local.way ≡ false) × (mark_heard came ≡ mark))) → IsGiven reserve new
+given_behind reserve old new came given own marks kept stopped by = record {
+  given = kept ∙ given;
+  stopped = λ mark way.
+      ⊎_elim (λ (was : old.local.way ≡ ways.Stopped mark). own mark was ∙ ap own_mark given)
+      (λ h. ⊎_elim
+      (λ (clear : mark_heard came ≡ Clear). absurd (none_marked
+      (sym (ap is_stopped way) ∙ stopped ∙ (λ i. h.0 i || is_marked (clear i)))))
+      (λ (is : mark_heard came ≡ own_mark reserve). sym h.1 ∙ is) (heard_mark (own_mark reserve) came marks)) (by mark way);
+}
+  where
+    none_marked : true ≡ false → ⊥
+    none_marked h = cc
+
+-- so is its run refused
+pub refusal_at : (way : Way) (reserve : Option Reserve) → ((mark : HeaderMark) → way ≡ ways.Stopped mark → mark ≡ own_mark reserve) →
+    is_stopped way ≡ true → refusal_by way ≡ refusal_for reserve
+refusal_at ways.On reserve own h = absurd (cc h)
+refusal_at (ways.Ending ended) reserve own h = absurd (cc h)
+refusal_at (ways.Past key ended) reserve own h = absurd (cc h)
+refusal_at (ways.Stopped mark) reserve own h = ap (λ k. refusal_by (ways.Stopped k)) (own mark refl) ∙ by_own reserve
+  where
+    by_own : (r : Option Reserve) → refusal_by (ways.Stopped (own_mark r)) ≡ refusal_for r
+    by_own None = refl
+    by_own (Some r) = refl
 
 -- ---- the mark of a message that is read
 

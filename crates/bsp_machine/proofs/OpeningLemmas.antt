@@ -1,15 +1,17 @@
 -- Workers before the first instruction are a run.
-use Rattle.std.proofs.Common.{◌≡◌, ℕ, ◌+◌, List, [], ◌∷◌, ◌++◌, length, map, ℤ, sym, ap, ◌∙◌, subst, arith}
+use Rattle.std.proofs.Common.{◌≡◌, ℕ, ◌+◌, List, [], ◌∷◌, ◌++◌, length, map, Option, None, ℤ, sym, ap, ◌∙◌, subst, arith}
 use Rattle.std.specs.Prelude.{slice_get}
 use Rattle.std.proofs.lemmas.List.{length-append}
 use Rattle.address_map.specs.Lawful.{Shape}
 use Rattle.superstep_code.specs.Code.{SuperstepCode}
 use Rattle.bsp_machine.specs.declared.counted.CountedWorker.{CountedWorker}
+use Rattle.bsp_machine.specs.declared.reserve.Reserve.{Reserve}
+use Rattle.bsp_machine.specs.Reserves.{HaveReserve, AreGiven}
 use Rattle.bsp_machine.specs.Workers.{share_told}
 use Rattle.bsp_machine.specs.Opening.{IsFresh, AreFresh}
 use Rattle.bsp_machine.specs.Ended.{AreRunning}
 use Rattle.bsp_machine.proofs.ListLemmas.{each_added}
-use Rattle.bsp_machine.proofs.MarkLemmas.{going_on}
+use Rattle.bsp_machine.proofs.MarkLemmas.{going_on, never}
 
 module _ (code : SuperstepCode) (m : Shape) (input : List ℤ) where
   pub fresh_run : (bound : ℕ) (all : List CountedWorker) → AreFresh code m input all → AreRunning code m bound input all
@@ -21,6 +23,7 @@ module _ (code : SuperstepCode) (m : Shape) (input : List ℤ) where
       going = λ on. f.going bound;
       counted = λ alive n low. ap (map share_told) f.none;
       items = λ alive. f.items;
+      reserved = λ alive. f.reserved;
     });
     together = λ w v x y at too.
         going_on x.local.way ((fresh w x at).going 0).going ∙ sym (going_on y.local.way ((fresh v y too).going 0).going);
@@ -39,3 +42,16 @@ module _ (code : SuperstepCode) (m : Shape) (input : List ℤ) where
 pub more_long : (worker : CountedWorker) (old new : List CountedWorker) (w : ℕ) → new ≡ old ++ worker ∷ [] → length old ≡ w →
     length new ≡ w + 1
 more_long worker old new w added long = ap length added ∙ length-append old (worker ∷ []) ∙ ap (λ k. k + 1) long
+
+pub more_unreserved : (worker : CountedWorker) (old new : List CountedWorker) → new ≡ old ++ worker ∷ [] → HaveReserve None old →
+    worker.reserve ≡ None → HaveReserve None new
+more_unreserved worker old new added have last v x at =
+    each_added old worker (λ i y. y.reserve ≡ None) 0 have last v x (ap (λ ys. slice_get ys v) (sym added) ∙ at)
+
+-- none of them has stopped
+pub fresh_given : (code : SuperstepCode) (m : Shape) (input : List ℤ) (all : List CountedWorker) (reserve : Option Reserve) →
+    AreFresh code m input all → HaveReserve reserve all → AreGiven reserve all
+fresh_given code m input all reserve fresh have w x at = record {
+  given = have w x at;
+  stopped = λ mark way. absurd (never x.local.way mark way (going_on x.local.way ((fresh w x at).going 0).going));
+}

@@ -56,6 +56,10 @@ IsFirstOver workers = (x : CountedWorker) → slice_get workers 0 ≡ Some x →
 abbrev pub IsFirstStopped : List CountedWorker → Type 0
 IsFirstStopped workers = (x : CountedWorker) → slice_get workers 0 ≡ Some x → is_stopped x.local.way ≡ true
 
+-- worker 0 hasn't stopped
+abbrev pub IsFirstUnstopped : List CountedWorker → Type 0
+IsFirstUnstopped workers = (x : CountedWorker) → slice_get workers 0 ≡ Some x → is_stopped x.local.way ≡ false
+
 -- ---- what they come to
 
 abbrev pub cells_of : Option CountedWorker → List ℤ

@@ -1,5 +1,6 @@
 pub mod Sheets
 pub mod ColumnLaws
+pub mod Reserves
 pub mod Workers
 pub mod Opening
 pub mod Ended

@@ -8,6 +8,7 @@ use Rattle.worker_messages.specs.Shown.{IsShown}
 use Rattle.worker_messages.specs.Equipped.{MayGoOn}
 use Rattle.bsp_machine.specs.declared.counted.CountedWorker.{CountedWorker}
 use Rattle.bsp_machine.specs.declared.end_room.EndRoom.{EndRoom}
+use Rattle.bsp_machine.specs.Reserves.{IsReserved}
 use Rattle.bsp_machine.specs.Workers.{HasItems}
 
 -- Worker w before the first instruction, within any bound.
@@ -17,6 +18,7 @@ pub record IsFresh (code : SuperstepCode) (m : Shape) (input : List ℤ) (w : �
   pub going : (bound : ℕ) → MayGoOn code m bound x.local
   pub none : x.counts.items ≡ []
   pub items : HasItems x
+  pub reserved : IsReserved x
 
 abbrev pub AreFresh : SuperstepCode → Shape → List ℤ → List CountedWorker → Type 0
 AreFresh code m input workers = (w : ℕ) (x : CountedWorker) → slice_get workers w ≡ Some x → IsFresh code m input w x

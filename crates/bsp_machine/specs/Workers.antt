@@ -4,7 +4,6 @@ use Rattle.std.specs.List.{range_with_len}
 use Rattle.address_map.specs.Lawful.{Shape}
 use Rattle.superstep_code.specs.Code.{SuperstepCode}
 use Rattle.superstep_machine.specs.declared.mark.HeaderMark.{HeaderMark}
-use Rattle.superstep_machine.specs.declared.mark.HeaderMark.TheVariants.{OutOfMemory}
 use Rattle.superstep_machine.specs.Setting.{Setting}
 use Rattle.superstep_machine.specs.Machine.{column}
 use Rattle.superstep_machine.specs.Run.{State, bsp, after, is_over, message_of, ready, setting}
@@ -22,7 +21,9 @@ use Rattle.worker_exchange.specs.Received.{messages_to}
 use Rattle.exchange_counts.specs.declared.count.Count.{Count}
 use Rattle.histories.specs.Shares.{Share, share_of}
 use Rattle.bsp_machine.specs.declared.counted.CountedWorker.{CountedWorker}
+use Rattle.bsp_machine.specs.declared.reserve.Reserve.{Reserve}
 use Rattle.bsp_machine.specs.declared.sheet.Sheet.{Sheet}
+use Rattle.bsp_machine.specs.Reserves.{is_past, own_mark, IsReserved}
 use Rattle.bsp_machine.specs.Sheets.{messages_in, IsSheet}
 
 -- ---- what a worker counts
@@ -60,8 +61,10 @@ module _ (code : SuperstepCode) (m : Shape) (bound : ℕ) where
     pub counted : is_stopped x.local.way ≡ false → (n : ℕ) → most_instructions code bound < n →
         map share_told x.counts.items ≡ told n
     pub items : is_stopped x.local.way ≡ false → HasItems x
+    pub reserved : is_stopped x.local.way ≡ false → IsReserved x
 
-  -- At the exchange behind such a state it has a row of the messages of worker w, with a mark if it has stopped.
+  -- At the exchange behind such a state it has a row of the messages of worker w, with a mark if it has stopped. If it was given a reserve,
+  -- it has stopped exactly where the state at the exchange is past that.
   pub record IsStanding (states : ℕ → State) (told : ℕ → List Share) (w : ℕ) (x : CountedWorker) (row : List WrittenMessage) : Type 0 where
     pub worker : is_stopped x.local.way ≡ false → x.local.steps.bank.worker ≡ w
     pub shown : is_stopped x.local.way ≡ false → (n : ℕ) → most_instructions code bound < n →
@@ -71,11 +74,14 @@ module _ (code : SuperstepCode) (m : Shape) (bound : ℕ) where
     pub read : (n j : ℕ) → most_instructions code bound < n → j < m.parts →
         IsWrittenFor code.rule m j (purpose_is x.local.step)
         (message_of (setting code m bound n) w (marked x.local.way (states n)) j) (message_at row j)
-    pub refused : (mark : HeaderMark) → x.local.way ≡ Stopped mark → mark ≡ OutOfMemory
+    pub refused : (mark : HeaderMark) → x.local.way ≡ Stopped mark → mark ≡ own_mark x.reserve
+    pub past : (r : Reserve) (n : ℕ) → x.reserve ≡ Some r → most_instructions code bound < n → is_stopped x.local.way
+        ≡ is_past r (length (ready (setting code m bound n) w (states n)).state.worker.uniform.output) (length (told n))
     pub sent : is_stopped x.local.way ≡ false → x.local.buffers.sent ≡ words_in row
     pub counted : is_stopped x.local.way ≡ false → (n : ℕ) → most_instructions code bound < n →
         map share_told x.counts.items ≡ told n
     pub items : is_stopped x.local.way ≡ false → HasItems x
+    pub reserved : is_stopped x.local.way ≡ false → IsReserved x
 
   -- the state behind the exchange at which these words came
   abbrev pub state_behind : ℕ → CountedWorker → List WrittenMessage → State → ℕ → State

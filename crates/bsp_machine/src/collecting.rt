@@ -1,14 +1,15 @@
 //! What workers come to whose run is over.
 
-ghost use Rattle.std.specs.Prelude.{◌≡◌, ◌<◌, ℕ, List, ℤ, Some, length, slice_get, slice_set, IfOk, IfErr};
+ghost use Rattle.std.specs.Prelude.{◌≡◌, ◌<◌, ℕ, List, ℤ, Option, Some, length, slice_get, slice_set, IfOk, IfErr};
 ghost use Rattle.write_rules.specs.Verdict.{verdict_of};
 ghost use Rattle.superstep_machine.specs.Run.{IsBspOutcome};
 ghost use Rattle.superstep_machine.specs.Trace.{AreBspExchanges};
-ghost use Rattle.worker_messages.specs.declared.refusal.RunRefusal.TheVariants as refusal_is;
 ghost use Rattle.worker_messages.specs.Equipped.{IsRunnable};
 ghost use Rattle.bsp_machine.specs.declared.counted.CountedWorker.{CountedWorker as Counted};
+ghost use Rattle.bsp_machine.specs.declared.reserve.Reserve.{Reserve as Given};
+ghost use Rattle.bsp_machine.specs.Reserves.{refusal_by as spec_refusal_by, refusal_for, AreGiven};
 ghost use Rattle.bsp_machine.specs.Opening.{IsRoom};
-ghost use Rattle.bsp_machine.specs.Ended.{AreRunning, HaveRun, IsFirstOver, IsFirstStopped};
+ghost use Rattle.bsp_machine.specs.Ended.{AreRunning, HaveRun, IsFirstOver, IsFirstStopped, IsFirstUnstopped};
 
 use crate::columns::take_columns;
 use crate::counted::CountedWorker;
@@ -18,7 +19,8 @@ use address_map::AddressMap;
 use exchange_counts::Counts;
 use std::mem;
 use superstep_code::Code;
-use worker_messages::RunRefusal;
+use superstep_machine::HeaderMark;
+use worker_messages::{RunRefusal, Way};
 use write_rules::Outcome;
 
 // Takes worker 0's room for items.
@@ -32,8 +34,21 @@ fn take_items(workers: &mut Vec<CountedWorker>, items: &mut Vec<i64>)
     mem::swap(&mut workers[0].items, items);
 }
 
-/// What the workers of one run come to, in their order, whose run is over, and the exchanges that they counted. It takes no memory.
-/// `OutOfMemory` comes exactly where they have stopped: memory was refused to one of them, and all stop at one exchange or none does.
+// Why workers have stopped, as the way of the first says.
+fn refusal_by(way: Way) -> RunRefusal
+    ensures { result ≡ spec_refusal_by way }
+{
+    match way {
+        Way::Stopped {
+            mark: HeaderMark::OutOfReserve,
+        } => RunRefusal::OutOfReserve,
+        _ => RunRefusal::OutOfMemory,
+    }
+}
+
+/// What the workers of one run come to, in their order, whose run is over, and the exchanges that they counted. It takes no memory. An error
+/// comes exactly where they have stopped, all at one exchange or none: `OutOfReserve` where they came past the reserve that they were
+/// given, `OutOfMemory` where memory was refused to one of them.
 pub fn collect<M: AddressMap>(
     code: &Code,
     map: &M,
@@ -45,13 +60,16 @@ pub fn collect<M: AddressMap>(
     requires run { HaveRun code.now (M.shape map.now) workers.items }
     requires over { IsFirstOver workers.items }
     requires room { IsRoom code.now (M.shape map.now) room }
-    ensures memory { IfErr result (λ refusal. refusal ≡ refusal_is.OutOfMemory) }
+    ensures refused { IfErr result (λ refusal. (x : Counted) → slice_get workers.items 0 ≡ Some x → refusal ≡ spec_refusal_by x.local.way) }
+    ensures given { (reserve : Option Given) → AreGiven reserve workers.items → IfErr result (λ refusal. refusal ≡ refusal_for reserve) }
     ensures stopped { IfErr result (λ refusal. IsFirstStopped workers.items) }
+    ensures unstopped { IfOk result (λ found. IsFirstUnstopped workers.items) }
     ensures outcome { IfOk result (λ found. (bound : ℕ) (input : List ℤ) → AreRunning code.now (M.shape map.now) bound input workers.items →
         IsBspOutcome code.now (M.shape map.now) input bound (verdict_of found.0)) }
     ensures counts { IfOk result (λ found. (bound : ℕ) (input : List ℤ) → AreRunning code.now (M.shape map.now) bound input workers.items →
         AreBspExchanges code.now (M.shape map.now) input bound (verdict_of found.0) found.1) }
 {
+    let refusal = refusal_by(workers[0].local.way);
     let EndRoom {
         mut items,
         memory,
@@ -59,7 +77,7 @@ pub fn collect<M: AddressMap>(
     } = room;
     take_items(&mut workers, &mut items);
     let Some(found) = outcome(code, map, workers.as_slice(), items, memory) else {
-        return Err(RunRefusal::OutOfMemory);
+        return Err(refusal);
     };
     take_columns(workers, &mut columns);
     Ok((found, Counts::of_columns(columns)))

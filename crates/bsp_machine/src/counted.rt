@@ -1,33 +1,42 @@
 //! A worker that counts its exchanges.
 
-ghost use Rattle.std.specs.Prelude.{◌≡◌, ◌<◌, ◌≤◌, ◌^◌, ◌||◌, ℕ, List, ℤ, length, false, vec_capacity, ◌++◌, ◌∷◌, [], IfOk, IfErr, OnOk};
+ghost use Rattle.std.specs.Prelude.{◌≡◌, ◌<◌, ◌≤◌, ◌^◌, ◌||◌, ◌⊎◌, ℕ, List, ℤ, length, true, false, Some, None, vec_capacity, ◌++◌, ◌∷◌, []};
+ghost use Rattle.std.specs.Prelude.{IfOk, IfErr, OnOk, nat_le};
 ghost use Rattle.address_map.specs.Outcome.{IsWorkers};
+ghost use Rattle.superstep_code.specs.Code.{SuperstepCode};
+ghost use Rattle.superstep_machine.specs.declared.mark.HeaderMark.{HeaderMark as MarkOfHeader};
 ghost use Rattle.superstep_machine.specs.Run.{State, is_over as spec_is_over};
+ghost use Rattle.address_map.specs.Lawful.{Shape};
 ghost use Rattle.bsp_verify.specs.WellFormed.{IsWellFormed};
 ghost use Rattle.message_rows.specs.Rows.{WrittenMessage, words_in};
-ghost use Rattle.worker_messages.specs.Shown.{is_stopped, way_is};
+ghost use Rattle.worker_messages.specs.declared.way.Way.TheVariants as way_is_one_of;
+ghost use Rattle.worker_messages.specs.Shown.{is_stopped as spec_is_stopped, way_is};
 ghost use Rattle.worker_messages.specs.Equipped.{most_words, left, left_at, IsRunnable, MayGoOn};
 ghost use Rattle.worker_messages.specs.Opened.{IsAccepted, IsRefusal};
 ghost use Rattle.worker_exchange.specs.Received.{mark_heard, is_marked};
 ghost use Rattle.histories.specs.Shares.{Share};
 ghost use Rattle.bsp_machine.specs.Workers.{count_of, share_at, state_behind, HasItems, IsBetween, IsStanding, IsReady};
+ghost use Rattle.bsp_machine.specs.Reserves.{is_past as spec_is_past};
 ghost use Rattle.bsp_machine.specs.Opening.{IsFresh};
 
+use crate::reserve::Reserve;
 use address_map::AddressMap;
 use exchange_counts::Count;
 use message_rows::{Column, Row};
 use std::alloc::{AllocError, Global};
 use superstep_code::Code;
-use worker_exchange::{is_over, receive};
+use superstep_machine::HeaderMark;
+use worker_exchange::{is_over, is_stopped, receive};
 use worker_messages::{Local, RunRefusal};
 use write_rules::WriteRule;
 
-/// A worker, what it counted at each exchange so far, and room for the items of its output.
+/// A worker, what it counted at each exchange so far, room for the items of its output, and the reserve that it was given, if any.
 #[derive(Drop)]
 pub struct CountedWorker {
     pub local: Local,
     pub counts: Vec<Count>,
     pub items: Vec<i64>,
+    pub reserve: Option<Reserve>,
 }
 
 // How many words came together.
@@ -48,12 +57,13 @@ fn words_came<C: Column>(column: &C, workers: usize) -> u64
 
 // Counts an exchange, unless the worker has stopped at it.
 fn count<C: Column>(local: &Local, counts: &mut Vec<Count>, column: &C, workers: usize)
-    requires room { is_stopped local.now.way ≡ false → length counts.old.items < vec_capacity counts.old }
+    requires room { spec_is_stopped local.now.way ≡ false → length counts.old.items < vec_capacity counts.old }
     requires column { length (C.came column.now) ≡ workers }
     requires few { workers ≤ 32 }
     requires short { C.room column.now < 2 ^ 32 }
-    ensures { spec_is_over (way_is local.now.way) ≡ false →
+    ensures counted { spec_is_over (way_is local.now.way) ≡ false →
         counts.new.items ≡ counts.old.items ++ (count_of local.now (words_in (C.came column.now)) ∷ []) }
+    ensures room { vec_capacity counts.new ≡ vec_capacity counts.old }
 {
     if is_over(local) {
         return;
@@ -78,8 +88,9 @@ fn keep_room(items: &mut Vec<i64>, most: usize) -> Result<(), AllocError>
 }
 
 impl CountedWorker {
-    /// One of the workers of a run before the first instruction, with nothing counted. It takes all the memory of a run but for that by
-    /// which uniform registers, the output and the counts grow. Asked for a worker below their number; refused as the run is.
+    /// One of the workers of a run before the first instruction, with nothing counted and without a reserve. It takes all the memory of a
+    /// run but for that by which uniform registers, the reads that are held, the output and the counts grow. Asked for a worker below their
+    /// number; refused as the run is.
     pub fn new<M: AddressMap>(
         alloc: Global,
         code: &Code,
@@ -93,6 +104,7 @@ impl CountedWorker {
         ensures refused { IfErr result (IsRefusal code.now (M.shape map.now) workers input.now) }
         ensures accepted { IfOk result (λ x. IsAccepted code.now (M.shape map.now) workers input.now) }
         ensures fresh { IfOk result (IsFresh code.now (M.shape map.now) input.now worker) }
+        ensures unreserved { IfOk result (λ x. x.reserve ≡ None) }
     {
         let local = Local::new(alloc, code, map, workers, worker, input)?;
         let counts = Vec::new(alloc);
@@ -101,10 +113,74 @@ impl CountedWorker {
             local,
             counts,
             items,
+            reserve: None,
         })
     }
 
-    // Goes on up to its next exchange, where there is room to count it.
+    /// Takes all the memory that the rest of its run wants, for so many items of output and so many exchanges: behind it the worker takes
+    /// none, and stops where it comes past that. It shows what it showed. The error comes where memory was refused: nothing is said of the
+    /// worker then.
+    pub fn reserve(&mut self, reserve: Reserve) -> Result<(), AllocError>
+        ensures given { OnOk result (self.new.reserve ≡ Some reserve) }
+        ensures fresh { OnOk result ((code : SuperstepCode) (m : Shape) (input : List ℤ) (w : ℕ) → IsFresh code m input w self.old →
+            IsFresh code m input w self.new) }
+        ensures between { OnOk result ((code : SuperstepCode) (m : Shape) (bound : ℕ) (states : ℕ → State) (told : ℕ → List Share) (w : ℕ) →
+            IsBetween code m bound states told w self.old → IsBetween code m bound states told w self.new) }
+        ensures going { OnOk result ((code : SuperstepCode) (m : Shape) (bound : ℕ) → MayGoOn code m bound self.old.local →
+            MayGoOn code m bound self.new.local) }
+        ensures way { OnOk result (self.new.local.way ≡ self.old.local.way) }
+    {
+        self.counts.reserve(reserve.exchanges as usize)?;
+        self.items.reserve(reserve.items as usize)?;
+        self.local.reserve(reserve.items as usize)?;
+        self.reserve = Some(reserve);
+        Ok(())
+    }
+
+    // Whether it has stopped, or is past a reserve at its next exchange.
+    fn is_past(&self, reserve: Reserve) -> bool
+        ensures { result ≡ (spec_is_stopped self.now.local.way || spec_is_past reserve (length self.now.local.steps.uniform.output.items)
+            (length self.now.counts.items) || nat_le (vec_capacity self.now.counts) (length self.now.counts.items)) }
+    {
+        let printed = self.local.steps.uniform.output.len();
+        let counted = self.counts.len();
+        let past = printed > reserve.items as usize || counted >= reserve.exchanges as usize;
+        // There is room to count all exchanges of a reserve, so that the last test never decides.
+        is_stopped(self.local.way) || past || counted >= self.counts.capacity()
+    }
+
+    // Goes on up to its next exchange, where its reserve has the memory for that.
+    fn go_on_reserved<R: WriteRule, M: AddressMap, W: Row>(
+        &mut self,
+        code: &Code,
+        rule: &R,
+        map: &M,
+        bound: u32,
+        row: &mut W,
+        reserve: Reserve,
+    )
+        requires rule { R.WriteRule.rule rule.now ≡ code.now.rule }
+        requires going { MayGoOn code.now (M.shape map.now) bound self.old.local }
+        requires workers { length (W.filled row.old) ≡ (M.shape map.now).parts }
+        requires room { most_words code.now (M.shape map.now) ≤ W.room row.old }
+        requires reserve { self.old.reserve ≡ Some reserve }
+        ensures ready { IsReady code.now (M.shape map.now) bound self.new }
+        ensures at { (states : ℕ → State) (told : ℕ → List Share) (w : ℕ) →
+            IsBetween code.now (M.shape map.now) bound states told w self.old →
+            IsStanding code.now (M.shape map.now) bound states told w self.new (W.filled row.new) }
+        ensures fewer { spec_is_stopped self.new.local.way ≡ false →
+            left_at code.now bound self.new.local ≤ left code.now bound self.old.local }
+        ensures reserve { self.new.reserve ≡ self.old.reserve }
+        ensures room { W.room row.new ≡ W.room row.old }
+        ensures kept { W.kept row.old row.new }
+    {
+        let _step = self.local.until_exchange(code, rule, map, bound, row);
+        if self.is_past(reserve) {
+            self.local.refuse(map, row, HeaderMark::OutOfReserve);
+        }
+    }
+
+    // Goes on up to its next exchange, where there is room to count it and no reserve.
     fn go_on<R: WriteRule, M: AddressMap, W: Row>(
         &mut self,
         code: &Code,
@@ -118,11 +194,14 @@ impl CountedWorker {
         requires workers { length (W.filled row.old) ≡ (M.shape map.now).parts }
         requires room { most_words code.now (M.shape map.now) ≤ W.room row.old }
         requires count { length self.old.counts.items < vec_capacity self.old.counts }
+        requires reserve { self.old.reserve ≡ None }
         ensures ready { IsReady code.now (M.shape map.now) bound self.new }
         ensures at { (states : ℕ → State) (told : ℕ → List Share) (w : ℕ) →
             IsBetween code.now (M.shape map.now) bound states told w self.old →
             IsStanding code.now (M.shape map.now) bound states told w self.new (W.filled row.new) }
-        ensures fewer { is_stopped self.new.local.way ≡ false → left_at code.now bound self.new.local ≤ left code.now bound self.old.local }
+        ensures fewer { spec_is_stopped self.new.local.way ≡ false →
+            left_at code.now bound self.new.local ≤ left code.now bound self.old.local }
+        ensures reserve { self.new.reserve ≡ self.old.reserve }
         ensures room { W.room row.new ≡ W.room row.old }
         ensures kept { W.kept row.old row.new }
     {
@@ -130,12 +209,13 @@ impl CountedWorker {
         let most = self.local.steps.uniform.output.len();
         match keep_room(&mut self.items, most) {
             Ok(()) => {}
-            Err(_) => self.local.refuse(map, row),
+            Err(_) => self.local.refuse(map, row, HeaderMark::OutOfMemory),
         }
     }
 
-    /// Goes on up to its next exchange, and fills a row with the messages for it. It makes room to count that exchange, and for the items
-    /// of its output: where that is refused, the worker stops as where any memory is refused on the way.
+    /// Goes on up to its next exchange, and fills a row with the messages for it. Without a reserve it makes room to count that exchange,
+    /// and for the items of its output: where that is refused, the worker stops as where any memory is refused on the way. With one it takes
+    /// no memory, and stops where it comes past that.
     pub fn until_exchange<R: WriteRule, M: AddressMap, W: Row>(
         &mut self,
         code: &Code,
@@ -152,18 +232,23 @@ impl CountedWorker {
         ensures at { (states : ℕ → State) (told : ℕ → List Share) (w : ℕ) →
             IsBetween code.now (M.shape map.now) bound states told w self.old →
             IsStanding code.now (M.shape map.now) bound states told w self.new (W.filled row.new) }
-        ensures fewer { is_stopped self.new.local.way ≡ false → left_at code.now bound self.new.local ≤ left code.now bound self.old.local }
+        ensures fewer { spec_is_stopped self.new.local.way ≡ false →
+            left_at code.now bound self.new.local ≤ left code.now bound self.old.local }
+        ensures reserve { self.new.reserve ≡ self.old.reserve }
         ensures room { W.room row.new ≡ W.room row.old }
         ensures kept { W.kept row.old row.new }
     {
-        match self.counts.reserve(1) {
-            Ok(()) => self.go_on(code, rule, map, bound, row),
-            Err(_) => self.local.refuse(map, row),
+        match self.reserve {
+            Some(reserve) => self.go_on_reserved(code, rule, map, bound, row, reserve),
+            None => match self.counts.reserve(1) {
+                Ok(()) => self.go_on(code, rule, map, bound, row),
+                Err(_) => self.local.refuse(map, row, HeaderMark::OutOfMemory),
+            },
         }
     }
 
     /// Takes what came in the exchange, and counts it. Behind it the worker shows the state that the messages lead to, as they are read
-    /// for it; it has stopped where it had, or where one of them has a mark.
+    /// for it; it has stopped where it had, or where one of them has a mark: by its own mark, or else by the worst of those.
     pub fn receive<R: WriteRule, M: AddressMap, C: Column>(
         &mut self,
         code: &Code,
@@ -177,7 +262,11 @@ impl CountedWorker {
         requires ready { IsReady code.now (M.shape map.now) bound self.old }
         requires column { length (C.came column.now) ≡ (M.shape map.now).parts }
         requires room { C.room column.now ≤ most_words code.now (M.shape map.now) }
-        ensures stopped { is_stopped self.new.local.way ≡ (is_stopped self.old.local.way || is_marked (mark_heard (C.came column.now))) }
+        ensures stopped { spec_is_stopped self.new.local.way ≡ (spec_is_stopped self.old.local.way || is_marked (mark_heard (C.came column.now))) }
+        ensures mark { (mark : MarkOfHeader) → self.new.local.way ≡ way_is_one_of.Stopped mark →
+            (self.old.local.way ≡ way_is_one_of.Stopped mark)
+            ⊎ ((spec_is_stopped self.old.local.way ≡ false) × (mark_heard (C.came column.now) ≡ mark)) }
+        ensures reserve { self.new.reserve ≡ self.old.reserve }
         ensures behind { (states : ℕ → State) (told : ℕ → List Share) (w : ℕ) (row : List WrittenMessage) →
             IsStanding code.now (M.shape map.now) bound states told w self.old row →
             IsBetween code.now (M.shape map.now) bound

@@ -13,6 +13,7 @@ mod phase;
 mod phases;
 mod picked;
 mod plain;
+mod reserve;
 mod sheet;
 
 pub use collecting::collect;
@@ -20,3 +21,4 @@ pub use counted::CountedWorker;
 pub use end_room::EndRoom;
 pub use opening::open_all;
 pub use plain::run_plain;
+pub use reserve::Reserve;

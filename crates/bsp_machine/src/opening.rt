@@ -1,10 +1,11 @@
 //! All workers before the first instruction.
 
-ghost use Rattle.std.specs.Prelude.{◌≡◌, ◌++◌, ◌∷◌, [], length, IfOk, IfErr, OnOk};
+ghost use Rattle.std.specs.Prelude.{◌≡◌, ◌++◌, ◌∷◌, [], length, None, IfOk, IfErr, OnOk};
 ghost use Rattle.bsp_verify.specs.WellFormed.{IsWellFormed};
 ghost use Rattle.worker_messages.specs.declared.refusal.RunRefusal.TheVariants as refusal_is;
 ghost use Rattle.worker_messages.specs.Opened.{IsAccepted, IsRefusal};
 ghost use Rattle.bsp_machine.specs.Workers.{AreSheets};
+ghost use Rattle.bsp_machine.specs.Reserves.{AreGiven};
 ghost use Rattle.bsp_machine.specs.Opening.{AreFresh};
 
 use crate::counted::CountedWorker;
@@ -25,7 +26,7 @@ fn add(all: &mut Vec<CountedWorker>, worker: CountedWorker) -> Result<(), RunRef
     }
 }
 
-/// All workers, each with the cells of its module. They are judged as worker 0 is, before anything else is asked for.
+/// All workers, each with the cells of its module, and without a reserve. They are judged as worker 0 is, before anything else is asked for.
 pub fn open_all<M: AddressMap>(
     alloc: Global,
     code: &Code,
@@ -38,6 +39,7 @@ pub fn open_all<M: AddressMap>(
     ensures accepted { IfOk result (λ all. IsAccepted code.now (M.shape map.now) workers input.now) }
     ensures count { IfOk result (λ all. length all.items ≡ workers) }
     ensures opened { IfOk result (λ all. AreFresh code.now (M.shape map.now) input.now all.items) }
+    ensures unreserved { IfOk result (λ all. AreGiven None all.items) }
 {
     let first = CountedWorker::new(alloc, code, map, workers, 0, input)?;
     let mut all = Vec::new(alloc);

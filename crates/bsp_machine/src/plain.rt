@@ -1,12 +1,14 @@
 //! A whole run.
 
-ghost use Rattle.std.specs.Prelude.{◌≡◌, List, ℤ, length, IfOk, IfErr};
+ghost use Rattle.std.specs.Prelude.{◌≡◌, List, ℤ, length, Option, IfOk, IfErr};
 ghost use Rattle.write_rules.specs.Verdict.{verdict_of};
 ghost use Rattle.superstep_machine.specs.Run.{IsBspOutcome};
 ghost use Rattle.superstep_machine.specs.Trace.{AreBspExchanges};
 ghost use Rattle.bsp_verify.specs.WellFormed.{IsWellFormed};
 ghost use Rattle.worker_messages.specs.Equipped.{IsRunnable};
 ghost use Rattle.worker_messages.specs.Opened.{IsAccepted, IsRefusal};
+ghost use Rattle.bsp_machine.specs.declared.reserve.Reserve.{Reserve as Given};
+ghost use Rattle.bsp_machine.specs.Reserves.{AreGiven};
 ghost use Rattle.bsp_machine.specs.Opening.{AreOpened};
 ghost use Rattle.bsp_machine.specs.Ended.{AreRunning, IsFirstOver};
 
@@ -38,6 +40,7 @@ fn run_all<M: AddressMap>(
     ensures running { IfOk result (λ ended. (input : List ℤ) → AreRunning code.now (M.shape map.now) bound input workers.items →
         AreRunning code.now (M.shape map.now) bound input ended.items) }
     ensures over { IfOk result (λ ended. IsFirstOver ended.items) }
+    ensures given { IfOk result (λ ended. (reserve : Option Given) → AreGiven reserve workers.items → AreGiven reserve ended.items) }
 {
     let count = map.modules();
     let most = workers[0].local.buffers.reply.len();

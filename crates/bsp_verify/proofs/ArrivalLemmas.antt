@@ -60,7 +60,7 @@ no_mark o i e f h = absurd (clash (is_mark (Some i)) f (ap is_mark (sym e) ∙ h
     clash b f h = cc
 
 module _ (t : Setting) (formed : IsWellFormed t.code) where
-  abbrev size : ℕ
+  abbrev pub size : ℕ
   size = length t.code.instructions
 
   -- Enough instructions to come to an exchange from a place: what is above it, and all of them for each statement to come. At a mark
@@ -73,7 +73,7 @@ module _ (t : Setting) (formed : IsWellFormed t.code) where
     pub inside : place < size
     pub enough : ((is_mark (slice_get t.code.instructions place) ≡ true) × (laps size left + 1 ≤ n)) ⊎ (laps size left + above + 1 ≤ n)
 
-  abbrev IsStopped : Arrival Worker → Type 0
+  abbrev pub IsStopped : Arrival Worker → Type 0
   IsStopped Nowhere = ⊥
   IsStopped (At (ToClose ended) place x) = Unit {0}
   IsStopped (At stop place x) = (place + 1 < size) × (x.uniform.count ≤ t.bound)
@@ -121,7 +121,7 @@ module _ (t : Setting) (formed : IsWellFormed t.code) where
     not_past = let c = fuel.counted in omega (arith, c)
 
   module _ (w : ℕ) where
-    abbrev from : ℕ → ℕ → Worker → Arrival Worker
+    abbrev pub from : ℕ → ℕ → Worker → Arrival Worker
     from n place x = until t.bound (λ (y : Worker). y.uniform) (after_instr t w) t.code.instructions n place x
 
     module _ (n : ℕ) (next : (place : ℕ) (x : Worker) → IsFuel place x.uniform.count n → IsStopped (from n place x)) (place : ℕ)
@@ -154,7 +154,7 @@ module _ (t : Setting) (formed : IsWellFormed t.code) where
       step i is a b = next (place + 1) (after_instr t w i x) (subst (λ c. IsFuel (place + 1) c n) (sym (same_count t.code i x.uniform tt))
           (left_over n place x.uniform.count fuel i is a b refl (place + 1) refl))
 
-    stops : (n place : ℕ) (x : Worker) → IsFuel place x.uniform.count n → IsStopped (from n place x)
+    pub stops : (n place : ℕ) (x : Worker) → IsFuel place x.uniform.count n → IsStopped (from n place x)
     stops zero place x fuel = ⊎_elim (λ m. let l = m.1 in absurd (omega (arith, l))) (λ l. absurd (omega (arith, l))) fuel.enough
     stops (suc n) place x fuel =
         let m = formed.1.1.each place fuel.inside in

@@ -4,3 +4,4 @@ pub mod Joining
 pub mod Parts
 pub mod Reading
 pub mod Marking
+pub mod Before

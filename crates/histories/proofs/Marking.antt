@@ -20,7 +20,7 @@ use Rattle.histories.proofs.Growing.{before_grows, histories_grow}
 
 -- ---- truth
 
-either : (a b : Bool) → (a || b) ≡ true → (a ≡ true) ⊎ (b ≡ true)
+pub either : (a b : Bool) → (a || b) ≡ true → (a ≡ true) ⊎ (b ≡ true)
 either true b e = inl refl
 either false b e = inr e
 
@@ -54,7 +54,7 @@ any_more : (x : WrittenMessage) (xs : List WrittenMessage) → any_mark (x ∷ x
 any_more x xs = marked_worse (read_header x.header).mark (mark_heard xs)
 
 -- one of them has it
-found : (xs : List WrittenMessage) → any_mark xs ≡ true → (k : ℕ) × (x : WrittenMessage) × (slice_get xs k ≡ Some x) × (has_mark x ≡ true)
+pub found : (xs : List WrittenMessage) → any_mark xs ≡ true → (k : ℕ) × (x : WrittenMessage) × (slice_get xs k ≡ Some x) × (has_mark x ≡ true)
 found [] e = absurd (cc e)
 found (x ∷ xs) e =
     ⊎_elim (λ h. (zero, x, refl, h)) (λ h. let r = found xs h in (suc r.0, r.1, r.2, r.3))
@@ -67,13 +67,13 @@ shown (y ∷ xs) zero x e h =
 shown (y ∷ xs) (suc k) x e h = any_more y xs ∙ right (has_mark y) (any_mark xs) (shown xs k x e h)
 
 -- a row without a mark has none in any message
-clear_row : (xs : List WrittenMessage) → any_mark xs ≡ false → IsMarked false xs
+pub clear_row : (xs : List WrittenMessage) → any_mark xs ≡ false → IsMarked false xs
 clear_row [] e = tt
 clear_row (x ∷ xs) e =
     let r = both_false (has_mark x) (any_mark xs) (sym (any_more x xs) ∙ e) in
     (r.0, clear_row xs r.1)
 
-marked_at : (mine : Bool) (xs : List WrittenMessage) (k : ℕ) (x : WrittenMessage) → IsMarked mine xs → slice_get xs k ≡ Some x →
+pub marked_at : (mine : Bool) (xs : List WrittenMessage) (k : ℕ) (x : WrittenMessage) → IsMarked mine xs → slice_get xs k ≡ Some x →
     has_mark x ≡ mine
 marked_at mine [] k x h e = absurd (cc e)
 marked_at mine (y ∷ xs) zero x h e = (let s : x ≡ y = (let q : Option.Some y ≡ Some x = e in cc) in ap has_mark s) ∙ h.0
@@ -101,7 +101,7 @@ module _ {A : Type 0} where
   last_at [] x d = refl
   last_at (y ∷ xs) x d = last_at xs x d
 
-  long_more : (xs : List A) (x : A) → length (xs ++ x ∷ []) ≡ suc (length xs)
+  pub long_more : (xs : List A) (x : A) → length (xs ++ x ∷ []) ≡ suc (length xs)
   long_more [] x = refl
   long_more (y ∷ xs) x = ap suc (long_more xs x)
 
@@ -115,7 +115,7 @@ module _ {A : Type 0} where
   all_or P (x ∷ xs) zero d h q = h.0
   all_or P (x ∷ xs) (suc k) d h q = all_or P xs k d h.1 q
 
-rows_long : {S M O : Type 0} (b : Machine S M O) (p w : ℕ) (s : S) (cs : List (List M)) → length (rows_by b p w s cs) ≡ length cs
+pub rows_long : {S M O : Type 0} (b : Machine S M O) (p w : ℕ) (s : S) (cs : List (List M)) → length (rows_by b p w s cs) ≡ length cs
 rows_long b p w s [] = refl
 rows_long b p w s (c ∷ cs) = ap suc (rows_long b p w (b.next w s c) cs)
 

@@ -15,9 +15,10 @@ use Rattle.flat_machine.proofs.Laws.{one_exchange}
 use Rattle.flat_machine.proofs.Lists.{map_twice}
 use Rattle.message_rows.specs.Rows.{WrittenMessage, written, words_in}
 use Rattle.worker_exchange.specs.Received.{messages_to}
-use Rattle.histories.specs.Histories.{GoesOn}
+use Rattle.histories.specs.Histories.{end_by, HaveExchanged}
 use Rattle.histories.specs.Shares.{purpose_of, words_of}
-use Rattle.histories.specs.InWords.{in_words, AreGivenBack, HistoriesInWordsMakeARun}
+use Rattle.histories.specs.Joined.{IsRunSoFar}
+use Rattle.histories.specs.InWords.{in_words, AreGivenBack, IsUnderway, HistoriesInWordsMakeARun, HistoriesInWordsAreTheRunSoFar}
 use Rattle.histories.proofs.Lists.{sum_of_range}
 use Rattle.histories.proofs.Joining.{phase_more, phase_within, run_ends, AreJoined, ends_are, holds_at}
 use Rattle.histories.proofs.Parts.{share_at, share_within, shares_are, parts_are}
@@ -81,29 +82,53 @@ module _ (t : Setting) where
         ∙ phase_within (bsp t) (workers t) ws (worker_after t input n) same w h
         ∙ ap (λ (f : ℕ → State). f w) (sym (phase_more (bsp t) (workers t) n (opening t input)))
 
+module _ (t : Setting) (room : IsMapFor t.code t.map) (input : List ℤ) (n : ℕ) (rows columns : ℕ → List (List WrittenMessage))
+    (exchanged : HaveExchanged (workers t) n rows columns)
+    (underway : (w : ℕ) → w < workers t → IsUnderway t w (opening t input w) (columns w) (rows w)) where
+  abbrev start : ℕ → State
+  start = opening t input
+
+  some : 0 < workers t
+  some = let l = room.lawful.one in omega (arith, l)
+
+  joined : AreJoined (in_words t) (workers t) n start rows columns
+  joined = record { exchanged = exchanged; sent = λ w h. (underway w h).sent }
+
+  back : (k w : ℕ) → k < n → w < workers t → AreGivenBack t w (phases (in_words t) (workers t) k start w)
+  back k w l h = holds_at (in_words t) (workers t) (AreGivenBack t w) w h n start rows columns joined (underway w h).given_back k l
+
+  same : (k : ℕ) → k ≤ n → (w : ℕ) → w < workers t → phases (in_words t) (workers t) k start w ≡ worker_after t input k w
+  same k few = phases_are t room input k (λ j w l h. back j w (omega (arith, l, few)) h)
+
+  so_far : IsRunSoFar t input n (λ w. end_by (in_words t) w (start w) (columns w))
+  so_far = record {
+    states_are = λ w h. ends_are (in_words t) (workers t) n start rows columns joined w h ∙ same n (omega arith) w h;
+    going = λ k l. ap (λ (s : State). is_over s.way) (sym (same k (omega (arith, l)) 0 some))
+        ∙ holds_at (in_words t) (workers t) (λ (s : State). is_over s.way ≡ false) 0 some n start rows columns joined
+        (underway 0 some).going k l;
+  }
+
+pub histories_in_words_are_the_run_so_far : HistoriesInWordsAreTheRunSoFar
+histories_in_words_are_the_run_so_far t room input n rows columns exchanged underway =
+    so_far t room input n rows columns exchanged underway
+
 pub histories_in_words_make_a_run : HistoriesInWordsMakeARun
 histories_in_words_make_a_run t room input n ends rows columns exchanged played =
-    let some : 0 < workers t = (let l = room.lawful.one in omega (arith, l)) in
+    let underway : (w : ℕ) → w < workers t → IsUnderway t w (opening t input w) (columns w) (rows w) = λ w h. (played w h).underway in
+    let some = some t room input n rows columns exchanged underway in
     let start = opening t input in
-    let a : AreJoined (in_words t) (workers t) n start rows columns =
-    record { exchanged = exchanged; sent = λ w h. (played w h).underway.sent } in
-    let back : (k w : ℕ) → k < n → w < workers t → AreGivenBack t w (phases (in_words t) (workers t) k start w) =
-    λ k w l h. holds_at (in_words t) (workers t) (AreGivenBack t w) w h n start rows columns a (played w h).underway.given_back k l in
-    let same : (k : ℕ) → k ≤ n → (w : ℕ) → w < workers t → phases (in_words t) (workers t) k start w ≡ worker_after t input k w =
-    λ k few. phases_are t room input k (λ j w l h. back j w (omega (arith, l, few)) h) in
+    let a = joined t room input n rows columns exchanged underway in
+    let same = same t room input n rows columns exchanged underway in
+    let so_far = so_far t room input n rows columns exchanged underway in
     let states : (w : ℕ) → w < workers t → ends w ≡ worker_after t input n w =
-    λ w h. (played w h).end ∙ ends_are (in_words t) (workers t) n start rows columns a w h ∙ same n (omega arith) w h in
-    let going : GoesOn (bsp t) (workers t) n start =
-    λ k l. ap (λ (s : State). is_over s.way) (sym (same k (omega (arith, l)) 0 some))
-    ∙ holds_at (in_words t) (workers t) (λ (s : State). is_over s.way ≡ false) 0 some n start rows columns a
-    (played 0 some).underway.going k l in
+    λ w h. (played w h).end ∙ so_far.states_are w h in
     let over : is_over (worker_after t input n 0).way ≡ true =
     ap (λ (s : State). is_over s.way) (sym (states 0 some)) ∙ (played 0 some).over in
     record {
       run = record {
         states = states;
-        going = going;
-        outcome = run_ends (bsp t) (workers t) n start going over
+        going = so_far.going;
+        outcome = run_ends (bsp t) (workers t) n start so_far.going over
             ∙ ap (λ l. Some (outcome_of t l))
             (map_within (worker_after t input n) ends (workers t) 0 (λ i l. sym (states i (omega (arith, l)))));
       };
@@ -115,5 +140,5 @@ histories_in_words_make_a_run t room input n ends rows columns exchanged played 
           share_within (in_words t) (purpose_of t) words_in (workers t) w h (phases (in_words t) (workers t) k start)
           (worker_after t input k) (same k (omega (arith, l)))
           ∙ share_in_words t w (worker_after t input k))
-          ∙ parts_are t room input n going over w h;
+          ∙ parts_are t room input n so_far.going over w h;
     }

@@ -10,7 +10,7 @@ use Rattle.worker_messages.specs.Told.{IsWrittenFor}
 use Rattle.worker_exchange.specs.Received.{messages_to}
 use Rattle.histories.specs.Histories.{rows_by, end_by, HoldsBefore, IsGoing, HaveExchanged}
 use Rattle.histories.specs.Shares.{Share, purpose_of, shares_by}
-use Rattle.histories.specs.Joined.{IsRunFrom}
+use Rattle.histories.specs.Joined.{IsRunFrom, IsRunSoFar}
 
 -- The same machine with words for messages. A worker knows no other's state: it reads its column by what the exchange is for itself.
 abbrev pub in_words : Setting → Machine State WrittenMessage (Option Verdict)
@@ -53,3 +53,10 @@ HistoriesInWordsMakeARun = (t : Setting) → IsMapFor t.code t.map → (input : 
     (rows columns : ℕ → List (List WrittenMessage)) → HaveExchanged (workers t) n rows columns →
     ((w : ℕ) → w < workers t → IsPlayedInWords t w (opening t input w) (columns w) (rows w) (ends w)) →
     IsRunFrom t input n ends (λ w. shares_in_words t w (opening t input w) (columns w))
+
+-- So it is of histories that are still underway: they are the run up to there.
+abbrev pub HistoriesInWordsAreTheRunSoFar : Type 0
+HistoriesInWordsAreTheRunSoFar = (t : Setting) → IsMapFor t.code t.map → (input : List ℤ) (n : ℕ)
+    (rows columns : ℕ → List (List WrittenMessage)) → HaveExchanged (workers t) n rows columns →
+    ((w : ℕ) → w < workers t → IsUnderway t w (opening t input w) (columns w) (rows w)) →
+    IsRunSoFar t input n (λ w. end_by (in_words t) w (opening t input w) (columns w))

@@ -6,7 +6,7 @@ ghost use Rattle.message_rows.specs.Rows.{words_in};
 ghost use Rattle.histories.specs.Growing.{HistoriesGrow, SharesGrow};
 ghost use Rattle.histories.specs.Shares.{purpose_of, words_of};
 ghost use Rattle.histories.specs.Joined.{HistoriesMakeARun};
-ghost use Rattle.histories.specs.InWords.{in_words, HistoriesInWordsMakeARun};
+ghost use Rattle.histories.specs.InWords.{in_words, HistoriesInWordsMakeARun, HistoriesInWordsAreTheRunSoFar};
 ghost use Rattle.histories.specs.Marked.{AllStopOrNone, ClearGrows, MarksEndAllOrNone};
 
 /// A history grows by an exchange at its end: by a row from the worker's last state, and to the state behind the column.
@@ -22,10 +22,12 @@ pub fn histories_grow()
 
 /// The histories of workers that exchanged, each of its own steps from the opening, are the run of the machine's definition: their ends
 /// are its states, its outcome is theirs, and its exchanges are those at which they sent and received so many words. So it is where
-/// messages are words that give them back, and each worker reads those that come by what the exchange is for itself.
+/// messages are words that give them back, and each worker reads those that come by what the exchange is for itself. Histories that
+/// aren't at their end are the run up to there.
 pub fn histories_make_a_run()
     ensures messages { HistoriesMakeARun }
     ensures words { HistoriesInWordsMakeARun }
+    ensures so_far { HistoriesInWordsAreTheRunSoFar }
 {}
 
 /// Where each worker marks its whole last row or nothing of it, and stops where its row or a message that came has a mark, all

@@ -1,6 +1,6 @@
 //! Registers by number. One that was never set is 0, also where there is no place for it yet.
 
-ghost use Rattle.std.specs.Prelude.{◌≡◌, ◌≤◌, ◌<◌, length, FitsSigned, OnOk};
+ghost use Rattle.std.specs.Prelude.{◌≡◌, ◌≤◌, ◌<◌, ◌^◌, length, FitsSigned, OnOk, OnErr};
 ghost use Rattle.std.specs.Int.{w64};
 ghost use Rattle.superstep_machine.specs.Parts.{set_register};
 ghost use Rattle.superstep_machine.specs.Steps as spec;
@@ -41,11 +41,13 @@ fn grow(values: &mut Vec<i64>, count: usize) -> Result<(), AllocError>
     Ok(())
 }
 
-/// There are places for so many values.
+/// There are places for so many values. The error comes where memory was refused, which is asked for only where there are fewer.
 #[inline(always)]
 pub fn make_room(values: &mut Vec<i64>, count: usize) -> Result<(), AllocError>
     ensures room { OnOk result (count ≤ length values.new.items) }
     ensures same { OnOk result (registers_of values.new.items ≡ registers_of values.old.items) }
+    ensures kept { OnOk result (length values.old.items ≤ length values.new.items) }
+    ensures refused { OnErr result (length values.old.items < count) }
 {
     if values.len() < count {
         grow(values, count)?;
@@ -53,10 +55,12 @@ pub fn make_room(values: &mut Vec<i64>, count: usize) -> Result<(), AllocError>
     Ok(())
 }
 
-/// A register gets a value.
+/// A register gets a value. The error comes where memory was refused, which is asked for only where the register has no place yet.
 #[inline(always)]
 pub fn set_number(registers: &mut Vec<i64>, number: u16, value: i64) -> Result<(), AllocError>
-    ensures { OnOk result (registers_of registers.new.items ≡ set_register number value (registers_of registers.old.items)) }
+    ensures after { OnOk result (registers_of registers.new.items ≡ set_register number value (registers_of registers.old.items)) }
+    ensures kept { OnOk result (length registers.old.items ≤ length registers.new.items) }
+    ensures refused { OnErr result (length registers.old.items < 2 ^ 16) }
 {
     let place = number as usize;
     make_room(registers, place + 1)?;
@@ -69,7 +73,9 @@ pub fn set_result(
     registers: &mut Vec<i64>,
     computed: Option<(u16, Result<i64, Kind>)>,
 ) -> Result<(), AllocError>
-    ensures { OnOk result (registers_of registers.new.items ≡ spec.with_result computed (registers_of registers.old.items)) }
+    ensures after { OnOk result (registers_of registers.new.items ≡ spec.with_result computed (registers_of registers.old.items)) }
+    ensures kept { OnOk result (length registers.old.items ≤ length registers.new.items) }
+    ensures refused { OnErr result (length registers.old.items < 2 ^ 16) }
 {
     match computed {
         None => Ok(()),
@@ -84,7 +90,9 @@ pub fn zero_without(
     cell: Option<u32>,
     number: u16,
 ) -> Result<(), AllocError>
-    ensures { OnOk result (registers_of registers.new.items ≡ spec.zero_without cell number (registers_of registers.old.items)) }
+    ensures after { OnOk result (registers_of registers.new.items ≡ spec.zero_without cell number (registers_of registers.old.items)) }
+    ensures kept { OnOk result (length registers.old.items ≤ length registers.new.items) }
+    ensures refused { OnErr result (length registers.old.items < 2 ^ 16) }
 {
     match cell {
         None => set_number(registers, number, 0),

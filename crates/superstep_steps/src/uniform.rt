@@ -6,7 +6,8 @@ use crate::read::{Moment, Read};
 
 /// The uniform part. The range of processors begins at the index `low`; `asks` are the reads that
 /// are held, and `awaited` those that were sent and have no answer yet; `put` is the moment of the
-/// put that is held; an item of the output has the count at which it was printed.
+/// put that is held; an item of the output has the count at which it was printed; `reserved` says that
+/// its memory was taken in advance, so that the output doesn't grow past that.
 #[derive(Drop)]
 pub struct UniformState {
     pub count: u32,
@@ -18,5 +19,6 @@ pub struct UniformState {
     pub awaited: Vec<Read>,
     pub put: Option<Moment>,
     pub output: Vec<(u32, i64)>,
+    pub reserved: bool,
     ghost fits: { (low +ℤ pos width) ≤ℤ pos (2 ^ 63) },
 }

@@ -1,12 +1,12 @@
 //! What an instruction does to the uniform part.
 
-ghost use Rattle.std.specs.Prelude.{◌≡◌, ◌<◌, ◌+◌, ◌^◌, ◌++◌, ◌∷◌, [], true, None, OnOk, FitsSigned};
+ghost use Rattle.std.specs.Prelude.{◌≡◌, ◌<◌, ◌+◌, ◌^◌, ◌++◌, ◌∷◌, [], true, None, OnOk, OnErr, FitsSigned};
 ghost use Rattle.std.specs.Int.{w64};
 ghost use Rattle.superstep_machine.specs.Parts.{opening_part};
 ghost use Rattle.superstep_code.specs.declared.instr.Instr.TheVariants as instr_is;
 ghost use Rattle.superstep_code.specs.declared.instr.Side.TheVariants as side_is;
 ghost use Rattle.superstep_machine.specs.Steps as spec;
-ghost use Rattle.superstep_steps.specs.Views.{uniform_of, moment_is, read_is, HasRoom};
+ghost use Rattle.superstep_steps.specs.Views.{uniform_of, moment_is, read_is, HasRoom, KeepsReserve, IsShort};
 
 use crate::arithmetic::computed_on;
 use crate::range::range_width;
@@ -31,6 +31,7 @@ pub fn open_uniform(alloc: Global) -> UniformState
         awaited: Vec::new(alloc),
         put: None,
         output: Vec::new(alloc),
+        reserved: false,
     }
 }
 
@@ -57,7 +58,8 @@ pub fn index_of(u: &UniformState, v: u32) -> i64
 /// A statement begins.
 pub fn begin_statement(u: &mut UniformState, line: u32)
     requires room { u.old.count + 1 < 2 ^ 32 }
-    ensures { uniform_of u.new ≡ record (uniform_of u.old) { count = u.old.count + 1; line = line } }
+    ensures after { uniform_of u.new ≡ record (uniform_of u.old) { count = u.old.count + 1; line = line } }
+    ensures reserve { KeepsReserve u.old u.new }
 {
     u.count += 1;
     u.line = line;
@@ -66,6 +68,7 @@ pub fn begin_statement(u: &mut UniformState, line: u32)
 // The range begins. The answer is what is wrong in it.
 fn enter(u: &mut UniformState, code: &Code, low: u16, high: u16, position: u32) -> Option<Kind>
     ensures after { uniform_of u.new ≡ spec.on_uniform code.now (instr_is.Enter low high position) (uniform_of u.old) }
+    ensures reserve { KeepsReserve u.old u.new }
     ensures wrong { result ≡ spec.wrong_uniform code.now (instr_is.Enter low high position) (uniform_of u.old) }
 {
     let first = register(&u.registers, low);
@@ -86,7 +89,8 @@ fn enter(u: &mut UniformState, code: &Code, low: u16, high: u16, position: u32) 
 
 // The range ends.
 fn leave(u: &mut UniformState)
-    ensures { uniform_of u.new ≡ record (uniform_of u.old) { width = 0 } }
+    ensures after { uniform_of u.new ≡ record (uniform_of u.old) { width = 0 } }
+    ensures reserve { KeepsReserve u.old u.new }
 {
     u.width = 0;
 }
@@ -96,6 +100,7 @@ pub fn change_range(u: &mut UniformState, code: &Code, instr: Instr) -> Option<K
     requires renews { spec.renews instr ≡ true }
     ensures after { uniform_of u.new ≡ spec.on_uniform code.now instr (uniform_of u.old) }
     ensures wrong { result ≡ spec.wrong_uniform code.now instr (uniform_of u.old) }
+    ensures reserve { KeepsReserve u.old u.new }
 {
     match instr {
         Instr::Enter {
@@ -120,8 +125,10 @@ fn ask_uniform(
     subscript: u16,
     position: u32,
 ) -> Result<(), AllocError>
-    ensures { OnOk result (uniform_of u.new ≡ spec.on_uniform code.now (instr_is.Ask side_is.Uniform destination entry subscript position)
-        (uniform_of u.old)) }
+    ensures after { OnOk result (uniform_of u.new ≡ spec.on_uniform code.now
+        (instr_is.Ask side_is.Uniform destination entry subscript position) (uniform_of u.old)) }
+    ensures reserve { OnOk result (KeepsReserve u.old u.new) }
+    ensures refused { OnErr result (IsShort (instr_is.Ask side_is.Uniform destination entry subscript position) u.old) }
 {
     let cell = code
         .layout()
@@ -139,12 +146,14 @@ fn ask_uniform(
 
 // A read of the processors is held.
 fn ask_private(u: &mut UniformState, destination: u16, position: u32) -> Result<(), AllocError>
-    ensures { OnOk result (uniform_of u.new ≡ spec.held_read (uniform_of u.old) (record {
+    ensures after { OnOk result (uniform_of u.new ≡ spec.held_read (uniform_of u.old) (record {
       side = side_is.Private;
       destination = destination;
       moment = spec.moment_of (uniform_of u.old) position;
       cell = None;
     })) }
+    ensures reserve { OnOk result (KeepsReserve u.old u.new) }
+    ensures refused { OnErr result (IsShort (instr_is.Ask side_is.Private destination 0 0 position) u.old) }
 {
     let moment = moment_of(u, position);
     u.asks.push(Read {
@@ -159,21 +168,29 @@ fn ask_private(u: &mut UniformState, destination: u16, position: u32) -> Result<
 /// An item of the output.
 #[inline(never)]
 pub(crate) fn print(u: &mut UniformState, source: u16) -> Result<(), AllocError>
-    ensures { OnOk result (uniform_of u.new ≡ record (uniform_of u.old) {
+    ensures after { OnOk result (uniform_of u.new ≡ record (uniform_of u.old) {
       output = (uniform_of u.old).output
           ++ (u.old.count, (uniform_of u.old).registers source) ∷ [];
     }) }
+    ensures reserve { OnOk result (KeepsReserve u.old u.new) }
+    ensures refused { OnErr result (IsShort (instr_is.Print source) u.old) }
 {
     let value = register(&u.registers, source);
     let count = u.count;
+    if u.reserved && u.output.len() == u.output.capacity() {
+        return Err(AllocError);
+    }
     u.output.push((count, value))?;
     Ok(())
 }
 
-/// What an instruction does to the uniform part.
+/// What an instruction does to the uniform part. The error comes where memory was refused, which is asked for only by what wasn't taken in
+/// advance: nothing is said of the uniform part then.
 pub fn step_uniform(u: &mut UniformState, code: &Code, instr: Instr) -> Result<(), AllocError>
     requires room { HasRoom instr u.old.count }
-    ensures { OnOk result (uniform_of u.new ≡ spec.on_uniform code.now instr (uniform_of u.old)) }
+    ensures after { OnOk result (uniform_of u.new ≡ spec.on_uniform code.now instr (uniform_of u.old)) }
+    ensures reserve { OnOk result (KeepsReserve u.old u.new) }
+    ensures refused { OnErr result (IsShort instr u.old) }
 {
     match instr {
         Instr::Mark { line } => begin_statement(u, line),

@@ -3,7 +3,7 @@ use Rattle.std.specs.Prelude.{◌≡◌, ℕ, ◌<◌, ◌^◌, List, [], length
 use Rattle.std.specs.List.{zip}
 use Rattle.superstep_machine.specs.Answering.{answers, destinations, uniform_answered}
 use Rattle.superstep_steps.specs.declared.uniform.UniformState.{UniformState}
-use Rattle.superstep_steps.specs.Views.{read_is, uniform_of}
+use Rattle.superstep_steps.specs.Views.{read_is, uniform_of, KeepsReserve}
 use Rattle.combining.specs.Asked.{HeldAsk, value_for}
 use Rattle.worker_bank.specs.Bank.{registers_at, IsBank, IsSameBank}
 use Rattle.worker_steps.specs.declared.worker.WorkerState.{WorkerState}
@@ -22,6 +22,7 @@ pub record IsAnsweredPart (held : List HeldAsk) (u v : UniformState) : Type 0 wh
   pub count : v.count ≡ u.count
   pub width : v.width ≡ u.width
   pub output : v.output ≡ u.output
+  pub reserve : KeepsReserve u v
 
 -- Each processor got them too, and all else of the worker is as it was.
 pub record IsAnswered (held : List HeldAsk) (x y : WorkerState) : Type 0 where

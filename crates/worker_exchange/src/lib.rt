@@ -14,7 +14,7 @@ mod voting;
 
 pub use deciding::decide;
 pub use hearing::{Heard, hear};
-pub use progress::{Progress, is_over};
+pub use progress::{Progress, is_over, is_stopped};
 pub use receiving::receive;
 pub use replying::take_reply;
 pub use settling::settle;

@@ -2,7 +2,7 @@
 
 ghost use Rattle.std.specs.Prelude.{◌≡◌};
 ghost use Rattle.superstep_machine.specs.Run as machine;
-ghost use Rattle.worker_messages.specs.Shown.{way_is};
+ghost use Rattle.worker_messages.specs.Shown.{way_is, is_stopped as spec_is_stopped};
 
 use worker_messages::{Local, Way};
 
@@ -22,5 +22,15 @@ pub fn is_over(local: &Local) -> bool
         Way::Ending { ended: _ } => false,
         Way::Past { key: _, ended: _ } => true,
         Way::Stopped { mark: _ } => true,
+    }
+}
+
+/// Whether a worker's run was stopped by a mark.
+pub fn is_stopped(way: Way) -> bool
+    ensures { result ≡ spec_is_stopped way }
+{
+    match way {
+        Way::Stopped { mark: _ } => true,
+        _ => false,
     }
 }

@@ -6,6 +6,7 @@ ghost use Rattle.superstep_machine.specs.declared.mark.HeaderMark.TheVariants as
 ghost use Rattle.superstep_machine.specs.Parts.{UniformPart};
 ghost use Rattle.superstep_machine.specs.Run as machine;
 ghost use Rattle.superstep_machine.specs.Run.{State, setting, ready, after};
+ghost use Rattle.superstep_steps.specs.Views.{KeepsReserve};
 ghost use Rattle.worker_steps.specs.Met.{IsVerifiedAt};
 ghost use Rattle.worker_messages.specs.declared.way.Way.TheVariants as way_is_one_of;
 ghost use Rattle.worker_messages.specs.Reached.{most_instructions};
@@ -17,7 +18,7 @@ ghost use Rattle.worker_exchange.specs.Behind.{ForEachState, ShowsTaken, ShowsBe
 
 use crate::deciding::decide;
 use crate::hearing::{Heard, hear};
-use crate::progress::{Progress, is_over};
+use crate::progress::{Progress, is_over, is_stopped};
 use crate::replying::take_reply;
 use crate::taking::take_send;
 use crate::voting::take_vote;
@@ -99,6 +100,7 @@ fn exchange<R: WriteRule, M: AddressMap, C: Column>(
     ensures going { MayGoOnBehind code.now (M.shape map.now) bound local.old local.new }
     ensures worker { local.new.steps.bank.worker ≡ local.old.steps.bank.worker }
     ensures output { local.new.steps.uniform.output ≡ local.old.steps.uniform.output }
+    ensures reserve { KeepsReserve local.old.steps.uniform local.new.steps.uniform }
     ensures runs { spec_is_stopped local.new.way ≡ false }
     ensures left { machine.is_over (way_is local.new.way) ≡ false → left code.now bound local.new < left_at code.now bound local.old }
 {
@@ -108,15 +110,6 @@ fn exchange<R: WriteRule, M: AddressMap, C: Column>(
     let count = local.steps.uniform.count;
     take(local, code, rule, map, bound, column, heard.active);
     stand_behind(local, held, count, step, heard.key);
-}
-
-fn is_stopped(way: Way) -> bool
-    ensures { result ≡ spec_is_stopped way }
-{
-    match way {
-        Way::Stopped { mark: _ } => true,
-        _ => false,
-    }
 }
 
 /// What came in an exchange: a mark in any header stops the worker; else it takes what the messages bring, by what the exchange is for, and
@@ -147,11 +140,13 @@ pub fn receive<R: WriteRule, M: AddressMap, C: Column>(
         MayGoOn code.now (M.shape map.now) bound local.new }
     ensures worker { local.new.steps.bank.worker ≡ local.old.steps.bank.worker }
     ensures output { local.new.steps.uniform.output ≡ local.old.steps.uniform.output }
+    ensures reserve { KeepsReserve local.old.steps.uniform local.new.steps.uniform }
     // It has stopped where it had, or where a header has a mark, ..
     ensures stopped { spec_is_stopped local.new.way ≡ (spec_is_stopped local.old.way || is_marked (mark_heard (C.came column.now))) }
     // .. by its own mark, or else by the worst that it heard.
     ensures mark { (mark : MarkOfHeader) → local.new.way ≡ way_is_one_of.Stopped mark →
-        (local.old.way ≡ way_is_one_of.Stopped mark) ⊎ (mark_heard (C.came column.now) ≡ mark) }
+        (local.old.way ≡ way_is_one_of.Stopped mark)
+        ⊎ ((spec_is_stopped local.old.way ≡ false) × (mark_heard (C.came column.now) ≡ mark)) }
     ensures over { is_the_end result ≡ machine.is_over (way_is local.new.way) }
     // Fewer instructions and exchanges may come.
     ensures left { machine.is_over (way_is local.new.way) ≡ false → left code.now bound local.new < left_at code.now bound local.old }

@@ -6,3 +6,4 @@ pub mod ArrivedLemmas
 pub mod WrittenLemmas
 pub mod ToldLemmas
 pub mod OpeningLemmas
+pub mod PastLemmas

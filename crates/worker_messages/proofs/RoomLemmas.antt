@@ -1,44 +1,51 @@
--- More room for the registers of the program changes nothing else.
-use Rattle.std.proofs.Common.{ℕ, ◌+◌, ◌*◌, ◌<◌, ◌≤◌, ◌∙◌, length, map, false, true, ap, sym, subst, Vec}
+-- More room changes nothing else.
+use Rattle.std.proofs.Common.{ℕ, ◌+◌, ◌*◌, ◌<◌, ◌≤◌, ◌∙◌, List, length, map, false, true, ap, sym, subst}
 use Rattle.std.specs.Prelude.{nat_lt}
 use Rattle.std.specs.List.{range_with_len}
-use Rattle.std.specs.Global.{Global}
+use Rattle.address_map.specs.Lawful.{Shape}
 use Rattle.superstep_code.specs.Code.{SuperstepCode}
+use Rattle.pram_model.specs.declared.rule.Rule.{Rule}
+use Rattle.superstep_machine.specs.Worker.{Worker}
 use Rattle.superstep_machine.specs.Stretch.{ToSend, ToReply, ToVote, ToClose, Stop}
-use Rattle.superstep_machine.specs.Setting.{processors}
+use Rattle.superstep_machine.specs.Setting.{Setting, processors}
 use Rattle.superstep_machine.specs.Parts.{PrivatePart}
-use Rattle.superstep_machine.specs.Run.{is_held}
+use Rattle.superstep_machine.specs.Run.{State, is_held}
 use Rattle.superstep_steps.specs.declared.read.Read.{Read}
 use Rattle.superstep_steps.specs.declared.uniform.UniformState.{UniformState}
-use Rattle.superstep_steps.specs.Views.{put_is}
+use Rattle.superstep_steps.specs.Views.{put_is, IsRoomier}
 use Rattle.worker_bank.specs.Bank.{part_at, number_of}
 use Rattle.worker_steps.specs.declared.worker.WorkerState.{WorkerState}
-use Rattle.worker_steps.specs.Shown.{cells_at}
+use Rattle.worker_steps.specs.Shown.{cells_at, Shows}
 use Rattle.worker_steps.specs.Fitted.{IsFitted}
 use Rattle.worker_steps.specs.Met.{IsVerifiedAt}
 use Rattle.worker_steps.specs.Stretch.{ArrivesAt, StandsAt}
-use Rattle.worker_messages.specs.Arrived.{IsRoomier}
+use Rattle.worker_messages.specs.declared.local.Local.{Local}
+use Rattle.worker_messages.specs.Shown.{IsShown}
+use Rattle.worker_messages.specs.Equipped.{MayGoOn}
 
 abbrev pub roomy : WorkerState → UniformState → WorkerState
 roomy y u = record y { uniform = u }
 
 module _ (code : SuperstepCode) (y : WorkerState) (u : UniformState) (same : IsRoomier y.uniform u) where
-  abbrev part_by : Vec Read Global → Vec Read Global → ℕ → PrivatePart
+  abbrev part_by : List Read → List Read → ℕ → PrivatePart
   part_by asks awaited j =
-      part_at y.bank (cells_at (length asks.items) y.asked.items j) (cells_at (length awaited.items) y.awaited.items j) j
+      part_at y.bank (cells_at (length asks) y.asked.items j) (cells_at (length awaited) y.awaited.items j) j
+
+  pub still_shows : (rule : Rule) (s : Worker) → Shows rule y s → Shows rule (roomy y u) s
+  still_shows rule s q = record {
+    uniform = q.uniform ∙ sym same.shown;
+    own = q.own ∙ (λ i. map (part_by (sym same.asks i) (sym same.awaited i)) (range_with_len 0 y.bank.masks.many));
+    key = q.key;
+    puts = q.puts;
+    asks = q.asks;
+  }
 
   pub still_arrives : (bound : ℕ) (stop : Stop) (a : WorkerState) → ArrivesAt code bound stop a y → ArrivesAt code bound stop a (roomy y u)
   still_arrives bound stop a arrives t s n of less =
       let k = arrives t s n of less in record {
         worker = k.worker;
         at = k.at;
-        shows = (let q = k.shows in record {
-          uniform = q.uniform ∙ sym same.shown;
-          own = q.own ∙ (λ i. map (part_by (sym same.asks i) (sym same.awaited i)) (range_with_len 0 y.bank.masks.many));
-          key = q.key;
-          puts = q.puts;
-          asks = q.asks;
-        });
+        shows = still_shows code.rule k.worker k.shows;
         carried = k.carried;
       }
 
@@ -56,7 +63,7 @@ module _ (code : SuperstepCode) (y : WorkerState) (u : UniformState) (same : IsR
     written = f.written;
     puts = f.puts;
     asks = f.asks;
-    held = subst (λ (v : Vec Read Global). length y.asks.held ≤ length v.items * (y.bank.masks.most + 1)) (sym same.asks) f.held;
+    held = subst (λ (reads : List Read). length y.asks.held ≤ length reads * (y.bank.masks.most + 1)) (sym same.asks) f.held;
   }
 
   pub still_verified : IsVerifiedAt code y → IsVerifiedAt code (roomy y u)
@@ -69,9 +76,9 @@ module _ (code : SuperstepCode) (y : WorkerState) (u : UniformState) (same : IsR
       outside = λ e. same.width ∙ d.outside e;
       narrow = subst (λ n. n ≤ code.procs) (sym same.width) d.narrow;
       masks = d.masks;
-      asks = ap (λ (v : Vec Read Global). length v.items) same.asks ∙ d.asks;
+      asks = ap length same.asks ∙ d.asks;
       put = ap (λ o. is_held (put_is o)) same.put ∙ d.put;
-      awaited = ap (λ (v : Vec Read Global). nat_lt 0 (length v.items)) same.awaited ∙ d.awaited;
+      awaited = ap (λ (reads : List Read). nat_lt 0 (length reads)) same.awaited ∙ d.awaited;
     });
   }
 
@@ -81,3 +88,48 @@ module _ (code : SuperstepCode) (y : WorkerState) (u : UniformState) (same : IsR
   still_there bound (ToVote d) h = h
   still_there bound (ToClose true) h = h
   still_there bound (ToClose false) h = (same.count ∙ h.0, h.1)
+
+-- ---- a worker of a run
+
+module _ (x : Local) (u : UniformState) (same : IsRoomier x.steps.uniform u) where
+  abbrev pub roomier : Local
+  roomier = record x { steps = roomy x.steps u }
+
+  pub still_shown : (t : Setting) (w : ℕ) (s : State) → IsShown t w x s → IsShown t w roomier s
+  still_shown t w s h = record {
+    exchanges = h.exchanges;
+    reached = h.reached;
+    way = h.way;
+    place = h.place;
+    clear = h.clear;
+    worker = record {
+      shows = still_shows t.code x.steps u same t.code.rule s.worker h.worker.shows;
+      cells = h.worker.cells;
+      sent = h.worker.sent;
+      taken = h.worker.taken;
+    };
+  }
+
+  pub still_going_on : (code : SuperstepCode) (m : Shape) (bound : ℕ) → MayGoOn code m bound x → MayGoOn code m bound roomier
+  still_going_on code m bound go =
+      let e = go.equipped in record {
+        runnable = go.runnable;
+        equipped = record {
+          fitted = still_fitted code x.steps u same e.fitted;
+          workers = e.workers;
+          sent = e.sent;
+          cells = e.cells;
+          asked = e.asked;
+          few = e.few;
+          buffers = e.buffers;
+          values = e.values;
+          below = e.below;
+        };
+        going = go.going;
+        count = subst (λ n. n ≤ bound) (sym same.count) go.count;
+        verified = λ on. still_verified code x.steps u same (go.verified on);
+        enough = go.enough;
+        is_enough = go.is_enough;
+        state = go.state;
+        shown = still_shown _ _ go.state go.shown;
+      }

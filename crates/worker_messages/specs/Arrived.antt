@@ -3,9 +3,8 @@ use Rattle.std.specs.Prelude.{◌≡◌, ℕ, ◌^◌, ◌<◌, ◌≤◌, lengt
 use Rattle.pram_model.specs.declared.rule.Rule.{Rule}
 use Rattle.address_map.specs.Lawful.{Shape}
 use Rattle.superstep_code.specs.Code.{SuperstepCode}
-use Rattle.superstep_machine.specs.Run.{State, setting, is_held}
-use Rattle.superstep_steps.specs.declared.uniform.UniformState.{UniformState}
-use Rattle.superstep_steps.specs.Views.{put_is, uniform_of}
+use Rattle.superstep_machine.specs.Run.{State, setting, ready, is_held}
+use Rattle.superstep_steps.specs.Views.{put_is}
 use Rattle.worker_bank.specs.Bank.{IsBank}
 use Rattle.combining.specs.AllModules.{column, room_at}
 use Rattle.worker_steps.specs.declared.stop.Stop.{Stop}
@@ -34,16 +33,6 @@ way_at stop way = way
 abbrev pub stopped_at : Stop → Local → Local
 stopped_at stop x = record x { way = way_at stop x.way; step = step_at stop (is_held (put_is x.steps.uniform.put)) }
 
--- the same, with room for all registers
-pub record IsRoomier (u v : UniformState) : Type 0 where
-  pub shown : uniform_of v ≡ uniform_of u
-  pub count : v.count ≡ u.count
-  pub width : v.width ≡ u.width
-  pub asks : v.asks ≡ u.asks
-  pub awaited : v.awaited ≡ u.awaited
-  pub put : v.put ≡ u.put
-  pub registers : 2 ^ 16 ≤ length v.registers.items
-
 -- In b the worker is at the exchange that it comes to from a: whatever state a shows, b shows where the definition's worker stands then.
 pub record HasArrived (code : SuperstepCode) (m : Shape) (bound : ℕ) (a b : Local) : Type 0 where
   pub at : IsAtStep code m bound b
@@ -51,6 +40,12 @@ pub record HasArrived (code : SuperstepCode) (m : Shape) (bound : ℕ) (a b : Lo
       IsAtExchange (setting code m bound n) a.steps.bank.worker b s
   pub worker : b.steps.bank.worker ≡ a.steps.bank.worker
   pub falls : left_at code bound b ≤ left code bound a
+
+-- Whatever state it shows, the definition's worker has printed more than so many items where it comes to its next exchange.
+abbrev pub ComesPast : SuperstepCode → Shape → ℕ → Local → ℕ → Type 0
+ComesPast code m bound x items = (n : ℕ) (s : State) → most_instructions code bound < n →
+    IsShown (setting code m bound n) x.steps.bank.worker x s →
+    items < length (ready (setting code m bound n) x.steps.bank.worker s).state.worker.uniform.output
 
 -- It can write its messages to rows of that room.
 pub record CanTell (rule : Rule) (m : Shape) (room : ℕ) (x : Local) : Type 0 where

@@ -5,7 +5,7 @@ use Rattle.address_map.specs.Lawful.{Shape}
 use Rattle.address_map.specs.Outcome.{IsWorkers}
 use Rattle.superstep_code.specs.Code.{SuperstepCode}
 use Rattle.worker_messages.specs.declared.refusal.RunRefusal.{RunRefusal}
-use Rattle.worker_messages.specs.declared.refusal.RunRefusal.TheVariants.{BadWorkers, BadMap, InputTooLong, OutOfMemory}
+use Rattle.worker_messages.specs.declared.refusal.RunRefusal.TheVariants.{BadWorkers, BadMap, InputTooLong, OutOfMemory, OutOfReserve}
 
 -- a module for each worker, and a place for each cell
 pub record IsMapWith (code : SuperstepCode) (m : Shape) (workers : ℕ) : Type 0 where
@@ -18,9 +18,10 @@ pub record IsAccepted (code : SuperstepCode) (m : Shape) (workers : ℕ) (input 
   pub map : IsMapWith code m workers
   pub short : length input ≤ total_size code.layout
 
--- the first that speaks against it; where memory was refused nothing does
+-- the first that speaks against it; where memory was refused nothing does; and a run that was given no reserve comes past none
 abbrev pub IsRefusal : SuperstepCode → Shape → ℕ → List ℤ → RunRefusal → Type 0
 IsRefusal code m workers input BadWorkers = ¬ (IsWorkers workers)
 IsRefusal code m workers input BadMap = IsWorkers workers × ¬ (IsMapWith code m workers)
 IsRefusal code m workers input InputTooLong = IsWorkers workers × IsMapWith code m workers × (total_size code.layout < length input)
 IsRefusal code m workers input OutOfMemory = IsAccepted code m workers input
+IsRefusal code m workers input OutOfReserve = ⊥

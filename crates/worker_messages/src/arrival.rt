@@ -1,6 +1,6 @@
 //! From one exchange up to the next.
 
-ghost use Rattle.std.specs.Prelude.{◌≡◌, ◌≤◌, ◌<◌, ℕ, length, false, Some, OnOk};
+ghost use Rattle.std.specs.Prelude.{◌≡◌, ◌≢◌, ◌≤◌, ◌<◌, ◌^◌, ℕ, length, true, false, Some, OnOk, OnErr};
 ghost use Rattle.address_map.specs.Lawful.{Shape};
 ghost use Rattle.superstep_machine.specs.declared.mark.HeaderMark.{HeaderMark as MarkOfHeader};
 ghost use Rattle.superstep_machine.specs.declared.mark.HeaderMark.TheVariants as mark_is;
@@ -8,7 +8,7 @@ ghost use Rattle.superstep_machine.specs.Setting.{Setting};
 ghost use Rattle.superstep_machine.specs.Run.{State, setting, message_of, is_held};
 ghost use Rattle.superstep_machine.specs.declared.key.Key.{Key as NotedKey};
 ghost use Rattle.superstep_machine.specs.HeaderWords.{FitsKey};
-ghost use Rattle.superstep_steps.specs.Views.{put_is};
+ghost use Rattle.superstep_steps.specs.Views.{put_is, HasReserve, KeepsReserve, IsRoomier};
 ghost use Rattle.bsp_verify.specs.WellFormed.{IsWellFormed};
 ghost use Rattle.worker_steps.specs.Fitted.{IsFitted};
 ghost use Rattle.worker_steps.specs.Met.{IsVerifiedAt};
@@ -18,7 +18,8 @@ ghost use Rattle.worker_messages.specs.declared.step.Step.TheVariants as step_is
 ghost use Rattle.worker_messages.specs.Reached.{most_instructions};
 ghost use Rattle.worker_messages.specs.Shown.{is_stopped, purpose_is, marked, IsShown, IsAtExchange};
 ghost use Rattle.worker_messages.specs.Equipped.{most_words, left, left_at, AreBuffers, MayGoOn, IsAtStep};
-ghost use Rattle.worker_messages.specs.Arrived.{step_at as spec_step_at, way_at as spec_way_at, IsRoomier, HasArrived, CanTell};
+ghost use Rattle.worker_steps.specs.Stretch.{PrintsPast};
+ghost use Rattle.worker_messages.specs.Arrived.{step_at as spec_step_at, way_at as spec_way_at, HasArrived, ComesPast, CanTell};
 ghost use Rattle.worker_messages.specs.Told.{told, told_mark, IsWrittenFor};
 
 use crate::local::Local;
@@ -39,7 +40,10 @@ const REGISTERS: usize = 65_536;
 
 // There is room for all registers of the program.
 fn make_registers(u: &mut UniformState) -> Result<(), AllocError>
-    ensures { OnOk result (IsRoomier u.old u.new) }
+    ensures same { OnOk result (IsRoomier u.old u.new) }
+    ensures room { OnOk result (2 ^ 16 ≤ length u.new.registers.items) }
+    ensures reserve { OnOk result (KeepsReserve u.old u.new) }
+    ensures refused { OnErr result (length u.old.registers.items < 2 ^ 16) }
 {
     make_room(&mut u.registers, REGISTERS)?;
     Ok(())
@@ -79,7 +83,10 @@ impl Local {
         requires verified { IsVerifiedAt code.now self.old.steps }
         requires count { self.old.steps.uniform.count ≤ bound }
         requires on { self.old.way ≡ way_is_one_of.On }
-        ensures { OnOk result ((m : Shape) → MayGoOn code.now m bound self.old → HasArrived code.now m bound self.old self.new) }
+        ensures arrived { OnOk result ((m : Shape) → MayGoOn code.now m bound self.old → HasArrived code.now m bound self.old self.new) }
+        ensures reserve { OnOk result (KeepsReserve self.old.steps.uniform self.new.steps.uniform) }
+        ensures refused { OnErr result ((items : ℕ) → HasReserve items self.old.steps.uniform →
+            PrintsPast code.now bound self.old.steps items) }
     {
         let _instructions = code.instructions();
         let stop = self.steps.advance(code, rule, bound)?;
@@ -99,7 +106,10 @@ impl Local {
     ) -> Result<(), AllocError>
         requires rule { R.WriteRule.rule rule.now ≡ code.now.rule }
         requires going { MayGoOn code.now (M.shape map.now) bound self.old }
-        ensures { OnOk result (HasArrived code.now (M.shape map.now) bound self.old self.new) }
+        ensures arrived { OnOk result (HasArrived code.now (M.shape map.now) bound self.old self.new) }
+        ensures reserve { OnOk result (KeepsReserve self.old.steps.uniform self.new.steps.uniform) }
+        ensures refused { OnErr result ((items : ℕ) → HasReserve items self.old.steps.uniform →
+            ComesPast code.now (M.shape map.now) bound self.old items) }
     {
         let _map = map.modules();
         match self.way {
@@ -146,24 +156,24 @@ impl Local {
         self.buffers.sent = sent;
     }
 
-    /// Memory was refused elsewhere: the worker stops, and each message of the row is the mark that says so.
-    pub fn refuse<M: AddressMap, W: Row>(&mut self, map: &M, row: &mut W)
-        requires { length (W.filled row.old) ≡ (M.shape map.now).parts }
-        ensures filled { IsRow (M.shape map.now).parts (told_mark mark_is.OutOfMemory) (W.filled row.new) }
-        // These are the messages of every worker of a run in which memory was refused, and each is read by the one that it is sent to.
+    /// The worker stops by a mark, and each message of the row is that mark: memory was refused to it, or it came past its reserve.
+    pub fn refuse<M: AddressMap, W: Row>(&mut self, map: &M, row: &mut W, mark: HeaderMark)
+        requires workers { length (W.filled row.old) ≡ (M.shape map.now).parts }
+        requires mark { mark ≢ mark_is.Clear }
+        ensures filled { IsRow (M.shape map.now).parts (told_mark mark) (W.filled row.new) }
+        // These are the messages of every worker of a run that such a mark stops, and each is read by the one that it is sent to.
         ensures row { (t : Setting) (w : ℕ) (s : State) → IsRow (M.shape map.now).parts
             (λ j. written t.code.rule (message_of t w (marked self.new.way s) j)) (W.filled row.new) }
         ensures read { (t : Setting) (w : ℕ) (s : State) (j : ℕ) → j < (M.shape map.now).parts →
             IsWrittenFor t.code.rule t.map j (purpose_is self.new.step) (message_of t w (marked self.new.way s) j)
             (message_at (W.filled row.new) j) }
-        ensures way { self.new.way ≡ way_is_one_of.Stopped mark_is.OutOfMemory }
+        ensures way { self.new.way ≡ way_is_one_of.Stopped mark }
         ensures step { self.new.step ≡ step_is.Close }
         ensures steps { self.new.steps ≡ self.old.steps }
         ensures sent { self.new.buffers.sent ≡ words_in (W.filled row.new) }
         ensures room { W.room row.new ≡ W.room row.old }
         ensures kept { W.kept row.old row.new }
     {
-        let mark = HeaderMark::OutOfMemory;
         self.way = Way::Stopped { mark };
         self.step = Step::Close;
         self.buffers.sent = tell_mark(row, map.modules() as usize, mark);
@@ -202,6 +212,10 @@ impl Local {
         ensures worker { is_stopped self.new.way ≡ false → self.new.steps.bank.worker ≡ self.old.steps.bank.worker }
         ensures fewer { is_stopped self.new.way ≡ false → left_at code.now bound self.new ≤ left code.now bound self.old }
         ensures refused { (mark : MarkOfHeader) → self.new.way ≡ way_is_one_of.Stopped mark → mark ≡ mark_is.OutOfMemory }
+        // What was taken in advance lasts up to the last of its items.
+        ensures past { is_stopped self.new.way ≡ true → (items : ℕ) → HasReserve items self.old.steps.uniform →
+            ComesPast code.now (M.shape map.now) bound self.old items }
+        ensures reserve { is_stopped self.new.way ≡ false → KeepsReserve self.old.steps.uniform self.new.steps.uniform }
         ensures step { result ≡ self.new.step }
         ensures sent { self.new.buffers.sent ≡ words_in (W.filled row.new) }
         ensures room { W.room row.new ≡ W.room row.old }
@@ -214,7 +228,7 @@ impl Local {
                 self.step
             }
             Err(_) => {
-                self.refuse(map, row);
+                self.refuse(map, row, HeaderMark::OutOfMemory);
                 Step::Close
             }
         }

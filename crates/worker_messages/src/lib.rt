@@ -6,6 +6,7 @@ mod buffers;
 mod local;
 mod opening;
 mod refusal;
+mod reserving;
 mod step;
 mod telling;
 mod way;

@@ -2,7 +2,7 @@
 
 use thiserror::Error;
 
-/// Why a run is refused, before anything of it is done. They are judged in this order.
+/// Why a run is refused. They are judged in this order, all but the last two before anything of it is done.
 #[derive(Clone, Copy, Debug, PartialEq, Eq, Error)]
 pub enum RunRefusal {
     /// E13: there are no workers, or more than 32.
@@ -17,4 +17,7 @@ pub enum RunRefusal {
     /// E16: memory was refused.
     #[error("E16 OutOfMemory")]
     OutOfMemory,
+    /// E18: the run came past the reserve of output items and exchanges that it was given.
+    #[error("E18 OutOfReserve")]
+    OutOfReserve,
 }

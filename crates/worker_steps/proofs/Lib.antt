@@ -10,3 +10,4 @@ pub mod WriteLemmas
 pub mod PutDone
 pub mod StretchLemmas
 pub mod WayLemmas
+pub mod PastLemmas

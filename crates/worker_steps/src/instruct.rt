@@ -1,7 +1,8 @@
 //! Every instruction that is no mark, no exchange and no jump.
 
-ghost use Rattle.std.specs.Prelude.{◌≡◌, true, OnOk};
+ghost use Rattle.std.specs.Prelude.{◌≡◌, true, OnOk, OnErr};
 ghost use Rattle.superstep_code.specs.declared.instr.Instr.TheVariants as instr_is;
+ghost use Rattle.superstep_steps.specs.Views.{IsShort};
 ghost use Rattle.worker_steps.specs.Fitted.{IsFitted};
 ghost use Rattle.worker_steps.specs.Met.{IsMetAt};
 ghost use Rattle.worker_steps.specs.Kinds.{is_own as spec_is_own, is_work, is_on_registers};
@@ -35,7 +36,8 @@ impl WorkerState {
         requires fitted { IsFitted code.now self.old }
         requires registers { is_on_registers instr ≡ true }
         requires met { IsMetAt code.now instr self.old }
-        ensures { OnOk result (IsDone code.now instr self.old self.new) }
+        ensures done { OnOk result (IsDone code.now instr self.old self.new) }
+        ensures refused { OnErr result (IsShort instr self.old.uniform) }
     {
         if is_own(instr) {
             self.step_own(code, instr);
@@ -58,7 +60,8 @@ impl WorkerState {
     ) -> Result<(), AllocError>
         requires fitted { IsFitted code.now self.old }
         requires met { IsMetAt code.now (instr_is.Ask side destination entry subscript position) self.old }
-        ensures { OnOk result (IsDone code.now (instr_is.Ask side destination entry subscript position) self.old self.new) }
+        ensures done { OnOk result (IsDone code.now (instr_is.Ask side destination entry subscript position) self.old self.new) }
+        ensures refused { OnErr result (IsShort (instr_is.Ask side destination entry subscript position) self.old.uniform) }
     {
         match side {
             Side::Uniform => self.ask_uniform(code, destination, entry, subscript, position),
@@ -81,7 +84,8 @@ impl WorkerState {
         requires fitted { IsFitted code.now self.old }
         requires rule { R.WriteRule.rule rule.now ≡ code.now.rule }
         requires met { IsMetAt code.now (instr_is.Put side entry subscript value position) self.old }
-        ensures { OnOk result (IsDone code.now (instr_is.Put side entry subscript value position) self.old self.new) }
+        ensures done { OnOk result (IsDone code.now (instr_is.Put side entry subscript value position) self.old self.new) }
+        ensures refused { OnErr result (IsShort (instr_is.Put side entry subscript value position) self.old.uniform) }
     {
         match side {
             Side::Uniform => self.put_uniform(code, rule, entry, subscript, value, position),
@@ -89,8 +93,8 @@ impl WorkerState {
         }
     }
 
-    /// What an instruction that leads on to the next place does to a worker. The error comes where memory was refused: nothing is said of
-    /// the worker then.
+    /// What an instruction that leads on to the next place does to a worker. The error comes where memory was refused, which is asked for
+    /// only by what wasn't taken in advance: nothing is said of the worker then.
     pub fn instruct<R: WriteRule>(
         &mut self,
         code: &Code,
@@ -101,7 +105,8 @@ impl WorkerState {
         requires rule { R.WriteRule.rule rule.now ≡ code.now.rule }
         requires work { is_work instr ≡ true }
         requires met { IsMetAt code.now instr self.old }
-        ensures { OnOk result (IsDone code.now instr self.old self.new) }
+        ensures done { OnOk result (IsDone code.now instr self.old self.new) }
+        ensures refused { OnErr result (IsShort instr self.old.uniform) }
     {
         match instr {
             Instr::Enter { .. } | Instr::Leave => {

@@ -1,8 +1,9 @@
 //! Reads.
 
-ghost use Rattle.std.specs.Prelude.{OnOk};
+ghost use Rattle.std.specs.Prelude.{OnOk, OnErr};
 ghost use Rattle.superstep_code.specs.declared.instr.Instr.TheVariants as instr_is;
 ghost use Rattle.superstep_code.specs.declared.instr.Side.TheVariants as side_is;
+ghost use Rattle.superstep_steps.specs.Views.{IsShort};
 ghost use Rattle.worker_steps.specs.Fitted.{IsFitted};
 ghost use Rattle.worker_steps.specs.Met.{IsMetAt};
 ghost use Rattle.worker_steps.specs.Done.{IsDone};
@@ -27,7 +28,8 @@ impl WorkerState {
     ) -> Result<(), AllocError>
         requires fitted { IsFitted code.now self.old }
         requires met { IsMetAt code.now (instr_is.Ask side_is.Uniform destination entry subscript position) self.old }
-        ensures { OnOk result (IsDone code.now (instr_is.Ask side_is.Uniform destination entry subscript position) self.old self.new) }
+        ensures done { OnOk result (IsDone code.now (instr_is.Ask side_is.Uniform destination entry subscript position) self.old self.new) }
+        ensures refused { OnErr result (IsShort (instr_is.Ask side_is.Uniform destination entry subscript position) self.old.uniform) }
     {
         let instr = Instr::Ask {
             side: Side::Uniform,
@@ -59,7 +61,8 @@ impl WorkerState {
     ) -> Result<(), AllocError>
         requires fitted { IsFitted code.now self.old }
         requires met { IsMetAt code.now (instr_is.Ask side_is.Private destination entry subscript position) self.old }
-        ensures { OnOk result (IsDone code.now (instr_is.Ask side_is.Private destination entry subscript position) self.old self.new) }
+        ensures done { OnOk result (IsDone code.now (instr_is.Ask side_is.Private destination entry subscript position) self.old self.new) }
+        ensures refused { OnErr result (IsShort (instr_is.Ask side_is.Private destination entry subscript position) self.old.uniform) }
     {
         let k = self.uniform.asks.len();
         let layout = code.layout();

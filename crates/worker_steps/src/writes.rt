@@ -1,9 +1,9 @@
 //! Writes.
 
-ghost use Rattle.std.specs.Prelude.{◌≡◌, None, OnOk, if◌then◌else◌};
+ghost use Rattle.std.specs.Prelude.{◌≡◌, None, OnOk, OnErr, if◌then◌else◌};
 ghost use Rattle.std.proofs.Common.{eqb};
 ghost use Rattle.superstep_machine.specs.Steps.{uniform_write as spec_uniform_write};
-ghost use Rattle.superstep_steps.specs.Views.{uniform_of};
+ghost use Rattle.superstep_steps.specs.Views.{uniform_of, IsShort};
 ghost use Rattle.superstep_code.specs.declared.instr.Instr.TheVariants as instr_is;
 ghost use Rattle.superstep_code.specs.declared.instr.Side.TheVariants as side_is;
 ghost use Rattle.worker_steps.specs.Fitted.{IsFitted};
@@ -44,7 +44,8 @@ impl WorkerState {
         requires fitted { IsFitted code.now self.old }
         requires rule { R.WriteRule.rule rule.now ≡ code.now.rule }
         requires met { IsMetAt code.now (instr_is.Put side_is.Uniform entry subscript value position) self.old }
-        ensures { OnOk result (IsDone code.now (instr_is.Put side_is.Uniform entry subscript value position) self.old self.new) }
+        ensures done { OnOk result (IsDone code.now (instr_is.Put side_is.Uniform entry subscript value position) self.old self.new) }
+        ensures refused { OnErr result (IsShort (instr_is.Put side_is.Uniform entry subscript value position) self.old.uniform) }
     {
         let instr = Instr::Put {
             side: Side::Uniform,
@@ -76,7 +77,8 @@ impl WorkerState {
         requires fitted { IsFitted code.now self.old }
         requires rule { R.WriteRule.rule rule.now ≡ code.now.rule }
         requires met { IsMetAt code.now (instr_is.Put side_is.Private entry subscript value position) self.old }
-        ensures { OnOk result (IsDone code.now (instr_is.Put side_is.Private entry subscript value position) self.old self.new) }
+        ensures done { OnOk result (IsDone code.now (instr_is.Put side_is.Private entry subscript value position) self.old self.new) }
+        ensures refused { OnErr result (IsShort (instr_is.Put side_is.Private entry subscript value position) self.old.uniform) }
     {
         let fault = self.bank.put(code.layout(), entry, subscript, self.written.as_mut_slice());
         let noted = own_key(&self.uniform, &self.bank, position, fault);

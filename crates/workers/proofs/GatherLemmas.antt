@@ -2,9 +2,10 @@
 use Rattle.std.proofs.Common.{◌≡◌, ℕ, suc, ◌<◌, List, map, Bool, true, false}
 use Rattle.std.proofs.Common.{Option, Some, None, ℤ, refl, sym, ap, subst, ◌∙◌, arith}
 use Rattle.std.specs.Prelude.{slice_get}
-use Rattle.std.specs.List.{range_with_len}
+use Rattle.std.specs.List.{range_with_len, AllByRecursion}
 use Rattle.address_map.specs.Lawful.{Shape}
 use Rattle.superstep_code.specs.Code.{SuperstepCode}
+use Rattle.superstep_machine.specs.HeaderWords.{read_header}
 use Rattle.superstep_machine.specs.Setting.{Setting}
 use Rattle.superstep_machine.specs.Run.{State, opening, is_over, setting}
 use Rattle.superstep_machine.specs.Trace.{exchange_of}
@@ -23,13 +24,20 @@ use Rattle.histories.proofs.Parts.{exchanges_are}
 use Rattle.histories.proofs.Reading.{histories_in_words_make_a_run}
 use Rattle.histories.proofs.Marking.{marks_end_all_or_none}
 use Rattle.bsp_machine.specs.declared.counted.CountedWorker.{CountedWorker}
+use Rattle.message_rows.specs.Rows.{WrittenMessage}
+use Rattle.bsp_machine.specs.declared.reserve.Reserve.{Reserve}
+use Rattle.bsp_machine.specs.Reserves.{own_mark, IsMark, AreMarked, IsGiven, HaveReserve, AreGiven}
 use Rattle.bsp_machine.specs.Workers.{share_told, shares, AreTogether, IsBehind}
-use Rattle.bsp_machine.specs.Ended.{AreRunning, IsFirstOver}
+use Rattle.bsp_machine.specs.Ended.{AreRunning, IsFirstOver, IsFirstStopped, IsFirstUnstopped}
 use Rattle.bsp_machine.proofs.ListLemmas.{there_at, get_within, one_there}
 use Rattle.workers.specs.Exchanged.{rows_at, columns_at, sent_by, received_by, crossings}
 use Rattle.workers.specs.Seating.{sent_of, received_of}
+use Rattle.workers.specs.Worked.{MarksWherePast}
+use Rattle.workers.specs.Past.{ComesPast}
 use Rattle.workers.specs.Gathered.{HasEnded, HaveEnded}
 use Rattle.workers.proofs.ExchangeLemmas.{seats_have_exchanged}
+use Rattle.workers.proofs.ReceivedLemmas.{received_all}
+use Rattle.workers.proofs.PastLemmas.{within, comes_past}
 
 abbrev stopped_at : Option CountedWorker → Bool
 stopped_at None = false
@@ -118,6 +126,7 @@ module _ (code : SuperstepCode) (m : Shape) (runnable : IsRunnable code m) (boun
           going = λ h. absurd (true_no_false (sym over ∙ h));
           counted = λ h n low. absurd (true_no_false (sym is ∙ h));
           items = λ h. absurd (true_no_false (sym is ∙ h));
+          reserved = λ h. absurd (true_no_false (sym is ∙ h));
         };
     together = together;
     before = λ n low i l. absurd (omega (arith, l));
@@ -186,20 +195,72 @@ module _ (code : SuperstepCode) (m : Shape) (runnable : IsRunnable code m) (boun
           going = b.going;
           counted = λ h n low. counted_behind alive n low w l;
           items = b.items;
+          reserved = b.reserved;
         });
     together = together;
     before = λ n low. (is_run alive n low).run.going;
   }
 
+  first : 0 < m.parts
+  first = let h = runnable.map.lawful.one in omega (arith, h)
+
   pub have_run : AreRunning code m bound input workers
   have_run = by_first (stops 0) refl
     where
-      first : 0 < m.parts
-      first = let h = runnable.map.lawful.one in omega (arith, h)
-
       by_first : (b : Bool) → stops 0 ≡ b → AreRunning code m bound input workers
       by_first true is = all_stopped (λ w l. alike w 0 l first ∙ is)
       by_first false is = none_stopped (λ w l. alike w 0 l first ∙ is)
+
+  -- ---- a reserve
+
+  all_stop : (b : Bool) → ((x : CountedWorker) → slice_get workers 0 ≡ Some x → is_stopped x.local.way ≡ b) → (w : ℕ) → w < m.parts →
+      stops w ≡ b
+  all_stop b is w l = let x = many 0 first in alike w 0 l first ∙ stops_is 0 x.0 x.1 ∙ is x.0 x.1
+
+  marked : (reserve : Reserve) → HaveReserve (Some reserve) workers → (n : ℕ) → most_instructions code bound < n → (w : ℕ) → w < m.parts →
+      MarksWherePast (setting code m bound n) w reserve 0 (opening (setting code m bound n) input w) (received_by seats w) (sent_by seats w)
+  marked reserve have n low w l =
+      let t = setting code m bound n in
+      let s = opening t input w in
+      let r = seat w l in
+      let x = many w l in
+      subst (λ cs. MarksWherePast t w reserve 0 s cs (sent_by seats w)) (sym (received_is w r.0 r.1))
+      (subst (MarksWherePast t w reserve 0 s (received_of r.0)) (sym (sent_is w r.0 r.1))
+      ((one w l).worked.past reserve n (have w x.0 x.1) low))
+
+  pub stays_within : (reserve : Reserve) → HaveReserve (Some reserve) workers → IsFirstUnstopped workers →
+      ¬ (ComesPast code m bound input reserve)
+  stays_within reserve have alive =
+      within code m runnable bound input reserve (crossings seats) (sent_by seats) (received_by seats) exchange (marked reserve have) enough
+      enough_is
+      (λ w l. subst (HasGone (setting code m bound enough) w (opening (setting code m bound enough) input w) (received_by seats w)
+      (sent_by seats w)) (all_stop false alive w l) (gone enough enough_is w l))
+      (over_first (all_stop false alive) enough enough_is)
+
+  pub past_when_stopped : (reserve : Reserve) → HaveReserve (Some reserve) workers → IsFirstStopped workers →
+      ComesPast code m bound input reserve
+  past_when_stopped reserve have stopped =
+      comes_past code m runnable bound input reserve (crossings seats) (sent_by seats) (received_by seats) exchange (marked reserve have)
+      (λ n low w l. subst (HasGone (setting code m bound n) w (opening (setting code m bound n) input w) (received_by seats w)
+      (sent_by seats w)) (all_stop true stopped w l) (gone n low w l))
+
+  -- ---- by which mark
+
+  pub all_given : (reserve : Option Reserve) → HaveReserve reserve workers → AreGiven reserve workers
+  all_given reserve have w x at =
+      let r = seat w (below w x at) in
+      subst (λ o. IsGiven o x) (have w x at) ((ended.each w r.0 x r.1 at).worked.given
+      (subst (λ o. AllByRecursion (AreMarked (own_mark o)) (received_of r.0)) (sym (have w x at))
+      (subst (AllByRecursion (AreMarked (own_mark reserve))) (received_is w r.0 r.1)
+      (received_all (λ (c : WrittenMessage). IsMark (own_mark reserve) (read_header c.header).mark) m.parts (crossings seats)
+      (sent_by seats) (received_by seats) exchange sent_marked w (below w x at)))))
+    where
+      sent_marked : (v : ℕ) → v < m.parts → AllByRecursion (AreMarked (own_mark reserve)) (sent_by seats v)
+      sent_marked v l =
+          let r = seat v l in
+          let y = many v l in
+          subst (AllByRecursion (AreMarked (own_mark reserve))) (sym (sent_is v r.0 r.1))
+          (subst (λ o. AllByRecursion (AreMarked (own_mark o)) (sent_of r.0)) (have v y.0 y.1) (one v l).worked.own_marks)
 
   pub first_over : IsFirstOver workers
   first_over x here =

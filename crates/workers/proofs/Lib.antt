@@ -1,8 +1,10 @@
 pub mod HandLemmas
 pub mod ExchangeLemmas
 pub mod PlayLemmas
+pub mod ReceivedLemmas
 pub mod GatherLemmas
 pub mod HearingLemmas
 pub mod PairLemmas
 pub mod CrewLemmas
 pub mod RunLemmas
+pub mod PastLemmas

@@ -1,7 +1,7 @@
 -- A worker behind an exchange, and its history with one exchange more.
 use Rattle.std.proofs.Common.{◌≡◌, ℕ, suc, ◌+◌, ◌-◌, ◌^◌, ◌<◌, ◌≤◌, List, [], ◌∷◌, ◌++◌, length, map, Bool}
 use Rattle.std.proofs.Common.{true, false, refl, sym, ap, ◌∙◌, subst}
-use Rattle.std.proofs.Common.{append_assoc, arith}
+use Rattle.std.proofs.Common.{append_assoc, arith, ◌⊎◌}
 use Rattle.std.specs.Prelude.{◌||◌, slice_get, if◌then◌else◌}
 use Rattle.std.proofs.lemmas.List.{append-nil, length-append, length-map}
 use Rattle.std.proofs.Math.Nat.{mul-le-mul}
@@ -15,6 +15,7 @@ use Rattle.worker_messages.specs.declared.way.Way.{Way}
 use Rattle.worker_messages.specs.declared.way.Way.TheVariants as ways
 use Rattle.worker_messages.specs.declared.local.Local.{Local}
 use Rattle.worker_messages.specs.Equipped.{left, left_by}
+use Rattle.superstep_machine.specs.declared.mark.HeaderMark.{HeaderMark}
 use Rattle.superstep_machine.specs.HeaderWords.{read_header}
 use Rattle.superstep_machine.specs.WordReading.{read_message}
 use Rattle.superstep_machine.specs.Setting.{Setting}
@@ -22,20 +23,22 @@ use Rattle.superstep_machine.specs.Run.{Purpose, State, setting, ready, after, m
 use Rattle.message_rows.specs.Rows.{WrittenMessage, written, message_at, words_in}
 use Rattle.worker_messages.specs.Reached.{most_instructions}
 use Rattle.worker_messages.specs.Shown.{way_is, purpose_is, is_stopped, IsShown}
-use Rattle.worker_exchange.specs.Received.{messages_to}
+use Rattle.worker_exchange.specs.Received.{messages_to, mark_heard}
 use Rattle.histories.specs.Shares.{Share, purpose_of}
 use Rattle.histories.specs.Histories.{end_by}
 use Rattle.histories.specs.InWords.{in_words, shares_in_words}
-use Rattle.histories.specs.Marked.{has_mark, any_mark, HasGone, IsClear}
+use Rattle.histories.specs.Marked.{has_mark, any_mark, IsMarked, HasGone, IsClear}
 use Rattle.histories.proofs.Growing.{histories_grow, shares_grow}
 use Rattle.histories.proofs.Marking.{clear_grows}
 use Rattle.turnstile.specs.Seats.{RowState}
 use Rattle.bsp_machine.specs.declared.counted.CountedWorker.{CountedWorker}
 use Rattle.bsp_machine.specs.Workers.{IsBetween, IsStanding, state_behind, share_at}
-use Rattle.bsp_machine.proofs.MarkLemmas.{or_false, going_on}
-use Rattle.bsp_machine.proofs.StandingLemmas.{row_marked, row_is, row_read, purpose_at}
+use Rattle.bsp_machine.specs.declared.reserve.Reserve.{Reserve}
+use Rattle.bsp_machine.specs.Reserves.{is_past, own_mark, IsMark, AreMarked}
+use Rattle.bsp_machine.proofs.MarkLemmas.{or_false, going_on, never, given_behind}
+use Rattle.bsp_machine.proofs.StandingLemmas.{row_marked, row_mark, row_is, row_read, purpose_at}
 use Rattle.workers.specs.Seating.{letters, sent_of, received_of}
-use Rattle.workers.specs.Worked.{IsBehindExchange, HasExchanged, HasWorked}
+use Rattle.workers.specs.Worked.{items_at, MarksWherePast, IsBehindExchange, HasExchanged, HasWorked}
 
 -- ---- rows
 
@@ -43,6 +46,34 @@ all_at : (P : WrittenMessage → Type 0) (row : List WrittenMessage) → ((j : �
     AllByRecursion P row
 all_at P [] h = tt
 all_at P (x ∷ row) h = (h 0 (omega arith), all_at P row (λ j l. h (suc j) (omega (arith, l))))
+
+all_added : {A : Type 0} (P : A → Type 0) (xs : List A) (x : A) → AllByRecursion P xs → P x → AllByRecursion P (xs ++ x ∷ [])
+all_added P [] x h p = (p, tt)
+all_added P (y ∷ xs) x h p = (h.0, all_added P xs x h.1 p)
+
+all_last : {A : Type 0} (P : A → Type 0) (xs : List A) (x : A) → AllByRecursion P (xs ++ x ∷ []) → P x
+all_last P [] x h = h.0
+all_last P (y ∷ xs) x h = all_last P xs x h.1
+
+-- one exchange more
+marks_more : (t : Setting) (w : ℕ) (q : Reserve) (made : ℕ) (s : State) (cs rows : List (List WrittenMessage)) (c row : List WrittenMessage) →
+    MarksWherePast t w q made s cs rows →
+    IsMarked (is_past q (items_at t w (end_by (in_words t) w s cs)) (made + length cs)) row →
+    MarksWherePast t w q made s (cs ++ c ∷ []) (rows ++ row ∷ [])
+marks_more t w q made s [] [] c row h p =
+    (subst (λ k. IsMarked (is_past q (items_at t w s) k) row) (let e : made + 0 ≡ made = omega arith in e) p, tt)
+marks_more t w q made s [] (r ∷ rows) c row h p = absurd h
+marks_more t w q made s (x ∷ cs) [] c row h p = absurd h
+marks_more t w q made s (x ∷ cs) (r ∷ rows) c row h p = (
+  h.0,
+  marks_more t w q (made + 1) ((in_words t).next w s x) cs rows c row h.1
+      (subst (λ k. IsMarked (is_past q (items_at t w (end_by (in_words t) w ((in_words t).next w s x) cs)) k) row)
+      (let e : made + suc (length cs) ≡ (made + 1) + length cs = omega arith in e) p),
+)
+
+shares_long : (t : Setting) (w : ℕ) (s : State) (cs : List (List WrittenMessage)) → length (shares_in_words t w s cs) ≡ length cs
+shares_long t w s [] = refl
+shares_long t w s (c ∷ cs) = ap suc (shares_long t w ((in_words t).next w s c) cs)
 
 -- a row by its entries
 row_by : (f : ℕ → WrittenMessage) (row : List WrittenMessage) (a : ℕ) → ((j : ℕ) → j < length row → message_at row j ≡ f (a + j)) →
@@ -58,6 +89,8 @@ row_by f (x ∷ row) a h =
 module _ (code : SuperstepCode) (m : Shape) (bound : ℕ) (states : ℕ → State) (told : ℕ → List Share) (w : ℕ) (mid new : CountedWorker)
     (row came : List WrittenMessage) (at : IsStanding code m bound states told w mid row)
     (stopped : is_stopped new.local.way ≡ (is_stopped mid.local.way || any_mark came))
+    (same : new.reserve ≡ mid.reserve) (by : (mark : HeaderMark) → new.local.way ≡ ways.Stopped mark →
+    (mid.local.way ≡ ways.Stopped mark) ⊎ ((is_stopped mid.local.way ≡ false) × (mark_heard came ≡ mark)))
     (here : IsBetween code m bound (λ n. state_behind code m bound w mid came (states n) n)
     (λ n. told n ++ share_at mid row came ∷ []) w new) where
   abbrev t : ℕ → Setting
@@ -85,13 +118,15 @@ module _ (code : SuperstepCode) (m : Shape) (bound : ℕ) (states : ℕ → Stat
       (λ i. read_message code.rule m j (for i) (read_header (is i).header) (is i).words)
       ∙ row_read code m bound states told w mid row at (alive h) n low j within
 
+  row_is_marked : IsMarked (is_stopped mid.local.way) row
+  row_is_marked = all_at (λ x. has_mark x ≡ is_stopped mid.local.way) row
+      (λ j l. row_marked code m bound states told w mid row at (suc (most_instructions code bound)) j (omega arith) (omega (arith, l, long)))
+
   pub behind_exchange : IsBehindExchange code m bound states told w row came new
   behind_exchange = record {
     marks = record {
       mine = is_stopped mid.local.way;
-      marked = all_at (λ x. has_mark x ≡ is_stopped mid.local.way) row
-          (λ j l. row_marked code m bound states told w mid row at (suc (most_instructions code bound)) j (omega arith)
-          (omega (arith, l, long)));
+      marked = row_is_marked;
       by_marks = stopped;
     };
     as_sent = λ n low h. record {
@@ -109,7 +144,13 @@ module _ (code : SuperstepCode) (m : Shape) (bound : ℕ) (states : ℕ → Stat
       counted = λ h n low. here.counted h n low
           ∙ ap (λ (p : Purpose). told n ++ record { purpose = p; sent = words_in row; received = words_in came } ∷ []) (for_it h n low);
       items = here.items;
+      reserved = here.reserved;
     };
+    past = λ r n some low. subst (λ b. IsMarked b row) (at.past r n (sym same ∙ some) low) row_is_marked;
+    own_marks = subst (λ r. AreMarked (own_mark r) row) (sym same) (all_at (λ (x : WrittenMessage). IsMark (own_mark mid.reserve)
+        (read_header x.header).mark) row (λ j l. row_mark code m bound states told w mid row at (suc (most_instructions code bound)) j
+        (omega arith) (omega (arith, l, long))));
+    given = λ marks. given_behind new.reserve mid new came (sym same) at.refused marks same stopped by;
   }
 
 -- ---- a history with one exchange more
@@ -138,7 +179,13 @@ module _ (code : SuperstepCode) (m : Shape) (bound : ℕ) (states : ℕ → Stat
           counted = λ h n low. b.counted h n low ∙ sym (append-nil (told n))
               ∙ ap (λ cs. told n ++ shares_in_words (t_at n) w (states n) cs) (sym columns);
           items = b.items;
+          reserved = b.reserved;
         };
+        past = λ q n some low.
+            subst (λ cs. MarksWherePast (t_at n) w q (length (told n)) (states n) cs (sent_of r)) (sym columns)
+            (subst (MarksWherePast (t_at n) w q (length (told n)) (states n) []) (sym rows) tt);
+        own_marks = subst (AllByRecursion (AreMarked (own_mark x.reserve))) (sym rows) tt;
+        given = λ marks. record { given = refl; stopped = λ mark way. absurd (never x.local.way mark way alive) };
       }
 
   module _ (r r' : RowState) (x x' : CountedWorker) (on : is_over (way_is x.local.way) ≡ false)
@@ -202,7 +249,21 @@ module _ (code : SuperstepCode) (m : Shape) (bound : ℕ) (states : ℕ → Stat
         going = behind.between.going;
         counted = λ h n low. behind.between.counted h n low ∙ share_is n low h;
         items = behind.between.items;
+        reserved = behind.between.reserved;
       };
+      past = λ q n some low.
+          let more = marks_more (t_at n) w q (length (told n)) (states n) cs (sent_of r) one.column one.row
+          (before.past q n (sym one.reserve ∙ some) low)
+          (subst (λ k. IsMarked (is_past q (items_at (t_at n) w (end n)) k) one.row)
+          (length-append (told n) (shares_in_words (t_at n) w (states n) cs)
+          ∙ ap (λ k. length (told n) + k) (shares_long (t_at n) w (states n) cs)) (behind.past q n some low)) in
+          subst (λ cs'. MarksWherePast (t_at n) w q (length (told n)) (states n) cs' (sent_of r')) (sym one.received)
+          (subst (MarksWherePast (t_at n) w q (length (told n)) (states n) (cs ++ one.column ∷ [])) (sym one.sent) more);
+      own_marks = subst (AllByRecursion (AreMarked (own_mark x'.reserve))) (sym one.sent)
+          (all_added (AreMarked (own_mark x'.reserve)) (sent_of r) one.row
+          (subst (λ o. AllByRecursion (AreMarked (own_mark o)) (sent_of r)) (sym one.reserve) before.own_marks) behind.own_marks);
+      given = λ marks. behind.given (all_last (AreMarked (own_mark x'.reserve)) cs one.column
+          (subst (AllByRecursion (AreMarked (own_mark x'.reserve))) one.received marks));
     }
 
 -- ---- how many exchanges there may be

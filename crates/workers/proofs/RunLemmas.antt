@@ -17,6 +17,8 @@ use Rattle.turnstile.specs.Seats.{RowState, AreSeatsOf}
 use Rattle.bsp_machine.specs.declared.counted.CountedWorker.{CountedWorker}
 use Rattle.histories.specs.Shares.{Share}
 use Rattle.bsp_machine.specs.Workers.{IsBetween, share_told}
+use Rattle.bsp_machine.specs.declared.reserve.Reserve.{Reserve}
+use Rattle.bsp_machine.specs.Reserves.{HaveReserve}
 use Rattle.bsp_machine.specs.Opening.{AreFresh}
 use Rattle.bsp_machine.proofs.ListLemmas.{one_there}
 use Rattle.bsp_machine.proofs.MarkLemmas.{going_on}
@@ -97,6 +99,7 @@ module _ {M : Type 0} (shape : M → Shape) (run : RunState M) (seats : List Row
         going = λ on. f.going run.bound;
         counted = λ alive n low. ap (map share_told) f.none;
         items = λ alive. f.items;
+        reserved = λ alive. f.reserved;
       }
 
   pub all_ready : AllByRecursion (IsReady shape) (tasks_for run seats workers)
@@ -188,6 +191,14 @@ module _ {M : Type 0} (shape : M → Shape) (run : RunState M) (seats : List Row
                   (sym order) (began input fresh w t.worker t.worker_at)));
               over = t.made.over;
             }
+
+    -- each has the reserve that it began with
+    pub same_reserve : (reserve : Option Reserve) → HaveReserve reserve workers →
+        HaveReserve reserve (map (λ (y : RowState × CountedWorker). y.1) played)
+    same_reserve reserve have k x e =
+        let y = mapped_at (λ (z : RowState × CountedWorker). z.1) played k x e in
+        let t = made_of k y.0 y.1 in
+        ap (λ (z : CountedWorker). z.reserve) (sym y.2) ∙ t.made.reserve ∙ have k t.worker t.worker_at
 
   -- the seats of tasks that nobody began
   pub seats_unused : AreSeatsOf run.turnstile (map (λ (x : TaskState M). x.seat) (tasks_for run seats workers))

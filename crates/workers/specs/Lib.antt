@@ -5,3 +5,4 @@ pub mod Gathered
 pub mod Tasks
 pub mod Reports
 pub mod Crews
+pub mod Past

@@ -45,6 +45,7 @@ module _ {M : Type 0} (shape : M → Shape) where
   pub record HasPlayed (x : TaskState M) (r : RowState) (y : CountedWorker) : Type 0 where
     pub owner : SameOwner x.seat r
     pub over : is_over (way_is y.local.way) ≡ true
+    pub reserve : y.reserve ≡ x.worker.reserve
     pub worked : (states : ℕ → State) (told : ℕ → List Share) →
         IsBetween x.run.code (shape x.run.map) x.run.bound states told x.seat.worker x.worker →
         HasWorked x.run.code (shape x.run.map) x.run.bound states told x.seat.worker r y

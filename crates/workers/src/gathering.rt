@@ -1,15 +1,17 @@
 //! What workers come to that have played at the seats of a turnstile.
 
-ghost use Rattle.std.specs.Prelude.{◌≡◌, ℕ, List, ℤ, IfOk, IfErr};
+ghost use Rattle.std.specs.Prelude.{◌≡◌, ℕ, List, ℤ, Option, Some, IfOk, IfErr};
 ghost use Rattle.write_rules.specs.Verdict.{verdict_of};
 ghost use Rattle.superstep_machine.specs.Run.{IsBspOutcome};
 ghost use Rattle.superstep_machine.specs.Trace.{AreBspExchanges};
 ghost use Rattle.turnstile.specs.Seats.{AreSeatsOf};
-ghost use Rattle.worker_messages.specs.declared.refusal.RunRefusal.TheVariants as refusal_is;
 ghost use Rattle.worker_messages.specs.Equipped.{IsRunnable};
+ghost use Rattle.bsp_machine.specs.declared.reserve.Reserve.{Reserve as Given};
+ghost use Rattle.bsp_machine.specs.Reserves.{HaveReserve, refusal_for};
 ghost use Rattle.bsp_machine.specs.Opening.{IsRoom};
 ghost use Rattle.bsp_machine.specs.Ended.{IsFirstStopped};
 ghost use Rattle.workers.specs.Gathered.{HaveEnded, HaveEndedSome};
+ghost use Rattle.workers.specs.Past.{ComesPast};
 
 use address_map::AddressMap;
 use bsp_machine::{CountedWorker, EndRoom, collect};
@@ -20,8 +22,8 @@ use worker_messages::RunRefusal;
 use write_rules::Outcome;
 
 /// What the workers of one run come to, in their order, each with the seat at which it has played its part, and the exchanges that
-/// they counted. It closes the turnstile in any case, and takes no memory. `OutOfMemory` comes only where the workers have stopped, all of
-/// them at one exchange: memory was refused to one.
+/// they counted. It closes the turnstile in any case, and takes no memory. An error comes only where the workers have stopped, all of them at
+/// one exchange: `OutOfReserve` where they came past the reserve that they were given, `OutOfMemory` where memory was refused to one.
 pub fn gather<M: AddressMap>(
     code: &Code,
     map: &M,
@@ -34,8 +36,15 @@ pub fn gather<M: AddressMap>(
     requires seats { AreSeatsOf turnstile seats.items }
     requires ended { HaveEndedSome code.now (M.shape map.now) seats.items workers.items }
     requires room { IsRoom code.now (M.shape map.now) room }
-    ensures memory { IfErr result (λ refusal. refusal ≡ refusal_is.OutOfMemory) }
+    ensures given { (reserve : Option Given) → HaveReserve reserve workers.items → IfErr result (λ refusal. refusal ≡ refusal_for reserve) }
     ensures stopped { IfErr result (λ refusal. IsFirstStopped workers.items) }
+    // With a reserve they have stopped exactly where the run comes past it.
+    ensures past { IfErr result (λ refusal. (bound : ℕ) (input : List ℤ) (reserve : Given) →
+        HaveEnded code.now (M.shape map.now) bound input seats.items workers.items → HaveReserve (Some reserve) workers.items →
+        ComesPast code.now (M.shape map.now) bound input reserve) }
+    ensures within { IfOk result (λ found. (bound : ℕ) (input : List ℤ) (reserve : Given) →
+        HaveEnded code.now (M.shape map.now) bound input seats.items workers.items → HaveReserve (Some reserve) workers.items →
+        ¬ (ComesPast code.now (M.shape map.now) bound input reserve)) }
     ensures outcome { IfOk result (λ found. (bound : ℕ) (input : List ℤ) →
         HaveEnded code.now (M.shape map.now) bound input seats.items workers.items →
         IsBspOutcome code.now (M.shape map.now) input bound (verdict_of found.0)) }

@@ -72,6 +72,7 @@ pub fn work<R: Wait, W: WriteRule, M: AddressMap, G: Gate>(
     requires runs { is_stopped worker.local.way ≡ false }
     ensures owner { SameOwner seat result.0 }
     ensures over { spec_is_over (way_is result.1.local.way) ≡ true }
+    ensures reserve { result.1.reserve ≡ worker.reserve }
     // Whatever states it showed, within any number of instructions that is enough.
     ensures worked { (states : ℕ → State) (told : ℕ → List Share) →
         IsBetween code.now (M.shape map.now) bound states told seat.worker worker →

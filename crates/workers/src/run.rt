@@ -1,22 +1,26 @@
 //! A run by workers in threads.
 
-ghost use Rattle.std.specs.Prelude.{◌≡◌, List, ℤ, length, IfOk, IfErr, IfSome};
+ghost use Rattle.std.specs.Prelude.{◌≡◌, List, ℤ, Option, length, IfOk, IfErr, IfSome};
 ghost use Rattle.write_rules.specs.Verdict.{verdict_of};
 ghost use Rattle.superstep_machine.specs.Run.{IsBspOutcome};
 ghost use Rattle.superstep_machine.specs.Trace.{AreBspExchanges};
 ghost use Rattle.bsp_verify.specs.WellFormed.{IsWellFormed};
 ghost use Rattle.worker_messages.specs.Opened.{IsAccepted, IsRefusal};
 ghost use Rattle.turnstile.specs.Seats.{AreSeatsOf};
+ghost use Rattle.bsp_machine.specs.declared.reserve.Reserve.{Reserve as Given};
+ghost use Rattle.bsp_machine.specs.Reserves.{HaveReserve};
 ghost use Rattle.bsp_machine.specs.Opening.{AreFresh};
 ghost use Rattle.workers.specs.Gathered.{HaveEnded};
 ghost use Rattle.workers.specs.Tasks.{CanBegin};
+ghost use Rattle.workers.specs.Past.{ComesPast, IsReservedRefusal, IsRefusalWith, StaysWithin};
 
 use crate::gates::Gate;
 use crate::gathering::gather;
 use crate::lists::{tasks_of, unused, unzipped};
+use crate::reserving::open_reserved;
 use crate::room::RunRoom;
 use address_map::AddressMap;
-use bsp_machine::{CountedWorker, EndRoom, open_all};
+use bsp_machine::{CountedWorker, EndRoom, Reserve};
 use bsp_verify::Verified;
 use exchange_counts::Counts;
 use std::alloc::Global;
@@ -46,6 +50,8 @@ fn play_all<'a, R: Threads + Wait + Sync, M: AddressMap + Sync, G: Gate + Sync>(
     ensures seats { AreSeatsOf turnstile.entry.now result.0.items }
     ensures ended { IfSome result.1 (λ ended. (input : List ℤ) → AreFresh code.entry.now (M.shape map.entry.now) input workers.items →
         HaveEnded code.entry.now (M.shape map.entry.now) bound input result.0.items ended.items) }
+    ensures reserve { IfSome result.1 (λ ended. (reserve : Option Given) → HaveReserve reserve workers.items →
+        HaveReserve reserve ended.items) }
 {
     let RunRoom {
         crew,
@@ -63,7 +69,7 @@ fn play_all<'a, R: Threads + Wait + Sync, M: AddressMap + Sync, G: Gate + Sync>(
     }
 }
 
-// A run of well-formed code.
+// A run of well-formed code, by workers with a reserve or without.
 fn run_code<R: Threads + Wait + Sync, M: AddressMap + Sync, G: Gate + Sync>(
     rt: &R,
     alloc: Global,
@@ -72,16 +78,18 @@ fn run_code<R: Threads + Wait + Sync, M: AddressMap + Sync, G: Gate + Sync>(
     workers: u32,
     input: &[i64],
     bound: u32,
+    reserve: Option<Reserve>,
     gate: &G,
 ) -> Result<(Outcome, Counts), RunRefusal>
     requires formed { IsWellFormed code.now }
-    ensures refused { IfErr result (IsRefusal code.now (M.shape map.now) workers input.now) }
+    ensures refused { IfErr result (IsRefusalWith code.now (M.shape map.now) workers input.now bound reserve) }
     ensures accepted { IfOk result (λ found. IsAccepted code.now (M.shape map.now) workers input.now) }
+    ensures within { IfOk result (λ found. StaysWithin code.now (M.shape map.now) bound input.now reserve) }
     ensures outcome { IfOk result (λ found. IsBspOutcome code.now (M.shape map.now) input.now bound (verdict_of found.0)) }
     ensures counts { IfOk result (λ found. AreBspExchanges code.now (M.shape map.now) input.now bound (verdict_of found.0) found.1) }
 {
     let _instructions = code.instructions();
-    let opened = open_all(alloc, code, map, workers, input)?;
+    let opened = open_reserved(alloc, code, map, workers, input, reserve)?;
     let Ok(end_room) = EndRoom::new(alloc, code, workers) else {
         return Err(RunRefusal::OutOfMemory);
     };
@@ -103,6 +111,28 @@ fn run_code<R: Threads + Wait + Sync, M: AddressMap + Sync, G: Gate + Sync>(
     }
 }
 
+/// Runs verified code by workers with a reserve, or without: as `run_reserved`, or as `run_workers`.
+pub fn run_with_reserve<R: Threads + Wait + Sync, M: AddressMap + Sync, G: Gate + Sync>(
+    rt: &R,
+    alloc: Global,
+    verified: &Verified,
+    map: &M,
+    workers: u32,
+    input: &[i64],
+    bound: u32,
+    reserve: Option<Reserve>,
+    gate: &G,
+) -> Result<(Outcome, Counts), RunRefusal>
+    ensures refused { IfErr result (IsRefusalWith verified.now (M.shape map.now) workers input.now bound reserve) }
+    ensures accepted { IfOk result (λ found. IsAccepted verified.now (M.shape map.now) workers input.now) }
+    ensures within { IfOk result (λ found. StaysWithin verified.now (M.shape map.now) bound input.now reserve) }
+    ensures outcome { IfOk result (λ found. IsBspOutcome verified.now (M.shape map.now) input.now bound (verdict_of found.0)) }
+    ensures counts { IfOk result (λ found. AreBspExchanges verified.now (M.shape map.now) input.now bound (verdict_of found.0) found.1) }
+{
+    let code = verified.code();
+    run_code(rt, alloc, code, map, workers, input, bound, reserve, gate)
+}
+
 /// Runs verified code on an input by so many workers, each in a thread of its own, within a bound on statements: what the run comes to,
 /// and its exchanges with the words of each. They are those of the machine of so many workers, in whatever order the threads get on.
 /// Each worker passes the gate before each exchange. The first refusal that holds comes, before anything of the run is done;
@@ -122,5 +152,31 @@ pub fn run_workers<R: Threads + Wait + Sync, M: AddressMap + Sync, G: Gate + Syn
     ensures outcome { IfOk result (λ found. IsBspOutcome verified.now (M.shape map.now) input.now bound (verdict_of found.0)) }
     ensures counts { IfOk result (λ found. AreBspExchanges verified.now (M.shape map.now) input.now bound (verdict_of found.0) found.1) }
 {
-    run_code(rt, alloc, verified.code(), map, workers, input, bound, gate)
+    run_with_reserve(rt, alloc, verified, map, workers, input, bound, None, gate)
+}
+
+/// The same run by workers that take all their memory before the first exchange, for so many items of output and so many exchanges. It is
+/// refused with `OutOfReserve` exactly where the run prints more items than that, those that a fault drops counted, or has more exchanges,
+/// and nothing else speaks against it; `OutOfMemory` comes before the first exchange or not at all.
+pub fn run_reserved<R: Threads + Wait + Sync, M: AddressMap + Sync, G: Gate + Sync>(
+    rt: &R,
+    alloc: Global,
+    verified: &Verified,
+    map: &M,
+    workers: u32,
+    input: &[i64],
+    bound: u32,
+    reserve: Reserve,
+    gate: &G,
+) -> Result<(Outcome, Counts), RunRefusal>
+    ensures refused { IfErr result (IsReservedRefusal verified.now (M.shape map.now) workers input.now bound reserve) }
+    ensures accepted { IfOk result (λ found. IsAccepted verified.now (M.shape map.now) workers input.now) }
+    ensures within { IfOk result (λ found. ¬ (ComesPast verified.now (M.shape map.now) bound input.now reserve)) }
+    ensures outcome { IfOk result (λ found. IsBspOutcome verified.now (M.shape map.now) input.now bound (verdict_of found.0)) }
+    ensures counts { IfOk result (λ found. AreBspExchanges verified.now (M.shape map.now) input.now bound (verdict_of found.0) found.1) }
+{
+    let reserve = Some(reserve);
+    run_with_reserve(
+        rt, alloc, verified, map, workers, input, bound, reserve, gate,
+    )
 }

@@ -8,7 +8,9 @@ use Rattle.exchange_counts.specs.Columns.{AreColumns}
 use Rattle.exchange_counts.specs.Told.{exchanges_told}
 use Rattle.bsp_machine.specs.declared.counted.CountedWorker.{CountedWorker}
 use Rattle.bsp_machine.specs.Ended.{memory_of, verdict_in}
-use Rattle.bsp_machine.proofs.ListLemmas.{there_at}
+use Rattle.bsp_machine.specs.Reserves.{refusal_by}
+use Rattle.bsp_machine.proofs.MarkLemmas.{refusal_at}
+use Rattle.bsp_machine.proofs.ListLemmas.{get_there, one_there, there_at}
 use Rattle.bsp_machine.proofs.SwapLemmas as swap
 use Rattle.bsp_machine.proofs.OutcomeLemmas.{told_alive, none_told, wide, columns_long, outcome_ends, exchanges_end}
 use Rattle.bsp_machine.proofs.collecting.collect.Goals as goal
@@ -48,6 +50,21 @@ returns-in_default-clause-stopped g c = λ x here.
     none_told x.local.way x.local.steps.uniform.output.items (memory_of code m c.as_slice.result.now) c.outcome.result (c.requires.over x here)
     (c.outcome.ensures (swap.without x c.args.room.items) at) c.in_default.not-Some
 
+pub returns-in_default-clause-refused : goal.returns-in_default-clause-refused
+returns-in_default-clause-refused g c = λ x here.
+    let all = c.args.workers.items in
+    let some = c.requires.runnable.map.lawful.one in
+    let many = c.requires.workers in
+    let first = get_there all 0 c.index.result.now (omega (arith, some, many)) ∙ ap (λ y. Some y) (sym c.index.ensures) in
+    c.refusal_by-refusal.ensures ∙ ap (λ (y : CountedWorker). refusal_by y.local.way) (one_there all 0 c.index.result.now x first here)
+
+pub returns-in_default-clause-given : goal.returns-in_default-clause-given
+returns-in_default-clause-given g c = λ reserve given.
+    let all = c.args.workers.items in
+    let x = there_at all 0 (let some = c.requires.runnable.map.lawful.one in let many = c.requires.workers in omega (arith, some, many)) in
+    returns-in_default-clause-refused g c x.0 x.1
+    ∙ refusal_at x.0.local.way reserve (given 0 x.0 x.1).stopped (returns-in_default-clause-stopped g c x.0 x.1)
+
 pub of_columns-requires : goal.of_columns-requires
 of_columns-requires g c =
     let code = c.args.code.now in
@@ -66,6 +83,16 @@ of_columns-requires g c =
     subst AreColumns
     (sym (c.take_columns.ensures ∙ swap.counts_is all c.take_items.new.workers.items x.0 c.args.room.items x.1 gone))
     (columns_long code m c.requires.runnable.map r.bound r.running.input all many r.running.running x.0 x.1 alive)
+
+pub returns-clause-unstopped : goal.returns-clause-unstopped
+returns-clause-unstopped g c = λ x here.
+    let code = c.args.code.now in
+    let m = g.M.AddressMap.shape c.args.map.now in
+    let all = c.args.workers.items in
+    let left = c.as_slice.ensures.value ∙ c.take_items.ensures.left x here in
+    let at = swap.there all c.as_slice.result.now x c.args.room.items here left in
+    told_alive x.local.way x.local.steps.uniform.output.items (memory_of code m c.as_slice.result.now) (verdict_of c.in-Some.found)
+    (ap verdict_in (sym c.in-Some.is) ∙ c.outcome.ensures (swap.without x c.args.room.items) at)
 
 pub returns-clause-outcome : goal.returns-clause-outcome
 returns-clause-outcome g c = λ bound input run.

@@ -1,4 +1,5 @@
-use Rattle.std.proofs.Common.{◌≡◌, length}
+use Rattle.std.proofs.Common.{◌≡◌, length, None}
+use Rattle.bsp_machine.specs.Reserves.{HaveReserve}
 use Rattle.bsp_machine.specs.Opening.{AreFresh}
 use Rattle.bsp_machine.proofs.opening.open_all.Given as goal
 
@@ -6,4 +7,5 @@ abbrev pub invariant-workers : goal.invariant-workers
 invariant-workers g l = record {
   count : length l.all.items ≡ l.worker;
   fresh : AreFresh l.code (g.M.AddressMap.shape l.map) l.input l.all.items;
+  none : HaveReserve None l.all.items;
 }

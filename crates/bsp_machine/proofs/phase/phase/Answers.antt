@@ -36,3 +36,7 @@ returns-clause-behind g c = λ input k before. c.receive_all.ensures.behind inpu
 
 pub returns-clause-together : goal.returns-clause-together
 returns-clause-together g c = λ input k before. c.receive_all.ensures.together input k (c.send_all.ensures.at input k before)
+
+pub returns-clause-given : goal.returns-clause-given
+returns-clause-given g c = λ reserve input k before all.
+    c.receive_all.ensures.given reserve input k (c.send_all.ensures.at input k before) (c.send_all.ensures.reserve reserve all)

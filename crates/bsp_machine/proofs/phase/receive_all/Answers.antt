@@ -11,8 +11,9 @@ use Rattle.bsp_machine.specs.Sheets.{messages_in, picked}
 use Rattle.bsp_machine.specs.Workers.{shares, AreAt, IsBehind}
 use Rattle.bsp_machine.proofs.ListLemmas.{get_there, get_other, get_within, set_each, one_there, there_at}
 use Rattle.bsp_machine.proofs.SheetLemmas.{column_short}
-use Rattle.bsp_machine.proofs.MarkLemmas.{going_on, or_false, any_stopped, none_stopped}
-use Rattle.bsp_machine.proofs.ComingLemmas.{behind_more, coming, stopping}
+use Rattle.bsp_machine.specs.Reserves.{IsGiven}
+use Rattle.bsp_machine.proofs.MarkLemmas.{going_on, or_false, any_stopped, none_stopped, given_behind}
+use Rattle.bsp_machine.proofs.ComingLemmas.{behind_more, coming, stopping, marked_by_own}
 use Rattle.bsp_machine.proofs.phase.receive_all.Goals as goal
 
 pub receive-requires-clause-room : goal.receive-requires-clause-room
@@ -71,7 +72,18 @@ workers-preserved g c =
             e.left on,
           ))
           (λ v z n there x below was on. i.left v x z (omega (arith, n, below)) was there on) v z there x below was;
+      given = λ reserve input k at all v x below there.
+          set_each xs w x' (λ v x. v < w + 1 → IsGiven reserve x) lt
+          (λ below. given_behind reserve y x' (picked w rows) (all w y before) (at w y row.0 before row.1).refused
+          (marked_by_own code m bound input k olds rows at many long reserve all w within) e.reserve e.stopped e.mark)
+          (λ v x n there below. i.given reserve input k at all v x (omega (arith, n, below)) there) v x there below;
     }
+
+pub returns-clause-given : goal.returns-clause-given
+returns-clause-given g c = λ reserve input k at all w x there.
+    let l = get_within c.workers.workers w x there in
+    let stop = c.workers-test.false in
+    c.workers.invariant.given reserve input k at all w x (omega (arith, l, stop)) there
 
 pub returns-clause-behind : goal.returns-clause-behind
 returns-clause-behind g c = λ input k at w x there.

@@ -1,9 +1,11 @@
-use Rattle.std.proofs.Common.{◌≡◌, ℕ, suc, ◌<◌, ◌≤◌, List, ℤ, length, Some, false}
+use Rattle.std.proofs.Common.{◌≡◌, ℕ, suc, ◌<◌, ◌≤◌, List, ℤ, length, Option, Some, false}
 use Rattle.std.specs.Prelude.{slice_get}
 use Rattle.superstep_machine.specs.Run.{is_over}
 use Rattle.worker_messages.specs.Shown.{is_stopped, way_is}
 use Rattle.worker_messages.specs.Equipped.{left, left_at}
 use Rattle.bsp_machine.specs.declared.counted.CountedWorker.{CountedWorker}
+use Rattle.bsp_machine.specs.declared.reserve.Reserve.{Reserve}
+use Rattle.bsp_machine.specs.Reserves.{HaveReserve, IsGiven}
 use Rattle.bsp_machine.specs.Workers.{AreAt, IsBehind}
 use Rattle.bsp_machine.proofs.MarkLemmas.{any_stopped}
 use Rattle.bsp_machine.proofs.phase.receive_all.Given as goal
@@ -20,4 +22,7 @@ invariant-workers g l = record {
   left : (v : ℕ) (x y : CountedWorker) → v < l.w → slice_get l.fn.workers v ≡ Some x → slice_get l.workers v ≡ Some y →
       is_over (way_is y.local.way) ≡ false →
       (is_stopped x.local.way ≡ false) × (left l.code l.bound y.local < left_at l.code l.bound x.local);
+  given : (reserve : Option Reserve) (input : List ℤ) (k : ℕ) →
+      AreAt l.code (g.M.AddressMap.shape l.map) l.bound input k l.fn.workers l.rows → HaveReserve reserve l.fn.workers →
+      (v : ℕ) (x : CountedWorker) → v < l.w → slice_get l.workers v ≡ Some x → IsGiven reserve x;
 }

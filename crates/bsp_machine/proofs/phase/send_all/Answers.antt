@@ -93,7 +93,17 @@ workers-preserved g c =
           (λ x below was alive. subst (λ (q : CountedWorker). left_at code bound x'.local ≤ left code bound q.local)
           (one_there olds w y x before was) (e.fewer alive))
           (λ v z n at x below was alive. i.fewer v x z (omega (arith, n, below)) was at alive) v z at x below was;
+      reserve = λ reserve all v x below at.
+          set_each xs w x' (λ v x. v < w + 1 → x.reserve ≡ reserve) lt (λ below. e.reserve ∙ all w y before)
+          (λ v x n at below. i.reserve reserve all v x (omega (arith, n, below)) at) v x at below;
     }
+
+pub returns-clause-reserve : goal.returns-clause-reserve
+returns-clause-reserve g c = λ reserve all w x at.
+    let i = c.workers.invariant in
+    let l = get_within c.workers.workers w x at in
+    let stop = c.workers-test.false in
+    i.reserve reserve all w x (omega (arith, l, stop)) at
 
 pub returns-clause-ready : goal.returns-clause-ready
 returns-clause-ready g c = λ w x at.

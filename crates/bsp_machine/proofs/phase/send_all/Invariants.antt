@@ -1,10 +1,12 @@
-use Rattle.std.proofs.Common.{◌≡◌, ℕ, ◌<◌, ◌≤◌, List, ℤ, length, Some, false}
+use Rattle.std.proofs.Common.{◌≡◌, ℕ, ◌<◌, ◌≤◌, List, ℤ, length, Option, Some, false}
 use Rattle.std.specs.Prelude.{slice_get}
 use Rattle.worker_messages.specs.Shown.{is_stopped}
 use Rattle.worker_messages.specs.Equipped.{most_words, left, left_at}
 use Rattle.bsp_machine.specs.declared.counted.CountedWorker.{CountedWorker}
 use Rattle.bsp_machine.specs.declared.sheet.Sheet.{Sheet}
 use Rattle.bsp_machine.specs.Sheets.{messages_in}
+use Rattle.bsp_machine.specs.declared.reserve.Reserve.{Reserve}
+use Rattle.bsp_machine.specs.Reserves.{HaveReserve}
 use Rattle.bsp_machine.specs.Workers.{AreSheets, AreBehind, IsAt, IsReady}
 use Rattle.bsp_machine.proofs.phase.send_all.Given as goal
 
@@ -20,4 +22,6 @@ invariant-workers g l = record {
       IsAt l.code (g.M.AddressMap.shape l.map) l.bound input k v x (messages_in row);
   fewer : (v : ℕ) (x y : CountedWorker) → v < l.w → slice_get l.fn.workers v ≡ Some x → slice_get l.workers v ≡ Some y →
       is_stopped y.local.way ≡ false → left_at l.code l.bound y.local ≤ left l.code l.bound x.local;
+  reserve : (reserve : Option Reserve) → HaveReserve reserve l.fn.workers → (v : ℕ) (x : CountedWorker) → v < l.w →
+      slice_get l.workers v ≡ Some x → x.reserve ≡ reserve;
 }

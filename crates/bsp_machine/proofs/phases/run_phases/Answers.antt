@@ -39,4 +39,8 @@ phases-preserved g c =
             before = still_on code m bound c.requires.runnable.map input xs many run first here (sym c.is_over.ensures
                 ∙ c.phases-test.true);
           };
+      given = λ reserve was.
+          let input = c.requires.opened.input in
+          let run = i.running input c.requires.opened.running in
+          e.given reserve input run.exchanges run.behind (λ w x at. (i.given reserve was w x at).given);
     }

@@ -1,6 +1,8 @@
-use Rattle.std.proofs.Common.{◌≡◌, List, ℤ, length}
+use Rattle.std.proofs.Common.{◌≡◌, List, ℤ, length, Option}
 use Rattle.worker_messages.specs.Equipped.{most_words}
 use Rattle.bsp_machine.specs.Workers.{AreSheets}
+use Rattle.bsp_machine.specs.declared.reserve.Reserve.{Reserve}
+use Rattle.bsp_machine.specs.Reserves.{AreGiven}
 use Rattle.bsp_machine.specs.Ended.{AreRunning, left_first}
 use Rattle.bsp_machine.proofs.phases.run_phases.Given as goal
 
@@ -13,4 +15,5 @@ invariant-phases g l = record {
   rows : AreSheets (g.M.AddressMap.shape l.map).parts (most_words l.code (g.M.AddressMap.shape l.map)) l.rows;
   running : (input : List ℤ) → AreRunning l.code (g.M.AddressMap.shape l.map) l.bound input l.fn.workers →
       AreRunning l.code (g.M.AddressMap.shape l.map) l.bound input l.workers;
+  given : (reserve : Option Reserve) → AreGiven reserve l.fn.workers → AreGiven reserve l.workers;
 }

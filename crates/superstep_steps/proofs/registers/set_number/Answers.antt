@@ -4,8 +4,8 @@ use Rattle.superstep_machine.specs.Parts.{set_register}
 use Rattle.superstep_steps.proofs.RegisterLemmas.{set_is}
 use Rattle.superstep_steps.proofs.registers.set_number.Goals as goal
 
-pub returns : goal.returns
-returns c =
+pub returns-clause-after : goal.returns-clause-after
+returns-clause-after c =
     rw (to_z-of_z w64 c.args.value c.ranges.value)
     (set_is c.make_room.new.values.items c.args.number c.args.value (omega (arith, c.in_ok-make_room.ensures.room))
     ∙ ap (set_register c.args.number c.args.value) c.in_ok-make_room.ensures.same)

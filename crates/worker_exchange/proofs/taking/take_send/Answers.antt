@@ -97,4 +97,5 @@ returns-clause-still g c =
       place = sent.place;
       count = sent.uniform.count;
       output = sent.uniform.output;
+      reserve = sent.uniform.reserve;
     }

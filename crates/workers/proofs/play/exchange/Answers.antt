@@ -1,3 +1,4 @@
+use Rattle.std.proofs.Common.{◌∙◌}
 use Rattle.workers.specs.Seating.{letters}
 use Rattle.workers.proofs.HandLemmas.{sent_more, received_more}
 use Rattle.workers.proofs.PlayLemmas.{behind_exchange}
@@ -18,8 +19,9 @@ returns-clause-exchanged g c =
       sent = sent_more a mid c.cross.result c.of-column.result.seat c.turn.result kept c.cross.ensures.sent is c.turn.ensures.sent;
       received = received_more a mid c.cross.result c.of-column.result.seat c.turn.result kept c.cross.ensures.received is
           c.turn.ensures.received;
+      reserve = c.receive.ensures.reserve ∙ c.until_exchange.ensures.reserve;
       behind = λ states told b.
           let at = c.until_exchange.ensures.at states told a.worker b in
           behind_exchange code m c.args.bound states told a.worker c.until_exchange.new.self c.receive.new.self (letters mid.row)
-          (letters column) at c.receive.ensures.stopped (c.receive.ensures.behind states told a.worker (letters mid.row) at);
+          (letters column) at c.receive.ensures.stopped c.receive.ensures.reserve c.receive.ensures.mark (c.receive.ensures.behind states told a.worker (letters mid.row) at);
     }

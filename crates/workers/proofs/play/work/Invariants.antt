@@ -1,4 +1,4 @@
-use Rattle.std.proofs.Common.{◌+◌, ◌≤◌, ℕ, List, length}
+use Rattle.std.proofs.Common.{◌≡◌, ◌+◌, ◌≤◌, ℕ, List, length}
 use Rattle.superstep_machine.specs.Run.{State}
 use Rattle.worker_messages.specs.Equipped.{left}
 use Rattle.histories.specs.Shares.{Share}
@@ -10,6 +10,7 @@ use Rattle.workers.proofs.play.work.Given as goal
 abbrev pub invariant-exchanges : goal.invariant-exchanges
 invariant-exchanges g l = record {
   owner : SameOwner l.fn.seat l.seat;
+  reserve : l.worker.reserve ≡ l.fn.worker.reserve;
   few : length l.seat.sent + left l.code l.bound l.worker.local ≤ left l.code l.bound l.fn.worker.local;
   worked : (states : ℕ → State) (told : ℕ → List Share) →
       IsBetween l.code (g.M.AddressMap.shape l.map) l.bound states told l.fn.seat.worker l.fn.worker →

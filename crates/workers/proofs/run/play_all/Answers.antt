@@ -2,10 +2,11 @@ use Rattle.std.proofs.Common.{length, map, sym, ap, ◌∙◌, subst, arith}
 use Rattle.std.specs.Prelude.{List}
 use Rattle.turnstile.specs.Seats.{RowState, AreSeatsOf}
 use Rattle.bsp_machine.specs.declared.counted.CountedWorker.{CountedWorker}
+use Rattle.bsp_machine.specs.Reserves.{HaveReserve}
 use Rattle.workers.specs.Gathered.{HaveEnded}
 use Rattle.workers.specs.Tasks.{TaskState, HasPlayed}
 use Rattle.workers.specs.Crews.{Pairwise}
-use Rattle.workers.proofs.RunLemmas.{all_ready, many_tasks, many_played, seats_back, all_ended, seats_unused}
+use Rattle.workers.proofs.RunLemmas.{all_ready, many_tasks, many_played, seats_back, all_ended, same_reserve, seats_unused}
 use Rattle.workers.proofs.run.play_all.Goals as goal
 
 pub tasks_of-tasks-requires-clause-ready : goal.tasks_of-tasks-requires-clause-ready
@@ -54,6 +55,14 @@ returns-in-Ok-clause-ended g c input fresh =
     subst (λ (z : List RowState × List CountedWorker). HaveEnded c.args.code.now (shape c.args.map.now) c.args.bound input z.0 z.1)
     (λ i. (sym c.unzipped-back.ensures.seats i, sym c.unzipped-back.ensures.workers i))
     (all_ended shape (record { turnstile = c.args.turnstile.now; code = c.args.code.now; map = c.args.map.now; bound = c.args.bound }) c.args.seats.items c.args.workers.items c.requires.begin c.in-Ok.played.items done input fresh)
+
+pub returns-in-Ok-clause-reserve : goal.returns-in-Ok-clause-reserve
+returns-in-Ok-clause-reserve g c reserve have =
+    let shape = g.M.AddressMap.shape in
+    let done = subst (λ (ts : List (TaskState g.row.M.Denot)). Pairwise (λ x y. HasPlayed shape x y.0 y.1) ts c.in-Ok.played.items)
+    c.tasks_of-tasks.ensures c.in-Ok.ensures.done in
+    subst (HaveReserve reserve) (sym c.unzipped-back.ensures.workers)
+    (same_reserve shape (record { turnstile = c.args.turnstile.now; code = c.args.code.now; map = c.args.map.now; bound = c.args.bound }) c.args.seats.items c.args.workers.items c.requires.begin c.in-Ok.played.items done reserve have)
 
 pub unused-requires : goal.unused-requires
 unused-requires g c =

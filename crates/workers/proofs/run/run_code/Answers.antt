@@ -1,16 +1,43 @@
-use Rattle.std.proofs.Common.{◌≡◌, Ok, Err, Option, Some, sym, ap, ◌∙◌, subst, arith, Vec, Global}
-use Rattle.std.specs.Prelude.{slice_get, IfOk, IfSome, Result, List, ℤ}
+use Rattle.std.proofs.Common.{◌≡◌, ℕ, Ok, Err, Option, Some, None, inr, refl, sym, ap, ◌∙◌, subst, arith, Vec, Global}
+use Rattle.std.specs.Prelude.{slice_get, IfOk, IfErr, IfSome, Result, List, ℤ}
+use Rattle.address_map.specs.Lawful.{Shape}
+use Rattle.superstep_code.specs.Code.{SuperstepCode}
+use Rattle.worker_messages.specs.declared.refusal.RunRefusal.{RunRefusal}
+use Rattle.worker_messages.specs.Opened.{IsAccepted, IsRefusal}
 use Rattle.worker_messages.specs.Equipped.{most_words}
 use Rattle.bsp_machine.specs.declared.counted.CountedWorker.{CountedWorker}
+use Rattle.bsp_machine.specs.declared.reserve.Reserve.{Reserve}
+use Rattle.bsp_machine.specs.Reserves.{HaveReserve, refusal_for}
 use Rattle.bsp_machine.specs.Opening.{AreFresh}
 use Rattle.bsp_machine.proofs.ListLemmas.{get_there}
 use Rattle.workers.specs.Gathered.{HaveEnded}
+use Rattle.workers.specs.Past.{ComesPast, IsRefusalWith, StaysWithin}
 use Rattle.workers.proofs.RunLemmas.{few_words}
 use Rattle.workers.proofs.run.run_code.Goals as goal
 
 if_ok : {A E : Type 0} (P Q : A → Type 0) → ((a : A) → P a → Q a) → (r : Result A E) → IfOk r P → IfOk r Q
 if_ok P Q f (Ok a) h = f a h
 if_ok P Q f (Err e) h = h
+
+if_err : {A E : Type 0} (P Q : E → Type 0) → ((e : E) → P e → Q e) → (r : Result A E) → IfErr r P → IfErr r Q
+if_err P Q f (Ok a) h = h
+if_err P Q f (Err e) h = f e h
+
+-- workers that have stopped were refused memory, or came past the reserve that they have
+refused_with : {A : Type 0} (code : SuperstepCode) (m : Shape) (workers : ℕ) (input : List ℤ) (bound : ℕ) (reserve : Option Reserve)
+    (r : Result A RunRefusal) → IsAccepted code m workers input → IfErr r (λ refusal. refusal ≡ refusal_for reserve) →
+    ((given : Reserve) → reserve ≡ Some given → IfErr r (λ refusal. ComesPast code m bound input given)) →
+    IfErr r (IsRefusalWith code m workers input bound reserve)
+refused_with code m workers input bound reserve (Ok a) accepted is past = tt
+refused_with code m workers input bound None (Err e) accepted is past = subst (IsRefusal code m workers input) (sym is) accepted
+refused_with code m workers input bound (Some given) (Err e) accepted is past = inr (is, accepted, past given refl)
+
+within_with : {A E : Type 0} (code : SuperstepCode) (m : Shape) (input : List ℤ) (bound : ℕ) (reserve : Option Reserve) (r : Result A E) →
+    ((given : Reserve) → reserve ≡ Some given → IfOk r (λ found. ¬ (ComesPast code m bound input given))) →
+    IfOk r (λ found. StaysWithin code m bound input reserve)
+within_with code m input bound reserve (Err e) within = tt
+within_with code m input bound None (Ok a) within = tt
+within_with code m input bound (Some given) (Ok a) within = within given refl
 
 pub new-requires-2-clause-room : goal.new-requires-2-clause-room
 new-requires-2-clause-room g c =
@@ -88,3 +115,34 @@ returns-in-Some-clause-counts g c =
     HaveEnded c.args.code.now (g.M.AddressMap.shape c.args.map.now) c.args.bound input c.play_all-seats.result.0.items ended.items))
     c.in-Some.is c.play_all-seats.ensures.ended c.args.input.now c.in_ok-opened.ensures.opened)) c.gather.result
     c.gather.ensures.counts
+
+-- ---- the reserve
+
+pub returns-in-Some-clause-refused : goal.returns-in-Some-clause-refused
+returns-in-Some-clause-refused g c =
+    let code = c.args.code.now in
+    let m = g.M.AddressMap.shape c.args.map.now in
+    let opened = c.in_ok-opened.opened.items in
+    let ended = subst (λ (o : Option (Vec CountedWorker Global)). IfSome o (λ ended. (input : List ℤ) → AreFresh code m input opened →
+    HaveEnded code m c.args.bound input c.play_all-seats.result.0.items ended.items))
+    c.in-Some.is c.play_all-seats.ensures.ended c.args.input.now c.in_ok-opened.ensures.opened in
+    let have = subst (λ (o : Option (Vec CountedWorker Global)). IfSome o (λ ended. (reserve : Option Reserve) → HaveReserve reserve opened →
+    HaveReserve reserve ended.items)) c.in-Some.is c.play_all-seats.ensures.reserve c.args.reserve c.in_ok-opened.ensures.given in
+    refused_with code m c.args.workers c.args.input.now c.args.bound c.args.reserve c.gather.result c.in_ok-opened.ensures.accepted
+    (c.gather.ensures.given c.args.reserve have)
+    (λ reserve is. if_err _ _ (λ refusal h. h c.args.bound c.args.input.now reserve ended
+    (subst (λ o. HaveReserve o c.in-Some.ended.items) is have)) c.gather.result c.gather.ensures.past)
+
+pub returns-in-Some-clause-within : goal.returns-in-Some-clause-within
+returns-in-Some-clause-within g c =
+    let code = c.args.code.now in
+    let m = g.M.AddressMap.shape c.args.map.now in
+    let opened = c.in_ok-opened.opened.items in
+    let ended = subst (λ (o : Option (Vec CountedWorker Global)). IfSome o (λ ended. (input : List ℤ) → AreFresh code m input opened →
+    HaveEnded code m c.args.bound input c.play_all-seats.result.0.items ended.items))
+    c.in-Some.is c.play_all-seats.ensures.ended c.args.input.now c.in_ok-opened.ensures.opened in
+    let have = subst (λ (o : Option (Vec CountedWorker Global)). IfSome o (λ ended. (reserve : Option Reserve) → HaveReserve reserve opened →
+    HaveReserve reserve ended.items)) c.in-Some.is c.play_all-seats.ensures.reserve c.args.reserve c.in_ok-opened.ensures.given in
+    within_with code m c.args.input.now c.args.bound c.args.reserve c.gather.result
+    (λ reserve is. if_ok _ _ (λ found h. h c.args.bound c.args.input.now reserve ended
+    (subst (λ o. HaveReserve o c.in-Some.ended.items) is have)) c.gather.result c.gather.ensures.within)

@@ -1,14 +1,16 @@
-use Rattle.std.proofs.Common.{sym, subst, ◌∙◌, arith}
+use Rattle.std.proofs.Common.{sym, ap, subst, ◌∙◌, arith}
+use Rattle.superstep_machine.specs.declared.mark.HeaderMark.TheVariants.{OutOfMemory}
 use Rattle.superstep_machine.specs.Run.{setting, message_of}
 use Rattle.message_rows.specs.Rows.{IsRow, written, message_at}
 use Rattle.worker_messages.specs.Shown.{purpose_is, marked, IsShown, IsAtExchange}
 use Rattle.worker_messages.specs.Told.{IsWrittenFor}
 use Rattle.bsp_machine.proofs.MarkLemmas.{going_on}
-use Rattle.bsp_machine.proofs.CountedLemmas.{standing_refused}
+use Rattle.bsp_machine.specs.Reserves.{own_mark}
+use Rattle.bsp_machine.proofs.CountedLemmas.{standing_refused, no_reserve}
 use Rattle.bsp_machine.proofs.counted.CountedWorker.go_on.Goals as goal
 
-pub refuse-requires : goal.refuse-requires
-refuse-requires g c =
+pub refuse-requires-clause-workers : goal.refuse-requires-clause-workers
+refuse-requires-clause-workers g c =
     let r = c.requires.going in
     (c.until_exchange-step.ensures.row r.enough r.state r.is_enough r.shown).long
 
@@ -38,7 +40,8 @@ returns-in-Ok-clause-at g c = λ states told w b.
           let s = states n in
           subst (λ v. IsWrittenFor code.rule m j (purpose_is new.step) (message_of t v (marked new.way s) j) (message_at row j)) same
           (e.read n s j low within (subst (λ v. IsShown t v old s) (sym same) (b.shown alive n low)));
-      refused = e.refused;
+      refused = λ mark h. e.refused mark h ∙ sym (ap own_mark c.requires.reserve);
+      past = λ r n some low. no_reserve c.args.self.now.reserve r c.requires.reserve some;
       sent = λ h. e.sent;
       counted = λ h n low. b.counted alive n low;
       items = λ h. record {
@@ -49,10 +52,12 @@ returns-in-Ok-clause-at g c = λ states told w b.
             let room = c.in-Ok.ensures.room in
             omega (arith, most, long, room));
       };
+      reserved = λ h r some. no_reserve c.args.self.now.reserve r c.requires.reserve some;
     }
 
 pub returns-in-Err-clause-at : goal.returns-in-Err-clause-at
 returns-in-Err-clause-at g c = λ states told w b.
     let e = c.refuse.ensures in
     standing_refused c.args.code.now (g.M.AddressMap.shape c.args.map.now) c.args.bound states told w _ (g.W.Row.filled c.refuse.new.row)
-    e.way e.row e.read
+    OutOfMemory e.way (sym (ap own_mark c.requires.reserve)) (λ r n some low. no_reserve c.args.self.now.reserve r c.requires.reserve some)
+    e.row e.read

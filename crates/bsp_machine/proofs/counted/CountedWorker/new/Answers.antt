@@ -12,4 +12,5 @@ returns-clause-fresh g c =
       going = e.going;
       none = c.new-counts.ensures.items;
       items = record { none = c.new-items.ensures.items; room = omega (arith, none) };
+      reserved = λ r some. cc;
     }

@@ -37,7 +37,7 @@ returns-clause-behind g c = λ states told w row at.
           (subst (λ v. IsAtExchange t v old (states n)) (sym (at.worker (alive on))) (at.shown (alive on) n low));
       counted = λ h n low.
           let count = count_of old (words_in came) in
-          ap (map share_told) (c.count.ensures (c.requires.ready.step (alive h)).going)
+          ap (map share_told) (c.count.ensures.counted (c.requires.ready.step (alive h)).going)
           ∙ map_joined share_told x.counts.items (count ∷ [])
           ∙ (λ i. at.counted (alive h) n low i ++ record (share_at x row came) { sent = at.sent (alive h) i } ∷ []);
       items = λ h.
@@ -46,4 +46,9 @@ returns-clause-behind g c = λ states told w row at.
             none = had.none;
             room = (let room = had.room in let same = ap (λ (v : _). length v.items) e.output in omega (arith, room, same));
           };
+      reserved = λ h r some. (let had = at.reserved (alive h) r some in let room = had.2 in let same = c.count.ensures.room in (
+        e.reserve r.items had.0,
+        had.1,
+        omega (arith, room, same),
+      ));
     }

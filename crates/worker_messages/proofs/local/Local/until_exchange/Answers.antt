@@ -1,6 +1,7 @@
 use Rattle.std.proofs.Common.{◌≡◌, ◌<◌, sym, subst, ap, ◌∙◌, arith}
 use Rattle.message_rows.specs.Rows.{IsRow, written, message_at}
 use Rattle.superstep_machine.specs.Run.{setting, message_of}
+use Rattle.superstep_steps.specs.Views.{KeepsReserve}
 use Rattle.worker_messages.specs.declared.local.Local.{Local}
 use Rattle.worker_messages.specs.Shown.{purpose_is, marked, IsAtExchange}
 use Rattle.worker_messages.specs.Equipped.{IsAtStep}
@@ -14,7 +15,7 @@ tell-requires-clause-can g c =
     let m = g.M.AddressMap.shape c.args.map.now in
     subst (λ r. CanTell r m (g.W.Row.room c.args.row.now) c.arrive.new.self) (sym c.requires.rule)
     (can_tell c.args.code.now m c.args.bound c.args.self.now c.arrive.new.self (g.W.Row.room c.args.row.now)
-    c.instructions-instructions.ensures.stands c.requires.going c.in-Ok.ensures c.requires.room)
+    c.instructions-instructions.ensures.stands c.requires.going c.in-Ok.ensures.arrived c.requires.room)
 
 pub returns-in-Ok-clause-shown : goal.returns-in-Ok-clause-shown
 returns-in-Ok-clause-shown g c = λ going n s enough shown.
@@ -22,13 +23,13 @@ returns-in-Ok-clause-shown g c = λ going n s enough shown.
     let w = c.args.self.now.steps.bank.worker in
     let b = c.arrive.new.self in
     subst (λ (x : Local). IsAtExchange t w x s) (sym c.tell.ensures.same)
-    (still_at b c.tell.new.self.buffers t w s (c.in-Ok.ensures.shown n s enough shown))
+    (still_at b c.tell.new.self.buffers t w s (c.in-Ok.ensures.arrived.shown n s enough shown))
 
 pub returns-in-Ok-clause-at : goal.returns-in-Ok-clause-at
 returns-in-Ok-clause-at g c = λ going.
     let code = c.args.code.now in
     let m = g.M.AddressMap.shape c.args.map.now in
-    let at = c.in-Ok.ensures.at in
+    let at = c.in-Ok.ensures.arrived.at in
     subst (λ (x : Local). IsAtStep code m c.args.bound x) (sym c.tell.ensures.same)
     (still_stands c.arrive.new.self c.tell.new.self.buffers code m c.args.bound at
     (c.tell.ensures.buffers _ at.equipped.buffers))
@@ -41,17 +42,17 @@ returns-in-Ok-clause-row g c = λ n s enough shown.
     let w = c.args.self.now.steps.bank.worker in
     let b = c.arrive.new.self in
     let run = c.requires.going.runnable in
-    let at = c.in-Ok.ensures.at in
+    let at = c.in-Ok.ensures.arrived.at in
     let below = at.equipped.fitted.worker in
     let many = at.equipped.workers in
-    let same = c.in-Ok.ensures.worker in
+    let same = c.in-Ok.ensures.arrived.worker in
     let row = g.W.Row.filled c.tell.new.row in
     let clear : marked c.tell.new.self.way s ≡ s =
     ap (λ (x : Local). marked x.way s) c.tell.ensures.same ∙ unmarked b.way s at.going in
     subst (λ q. IsRow m.parts (λ j. written code.rule (message_of t w q j)) row) (sym clear)
     (same_row m.parts (told code.rule m b) (λ j. written code.rule (message_of t w s j)) row
     (told_is t c.instructions-instructions.ensures.stands run.map run.formed w (omega (arith, below, many, same)) b s
-    (c.in-Ok.ensures.shown n s enough shown) same)
+    (c.in-Ok.ensures.arrived.shown n s enough shown) same)
     (subst (λ r. IsRow m.parts (told r m b) row) c.requires.rule c.tell.ensures.filled))
 
 pub returns-in-Ok-clause-read : goal.returns-in-Ok-clause-read
@@ -62,14 +63,14 @@ returns-in-Ok-clause-read g c = λ n s j enough low shown.
     let w = c.args.self.now.steps.bank.worker in
     let b = c.arrive.new.self in
     let run = c.requires.going.runnable in
-    let at = c.in-Ok.ensures.at in
+    let at = c.in-Ok.ensures.arrived.at in
     let below = at.equipped.fitted.worker in
     let many = at.equipped.workers in
-    let same = c.in-Ok.ensures.worker in
+    let same = c.in-Ok.ensures.arrived.worker in
     let stands = c.instructions-instructions.ensures.stands in
     let row = g.W.Row.filled c.tell.new.row in
     let lt : w < m.parts = omega (arith, below, many, same) in
-    let shows = c.in-Ok.ensures.shown n s enough shown in
+    let shows = c.in-Ok.ensures.arrived.shown n s enough shown in
     let clear : marked c.tell.new.self.way s ≡ s =
     ap (λ (x : Local). marked x.way s) c.tell.ensures.same ∙ unmarked b.way s at.going in
     let is : message_at row j ≡ written code.rule (message_of t w s j) =
@@ -80,3 +81,7 @@ returns-in-Ok-clause-read g c = λ n s j enough low shown.
     (subst (λ q. IsWrittenFor code.rule m j (purpose_is b.step) (message_of t w q j) (message_at row j)) (sym clear)
     (subst (λ x. IsWrittenFor code.rule m j (purpose_is b.step) (message_of t w s j) x) (sym is)
     (told_back t stands run.map run.formed w lt b s shows same c.tell.ensures.keys j)))
+
+pub returns-in-Ok-clause-reserve : goal.returns-in-Ok-clause-reserve
+returns-in-Ok-clause-reserve g c = λ going.
+    subst (λ (x : Local). KeepsReserve c.args.self.now.steps.uniform x.steps.uniform) (sym c.tell.ensures.same) c.in-Ok.ensures.reserve

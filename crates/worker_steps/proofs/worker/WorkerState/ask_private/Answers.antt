@@ -42,8 +42,8 @@ own_key-noted-requires-clause-there c = λ j kind e.
     let l : j < a.bank.masks.many = first.0 in
     subst (λ m. j < m.many) (sym c.ask-fault.ensures.masks) l
 
-pub returns : goal.returns
-returns c =
+pub returns-clause-done : goal.returns-clause-done
+returns-clause-done c =
     let a = c.args.self.now in
     let code = c.args.code.now in
     let i = Ask Private c.args.destination c.args.entry c.args.subscript c.args.position in
@@ -68,7 +68,7 @@ returns c =
       key = c.least-key.result;
     })) (sym e)
     (done_ask_private code a c.step_uniform.new.u c.ask-fault.new.self v c.hold_asks.new.asks c.least-key.result c.ask-fault.result
-    c.args.destination c.args.entry c.args.subscript c.args.position c.requires.fitted c.in_ok-step_uniform.ensures c.requires.met
+    c.args.destination c.args.entry c.args.subscript c.args.position c.requires.fitted c.in_ok-step_uniform.ensures.after c.requires.met
     (λ xs ys j l. subst (λ (zs : List (Option ℕ)). part_at c.ask-fault.new.self (xs ++ cell_in zs j ∷ []) ys j
     ≡ on_own code i (uniform_of a.uniform) (number_of a.bank j) (part_at a.bank xs ys j)) (sym is)
     (c.ask-fault.ensures.after code (uniform_of a.uniform) c.args.position xs ys j (sym c.layout-layout.ensures.value) l))
@@ -77,4 +77,4 @@ returns c =
     (c.least-key.ensures ∙ ap (least a.key) k)
     (c.hold_asks.ensures.held ∙ ap (λ n. asked_after (by_read n (cells_of c.as_slice.result.now c.ask-fault.new.self.masks.many)) a.asks.held) e
     ∙ ap (λ xs. asked_after (by_read (length a.uniform.asks.items) (cells_of xs c.ask-fault.new.self.masks.many)) a.asks.held) column)
-    c.hold_asks.ensures.few c.hold_asks.ensures.room)
+    c.hold_asks.ensures.few c.hold_asks.ensures.room c.in_ok-step_uniform.ensures.reserve)

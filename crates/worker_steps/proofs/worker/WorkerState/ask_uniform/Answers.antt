@@ -24,8 +24,8 @@ hold_ask-requires-clause-room c =
     f.held f.asks (omega arith) in
     omega (arith, l)
 
-pub returns : goal.returns
-returns c =
+pub returns-clause-done : goal.returns-clause-done
+returns-clause-done c =
     let a = c.args.self.now in
     let e = c.len-ordinal.ensures ∙ a.uniform.asks.ok.0 in
     let fits : FitsSigned w64 c.register.result = search rules in
@@ -34,8 +34,8 @@ returns c =
     ∙ (λ i. cell_of (c.layout-layout.ensures.value i) c.args.entry (c.register.ensures i))
     ∙ ap (λ xs. cell_of c.args.code.now.layout c.args.entry (registers_of xs c.args.subscript)) c.deref.ensures.value in
     done_ask_uniform c.args.code.now a c.step_uniform.new.u c.hold_ask.new.asks c.least-key.result c.args.destination c.args.entry
-    c.args.subscript c.args.position c.requires.fitted c.in_ok-step_uniform.ensures c.requires.met
+    c.args.subscript c.args.position c.requires.fitted c.in_ok-step_uniform.ensures.after c.requires.met
     (c.least-key.ensures ∙ ap (least a.key) c.uniform_key-noted.ensures)
     (c.hold_ask.ensures.held ∙ ap (λ n. asked_after (by_read n (c.cell-cell.result ∷ [])) a.asks.held) e
     ∙ ap (λ x. asked_after (by_read (length a.uniform.asks.items) (x ∷ [])) a.asks.held) cell)
-    c.hold_ask.ensures.few c.hold_ask.ensures.room
+    c.hold_ask.ensures.few c.hold_ask.ensures.room c.in_ok-step_uniform.ensures.reserve

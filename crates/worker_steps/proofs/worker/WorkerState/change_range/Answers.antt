@@ -45,6 +45,7 @@ done c key noted =
       depth = c.enter.ensures.depth;
       none = held.0;
       silent = held.1;
+      reserve = c.change_range-wrong.ensures.reserve;
     })
 
 pub returns-in-Some : goal.returns-in-Some

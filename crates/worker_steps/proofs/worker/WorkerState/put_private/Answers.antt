@@ -24,8 +24,8 @@ own_key-noted-requires-clause-there g c = λ j kind e.
     let l : j < a.bank.masks.many = first.0 in
     subst (λ m. j < m.many) (sym c.put-fault.ensures.masks) l
 
-pub returns : goal.returns
-returns g c =
+pub returns-clause-done : goal.returns-clause-done
+returns-clause-done g c =
     let a = c.args.self.now in
     let code = c.args.code.now in
     let entry = c.args.entry in
@@ -48,7 +48,7 @@ returns g c =
     done_put code a c.step_uniform.new.u c.freshen.new.self (with_items a.written c.put-fault.new.cells) c.hold_writes.new.puts
     c.least-key.result c.put-fault.result Private entry s v q
     (writes_of u c.freshen.new.self c.put-fault.new.cells c.values_of.result.now c.freshen.new.self.masks.many)
-    c.requires.fitted c.in_ok-step_uniform.ensures
+    c.requires.fitted c.in_ok-step_uniform.ensures.after c.in_ok-step_uniform.ensures.reserve
     (after_freshen code (Put Private entry s v q) u a.bank c.put-fault.new.self c.freshen.new.self (put.after code u v q) many
     c.freshen.ensures.registers c.freshen.ensures.masks)
     (put.fault code v q layout) c.freshen.ensures.bank masks same (ap length is ∙ put.room ∙ ap length c.as_mut_slice.ensures.value)

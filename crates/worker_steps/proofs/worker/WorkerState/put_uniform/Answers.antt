@@ -13,8 +13,8 @@ use Rattle.worker_steps.proofs.DoneLemmas.{least_none, same_bank}
 use Rattle.worker_steps.proofs.PutDone.{put_keeps, uniform_made, done_put}
 use Rattle.worker_steps.proofs.worker.WorkerState.put_uniform.Goals as goal
 
-pub returns : goal.returns
-returns g c =
+pub returns-clause-done : goal.returns-clause-done
+returns-clause-done g c =
     let a = c.args.self.now in
     let code = c.args.code.now in
     let entry = c.args.entry in
@@ -24,7 +24,7 @@ returns g c =
     let u = uniform_of a.uniform in
     done_put code a c.step_uniform.new.u a.bank a.written c.hold_write.new.puts c.least-key.result None Uniform entry s v q
     (made (by_processor (pos 0) (cond (eqb a.bank.worker 0) (uniform_write code (Put Uniform entry s v q) u) None) ∷ []))
-    c.requires.fitted c.in_ok-step_uniform.ensures
+    c.requires.fitted c.in_ok-step_uniform.ensures.after c.in_ok-step_uniform.ensures.reserve
     (λ xs ys j l. sym (put_keeps code Uniform entry s v q u (number_of a.bank j) (part_at a.bank xs ys j)))
     (λ xs ys j l. none_either (is_active (part_at a.bank xs ys j))) c.requires.fitted.bank refl (same_bank a.bank) refl
     (c.least-key.ensures ∙ ap (least a.key) (c.uniform_key-noted.ensures

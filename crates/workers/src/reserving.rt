@@ -1,0 +1,66 @@
+//! The reserve of all workers of a run.
+
+ghost use Rattle.std.specs.Prelude.{◌≡◌, List, ℤ, length, Some, None, IfOk, IfErr, OnOk};
+ghost use Rattle.address_map.specs.Lawful.{Shape};
+ghost use Rattle.superstep_code.specs.Code.{SuperstepCode};
+ghost use Rattle.bsp_verify.specs.WellFormed.{IsWellFormed};
+ghost use Rattle.worker_messages.specs.Opened.{IsAccepted, IsRefusal};
+ghost use Rattle.bsp_machine.specs.Reserves.{HaveReserve};
+ghost use Rattle.bsp_machine.specs.Opening.{AreFresh};
+
+use address_map::AddressMap;
+use bsp_machine::{CountedWorker, Reserve, open_all};
+use std::alloc::{AllocError, Global};
+use superstep_code::Code;
+use worker_messages::RunRefusal;
+
+// Each worker takes all the memory of its run.
+fn reserve_each(workers: &mut Vec<CountedWorker>, reserve: Reserve) -> Result<(), AllocError>
+    ensures count { length workers.new.items ≡ length workers.old.items }
+    ensures given { OnOk result (HaveReserve (Some reserve) workers.new.items) }
+    ensures fresh { OnOk result ((code : SuperstepCode) (m : Shape) (input : List ℤ) → AreFresh code m input workers.old.items →
+        AreFresh code m input workers.new.items) }
+{
+    'workers: for w in 0..workers.len() {
+        workers[w].reserve(reserve)?;
+    }
+    Ok(())
+}
+
+// Each worker takes its reserve, if there is one.
+fn reserve_all(workers: &mut Vec<CountedWorker>, reserve: Option<Reserve>) -> Result<(), AllocError>
+    requires unreserved { HaveReserve None workers.old.items }
+    ensures count { length workers.new.items ≡ length workers.old.items }
+    ensures given { OnOk result (HaveReserve reserve workers.new.items) }
+    ensures fresh { OnOk result ((code : SuperstepCode) (m : Shape) (input : List ℤ) → AreFresh code m input workers.old.items →
+        AreFresh code m input workers.new.items) }
+{
+    match reserve {
+        None => Ok(()),
+        Some(reserve) => reserve_each(workers, reserve),
+    }
+}
+
+/// All workers of a run before the first instruction, each with the reserve, if there is one: it has taken all the memory of its run then.
+/// Refused as the run is.
+pub(crate) fn open_reserved<M: AddressMap>(
+    alloc: Global,
+    code: &Code,
+    map: &M,
+    workers: u32,
+    input: &[i64],
+    reserve: Option<Reserve>,
+) -> Result<Vec<CountedWorker>, RunRefusal>
+    requires formed { IsWellFormed code.now }
+    ensures refused { IfErr result (IsRefusal code.now (M.shape map.now) workers input.now) }
+    ensures accepted { IfOk result (λ all. IsAccepted code.now (M.shape map.now) workers input.now) }
+    ensures count { IfOk result (λ all. length all.items ≡ workers) }
+    ensures opened { IfOk result (λ all. AreFresh code.now (M.shape map.now) input.now all.items) }
+    ensures given { IfOk result (λ all. HaveReserve reserve all.items) }
+{
+    let mut opened = open_all(alloc, code, map, workers, input)?;
+    match reserve_all(&mut opened, reserve) {
+        Ok(()) => Ok(opened),
+        Err(_) => Err(RunRefusal::OutOfMemory),
+    }
+}
