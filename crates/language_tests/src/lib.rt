@@ -26,10 +26,14 @@ mod rows_order;
 #[cfg(test)]
 mod rows_parallel;
 #[cfg(test)]
+mod rows_reserve;
+#[cfg(test)]
 mod rows_stop;
 #[cfg(test)]
 mod rows_uniform;
 #[cfg(test)]
 mod rows_workers;
+#[cfg(test)]
+mod rules;
 #[cfg(test)]
 mod syntax;

@@ -109,12 +109,13 @@ fn the_program_is_judged_before_the_input(rt: HostRuntime) -> Result<(), Fail> {
 // The words of the command line's parser are not fixed, but that they are there is.
 #[test]
 fn a_wrong_command_line_is_explained(rt: HostRuntime) -> Result<(), Fail> {
-    let rows: [&[&str]; 7] = [
+    let rows: [&[&str]; 8] = [
         &[],
         &["run"],
         &["walk", "program"],
         &["check", "program", "--bound", "3"],
         &["plan", "program", "--bound", "3"],
+        &["rules", "program", "--workers", "2"],
         &["run", "program", "more"],
         &["--help"],
     ];
@@ -123,6 +124,45 @@ fn a_wrong_command_line_is_explained(rt: HostRuntime) -> Result<(), Fail> {
         assert!(&rt; said.status == Status::Refused);
         assert!(&rt; said.out.bytes().is_empty());
         assert!(&rt; !said.err.bytes().is_empty());
+    }
+    Ok(())
+}
+
+// The help of each command ends with a call of it.
+#[test]
+fn help_shows_an_example(rt: HostRuntime) -> Result<(), Fail> {
+    let rows: [(&[&str], &[u8]); 7] = [
+        (&["--help"], b"Example: pramc run examples/sum.pram\n"),
+        (
+            &["check", "--help"],
+            b"Example: pramc check examples/sum.pram\n",
+        ),
+        (
+            &["plan", "--help"],
+            b"Example: pramc plan examples/sum.pram > sum.bsp\n",
+        ),
+        (
+            &["meaning", "--help"],
+            b"Example: pramc meaning examples/tree_sum.pram --input examples/tree_sum.in\n",
+        ),
+        (
+            &["run", "--help"],
+            b"Example: pramc run examples/tree_sum.pram --input examples/tree_sum.in --workers 2\n",
+        ),
+        (
+            &["trace", "--help"],
+            b"Example: pramc trace examples/tree_sum.pram --input examples/tree_sum.in --workers 2\n",
+        ),
+        (
+            &["exec", "--help"],
+            b"Example: pramc exec sum.bsp --workers 2 --map affine:5,3\n",
+        ),
+    ];
+    for (words, example) in rows {
+        let said = call(&rt, rt.alloc(), words, SUM, b"")?;
+        assert!(&rt; said.status == Status::Refused);
+        assert!(&rt; said.out.bytes().is_empty());
+        assert!(&rt; said.err.bytes().ends_with(example));
     }
     Ok(())
 }
@@ -178,30 +218,32 @@ fn a_full_output_is_told(rt: HostRuntime) -> Result<(), Fail> {
     Ok(())
 }
 
-// The listing of a plan is written whole, or the failure is told.
+// The listing of a plan, and the lines of all rules, are written whole, or the failure is told.
 #[test]
-fn a_plan_that_is_cut_off_is_told(rt: HostRuntime) -> Result<(), Fail> {
-    let plan = call(&rt, rt.alloc(), &["plan", "program"], SUM, b"")?;
-    let size = plan.out.bytes().len();
-    let words = [
-        String::from_str(rt.alloc(), "plan")?,
-        String::from_str(rt.alloc(), "program")?,
-    ];
-    for room in 0..size + 1 {
-        let mut shelf = Shelf {
-            program: SUM,
-            input: b"",
-        };
-        let mut out = Full { room, failures: 0 };
-        let mut err = Buffer::new(rt.alloc());
-        let status = command(&rt, rt.alloc(), &words, &mut shelf, &mut out, &mut err);
-        let line: &[u8] = if room == size {
-            b""
-        } else {
-            b"refused E17 WriteFailed\n"
-        };
-        assert!(&rt; (status == Status::Done) == (room == size));
-        assert!(&rt; err.bytes() == line);
+fn a_plan_and_rules_that_are_cut_off_are_told(rt: HostRuntime) -> Result<(), Fail> {
+    for verb in ["plan", "rules"] {
+        let whole = call(&rt, rt.alloc(), &[verb, "program"], SUM, b"")?;
+        let size = whole.out.bytes().len();
+        let words = [
+            String::from_str(rt.alloc(), verb)?,
+            String::from_str(rt.alloc(), "program")?,
+        ];
+        for room in 0..size + 1 {
+            let mut shelf = Shelf {
+                program: SUM,
+                input: b"",
+            };
+            let mut out = Full { room, failures: 0 };
+            let mut err = Buffer::new(rt.alloc());
+            let status = command(&rt, rt.alloc(), &words, &mut shelf, &mut out, &mut err);
+            let line: &[u8] = if room == size {
+                b""
+            } else {
+                b"refused E17 WriteFailed\n"
+            };
+            assert!(&rt; (status == Status::Done) == (room == size));
+            assert!(&rt; err.bytes() == line);
+        }
     }
     Ok(())
 }

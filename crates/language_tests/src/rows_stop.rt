@@ -88,6 +88,10 @@ fn any_other_stop_is_written_by_its_text(rt: HostRuntime) -> Result<(), Fail> {
             Stop::Refused(Refusal::OutOfMemory),
             "refused E16 OutOfMemory\n",
         ),
+        (
+            Stop::Refused(Refusal::OutOfReserve),
+            "refused E18 OutOfReserve\n",
+        ),
         (Stop::Number("1x"), "refused P1 1x\n"),
         (Stop::Unreadable("nowhere"), "refused P2 nowhere\n"),
         (Stop::WriteFailed, "refused E17 WriteFailed\n"),

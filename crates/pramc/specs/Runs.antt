@@ -93,3 +93,4 @@ IsRunRefused text input options (Err refusal.BadMap) = IsAcceptedText text × Is
 IsRunRefused text input options (Err refusal.InputTooLong) =
     IsWorkers options.workers × IsChoice options.map × HasTooFewCells text input
 IsRunRefused text input options (Err refusal.OutOfMemory) = IsPlain text
+IsRunRefused text input options (Err refusal.OutOfReserve) = ⊥

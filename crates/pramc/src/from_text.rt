@@ -1,13 +1,15 @@
 //! From a text to the outcome of its program, by workers.
 
-ghost use Rattle.std.specs.Prelude.{◌≡◌, ℕ, List, IfOk};
+ghost use Rattle.std.specs.Prelude.{◌≡◌, ℕ, List, Some, IfOk};
 ghost use Rattle.write_rules.specs.Verdict.{verdict_of};
 ghost use Rattle.pram_meaning.specs.Values.{AreValues};
 ghost use Rattle.program_texts.specs.Report.{IsProgramOf, IsRunOf};
 ghost use Rattle.pramc.specs.Runs.{IsRunByWorkers, IsRunRefused};
+ghost use Rattle.pramc.specs.Reserved.{IsRunByWorkersWith, IsRunRefusedWith};
 
 use crate::on_map::run_code;
 use crate::options::Options;
+use bsp_machine::Reserve;
 use compiling::compile_program;
 use exchange_counts::Counts;
 use pram_check::Program;
@@ -38,25 +40,58 @@ fn have_64_bits(input: &[i64])
 
 /// Compiles a program and runs its code on an input, by the workers and the map of the options, each in a thread of its own that passes
 /// the gate before its exchanges: its outcome, which is the program's by its meaning, and the exchanges of the workers. It is refused
-/// for the first of E13, E12 and E11 that holds, and for E16 where memory or a thread was refused.
+/// for the first of E13, E12 and E11 that holds; for E16 where memory or a thread was refused; and with a reserve for E18, exactly where
+/// the run comes past that.
 pub fn run_program<R: Threads + Wait + Sync, G: Gate + Sync>(
     rt: &R,
     alloc: Global,
     program: &Program,
     input: &[i64],
     options: Options,
+    reserve: Option<Reserve>,
     gate: &G,
 ) -> Result<(Outcome, Counts), Refusal>
     ensures outcome { IfOk result (λ found. (text : List ℕ) → IsProgramOf text program.now →
         IsRunOf text input.now options.bound program.now.layout (verdict_of found.0)) }
     ensures exchanges { IfOk result (λ found. (text : List ℕ) → IsProgramOf text program.now →
-        IsRunByWorkers text input.now options (verdict_of found.0) found.1) }
-    ensures refused { (text : List ℕ) → IsProgramOf text program.now → IsRunRefused text input.now options result }
+        IsRunByWorkersWith text input.now options reserve (verdict_of found.0) found.1) }
+    ensures refused { (text : List ℕ) → IsProgramOf text program.now → IsRunRefusedWith text input.now options reserve result }
 {
     have_64_bits(input);
     match compile_program(alloc, program) {
-        Ok(code) => run_code(rt, alloc, &code, input, options, gate),
+        Ok(code) => run_code(rt, alloc, &code, input, options, reserve, gate),
         Err(AllocError) => Err(Refusal::OutOfMemory),
+    }
+}
+
+// The same from a text, with a reserve or without.
+fn run_text_with<R: Threads + Wait + Sync, G: Gate + Sync>(
+    rt: &R,
+    alloc: Global,
+    text: &[u8],
+    input: &[i64],
+    options: Options,
+    reserve: Option<Reserve>,
+    gate: &G,
+) -> Result<Report, Refusal>
+    ensures outcome { IfOk result (λ r. IsRunOf text.now input.now options.bound r.layout (verdict_of r.outcome)) }
+    ensures exchanges { IfOk result (λ r. IsRunByWorkersWith text.now input.now options reserve (verdict_of r.outcome) r.counts) }
+    ensures refused { IsRunRefusedWith text.now input.now options reserve result }
+{
+    let program = match read_program(alloc, text) {
+        Ok(program) => program,
+        Err(refusal) => return Err(refusal),
+    };
+    match run_program(rt, alloc, &program, input, options, reserve, gate) {
+        Ok((outcome, counts)) => {
+            let layout = program.into_layout();
+            Ok(Report {
+                layout,
+                outcome,
+                counts,
+            })
+        }
+        Err(refusal) => Err(refusal),
     }
 }
 
@@ -83,19 +118,26 @@ pub fn run_text<R: Threads + Wait + Sync, G: Gate + Sync>(
     ensures exchanges { IfOk result (λ r. IsRunByWorkers text.now input.now options (verdict_of r.outcome) r.counts) }
     ensures refused { IsRunRefused text.now input.now options result }
 {
-    let program = match read_program(alloc, text) {
-        Ok(program) => program,
-        Err(refusal) => return Err(refusal),
-    };
-    match run_program(rt, alloc, &program, input, options, gate) {
-        Ok((outcome, counts)) => {
-            let layout = program.into_layout();
-            Ok(Report {
-                layout,
-                outcome,
-                counts,
-            })
-        }
-        Err(refusal) => Err(refusal),
-    }
+    run_text_with(rt, alloc, text, input, options, None, gate)
+}
+
+/// The same by workers that take all their memory before the first exchange, for so many items of output and so many exchanges. It is
+/// refused besides for E18, where nothing else speaks against it and the program's code on these workers prints more items than that, those that
+/// a fault drops counted, or has more exchanges: exactly then. E16 comes before the first exchange or not at all.
+pub fn run_text_reserved<R: Threads + Wait + Sync, G: Gate + Sync>(
+    rt: &R,
+    alloc: Global,
+    text: &[u8],
+    input: &[i64],
+    options: Options,
+    reserve: Reserve,
+    gate: &G,
+) -> Result<Report, Refusal>
+    ensures outcome { IfOk result (λ r. IsRunOf text.now input.now options.bound r.layout (verdict_of r.outcome)) }
+    // The exchanges are those of the program's code, which doesn't come past the reserve.
+    ensures exchanges { IfOk result (λ r. IsRunByWorkersWith text.now input.now options (Some reserve) (verdict_of r.outcome) r.counts) }
+    ensures refused { IsRunRefusedWith text.now input.now options (Some reserve) result }
+{
+    let reserve = Some(reserve);
+    run_text_with(rt, alloc, text, input, options, reserve, gate)
 }

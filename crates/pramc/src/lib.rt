@@ -6,6 +6,6 @@ pub mod law;
 mod on_map;
 mod options;
 
-pub use from_text::{Report, run_program, run_text};
+pub use from_text::{Report, run_program, run_text, run_text_reserved};
 pub use on_map::run_code;
 pub use options::Options;

@@ -1,11 +1,13 @@
 -- What is refused is refused for a true reason.
-use Rattle.std.proofs.Common.{ℕ, List, ℤ, Err, inl, inr}
+use Rattle.std.proofs.Common.{◌≡◌, ℕ, List, ℤ, Result, Err, Option, None, Some, inl, inr, ⊎_elim, subst, sym}
 use Rattle.superstep_code.specs.Code.{SuperstepCode}
 use Rattle.program_texts.specs.Report.{IsRefusedRightly}
 use Rattle.program_texts.specs.declared.from_text.Refusal.{Refusal}
 use Rattle.program_texts.specs.declared.from_text.Refusal.TheVariants as refusal
 use Rattle.pramc.specs.declared.options.Options.{Options}
+use Rattle.bsp_machine.specs.declared.reserve.Reserve.{Reserve}
 use Rattle.pramc.specs.Runs.{IsCodeRefused, IsRunRefused}
+use Rattle.pramc.specs.Reserved.{IsCodeRefusedWith, IsRunRefusedWith}
 use Rattle.pramc_command.specs.Answered.{IsAListing, IsTrueOf}
 
 -- by the definition
@@ -17,6 +19,7 @@ no_meaning_is_true X text input refusal.InputTooLong h = inl (text, input, h)
 no_meaning_is_true X text input refusal.BadMap h = absurd h
 no_meaning_is_true X text input refusal.BadWorkers h = absurd h
 no_meaning_is_true X text input refusal.OutOfMemory h = tt
+no_meaning_is_true X text input refusal.OutOfReserve h = absurd h
 
 -- by workers
 pub no_run_is_true : (X : Type 0) (text : List ℕ) (input : List ℤ) (options : Options) (r : Refusal) →
@@ -27,6 +30,18 @@ no_run_is_true X text input options refusal.InputTooLong h = inl (text, input, h
 no_run_is_true X text input options refusal.BadMap h = (options.map, h.2)
 no_run_is_true X text input options refusal.BadWorkers h = (options.workers, h.1)
 no_run_is_true X text input options refusal.OutOfMemory h = tt
+no_run_is_true X text input options refusal.OutOfReserve h = absurd h
+
+-- by workers with a reserve, or without
+pub no_reserved_run_is_true : (X : Type 0) (text : List ℕ) (input : List ℤ) (options : Options) (reserve : Option Reserve) (r : Refusal) →
+    IsRunRefusedWith {X = X} text input options reserve (Err r) → IsTrueOf r
+no_reserved_run_is_true X text input options None r h = no_run_is_true X text input options r h
+no_reserved_run_is_true X text input options (Some reserve) r h = ⊎_elim
+    (λ (a : IsRunRefused {X = X} text input options (Err r)). no_run_is_true X text input options r a)
+    (λ (b : _). subst IsTrueOf (sym (same_reason X r b.0)) (inl (text, input, options, reserve, b.1))) h
+  where
+    same_reason : (X : Type 0) (r : Refusal) → ◌≡◌ {A = Result X Refusal} (Err r) (Err refusal.OutOfReserve) → r ≡ refusal.OutOfReserve
+    same_reason X r e = cc
 
 -- of a listing
 pub no_code_run_is_true : (code : SuperstepCode) (input : List ℤ) (options : Options) (r : Refusal) → IsAListing code →
@@ -37,3 +52,11 @@ no_code_run_is_true code input options refusal.InputTooLong is h = inr (code, in
 no_code_run_is_true code input options refusal.BadMap is h = (options.map, h.1)
 no_code_run_is_true code input options refusal.BadWorkers is h = (options.workers, h)
 no_code_run_is_true code input options refusal.OutOfMemory is h = tt
+no_code_run_is_true code input options refusal.OutOfReserve is h = absurd h
+
+pub no_reserved_code_run_is_true : (code : SuperstepCode) (input : List ℤ) (options : Options) (reserve : Option Reserve) (r : Refusal) →
+    IsAListing code → IsCodeRefusedWith code input options reserve r → IsTrueOf r
+no_reserved_code_run_is_true code input options None r is h = no_code_run_is_true code input options r is h
+no_reserved_code_run_is_true code input options (Some reserve) r is h = ⊎_elim
+    (λ (a : IsCodeRefused code input options r). no_code_run_is_true code input options r is a)
+    (λ (b : _). subst IsTrueOf (sym b.0) (inr (code, input, options, reserve, is, b.1))) h

@@ -1,5 +1,5 @@
 -- What a call of the program leaves on its streams.
-use Rattle.std.specs.Prelude.{◌≡◌, ◌⊎◌, ◌<◌, ℕ, ℤ, List, length, ◌++◌, Result, Ok, Err, codes, decimal}
+use Rattle.std.specs.Prelude.{◌≡◌, ◌⊎◌, ◌<◌, ◌≤◌, ℕ, ℤ, List, length, ◌++◌, Result, Ok, Err, codes, decimal}
 use Rattle.pram_model.specs.Layout.{SharedEntry, total_size}
 use Rattle.text_out.specs.Out.{OutState, StopsIn, with_bytes}
 use Rattle.pram_model.specs.Rules.{rule_word}
@@ -21,15 +21,20 @@ use Rattle.program_texts.specs.Report.{HasBreach, HasTooFewCells, IsInputRefusal
 use Rattle.program_texts.specs.Shown.{line, shown}
 use Rattle.program_texts.specs.Status.{status_of}
 use Rattle.program_texts.specs.StoppedFields.{stop_text}
+use Rattle.rule_comparison.specs.Compared.{IsComparison}
+use Rattle.rule_comparison.specs.ComparisonText.{comparison_text}
+use Rattle.rule_comparison.specs.declared.comparison.Comparison.{Comparison}
 use Rattle.program_texts.specs.declared.from_text.Refusal.{Refusal}
 use Rattle.program_texts.specs.declared.from_text.Refusal.TheVariants as refusal
 use Rattle.program_texts.specs.declared.status.Status.{Status}
 use Rattle.program_texts.specs.declared.status.Status.TheVariants.{Done, Refused}
 use Rattle.program_texts.specs.declared.stop.Stop.{Stop}
 use Rattle.program_texts.specs.declared.stop.Stop.TheVariants as stop
+use Rattle.bsp_machine.specs.declared.reserve.Reserve.{Reserve}
 use Rattle.run_options.specs.declared.map_choice.MapChoice.{MapChoice}
 use Rattle.pramc.specs.declared.options.Options.{Options}
 use Rattle.pramc.specs.Runs.{IsChoice, IsCodeRun, IsRunByWorkers}
+use Rattle.pramc.specs.Reserved.{IsCodePast, IsTextPast}
 
 -- `accepted cells 16 procs 8 rule erew`
 abbrev pub accepted_line : Checked → List ℕ
@@ -51,6 +56,16 @@ IsPlanned code = (text : List ℕ) × IsCompiledFrom text code
 abbrev pub HasOutcome : List SharedEntry → Outcome → Type 0
 HasOutcome layout outcome = (text : List ℕ) × (input : List ℤ) × (n : ℕ) × IsRunOf text input n layout (verdict_of outcome)
 
+-- what is found of some text's program under all rules, on some input that fits it, within some bound
+pub record IsCompared (c : Comparison) : Type 0 where
+  pub program : Checked
+  pub input : List ℤ
+  pub bound : ℕ
+  pub is_program : IsAProgram program
+  pub declared : c.layout ≡ program.layout
+  pub fits : length input ≤ total_size c.layout
+  pub compared : IsComparison program input bound c
+
 -- the exchanges of such a run by workers
 abbrev pub HasTrace : Outcome → List Exchange → Type 0
 HasTrace outcome exchanges =
@@ -65,13 +80,14 @@ abbrev pub HasRun : SuperstepCode → Outcome → Type 0
 HasRun code outcome =
     (input : List ℤ) × (options : Options) × (exchanges : List Exchange) × IsCodeRun code input options (verdict_of outcome) exchanges
 
--- The texts that go with an exit status: of a text's program that it is accepted, the listing of its code, how it comes out, or the
--- exchanges of its run; of a listing how its code comes out.
+-- The texts that go with an exit status: of a text's program that it is accepted, the listing of its code, how it comes out, by its own
+-- rule or by all, or the exchanges of its run; of a listing how its code comes out.
 pub data Tells : Status → List ℕ → Type 0 where
   Accepted : (program : Checked) → IsAProgram program → Tells Done (accepted_line program)
   Planned : (code : SuperstepCode) → IsPlanned code → Tells Done (spelling code)
   Ran : (layout : List SharedEntry) (outcome : Outcome) → HasOutcome layout outcome
       → Tells (status_of outcome) (shown layout (verdict_of outcome))
+  Compared : (c : Comparison) → IsCompared c → Tells Done (comparison_text c)
   Traced : (outcome : Outcome) (exchanges : List Exchange) → HasTrace outcome exchanges → Tells (status_of outcome) (trace_text exchanges)
   Executed : (code : SuperstepCode) (outcome : Outcome) → IsAListing code → HasRun code outcome
       → Tells (status_of outcome) (shown code.layout (verdict_of outcome))
@@ -89,6 +105,15 @@ pub record IsCutOff (old new : OutState) : Type 0 where
   pub tells : Tells status text
   pub stops : StopsIn old new text
 
+-- a run of some text's program, or of some listing, comes past some reserve
+abbrev pub IsSomeTextPast : Type 0
+IsSomeTextPast = (text : List ℕ) × (input : List ℤ) × (options : Options) × (reserve : Reserve) × IsTextPast text input options reserve
+
+abbrev pub IsSomeListingPast : Type 0
+IsSomeListingPast =
+    (code : SuperstepCode) × (input : List ℤ) × (options : Options) × (reserve : Reserve) × IsAListing code
+    × IsCodePast code input options reserve
+
 -- A refusal is true: there is a text, an input, code, a number of workers or a map which has what it tells. Of want of memory nothing is
 -- said.
 abbrev pub IsTrueOf : Refusal → Type 0
@@ -100,6 +125,7 @@ IsTrueOf refusal.InputTooLong =
 IsTrueOf refusal.BadMap = (map : MapChoice) × ¬ (IsChoice map)
 IsTrueOf refusal.BadWorkers = (workers : ℕ) × ¬ (IsWorkers workers)
 IsTrueOf refusal.OutOfMemory = Unit {0}
+IsTrueOf refusal.OutOfReserve = IsSomeTextPast ⊎ IsSomeListingPast
 
 -- the word for what is wrong with an instruction
 abbrev pub reason_word : Reason → List ℕ

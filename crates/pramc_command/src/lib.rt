@@ -2,6 +2,7 @@
 #![tactic(auto)]
 
 mod commands;
+mod grammar;
 mod loading;
 mod request;
 mod running;

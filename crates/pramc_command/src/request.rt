@@ -3,22 +3,14 @@
 ghost use Rattle.std.specs.Prelude.{IfErr};
 ghost use Rattle.pramc_command.specs.Answered.{IsTrueStop};
 
+use crate::grammar::{BOUND, FILE, INPUT, MAP, RESERVE, WORKERS, grammar};
+use bsp_machine::Reserve;
+use clap::ArgMatches;
 use clap::error::ErrorKind;
-use clap::{Arg, ArgMatches, Command};
 use pramc::Options;
 use program_texts::{Refusal, Stop};
-use run_options::{MapChoice, read_map, read_number};
-use std::alloc::{AllocError, Global};
-
-const FILE: &str = "FILE";
-
-const BOUND: &str = "bound";
-
-const INPUT: &str = "input";
-
-const WORKERS: &str = "workers";
-
-const MAP: &str = "map";
+use run_options::{MapChoice, read_map, read_number, read_pair};
+use std::alloc::Global;
 
 /// What is done with the program of a file.
 #[derive(Clone, Copy, Debug, Drop, PartialEq, Eq)]
@@ -29,6 +21,8 @@ pub(crate) enum Verb {
     Plan,
     /// It is run by its definition.
     Meaning,
+    /// It is run by its definition under each of the rules.
+    Rules,
     /// It is run by workers.
     Run,
     /// The exchanges of that run are shown.
@@ -41,6 +35,8 @@ pub(crate) struct RunWords<'a> {
     /// The name of the file with the input's values. Without one there are none.
     pub(crate) input: Option<&'a str>,
     pub(crate) options: Options,
+    /// For how much workers take all their memory before the first exchange. Without one they take it on the way.
+    pub(crate) reserve: Option<Reserve>,
 }
 
 /// One call of the program.
@@ -57,101 +53,6 @@ pub(crate) enum Request<'a> {
         file: &'a str,
         words: RunWords<'a>,
     },
-}
-
-// A subcommand over a file.
-fn over_file<'a>(
-    alloc: Global,
-    name: &'a str,
-    about: &'a str,
-    of: &'a str,
-) -> Result<Command<'a>, AllocError> {
-    let file = Arg::new(alloc, FILE).required(true).help(of);
-    Command::new(alloc, name).about(about).arg(file)
-}
-
-const PROGRAM: &str = "The text of a PRAM program";
-
-const LISTING: &str = "A listing of superstep code";
-
-// A subcommand that runs what is in a file.
-fn over_run<'a>(
-    alloc: Global,
-    name: &'a str,
-    about: &'a str,
-    of: &'a str,
-) -> Result<Command<'a>, AllocError> {
-    let bound = Arg::new(alloc, BOUND)
-        .long(BOUND)
-        .value_name("N")
-        .default_value("1000000")
-        .help("The most statements that are run");
-    let input = Arg::new(alloc, INPUT)
-        .long(INPUT)
-        .value_name("FILE")
-        .help("A file with the values of the first cells");
-    over_file(alloc, name, about, of)?.arg(bound)?.arg(input)
-}
-
-// A subcommand that runs it by workers.
-fn over_workers<'a>(
-    alloc: Global,
-    name: &'a str,
-    about: &'a str,
-    of: &'a str,
-) -> Result<Command<'a>, AllocError> {
-    let workers = Arg::new(alloc, WORKERS)
-        .long(WORKERS)
-        .value_name("P")
-        .default_value("4")
-        .help("The number of workers, 1 to 32");
-    let map = Arg::new(alloc, MAP)
-        .long(MAP)
-        .value_name("MAP")
-        .default_value("identity")
-        .help("Where cells lie: identity, or affine:A,B with A odd");
-    over_run(alloc, name, about, of)?.arg(workers)?.arg(map)
-}
-
-fn grammar<'a>(alloc: Global) -> Result<Command<'a>, AllocError> {
-    let check = over_file(
-        alloc,
-        "check",
-        "Says whether the program is accepted",
-        PROGRAM,
-    )?;
-    let plan = over_file(
-        alloc,
-        "plan",
-        "Writes the superstep code of the program",
-        PROGRAM,
-    )?;
-    let meaning = over_run(
-        alloc,
-        "meaning",
-        "Runs the program by its definition",
-        PROGRAM,
-    )?;
-    let run = over_workers(alloc, "run", "Compiles the program and runs it", PROGRAM)?;
-    let trace = over_workers(
-        alloc,
-        "trace",
-        "Writes the exchanges of the same run",
-        PROGRAM,
-    )?;
-    let exec = over_workers(alloc, "exec", "Runs a listing", LISTING)?;
-    Command::new(alloc, "pramc")
-        .about("Runs programs of a parallel random access machine")
-        .no_binary_name(true)
-        .subcommand_required(true)
-        .disable_version_flag(true)
-        .bin_name("pramc")?
-        .subcommand(check)?
-        .subcommand(plan)?
-        .subcommand(meaning)?
-        .subcommand(run)?
-        .subcommand(trace)?
-        .subcommand(exec)
 }
 
 // The number of an option, and 0 where the command has no such option.
@@ -180,12 +81,26 @@ fn map_of<'a>(words: &ArgMatches<'a>) -> Result<MapChoice, Stop<'a>>
     }
 }
 
+// The reserve, if the command line has one.
+fn reserve_of<'a>(words: &ArgMatches<'a>) -> Result<Option<Reserve>, Stop<'a>>
+    ensures { IfErr result IsTrueStop }
+{
+    match words.get_str(RESERVE) {
+        None => Ok(None),
+        Some(word) => match read_pair(word) {
+            Some((items, exchanges)) => Ok(Some(Reserve { items, exchanges })),
+            None => Err(Stop::Number(word)),
+        },
+    }
+}
+
 fn run_words<'a>(words: &ArgMatches<'a>) -> Result<RunWords<'a>, Stop<'a>>
     ensures { IfErr result IsTrueStop }
 {
     let bound = number_of(words, BOUND)?;
     let workers = number_of(words, WORKERS)?;
     let map = map_of(words)?;
+    let reserve = reserve_of(words)?;
     Ok(RunWords {
         input: words.get_str(INPUT),
         options: Options {
@@ -193,6 +108,7 @@ fn run_words<'a>(words: &ArgMatches<'a>) -> Result<RunWords<'a>, Stop<'a>>
             map,
             bound,
         },
+        reserve,
     })
 }
 
@@ -237,6 +153,7 @@ pub(crate) fn read_words<'a>(alloc: Global, words: &'a [String]) -> Result<Reque
         Some(("check", inner)) => asked(Verb::Check, inner),
         Some(("plan", inner)) => asked(Verb::Plan, inner),
         Some(("meaning", inner)) => asked(Verb::Meaning, inner),
+        Some(("rules", inner)) => asked(Verb::Rules, inner),
         Some(("run", inner)) => asked(Verb::Run, inner),
         Some(("trace", inner)) => asked(Verb::Trace, inner),
         Some((_, inner)) => asked_listing(inner),

@@ -1,14 +1,17 @@
 //! What programs and listings come to.
 
 ghost use Rattle.std.specs.Prelude.{IfOk, IfErr};
-ghost use Rattle.pramc_command.specs.Answered.{HasOutcome, HasRun, HasTrace, IsAListing, IsAProgram, IsPlanned, IsTrueStop};
+ghost use Rattle.pramc_command.specs.Answered.{HasOutcome, HasRun, HasTrace, IsAListing, IsAProgram, IsCompared, IsPlanned, IsTrueStop};
 
+use bsp_machine::Reserve;
 use bsp_verify::Verified;
 use compiling::compile_program;
 use exchange_counts::Counts;
 use pram_check::Program;
+use pram_meaning::RunRefusal;
 use pramc::{Options, run_code, run_program};
-use program_texts::{Stop, mean_program};
+use program_texts::{Refusal, Stop, mean_program};
+use rule_comparison::{Comparison, compare_rules};
 use std::alloc::Global;
 use std::sync::Wait;
 use std::thread::Threads;
@@ -41,6 +44,24 @@ pub(crate) fn mean<'a>(
     }
 }
 
+/// How the program comes out under each rule.
+pub(crate) fn compare<'a>(
+    alloc: Global,
+    program: Program,
+    input: &[i64],
+    bound: u32,
+) -> Result<Comparison, Stop<'a>>
+    requires program { IsAProgram program }
+    ensures compared { IfOk result IsCompared }
+    ensures refused { IfErr result IsTrueStop }
+{
+    match compare_rules(alloc, program, input, bound) {
+        Ok(comparison) => Ok(comparison),
+        Err(RunRefusal::InputTooLong) => Err(Stop::Refused(Refusal::InputTooLong)),
+        Err(RunRefusal::OutOfMemory) => Err(Stop::Refused(Refusal::OutOfMemory)),
+    }
+}
+
 /// The outcome by workers, and the exchanges.
 pub(crate) fn run<'a, R: Threads + Wait + Sync>(
     rt: &R,
@@ -48,13 +69,14 @@ pub(crate) fn run<'a, R: Threads + Wait + Sync>(
     program: &Program,
     input: &[i64],
     options: Options,
+    reserve: Option<Reserve>,
 ) -> Result<(Outcome, Counts), Stop<'a>>
     requires program { IsAProgram program.now }
     ensures outcome { IfOk result (λ found. HasOutcome program.now.layout found.0) }
     ensures trace { IfOk result (λ found. HasTrace found.0 found.1) }
     ensures refused { IfErr result IsTrueStop }
 {
-    match run_program(rt, alloc, program, input, options, &OpenGate) {
+    match run_program(rt, alloc, program, input, options, reserve, &OpenGate) {
         Ok(found) => Ok(found),
         Err(refusal) => Err(Stop::Refused(refusal)),
     }
@@ -67,12 +89,13 @@ pub(crate) fn execute<'a, R: Threads + Wait + Sync>(
     code: &Verified,
     input: &[i64],
     options: Options,
+    reserve: Option<Reserve>,
 ) -> Result<(Outcome, Counts), Stop<'a>>
     requires listing { IsAListing code.now }
     ensures run { IfOk result (λ found. HasRun code.now found.0) }
     ensures refused { IfErr result IsTrueStop }
 {
-    match run_code(rt, alloc, code, input, options, &OpenGate) {
+    match run_code(rt, alloc, code, input, options, reserve, &OpenGate) {
         Ok(found) => Ok(found),
         Err(refusal) => Err(Stop::Refused(refusal)),
     }

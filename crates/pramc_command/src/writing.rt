@@ -1,18 +1,18 @@
 //! What a call writes to standard output.
 
-ghost use Rattle.std.specs.Prelude.{◌≡◌, ◌<◌, ◌^◌};
+ghost use Rattle.std.specs.Prelude.{◌<◌, ◌^◌};
 ghost use Rattle.text_out.specs.Out.{Writes};
-ghost use Rattle.pram_model.specs.Rules.{rule_word as spec_rule_word};
 ghost use Rattle.write_rules.specs.Verdict.{verdict_of};
 ghost use Rattle.program_texts.specs.Shown.{shown};
 ghost use Rattle.program_texts.specs.Status.{status_of};
-ghost use Rattle.pramc_command.specs.Answered.{Answers, HasTrace, IsAProgram, IsPlanned, Tells, accepted_line};
+ghost use Rattle.pramc_command.specs.Answered.{Answers, HasTrace, IsAProgram, IsCompared, IsPlanned, Tells, accepted_line};
 
 use exchange_counts::Counts;
 use itoa::Buffer;
 use pram_check::Program;
-use pram_syntax::{Layout, Out, Rule, WriteFault};
-use program_texts::{Status, Stop, finish, show};
+use pram_syntax::{Layout, Out, WriteFault};
+use program_texts::{Status, Stop, finish, rule_word, show};
+use rule_comparison::{Comparison, show_comparison};
 use superstep_code::Code;
 use superstep_listing::write_listing;
 use tracer::write_trace;
@@ -33,6 +33,21 @@ pub(crate) fn write_outcome<'a, O: Out>(
             let status = Status::of(outcome);
             finish(out, status)
         }
+        Err(WriteFault) => Err(Stop::WriteFailed),
+    }
+}
+
+/// Writes how a program comes out under each rule.
+pub(crate) fn write_rules<'a, O: Out>(
+    out: &mut O,
+    comparison: &Comparison,
+) -> Result<Status, Stop<'a>>
+    requires out { (O.Out.state out.old).failures < 2 ^ 62 }
+    requires compared { IsCompared comparison.now }
+    ensures answers { Answers (O.Out.state out.old) (O.Out.state out.new) result }
+{
+    match show_comparison(comparison, out) {
+        Ok(()) => finish(out, Status::Done),
         Err(WriteFault) => Err(Stop::WriteFailed),
     }
 }
@@ -95,16 +110,4 @@ fn write_accepted_line<O: Out>(out: &mut O, program: &Program) -> Result<(), Wri
         rule_word(program.rule()),
         b"\n",
     ])
-}
-
-fn rule_word(rule: Rule) -> &'static [u8]
-    ensures { result.now ≡ spec_rule_word rule }
-{
-    match rule {
-        Rule::Erew => b"erew",
-        Rule::Crew => b"crew",
-        Rule::Common => b"common",
-        Rule::Priority => b"priority",
-        Rule::Sum => b"sum",
-    }
 }

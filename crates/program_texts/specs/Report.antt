@@ -74,8 +74,10 @@ IsNoProgram text (Err refusal.InputTooLong) = ⊥
 IsNoProgram text (Err refusal.BadMap) = ⊥
 IsNoProgram text (Err refusal.BadWorkers) = ⊥
 IsNoProgram text (Err refusal.OutOfMemory) = IsPlain text
+IsNoProgram text (Err refusal.OutOfReserve) = ⊥
 
--- Each refusal of a run says what is wrong with the text or with the input. A run by the definition has no workers and no map.
+-- Each refusal of a run says what is wrong with the text or with the input. A run by the definition has no workers, no map
+-- and no reserve.
 abbrev pub IsRefusedRightly : {X : Type 0} → List ℕ → List ℤ → Result X Refusal → Type 0
 IsRefusedRightly text input (Err refusal.InputTooLong) = HasTooFewCells text input
 IsRefusedRightly text input (Ok x) = Unit {0}
@@ -84,3 +86,4 @@ IsRefusedRightly text input (Err refusal.BadWorkers) = ⊥
 IsRefusedRightly text input (Err (refusal.Text fault)) = IsTextRefusal text fault
 IsRefusedRightly text input (Err (refusal.Program breach)) = HasBreach text breach
 IsRefusedRightly text input (Err refusal.OutOfMemory) = IsPlain text
+IsRefusedRightly text input (Err refusal.OutOfReserve) = ⊥

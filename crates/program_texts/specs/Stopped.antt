@@ -62,6 +62,7 @@ refusal_words refusal.InputTooLong = codes "E11 InputTooLong"
 refusal_words refusal.BadMap = codes "E12 BadMap"
 refusal_words refusal.BadWorkers = codes "E13 BadWorkers"
 refusal_words refusal.OutOfMemory = codes "E16 OutOfMemory"
+refusal_words refusal.OutOfReserve = codes "E18 OutOfReserve"
 
 -- its place
 abbrev pub refusal_place : Refusal → Option ℕ
@@ -71,6 +72,7 @@ refusal_place refusal.InputTooLong = None
 refusal_place refusal.BadMap = None
 refusal_place refusal.BadWorkers = None
 refusal_place refusal.OutOfMemory = None
+refusal_place refusal.OutOfReserve = None
 
 -- `refused E6 UnknownName at 57`, or `refused E2 TextTooLong`
 abbrev pub refused_line : List ℕ → Option ℕ → List ℕ

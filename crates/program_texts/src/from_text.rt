@@ -26,6 +26,8 @@ pub enum Refusal {
     BadWorkers,
     /// E16: memory was refused.
     OutOfMemory,
+    /// E18: the run comes past the reserve of output items and exchanges that it was given.
+    OutOfReserve,
 }
 
 impl Refusal {

@@ -62,7 +62,9 @@ fn show_front<W: Out>(output: &[i64], out: &mut W) -> Result<(), WriteFault>
     out.write_all(b"goes on\n")
 }
 
-fn write_fault<W: Out>(out: &mut W, layout: &Layout, fault: &Fault) -> Result<(), WriteFault>
+/// Writes the line of a fault, as `fault read-conflict a[1] line 4`. The error is that the writer
+/// failed (E17).
+pub fn write_fault<W: Out>(out: &mut W, layout: &Layout, fault: &Fault) -> Result<(), WriteFault>
     requires counted { (W.Out.state out.old).failures < 2 ^ 63 }
     ensures written { Writes (W.Out.state out.old) (W.Out.state out.new) (shown.line (shown.fault_text layout.now fault.now)) result }
 {

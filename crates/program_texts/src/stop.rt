@@ -143,6 +143,7 @@ fn words_of(refusal: Refusal) -> (&'static str, Option<u32>)
         Refusal::BadMap => ("E12 BadMap", None),
         Refusal::BadWorkers => ("E13 BadWorkers", None),
         Refusal::OutOfMemory => ("E16 OutOfMemory", None),
+        Refusal::OutOfReserve => ("E18 OutOfReserve", None),
     }
 }
 

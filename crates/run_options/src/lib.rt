@@ -4,8 +4,10 @@
 pub mod law;
 mod map_choice;
 mod number;
+mod pair;
 mod place_count;
 
 pub use map_choice::{MapChoice, read_map};
 pub use number::read_number;
+pub use pair::read_pair;
 pub use place_count::places;

@@ -1,10 +1,10 @@
 //! Which map of its cells a run has.
 
-ghost use Rattle.std.specs.Prelude.{◌≡◌, ℕ, Some, IfSome};
+ghost use Rattle.std.specs.Prelude.{◌≡◌, Some, IfSome};
 ghost use Rattle.run_options.specs.declared.map_choice.MapChoice.{MapChoice as Choice};
-ghost use Rattle.run_options.specs.Maps.{IsPair, Names};
+ghost use Rattle.run_options.specs.Maps.{Names};
 
-use crate::number::read_number;
+use crate::pair::read_pair;
 
 /// Which map of its cells a run has.
 #[derive(Clone, Copy, Debug, PartialEq, Eq)]
@@ -13,17 +13,6 @@ pub enum MapChoice {
     Identity,
     /// Cell c gets number (factor * c + shift) mod places.
     Affine { factor: u32, shift: u32 },
-}
-
-// Two numbers with a comma between them.
-fn read_pair(word: &str) -> Option<(u32, u32)>
-    ensures spelled { IfSome result (λ pair. IsPair word.now pair.0 pair.1) }
-    ensures found { (a b : ℕ) → IsPair word.now a b → result ≡ Some (a, b) }
-{
-    let (first, second) = word.split_once(',')?;
-    let a = read_number(first)?;
-    let b = read_number(second)?;
-    Some((a, b))
 }
 
 /// The map that a word names: `identity`, or `affine:A,B` with two numbers, the factor and the shift. `None`: it names none. Whether there

@@ -6,11 +6,11 @@ use Rattle.pramc.proofs.on_map.run_code.Goals as goal
 
 pub returns-in-Err-clause-refused : goal.returns-in-Err-clause-refused
 returns-in-Err-clause-refused g c =
-    c.refusal_of.ensures c.args.code.now c.args.input.now c.args.options
+    c.refusal_of.ensures c.args.code.now c.args.input.now c.args.options c.args.reserve
     (is_no_map (IsCells c.places-cells.result) c.args.options c.in-Err.fault c.in-Err.ensures.err (λ choice. c.places-cells.ensures.cells))
 
 pub returns-in-Err-new-clause-refused : goal.returns-in-Err-new-clause-refused
 returns-in-Err-new-clause-refused g c =
-    c.refusal_of-in-Err-new.ensures c.args.code.now c.args.input.now c.args.options
+    c.refusal_of-in-Err-new.ensures c.args.code.now c.args.input.now c.args.options c.args.reserve
     (is_no_map (IsCells c.places-cells.result × IsOdd c.in-Affine.factor) c.args.options c.in-Err-new.fault c.in-Err-new.ensures.err
     (λ choice. (c.places-cells.ensures.cells, subst IsChoice c.in-Affine.is choice)))

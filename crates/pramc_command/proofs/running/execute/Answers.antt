@@ -1,9 +1,9 @@
-use Rattle.pramc_command.proofs.Reasons.{no_code_run_is_true}
+use Rattle.pramc_command.proofs.Reasons.{no_reserved_code_run_is_true}
 use Rattle.pramc_command.proofs.running.execute.Goals as goal
 
 pub returns-in-Ok-clause-run : goal.returns-in-Ok-clause-run
-returns-in-Ok-clause-run g c = (c.args.input.now, c.args.options, c.in-Ok.found.1, c.in-Ok.ensures.run)
+returns-in-Ok-clause-run g c = (c.args.input.now, c.args.options, c.in-Ok.found.1, c.in-Ok.ensures.run.run)
 
 pub returns-in-Err-clause-refused : goal.returns-in-Err-clause-refused
 returns-in-Err-clause-refused g c =
-    no_code_run_is_true c.args.code.now c.args.input.now c.args.options c.in-Err.refusal c.requires.listing c.in-Err.ensures.refused
+    no_reserved_code_run_is_true c.args.code.now c.args.input.now c.args.options c.args.reserve c.in-Err.refusal c.requires.listing c.in-Err.ensures.refused

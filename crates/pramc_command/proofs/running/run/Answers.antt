@@ -1,6 +1,6 @@
 use Rattle.write_rules.specs.declared.outcome.Outcome.{Outcome}
 use Rattle.exchange_counts.specs.declared.counts.Counts.{Counts}
-use Rattle.pramc_command.proofs.Reasons.{no_run_is_true}
+use Rattle.pramc_command.proofs.Reasons.{no_reserved_run_is_true}
 use Rattle.pramc_command.proofs.running.run.Goals as goal
 
 pub returns-in-Ok-clause-outcome : goal.returns-in-Ok-clause-outcome
@@ -11,9 +11,9 @@ returns-in-Ok-clause-outcome g c =
 pub returns-in-Ok-clause-trace : goal.returns-in-Ok-clause-trace
 returns-in-Ok-clause-trace g c =
     let is = c.requires.program in
-    (is.0, c.args.input.now, c.args.options, c.in-Ok.ensures.exchanges is.0 is.1)
+    (is.0, c.args.input.now, c.args.options, (c.in-Ok.ensures.exchanges is.0 is.1).by_workers)
 
 pub returns-in-Err-clause-refused : goal.returns-in-Err-clause-refused
 returns-in-Err-clause-refused g c =
     let is = c.requires.program in
-    no_run_is_true (Outcome × Counts) is.0 c.args.input.now c.args.options c.in-Err.refusal (c.in-Err.ensures.refused is.0 is.1)
+    no_reserved_run_is_true (Outcome × Counts) is.0 c.args.input.now c.args.options c.args.reserve c.in-Err.refusal (c.in-Err.ensures.refused is.0 is.1)

@@ -1,7 +1,7 @@
 use Rattle.std.proofs.Common.{◌≡◌, Some, None, ap, ◌∙◌}
 use Rattle.run_options.specs.Numbers.{number_of}
 use Rattle.run_options.proofs.Digits.{split_of}
-use Rattle.run_options.proofs.map_choice.read_pair.Goals as goal
+use Rattle.run_options.proofs.pair.read_pair.Goals as goal
 
 pub returns-in_err-first-clause-found : goal.returns-in_err-first-clause-found
 returns-in_err-first-clause-found c = λ a b p. absurd (split_of c.args.word.now a b None c.in_err-first.ensures.cases p)

@@ -1,0 +1,138 @@
+//! The words that the program takes, and its help.
+
+use clap::{Arg, Command};
+use std::alloc::{AllocError, Global};
+
+pub(crate) const FILE: &str = "FILE";
+
+pub(crate) const BOUND: &str = "bound";
+
+pub(crate) const INPUT: &str = "input";
+
+pub(crate) const WORKERS: &str = "workers";
+
+pub(crate) const MAP: &str = "map";
+
+pub(crate) const RESERVE: &str = "reserve";
+
+// What the help of a subcommand says.
+struct Subcommand {
+    name: &'static str,
+    about: &'static str,
+    // what its file is
+    file: &'static str,
+    example: &'static str,
+}
+
+const PROGRAM: &str = "The text of a PRAM program";
+
+const LISTING: &str = "A listing of superstep code";
+
+const CHECK: Subcommand = Subcommand {
+    name: "check",
+    about: "Says whether the program is accepted",
+    file: PROGRAM,
+    example: "Example: pramc check examples/sum.pram",
+};
+
+const PLAN: Subcommand = Subcommand {
+    name: "plan",
+    about: "Writes the superstep code of the program",
+    file: PROGRAM,
+    example: "Example: pramc plan examples/sum.pram > sum.bsp",
+};
+
+const MEANING: Subcommand = Subcommand {
+    name: "meaning",
+    about: "Runs the program by its definition",
+    file: PROGRAM,
+    example: "Example: pramc meaning examples/tree_sum.pram --input examples/tree_sum.in",
+};
+
+const RULES: Subcommand = Subcommand {
+    name: "rules",
+    about: "Compares what the program comes to under each rule",
+    file: PROGRAM,
+    example: "Example: pramc rules examples/maximum.pram --input examples/maximum.in",
+};
+
+const RUN: Subcommand = Subcommand {
+    name: "run",
+    about: "Compiles the program and runs it",
+    file: PROGRAM,
+    example: "Example: pramc run examples/tree_sum.pram --input examples/tree_sum.in --workers 2",
+};
+
+const TRACE: Subcommand = Subcommand {
+    name: "trace",
+    about: "Writes the exchanges of the same run",
+    file: PROGRAM,
+    example: "Example: pramc trace examples/tree_sum.pram --input examples/tree_sum.in --workers 2",
+};
+
+const EXEC: Subcommand = Subcommand {
+    name: "exec",
+    about: "Runs a listing",
+    file: LISTING,
+    example: "Example: pramc exec sum.bsp --workers 2 --map affine:5,3",
+};
+
+// A subcommand over a file.
+fn over_file<'a>(alloc: Global, words: &Subcommand) -> Result<Command<'a>, AllocError> {
+    let file = Arg::new(alloc, FILE).required(true).help(words.file);
+    Command::new(alloc, words.name)
+        .about(words.about)
+        .after_help(words.example)
+        .arg(file)
+}
+
+// A subcommand that runs what is in a file.
+fn over_run<'a>(alloc: Global, words: &Subcommand) -> Result<Command<'a>, AllocError> {
+    let bound = Arg::new(alloc, BOUND)
+        .long(BOUND)
+        .value_name("N")
+        .default_value("1000000")
+        .help("The most statements that are run");
+    let input = Arg::new(alloc, INPUT)
+        .long(INPUT)
+        .value_name("FILE")
+        .help("A file with the values of the first cells");
+    over_file(alloc, words)?.arg(bound)?.arg(input)
+}
+
+// A subcommand that runs it by workers.
+fn over_workers<'a>(alloc: Global, words: &Subcommand) -> Result<Command<'a>, AllocError> {
+    let workers = Arg::new(alloc, WORKERS)
+        .long(WORKERS)
+        .value_name("P")
+        .default_value("4")
+        .help("The number of workers, 1 to 32");
+    let map = Arg::new(alloc, MAP)
+        .long(MAP)
+        .value_name("MAP")
+        .default_value("identity")
+        .help("Where cells lie: identity, or affine:A,B with A odd");
+    let reserve = Arg::new(alloc, RESERVE)
+        .long(RESERVE)
+        .value_name("ITEMS,EXCHANGES")
+        .help("Takes all memory first, for so many printed numbers and exchanges");
+    over_run(alloc, words)?.arg(workers)?.arg(map)?.arg(reserve)
+}
+
+/// The subcommands, their options and the help of each.
+pub(crate) fn grammar<'a>(alloc: Global) -> Result<Command<'a>, AllocError> {
+    Command::new(alloc, "pramc")
+        .about("Runs programs of a parallel random access machine")
+        .after_help("Example: pramc run examples/sum.pram")
+        .no_binary_name(true)
+        .subcommand_required(true)
+        .disable_version_flag(true)
+        .bin_name("pramc")?
+        .subcommand(over_file(alloc, &CHECK)?)?
+        .subcommand(over_file(alloc, &PLAN)?)?
+        .subcommand(over_run(alloc, &MEANING)?)?
+        .subcommand(over_run(alloc, &RULES)?)?
+        .subcommand(over_workers(alloc, &RUN)?)?
+        .subcommand(over_workers(alloc, &TRACE)?)?
+        .subcommand(over_workers(alloc, &EXEC)?)
+}

@@ -1,0 +1,4 @@
+pub mod FirstEnds
+pub mod Comparisons
+pub mod Lines
+pub mod OneComparison

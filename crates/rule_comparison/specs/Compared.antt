@@ -1,0 +1,35 @@
+-- One program under each of the five rules, beside the first under which it ends.
+use Rattle.std.specs.Prelude.{◌≡◌, ℕ, ℤ, List, [], ◌∷◌, map}
+use Rattle.pram_model.specs.declared.rule.Rule.{Rule}
+use Rattle.pram_model.specs.declared.rule.Rule.TheVariants.{Erew, Crew, Common, Priority, Sum}
+use Rattle.pram_check.specs.Checked.{Checked}
+use Rattle.pram_check.specs.OtherRule.{under}
+use Rattle.write_rules.specs.Verdict.{Verdict}
+use Rattle.pram_meaning.specs.Outcome.{IsOutcome}
+use Rattle.rule_comparison.specs.declared.comparison.Comparison.{Comparison}
+use Rattle.rule_comparison.specs.declared.finding.Finding.{Finding}
+use Rattle.rule_comparison.specs.Found.{IsFound, first_end}
+
+-- the rules, in the order in which the first end is sought
+abbrev pub rules : List Rule
+rules = Erew ∷ Crew ∷ Common ∷ Priority ∷ Sum ∷ []
+
+-- what is found under a rule
+abbrev pub finding_of : Comparison → Rule → Finding
+finding_of c Erew = c.erew
+finding_of c Crew = c.crew
+finding_of c Common = c.common
+finding_of c Priority = c.priority
+finding_of c Sum = c.sum
+
+-- The findings are those of the program's outcomes under the five rules, on the input within n statements.
+pub record IsComparison (p : Checked) (input : List ℤ) (n : ℕ) (c : Comparison) : Type 0 where
+  pub verdict : Rule → Verdict
+  pub outcome : (r : Rule) → IsOutcome (under r p) input n (verdict r)
+  pub found : (r : Rule) → IsFound (first_end (map verdict rules)) (verdict r) (finding_of c r)
+
+-- Two comparisons of one program on one input, within one bound, find the same under each rule.
+abbrev pub HasOneComparisonAtMost : Type 0
+HasOneComparisonAtMost =
+    (p : Checked) (input : List ℤ) (n : ℕ) (c d : Comparison) → IsComparison p input n c → IsComparison p input n d → (r : Rule) →
+    finding_of c r ≡ finding_of d r

@@ -1,0 +1,4 @@
+pub mod Found
+pub mod Compared
+pub mod FirstEnd
+pub mod ComparisonText

@@ -1,0 +1,14 @@
+//! One program under each of the five rules: how it comes out, and whether as under the first rule under which it ends.
+#![tactic(auto)]
+
+mod compare;
+mod comparison;
+mod finding;
+mod first_end;
+pub mod law;
+mod show;
+
+pub use compare::compare_rules;
+pub use comparison::Comparison;
+pub use finding::Finding;
+pub use show::show_comparison;

@@ -1,0 +1,52 @@
+//! The text of a comparison.
+
+ghost use Rattle.std.specs.Prelude.{◌≡◌, ◌++◌, ◌<◌, ◌^◌, codes};
+ghost use Rattle.text_out.specs.Out.{Writes};
+ghost use Rattle.program_texts.specs.Shown.{line};
+ghost use Rattle.rule_comparison.specs.ComparisonText.{comparison_text, finding_text, rule_line};
+
+use crate::comparison::Comparison;
+use crate::finding::Finding;
+use pram_syntax::{Layout, Out, Rule, WriteFault};
+use program_texts::{rule_word, write_fault};
+
+/// The rules, in the order in which they are compared.
+const RULES: [Rule; 5] = [
+    Rule::Erew,
+    Rule::Crew,
+    Rule::Common,
+    Rule::Priority,
+    Rule::Sum,
+];
+
+fn write_finding<W: Out>(out: &mut W, layout: &Layout, finding: Finding) -> Result<(), WriteFault>
+    requires counted { (W.Out.state out.old).failures < 2 ^ 63 }
+    ensures written { Writes (W.Out.state out.old) (W.Out.state out.new) (line (finding_text layout.now finding)) result }
+{
+    match finding {
+        Finding::Same => out.write_all(b"ended same\n"),
+        Finding::Other => out.write_all(b"ended other\n"),
+        Finding::Faulted(fault) => write_fault(out, layout, &fault),
+        Finding::GoesOn => out.write_all(b"goes on\n"),
+    }
+}
+
+fn write_line<W: Out>(out: &mut W, comparison: &Comparison, rule: Rule) -> Result<(), WriteFault>
+    requires counted { (W.Out.state out.old).failures < 2 ^ 63 }
+    ensures written { Writes (W.Out.state out.old) (W.Out.state out.new) (rule_line comparison.now rule) result }
+{
+    out.write_parts(&[rule_word(rule), b" "])?;
+    write_finding(out, &comparison.layout, comparison.of(rule))
+}
+
+/// Writes a line for each rule: `erew fault read-conflict a[1] line 4`, `crew ended same`, `priority ended other` or `sum goes on`.
+/// The error is that the writer failed (E17).
+pub fn show_comparison<W: Out>(comparison: &Comparison, out: &mut W) -> Result<(), WriteFault>
+    requires counted { (W.Out.state out.old).failures < 2 ^ 63 }
+    ensures written { Writes (W.Out.state out.old) (W.Out.state out.new) (comparison_text comparison.now) result }
+{
+    for rule in RULES {
+        write_line(out, comparison, rule)?;
+    }
+    Ok(())
+}
