@@ -1,6 +1,6 @@
 # The crates are proved, built and tested by the toolchain's command `rt`.
 
-.PHONY: all check test examples bench refusals memory clean
+.PHONY: all check test examples bench refusals memory hostile clean
 
 sources := $(shell find crates -name out -prune -o \( -name '*.rt' -o -name '*.antt' \) -print) crates.txt
 
@@ -20,14 +20,14 @@ check:
 	rt all check
 
 # The merge gate: the scripts of gate/, the examples and their plans, the callers that must not compile; then every proof from nothing, every
-# must-fail edit, every test and program.
+# must-fail edit, every test and program, and hostile use of the program that this built.
 test:
 	python3 gate/crates_diagram.py
 	python3 gate/definitions.py
 	bash gate/examples.sh
 	bash gate/plans.sh
 	set -e; for check in crates/*/refusals/check.sh; do bash $$check; done
-	rt ci
+	bash gate/prove.sh
 
 # Prints figures, and asserts nothing.
 bench:
@@ -36,6 +36,10 @@ bench:
 # Shows that callers which must not compile are refused.
 refusals:
 	set -e; for check in crates/*/refusals/check.sh; do bash $$check; done
+
+# Uses the program as nobody should.
+hostile:
+	bash gate/hostile.sh
 
 # Shows that memory is given back, and that each allocation may be refused.
 memory:

@@ -1,0 +1,243 @@
+"""Uses the program as nobody should, and looks at what it says: memory, threads and writes that are refused, broken texts, long runs.
+
+hostile.py PROGRAM STUB INPUTS FOLDER: the stub is refuse.c as a library, the folder is for files in between.
+"""
+
+import itertools
+import os
+import re
+import subprocess
+import sys
+import threading
+from concurrent.futures import ThreadPoolExecutor
+from pathlib import Path
+
+PROGRAM, STUB, INPUTS, FOLDER = sys.argv[1], sys.argv[2], Path(sys.argv[3]), Path(sys.argv[4])
+LONGEST = 60  # seconds of one call, far more than it takes
+EVERY = 20  # of the changes of a text by one byte
+WORKERS = 3
+
+LONG = """rule crew; procs 32;
+shared s[1..32]; var k;
+begin
+for k := 1 to {} do
+for 1 <= i <= 32 pardo s[i] := k * i; end
+end
+end
+"""
+
+OUTCOME = re.compile(
+    rb"(-?[0-9]+\n)*"
+    rb"(goes on\n|ended\n(\w+(\[-?[0-9]+\.\.-?[0-9]+\])? =( -?[0-9]+)+\n)*"
+    rb"|fault (overflow|divide-by-zero|out-of-range|too-wide|read-conflict|write-conflict) "
+    rb"(all|processor -?[0-9]+|\w+(\[-?[0-9]+\])?) line [0-9]+\n)"
+)
+REFUSAL = re.compile(
+    rb"refused (E(1 NotAscii|3 BadToken|4 Syntax|5 TooDeep|6 UnknownName|7 DoubleName|8 WrongKind|9 AssignedLoopVariable|15 BadListing)"
+    rb" at [0-9]+|E10 Limit (cells|procs|bounds|reads|tokens)|E11 InputTooLong|E14 NotVerified at [0-9]+ [a-z-]+)\n"
+)
+NO_MEMORY = b"refused E16 OutOfMemory\n"
+NOT_WRITTEN = b"refused E17 WriteFailed\n"
+
+own = threading.local()
+numbers = itertools.count()
+
+
+class Wrong(Exception):
+    """What the program must not do."""
+
+
+def own_file(name):
+    """A file of that name for this thread of the script alone."""
+    if not hasattr(own, "folder"):
+        own.folder = FOLDER / str(next(numbers))
+        own.folder.mkdir()
+    return own.folder / name
+
+
+def call(words, **refused):
+    """What a call gives: its exit status and what it wrote to both streams."""
+    env = {name: str(value) for name, value in refused.items()}
+    if refused:
+        env["LD_PRELOAD"] = STUB
+    try:
+        ran = subprocess.run([PROGRAM, *map(str, words)], env=env, capture_output=True, timeout=LONGEST)
+    except subprocess.TimeoutExpired:
+        raise Wrong(f"{words} with {refused} doesn't end") from None
+    return ran.returncode, ran.stdout, ran.stderr
+
+
+def tallied(words, **refused):
+    """What a call gives, and beside it the blocks that it keeps, its starts and writes, and the allocations of each thread."""
+    tally = own_file("tally")
+    tally.unlink(missing_ok=True)
+    given = call(words, TALLY=tally, **refused)
+    if not tally.exists():
+        raise Wrong(f"{words} with {refused}: {given}")
+    left, starts, writes, *allocations = map(int, tally.read_text().split())
+    return given, left, starts, writes, allocations
+
+
+def all_of(judge, cases):
+    """Judges all cases, as many at a time as there are processors, and tells how many there were."""
+    cases = list(cases)
+    with ThreadPoolExecutor(os.cpu_count()) as pool:
+        try:
+            for _ in pool.map(lambda case: judge(*case), cases):
+                pass
+        except Wrong:
+            pool.shutdown(cancel_futures=True)
+            raise
+    return len(cases)
+
+
+# ---- memory and threads
+
+
+def status_of(outcome):
+    return 1 if b"fault " in outcome else 3 if b"goes on" in outcome else 0
+
+
+def refuse_one(words, expected, refused):
+    """One allocation or start is refused: the program says so, or does what it does else; in any case it gives its memory back."""
+    given, left, *_ = tallied(words, **refused)
+    says_so = given == (2, b"", NO_MEMORY)
+    # memory for the words themselves, before the program is called with them
+    unread = given[:2] == (1, b"") and b"OutOfMemory" in given[2]
+    if left or not (says_so or given == expected or (unread and refused.get("REFUSE", "").startswith("0:"))):
+        raise Wrong(f"{words} with {refused}: {given}, {left} blocks are left")
+    if "REFUSE_START" in refused and not says_so:
+        raise Wrong(f"{words} with {refused}: {given}")
+
+
+def refusals_of(program, reserve):
+    """Each allocation of each thread and each start of one row, after the row itself. With a reserve no worker asks for memory."""
+    outcome = program.with_suffix(".out").read_bytes()
+    words = ["run", program, "--input", program.with_suffix(".in"), "--workers", WORKERS, "--bound", "1000", *reserve]
+    expected = (status_of(outcome), outcome, b"")
+    given, left, starts, _, allocations = tallied(words)
+    asks = [count > 0 for count in allocations] == [True] + [not reserve] * WORKERS
+    if given != expected or left or starts != WORKERS or not asks:
+        raise Wrong(f"{words}: {given}, {left} blocks are left, {starts} starts, allocations {allocations}")
+    for thread, count in enumerate(allocations):
+        for number in range(1, count + 1):
+            yield words, expected, {"REFUSE": f"{thread}:{number}"}
+    for number in range(1, starts + 1):
+        yield words, expected, {"REFUSE_START": number}
+
+
+def memory():
+    rows = sorted((INPUTS / "rows").glob("*.pram"))
+    cases = itertools.product(rows, [[], ["--reserve", "100,100"]])
+    count = all_of(refuse_one, itertools.chain.from_iterable(itertools.starmap(refusals_of, cases)))
+    return f"{count} allocations and starts of {len(rows)} programs, with a reserve and without, are refused in turn"
+
+
+# ---- texts
+
+
+def broken(text):
+    """Each front of a text, and every twentieth of its changes by one byte."""
+    yield from (text[:end] for end in range(len(text)))
+    for change in range(0, len(text) * 256, EVERY):
+        at, byte = divmod(change, 256)
+        yield text[:at] + bytes([byte]) + text[at + 1 :]
+
+
+def is_refused(given):
+    return given[:2] == (2, b"") and REFUSAL.fullmatch(given[2])
+
+
+def judge_program(text):
+    """Both that look at a program say the same of it."""
+    file = own_file("text")
+    file.write_bytes(text)
+    checked, planned = call(["check", file]), call(["plan", file])
+    accepted = checked[::2] == (0, b"") and re.fullmatch(rb"accepted cells [0-9]+ procs [0-9]+ rule [a-z]+\n", checked[1])
+    shown = planned[::2] == (0, b"") and planned[1].startswith(b"bsp 1\n") and planned[1].endswith(b" halt\n")
+    if not (accepted and shown or is_refused(checked) and checked == planned):
+        raise Wrong(f"{text}: check {checked}, plan {planned}")
+
+
+def judge_listing(text, values):
+    file = own_file("text")
+    file.write_bytes(text)
+    given = call(["exec", file, "--input", values, "--workers", 2, "--bound", 100])
+    ran = OUTCOME.fullmatch(given[1]) and given[::2] == (status_of(given[1]), b"")
+    if not (ran or is_refused(given)):
+        raise Wrong(f"{text}: {given}")
+
+
+def texts():
+    program, listing = INPUTS / "changed.pram", INPUTS / "broadcast.bsp"
+    count = all_of(judge_program, ((text,) for text in broken(program.read_bytes())))
+    values = listing.with_suffix(".in")
+    count += all_of(judge_listing, ((text, values) for text in broken(listing.read_bytes())))
+    return f"{count} fronts and changes of texts are refused or come to an outcome"
+
+
+# ---- standard output
+
+
+def fail_one(words, output, refused):
+    """The write of that number fails, where each takes one byte: so many bytes are written, and the program says that it failed."""
+    given = call(words, NARROW=1, **refused)
+    if given != (2, output[: refused["REFUSE_WRITE"] - 1], NOT_WRITTEN):
+        raise Wrong(f"{words} with {refused}: {given}")
+
+
+def failures_of(words):
+    """Each write of one call, after the call itself, which writes as much one byte at a time."""
+    status, output, errors = call(words)
+    given, _, _, writes, _ = tallied(words, NARROW=1)
+    if errors or given != (status, output, b"") or writes != len(output):
+        raise Wrong(f"{words}: {given} in {writes} writes")
+    wide, _, _, writes, _ = tallied(words)
+    for number in range(1, writes + 1):
+        status, written, errors = call(words, REFUSE_WRITE=number)
+        if (status, errors) != (2, NOT_WRITTEN) or not output.startswith(written) or len(written) >= len(output):
+            raise Wrong(f"{words} with write {number} refused: {status}, {written}, {errors}")
+    for number in range(1, len(output) + 1):
+        yield words, output, {"REFUSE_WRITE": number}
+        yield words, output, {"REFUSE_WRITE": number, "EMPTY": 1}
+
+
+def streams():
+    program, listing = INPUTS / "changed.pram", INPUTS / "broadcast.bsp"
+    over_input = ["--input", program.with_suffix(".in")]
+    by_workers = [*over_input, "--workers", 2]
+    calls = [["check", program], ["plan", program], ["meaning", program, *over_input], ["run", program, *by_workers]]
+    calls += [["trace", program, *by_workers], ["exec", listing, "--workers", 2, "--input", listing.with_suffix(".in")]]
+    count = all_of(fail_one, itertools.chain.from_iterable(map(failures_of, calls)))
+    return f"{count} writes fail in turn, just where they were refused"
+
+
+# ---- long runs
+
+
+def come_to_one(workers, turns, times):
+    """So many workers exchange once a turn, so often, and always come to what the last turn writes."""
+    file = own_file("long")
+    file.write_text(LONG.format(turns))
+    expected = "ended\ns[1..32] = " + " ".join(str(turns * i) for i in range(1, 33)) + "\n"
+    for _ in range(times):
+        given = call(["run", file, "--workers", workers])
+        if given != (0, expected.encode(), b""):
+            raise Wrong(f"{workers} workers: {given}")
+
+
+def long_runs():
+    come_to_one(4, 10000, 20)
+    come_to_one(32, 20000, 10)
+    return "4 workers come through 10,000 exchanges to one answer, twenty times, and 32 through 20,000, ten times"
+
+
+def main():
+    for part in [memory, texts, streams, long_runs]:
+        print(f"as it must be: {part()}", flush=True)
+
+
+try:
+    main()
+except Wrong as wrong:
+    sys.exit(f"WRONG: {wrong}")
