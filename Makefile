@@ -1,6 +1,6 @@
 # The crates are proved, built and tested by the toolchain's command `rt`.
 
-.PHONY: all check test examples bench refusals memory hostile clean
+.PHONY: all check test examples bench refusals memory hostile unthreaded clean
 
 sources := $(shell find crates -name out -prune -o \( -name '*.rt' -o -name '*.antt' \) -print) crates.txt
 
@@ -44,6 +44,10 @@ hostile:
 # Shows that memory is given back, and that each allocation may be refused.
 memory:
 	set -e; for check in crates/*/memory/check.sh; do bash $$check; done
+
+# Shows that the tests of runs in threads refuse a run whose threads do nothing.
+unthreaded:
+	bash crates/run_tests/unthreaded/check.sh
 
 clean:
 	rm -rf bin crates/*/out

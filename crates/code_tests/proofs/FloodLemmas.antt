@@ -27,6 +27,7 @@ fresh_flooded code m input x room words f two is few =
           going = λ on. f.going 9;
           counted = λ alive n low. ap (map share_told) f.none;
           items = λ alive. f.items;
+          reserved = λ alive. f.reserved;
         };
       };
       two = two;
