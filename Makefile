@@ -10,7 +10,7 @@ all: bin/pramc
 bin/pramc: $(sources)
 	bash gate/build.sh
 
-# Runs every example and compares what it prints, and what its code comes to.
+# Runs every example and compares what they print, and what the examples' code comes to.
 examples:
 	bash gate/examples.sh
 	bash gate/plans.sh
@@ -19,12 +19,12 @@ examples:
 check:
 	rt all check
 
-# The merge gate: the scripts of gate/, the examples and their plans, the callers that must not compile; then every proof from nothing, every
-# must-fail edit, every test and program, and hostile use of the program that this built.
+# The merge gate: the scripts of gate/, the plans of the examples, the callers that must not compile; then every proof from nothing, every
+# must-fail edit, every test and program; then the examples and hostile use, of the program that this built.
 test:
 	python3 gate/crates_diagram.py
 	python3 gate/definitions.py
-	bash gate/examples.sh
+	python3 gate/gallery.py
 	bash gate/plans.sh
 	set -e; for check in crates/*/refusals/check.sh; do bash $$check; done
 	bash gate/prove.sh

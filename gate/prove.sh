@@ -1,6 +1,6 @@
 #!/usr/bin/env bash
-# Every proof from nothing, every wrong body, every test and program; then hostile use of the program that was proved and built so. The last
-# line is that of the proofs.
+# Every proof from nothing, every wrong body, every test and program; then the examples and hostile use, of the program that was
+# proved and built so. The last line is that of the proofs.
 set -eu -o pipefail
 top=$(cd "$(dirname "$0")/.." && pwd)
 log=$(mktemp)
@@ -8,5 +8,6 @@ trap 'rm -f "$log"' EXIT
 
 cd "$top"
 rt ci | tee "$log"
+bash gate/examples.sh "$top/crates/pramc_cli/out/pramc_cli"
 bash gate/hostile.sh "$top/crates/pramc_cli/out/pramc_cli"
 tail -n 1 "$log"

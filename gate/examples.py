@@ -1,0 +1,51 @@
+#!/usr/bin/env python3
+"""Runs each example of examples/ with its input, and compares all that it writes, and its exit status, with the files beside it.
+
+examples.py PROGRAM: by its definition, by 1, 3 and 4 workers, under each rule, from the listing of its plan, and with the change that
+gives a conflict.
+"""
+import subprocess
+import sys
+import tempfile
+from concurrent.futures import ThreadPoolExecutor
+from pathlib import Path
+
+from gallery import EXAMPLES, change, foot, programs
+
+PROGRAM = Path(sys.argv[1]).resolve()
+
+
+def wrong(words, output, status):
+    """What is wrong with a call, if anything is."""
+    done = subprocess.run([PROGRAM, *words], capture_output=True, text=True, timeout=60)
+    if (done.stdout, done.stderr, done.returncode) == (output, "", status):
+        return []
+    return [f"pramc {' '.join(map(str, words))}: status {done.returncode}\n{done.stdout}{done.stderr}"]
+
+
+def tried(name, text, folder):
+    """What is wrong with the runs of an example."""
+    program, values = EXAMPLES / f"{name}.pram", ["--input", EXAMPLES / f"{name}.in"]
+    output, rules = ((EXAMPLES / f"{name}.{it}").read_text() for it in ("out", "rules"))
+    status = int("fault " in output)
+    plan = folder / f"{name}.bsp"
+    plan.write_bytes(subprocess.run([PROGRAM, "plan", program], capture_output=True, timeout=60).stdout)
+    calls = [(["meaning", program], output, status), (["rules", program], rules, 0), (["exec", plan], output, status)]
+    calls += [(["run", program, "--workers", it], output, status) for it in "134"]
+    if foot(text):
+        changed, _, _, fault = change(text)
+        (folder / f"{name}.pram").write_text(changed)
+        calls.append((["run", folder / f"{name}.pram"], f"{fault}\n", 1))
+    return [it for words, *expected in calls for it in wrong([*words, *values], *expected)]
+
+
+def main():
+    with tempfile.TemporaryDirectory() as folder, ThreadPoolExecutor(4) as pool:
+        found = list(pool.map(lambda it: tried(*it, Path(folder)), programs()))
+    for it in sum(found, []):
+        print(it)
+    print(f"examples: {found.count([])} of {len(found)} print what they should")
+    sys.exit(1 if any(found) else 0)
+
+
+main()
