@@ -1,5 +1,5 @@
 #!/usr/bin/env bash
-# Runs each example of examples/ and compares what they print.
+# Runs each example of examples/ and each command of docs/TUTORIAL.md, and compares what they print.
 # The program may be named: the gate names the one that it proved and built. Otherwise it is bin/pramc, which is built first.
 set -eu
 top=$(cd "$(dirname "$0")/.." && pwd)
@@ -10,3 +10,4 @@ if [ -z "$program" ]; then
     make -C "$top" bin/pramc
 fi
 python3 "$top/gate/examples.py" "$program"
+python3 "$top/gate/tutorial.py" "$program"
