@@ -1,6 +1,6 @@
 # The crates are proved, built and tested by the toolchain's command `rt`.
 
-.PHONY: all check test examples bench refusals memory hostile unthreaded clean
+.PHONY: all check test examples bench refusals memory hostile unthreaded clean install uninstall
 
 sources := $(shell find crates -name out -prune -o \( -name '*.rt' -o -name '*.antt' \) -print) crates.txt
 
@@ -25,6 +25,7 @@ test:
 	python3 gate/crates_diagram.py
 	python3 gate/definitions.py
 	python3 gate/gallery.py
+	python3 gate/editors.py
 	bash gate/plans.sh
 	set -e; for check in crates/*/refusals/check.sh; do bash $$check; done
 	bash gate/prove.sh
@@ -51,3 +52,23 @@ unthreaded:
 
 clean:
 	rm -rf bin crates/*/out
+
+PREFIX ?= /usr/local
+shared = $(DESTDIR)$(PREFIX)/share
+# Each installed file, as WHERE=FILE.
+installed = \
+	$(shared)/man/man1/pramc.1=man/pramc.1 \
+	$(shared)/bash-completion/completions/pramc=completions/pramc.bash \
+	$(shared)/vim/vimfiles/syntax/pram.vim=editors/vim/syntax/pram.vim \
+	$(shared)/vim/vimfiles/ftdetect/pram.vim=editors/vim/ftdetect/pram.vim \
+	$(foreach it,$(wildcard editors/textmate/*.json),$(shared)/pramc/textmate/$(notdir $(it))=$(it))
+
+# Puts the program, its man page, its completions and the syntax of the language for editors below PREFIX.
+install: bin/pramc
+	install -D -m 755 bin/pramc $(DESTDIR)$(PREFIX)/bin/pramc
+	set -e; for it in $(installed); do install -D -m 644 "$${it#*=}" "$${it%%=*}"; done
+
+# Takes them away again, and the folders that are theirs alone.
+uninstall:
+	rm -f $(DESTDIR)$(PREFIX)/bin/pramc $(foreach it,$(installed),$(firstword $(subst =, ,$(it))))
+	if [ -d $(shared)/pramc ]; then rmdir --ignore-fail-on-non-empty $(shared)/pramc/textmate $(shared)/pramc; fi

@@ -1,6 +1,6 @@
 #!/usr/bin/env bash
-# Every proof from nothing, every wrong body, every test and program; then the examples, the tutorial and hostile use, of the program that was
-# proved and built so. The last line is that of the proofs.
+# Every proof from nothing, every wrong body, every test and program; then the examples, the tutorial and hostile use, of the program that
+# was proved and built so. The last line is that of the proofs.
 set -eu -o pipefail
 top=$(cd "$(dirname "$0")/.." && pwd)
 log=$(mktemp)

@@ -20,7 +20,8 @@ def run(words, status, folder):
     """What a command writes, and its exit status; it finds that of the one before it."""
     env = {**os.environ, "PATH": f"{folder}/bin:{os.environ['PATH']}"}
     script = f"(exit {status})\n{words}"
-    done = subprocess.run(["bash", "-c", script], cwd=folder, env=env, stdout=subprocess.PIPE, stderr=subprocess.STDOUT, text=True, timeout=60)
+    streams = {"stdout": subprocess.PIPE, "stderr": subprocess.STDOUT, "text": True}
+    done = subprocess.run(["bash", "-c", script], cwd=folder, env=env, timeout=60, **streams)
     return done.stdout, done.returncode
 
 

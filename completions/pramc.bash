@@ -1,0 +1,33 @@
+# Completions of pramc for bash.
+
+_pramc() {
+    local word=${COMP_WORDS[COMP_CWORD]} before=${COMP_WORDS[COMP_CWORD - 1]} words=
+    COMPREPLY=()
+    if [ "$COMP_CWORD" -eq 1 ]; then
+        words="check plan meaning rules run trace exec --help"
+    else
+        case $before in
+        --input) ;;
+        --map) words="identity affine:" ;;
+        --bound | --workers | --reserve) return ;;
+        *)
+            case ${COMP_WORDS[1]} in
+            check | plan) words="--help" ;;
+            meaning | rules) words="--bound --input --help" ;;
+            run | trace | exec) words="--bound --input --workers --map --reserve --help" ;;
+            *) return ;;
+            esac
+            [[ $word == -* ]] || words=
+            ;;
+        esac
+    fi
+    if [ -n "$words" ]; then
+        mapfile -t COMPREPLY < <(compgen -W "$words" -- "$word")
+        [ "${COMPREPLY[*]}" != affine: ] || compopt -o nospace
+    else
+        compopt -o filenames
+        mapfile -t COMPREPLY < <(compgen -f -- "$word")
+    fi
+}
+
+complete -F _pramc pramc
