@@ -71,4 +71,4 @@ install: bin/pramc
 # Takes them away again, and the folders that are theirs alone.
 uninstall:
 	rm -f $(DESTDIR)$(PREFIX)/bin/pramc $(foreach it,$(installed),$(firstword $(subst =, ,$(it))))
-	if [ -d $(shared)/pramc ]; then rmdir --ignore-fail-on-non-empty $(shared)/pramc/textmate $(shared)/pramc; fi
+	set -e; for it in $(shared)/pramc/textmate $(shared)/pramc; do if [ -d $$it ]; then rmdir --ignore-fail-on-non-empty $$it; fi; done
