@@ -1,8 +1,8 @@
 #!/usr/bin/env python3
 """Runs each example of examples/ with its input, and compares all that it writes, and its exit status, with the files beside it.
 
-examples.py PROGRAM: by its definition, by 1, 3 and 4 workers, under each rule, from the listing of its plan, and with the change that
-gives a conflict.
+examples.py PROGRAM: by its definition, by 1, 3 and 4 workers, under each rule, from the listing of its plan, with the change that gives a
+conflict, and within as many statements as its T, and one less, with which it goes on.
 """
 import subprocess
 import sys
@@ -13,14 +13,27 @@ from pathlib import Path
 from gallery import EXAMPLES, change, foot, programs
 
 PROGRAM = Path(sys.argv[1]).resolve()
+GOES_ON = 3
 
 
 def wrong(words, output, status):
-    """What is wrong with a call, if anything is."""
+    """What is wrong with a call, if anything is. A run that goes on has written a beginning of the output."""
     done = subprocess.run([PROGRAM, *words], capture_output=True, text=True, timeout=60)
-    if (done.stdout, done.stderr, done.returncode) == (output, "", status):
+    written = done.stdout
+    if status == GOES_ON and written.endswith("goes on\n") and output.startswith(written.removesuffix("goes on\n")):
+        written = output
+    if (written, done.stderr, done.returncode) == (output, "", status):
         return []
     return [f"pramc {' '.join(map(str, words))}: status {done.returncode}\n{done.stdout}{done.stderr}"]
+
+
+def of_the_gallery(program, text, output, folder):
+    """The calls that show the conflict and the T of an example of the gallery."""
+    changed, _, _, fault = change(text)
+    (folder / program.name).write_text(changed)
+    steps = int(foot(text)["T"].split()[-1])
+    bounds = [(["meaning", program, "--bound", str(it)], output, status) for it, status in ((steps, 0), (steps - 1, GOES_ON))]
+    return [(["run", folder / program.name], f"{fault}\n", 1), *bounds]
 
 
 def tried(name, text, folder):
@@ -33,9 +46,7 @@ def tried(name, text, folder):
     calls = [(["meaning", program], output, status), (["rules", program], rules, 0), (["exec", plan], output, status)]
     calls += [(["run", program, "--workers", it], output, status) for it in "134"]
     if foot(text):
-        changed, _, _, fault = change(text)
-        (folder / f"{name}.pram").write_text(changed)
-        calls.append((["run", folder / f"{name}.pram"], f"{fault}\n", 1))
+        calls += of_the_gallery(program, text, output, folder)
     return [it for words, *expected in calls for it in wrong([*words, *values], *expected)]
 
 
