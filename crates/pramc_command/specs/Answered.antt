@@ -1,5 +1,5 @@
 -- What a call of the program leaves on its streams.
-use Rattle.std.specs.Prelude.{◌≡◌, ◌⊎◌, ◌<◌, ◌≤◌, ℕ, ℤ, List, length, ◌++◌, Result, Ok, Err, codes, decimal}
+use Rattle.std.specs.Prelude.{◌≡◌, ◌⊎◌, ◌<◌, ◌≤◌, ℕ, ℤ, List, length, ◌++◌, Result, Ok, Err, Option, codes, decimal}
 use Rattle.pram_model.specs.Layout.{SharedEntry, total_size}
 use Rattle.text_out.specs.Out.{OutState, StopsIn, with_bytes}
 use Rattle.pram_model.specs.Rules.{rule_word}
@@ -21,6 +21,8 @@ use Rattle.program_texts.specs.Report.{HasBreach, HasTooFewCells, IsInputRefusal
 use Rattle.program_texts.specs.Shown.{line, shown}
 use Rattle.program_texts.specs.Status.{status_of}
 use Rattle.program_texts.specs.StoppedFields.{stop_text}
+use Rattle.cost_texts.specs.CostText.{cost_text}
+use Rattle.work_time.specs.declared.cost.Cost.{Cost}
 use Rattle.rule_comparison.specs.Compared.{IsComparison}
 use Rattle.rule_comparison.specs.ComparisonText.{comparison_text}
 use Rattle.rule_comparison.specs.declared.comparison.Comparison.{Comparison}
@@ -35,6 +37,7 @@ use Rattle.run_options.specs.declared.map_choice.MapChoice.{MapChoice}
 use Rattle.pramc.specs.declared.options.Options.{Options}
 use Rattle.pramc.specs.Runs.{IsChoice, IsCodeRun, IsRunByWorkers}
 use Rattle.pramc.specs.Reserved.{IsCodePast, IsTextPast}
+use Rattle.pramc_command.specs.Costs.{HasCost}
 
 -- `accepted cells 16 procs 8 rule erew`
 abbrev pub accepted_line : Checked → List ℕ
@@ -81,12 +84,14 @@ HasRun code outcome =
     (input : List ℤ) × (options : Options) × (exchanges : List Exchange) × IsCodeRun code input options (verdict_of outcome) exchanges
 
 -- The texts that go with an exit status: of a text's program that it is accepted, the listing of its code, how it comes out, by its own
--- rule or by all, or the exchanges of its run; of a listing how its code comes out.
+-- rule or by all, what its run costs and then how it comes out, or the exchanges of its run; of a listing how its code comes out.
 pub data Tells : Status → List ℕ → Type 0 where
   Accepted : (program : Checked) → IsAProgram program → Tells Done (accepted_line program)
   Planned : (code : SuperstepCode) → IsPlanned code → Tells Done (spelling code)
   Ran : (layout : List SharedEntry) (outcome : Outcome) → HasOutcome layout outcome
       → Tells (status_of outcome) (shown layout (verdict_of outcome))
+  Costed : (layout : List SharedEntry) (outcome : Outcome) (schedule : Option ℕ) (cost : Cost) → HasCost layout outcome schedule cost
+      → Tells (status_of outcome) (cost_text cost schedule ++ shown layout (verdict_of outcome))
   Compared : (c : Comparison) → IsCompared c → Tells Done (comparison_text c)
   Traced : (outcome : Outcome) (exchanges : List Exchange) → HasTrace outcome exchanges → Tells (status_of outcome) (trace_text exchanges)
   Executed : (code : SuperstepCode) (outcome : Outcome) → IsAListing code → HasRun code outcome

@@ -6,8 +6,8 @@ ghost use Rattle.pramc_command.specs.Answered.{Answers, IsReported, Leaves};
 
 use crate::loading::{load_input, load_listing, load_program};
 use crate::request::{Request, RunWords, Verb, read_words};
-use crate::running::{code_of, compare, execute, mean, run};
-use crate::writing::{write_accepted, write_exchanges, write_outcome, write_plan, write_rules};
+use crate::running::{code_of, compare, cost, execute, mean, run};
+use crate::writing::{write_accepted, write_costs, write_exchanges, write_outcome, write_plan, write_rules};
 use pram_syntax::Out;
 use program_texts::{Sources, Status, Stop, write_stop};
 use std::alloc::Global;
@@ -17,8 +17,8 @@ use std::thread::Threads;
 /// Does what the words behind the program's name ask for, and answers the exit status.
 ///
 /// `check FILE` writes `accepted cells N procs M rule R`; `plan FILE` the listing of the program's code; `meaning FILE` the outcome by
-/// the definition, and `rules FILE` how it comes out under each rule; `run FILE` that of its code, run by workers in threads, and `trace
-/// FILE` the exchanges of that run; `exec LISTING` the outcome of a listing, run so. What is refused is written to `err`: P1 for the
+/// the definition, `cost FILE` what that run costs and then its outcome, and `rules FILE` how it comes out under each rule; `run FILE`
+/// that of its code, run by workers in threads, and `trace FILE` the exchanges of that run; `exec LISTING` the outcome of a listing, run so. What is refused is written to `err`: P1 for the
 /// words, P2 for a file that can't be read, and E1 to E18. It is judged in this order: the words; the file and its text (of a listing
 /// E2, E15, E14); the input's file and its text; the number of workers (E13), the map (E12), and the number of the input's values (E11).
 /// With `--reserve` a run is refused besides where it comes past that (E18).
@@ -95,6 +95,23 @@ fn on_program<'a, R: Threads + Wait + Sync, S: Sources, O: Out>(
             let input = load_input(alloc, sources, words.input)?;
             let outcome = mean(alloc, &program, &input, words.options.bound)?;
             write_outcome(out, program.layout(), &outcome)
+        }
+        Verb::Cost => {
+            let input = load_input(alloc, sources, words.input)?;
+            let (outcome, cost) = cost(
+                alloc,
+                &program,
+                &input,
+                words.options.bound,
+                words.schedule,
+            )?;
+            write_costs(
+                out,
+                program.layout(),
+                &outcome,
+                &cost,
+                words.schedule,
+            )
         }
         Verb::Rules => {
             let input = load_input(alloc, sources, words.input)?;

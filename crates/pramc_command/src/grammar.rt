@@ -15,6 +15,8 @@ pub(crate) const MAP: &str = "map";
 
 pub(crate) const RESERVE: &str = "reserve";
 
+pub(crate) const SCHEDULE: &str = "schedule";
+
 // What the help of a subcommand says.
 struct Subcommand {
     name: &'static str,
@@ -47,6 +49,13 @@ const MEANING: Subcommand = Subcommand {
     about: "Runs the program by its definition",
     file: PROGRAM,
     example: "Example: pramc meaning examples/tree_sum.pram --input examples/tree_sum.in",
+};
+
+const COST: Subcommand = Subcommand {
+    name: "cost",
+    about: "Counts time, work and shared accesses of the run, beside its outcome",
+    file: PROGRAM,
+    example: "Example: pramc cost examples/tree_sum.pram --input examples/tree_sum.in --schedule 2",
 };
 
 const RULES: Subcommand = Subcommand {
@@ -100,6 +109,15 @@ fn over_run<'a>(alloc: Global, words: &Subcommand) -> Result<Command<'a>, AllocE
     over_file(alloc, words)?.arg(bound)?.arg(input)
 }
 
+// A subcommand that counts what a run costs.
+fn over_cost<'a>(alloc: Global, words: &Subcommand) -> Result<Command<'a>, AllocError> {
+    let schedule = Arg::new(alloc, SCHEDULE)
+        .long(SCHEDULE)
+        .value_name("P")
+        .help("Counts the rounds on P processors too");
+    over_run(alloc, words)?.arg(schedule)
+}
+
 // A subcommand that runs it by workers.
 fn over_workers<'a>(alloc: Global, words: &Subcommand) -> Result<Command<'a>, AllocError> {
     let workers = Arg::new(alloc, WORKERS)
@@ -131,6 +149,7 @@ pub(crate) fn grammar<'a>(alloc: Global) -> Result<Command<'a>, AllocError> {
         .subcommand(over_file(alloc, &CHECK)?)?
         .subcommand(over_file(alloc, &PLAN)?)?
         .subcommand(over_run(alloc, &MEANING)?)?
+        .subcommand(over_cost(alloc, &COST)?)?
         .subcommand(over_run(alloc, &RULES)?)?
         .subcommand(over_workers(alloc, &RUN)?)?
         .subcommand(over_workers(alloc, &TRACE)?)?

@@ -1,9 +1,10 @@
 //! What a command line asks for.
 
-ghost use Rattle.std.specs.Prelude.{IfErr};
+ghost use Rattle.std.specs.Prelude.{◌<◌, IfOk, IfErr};
+ghost use Rattle.std.specs.Option.{ForSome};
 ghost use Rattle.pramc_command.specs.Answered.{IsTrueStop};
 
-use crate::grammar::{BOUND, FILE, INPUT, MAP, RESERVE, WORKERS, grammar};
+use crate::grammar::{BOUND, FILE, INPUT, MAP, RESERVE, SCHEDULE, WORKERS, grammar};
 use bsp_machine::Reserve;
 use clap::ArgMatches;
 use clap::error::ErrorKind;
@@ -21,6 +22,8 @@ pub(crate) enum Verb {
     Plan,
     /// It is run by its definition.
     Meaning,
+    /// What its run by its definition costs is counted.
+    Cost,
     /// It is run by its definition under each of the rules.
     Rules,
     /// It is run by workers.
@@ -37,6 +40,9 @@ pub(crate) struct RunWords<'a> {
     pub(crate) options: Options,
     /// For how much workers take all their memory before the first exchange. Without one they take it on the way.
     pub(crate) reserve: Option<Reserve>,
+    /// The number of processors on which the work is scheduled. Without one no rounds are told.
+    pub(crate) schedule: Option<u32>,
+    ghost scheduled: { ForSome schedule (λ q. 0 < q) },
 }
 
 /// One call of the program.
@@ -94,6 +100,20 @@ fn reserve_of<'a>(words: &ArgMatches<'a>) -> Result<Option<Reserve>, Stop<'a>>
     }
 }
 
+// The number of processors, if the command line has one. It is at least 1.
+fn schedule_of<'a>(words: &ArgMatches<'a>) -> Result<Option<u32>, Stop<'a>>
+    ensures some { IfOk result (λ schedule. ForSome schedule (λ q. 0 < q)) }
+    ensures refused { IfErr result IsTrueStop }
+{
+    match words.get_str(SCHEDULE) {
+        None => Ok(None),
+        Some(word) => match read_number(word) {
+            Some(0) | None => Err(Stop::Number(word)),
+            Some(processors) => Ok(Some(processors)),
+        },
+    }
+}
+
 fn run_words<'a>(words: &ArgMatches<'a>) -> Result<RunWords<'a>, Stop<'a>>
     ensures { IfErr result IsTrueStop }
 {
@@ -101,6 +121,7 @@ fn run_words<'a>(words: &ArgMatches<'a>) -> Result<RunWords<'a>, Stop<'a>>
     let workers = number_of(words, WORKERS)?;
     let map = map_of(words)?;
     let reserve = reserve_of(words)?;
+    let schedule = schedule_of(words)?;
     Ok(RunWords {
         input: words.get_str(INPUT),
         options: Options {
@@ -109,6 +130,7 @@ fn run_words<'a>(words: &ArgMatches<'a>) -> Result<RunWords<'a>, Stop<'a>>
             bound,
         },
         reserve,
+        schedule,
     })
 }
 
@@ -153,6 +175,7 @@ pub(crate) fn read_words<'a>(alloc: Global, words: &'a [String]) -> Result<Reque
         Some(("check", inner)) => asked(Verb::Check, inner),
         Some(("plan", inner)) => asked(Verb::Plan, inner),
         Some(("meaning", inner)) => asked(Verb::Meaning, inner),
+        Some(("cost", inner)) => asked(Verb::Cost, inner),
         Some(("rules", inner)) => asked(Verb::Rules, inner),
         Some(("run", inner)) => asked(Verb::Run, inner),
         Some(("trace", inner)) => asked(Verb::Trace, inner),

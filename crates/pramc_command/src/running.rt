@@ -1,7 +1,9 @@
 //! What programs and listings come to.
 
-ghost use Rattle.std.specs.Prelude.{IfOk, IfErr};
+ghost use Rattle.std.specs.Prelude.{◌<◌, IfOk, IfErr};
+ghost use Rattle.std.specs.Option.{ForSome};
 ghost use Rattle.pramc_command.specs.Answered.{HasOutcome, HasRun, HasTrace, IsAListing, IsAProgram, IsCompared, IsPlanned, IsTrueStop};
+ghost use Rattle.pramc_command.specs.Costs.{HasCost};
 
 use bsp_machine::Reserve;
 use bsp_verify::Verified;
@@ -15,6 +17,7 @@ use rule_comparison::{Comparison, compare_rules};
 use std::alloc::Global;
 use std::sync::Wait;
 use std::thread::Threads;
+use work_time::{Cost, cost_of};
 use workers::OpenGate;
 use write_rules::Outcome;
 
@@ -41,6 +44,30 @@ pub(crate) fn mean<'a>(
     match mean_program(alloc, program, input, bound) {
         Ok(outcome) => Ok(outcome),
         Err(refusal) => Err(Stop::Refused(refusal)),
+    }
+}
+
+/// The outcome by the definition, and what that run costs.
+pub(crate) fn cost<'a>(
+    alloc: Global,
+    program: &Program,
+    input: &[i64],
+    bound: u32,
+    schedule: Option<u32>,
+) -> Result<(Outcome, Cost), Stop<'a>>
+    requires program { IsAProgram program.now }
+    requires some { ForSome schedule (λ q. 0 < q) }
+    ensures cost { IfOk result (λ found. HasCost program.now.layout found.0 schedule found.1) }
+    ensures refused { IfErr result IsTrueStop }
+{
+    let processors = match schedule {
+        Some(processors) => processors,
+        None => 1,
+    };
+    match cost_of(alloc, program, input, bound, processors) {
+        Ok(found) => Ok(found),
+        Err(RunRefusal::InputTooLong) => Err(Stop::Refused(Refusal::InputTooLong)),
+        Err(RunRefusal::OutOfMemory) => Err(Stop::Refused(Refusal::OutOfMemory)),
     }
 }
 

@@ -1,12 +1,15 @@
 //! What a call writes to standard output.
 
-ghost use Rattle.std.specs.Prelude.{◌<◌, ◌^◌};
+ghost use Rattle.std.specs.Prelude.{◌<◌, ◌^◌, ◌++◌};
 ghost use Rattle.text_out.specs.Out.{Writes};
 ghost use Rattle.write_rules.specs.Verdict.{verdict_of};
 ghost use Rattle.program_texts.specs.Shown.{shown};
 ghost use Rattle.program_texts.specs.Status.{status_of};
+ghost use Rattle.cost_texts.specs.CostText.{cost_text};
 ghost use Rattle.pramc_command.specs.Answered.{Answers, HasTrace, IsAProgram, IsCompared, IsPlanned, Tells, accepted_line};
+ghost use Rattle.pramc_command.specs.Costs.{HasCost};
 
+use cost_texts::write_cost;
 use exchange_counts::Counts;
 use itoa::Buffer;
 use pram_check::Program;
@@ -16,6 +19,7 @@ use rule_comparison::{Comparison, show_comparison};
 use superstep_code::Code;
 use superstep_listing::write_listing;
 use tracer::write_trace;
+use work_time::Cost;
 use write_rules::Outcome;
 
 /// Writes an outcome.
@@ -29,6 +33,43 @@ pub(crate) fn write_outcome<'a, O: Out>(
     ensures answers { Answers (O.Out.state out.old) (O.Out.state out.new) result }
 {
     match show(layout, outcome, out) {
+        Ok(()) => {
+            let status = Status::of(outcome);
+            finish(out, status)
+        }
+        Err(WriteFault) => Err(Stop::WriteFailed),
+    }
+}
+
+// A run's costs, and behind them its outcome.
+fn write_cost_and_outcome<O: Out>(
+    out: &mut O,
+    layout: &Layout,
+    outcome: &Outcome,
+    cost: &Cost,
+    schedule: Option<u32>,
+) -> Result<(), WriteFault>
+    requires out { (O.Out.state out.old).failures < 2 ^ 62 }
+    ensures written { Writes (O.Out.state out.old) (O.Out.state out.new)
+        (cost_text cost.now schedule ++ shown layout.now (verdict_of outcome.now)) result }
+{
+    write_cost(cost, schedule, out)?;
+    show(layout, outcome, out)
+}
+
+/// Writes what a run costs, and behind that its outcome.
+pub(crate) fn write_costs<'a, O: Out>(
+    out: &mut O,
+    layout: &Layout,
+    outcome: &Outcome,
+    cost: &Cost,
+    schedule: Option<u32>,
+) -> Result<Status, Stop<'a>>
+    requires out { (O.Out.state out.old).failures < 2 ^ 62 }
+    requires cost { HasCost layout.now outcome.now schedule cost.now }
+    ensures answers { Answers (O.Out.state out.old) (O.Out.state out.new) result }
+{
+    match write_cost_and_outcome(out, layout, outcome, cost, schedule) {
         Ok(()) => {
             let status = Status::of(outcome);
             finish(out, status)
