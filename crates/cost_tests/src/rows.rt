@@ -1,6 +1,6 @@
 // What is written of the costs of a run. Each number is worked by hand from the statements of the program.
 
-use cost_texts::write_cost;
+use cost_texts::{write_cost, write_lines};
 use pram_check::check;
 use pram_parser::parse;
 use pram_syntax::Buffer;
@@ -156,5 +156,66 @@ fn prefix_sums_cost_what_their_analysis_says(rt: HostRuntime) {
     let alloc = rt.alloc();
     for row in &PREFIX_SUMS {
         assert_eq!(rt; is_told(alloc, row), Some(true));
+    }
+}
+
+// A program, its input and bound, and what is written of its lines.
+#[derive(Clone, Copy)]
+struct Lines {
+    text: &'static str,
+    input: &'static [i64],
+    bound: u32,
+    told: &'static str,
+}
+
+const LINES: [Lines; 4] = [
+    // The sum by a tree again: the copy on line 2, the halving on line 5 and the sums on line 6.
+    Lines {
+        text: "rule erew; procs 8; shared a[1..8]; shared b[1..8]; var m; begin\n\
+            for 1 <= i <= 8 pardo b[i] := a[i]; end\nm := 8;\nwhile m > 1 do\nm := m div 2;\n\
+            for 1 <= i <= m pardo b[i] := b[2 * i - 1] + b[2 * i]; end end\nprint b[1]; end",
+        input: EIGHT,
+        bound: 1000,
+        told: "line 2 times 2 work 9 reads 8 writes 8\nline 3 times 1 work 1 reads 0 writes 0\nline 4 times 4 work 4 reads 0 writes 0\n\
+            line 5 times 3 work 3 reads 0 writes 0\nline 6 times 6 work 10 reads 14 writes 7\nline 7 times 1 work 1 reads 1 writes 0\n",
+    },
+    // Two statements of one line; line 4 isn't executed, and line 5 stands behind the bound.
+    Lines {
+        text: "rule crew; procs 1; shared s; var x; begin\nx := 1; s := x;\nif x = 2 then\nx := s; end\ns := 2; end",
+        input: &[],
+        bound: 3,
+        told: "line 2 times 2 work 2 reads 0 writes 1\nline 3 times 1 work 1 reads 0 writes 0\n",
+    },
+    // A statement that faults counts on its line, without its accesses.
+    Lines {
+        text: "rule erew; procs 4; shared a[1..2]; shared b[1..4]; begin\nfor 1 <= i <= 4 pardo\nb[i] := a[1]; end end",
+        input: &[9, 8],
+        bound: 1000,
+        told: "line 2 times 1 work 1 reads 0 writes 0\nline 3 times 1 work 4 reads 0 writes 0\n",
+    },
+    // Nothing runs.
+    Lines {
+        text: "rule crew; procs 1; begin end",
+        input: &[],
+        bound: 1000,
+        told: "",
+    },
+];
+
+// Whether that is written of the lines of a row's run.
+fn is_told_by_lines(alloc: Global, row: &Lines) -> Option<bool> {
+    let tree = parse(alloc, row.text.as_bytes()).ok()?;
+    let program = check(alloc, tree).ok()?;
+    let (_outcome, cost) = cost_of(alloc, &program, row.input, row.bound, 1).ok()?;
+    let mut out = Buffer::new(alloc);
+    write_lines(&cost.lines, &mut out).ok()?;
+    Some(out.bytes() == row.told.as_bytes())
+}
+
+#[test]
+fn lines_cost_what_is_worked_by_hand(rt: HostRuntime) {
+    let alloc = rt.alloc();
+    for row in &LINES {
+        assert_eq!(rt; is_told_by_lines(alloc, row), Some(true));
     }
 }

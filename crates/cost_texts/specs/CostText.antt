@@ -1,6 +1,7 @@
 -- How the costs of a run are written.
-use Rattle.std.specs.Prelude.{ℕ, List, [], ◌++◌, Option, Some, None, codes, decimal}
+use Rattle.std.specs.Prelude.{ℕ, List, [], ◌∷◌, ◌++◌, Option, Some, None, codes, decimal}
 use Rattle.work_time.specs.declared.cost.Cost.{Cost}
+use Rattle.work_time.specs.declared.line_cost.LineCost.{LineCost}
 
 -- a number in decimal behind some words, and the end of its line
 abbrev pub fact : List ℕ → ℕ → List ℕ
@@ -23,3 +24,14 @@ schedule_lines c (Some q) = round_lines c q
 -- each fact on a line of its own
 abbrev pub cost_text : Cost → Option ℕ → List ℕ
 cost_text c schedule = work_lines c ++ (access_lines c ++ schedule_lines c schedule)
+
+-- `line 4 times 2 work 9 reads 8 writes 8`
+abbrev pub line_text : LineCost → List ℕ
+line_text c =
+    codes "line " ++ (decimal c.line ++ (codes " times " ++ (decimal c.times ++ (codes " work " ++ (decimal c.work
+    ++ (codes " reads " ++ (decimal c.reads ++ (codes " writes " ++ (decimal c.writes ++ codes "\n")))))))))
+
+-- each of these lines
+abbrev pub lines_text : List LineCost → List ℕ
+lines_text [] = []
+lines_text (c ∷ cs) = line_text c ++ lines_text cs

@@ -2,5 +2,7 @@
 #![tactic(auto)]
 
 mod cost_text;
+mod line_text;
 
 pub use cost_text::write_cost;
+pub use line_text::write_lines;

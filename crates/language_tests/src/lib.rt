@@ -6,6 +6,8 @@ mod by_workers;
 #[cfg(test)]
 mod compiled;
 #[cfg(test)]
+mod costs;
+#[cfg(test)]
 mod exchanges;
 #[cfg(test)]
 mod limits;

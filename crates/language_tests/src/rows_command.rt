@@ -131,7 +131,7 @@ fn a_wrong_command_line_is_explained(rt: HostRuntime) -> Result<(), Fail> {
 // The help of each command ends with a call of it.
 #[test]
 fn help_shows_an_example(rt: HostRuntime) -> Result<(), Fail> {
-    let rows: [(&[&str], &[u8]); 7] = [
+    let rows: [(&[&str], &[u8]); 8] = [
         (&["--help"], b"Example: pramc run examples/sum.pram\n"),
         (
             &["check", "--help"],
@@ -144,6 +144,10 @@ fn help_shows_an_example(rt: HostRuntime) -> Result<(), Fail> {
         (
             &["meaning", "--help"],
             b"Example: pramc meaning examples/tree_sum.pram --input examples/tree_sum.in\n",
+        ),
+        (
+            &["cost", "--help"],
+            b"Example: pramc cost examples/tree_sum.pram --input examples/tree_sum.in --schedule 2\n",
         ),
         (
             &["run", "--help"],

@@ -1,5 +1,5 @@
 -- What a call of the program leaves on its streams.
-use Rattle.std.specs.Prelude.{◌≡◌, ◌⊎◌, ◌<◌, ◌≤◌, ℕ, ℤ, List, length, ◌++◌, Result, Ok, Err, Option, codes, decimal}
+use Rattle.std.specs.Prelude.{◌≡◌, ◌⊎◌, ◌<◌, ◌≤◌, ℕ, ℤ, List, length, ◌++◌, Result, Ok, Err, Option, Bool, codes, decimal}
 use Rattle.pram_model.specs.Layout.{SharedEntry, total_size}
 use Rattle.text_out.specs.Out.{OutState, StopsIn, with_bytes}
 use Rattle.pram_model.specs.Rules.{rule_word}
@@ -21,7 +21,6 @@ use Rattle.program_texts.specs.Report.{HasBreach, HasTooFewCells, IsInputRefusal
 use Rattle.program_texts.specs.Shown.{line, shown}
 use Rattle.program_texts.specs.Status.{status_of}
 use Rattle.program_texts.specs.StoppedFields.{stop_text}
-use Rattle.cost_texts.specs.CostText.{cost_text}
 use Rattle.work_time.specs.declared.cost.Cost.{Cost}
 use Rattle.rule_comparison.specs.Compared.{IsComparison}
 use Rattle.rule_comparison.specs.ComparisonText.{comparison_text}
@@ -37,7 +36,7 @@ use Rattle.run_options.specs.declared.map_choice.MapChoice.{MapChoice}
 use Rattle.pramc.specs.declared.options.Options.{Options}
 use Rattle.pramc.specs.Runs.{IsChoice, IsCodeRun, IsRunByWorkers}
 use Rattle.pramc.specs.Reserved.{IsCodePast, IsTextPast}
-use Rattle.pramc_command.specs.Costs.{HasCost}
+use Rattle.pramc_command.specs.Costs.{HasCost, costs_text}
 
 -- `accepted cells 16 procs 8 rule erew`
 abbrev pub accepted_line : Checked → List ℕ
@@ -90,8 +89,9 @@ pub data Tells : Status → List ℕ → Type 0 where
   Planned : (code : SuperstepCode) → IsPlanned code → Tells Done (spelling code)
   Ran : (layout : List SharedEntry) (outcome : Outcome) → HasOutcome layout outcome
       → Tells (status_of outcome) (shown layout (verdict_of outcome))
-  Costed : (layout : List SharedEntry) (outcome : Outcome) (schedule : Option ℕ) (cost : Cost) → HasCost layout outcome schedule cost
-      → Tells (status_of outcome) (cost_text cost schedule ++ shown layout (verdict_of outcome))
+  Costed : (layout : List SharedEntry) (outcome : Outcome) (schedule : Option ℕ) (lines : Bool) (cost : Cost)
+      → HasCost layout outcome schedule cost
+      → Tells (status_of outcome) (costs_text cost schedule lines ++ shown layout (verdict_of outcome))
   Compared : (c : Comparison) → IsCompared c → Tells Done (comparison_text c)
   Traced : (outcome : Outcome) (exchanges : List Exchange) → HasTrace outcome exchanges → Tells (status_of outcome) (trace_text exchanges)
   Executed : (code : SuperstepCode) (outcome : Outcome) → IsAListing code → HasRun code outcome

@@ -1,5 +1,5 @@
--- What the run of a program costs.
-use Rattle.std.specs.Prelude.{◌≡◌, ℕ, ℤ, List, Option, Some, None, ◌+◌, ◌/◌}
+-- What the run of a program costs, and the text of it.
+use Rattle.std.specs.Prelude.{◌≡◌, ℕ, ℤ, List, [], ◌++◌, Bool, true, false, Option, Some, None, ◌+◌, ◌/◌}
 use Rattle.pram_model.specs.Layout.{SharedEntry}
 use Rattle.write_rules.specs.Verdict.{verdict_of}
 use Rattle.write_rules.specs.declared.outcome.Outcome.{Outcome}
@@ -7,6 +7,7 @@ use Rattle.work_time.specs.Cost as cost
 use Rattle.work_time.specs.Steps.{run_steps}
 use Rattle.work_time.specs.declared.cost.Cost.{Cost}
 use Rattle.work_time.specs.declared.time_step.TimeStep.{TimeStep}
+use Rattle.cost_texts.specs.CostText.{cost_text, lines_text}
 use Rattle.program_texts.specs.Report.{IsRunOf}
 
 -- the numbers of a run that takes these time steps, where rounds are those on q processors
@@ -18,6 +19,7 @@ pub record IsCost (ss : List TimeStep) (q : ℕ) (c : Cost) : Type 0 where
   pub writes : c.writes ≡ cost.writes ss
   pub rounds : c.rounds ≡ cost.rounds q ss
   pub most_rounds : c.most_rounds ≡ cost.work ss / q + cost.time ss
+  pub lines : c.lines.items ≡ cost.line_costs ss
 
 -- Rounds are told on as many processors as are asked for; where none are, no rounds are told.
 abbrev pub processors_of : Option ℕ → ℕ
@@ -31,3 +33,11 @@ pub record HasCost (layout : List SharedEntry) (outcome : Outcome) (schedule : O
   pub bound : ℕ
   pub run : IsRunOf text input bound layout (verdict_of outcome)
   pub cost : IsCost (run_steps run.program input bound) (processors_of schedule) c
+
+abbrev pub if_lines : Bool → List ℕ → List ℕ
+if_lines true text = text
+if_lines false text = []
+
+-- the costs of a run, and where it is asked for those of each line
+abbrev pub costs_text : Cost → Option ℕ → Bool → List ℕ
+costs_text c schedule lines = cost_text c schedule ++ if_lines lines (lines_text c.lines.items)

@@ -18,10 +18,10 @@ use std::thread::Threads;
 ///
 /// `check FILE` writes `accepted cells N procs M rule R`; `plan FILE` the listing of the program's code; `meaning FILE` the outcome by
 /// the definition, `cost FILE` what that run costs and then its outcome, and `rules FILE` how it comes out under each rule; `run FILE`
-/// that of its code, run by workers in threads, and `trace FILE` the exchanges of that run; `exec LISTING` the outcome of a listing, run so. What is refused is written to `err`: P1 for the
-/// words, P2 for a file that can't be read, and E1 to E18. It is judged in this order: the words; the file and its text (of a listing
-/// E2, E15, E14); the input's file and its text; the number of workers (E13), the map (E12), and the number of the input's values (E11).
-/// With `--reserve` a run is refused besides where it comes past that (E18).
+/// that of its code, run by workers in threads, and `trace FILE` the exchanges of that run; `exec LISTING` the outcome of a listing,
+/// run so. What is refused is written to `err`: P1 for the words, P2 for a file that can't be read, and E1 to E18. It is judged in this
+/// order: the words; the file and its text (of a listing E2, E15, E14); the input's file and its text; the number of workers (E13), the
+/// map (E12), and the number of the input's values (E11). With `--reserve` a run is refused besides where it comes past that (E18).
 pub fn command<R: Threads + Wait + Sync, S: Sources, O: Out, E: Out>(
     rt: &R,
     alloc: Global,
@@ -103,15 +103,9 @@ fn on_program<'a, R: Threads + Wait + Sync, S: Sources, O: Out>(
                 &program,
                 &input,
                 words.options.bound,
-                words.schedule,
+                words.costs,
             )?;
-            write_costs(
-                out,
-                program.layout(),
-                &outcome,
-                &cost,
-                words.schedule,
-            )
+            write_costs(out, program.layout(), &outcome, &cost, words.costs)
         }
         Verb::Rules => {
             let input = load_input(alloc, sources, words.input)?;

@@ -1,6 +1,6 @@
 //! The words that the program takes, and its help.
 
-use clap::{Arg, Command};
+use clap::{Arg, ArgAction, Command};
 use std::alloc::{AllocError, Global};
 
 pub(crate) const FILE: &str = "FILE";
@@ -16,6 +16,8 @@ pub(crate) const MAP: &str = "map";
 pub(crate) const RESERVE: &str = "reserve";
 
 pub(crate) const SCHEDULE: &str = "schedule";
+
+pub(crate) const LINES: &str = "lines";
 
 // What the help of a subcommand says.
 struct Subcommand {
@@ -114,8 +116,12 @@ fn over_cost<'a>(alloc: Global, words: &Subcommand) -> Result<Command<'a>, Alloc
     let schedule = Arg::new(alloc, SCHEDULE)
         .long(SCHEDULE)
         .value_name("P")
-        .help("Counts the rounds on P processors too");
-    over_run(alloc, words)?.arg(schedule)
+        .help("Counts the rounds on P processors too, P from 1");
+    let lines = Arg::new(alloc, LINES)
+        .long(LINES)
+        .action(ArgAction::SetTrue)
+        .help("Counts for each line of the program too");
+    over_run(alloc, words)?.arg(schedule)?.arg(lines)
 }
 
 // A subcommand that runs it by workers.

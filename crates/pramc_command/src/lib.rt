@@ -2,6 +2,7 @@
 #![tactic(auto)]
 
 mod commands;
+mod cost_words;
 mod grammar;
 mod loading;
 mod request;

@@ -4,7 +4,8 @@ ghost use Rattle.std.specs.Prelude.{◌<◌, IfOk, IfErr};
 ghost use Rattle.std.specs.Option.{ForSome};
 ghost use Rattle.pramc_command.specs.Answered.{IsTrueStop};
 
-use crate::grammar::{BOUND, FILE, INPUT, MAP, RESERVE, SCHEDULE, WORKERS, grammar};
+use crate::cost_words::CostWords;
+use crate::grammar::{BOUND, FILE, INPUT, LINES, MAP, RESERVE, SCHEDULE, WORKERS, grammar};
 use bsp_machine::Reserve;
 use clap::ArgMatches;
 use clap::error::ErrorKind;
@@ -40,9 +41,7 @@ pub(crate) struct RunWords<'a> {
     pub(crate) options: Options,
     /// For how much workers take all their memory before the first exchange. Without one they take it on the way.
     pub(crate) reserve: Option<Reserve>,
-    /// The number of processors on which the work is scheduled. Without one no rounds are told.
-    pub(crate) schedule: Option<u32>,
-    ghost scheduled: { ForSome schedule (λ q. 0 < q) },
+    pub(crate) costs: CostWords,
 }
 
 /// One call of the program.
@@ -114,6 +113,14 @@ fn schedule_of<'a>(words: &ArgMatches<'a>) -> Result<Option<u32>, Stop<'a>>
     }
 }
 
+fn cost_words<'a>(words: &ArgMatches<'a>) -> Result<CostWords, Stop<'a>>
+    ensures { IfErr result IsTrueStop }
+{
+    let schedule = schedule_of(words)?;
+    let lines = words.get_flag(LINES);
+    Ok(CostWords { schedule, lines })
+}
+
 fn run_words<'a>(words: &ArgMatches<'a>) -> Result<RunWords<'a>, Stop<'a>>
     ensures { IfErr result IsTrueStop }
 {
@@ -121,7 +128,7 @@ fn run_words<'a>(words: &ArgMatches<'a>) -> Result<RunWords<'a>, Stop<'a>>
     let workers = number_of(words, WORKERS)?;
     let map = map_of(words)?;
     let reserve = reserve_of(words)?;
-    let schedule = schedule_of(words)?;
+    let costs = cost_words(words)?;
     Ok(RunWords {
         input: words.get_str(INPUT),
         options: Options {
@@ -130,7 +137,7 @@ fn run_words<'a>(words: &ArgMatches<'a>) -> Result<RunWords<'a>, Stop<'a>>
             bound,
         },
         reserve,
-        schedule,
+        costs,
     })
 }
 

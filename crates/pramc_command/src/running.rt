@@ -1,10 +1,11 @@
 //! What programs and listings come to.
 
-ghost use Rattle.std.specs.Prelude.{◌<◌, IfOk, IfErr};
-ghost use Rattle.std.specs.Option.{ForSome};
+ghost use Rattle.std.specs.Prelude.{◌≡◌, ◌<◌, IfOk, IfErr};
 ghost use Rattle.pramc_command.specs.Answered.{HasOutcome, HasRun, HasTrace, IsAListing, IsAProgram, IsCompared, IsPlanned, IsTrueStop};
 ghost use Rattle.pramc_command.specs.Costs.{HasCost};
+ghost use Rattle.pramc_command.specs.Costs as spec;
 
+use crate::cost_words::CostWords;
 use bsp_machine::Reserve;
 use bsp_verify::Verified;
 use compiling::compile_program;
@@ -47,24 +48,31 @@ pub(crate) fn mean<'a>(
     }
 }
 
+// On how many processors rounds are counted, whether they are told or not.
+fn processors_of(words: CostWords) -> u32
+    ensures value { result ≡ spec.processors_of words.schedule }
+    ensures some { 0 < result }
+{
+    match words.schedule {
+        Some(processors) => processors,
+        None => 1,
+    }
+}
+
 /// The outcome by the definition, and what that run costs.
 pub(crate) fn cost<'a>(
     alloc: Global,
     program: &Program,
     input: &[i64],
     bound: u32,
-    schedule: Option<u32>,
+    words: CostWords,
 ) -> Result<(Outcome, Cost), Stop<'a>>
     requires program { IsAProgram program.now }
-    requires some { ForSome schedule (λ q. 0 < q) }
-    ensures cost { IfOk result (λ found. HasCost program.now.layout found.0 schedule found.1) }
+    ensures cost { IfOk result (λ found. HasCost program.now.layout found.0 words.schedule found.1) }
     ensures refused { IfErr result IsTrueStop }
 {
-    let processors = match schedule {
-        Some(processors) => processors,
-        None => 1,
-    };
-    match cost_of(alloc, program, input, bound, processors) {
+    let schedule = processors_of(words);
+    match cost_of(alloc, program, input, bound, schedule) {
         Ok(found) => Ok(found),
         Err(RunRefusal::InputTooLong) => Err(Stop::Refused(Refusal::InputTooLong)),
         Err(RunRefusal::OutOfMemory) => Err(Stop::Refused(Refusal::OutOfMemory)),

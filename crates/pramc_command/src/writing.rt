@@ -5,11 +5,11 @@ ghost use Rattle.text_out.specs.Out.{Writes};
 ghost use Rattle.write_rules.specs.Verdict.{verdict_of};
 ghost use Rattle.program_texts.specs.Shown.{shown};
 ghost use Rattle.program_texts.specs.Status.{status_of};
-ghost use Rattle.cost_texts.specs.CostText.{cost_text};
 ghost use Rattle.pramc_command.specs.Answered.{Answers, HasTrace, IsAProgram, IsCompared, IsPlanned, Tells, accepted_line};
-ghost use Rattle.pramc_command.specs.Costs.{HasCost};
+ghost use Rattle.pramc_command.specs.Costs.{HasCost, costs_text};
 
-use cost_texts::write_cost;
+use crate::cost_words::CostWords;
+use cost_texts::{write_cost, write_lines};
 use exchange_counts::Counts;
 use itoa::Buffer;
 use pram_check::Program;
@@ -41,19 +41,32 @@ pub(crate) fn write_outcome<'a, O: Out>(
     }
 }
 
-// A run's costs, and behind them its outcome.
-fn write_cost_and_outcome<O: Out>(
+// A run's costs, as far as they are asked for.
+fn write_numbers<O: Out>(out: &mut O, cost: &Cost, words: CostWords) -> Result<(), WriteFault>
+    requires out { (O.Out.state out.old).failures < 2 ^ 62 }
+    ensures written { Writes (O.Out.state out.old) (O.Out.state out.new) (costs_text cost.now words.schedule words.lines) result }
+{
+    write_cost(cost, words.schedule, out)?;
+    if words.lines {
+        write_lines(&cost.lines, out)
+    } else {
+        Ok(())
+    }
+}
+
+// Those, and behind them the run's outcome.
+fn write_numbers_and_outcome<O: Out>(
     out: &mut O,
     layout: &Layout,
     outcome: &Outcome,
     cost: &Cost,
-    schedule: Option<u32>,
+    words: CostWords,
 ) -> Result<(), WriteFault>
     requires out { (O.Out.state out.old).failures < 2 ^ 62 }
     ensures written { Writes (O.Out.state out.old) (O.Out.state out.new)
-        (cost_text cost.now schedule ++ shown layout.now (verdict_of outcome.now)) result }
+        (costs_text cost.now words.schedule words.lines ++ shown layout.now (verdict_of outcome.now)) result }
 {
-    write_cost(cost, schedule, out)?;
+    write_numbers(out, cost, words)?;
     show(layout, outcome, out)
 }
 
@@ -63,13 +76,13 @@ pub(crate) fn write_costs<'a, O: Out>(
     layout: &Layout,
     outcome: &Outcome,
     cost: &Cost,
-    schedule: Option<u32>,
+    words: CostWords,
 ) -> Result<Status, Stop<'a>>
     requires out { (O.Out.state out.old).failures < 2 ^ 62 }
-    requires cost { HasCost layout.now outcome.now schedule cost.now }
+    requires cost { HasCost layout.now outcome.now words.schedule cost.now }
     ensures answers { Answers (O.Out.state out.old) (O.Out.state out.new) result }
 {
-    match write_cost_and_outcome(out, layout, outcome, cost, schedule) {
+    match write_numbers_and_outcome(out, layout, outcome, cost, words) {
         Ok(()) => {
             let status = Status::of(outcome);
             finish(out, status)

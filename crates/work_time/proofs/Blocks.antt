@@ -20,45 +20,45 @@ use Rattle.pram_meaning.proofs.Blocks.{block_is}
 use Rattle.work_time.specs.Kept.{Going, Kept, Tells, kept}
 use Rattle.work_time.specs.Steps.{effect_writes, for_steps, for_turns_steps, inner_list_steps, list_steps, none_of, one_step}
 use Rattle.work_time.specs.Steps.{pardo_steps, row_steps, turns_steps, value_step}
-use Rattle.work_time.specs.Totals.{Totals}
+use Rattle.work_time.specs.Accounts.{Accounts}
 use Rattle.work_time.proofs.Kept.{halts, kept_map, kept_then, then_keep}
 use Rattle.work_time.proofs.Told.{block_steps, told, told_for, told_list, told_test, told_turns}
 
 -- ---- a test, an assignment, a print
 
-abbrev told_value : Checked → (q n line : ℕ) → Expression → State → Totals → Kept ℤ
+abbrev told_value : Checked → (q n line : ℕ) → Expression → State → Accounts → Kept ℤ
 told_value p q n line e m t = kept q t (value_step p n line e m) (found p n line e m)
 
-test_is : (p : Checked) (q n line : ℕ) (e : Expression) (m : State) (t : Totals) →
+test_is : (p : Checked) (q n line : ℕ) (e : Expression) (m : State) (t : Accounts) →
     told_test p q n line e m t ≡ then_keep (told_value p q n line e m t) (λ v m t. Going (is_nonzero v) m t)
 test_is p q n line e m t = kept_map q t (value_step p n line e m) (found p n line e m) (λ v m. is_nonzero v) (λ v m. m)
 
-pub test_halts : (p : Checked) (q n line : ℕ) (e : Expression) (m new : State) (t late : Totals) (h : Halt) →
+pub test_halts : (p : Checked) (q n line : ℕ) (e : Expression) (m new : State) (t late : Accounts) (h : Halt) →
     Tells {A = ℤ} (λ v. v) (Err h) new late (kept q t (value_step p n line e m) (found p n line e m)) →
     Tells {A = Bool} (λ b. b) (Err h) new late (kept q t (value_step p n line e m) (tested p n line e m))
 test_halts p q n line e m new t late h is =
     rw (test_is p q n line e m t)
     (halts {A = ℤ} {C = Bool} (λ v. v) (λ b. b) h new late (told_value p q n line e m t) (λ v m t. Going (is_nonzero v) m t) is)
 
-pub test_goes : (p : Checked) (q n line : ℕ) (e : Expression) (m new : State) (t late : Totals) (v : ℤ) (b : Bool) →
+pub test_goes : (p : Checked) (q n line : ℕ) (e : Expression) (m new : State) (t late : Accounts) (v : ℤ) (b : Bool) →
     kept q t (value_step p n line e m) (found p n line e m) ≡ Going v new late → b ≡ is_nonzero v →
     kept q t (value_step p n line e m) (tested p n line e m) ≡ Going b new late
 test_goes p q n line e m new t late v b is z =
     test_is p q n line e m t ∙ ap (λ x. then_keep x (λ v m t. Going (is_nonzero v) m t)) is ∙ ap (λ b. Going b new late) (sym z)
 
-abbrev told_effect : Checked → (q n line : ℕ) → Target → Expression → State → Totals → Kept Effect
+abbrev told_effect : Checked → (q n line : ℕ) → Target → Expression → State → Accounts → Kept Effect
 told_effect p q n line x e m t =
     kept q t (one_step n line effect_writes (λ m. attempt_assign (seen p m) x e) m)
     (evaluated n line (λ m. attempt_assign (seen p m) x e) m)
 
-assign_is : (p : Checked) (q n line : ℕ) (x : Target) (e : Expression) (m : State) (t : Totals) →
+assign_is : (p : Checked) (q n line : ℕ) (x : Target) (e : Expression) (m : State) (t : Accounts) →
     kept q t (one_step n line effect_writes (λ m. attempt_assign (seen p m) x e) m) (meaning.assign p n line x e m) ≡
     then_keep (told_effect p q n line x e m t) (λ g m t. Going tt (assigned x g m) t)
 assign_is p q n line x e m t =
     kept_map q t (one_step n line effect_writes (λ m. attempt_assign (seen p m) x e) m)
     (evaluated n line (λ m. attempt_assign (seen p m) x e) m) (λ g m. tt) (λ g m. assigned x g m)
 
-pub assign_halts : (p : Checked) (q n line : ℕ) (x : Target) (e : Expression) (m new : State) (t late : Totals) (h : Halt) →
+pub assign_halts : (p : Checked) (q n line : ℕ) (x : Target) (e : Expression) (m new : State) (t late : Accounts) (h : Halt) →
     Tells {A = rust.Effect.Effect} effect_is (Err h) new late (told_effect p q n line x e m t) →
     Tells {A = Unit {0}} (λ u. u) (Err h) new late
     (kept q t (one_step n line effect_writes (λ m. attempt_assign (seen p m) x e) m) (meaning.assign p n line x e m))
@@ -67,25 +67,25 @@ assign_halts p q n line x e m new t late h is =
     (halts {A = rust.Effect.Effect} {C = Unit {0}} effect_is (λ u. u) h new late (told_effect p q n line x e m t)
     (λ g m t. Going tt (assigned x g m) t) is)
 
-pub assign_goes : (p : Checked) (q n line : ℕ) (x : Target) (e : Expression) (m mid new : State) (t late : Totals) (g : rust.Effect.Effect) →
+pub assign_goes : (p : Checked) (q n line : ℕ) (x : Target) (e : Expression) (m mid new : State) (t late : Accounts) (g : rust.Effect.Effect) →
     told_effect p q n line x e m t ≡ Going (effect_is g) mid late → new ≡ assigned x (effect_is g) mid →
     kept q t (one_step n line effect_writes (λ m. attempt_assign (seen p m) x e) m) (meaning.assign p n line x e m) ≡ Going tt new late
 assign_goes p q n line x e m mid new t late g is left =
     assign_is p q n line x e m t ∙ ap (λ y. then_keep y (λ g m t. Going tt (assigned x g m) t)) is ∙ ap (λ m. Going tt m late) (sym left)
 
-print_is : (p : Checked) (q n line : ℕ) (e : Expression) (m : State) (t : Totals) →
+print_is : (p : Checked) (q n line : ℕ) (e : Expression) (m : State) (t : Accounts) →
     kept q t (value_step p n line e m) (meaning.print p n line e m) ≡
     then_keep (told_value p q n line e m t) (λ v m t. Going tt (printed v m) t)
 print_is p q n line e m t = kept_map q t (value_step p n line e m) (found p n line e m) (λ v m. tt) printed
 
-pub print_halts : (p : Checked) (q n line : ℕ) (e : Expression) (m new : State) (t late : Totals) (h : Halt) →
+pub print_halts : (p : Checked) (q n line : ℕ) (e : Expression) (m new : State) (t late : Accounts) (h : Halt) →
     Tells {A = ℤ} (λ v. v) (Err h) new late (kept q t (value_step p n line e m) (found p n line e m)) →
     Tells {A = Unit {0}} (λ u. u) (Err h) new late (kept q t (value_step p n line e m) (meaning.print p n line e m))
 print_halts p q n line e m new t late h is =
     rw (print_is p q n line e m t)
     (halts {A = ℤ} {C = Unit {0}} (λ v. v) (λ u. u) h new late (told_value p q n line e m t) (λ v m t. Going tt (printed v m) t) is)
 
-pub print_goes : (p : Checked) (q n line : ℕ) (e : Expression) (m mid new : State) (t late : Totals) (v : ℤ) →
+pub print_goes : (p : Checked) (q n line : ℕ) (e : Expression) (m mid new : State) (t late : Accounts) (v : ℤ) →
     kept q t (value_step p n line e m) (found p n line e m) ≡ Going v mid late → new ≡ printed v mid →
     kept q t (value_step p n line e m) (meaning.print p n line e m) ≡ Going tt new late
 print_goes p q n line e m mid new t late v is left =
@@ -93,16 +93,16 @@ print_goes p q n line e m mid new t late v is left =
 
 -- ---- a pardo, from its bounds and its body
 
-abbrev told_range : Checked → (q n line : ℕ) → Expression → Expression → State → Totals → Kept (ℤ × ℕ)
+abbrev told_range : Checked → (q n line : ℕ) → Expression → Expression → State → Accounts → Kept (ℤ × ℕ)
 told_range p q n line e f m t =
     kept q t (one_step n line none_of (λ m. attempt_range p.procs (seen p m) e f) m)
     (evaluated n line (λ m. attempt_range p.procs (seen p m) e f) m)
 
-abbrev told_team : Checked → (q n locals : ℕ) → List Step → ℤ → ℕ → State → Totals → Kept (Unit {0})
+abbrev told_team : Checked → (q n locals : ℕ) → List Step → ℤ → ℕ → State → Accounts → Kept (Unit {0})
 told_team p q n locals body a k m t =
     kept q t (inner_list_steps p n body (numbers 0 k) (with_team a k locals m)) (pardo_done p n locals body a k m)
 
-pardo_is : (p : Checked) (q n line : ℕ) (e f : Expression) (locals : ℕ) (body : List Step) (m : State) (t : Totals) →
+pardo_is : (p : Checked) (q n line : ℕ) (e f : Expression) (locals : ℕ) (body : List Step) (m : State) (t : Accounts) →
     kept q t (pardo_steps p n line e f locals body m) (pardo p n line e f locals body m) ≡
     then_keep (told_range p q n line e f m t) (λ r. told_team p q n locals body r.0 r.1)
 pardo_is p q n line e f locals body m t =
@@ -111,7 +111,7 @@ pardo_is p q n line e f locals body m t =
     (λ r m. inner_list_steps p n body (numbers 0 r.1) (with_team r.0 r.1 locals m))
     (λ r. pardo_done p n locals body r.0 r.1)
 
-pub pardo_halts : (p : Checked) (q n line : ℕ) (e f : Expression) (locals : ℕ) (body : List Step) (m new : State) (t late : Totals)
+pub pardo_halts : (p : Checked) (q n line : ℕ) (e f : Expression) (locals : ℕ) (body : List Step) (m new : State) (t late : Accounts)
     (h : Halt) → Tells {A = ℤ × ℕ} (λ r. (r.0, r.1)) (Err h) new late (told_range p q n line e f m t) →
     Tells {A = Unit {0}} (λ u. u) (Err h) new late
     (kept q t (pardo_steps p n line e f locals body m) (pardo p n line e f locals body m))
@@ -120,7 +120,7 @@ pardo_halts p q n line e f locals body m new t late h is =
     (halts {A = ℤ × ℕ} {C = Unit {0}} (λ r. (r.0, r.1)) (λ u. u) h new late (told_range p q n line e f m t)
     (λ r. told_team p q n locals body r.0 r.1) is)
 
-pub pardo_goes : (p : Checked) (q n line : ℕ) (e f : Expression) (locals : ℕ) (body : List Step) (m mid new : State) (t half late : Totals)
+pub pardo_goes : (p : Checked) (q n line : ℕ) (e f : Expression) (locals : ℕ) (body : List Step) (m mid new : State) (t half late : Accounts)
     (c : ℤ × ℕ) (r : Result (Unit {0}) Halt) → told_range p q n line e f m t ≡ Going (c.0, c.1) mid half →
     Tells (λ u. u) r new late (told_team p q n locals body c.0 c.1 mid half) →
     Tells (λ u. u) r new late (kept q t (pardo_steps p n line e f locals body m) (pardo p n line e f locals body m))
@@ -131,12 +131,12 @@ pardo_goes p q n line e f locals body m mid new t half late c r is h =
 
 -- ---- a `for`, from its bounds and its turns
 
-abbrev told_bounds : Checked → (q n line : ℕ) → Expression → Expression → State → Totals → Kept (ℤ × ℤ)
+abbrev told_bounds : Checked → (q n line : ℕ) → Expression → Expression → State → Accounts → Kept (ℤ × ℤ)
 told_bounds p q n line e f m t =
     kept q t (one_step n line none_of (λ m. attempt_bounds (seen p m) e f) m)
     (evaluated n line (λ m. attempt_bounds (seen p m) e f) m)
 
-for_is : (p : Checked) (q n line x : ℕ) (e f : Expression) (body : List Statement) (m : State) (t : Totals) →
+for_is : (p : Checked) (q n line x : ℕ) (e f : Expression) (body : List Statement) (m : State) (t : Accounts) →
     kept q t (for_steps p n line x e f (list_steps p n body) (perform_list p n body) m)
     (for_all p n line x e f (perform_list p n body) m) ≡
     then_keep (told_bounds p q n line e f m t) (λ r. told_for p q n line (width r.0 r.1) x r.0 body)
@@ -146,7 +146,7 @@ for_is p q n line x e f body m t =
     (λ r. for_turns_steps n line (width r.0 r.1) x r.0 (list_steps p n body) (perform_list p n body))
     (λ r. for_turns n (width r.0 r.1) x r.0 (perform_list p n body))
 
-pub for_halts : (p : Checked) (q n line x : ℕ) (e f : Expression) (body : List Statement) (m new : State) (t late : Totals) (h : Halt) →
+pub for_halts : (p : Checked) (q n line x : ℕ) (e f : Expression) (body : List Statement) (m new : State) (t late : Accounts) (h : Halt) →
     Tells {A = ℤ × ℤ} (λ r. (r.0, r.1)) (Err h) new late (told_bounds p q n line e f m t) →
     Tells {A = Unit {0}} (λ u. u) (Err h) new late (kept q t (for_steps p n line x e f (list_steps p n body) (perform_list p n body) m)
     (for_all p n line x e f (perform_list p n body) m))
@@ -155,7 +155,7 @@ for_halts p q n line x e f body m new t late h is =
     (halts {A = ℤ × ℤ} {C = Unit {0}} (λ r. (r.0, r.1)) (λ u. u) h new late (told_bounds p q n line e f m t)
     (λ r. told_for p q n line (width r.0 r.1) x r.0 body) is)
 
-pub for_goes : (p : Checked) (q n line x : ℕ) (e f : Expression) (body : List Statement) (m mid new : State) (t half late : Totals)
+pub for_goes : (p : Checked) (q n line x : ℕ) (e f : Expression) (body : List Statement) (m mid new : State) (t half late : Accounts)
     (c : ℤ × ℤ) (a b : ℤ) (r : Result (Unit {0}) Halt) → told_bounds p q n line e f m t ≡ Going (c.0, c.1) mid half → a ≡ c.0 → b ≡ c.1 →
     Tells (λ u. u) r new late (told_for p q n line (width a b) x a body mid half) →
     Tells (λ u. u) r new late (kept q t (for_steps p n line x e f (list_steps p n body) (perform_list p n body) m)
@@ -169,19 +169,19 @@ for_goes p q n line x e f body m mid new t half late c a b r is u v h =
 
 -- ---- a statement of each kind
 
-pub assign_arm : (p : Checked) (q n line : ℕ) (s : Statement) (x : Target) (e : Expression) (m new : State) (t late : Totals)
+pub assign_arm : (p : Checked) (q n line : ℕ) (s : Statement) (x : Target) (e : Expression) (m new : State) (t late : Accounts)
     (r : Result (Unit {0}) Halt) → s ≡ Assign line x e → Tells (λ u. u) r new late
     (kept q t (one_step n line effect_writes (λ m. attempt_assign (seen p m) x e) m) (meaning.assign p n line x e m)) →
     Tells (λ u. u) r new late (told p q n s m t)
 assign_arm p q n line s x e m new t late r is h = rw is h
 
-pub print_arm : (p : Checked) (q n line : ℕ) (s : Statement) (e : Expression) (m new : State) (t late : Totals)
+pub print_arm : (p : Checked) (q n line : ℕ) (s : Statement) (e : Expression) (m new : State) (t late : Accounts)
     (r : Result (Unit {0}) Halt) → s ≡ Print line e → Tells (λ u. u) r new late
     (kept q t (value_step p n line e m) (meaning.print p n line e m)) → Tells (λ u. u) r new late (told p q n s m t)
 print_arm p q n line s e m new t late r is h = rw is h
 
 pub while_arm : (p : Checked) (q n line : ℕ) (s : Statement) (e : Expression) (body : Vec Statement Global) (m new : State)
-    (t late : Totals) (r : Result (Unit {0}) Halt) → s ≡ While line e body →
+    (t late : Accounts) (r : Result (Unit {0}) Halt) → s ≡ While line e body →
     Tells (λ u. u) r new late (told_turns p q n line e body.items (n + 1) m t) → Tells (λ u. u) r new late (told p q n s m t)
 while_arm p q n line s e body m new t late r is h =
     let P : Kept (Unit {0}) → Type 0 = Tells (λ u. u) r new late in
@@ -192,7 +192,7 @@ while_arm p q n line s e body m new t late r is h =
     ∙ ap (λ g. kept q t (turns_steps (n + 1) (value_step p n line e) (tested p n line e) (list_steps p n body.items) g m)
     (turns (n + 1) (tested p n line e) g m)) (block_is p n body))) h
 
-chosen : (p : Checked) (q n : ℕ) (a b : Vec Statement Global) (z : Bool) (m : State) (t : Totals) →
+chosen : (p : Checked) (q n : ℕ) (a b : Vec Statement Global) (z : Bool) (m : State) (t : Accounts) →
     kept q t (if z then row_steps p n (hidden-the_row-Statement-0 a) m else row_steps p n (hidden-the_row-Statement-0 b) m)
     (if z then perform_row p n (hidden-the_row-Statement-0 a) m else perform_row p n (hidden-the_row-Statement-0 b) m) ≡
     (if z then told_list p q n a.items m t else told_list p q n b.items m t)
@@ -203,7 +203,7 @@ chosen p q n a b false m t =
     ap (λ f. kept q t (f m) (perform_row p n (hidden-the_row-Statement-0 b) m)) (block_steps p n b)
     ∙ ap (λ g. kept q t (list_steps p n b.items m) (g m)) (block_is p n b)
 
-if_arm : (p : Checked) (q n line : ℕ) (s : Statement) (e : Expression) (a b : Vec Statement Global) (m : State) (t : Totals) →
+if_arm : (p : Checked) (q n line : ℕ) (s : Statement) (e : Expression) (a b : Vec Statement Global) (m : State) (t : Accounts) →
     s ≡ If line e a b → told p q n s m t ≡ then_keep (told_test p q n line e m t)
     (λ z m t. if z then told_list p q n a.items m t else told_list p q n b.items m t)
 if_arm p q n line s e a b m t is =
@@ -214,14 +214,14 @@ if_arm p q n line s e a b m t is =
     ∙ ap (then_keep (told_test p q n line e m t)) (λ j z m t. chosen p q n a b z m t j)
 
 pub if_halts_arm : (p : Checked) (q n line : ℕ) (s : Statement) (e : Expression) (a b : Vec Statement Global) (m new : State)
-    (t late : Totals) (h : Halt) → s ≡ If line e a b → Tells {A = Bool} (λ b. b) (Err h) new late (told_test p q n line e m t) →
+    (t late : Accounts) (h : Halt) → s ≡ If line e a b → Tells {A = Bool} (λ b. b) (Err h) new late (told_test p q n line e m t) →
     Tells {A = Unit {0}} (λ u. u) (Err h) new late (told p q n s m t)
 if_halts_arm p q n line s e a b m new t late h is f =
     rw (if_arm p q n line s e a b m t is)
     (halts {A = Bool} {C = Unit {0}} (λ b. b) (λ u. u) h new late (told_test p q n line e m t)
     (λ z m t. if z then told_list p q n a.items m t else told_list p q n b.items m t) f)
 
-if_goes : (p : Checked) (q n line : ℕ) (s : Statement) (e : Expression) (a b : Vec Statement Global) (m mid : State) (t half : Totals)
+if_goes : (p : Checked) (q n line : ℕ) (s : Statement) (e : Expression) (a b : Vec Statement Global) (m mid : State) (t half : Accounts)
     (v : Bool) → s ≡ If line e a b → told_test p q n line e m t ≡ Going v mid half →
     told p q n s m t ≡ (if v then told_list p q n a.items mid half else told_list p q n b.items mid half)
 if_goes p q n line s e a b m mid t half v is f =
@@ -229,7 +229,7 @@ if_goes p q n line s e a b m mid t half v is f =
     ∙ ap (λ x. then_keep x (λ z m t. if z then told_list p q n a.items m t else told_list p q n b.items m t)) f
 
 pub then_arm : (p : Checked) (q n line : ℕ) (s : Statement) (e : Expression) (a b : Vec Statement Global) (m mid new : State)
-    (t half late : Totals) (v : Bool) (r : Result (Unit {0}) Halt) → s ≡ If line e a b →
+    (t half late : Accounts) (v : Bool) (r : Result (Unit {0}) Halt) → s ≡ If line e a b →
     told_test p q n line e m t ≡ Going v mid half → v ≡ true → Tells (λ u. u) r new late (told_list p q n a.items mid half) →
     Tells (λ u. u) r new late (told p q n s m t)
 then_arm p q n line s e a b m mid new t half late v r is f z h =
@@ -238,7 +238,7 @@ then_arm p q n line s e a b m mid new t half late v r is f z h =
     ∙ ap (λ v. if v then told_list p q n a.items mid half else told_list p q n b.items mid half) z)) h
 
 pub else_arm : (p : Checked) (q n line : ℕ) (s : Statement) (e : Expression) (a b : Vec Statement Global) (m mid new : State)
-    (t half late : Totals) (v : Bool) (r : Result (Unit {0}) Halt) → s ≡ If line e a b →
+    (t half late : Accounts) (v : Bool) (r : Result (Unit {0}) Halt) → s ≡ If line e a b →
     told_test p q n line e m t ≡ Going v mid half → v ≡ false → Tells (λ u. u) r new late (told_list p q n b.items mid half) →
     Tells (λ u. u) r new late (told p q n s m t)
 else_arm p q n line s e a b m mid new t half late v r is f z h =
@@ -247,7 +247,7 @@ else_arm p q n line s e a b m mid new t half late v r is f z h =
     ∙ ap (λ v. if v then told_list p q n a.items mid half else told_list p q n b.items mid half) z)) h
 
 pub for_arm : (p : Checked) (q n line x : ℕ) (s : Statement) (e f : Expression) (body : Vec Statement Global) (m new : State)
-    (t late : Totals) (r : Result (Unit {0}) Halt) → s ≡ For line x e f body → Tells (λ u. u) r new late
+    (t late : Accounts) (r : Result (Unit {0}) Halt) → s ≡ For line x e f body → Tells (λ u. u) r new late
     (kept q t (for_steps p n line x e f (list_steps p n body.items) (perform_list p n body.items) m)
     (for_all p n line x e f (perform_list p n body.items) m)) → Tells (λ u. u) r new late (told p q n s m t)
 for_arm p q n line x s e f body m new t late r is h =
@@ -258,7 +258,7 @@ for_arm p q n line x s e f body m new t late r is h =
     ∙ ap (λ b. kept q t (for_steps p n line x e f (list_steps p n body.items) b m) (for_all p n line x e f b m)) (block_is p n body))) h
 
 pub pardo_arm : (p : Checked) (q n line locals : ℕ) (s : Statement) (e f : Expression) (body : Vec Step Global) (m new : State)
-    (t late : Totals) (r : Result (Unit {0}) Halt) → s ≡ Pardo line e f locals body → Tells (λ u. u) r new late
+    (t late : Accounts) (r : Result (Unit {0}) Halt) → s ≡ Pardo line e f locals body → Tells (λ u. u) r new late
     (kept q t (pardo_steps p n line e f locals body.items m) (pardo p n line e f locals body.items m)) →
     Tells (λ u. u) r new late (told p q n s m t)
 pardo_arm p q n line locals s e f body m new t late r is h = rw is h

@@ -24,21 +24,21 @@ use Rattle.pram_meaning.specs.Together.{those, those_of, value_in}
 use Rattle.pram_meaning.proofs.SetBlocks.{block_is}
 use Rattle.work_time.specs.Kept.{Going, Kept, Tells, kept}
 use Rattle.work_time.specs.Steps.{behind, inner_list_steps, inner_row_steps, set_step, test_step, turns_on_steps}
-use Rattle.work_time.specs.Totals.{Totals}
+use Rattle.work_time.specs.Accounts.{Accounts}
 use Rattle.work_time.proofs.Kept.{halts, kept_map, kept_then, then_keep}
 use Rattle.work_time.proofs.Told.{block_steps_on, list_on_is, told_list_on, told_on, told_test_on, told_turns_on}
 
 -- ---- blocks
 
-pub record InBlock (w : Checked) (q n : ℕ) (items : List Step) (vs : List ℕ) (i : ℕ) (start : State) (from : Totals) (now : State)
-    (till : Totals) : Type 0 where
+pub record InBlock (w : Checked) (q n : ℕ) (items : List Step) (vs : List ℕ) (i : ℕ) (start : State) (from : Accounts) (now : State)
+    (till : Accounts) : Type 0 where
   pub same : told_list_on w q n items vs start from ≡ told_list_on w q n (drop i items) vs now till
   pub grows : start.count ≤ now.count
 
-pub block_starts : (w : Checked) (q n : ℕ) (items : List Step) (vs : List ℕ) (m : State) (t : Totals) → InBlock w q n items vs 0 m t m t
+pub block_starts : (w : Checked) (q n : ℕ) (items : List Step) (vs : List ℕ) (m : State) (t : Accounts) → InBlock w q n items vs 0 m t m t
 block_starts w q n items vs m t = record { same = refl; grows = omega arith }
 
-next_of : (w : Checked) (q n : ℕ) (items : List Step) (vs : List ℕ) (i : ℕ) (s : Step) (start now : State) (from till : Totals) →
+next_of : (w : Checked) (q n : ℕ) (items : List Step) (vs : List ℕ) (i : ℕ) (s : Step) (start now : State) (from till : Accounts) →
     InBlock w q n items vs i start from now till → i < length items → s ≡ get_or items i s →
     told_list_on w q n items vs start from ≡ then_keep (told_on w q n s vs now till) (λ u. told_list_on w q n (drop (i + 1) items) vs)
 next_of w q n items vs i s start now from till b h is =
@@ -46,7 +46,7 @@ next_of w q n items vs i s start now from till b h is =
     ∙ list_on_is w q n s (drop (i + 1) items) vs now till
 
 pub block_halts : (w : Checked) (q n : ℕ) (items : List Step) (vs : List ℕ) (i : ℕ) (s : Step) (start now new : State)
-    (from till late : Totals) (x : Halt) → InBlock w q n items vs i start from now till → i < length items → s ≡ get_or items i s →
+    (from till late : Accounts) (x : Halt) → InBlock w q n items vs i start from now till → i < length items → s ≡ get_or items i s →
     Tells {A = Unit {0}} (λ u. u) (Err x) new late (told_on w q n s vs now till) →
     Tells {A = Unit {0}} (λ u. u) (Err x) new late (told_list_on w q n items vs start from)
 block_halts w q n items vs i s start now new from till late x b h is e =
@@ -55,7 +55,7 @@ block_halts w q n items vs i s start now new from till late x b h is e =
     (λ u. told_list_on w q n (drop (i + 1) items) vs) e)
 
 pub block_goes : (w : Checked) (q n : ℕ) (items : List Step) (vs : List ℕ) (i : ℕ) (s : Step) (start now new : State)
-    (from till late : Totals) → InBlock w q n items vs i start from now till → i < length items → s ≡ get_or items i s →
+    (from till late : Accounts) → InBlock w q n items vs i start from now till → i < length items → s ≡ get_or items i s →
     told_on w q n s vs now till ≡ Going tt new late → now.count ≤ new.count → InBlock w q n items vs (i + 1) start from new late
 block_goes w q n items vs i s start now new from till late b h is e more =
     record {
@@ -64,20 +64,20 @@ block_goes w q n items vs i s start now new from till late b h is e more =
       grows = let g : start.count ≤ now.count = b.grows in omega arith;
     }
 
-pub block_ends : (w : Checked) (q n : ℕ) (items : List Step) (vs : List ℕ) (i : ℕ) (start now : State) (from till : Totals) →
+pub block_ends : (w : Checked) (q n : ℕ) (items : List Step) (vs : List ℕ) (i : ℕ) (start now : State) (from till : Accounts) →
     InBlock w q n items vs i start from now till → length items ≤ i → told_list_on w q n items vs start from ≡ Going tt now till
 block_ends w q n items vs i start now from till b h = b.same ∙ ap (λ xs. told_list_on w q n xs vs now till) (drop_all i items h)
 
 -- ---- a statement of each kind
 
-pub assign_arm : (w : Checked) (q n line : ℕ) (s : Step) (x : StepTarget) (e : Expression) (vs : List ℕ) (m new : State) (t late : Totals)
+pub assign_arm : (w : Checked) (q n line : ℕ) (s : Step) (x : StepTarget) (e : Expression) (vs : List ℕ) (m new : State) (t late : Accounts)
     (r : Result (Unit {0}) Halt) → s ≡ step.Assign line x e →
     Tells (λ u. u) r new late (kept q t (set_step w n line (λ s. attempt_step s x e) vs m) (assign_on w n line x e vs m)) →
     Tells (λ u. u) r new late (told_on w q n s vs m t)
 assign_arm w q n line s x e vs m new t late r is h = rw is h
 
 pub while_arm : (w : Checked) (q n line : ℕ) (s : Step) (e : Expression) (body : Vec Step Global) (vs : List ℕ) (m new : State)
-    (t late : Totals) (r : Result (Unit {0}) Halt) → s ≡ step.While line e body →
+    (t late : Accounts) (r : Result (Unit {0}) Halt) → s ≡ step.While line e body →
     Tells (λ u. u) r new late (told_turns_on w q n line e body.items (n + 1) vs m t) →
     Tells (λ u. u) r new late (told_on w q n s vs m t)
 while_arm w q n line s e body vs m new t late r is h =
@@ -90,7 +90,7 @@ while_arm w q n line s e body vs m new t late r is h =
     (turns_on (n + 1) (tested_on w n line e) g vs m)) (block_is w n body))) h
 
 -- the two parts of an `if`, one behind the other
-both_parts : (w : Checked) (q n : ℕ) (a b : List Step) (us vs : List ℕ) (m : State) (t : Totals) →
+both_parts : (w : Checked) (q n : ℕ) (a b : List Step) (us vs : List ℕ) (m : State) (t : Accounts) →
     kept q t (inner_list_steps w n a us m ++ behind (perform_list_on w n a us m) (λ u. inner_list_steps w n b vs))
     (then_do (perform_list_on w n a us m) (λ u. perform_list_on w n b vs))
     ≡ then_keep (told_list_on w q n a us m t) (λ u. told_list_on w q n b vs)
@@ -98,7 +98,7 @@ both_parts w q n a b us vs m t =
     kept_then q t (inner_list_steps w n a us m) (perform_list_on w n a us m) (λ u. inner_list_steps w n b vs)
     (λ u. perform_list_on w n b vs)
 
-if_arm : (w : Checked) (q n line : ℕ) (s : Step) (e : Expression) (a b : Vec Step Global) (vs : List ℕ) (m : State) (t : Totals) →
+if_arm : (w : Checked) (q n line : ℕ) (s : Step) (e : Expression) (a b : Vec Step Global) (vs : List ℕ) (m : State) (t : Accounts) →
     s ≡ step.If line e a b → told_on w q n s vs m t ≡ then_keep (told_test_on w q n line e vs m t)
     (λ xs m t. then_keep (told_list_on w q n a.items (those true xs) m t) (λ u. told_list_on w q n b.items (those false xs)))
 if_arm w q n line s e a b vs m t is =
@@ -131,7 +131,7 @@ if_arm w q n line s e a b vs m t is =
     (λ j xs m t. both_parts w q n a.items b.items (those true xs) (those false xs) m t j)
 
 pub if_halts : (w : Checked) (q n line : ℕ) (s : Step) (e : Expression) (a b : Vec Step Global) (vs : List ℕ) (m new : State)
-    (t late : Totals) (h : Halt) → s ≡ step.If line e a b → Tells {A = Vec part.Part.Part Global} (λ xs. map part_is xs.items) (Err h) new late
+    (t late : Accounts) (h : Halt) → s ≡ step.If line e a b → Tells {A = Vec part.Part.Part Global} (λ xs. map part_is xs.items) (Err h) new late
     (told_test_on w q n line e vs m t) → Tells {A = Unit {0}} (λ u. u) (Err h) new late (told_on w q n s vs m t)
 if_halts w q n line s e a b vs m new t late h is f =
     rw (if_arm w q n line s e a b vs m t is)
@@ -140,7 +140,7 @@ if_halts w q n line s e a b vs m new t late h is f =
     (λ xs m t. then_keep (told_list_on w q n a.items (those true xs) m t) (λ u. told_list_on w q n b.items (those false xs))) f)
 
 if_tested : (w : Checked) (q n line : ℕ) (s : Step) (e : Expression) (a b : Vec Step Global) (vs us : List ℕ) (m mid : State)
-    (t half : Totals) (xs : List Part) → s ≡ step.If line e a b → told_test_on w q n line e vs m t ≡ Going xs mid half →
+    (t half : Accounts) (xs : List Part) → s ≡ step.If line e a b → told_test_on w q n line e vs m t ≡ Going xs mid half →
     us ≡ those true xs → told_on w q n s vs m t ≡ then_keep (told_list_on w q n a.items us mid half)
     (λ u. told_list_on w q n b.items (those false xs))
 if_tested w q n line s e a b vs us m mid t half xs is f u =
@@ -150,7 +150,7 @@ if_tested w q n line s e a b vs us m mid t half xs is f u =
     ∙ ap (λ us. then_keep (told_list_on w q n a.items us mid half) (λ u. told_list_on w q n b.items (those false xs))) (sym u)
 
 pub if_then_halts : (w : Checked) (q n line : ℕ) (s : Step) (e : Expression) (a b : Vec Step Global) (vs us : List ℕ) (m mid new : State)
-    (t half late : Totals) (xs : List Part) (h : Halt) → s ≡ step.If line e a b → told_test_on w q n line e vs m t ≡ Going xs mid half →
+    (t half late : Accounts) (xs : List Part) (h : Halt) → s ≡ step.If line e a b → told_test_on w q n line e vs m t ≡ Going xs mid half →
     us ≡ those true xs → Tells {A = Unit {0}} (λ u. u) (Err h) new late (told_list_on w q n a.items us mid half) →
     Tells {A = Unit {0}} (λ u. u) (Err h) new late (told_on w q n s vs m t)
 if_then_halts w q n line s e a b vs us m mid new t half late xs h is f u r =
@@ -159,7 +159,7 @@ if_then_halts w q n line s e a b vs us m mid new t half late xs h is f u r =
     (λ u. told_list_on w q n b.items (those false xs)) r)
 
 pub if_goes : (w : Checked) (q n line : ℕ) (s : Step) (e : Expression) (a b : Vec Step Global) (vs us ws : List ℕ)
-    (m mid later new : State) (t half most late : Totals) (xs : List Part) (r : Result (Unit {0}) Halt) → s ≡ step.If line e a b →
+    (m mid later new : State) (t half most late : Accounts) (xs : List Part) (r : Result (Unit {0}) Halt) → s ≡ step.If line e a b →
     told_test_on w q n line e vs m t ≡ Going xs mid half → us ≡ those true xs → ws ≡ those false xs →
     told_list_on w q n a.items us mid half ≡ Going tt later most →
     Tells (λ u. u) r new late (told_list_on w q n b.items ws later most) → Tells (λ u. u) r new late (told_on w q n s vs m t)
@@ -204,14 +204,14 @@ pub as_many_numbers : (a k : ℕ) → length (numbers a k) ≡ k
 as_many_numbers a zero = refl
 as_many_numbers a (suc k) = ap suc (as_many_numbers (a + 1) k)
 
-team_is : (w : Checked) (q n locals : ℕ) (body : List Step) (low : ℤ) (k : ℕ) (m : State) (t : Totals) →
+team_is : (w : Checked) (q n locals : ℕ) (body : List Step) (low : ℤ) (k : ℕ) (m : State) (t : Accounts) →
     kept q t (inner_list_steps w n body (numbers 0 k) (with_team low k locals m)) (pardo_done w n locals body low k m)
     ≡ then_keep (told_list_on w q n body (numbers 0 k) (with_team low k locals m) t) (λ u m t. Going tt (without_team m) t)
 team_is w q n locals body low k m t =
     kept_map q t (inner_list_steps w n body (numbers 0 k) (with_team low k locals m))
     (perform_list_on w n body (numbers 0 k) (with_team low k locals m)) (λ u m. tt) (λ u m. without_team m)
 
-pub team_done : (w : Checked) (q n locals : ℕ) (body : List Step) (low : ℤ) (k : ℕ) (vs : List ℕ) (m set new : State) (t late : Totals)
+pub team_done : (w : Checked) (q n locals : ℕ) (body : List Step) (low : ℤ) (k : ℕ) (vs : List ℕ) (m set new : State) (t late : Accounts)
     (r : Result (Unit {0}) Halt) → set ≡ with_team low k locals m → vs ≡ numbers 0 k →
     Tells (λ u. u) r new late (told_list_on w q n body vs set t) →
     Tells (λ u. u) r (without_team new) late

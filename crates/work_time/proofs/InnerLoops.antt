@@ -12,20 +12,20 @@ use Rattle.pram_meaning.specs.Judging.{part_is}
 use Rattle.pram_meaning.specs.Store.{State}
 use Rattle.pram_meaning.specs.Together.{those}
 use Rattle.work_time.specs.Kept.{AtBound, Going, Kept, Tells}
-use Rattle.work_time.specs.Totals.{Totals}
+use Rattle.work_time.specs.Accounts.{Accounts}
 use Rattle.work_time.proofs.Kept.{halts, then_keep}
 use Rattle.work_time.proofs.Told.{told_list_on, told_test_on, told_turns_on, turn_told_on, turns_on_are}
 
 -- the members that are left are few, and a bound on the turns is no smaller than the statements left
-pub record InTurns (w : Checked) (q n line : ℕ) (e : Expression) (body : List Step) (vs : List ℕ) (start : State) (from : Totals)
-    (us : List ℕ) (now : State) (till : Totals) : Type 0 where
+pub record InTurns (w : Checked) (q n line : ℕ) (e : Expression) (body : List Step) (vs : List ℕ) (start : State) (from : Accounts)
+    (us : List ℕ) (now : State) (till : Accounts) : Type 0 where
   pub left : ℕ
   pub enough : n ≤ left + now.count
   pub same : told_turns_on w q n line e body (n + 1) vs start from ≡ told_turns_on w q n line e body left us now till
   pub grows : start.count ≤ now.count
   pub few : length us < 2 ^ 32
 
-pub turns_start : (w : Checked) (q n line : ℕ) (e : Expression) (body : List Step) (vs us : List ℕ) (m : State) (t : Totals) → us ≡ vs →
+pub turns_start : (w : Checked) (q n line : ℕ) (e : Expression) (body : List Step) (vs us : List ℕ) (m : State) (t : Accounts) → us ≡ vs →
     length vs < 2 ^ 32 → InTurns w q n line e body vs m t us m t
 turns_start w q n line e body vs us m t is h =
     record {
@@ -36,18 +36,18 @@ turns_start w q n line e body vs us m t is h =
       few = let l : length us ≡ length vs = ap length is in omega (arith, l, h);
     }
 
-at_bound : (w : Checked) (q n line : ℕ) (e : Expression) (vs : List ℕ) (m : State) (t : Totals) → n ≤ m.count →
+at_bound : (w : Checked) (q n line : ℕ) (e : Expression) (vs : List ℕ) (m : State) (t : Accounts) → n ≤ m.count →
     told_test_on w q n line e vs m t ≡ AtBound m.output t
 at_bound w q n line e vs m t h = rw (le-ltb m.count n h) refl
 
-halts_at : (x : Halt) (new : State) (late : Totals) (out : List ℤ) (t : Totals) (b : Kept (List Part)) → b ≡ AtBound out t →
+halts_at : (x : Halt) (new : State) (late : Accounts) (out : List ℤ) (t : Accounts) (b : Kept (List Part)) → b ≡ AtBound out t →
     Tells {A = Vec part.Part.Part Global} (λ xs. map part_is xs.items) (Err x) new late b →
     Tells {A = Unit {0}} {B = Unit {0}} (λ u. u) (Err x) new late (AtBound out t)
 halts_at (halt.Fault k) new late out t b at e = cc
 halts_at halt.Bound new late out t b at e = cc
 halts_at halt.OutOfMemory new late out t b at e = tt
 
-test_halts_at : (w : Checked) (q n line : ℕ) (e : Expression) (body : List Step) (us : List ℕ) (now new : State) (till late : Totals) (x : Halt)
+test_halts_at : (w : Checked) (q n line : ℕ) (e : Expression) (body : List Step) (us : List ℕ) (now new : State) (till late : Accounts) (x : Halt)
     (k : ℕ) → n ≤ k + now.count → Tells {A = Vec part.Part.Part Global} (λ xs. map part_is xs.items) (Err x) new late
     (told_test_on w q n line e us now till) → Tells {A = Unit {0}} (λ u. u) (Err x) new late
     (told_turns_on w q n line e body k us now till)
@@ -59,14 +59,14 @@ test_halts_at w q n line e body us now new till late x (suc k) h t =
     (told_test_on w q n line e us now till) (λ xs. turn_told_on w q n line e body k (those true xs)) t)
 
 pub test_halts : (w : Checked) (q n line : ℕ) (e : Expression) (body : List Step) (vs us : List ℕ) (start now new : State)
-    (from till late : Totals) (x : Halt) → InTurns w q n line e body vs start from us now till →
+    (from till late : Accounts) (x : Halt) → InTurns w q n line e body vs start from us now till →
     Tells {A = Vec part.Part.Part Global} (λ xs. map part_is xs.items) (Err x) new late (told_test_on w q n line e us now till) →
     Tells {A = Unit {0}} (λ u. u) (Err x) new late (told_turns_on w q n line e body (n + 1) vs start from)
 test_halts w q n line e body vs us start now new from till late x i t =
     rw i.same (test_halts_at w q n line e body us now new till late x i.left i.enough t)
 
 -- a test with a value, where a turn was left
-test_goes : (w : Checked) (q n line : ℕ) (e : Expression) (body : List Step) (us ws : List ℕ) (now m : State) (till half : Totals) (k : ℕ)
+test_goes : (w : Checked) (q n line : ℕ) (e : Expression) (body : List Step) (us ws : List ℕ) (now m : State) (till half : Accounts) (k : ℕ)
     (xs : List Part) → n ≤ k + now.count → told_test_on w q n line e us now till ≡ Going xs m half → ws ≡ those true xs →
     (j : ℕ) × (k ≡ suc j) × (told_turns_on w q n line e body k us now till ≡ turn_told_on w q n line e body j ws m half)
 test_goes w q n line e body us ws now m till half zero xs h t s =
@@ -79,19 +79,19 @@ test_goes w q n line e body us ws now m till half (suc j) xs h t s = (
       ∙ ap (λ ws. turn_told_on w q n line e body j ws m half) (sym s),
 )
 
-none_left : (w : Checked) (q n line : ℕ) (e : Expression) (body : List Step) (k : ℕ) (ws : List ℕ) (m : State) (t : Totals) →
+none_left : (w : Checked) (q n line : ℕ) (e : Expression) (body : List Step) (k : ℕ) (ws : List ℕ) (m : State) (t : Accounts) →
     length ws ≡ 0 → turn_told_on w q n line e body k ws m t ≡ Going tt m t
 none_left w q n line e body k [] m t h = refl
 none_left w q n line e body k (v ∷ ws) m t h = absurd (omega (arith, h))
 
-some_left : (w : Checked) (q n line : ℕ) (e : Expression) (body : List Step) (k : ℕ) (ws : List ℕ) (m : State) (t : Totals) →
+some_left : (w : Checked) (q n line : ℕ) (e : Expression) (body : List Step) (k : ℕ) (ws : List ℕ) (m : State) (t : Accounts) →
     0 < length ws → turn_told_on w q n line e body k ws m t ≡
     then_keep (told_list_on w q n body ws m t) (λ u. told_turns_on w q n line e body k ws)
 some_left w q n line e body k [] m t h = absurd (omega (arith, h))
 some_left w q n line e body k (v ∷ ws) m t h = refl
 
 pub turns_end : (w : Checked) (q n line : ℕ) (e : Expression) (body : List Step) (vs us ws : List ℕ) (start now m : State)
-    (from till half : Totals) (xs : List Part) → InTurns w q n line e body vs start from us now till →
+    (from till half : Accounts) (xs : List Part) → InTurns w q n line e body vs start from us now till →
     told_test_on w q n line e us now till ≡ Going xs m half → ws ≡ those true xs → length ws ≡ 0 →
     told_turns_on w q n line e body (n + 1) vs start from ≡ Going tt m half
 turns_end w q n line e body vs us ws start now m from till half xs i t s z =
@@ -99,7 +99,7 @@ turns_end w q n line e body vs us ws start now m from till half xs i t s z =
     i.same ∙ g.2 ∙ none_left w q n line e body g.0 ws m half z
 
 turn_begins : (w : Checked) (q n line : ℕ) (e : Expression) (body : List Step) (vs us ws : List ℕ) (start now m : State)
-    (from till half : Totals) (xs : List Part) → InTurns w q n line e body vs start from us now till →
+    (from till half : Accounts) (xs : List Part) → InTurns w q n line e body vs start from us now till →
     told_test_on w q n line e us now till ≡ Going xs m half → ws ≡ those true xs → 0 < length ws →
     (j : ℕ) × (n ≤ j + suc now.count) × (told_turns_on w q n line e body (n + 1) vs start from ≡
     then_keep (told_list_on w q n body ws m half) (λ u. told_turns_on w q n line e body j ws))
@@ -110,7 +110,7 @@ turn_begins w q n line e body vs us ws start now m from till half xs i t s z =
     (g.0, omega (arith, h, k), i.same ∙ g.2 ∙ some_left w q n line e body g.0 ws m half z)
 
 pub turn_halts : (w : Checked) (q n line : ℕ) (e : Expression) (body : List Step) (vs us ws : List ℕ) (start now m new : State)
-    (from till half late : Totals) (xs : List Part) (x : Halt) → InTurns w q n line e body vs start from us now till →
+    (from till half late : Accounts) (xs : List Part) (x : Halt) → InTurns w q n line e body vs start from us now till →
     told_test_on w q n line e us now till ≡ Going xs m half → ws ≡ those true xs → 0 < length ws →
     Tells {A = Unit {0}} (λ u. u) (Err x) new late (told_list_on w q n body ws m half) →
     Tells {A = Unit {0}} (λ u. u) (Err x) new late (told_turns_on w q n line e body (n + 1) vs start from)
@@ -120,7 +120,7 @@ turn_halts w q n line e body vs us ws start now m new from till half late xs x i
     (λ u. told_turns_on w q n line e body g.0 ws) b)
 
 pub turn_goes : (w : Checked) (q n line : ℕ) (e : Expression) (body : List Step) (vs us ws : List ℕ) (start now m new : State)
-    (from till half late : Totals) (xs : List Part) → InTurns w q n line e body vs start from us now till →
+    (from till half late : Accounts) (xs : List Part) → InTurns w q n line e body vs start from us now till →
     told_test_on w q n line e us now till ≡ Going xs m half → ws ≡ those true xs → 0 < length ws → length ws < 2 ^ 32 →
     told_list_on w q n body ws m half ≡ Going tt new late → suc now.count ≤ new.count →
     InTurns w q n line e body vs start from ws new late

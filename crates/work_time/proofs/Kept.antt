@@ -7,19 +7,19 @@ use Rattle.pram_meaning.specs.Store.{State}
 use Rattle.work_time.specs.declared.time_step.TimeStep.{TimeStep}
 use Rattle.work_time.specs.Kept.{Kept, Going, Stopped, AtBound, Tells, keep, kept}
 use Rattle.work_time.specs.Steps.{behind}
-use Rattle.work_time.specs.Totals.{Totals, added, added_all}
+use Rattle.work_time.specs.Accounts.{Accounts, entered, entered_all}
 
 -- the first, then from its value, its state and what was counted the second
-abbrev pub then_keep : {A B : Type 0} → Kept A → (A → State → Totals → Kept B) → Kept B
+abbrev pub then_keep : {A B : Type 0} → Kept A → (A → State → Accounts → Kept B) → Kept B
 then_keep (Going a m t) f = f a m t
 then_keep (Stopped k out t) f = Stopped k out t
 then_keep (AtBound out t) f = AtBound out t
 
-pub counted_through : (q : ℕ) (xs ys : List TimeStep) (t : Totals) → added_all q (xs ++ ys) t ≡ added_all q ys (added_all q xs t)
+pub counted_through : (q : ℕ) (xs ys : List TimeStep) (t : Accounts) → entered_all q (xs ++ ys) t ≡ entered_all q ys (entered_all q xs t)
 counted_through q [] ys t = refl
-counted_through q (x ∷ xs) ys t = counted_through q xs ys (added q x t)
+counted_through q (x ∷ xs) ys t = counted_through q xs ys (entered q x t)
 
-pub kept_then : {A B : Type 0} (q : ℕ) (t : Totals) (xs : List TimeStep) (b : Behaviour A) (f : A → State → List TimeStep)
+pub kept_then : {A B : Type 0} (q : ℕ) (t : Accounts) (xs : List TimeStep) (b : Behaviour A) (f : A → State → List TimeStep)
     (g : A → State → Behaviour B) →
     kept q t (xs ++ behind b f) (then_do b g) ≡ then_keep (kept q t xs b) (λ a m t. kept q t (f a m) (g a m))
 kept_then q t xs (Goes a m) f g = ap (λ t. keep t (g a m)) (counted_through q xs (f a m) t)
@@ -27,14 +27,14 @@ kept_then q t xs (Stops k out) f g = ap (λ xs. kept q t xs (Stops k out)) (appe
 kept_then q t xs (Reaches out) f g = ap (λ xs. kept q t xs (Reaches out)) (append-nil xs)
 
 -- what halts first, halts the whole
-pub halts : {A B C D : Type 0} (u : A → B) (v : C → D) (h : Halt) (m : State) (t : Totals) (x : Kept B)
-    (f : B → State → Totals → Kept D) → Tells {A = A} u (Err h) m t x → Tells {A = C} v (Err h) m t (then_keep x f)
+pub halts : {A B C D : Type 0} (u : A → B) (v : C → D) (h : Halt) (m : State) (t : Accounts) (x : Kept B)
+    (f : B → State → Accounts → Kept D) → Tells {A = A} u (Err h) m t x → Tells {A = C} v (Err h) m t (then_keep x f)
 halts u v (halt.Fault k) m t x f is = ap (λ x. then_keep x f) is
 halts u v halt.Bound m t x f is = ap (λ x. then_keep x f) is
 halts u v halt.OutOfMemory m t x f is = tt
 
 -- a value and a state put in place of others, without a time step
-pub kept_map : {A B : Type 0} (q : ℕ) (t : Totals) (xs : List TimeStep) (b : Behaviour A) (f : A → State → B) (g : A → State → State) →
+pub kept_map : {A B : Type 0} (q : ℕ) (t : Accounts) (xs : List TimeStep) (b : Behaviour A) (f : A → State → B) (g : A → State → State) →
     kept q t xs (then_do b (λ a m. Goes (f a m) (g a m))) ≡ then_keep (kept q t xs b) (λ a m t. Going (f a m) (g a m) t)
 kept_map q t xs (Goes a m) f g = refl
 kept_map q t xs (Stops k out) f g = refl

@@ -12,3 +12,5 @@ pub mod ForLoops
 pub mod Sums
 pub mod Brent
 pub mod Complete
+pub mod Rows
+pub mod RowCosts

@@ -16,36 +16,36 @@ use Rattle.pram_meaning.specs.Together.{those}
 use Rattle.work_time.specs.Kept.{Going, Kept, kept}
 use Rattle.work_time.specs.Steps.{acting, begun, behind, for_turns_steps, if_any, inner_list_steps, inner_row_steps, inner_steps}
 use Rattle.work_time.specs.Steps.{list_steps, row_steps, steps, test_step, turns_on_steps, turns_steps, value_step}
-use Rattle.work_time.specs.Totals.{Totals}
+use Rattle.work_time.specs.Accounts.{Accounts}
 use Rattle.work_time.proofs.Kept.{kept_then, then_keep}
 
 -- ---- statements
 
-abbrev pub told : Checked → (q n : ℕ) → Statement → State → Totals → Kept (Unit {0})
+abbrev pub told : Checked → (q n : ℕ) → Statement → State → Accounts → Kept (Unit {0})
 told p q n s m t = kept q t (steps p n s m) (perform p n s m)
 
-abbrev pub told_list : Checked → (q n : ℕ) → List Statement → State → Totals → Kept (Unit {0})
+abbrev pub told_list : Checked → (q n : ℕ) → List Statement → State → Accounts → Kept (Unit {0})
 told_list p q n ss m t = kept q t (list_steps p n ss m) (perform_list p n ss m)
 
-abbrev pub told_test : Checked → (q n line : ℕ) → Expression → State → Totals → Kept Bool
+abbrev pub told_test : Checked → (q n line : ℕ) → Expression → State → Accounts → Kept Bool
 told_test p q n line e m t = kept q t (value_step p n line e m) (tested p n line e m)
 
-abbrev pub told_on : Checked → (q n : ℕ) → Step → List ℕ → State → Totals → Kept (Unit {0})
+abbrev pub told_on : Checked → (q n : ℕ) → Step → List ℕ → State → Accounts → Kept (Unit {0})
 told_on p q n s vs m t = kept q t (inner_steps p n s vs m) (perform_on p n s vs m)
 
-abbrev pub told_list_on : Checked → (q n : ℕ) → List Step → List ℕ → State → Totals → Kept (Unit {0})
+abbrev pub told_list_on : Checked → (q n : ℕ) → List Step → List ℕ → State → Accounts → Kept (Unit {0})
 told_list_on p q n ss vs m t = kept q t (inner_list_steps p n ss vs m) (perform_list_on p n ss vs m)
 
-abbrev pub told_test_on : Checked → (q n line : ℕ) → Expression → List ℕ → State → Totals → Kept (List Part)
+abbrev pub told_test_on : Checked → (q n line : ℕ) → Expression → List ℕ → State → Accounts → Kept (List Part)
 told_test_on p q n line e vs m t = kept q t (test_step p n line e vs m) (tested_on p n line e vs m)
 
 -- ---- one behind the other
 
-pub list_is : (p : Checked) (q n : ℕ) (s : Statement) (ss : List Statement) (m : State) (t : Totals) →
+pub list_is : (p : Checked) (q n : ℕ) (s : Statement) (ss : List Statement) (m : State) (t : Accounts) →
     told_list p q n (s ∷ ss) m t ≡ then_keep (told p q n s m t) (λ u. told_list p q n ss)
 list_is p q n s ss m t = kept_then q t (steps p n s m) (perform p n s m) (λ u. list_steps p n ss) (λ u. perform_list p n ss)
 
-pub list_on_is : (p : Checked) (q n : ℕ) (s : Step) (ss : List Step) (vs : List ℕ) (m : State) (t : Totals) →
+pub list_on_is : (p : Checked) (q n : ℕ) (s : Step) (ss : List Step) (vs : List ℕ) (m : State) (t : Accounts) →
     told_list_on p q n (s ∷ ss) vs m t ≡ then_keep (told_on p q n s vs m t) (λ u. told_list_on p q n ss vs)
 list_on_is p q n s ss vs m t =
     kept_then q t (inner_steps p n s vs m) (perform_on p n s vs m) (λ u. inner_list_steps p n ss vs) (λ u. perform_list_on p n ss vs)
@@ -76,18 +76,18 @@ block_steps_on p n body = λ j vs m. (sym (row_list_on p n (hidden-the_row-Step-
 
 -- ---- turns of a loop
 
-abbrev pub told_turns : Checked → (q n line : ℕ) → Expression → List Statement → ℕ → State → Totals → Kept (Unit {0})
+abbrev pub told_turns : Checked → (q n line : ℕ) → Expression → List Statement → ℕ → State → Accounts → Kept (Unit {0})
 told_turns p q n line e body k m t =
     kept q t (turns_steps k (value_step p n line e) (tested p n line e) (list_steps p n body) (perform_list p n body) m)
     (turns k (tested p n line e) (perform_list p n body) m)
 
 -- what follows a test
-abbrev pub turn_told : Checked → (q n line : ℕ) → Expression → List Statement → ℕ → Bool → State → Totals → Kept (Unit {0})
+abbrev pub turn_told : Checked → (q n line : ℕ) → Expression → List Statement → ℕ → Bool → State → Accounts → Kept (Unit {0})
 turn_told p q n line e body k true m t =
     then_keep (told_list p q n body m t) (λ u. told_turns p q n line e body k)
 turn_told p q n line e body k false m t = Going tt m t
 
-turn_is : (p : Checked) (q n line : ℕ) (e : Expression) (body : List Statement) (k : ℕ) (b : Bool) (m : State) (t : Totals) →
+turn_is : (p : Checked) (q n line : ℕ) (e : Expression) (body : List Statement) (k : ℕ) (b : Bool) (m : State) (t : Accounts) →
     kept q t (if b then list_steps p n body m ++ behind (perform_list p n body m)
     (λ u. turns_steps k (value_step p n line e) (tested p n line e) (list_steps p n body) (perform_list p n body)) else [])
     (if b then then_do (perform_list p n body m) (λ u. turns k (tested p n line e) (perform_list p n body)) else Goes tt m)
@@ -98,7 +98,7 @@ turn_is p q n line e body k true m t =
     (λ u. turns k (tested p n line e) (perform_list p n body))
 turn_is p q n line e body k false m t = refl
 
-pub turns_are : (p : Checked) (q n line : ℕ) (e : Expression) (body : List Statement) (k : ℕ) (m : State) (t : Totals) →
+pub turns_are : (p : Checked) (q n line : ℕ) (e : Expression) (body : List Statement) (k : ℕ) (m : State) (t : Accounts) →
     told_turns p q n line e body (suc k) m t ≡ then_keep (told_test p q n line e m t) (turn_told p q n line e body k)
 turns_are p q n line e body k m t =
     kept_then q t (value_step p n line e m) (tested p n line e m)
@@ -109,18 +109,18 @@ turns_are p q n line e body k m t =
 
 -- ---- turns of a set's loop
 
-abbrev pub told_turns_on : Checked → (q n line : ℕ) → Expression → List Step → ℕ → List ℕ → State → Totals → Kept (Unit {0})
+abbrev pub told_turns_on : Checked → (q n line : ℕ) → Expression → List Step → ℕ → List ℕ → State → Accounts → Kept (Unit {0})
 told_turns_on p q n line e body k vs m t =
     kept q t (turns_on_steps k (test_step p n line e) (tested_on p n line e) (inner_list_steps p n body) (perform_list_on p n body) vs m)
     (turns_on k (tested_on p n line e) (perform_list_on p n body) vs m)
 
 -- what follows a test, by those that go on
-abbrev pub turn_told_on : Checked → (q n line : ℕ) → Expression → List Step → ℕ → List ℕ → State → Totals → Kept (Unit {0})
+abbrev pub turn_told_on : Checked → (q n line : ℕ) → Expression → List Step → ℕ → List ℕ → State → Accounts → Kept (Unit {0})
 turn_told_on p q n line e body k [] m t = Going tt m t
 turn_told_on p q n line e body k (v ∷ vs) m t =
     then_keep (told_list_on p q n body (v ∷ vs) m t) (λ u. told_turns_on p q n line e body k (v ∷ vs))
 
-turn_on_is : (p : Checked) (q n line : ℕ) (e : Expression) (body : List Step) (k : ℕ) (vs : List ℕ) (m : State) (t : Totals) →
+turn_on_is : (p : Checked) (q n line : ℕ) (e : Expression) (body : List Step) (k : ℕ) (vs : List ℕ) (m : State) (t : Accounts) →
     kept q t (if_any vs (inner_list_steps p n body vs m ++ behind (perform_list_on p n body vs m)
     (λ u. turns_on_steps k (test_step p n line e) (tested_on p n line e) (inner_list_steps p n body) (perform_list_on p n body) vs)))
     (unless_none vs (Goes tt m) (then_do (perform_list_on p n body vs m)
@@ -132,7 +132,7 @@ turn_on_is p q n line e body k (v ∷ vs) m t =
     (λ u. turns_on_steps k (test_step p n line e) (tested_on p n line e) (inner_list_steps p n body) (perform_list_on p n body) (v ∷ vs))
     (λ u. turns_on k (tested_on p n line e) (perform_list_on p n body) (v ∷ vs))
 
-pub turns_on_are : (p : Checked) (q n line : ℕ) (e : Expression) (body : List Step) (k : ℕ) (vs : List ℕ) (m : State) (t : Totals) →
+pub turns_on_are : (p : Checked) (q n line : ℕ) (e : Expression) (body : List Step) (k : ℕ) (vs : List ℕ) (m : State) (t : Accounts) →
     told_turns_on p q n line e body (suc k) vs m t ≡ then_keep (told_test_on p q n line e vs m t)
     (λ xs. turn_told_on p q n line e body k (those true xs))
 turns_on_are p q n line e body k vs m t =
@@ -146,16 +146,16 @@ turns_on_are p q n line e body k vs m t =
 
 -- ---- turns of a `for`
 
-abbrev pub told_for : Checked → (q n line : ℕ) → ℕ → ℕ → ℤ → List Statement → State → Totals → Kept (Unit {0})
+abbrev pub told_for : Checked → (q n line : ℕ) → ℕ → ℕ → ℤ → List Statement → State → Accounts → Kept (Unit {0})
 told_for p q n line k x a body m t =
     kept q t (for_turns_steps n line k x a (list_steps p n body) (perform_list p n body) m)
     (for_turns n k x a (perform_list p n body) m)
 
 -- the setting of the variable
-abbrev pub told_setting : (q n line : ℕ) → State → Totals → Kept (Unit {0})
+abbrev pub told_setting : (q n line : ℕ) → State → Accounts → Kept (Unit {0})
 told_setting q n line m t = kept q t (begun n m (acting line 1)) (counted n m)
 
-pub for_turns_are : (p : Checked) (q n line : ℕ) (k x : ℕ) (a : ℤ) (body : List Statement) (m : State) (t : Totals) →
+pub for_turns_are : (p : Checked) (q n line : ℕ) (k x : ℕ) (a : ℤ) (body : List Statement) (m : State) (t : Accounts) →
     told_for p q n line (suc k) x a body m t ≡ then_keep (told_setting q n line m t)
     (λ u m t. then_keep (told_list p q n body (with_uniform x a m) t) (λ u. told_for p q n line k x (a +ℤ pos 1) body))
 for_turns_are p q n line k x a body m t =

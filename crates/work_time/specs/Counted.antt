@@ -2,8 +2,8 @@
 use Rattle.std.specs.Prelude.{ℕ, List, ℤ}
 use Rattle.pram_check.specs.Checked.{Checked}
 use Rattle.work_time.specs.Steps.{run_steps}
-use Rattle.work_time.specs.Totals.{Totals, added_all, nothing}
+use Rattle.work_time.specs.Accounts.{Accounts, entered_all, opened}
 
 -- what is counted of a program's run on an input, within at most n statements, where rounds are those on q processors
-abbrev pub counted : Checked → List ℤ → (n q : ℕ) → Totals
-counted p input n q = added_all q (run_steps p input n) nothing
+abbrev pub counted : Checked → List ℤ → (n q : ℕ) → Accounts
+counted p input n q = entered_all q (run_steps p input n) opened

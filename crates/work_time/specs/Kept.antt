@@ -11,35 +11,32 @@ use Rattle.pram_meaning.specs.Store.{State, no_team}
 use Rattle.pram_meaning.specs.Sets.{member_is}
 use Rattle.pram_meaning.specs.Bounded.{Behaviour, Goes, Stops, Reaches}
 use Rattle.work_time.specs.declared.counter.Counter.{Counter}
-use Rattle.work_time.specs.declared.tally.Tally.{Tally}
 use Rattle.work_time.specs.declared.time_step.TimeStep.{TimeStep}
-use Rattle.work_time.specs.Totals.{Totals, added_all}
+use Rattle.work_time.specs.Ledgers.{ledger_is}
+use Rattle.work_time.specs.Accounts.{Accounts, entered_all}
 
 -- a behaviour, and what was counted up to it
 pub data Kept (A : Type 0) : Type 0 where
-  Going : A → State → Totals → Kept A
-  Stopped : Fault → List ℤ → Totals → Kept A
-  AtBound : List ℤ → Totals → Kept A
+  Going : A → State → Accounts → Kept A
+  Stopped : Fault → List ℤ → Accounts → Kept A
+  AtBound : List ℤ → Accounts → Kept A
 
-abbrev pub keep : {A : Type 0} → Totals → Behaviour A → Kept A
+abbrev pub keep : {A : Type 0} → Accounts → Behaviour A → Kept A
 keep t (Goes a m) = Going a m t
 keep t (Stops k out) = Stopped k out t
 keep t (Reaches out) = AtBound out t
 
 -- a behaviour whose time steps are counted
-abbrev pub kept : {A : Type 0} → ℕ → Totals → List TimeStep → Behaviour A → Kept A
-kept q t ss b = keep (added_all q ss t) b
+abbrev pub kept : {A : Type 0} → ℕ → Accounts → List TimeStep → Behaviour A → Kept A
+kept q t ss b = keep (entered_all q ss t) b
 
-abbrev pub tally_is : Tally → Totals
-tally_is t = record { time = t.time; work = t.work; width = t.width; reads = t.reads; writes = t.writes; rounds = t.rounds }
-
-abbrev pub totals_of : Counter → Totals
-totals_of c = tally_is c.tally
+abbrev pub counts_of : Counter → Accounts
+counts_of c = ledger_is c.ledger
 
 -- a run outside pardo, as a state
 abbrev pub state_of : Counter → State
 state_of c = record {
-  count = c.tally.time;
+  count = c.ledger.all.time;
   output = c.run.output.items;
   uniforms = c.run.uniforms.items;
   cells = c.run.cells.items;
@@ -51,7 +48,7 @@ abbrev pub state_in : Counter → List team.Member.Member → State
 state_in c team = record (state_of c) { team = map member_is team }
 
 -- how an answer, with the state and what was counted behind it, tells of a behaviour
-abbrev pub Tells : {A B : Type 0} → (A → B) → Result A Halt → State → Totals → Kept B → Type 0
+abbrev pub Tells : {A B : Type 0} → (A → B) → Result A Halt → State → Accounts → Kept B → Type 0
 Tells f (Ok a) m t x = x ≡ Going (f a) m t
 Tells f (Err (halt.Fault k)) m t x = x ≡ Stopped k m.output t
 Tells f (Err halt.Bound) m t x = x ≡ AtBound m.output t

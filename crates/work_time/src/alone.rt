@@ -6,20 +6,22 @@ ghost use Rattle.pram_meaning.specs.Attempt.{attempt, attempt_assign, attempt_bo
 ghost use Rattle.pram_meaning.specs.Bounded.{evaluated, found};
 ghost use Rattle.pram_meaning.specs.Runs.{IsAttempt, IsEffect, IsPair, effect_is, view_is};
 ghost use Rattle.pram_meaning.specs.Store.{seen};
-ghost use Rattle.work_time.specs.Kept.{Failed, Tells, kept, state_of, tally_is, totals_of};
+ghost use Rattle.work_time.specs.Ledgers.{ledger_is};
+ghost use Rattle.work_time.specs.Kept.{Failed, Tells, kept, state_of, counts_of};
 ghost use Rattle.work_time.specs.Steps.{acting, effect_writes, none_of, one_step, value_step, writes_to};
 ghost use Rattle.work_time.specs.Steps as spec;
-ghost use Rattle.work_time.specs.Totals.{added};
+ghost use Rattle.work_time.specs.Accounts.{entered};
 
 use crate::counter::Counter;
 use crate::meter::Meter;
-use crate::tally::Tally;
+use crate::ledger::Ledger;
 use crate::time_step::TimeStep;
 use pram_check::{Expression, Program, Target};
 use pram_meaning::attempt::{Effect, Failure, assignment, bounds, range, value_of};
 use pram_meaning::run::Halt;
 use pram_meaning::view::View;
 use pram_values::Place;
+use std::alloc::AllocError;
 use write_rules::Fault;
 
 // What the one processor sees.
@@ -157,24 +159,30 @@ impl<'a> Meter<'a> {
 impl<'a> Meter<'a> {
     /// Whether the bound lets one statement more begin.
     pub fn may_begin(&self, counter: &Counter) -> bool
-        ensures yes { result ≡ true → counter.now.tally.time < self.now.interpreter.bound }
-        ensures no { result ≡ false → self.now.interpreter.bound ≤ counter.now.tally.time }
-        ensures room { result ≡ true → counter.now.tally.time < 2 ^ 32 - 1 }
+        ensures yes { result ≡ true → counter.now.ledger.all.time < self.now.interpreter.bound }
+        ensures no { result ≡ false → self.now.interpreter.bound ≤ counter.now.ledger.all.time }
+        ensures room { result ≡ true → counter.now.ledger.all.time < 2 ^ 32 - 1 }
     {
-        counter.tally.time < self.interpreter.bound
+        counter.ledger.all.time < self.interpreter.bound
     }
 
     // One processor has executed a statement.
-    fn pass(&self, tally: &mut Tally, line: u32, trail: &[Option<u32>], writes: u32)
-        requires room { tally.old.time < 2 ^ 32 - 1 }
-        ensures { tally_is tally.new ≡ added self.now.schedule (record {
+    fn pass(
+        &self,
+        ledger: &mut Ledger,
+        line: u32,
+        trail: &[Option<u32>],
+        writes: u32,
+    ) -> Result<(), AllocError>
+        requires room { ledger.old.all.time < 2 ^ 32 - 1 }
+        ensures { OnOk result (ledger_is ledger.new ≡ entered self.now.schedule (record {
           line = line;
           processors = 1;
           reads = spec.reads_on trail.now;
           writes = writes;
-        }) (tally_is tally.old) }
+        }) (ledger_is ledger.old)) }
     {
-        tally.add(
+        ledger.enter(
             self.schedule,
             &TimeStep {
                 line,
@@ -182,15 +190,15 @@ impl<'a> Meter<'a> {
                 reads: u128::from(reads_on(trail)),
                 writes,
             },
-        );
+        )
     }
 
     /// So many processors have acted without an access to shared memory.
-    pub fn act(&self, tally: &mut Tally, line: u32, processors: u32)
-        requires room { tally.old.time < 2 ^ 32 - 1 }
-        ensures { tally_is tally.new ≡ added self.now.schedule (acting line processors) (tally_is tally.old) }
+    pub fn act(&self, ledger: &mut Ledger, line: u32, processors: u32) -> Result<(), AllocError>
+        requires room { ledger.old.all.time < 2 ^ 32 - 1 }
+        ensures { OnOk result (ledger_is ledger.new ≡ entered self.now.schedule (acting line processors) (ledger_is ledger.old)) }
     {
-        tally.add(
+        ledger.enter(
             self.schedule,
             &TimeStep {
                 line,
@@ -198,16 +206,16 @@ impl<'a> Meter<'a> {
                 reads: 0,
                 writes: 0,
             },
-        );
+        )
     }
 
     /// The value of an expression.
     #[tactic(auto, using(crate::proofs::ByOne::value_waits, crate::proofs::ByOne::value_goes, crate::proofs::ByOne::value_fails))]
     pub fn run_value(&self, counter: &mut Counter, line: u32, e: &Expression) -> Result<i64, Halt>
-        ensures value { Tells (λ v. v) result (state_of counter.new) (totals_of counter.new) (kept self.now.schedule (totals_of counter.old)
+        ensures value { Tells (λ v. v) result (state_of counter.new) (counts_of counter.new) (kept self.now.schedule (counts_of counter.old)
             (value_step self.now.interpreter.program.now self.now.interpreter.bound line e.now (state_of counter.old))
             (found self.now.interpreter.program.now self.now.interpreter.bound line e.now (state_of counter.old))) }
-        ensures more { OnOk result (counter.new.tally.time ≡ counter.old.tally.time + 1) }
+        ensures more { OnOk result (counter.new.ledger.all.time ≡ counter.old.ledger.all.time + 1) }
     {
         if !self.may_begin(counter) {
             return Err(Halt::Bound);
@@ -215,11 +223,15 @@ impl<'a> Meter<'a> {
         let mut trail = Vec::new(self.interpreter.alloc);
         match self.try_value(counter, e, &mut trail) {
             Ok(value) => {
-                self.pass(&mut counter.tally, line, &trail, 0);
+                if self.pass(&mut counter.ledger, line, &trail, 0).is_err() {
+                    return Err(Halt::OutOfMemory);
+                }
                 Ok(value)
             }
             Err(failure) => {
-                self.act(&mut counter.tally, line, 1);
+                if self.act(&mut counter.ledger, line, 1).is_err() {
+                    return Err(Halt::OutOfMemory);
+                }
                 Err(halt_of(failure, line))
             }
         }
@@ -234,12 +246,12 @@ impl<'a> Meter<'a> {
         target: &Target,
         e: &Expression,
     ) -> Result<Effect, Halt>
-        ensures value { Tells effect_is result (state_of counter.new) (totals_of counter.new) (kept self.now.schedule
-            (totals_of counter.old) (one_step self.now.interpreter.bound line effect_writes
+        ensures value { Tells effect_is result (state_of counter.new) (counts_of counter.new) (kept self.now.schedule
+            (counts_of counter.old) (one_step self.now.interpreter.bound line effect_writes
             (λ m. attempt_assign (seen self.now.interpreter.program.now m) target.now e.now) (state_of counter.old))
             (evaluated self.now.interpreter.bound line (λ m. attempt_assign (seen self.now.interpreter.program.now m) target.now e.now)
             (state_of counter.old))) }
-        ensures more { OnOk result (counter.new.tally.time ≡ counter.old.tally.time + 1) }
+        ensures more { OnOk result (counter.new.ledger.all.time ≡ counter.old.ledger.all.time + 1) }
     {
         if !self.may_begin(counter) {
             return Err(Halt::Bound);
@@ -247,11 +259,15 @@ impl<'a> Meter<'a> {
         let mut trail = Vec::new(self.interpreter.alloc);
         match self.try_effect(counter, target, e, &mut trail) {
             Ok(effect) => {
-                self.pass(&mut counter.tally, line, &trail, count_of(effect.cell));
+                if self.pass(&mut counter.ledger, line, &trail, count_of(effect.cell)).is_err() {
+                    return Err(Halt::OutOfMemory);
+                }
                 Ok(effect)
             }
             Err(failure) => {
-                self.act(&mut counter.tally, line, 1);
+                if self.act(&mut counter.ledger, line, 1).is_err() {
+                    return Err(Halt::OutOfMemory);
+                }
                 Err(halt_of(failure, line))
             }
         }
@@ -266,12 +282,12 @@ impl<'a> Meter<'a> {
         low: &Expression,
         high: &Expression,
     ) -> Result<(i64, i64), Halt>
-        ensures value { Tells (λ r. (r.0, r.1)) result (state_of counter.new) (totals_of counter.new) (kept self.now.schedule
-            (totals_of counter.old) (one_step self.now.interpreter.bound line none_of
+        ensures value { Tells (λ r. (r.0, r.1)) result (state_of counter.new) (counts_of counter.new) (kept self.now.schedule
+            (counts_of counter.old) (one_step self.now.interpreter.bound line none_of
             (λ m. attempt_bounds (seen self.now.interpreter.program.now m) low.now high.now) (state_of counter.old))
             (evaluated self.now.interpreter.bound line (λ m. attempt_bounds (seen self.now.interpreter.program.now m) low.now high.now)
             (state_of counter.old))) }
-        ensures more { OnOk result (counter.new.tally.time ≡ counter.old.tally.time + 1) }
+        ensures more { OnOk result (counter.new.ledger.all.time ≡ counter.old.ledger.all.time + 1) }
     {
         if !self.may_begin(counter) {
             return Err(Halt::Bound);
@@ -279,11 +295,15 @@ impl<'a> Meter<'a> {
         let mut trail = Vec::new(self.interpreter.alloc);
         match self.try_bounds(counter, low, high, &mut trail) {
             Ok(pair) => {
-                self.pass(&mut counter.tally, line, &trail, 0);
+                if self.pass(&mut counter.ledger, line, &trail, 0).is_err() {
+                    return Err(Halt::OutOfMemory);
+                }
                 Ok(pair)
             }
             Err(failure) => {
-                self.act(&mut counter.tally, line, 1);
+                if self.act(&mut counter.ledger, line, 1).is_err() {
+                    return Err(Halt::OutOfMemory);
+                }
                 Err(halt_of(failure, line))
             }
         }
@@ -298,13 +318,13 @@ impl<'a> Meter<'a> {
         low: &Expression,
         high: &Expression,
     ) -> Result<(i64, u32), Halt>
-        ensures value { Tells (λ r. (r.0, r.1)) result (state_of counter.new) (totals_of counter.new) (kept self.now.schedule
-            (totals_of counter.old) (one_step self.now.interpreter.bound line none_of
+        ensures value { Tells (λ r. (r.0, r.1)) result (state_of counter.new) (counts_of counter.new) (kept self.now.schedule
+            (counts_of counter.old) (one_step self.now.interpreter.bound line none_of
             (λ m. attempt_range self.now.interpreter.program.now.procs (seen self.now.interpreter.program.now m) low.now high.now)
             (state_of counter.old)) (evaluated self.now.interpreter.bound line
             (λ m. attempt_range self.now.interpreter.program.now.procs (seen self.now.interpreter.program.now m) low.now high.now)
             (state_of counter.old))) }
-        ensures more { OnOk result (counter.new.tally.time ≡ counter.old.tally.time + 1) }
+        ensures more { OnOk result (counter.new.ledger.all.time ≡ counter.old.ledger.all.time + 1) }
         // The last index is an i64.
         ensures fits { IfOk result (λ r. FitsSigned w64 (r.0 +ℤ pos (r.1 - 1))) }
     {
@@ -314,11 +334,15 @@ impl<'a> Meter<'a> {
         let mut trail = Vec::new(self.interpreter.alloc);
         match self.try_range(counter, low, high, &mut trail) {
             Ok(pair) => {
-                self.pass(&mut counter.tally, line, &trail, 0);
+                if self.pass(&mut counter.ledger, line, &trail, 0).is_err() {
+                    return Err(Halt::OutOfMemory);
+                }
                 Ok(pair)
             }
             Err(failure) => {
-                self.act(&mut counter.tally, line, 1);
+                if self.act(&mut counter.ledger, line, 1).is_err() {
+                    return Err(Halt::OutOfMemory);
+                }
                 Err(halt_of(failure, line))
             }
         }

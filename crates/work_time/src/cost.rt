@@ -7,6 +7,8 @@ ghost use Rattle.pram_meaning.specs.Outcome.{IsOutcome};
 ghost use Rattle.work_time.specs.Cost as spec;
 ghost use Rattle.work_time.specs.Steps.{run_steps};
 
+use crate::line_cost::LineCost;
+use crate::row_costs::costs_by_line;
 use crate::whole::run_whole;
 use pram_check::Program;
 use pram_meaning::RunRefusal;
@@ -15,8 +17,9 @@ use write_rules::Outcome;
 
 /// What a run costs: its statements (time), one for each processor of each of them (work), the most
 /// processors at once, and its shared reads and writes; and, for a number of processors, the rounds
-/// in which they do that work, beside what Brent's principle allows.
-#[derive(Clone, Copy)]
+/// in which they do that work, beside what Brent's principle allows; and of each line that ran what it
+/// costs, in ascending order.
+#[derive(Drop)]
 pub struct Cost {
     pub time: u32,
     pub work: u64,
@@ -25,6 +28,7 @@ pub struct Cost {
     pub writes: u64,
     pub rounds: u64,
     pub most_rounds: u64,
+    pub lines: Vec<LineCost>,
 }
 
 /// Runs a program on an input, for at most `bound` statements, as [`pram_meaning::reference_run`]
@@ -34,7 +38,6 @@ pub struct Cost {
 ///
 /// JáJá, An Introduction to Parallel Algorithms, chapter 1: work and time, and Brent's scheduling
 /// principle.
-#[tactic(auto, using(crate::proofs::Sums::time_is, crate::proofs::Sums::work_is, crate::proofs::Sums::width_is, crate::proofs::Sums::reads_are, crate::proofs::Sums::writes_are, crate::proofs::Sums::rounds_are, crate::proofs::Brent::brent))]
 pub fn cost_of(
     alloc: Global,
     program: &Program,
@@ -53,10 +56,16 @@ pub fn cost_of(
     ensures writes { IfOk result (λ r. r.1.writes ≡ spec.writes (run_steps program.now input.now bound)) }
     ensures rounds { IfOk result (λ r. r.1.rounds ≡ spec.rounds schedule (run_steps program.now input.now bound)) }
     ensures most_rounds { IfOk result (λ r. r.1.most_rounds ≡ r.1.work / schedule + r.1.time) }
+    // Each line that ran, once, ascending.
+    ensures lines { IfOk result (λ r. r.1.lines.items ≡ spec.line_costs (run_steps program.now input.now bound)) }
     // Brent's principle.
     ensures brent { IfOk result (λ r. r.1.rounds ≤ r.1.most_rounds) }
 {
-    let (outcome, tally) = run_whole(alloc, program, input, bound, schedule)?;
+    let (outcome, ledger) = run_whole(alloc, program, input, bound, schedule)?;
+    let Ok(lines) = costs_by_line(alloc, &ledger.lines) else {
+        return Err(RunRefusal::OutOfMemory);
+    };
+    let tally = ledger.all;
     let most_rounds = tally.work / u64::from(schedule) + u64::from(tally.time);
     let cost = Cost {
         time: tally.time,
@@ -66,6 +75,7 @@ pub fn cost_of(
         writes: tally.writes,
         rounds: tally.rounds,
         most_rounds,
+        lines,
     };
     Ok((outcome, cost))
 }

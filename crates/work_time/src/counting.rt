@@ -3,7 +3,7 @@
 ghost use Rattle.std.specs.Prelude.{◌≡◌, ◌<◌, ◌≤◌, ◌^◌, ◌-◌};
 ghost use Rattle.work_time.specs.Cost.{rounds_for};
 ghost use Rattle.work_time.specs.Totals.{added, nothing};
-ghost use Rattle.work_time.specs.Kept.{tally_is};
+ghost use Rattle.work_time.specs.Ledgers.{tally_is};
 
 use crate::tally::Tally;
 use crate::time_step::TimeStep;

@@ -4,7 +4,7 @@ ghost use Rattle.std.specs.Prelude.{◌≡◌, ◌≤◌, ◌<◌, ◌+◌, ◌-
 ghost use Rattle.std.specs.Int.{w64};
 ghost use Rattle.pram_meaning.specs.Bounded.{pardo_done, perform_list_on, perform_on, tested_on, turns_on};
 ghost use Rattle.pram_meaning.specs.Store.{numbers, with_team};
-ghost use Rattle.work_time.specs.Kept.{Tells, kept, state_in, state_of, totals_of};
+ghost use Rattle.work_time.specs.Kept.{Tells, kept, state_in, state_of, counts_of};
 ghost use Rattle.work_time.specs.Steps.{inner_list_steps, inner_steps, test_step, turns_on_steps};
 
 use crate::counter::Counter;
@@ -26,13 +26,13 @@ impl<'a> Meter<'a> {
         s: &Step,
     ) -> Result<(), Halt>
         requires few { length active.now.items < 2 ^ 32 }
-        ensures value { Tells (λ u. u) result (state_in counter.new team.new.items) (totals_of counter.new)
-            (kept self.now.schedule (totals_of counter.old)
+        ensures value { Tells (λ u. u) result (state_in counter.new team.new.items) (counts_of counter.new)
+            (kept self.now.schedule (counts_of counter.old)
             (inner_steps self.now.interpreter.program.now self.now.interpreter.bound s.now active.now.items
             (state_in counter.old team.old.items))
             (perform_on self.now.interpreter.program.now self.now.interpreter.bound s.now active.now.items
             (state_in counter.old team.old.items))) }
-        ensures grows { OnOk result (counter.old.tally.time ≤ counter.new.tally.time) }
+        ensures grows { OnOk result (counter.old.ledger.all.time ≤ counter.new.ledger.all.time) }
     {
         match s {
             Step::Assign {
@@ -74,8 +74,8 @@ impl<'a> Meter<'a> {
         test: &Expression,
     ) -> Result<(), Halt>
         requires few { length active.now.items < 2 ^ 32 }
-        ensures value { Tells (λ u. u) result (state_in counter.new team.new.items) (totals_of counter.new)
-            (kept self.now.schedule (totals_of counter.old)
+        ensures value { Tells (λ u. u) result (state_in counter.new team.new.items) (counts_of counter.new)
+            (kept self.now.schedule (counts_of counter.old)
             (turns_on_steps (self.now.interpreter.bound + 1)
             (test_step self.now.interpreter.program.now self.now.interpreter.bound line test.now)
             (tested_on self.now.interpreter.program.now self.now.interpreter.bound line test.now)
@@ -86,7 +86,7 @@ impl<'a> Meter<'a> {
             (tested_on self.now.interpreter.program.now self.now.interpreter.bound line test.now)
             (perform_list_on self.now.interpreter.program.now self.now.interpreter.bound body.now.items) active.now.items
             (state_in counter.old team.old.items))) }
-        ensures grows { OnOk result (counter.old.tally.time ≤ counter.new.tally.time) }
+        ensures grows { OnOk result (counter.old.ledger.all.time ≤ counter.new.ledger.all.time) }
     {
         let Ok(mut current) = Vec::from_slice(self.interpreter.alloc, active) else {
             return Err(Halt::OutOfMemory);
@@ -115,13 +115,13 @@ impl<'a> Meter<'a> {
         body: &Vec<Step>,
     ) -> Result<(), Halt>
         requires few { length active.now.items < 2 ^ 32 }
-        ensures value { Tells (λ u. u) result (state_in counter.new team.new.items) (totals_of counter.new)
-            (kept self.now.schedule (totals_of counter.old)
+        ensures value { Tells (λ u. u) result (state_in counter.new team.new.items) (counts_of counter.new)
+            (kept self.now.schedule (counts_of counter.old)
             (inner_list_steps self.now.interpreter.program.now self.now.interpreter.bound body.now.items active.now.items
             (state_in counter.old team.old.items))
             (perform_list_on self.now.interpreter.program.now self.now.interpreter.bound body.now.items active.now.items
             (state_in counter.old team.old.items))) }
-        ensures grows { OnOk result (counter.old.tally.time ≤ counter.new.tally.time) }
+        ensures grows { OnOk result (counter.old.ledger.all.time ≤ counter.new.ledger.all.time) }
     {
         for s in body {
             self.run_step(counter, team, active, s)?;
@@ -140,12 +140,12 @@ impl<'a> Meter<'a> {
         body: &Vec<Step>,
     ) -> Result<(), Halt>
         requires { FitsSigned w64 (low +ℤ pos (count - 1)) }
-        ensures value { Tells (λ u. u) result (state_of counter.new) (totals_of counter.new) (kept self.now.schedule (totals_of counter.old)
+        ensures value { Tells (λ u. u) result (state_of counter.new) (counts_of counter.new) (kept self.now.schedule (counts_of counter.old)
             (inner_list_steps self.now.interpreter.program.now self.now.interpreter.bound body.now.items (numbers 0 count)
             (with_team low count locals (state_of counter.old)))
             (pardo_done self.now.interpreter.program.now self.now.interpreter.bound locals body.now.items low count
             (state_of counter.old))) }
-        ensures grows { OnOk result (counter.old.tally.time ≤ counter.new.tally.time) }
+        ensures grows { OnOk result (counter.old.ledger.all.time ≤ counter.new.ledger.all.time) }
     {
         let Ok(mut team) = gather(self.interpreter.alloc, low, count, locals) else {
             return Err(Halt::OutOfMemory);

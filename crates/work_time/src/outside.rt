@@ -6,7 +6,7 @@ ghost use Rattle.pram_meaning.specs.Bounded.{counted, for_all, for_turns, pardo,
 ghost use Rattle.pram_meaning.specs.Bounded as meaning;
 ghost use Rattle.pram_meaning.specs.Attempt.{attempt_assign};
 ghost use Rattle.pram_meaning.specs.Store.{seen, with_uniform};
-ghost use Rattle.work_time.specs.Kept.{Tells, kept, state_of, totals_of};
+ghost use Rattle.work_time.specs.Kept.{Tells, kept, state_of, counts_of};
 ghost use Rattle.work_time.specs.Steps.{acting, begun, effect_writes, for_steps, for_turns_steps, list_steps, one_step, pardo_steps};
 ghost use Rattle.work_time.specs.Steps.{steps, turns_steps, value_step};
 
@@ -28,7 +28,7 @@ fn between(first: i64, last: i64) -> Numbers
 // A uniform variable gets the next number.
 fn set_next(counter: &mut Counter, variable: usize, numbers: &Numbers)
     ensures set { state_of counter.new ≡ with_uniform variable numbers.now.next (state_of counter.old) }
-    ensures kept { counter.new.tally ≡ counter.old.tally }
+    ensures kept { counter.new.ledger ≡ counter.old.ledger }
 {
     set_number(&mut counter.run.uniforms, variable, numbers.next);
 }
@@ -37,24 +37,26 @@ impl<'a> Meter<'a> {
     // The setting of a `for`: it is one statement.
     #[tactic(auto, using(crate::proofs::Loops::setting_waits, crate::proofs::Loops::setting_goes))]
     fn begin_turn(&self, counter: &mut Counter, line: u32) -> Result<(), Halt>
-        ensures value { Tells (λ u. u) result (state_of counter.new) (totals_of counter.new) (kept self.now.schedule (totals_of counter.old)
+        ensures value { Tells (λ u. u) result (state_of counter.new) (counts_of counter.new) (kept self.now.schedule (counts_of counter.old)
             (begun self.now.interpreter.bound (state_of counter.old) (acting line 1))
             (counted self.now.interpreter.bound (state_of counter.old))) }
-        ensures more { OnOk result (counter.new.tally.time ≡ counter.old.tally.time + 1) }
+        ensures more { OnOk result (counter.new.ledger.all.time ≡ counter.old.ledger.all.time + 1) }
     {
         if !self.may_begin(counter) {
             return Err(Halt::Bound);
         }
-        self.act(&mut counter.tally, line, 1);
+        if self.act(&mut counter.ledger, line, 1).is_err() {
+            return Err(Halt::OutOfMemory);
+        }
         Ok(())
     }
 
     #[tactic(auto, using(crate::proofs::Blocks::test_halts, crate::proofs::Blocks::test_goes))]
     fn run_test(&self, counter: &mut Counter, line: u32, test: &Expression) -> Result<bool, Halt>
-        ensures value { Tells (λ b. b) result (state_of counter.new) (totals_of counter.new) (kept self.now.schedule (totals_of counter.old)
+        ensures value { Tells (λ b. b) result (state_of counter.new) (counts_of counter.new) (kept self.now.schedule (counts_of counter.old)
             (value_step self.now.interpreter.program.now self.now.interpreter.bound line test.now (state_of counter.old))
             (tested self.now.interpreter.program.now self.now.interpreter.bound line test.now (state_of counter.old))) }
-        ensures more { OnOk result (counter.new.tally.time ≡ counter.old.tally.time + 1) }
+        ensures more { OnOk result (counter.new.ledger.all.time ≡ counter.old.ledger.all.time + 1) }
     {
         let value = self.run_value(counter, line, test)?;
         Ok(is_true(value))
@@ -68,11 +70,11 @@ impl<'a> Meter<'a> {
         target: &Target,
         value: &Expression,
     ) -> Result<(), Halt>
-        ensures value { Tells (λ u. u) result (state_of counter.new) (totals_of counter.new) (kept self.now.schedule (totals_of counter.old)
+        ensures value { Tells (λ u. u) result (state_of counter.new) (counts_of counter.new) (kept self.now.schedule (counts_of counter.old)
             (one_step self.now.interpreter.bound line effect_writes
             (λ m. attempt_assign (seen self.now.interpreter.program.now m) target.now value.now) (state_of counter.old))
             (meaning.assign self.now.interpreter.program.now self.now.interpreter.bound line target.now value.now (state_of counter.old))) }
-        ensures grows { OnOk result (counter.old.tally.time ≤ counter.new.tally.time) }
+        ensures grows { OnOk result (counter.old.ledger.all.time ≤ counter.new.ledger.all.time) }
     {
         let effect = self.run_effect(counter, line, target, value)?;
         match target {
@@ -88,10 +90,10 @@ impl<'a> Meter<'a> {
 
     #[tactic(auto, using(crate::proofs::Blocks::print_halts, crate::proofs::Blocks::print_goes))]
     fn print(&self, counter: &mut Counter, line: u32, value: &Expression) -> Result<(), Halt>
-        ensures value { Tells (λ u. u) result (state_of counter.new) (totals_of counter.new) (kept self.now.schedule (totals_of counter.old)
+        ensures value { Tells (λ u. u) result (state_of counter.new) (counts_of counter.new) (kept self.now.schedule (counts_of counter.old)
             (value_step self.now.interpreter.program.now self.now.interpreter.bound line value.now (state_of counter.old))
             (meaning.print self.now.interpreter.program.now self.now.interpreter.bound line value.now (state_of counter.old))) }
-        ensures grows { OnOk result (counter.old.tally.time ≤ counter.new.tally.time) }
+        ensures grows { OnOk result (counter.old.ledger.all.time ≤ counter.new.ledger.all.time) }
     {
         let item = self.run_value(counter, line, value)?;
         if counter.run.output.push(item).is_err() {
@@ -110,12 +112,12 @@ impl<'a> Meter<'a> {
         high: &Expression,
         locals: usize,
     ) -> Result<(), Halt>
-        ensures value { Tells (λ u. u) result (state_of counter.new) (totals_of counter.new) (kept self.now.schedule (totals_of counter.old)
+        ensures value { Tells (λ u. u) result (state_of counter.new) (counts_of counter.new) (kept self.now.schedule (counts_of counter.old)
             (pardo_steps self.now.interpreter.program.now self.now.interpreter.bound line low.now high.now locals body.now.items
             (state_of counter.old))
             (pardo self.now.interpreter.program.now self.now.interpreter.bound line low.now high.now locals body.now.items
             (state_of counter.old))) }
-        ensures grows { OnOk result (counter.old.tally.time ≤ counter.new.tally.time) }
+        ensures grows { OnOk result (counter.old.ledger.all.time ≤ counter.new.ledger.all.time) }
     {
         let (first, count) = self.run_range(counter, line, low, high)?;
         self.run_team(counter, first, count, locals, body)
@@ -125,10 +127,10 @@ impl<'a> Meter<'a> {
     #[cycle(outside)]
     #[tactic(auto, using(crate::proofs::Blocks::assign_arm, crate::proofs::Blocks::print_arm, crate::proofs::Blocks::while_arm, crate::proofs::Blocks::for_arm, crate::proofs::Blocks::pardo_arm, crate::proofs::Blocks::if_halts_arm, crate::proofs::Blocks::then_arm, crate::proofs::Blocks::else_arm))]
     pub fn run_statement(&self, counter: &mut Counter, s: &Statement) -> Result<(), Halt>
-        ensures value { Tells (λ u. u) result (state_of counter.new) (totals_of counter.new) (kept self.now.schedule (totals_of counter.old)
+        ensures value { Tells (λ u. u) result (state_of counter.new) (counts_of counter.new) (kept self.now.schedule (counts_of counter.old)
             (steps self.now.interpreter.program.now self.now.interpreter.bound s.now (state_of counter.old))
             (perform self.now.interpreter.program.now self.now.interpreter.bound s.now (state_of counter.old))) }
-        ensures grows { OnOk result (counter.old.tally.time ≤ counter.new.tally.time) }
+        ensures grows { OnOk result (counter.old.ledger.all.time ≤ counter.new.ledger.all.time) }
     {
         match s {
             Statement::Assign {
@@ -177,7 +179,7 @@ impl<'a> Meter<'a> {
         line: u32,
         test: &Expression,
     ) -> Result<(), Halt>
-        ensures value { Tells (λ u. u) result (state_of counter.new) (totals_of counter.new) (kept self.now.schedule (totals_of counter.old)
+        ensures value { Tells (λ u. u) result (state_of counter.new) (counts_of counter.new) (kept self.now.schedule (counts_of counter.old)
             (turns_steps (self.now.interpreter.bound + 1)
             (value_step self.now.interpreter.program.now self.now.interpreter.bound line test.now)
             (tested self.now.interpreter.program.now self.now.interpreter.bound line test.now)
@@ -186,7 +188,7 @@ impl<'a> Meter<'a> {
             (turns (self.now.interpreter.bound + 1)
             (tested self.now.interpreter.program.now self.now.interpreter.bound line test.now)
             (perform_list self.now.interpreter.program.now self.now.interpreter.bound body.now.items) (state_of counter.old))) }
-        ensures grows { OnOk result (counter.old.tally.time ≤ counter.new.tally.time) }
+        ensures grows { OnOk result (counter.old.ledger.all.time ≤ counter.new.ledger.all.time) }
     {
         'turns: while self.run_test(counter, line, test)? {
             self.run_block(counter, body)?;
@@ -205,13 +207,13 @@ impl<'a> Meter<'a> {
         low: &Expression,
         high: &Expression,
     ) -> Result<(), Halt>
-        ensures value { Tells (λ u. u) result (state_of counter.new) (totals_of counter.new) (kept self.now.schedule (totals_of counter.old)
+        ensures value { Tells (λ u. u) result (state_of counter.new) (counts_of counter.new) (kept self.now.schedule (counts_of counter.old)
             (for_steps self.now.interpreter.program.now self.now.interpreter.bound line variable low.now high.now
             (list_steps self.now.interpreter.program.now self.now.interpreter.bound body.now.items)
             (perform_list self.now.interpreter.program.now self.now.interpreter.bound body.now.items) (state_of counter.old))
             (for_all self.now.interpreter.program.now self.now.interpreter.bound line variable low.now high.now
             (perform_list self.now.interpreter.program.now self.now.interpreter.bound body.now.items) (state_of counter.old))) }
-        ensures grows { OnOk result (counter.old.tally.time ≤ counter.new.tally.time) }
+        ensures grows { OnOk result (counter.old.ledger.all.time ≤ counter.new.ledger.all.time) }
     {
         let (first, last) = self.run_bounds(counter, line, low, high)?;
         let numbers = between(first, last);
@@ -229,13 +231,13 @@ impl<'a> Meter<'a> {
         variable: usize,
         numbers: &Numbers,
     ) -> Result<(), Halt>
-        ensures value { Tells (λ u. u) result (state_of counter.new) (totals_of counter.new) (kept self.now.schedule (totals_of counter.old)
+        ensures value { Tells (λ u. u) result (state_of counter.new) (counts_of counter.new) (kept self.now.schedule (counts_of counter.old)
             (for_turns_steps self.now.interpreter.bound line (width numbers.now.next numbers.now.last) variable numbers.now.next
             (list_steps self.now.interpreter.program.now self.now.interpreter.bound body.now.items)
             (perform_list self.now.interpreter.program.now self.now.interpreter.bound body.now.items) (state_of counter.old))
             (for_turns self.now.interpreter.bound (width numbers.now.next numbers.now.last) variable numbers.now.next
             (perform_list self.now.interpreter.program.now self.now.interpreter.bound body.now.items) (state_of counter.old))) }
-        ensures grows { OnOk result (counter.old.tally.time ≤ counter.new.tally.time) }
+        ensures grows { OnOk result (counter.old.ledger.all.time ≤ counter.new.ledger.all.time) }
     {
         if numbers.is_empty() {
             return Ok(());
@@ -256,10 +258,10 @@ impl<'a> Meter<'a> {
     #[cycle(outside)]
     #[tactic(auto, using(crate::proofs::Loops::block_starts, crate::proofs::Loops::block_halts, crate::proofs::Loops::block_goes, crate::proofs::Loops::block_ends))]
     fn run_block(&self, counter: &mut Counter, body: &Vec<Statement>) -> Result<(), Halt>
-        ensures value { Tells (λ u. u) result (state_of counter.new) (totals_of counter.new) (kept self.now.schedule (totals_of counter.old)
+        ensures value { Tells (λ u. u) result (state_of counter.new) (counts_of counter.new) (kept self.now.schedule (counts_of counter.old)
             (list_steps self.now.interpreter.program.now self.now.interpreter.bound body.now.items (state_of counter.old))
             (perform_list self.now.interpreter.program.now self.now.interpreter.bound body.now.items (state_of counter.old))) }
-        ensures grows { OnOk result (counter.old.tally.time ≤ counter.new.tally.time) }
+        ensures grows { OnOk result (counter.old.ledger.all.time ≤ counter.new.ledger.all.time) }
     {
         for s in body {
             self.run_statement(counter, s)?;
@@ -270,7 +272,7 @@ impl<'a> Meter<'a> {
     /// The whole body of a program.
     #[tactic(auto, using(crate::proofs::Loops::block_starts, crate::proofs::Loops::block_halts, crate::proofs::Loops::block_goes, crate::proofs::Loops::block_ends))]
     pub fn run_body(&self, counter: &mut Counter) -> Result<(), Halt>
-        ensures { Tells (λ u. u) result (state_of counter.new) (totals_of counter.new) (kept self.now.schedule (totals_of counter.old)
+        ensures { Tells (λ u. u) result (state_of counter.new) (counts_of counter.new) (kept self.now.schedule (counts_of counter.old)
             (list_steps self.now.interpreter.program.now self.now.interpreter.bound self.now.interpreter.program.now.body
             (state_of counter.old))
             (perform_list self.now.interpreter.program.now self.now.interpreter.bound self.now.interpreter.program.now.body

@@ -7,14 +7,15 @@ ghost use Rattle.pram_meaning.specs.Bounded as meaning;
 ghost use Rattle.pram_meaning.specs.Attempt.{attempt_step};
 ghost use Rattle.pram_meaning.specs.Judging.{part_is};
 ghost use Rattle.pram_meaning.specs.Together.{those};
-ghost use Rattle.work_time.specs.Kept.{Tells, kept, state_in, tally_is, totals_of};
+ghost use Rattle.work_time.specs.Ledgers.{ledger_is};
+ghost use Rattle.work_time.specs.Kept.{Tells, kept, state_in, counts_of};
 ghost use Rattle.work_time.specs.Steps.{part_reads, part_writes, set_step, test_step};
-ghost use Rattle.work_time.specs.Totals.{added};
+ghost use Rattle.work_time.specs.Accounts.{entered};
 
 use crate::alone::{count_of, reads_on};
 use crate::counter::Counter;
 use crate::meter::Meter;
-use crate::tally::Tally;
+use crate::ledger::Ledger;
 use crate::time_step::TimeStep;
 use pram_check::{Expression, StepTarget};
 use pram_meaning::part::Part;
@@ -81,18 +82,18 @@ pub fn choose(alloc: Global, wanted: bool, parts: &Vec<Part>) -> Result<Vec<u32>
 
 impl<'a> Meter<'a> {
     // A set has executed a statement.
-    fn pass_on(&self, tally: &mut Tally, line: u32, parts: &[Part])
+    fn pass_on(&self, ledger: &mut Ledger, line: u32, parts: &[Part]) -> Result<(), AllocError>
         requires few { length parts.now < 2 ^ 32 }
-        requires room { tally.old.time < 2 ^ 32 - 1 }
-        ensures { tally_is tally.new ≡ added self.now.schedule (record {
+        requires room { ledger.old.all.time < 2 ^ 32 - 1 }
+        ensures { OnOk result (ledger_is ledger.new ≡ entered self.now.schedule (record {
           line = line;
           processors = length parts.now;
           reads = sum_by part_reads (map part_is parts.now);
           writes = sum_by part_writes (map part_is parts.now);
         })
-            (tally_is tally.old) }
+            (ledger_is ledger.old)) }
     {
-        tally.add(
+        ledger.enter(
             self.schedule,
             &TimeStep {
                 line,
@@ -100,7 +101,7 @@ impl<'a> Meter<'a> {
                 reads: all_reads(parts),
                 writes: all_writes(parts),
             },
-        );
+        )
     }
 
     // A statement of a set: its least fault, or the parts.
@@ -115,13 +116,13 @@ impl<'a> Meter<'a> {
         e: &Expression,
     ) -> Result<Vec<Part>, Halt>
         requires few { length active.now.items < 2 ^ 32 }
-        ensures value { Tells (λ xs. map part_is xs.items) result (state_in counter.new team.now.items) (totals_of counter.new)
-            (kept self.now.schedule (totals_of counter.old)
+        ensures value { Tells (λ xs. map part_is xs.items) result (state_in counter.new team.now.items) (counts_of counter.new)
+            (kept self.now.schedule (counts_of counter.old)
             (set_step self.now.interpreter.program.now self.now.interpreter.bound line (λ s. attempt_step s target.now e.now)
             active.now.items (state_in counter.old team.now.items))
             (meaning.attempted_on self.now.interpreter.program.now self.now.interpreter.bound line
             (λ s. attempt_step s target.now e.now) active.now.items (state_in counter.old team.now.items))) }
-        ensures more { OnOk result (counter.new.tally.time ≡ counter.old.tally.time + 1) }
+        ensures more { OnOk result (counter.new.ledger.all.time ≡ counter.old.ledger.all.time + 1) }
         ensures few { IfOk result (λ xs. length xs.items < 2 ^ 32) }
     {
         if !self.may_begin(counter) {
@@ -132,11 +133,15 @@ impl<'a> Meter<'a> {
             .judge_on(&mut counter.run, team, active, line, target, e)
         {
             Ok(parts) => {
-                self.pass_on(&mut counter.tally, line, &parts);
+                if self.pass_on(&mut counter.ledger, line, &parts).is_err() {
+                    return Err(Halt::OutOfMemory);
+                }
                 Ok(parts)
             }
             Err(halt) => {
-                self.act(&mut counter.tally, line, active.len() as u32);
+                if self.act(&mut counter.ledger, line, active.len() as u32).is_err() {
+                    return Err(Halt::OutOfMemory);
+                }
                 Err(halt)
             }
         }
@@ -154,13 +159,13 @@ impl<'a> Meter<'a> {
         e: &Expression,
     ) -> Result<(), Halt>
         requires few { length active.now.items < 2 ^ 32 }
-        ensures value { Tells (λ u. u) result (state_in counter.new team.new.items) (totals_of counter.new)
-            (kept self.now.schedule (totals_of counter.old)
+        ensures value { Tells (λ u. u) result (state_in counter.new team.new.items) (counts_of counter.new)
+            (kept self.now.schedule (counts_of counter.old)
             (set_step self.now.interpreter.program.now self.now.interpreter.bound line (λ s. attempt_step s target.now e.now)
             active.now.items (state_in counter.old team.old.items))
             (meaning.assign_on self.now.interpreter.program.now self.now.interpreter.bound line target.now e.now active.now.items
             (state_in counter.old team.old.items))) }
-        ensures grows { OnOk result (counter.old.tally.time ≤ counter.new.tally.time) }
+        ensures grows { OnOk result (counter.old.ledger.all.time ≤ counter.new.ledger.all.time) }
     {
         let parts = self.attempt_on(counter, team, active, line, target, e)?;
         if self
@@ -183,13 +188,13 @@ impl<'a> Meter<'a> {
         test: &Expression,
     ) -> Result<Vec<Part>, Halt>
         requires few { length active.now.items < 2 ^ 32 }
-        ensures value { Tells (λ xs. map part_is xs.items) result (state_in counter.new team.now.items) (totals_of counter.new)
-            (kept self.now.schedule (totals_of counter.old)
+        ensures value { Tells (λ xs. map part_is xs.items) result (state_in counter.new team.now.items) (counts_of counter.new)
+            (kept self.now.schedule (counts_of counter.old)
             (test_step self.now.interpreter.program.now self.now.interpreter.bound line test.now active.now.items
             (state_in counter.old team.now.items))
             (tested_on self.now.interpreter.program.now self.now.interpreter.bound line test.now active.now.items
             (state_in counter.old team.now.items))) }
-        ensures more { OnOk result (counter.new.tally.time ≡ counter.old.tally.time + 1) }
+        ensures more { OnOk result (counter.new.ledger.all.time ≡ counter.old.ledger.all.time + 1) }
         ensures few { IfOk result (λ xs. length xs.items < 2 ^ 32) }
     {
         let none = StepTarget::Local(0);

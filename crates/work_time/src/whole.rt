@@ -5,11 +5,11 @@ ghost use Rattle.pram_model.specs.Layout.{total_size};
 ghost use Rattle.write_rules.specs.Verdict.{verdict_of};
 ghost use Rattle.pram_meaning.specs.Outcome.{IsOutcome};
 ghost use Rattle.work_time.specs.Counted.{counted};
-ghost use Rattle.work_time.specs.Kept.{tally_is};
+ghost use Rattle.work_time.specs.Ledgers.{ledger_is};
 
 use crate::counter::Counter;
 use crate::meter::Meter;
-use crate::tally::Tally;
+use crate::ledger::Ledger;
 use pram_check::Program;
 use pram_meaning::interpreter::Interpreter;
 use pram_meaning::run::Halt;
@@ -25,12 +25,12 @@ pub fn run_whole(
     input: &[i64],
     bound: u32,
     schedule: u32,
-) -> Result<(Outcome, Tally), RunRefusal>
+) -> Result<(Outcome, Ledger), RunRefusal>
     requires some { 0 < schedule }
     ensures outcome { IfOk result (λ r. IsOutcome program.now input.now bound (verdict_of r.0)) }
     ensures fits { IfOk result (λ r. length input.now ≤ total_size program.now.layout) }
     ensures too_long { (result ≡ Err RunRefusal.InputTooLong) ↔ (total_size program.now.layout < length input.now) }
-    ensures totals { IfOk result (λ r. tally_is r.1 ≡ counted program.now input.now bound schedule) }
+    ensures totals { IfOk result (λ r. ledger_is r.1 ≡ counted program.now input.now bound schedule) }
 {
     if input.len() > program.layout().cells() as usize {
         return Err(RunRefusal::InputTooLong);
@@ -39,8 +39,8 @@ pub fn run_whole(
         Ok(run) => run,
         Err(_) => return Err(RunRefusal::OutOfMemory),
     };
-    let tally = Tally::new();
-    let mut counter = Counter { run, tally };
+    let ledger = Ledger::new(alloc);
+    let mut counter = Counter { run, ledger };
     let interpreter = Interpreter {
         alloc,
         program,
@@ -51,19 +51,19 @@ pub fn run_whole(
         schedule,
     };
     let done = meter.run_body(&mut counter);
-    let Counter { run, tally } = counter;
+    let Counter { run, ledger } = counter;
     match done {
         Ok(()) => {
             let (output, memory) = (run.output, run.cells);
-            Ok((Outcome::Ended { output, memory }, tally))
+            Ok((Outcome::Ended { output, memory }, ledger))
         }
         Err(Halt::Fault(fault)) => {
             let output = run.output;
-            Ok((Outcome::Faulted { fault, output }, tally))
+            Ok((Outcome::Faulted { fault, output }, ledger))
         }
         Err(Halt::Bound) => {
             let output = run.output;
-            Ok((Outcome::GoesOn { output }, tally))
+            Ok((Outcome::GoesOn { output }, ledger))
         }
         Err(Halt::OutOfMemory) => Err(RunRefusal::OutOfMemory),
     }

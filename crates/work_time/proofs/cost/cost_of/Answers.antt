@@ -1,9 +1,58 @@
-use Rattle.work_time.specs.Kept.{tally_is}
+use Rattle.std.proofs.Common.{◌∙◌, ap, length}
+use Rattle.work_time.specs.Ledgers.{tally_is}
 use Rattle.work_time.specs.Steps.{run_steps}
+use Rattle.work_time.specs.RowCosts.{costs_of_rows}
 use Rattle.work_time.proofs.Brent.{kept_brent}
+use Rattle.work_time.proofs.RowCosts.{all_told, lines_told, rows_told}
+use Rattle.work_time.proofs.Sums.{reads_are, rounds_are, time_is, width_is, work_is, writes_are}
 use Rattle.work_time.proofs.cost.cost_of.Goals as goal
+
+pub returns-clause-time : goal.returns-clause-time
+returns-clause-time c =
+    let steps = run_steps c.args.program.now c.args.input.now c.args.bound in
+    let ledger = c.in_ok-outcome.ledger in
+    time_is c.args.schedule steps (tally_is ledger.all) (all_told c.args.schedule steps ledger c.in_ok-outcome.ensures.totals)
+
+pub returns-clause-work : goal.returns-clause-work
+returns-clause-work c =
+    let steps = run_steps c.args.program.now c.args.input.now c.args.bound in
+    let ledger = c.in_ok-outcome.ledger in
+    work_is c.args.schedule steps (tally_is ledger.all) (all_told c.args.schedule steps ledger c.in_ok-outcome.ensures.totals)
+
+pub returns-clause-width : goal.returns-clause-width
+returns-clause-width c =
+    let steps = run_steps c.args.program.now c.args.input.now c.args.bound in
+    let ledger = c.in_ok-outcome.ledger in
+    width_is c.args.schedule steps (tally_is ledger.all) (all_told c.args.schedule steps ledger c.in_ok-outcome.ensures.totals)
+
+pub returns-clause-reads : goal.returns-clause-reads
+returns-clause-reads c =
+    let steps = run_steps c.args.program.now c.args.input.now c.args.bound in
+    let ledger = c.in_ok-outcome.ledger in
+    reads_are c.args.schedule steps (tally_is ledger.all) (all_told c.args.schedule steps ledger c.in_ok-outcome.ensures.totals)
+
+pub returns-clause-writes : goal.returns-clause-writes
+returns-clause-writes c =
+    let steps = run_steps c.args.program.now c.args.input.now c.args.bound in
+    let ledger = c.in_ok-outcome.ledger in
+    writes_are c.args.schedule steps (tally_is ledger.all) (all_told c.args.schedule steps ledger c.in_ok-outcome.ensures.totals)
+
+pub returns-clause-rounds : goal.returns-clause-rounds
+returns-clause-rounds c =
+    let steps = run_steps c.args.program.now c.args.input.now c.args.bound in
+    let ledger = c.in_ok-outcome.ledger in
+    rounds_are c.args.schedule steps (tally_is ledger.all) (all_told c.args.schedule steps ledger c.in_ok-outcome.ensures.totals)
+
+pub returns-clause-lines : goal.returns-clause-lines
+returns-clause-lines c =
+    let steps = run_steps c.args.program.now c.args.input.now c.args.bound in
+    let ledger = c.in_ok-outcome.ledger in
+    lines_told c.args.schedule steps ledger.lines.items (rows_told c.args.schedule steps ledger c.in_ok-outcome.ensures.totals) _
+    (c.in-Ok.ensures ∙ ap (λ rows. costs_of_rows rows (length rows)) c.deref.ensures.value)
 
 pub returns-clause-brent : goal.returns-clause-brent
 returns-clause-brent c =
-    kept_brent c.args.schedule (run_steps c.args.program.now c.args.input.now c.args.bound) (tally_is c.in_ok-outcome.tally)
-    c.from.result c.from-2.result c.requires.some c.in_ok-outcome.ensures.totals c.from.ensures c.from-2.ensures
+    let steps = run_steps c.args.program.now c.args.input.now c.args.bound in
+    let ledger = c.in_ok-outcome.ledger in
+    kept_brent c.args.schedule steps (tally_is ledger.all) c.from.result c.from-2.result c.requires.some
+    (all_told c.args.schedule steps ledger c.in_ok-outcome.ensures.totals) c.from.ensures c.from-2.ensures

@@ -2,7 +2,7 @@ use Rattle.std.proofs.lemmas.Result.{err_from_is_err_and}
 use Rattle.std.proofs.Common.{◌≡◌, map, ◌<◌, length, arith}
 use Rattle.std.proofs.lemmas.Grind.{common_steps}
 use Rattle.pram_meaning.specs.Judging.{part_is}
-use Rattle.work_time.specs.Kept.{state_in, totals_of}
+use Rattle.work_time.specs.Kept.{state_in, counts_of}
 use Rattle.work_time.proofs.InnerBlocks.{if_then_halts, if_goes}
 use Rattle.work_time.proofs.InnerLoops.{turn_halts, turn_goes, turns_end, test_halts}
 use Rattle.work_time.proofs.meter.Meter.+inside.Goals as goal
@@ -15,8 +15,8 @@ run_step-returns-in_err-run_block_on-in-If-clause-value t c =
     (if_then_halts c.args.self.now.interpreter.program.now c.args.self.now.schedule c.args.self.now.interpreter.bound c.in-If.line c.args.s.now
     c.in-If.test c.in-If.then_part c.in-If.else_part c.args.active.now.items c.in-Ok.chosen.items
     (state_in c.args.counter.now c.args.team.now.items) (state_in c.test_on.new.counter c.args.team.now.items)
-    (state_in c.run_block_on.new.counter c.run_block_on.new.team.items) (totals_of c.args.counter.now) (totals_of c.test_on.new.counter)
-    (totals_of c.run_block_on.new.counter) (map part_is c.in_ok-all-in-If.all.items) _
+    (state_in c.run_block_on.new.counter c.run_block_on.new.team.items) (counts_of c.args.counter.now) (counts_of c.test_on.new.counter)
+    (counts_of c.run_block_on.new.counter) (map part_is c.in_ok-all-in-If.all.items) _
     c.in-If.is c.in_ok-all-in-If.ensures.value c.in-Ok.ensures.chosen c.in_err-run_block_on-in-If.ensures.value)
 
 pub run_step-returns-in_ok-run_block_on-in-If-clause-value :
@@ -26,8 +26,8 @@ run_step-returns-in_ok-run_block_on-in-If-clause-value t c =
     c.in-If.test c.in-If.then_part c.in-If.else_part c.args.active.now.items c.in-Ok.chosen.items c.in-Ok-choose.others.items
     (state_in c.args.counter.now c.args.team.now.items) (state_in c.test_on.new.counter c.args.team.now.items)
     (state_in c.run_block_on.new.counter c.run_block_on.new.team.items)
-    (state_in c.run_block_on-in-If.new.counter c.run_block_on-in-If.new.team.items) (totals_of c.args.counter.now)
-    (totals_of c.test_on.new.counter) (totals_of c.run_block_on.new.counter) (totals_of c.run_block_on-in-If.new.counter)
+    (state_in c.run_block_on-in-If.new.counter c.run_block_on-in-If.new.team.items) (counts_of c.args.counter.now)
+    (counts_of c.test_on.new.counter) (counts_of c.run_block_on.new.counter) (counts_of c.run_block_on-in-If.new.counter)
     (map part_is c.in_ok-all-in-If.all.items) c.run_block_on-in-If.result
     c.in-If.is c.in_ok-all-in-If.ensures.value c.in-Ok.ensures.chosen c.in-Ok-choose.ensures.chosen
     c.in_ok-run_block_on-in-If.ensures.value c.run_block_on-in-If.ensures.value
@@ -43,7 +43,7 @@ run_while_on-returns-in_err-run_block_on-clause-value t c =
     c.args.body.now.items c.args.active.now.items c.turns.current.items c.in-Ok-choose.chosen.items
     (state_in c.args.counter.now c.args.team.now.items) (state_in c.turns.counter c.turns.team.items)
     (state_in c.test_on.new.counter c.turns.team.items) (state_in c.run_block_on.new.counter c.run_block_on.new.team.items)
-    (totals_of c.args.counter.now) (totals_of c.turns.counter) (totals_of c.test_on.new.counter) (totals_of c.run_block_on.new.counter)
+    (counts_of c.args.counter.now) (counts_of c.turns.counter) (counts_of c.test_on.new.counter) (counts_of c.run_block_on.new.counter)
     (map part_is c.in_ok-all.all.items) _
     c.turns.invariant c.in_ok-all.ensures.value c.in-Ok-choose.ensures.chosen z c.in_err-run_block_on.ensures.value)
 
@@ -56,7 +56,7 @@ run_while_on-returns-in_err-all-clause-value t c =
     (test_halts c.args.self.now.interpreter.program.now c.args.self.now.schedule c.args.self.now.interpreter.bound c.args.line c.args.test.now
     c.args.body.now.items c.args.active.now.items c.turns.current.items (state_in c.args.counter.now c.args.team.now.items)
     (state_in c.turns.counter c.turns.team.items) (state_in c.test_on.new.counter c.turns.team.items)
-    (totals_of c.args.counter.now) (totals_of c.turns.counter) (totals_of c.test_on.new.counter) _
+    (counts_of c.args.counter.now) (counts_of c.turns.counter) (counts_of c.test_on.new.counter) _
     c.turns.invariant c.in_err-all.ensures.value)
 
 pub run_while_on-returns-then-is_empty-clause-value :
@@ -66,8 +66,8 @@ run_while_on-returns-then-is_empty-clause-value t c =
     turns_end c.args.self.now.interpreter.program.now c.args.self.now.schedule c.args.self.now.interpreter.bound c.args.line c.args.test.now
     c.args.body.now.items c.args.active.now.items c.turns.current.items c.in-Ok-choose.chosen.items
     (state_in c.args.counter.now c.args.team.now.items) (state_in c.turns.counter c.turns.team.items)
-    (state_in c.test_on.new.counter c.turns.team.items) (totals_of c.args.counter.now) (totals_of c.turns.counter)
-    (totals_of c.test_on.new.counter) (map part_is c.in_ok-all.all.items)
+    (state_in c.test_on.new.counter c.turns.team.items) (counts_of c.args.counter.now) (counts_of c.turns.counter)
+    (counts_of c.test_on.new.counter) (map part_is c.in_ok-all.all.items)
     c.turns.invariant c.in_ok-all.ensures.value c.in-Ok-choose.ensures.chosen z
 
 pub run_while_on-turns-preserved : goal.run_while_on-turns-preserved
@@ -79,7 +79,7 @@ run_while_on-turns-preserved t c =
     c.args.body.now.items c.args.active.now.items c.turns.current.items c.in-Ok-choose.chosen.items
     (state_in c.args.counter.now c.args.team.now.items) (state_in c.turns.counter c.turns.team.items)
     (state_in c.test_on.new.counter c.turns.team.items) (state_in c.run_block_on.new.counter c.run_block_on.new.team.items)
-    (totals_of c.args.counter.now) (totals_of c.turns.counter) (totals_of c.test_on.new.counter) (totals_of c.run_block_on.new.counter)
+    (counts_of c.args.counter.now) (counts_of c.turns.counter) (counts_of c.test_on.new.counter) (counts_of c.run_block_on.new.counter)
     (map part_is c.in_ok-all.all.items)
     c.turns.invariant c.in_ok-all.ensures.value c.in-Ok-choose.ensures.chosen z c.in-Ok-choose.ensures.few
     c.in_ok-run_block_on.ensures.value (omega (arith, a, b))

@@ -1,7 +1,8 @@
 use Rattle.std.proofs.Common.{rules, ◌≡◌, ap, subst, arith, Err}
 use Rattle.std.proofs.lemmas.Result.{err_from_is_err_and}
-use Rattle.work_time.specs.Kept.{Going, Tells, state_of, tally_is, totals_of}
-use Rattle.work_time.specs.Totals.{Totals}
+use Rattle.work_time.specs.Ledgers.{ledger_is}
+use Rattle.work_time.specs.Kept.{Going, Tells, state_of, counts_of}
+use Rattle.work_time.specs.Accounts.{Accounts}
 use Rattle.work_time.proofs.Blocks.{else_arm, for_arm, for_goes, then_arm}
 use Rattle.work_time.proofs.ForLoops.{turn_goes, turn_halts}
 use Rattle.work_time.proofs.Loops as loop
@@ -14,48 +15,48 @@ run_for-returns-clause-value t c =
     let v : c.between-numbers.result.last ≡ c.in_ok-first.last = search (rules, c.between-numbers.ensures.last) in
     for_goes c.args.self.now.interpreter.program.now c.args.self.now.schedule c.args.self.now.interpreter.bound c.args.line c.args.variable
     c.args.low.now c.args.high.now c.args.body.now.items (state_of c.args.counter.now) (state_of c.run_bounds.new.counter)
-    (state_of c.run_turns.new.counter) (totals_of c.args.counter.now) (totals_of c.run_bounds.new.counter)
-    (totals_of c.run_turns.new.counter) (c.in_ok-first.first, c.in_ok-first.last) c.between-numbers.result.next c.between-numbers.result.last
+    (state_of c.run_turns.new.counter) (counts_of c.args.counter.now) (counts_of c.run_bounds.new.counter)
+    (counts_of c.run_turns.new.counter) (c.in_ok-first.first, c.in_ok-first.last) c.between-numbers.result.next c.between-numbers.result.last
     c.run_turns.result c.in_ok-first.ensures.value u v c.run_turns.ensures.value
 
 pub run_statement-returns-then-holds-clause-value : goal.run_statement-returns-then-holds-clause-value
 run_statement-returns-then-holds-clause-value t c =
     then_arm c.args.self.now.interpreter.program.now c.args.self.now.schedule c.args.self.now.interpreter.bound c.in-If.line c.args.s.now
     c.in-If.test c.in-If.then_part c.in-If.else_part (state_of c.args.counter.now) (state_of c.run_test.new.counter)
-    (state_of c.run_block.new.counter) (totals_of c.args.counter.now) (totals_of c.run_test.new.counter)
-    (totals_of c.run_block.new.counter) c.in_ok-holds-in-If.holds c.run_block.result c.in-If.is c.in_ok-holds-in-If.ensures.value
+    (state_of c.run_block.new.counter) (counts_of c.args.counter.now) (counts_of c.run_test.new.counter)
+    (counts_of c.run_block.new.counter) c.in_ok-holds-in-If.holds c.run_block.result c.in-If.is c.in_ok-holds-in-If.ensures.value
     c.if-holds.true c.run_block.ensures.value
 
 pub run_statement-returns-else-holds-clause-value : goal.run_statement-returns-else-holds-clause-value
 run_statement-returns-else-holds-clause-value t c =
     else_arm c.args.self.now.interpreter.program.now c.args.self.now.schedule c.args.self.now.interpreter.bound c.in-If.line c.args.s.now
     c.in-If.test c.in-If.then_part c.in-If.else_part (state_of c.args.counter.now) (state_of c.run_test.new.counter)
-    (state_of c.run_block-else-holds.new.counter) (totals_of c.args.counter.now) (totals_of c.run_test.new.counter)
-    (totals_of c.run_block-else-holds.new.counter) c.in_ok-holds-in-If.holds c.run_block-else-holds.result c.in-If.is
+    (state_of c.run_block-else-holds.new.counter) (counts_of c.args.counter.now) (counts_of c.run_test.new.counter)
+    (counts_of c.run_block-else-holds.new.counter) c.in_ok-holds-in-If.holds c.run_block-else-holds.result c.in-If.is
     c.in_ok-holds-in-If.ensures.value c.if-holds.false c.run_block-else-holds.ensures.value
 
 pub run_statement-returns-in-For-clause-value : goal.run_statement-returns-in-For-clause-value
 run_statement-returns-in-For-clause-value t c =
     let p = c.in-For in
     for_arm c.args.self.now.interpreter.program.now c.args.self.now.schedule c.args.self.now.interpreter.bound p.line p.variable
-    c.args.s.now p.low p.high p.body (state_of c.args.counter.now) (state_of c.run_for.new.counter) (totals_of c.args.counter.now)
-    (totals_of c.run_for.new.counter) c.run_for.result p.is c.run_for.ensures.value
+    c.args.s.now p.low p.high p.body (state_of c.args.counter.now) (state_of c.run_for.new.counter) (counts_of c.args.counter.now)
+    (counts_of c.run_for.new.counter) c.run_for.result p.is c.run_for.ensures.value
 
 pub run_turns-returns-in_err-run_block-clause-value : goal.run_turns-returns-in_err-run_block-clause-value
 run_turns-returns-in_err-run_block-clause-value t c =
     let r = c.from_residual-in_err-run_block in
     let p = err_from_is_err_and r.result r.ensures.1 in
-    let e : totals_of c.set_next.new.counter ≡ totals_of c.begin_turn.new.counter = ap tally_is c.set_next.ensures.kept in
-    let P : Totals → Type 0 = λ t. Tells {A = Unit {0}} (λ u. u) (Err c.in_err-run_block.field-0.0) (state_of c.run_block.new.counter)
-    (totals_of c.run_block.new.counter)
+    let e : counts_of c.set_next.new.counter ≡ counts_of c.begin_turn.new.counter = ap ledger_is c.set_next.ensures.kept in
+    let P : Accounts → Type 0 = λ t. Tells {A = Unit {0}} (λ u. u) (Err c.in_err-run_block.field-0.0) (state_of c.run_block.new.counter)
+    (counts_of c.run_block.new.counter)
     (told_list c.args.self.now.interpreter.program.now c.args.self.now.schedule c.args.self.now.interpreter.bound c.args.body.now.items
     (state_of c.set_next.new.counter) t) in
     rw (p.1, p.2)
     (turn_halts c.args.self.now.interpreter.program.now c.args.self.now.schedule c.args.self.now.interpreter.bound c.args.line c.args.variable
     c.args.body.now.items c.args.numbers.now.next c.args.numbers.now.last c.turns.left.next c.turns.left.last
     (state_of c.args.counter.now) (state_of c.turns.counter) (state_of c.begin_turn.new.counter) (state_of c.set_next.new.counter)
-    (state_of c.run_block.new.counter) (totals_of c.args.counter.now) (totals_of c.turns.counter) (totals_of c.begin_turn.new.counter)
-    (totals_of c.run_block.new.counter) c.in_err-run_block.field-0.0 c.turns.invariant c.in_ok-begin_turn.ensures.value c.set_next.ensures.set
+    (state_of c.run_block.new.counter) (counts_of c.args.counter.now) (counts_of c.turns.counter) (counts_of c.begin_turn.new.counter)
+    (counts_of c.run_block.new.counter) c.in_err-run_block.field-0.0 c.turns.invariant c.in_ok-begin_turn.ensures.value c.set_next.ensures.set
     (subst P e c.in_err-run_block.ensures.value))
 
 pub run_turns-turns-preserved : goal.run_turns-turns-preserved
@@ -63,16 +64,16 @@ run_turns-turns-preserved t c =
     let a = c.turns.invariant.grows in
     let b = c.in_ok-begin_turn.ensures.more in
     let d = c.in_ok-run_block.ensures.grows in
-    let e : totals_of c.set_next.new.counter ≡ totals_of c.begin_turn.new.counter = ap tally_is c.set_next.ensures.kept in
-    let f : c.set_next.new.counter.tally.time ≡ c.begin_turn.new.counter.tally.time = ap (λ (t : Totals). t.time) e in
-    let P : Totals → Type 0 = λ t. told_list c.args.self.now.interpreter.program.now c.args.self.now.schedule
+    let e : counts_of c.set_next.new.counter ≡ counts_of c.begin_turn.new.counter = ap ledger_is c.set_next.ensures.kept in
+    let f : c.set_next.new.counter.ledger.all.time ≡ c.begin_turn.new.counter.ledger.all.time = ap (λ (t : Accounts). t.all.time) e in
+    let P : Accounts → Type 0 = λ t. told_list c.args.self.now.interpreter.program.now c.args.self.now.schedule
     c.args.self.now.interpreter.bound c.args.body.now.items (state_of c.set_next.new.counter) t ≡
-    Going tt (state_of c.run_block.new.counter) (totals_of c.run_block.new.counter) in
+    Going tt (state_of c.run_block.new.counter) (counts_of c.run_block.new.counter) in
     turn_goes c.args.self.now.interpreter.program.now c.args.self.now.schedule c.args.self.now.interpreter.bound c.args.line c.args.variable
     c.args.body.now.items c.args.numbers.now.next c.args.numbers.now.last c.turns.left.next c.turns.left.last
     c.advance.new.self.next c.advance.new.self.last (state_of c.args.counter.now) (state_of c.turns.counter)
     (state_of c.begin_turn.new.counter) (state_of c.set_next.new.counter) (state_of c.run_block.new.counter)
-    (totals_of c.args.counter.now) (totals_of c.turns.counter) (totals_of c.begin_turn.new.counter) (totals_of c.run_block.new.counter)
+    (counts_of c.args.counter.now) (counts_of c.turns.counter) (counts_of c.begin_turn.new.counter) (counts_of c.run_block.new.counter)
     c.turns.invariant c.in_ok-begin_turn.ensures.value c.set_next.ensures.set (subst P e c.in_ok-run_block.ensures.value)
     c.advance.ensures.next c.advance.ensures.last (c.is_at_end.ensures.more c.if-is_at_end.false) (omega (arith, a, b, d, f))
 
@@ -83,6 +84,13 @@ run_while-returns-in_err-run_block-clause-value t c =
     rw (p.1, p.2)
     (loop.turn_halts c.args.self.now.interpreter.program.now c.args.self.now.schedule c.args.self.now.interpreter.bound c.args.line
     c.args.test.now c.args.body.now.items (state_of c.args.counter.now) (state_of c.turns.counter) (state_of c.run_test.new.counter)
-    (state_of c.run_block.new.counter) (totals_of c.args.counter.now) (totals_of c.turns.counter) (totals_of c.run_test.new.counter)
-    (totals_of c.run_block.new.counter) c.in_ok-run_test.field-0 _ c.turns.invariant c.in_ok-run_test.ensures.value c.if-branch.true
+    (state_of c.run_block.new.counter) (counts_of c.args.counter.now) (counts_of c.turns.counter) (counts_of c.run_test.new.counter)
+    (counts_of c.run_block.new.counter) c.in_ok-run_test.field-0 _ c.turns.invariant c.in_ok-run_test.ensures.value c.if-branch.true
     c.in_err-run_block.ensures.value)
+
+pub run_while-returns-clause-value : goal.run_while-returns-clause-value
+run_while-returns-clause-value t c =
+    loop.turns_end c.args.self.now.interpreter.program.now c.args.self.now.schedule c.args.self.now.interpreter.bound c.args.line
+    c.args.test.now c.args.body.now.items (state_of c.args.counter.now) (state_of c.turns.counter) (state_of c.run_test.new.counter)
+    (counts_of c.args.counter.now) (counts_of c.turns.counter) (counts_of c.run_test.new.counter) c.in_ok-run_test.field-0
+    c.turns.invariant c.in_ok-run_test.ensures.value c.if-branch.false

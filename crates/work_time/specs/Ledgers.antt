@@ -1,0 +1,16 @@
+-- What the counting interpreter has counted, as accounts.
+use Rattle.std.specs.Prelude.{ℕ, List, get_or, map}
+use Rattle.work_time.specs.declared.ledger.Ledger.{Ledger}
+use Rattle.work_time.specs.declared.tally.Tally.{Tally}
+use Rattle.work_time.specs.Accounts.{Accounts}
+use Rattle.work_time.specs.Totals.{Totals, nothing}
+
+abbrev pub tally_is : Tally → Totals
+tally_is t = record { time = t.time; work = t.work; width = t.width; reads = t.reads; writes = t.writes; rounds = t.rounds }
+
+-- The row at l is that of line l. A line behind the last row has not run.
+abbrev pub row_at : List Tally → ℕ → Totals
+row_at rows l = get_or (map tally_is rows) l nothing
+
+abbrev pub ledger_is : Ledger → Accounts
+ledger_is k = record { all = tally_is k.all; lines = row_at k.lines.items }

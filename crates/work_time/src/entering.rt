@@ -1,0 +1,51 @@
+//! Entering a statement that ran.
+
+ghost use Rattle.std.specs.Prelude.{◌≡◌, ◌<◌, ◌≤◌, ◌^◌, ◌-◌, OnOk, length};
+ghost use Rattle.work_time.specs.Accounts.{entered, opened};
+ghost use Rattle.work_time.specs.Ledgers.{ledger_is};
+
+use crate::ledger::Ledger;
+use crate::tally::Tally;
+use crate::time_step::TimeStep;
+use std::alloc::{AllocError, Global};
+
+impl Ledger {
+    /// Nothing has run.
+    pub fn new(alloc: Global) -> Ledger
+        ensures { ledger_is result ≡ opened }
+    {
+        Ledger {
+            all: Tally::new(),
+            lines: Vec::new(alloc),
+        }
+    }
+
+    // Makes rows up to that line.
+    #[tactic(auto, using(crate::proofs::Rows::rows_grown))]
+    fn make_row(&mut self, line: u32) -> Result<(), AllocError>
+        ensures same { OnOk result (ledger_is self.new ≡ ledger_is self.old) }
+        ensures row { OnOk result (line < length self.new.lines.items) }
+    {
+        let rows = line as usize + 1;
+        if self.lines.len() < rows {
+            self.lines.resize(rows, Tally::new())?;
+        }
+        Ok(())
+    }
+
+    /// One statement more, whose rounds are those on so many processors. The error is that memory was refused.
+    #[tactic(auto, using(crate::proofs::Rows::row_entered))]
+    pub fn enter(&mut self, schedule: u32, step: &TimeStep) -> Result<(), AllocError>
+        requires some { 0 < schedule }
+        requires room { self.old.all.time < 2 ^ 32 - 1 }
+        requires few { step.now.reads ≤ 2 ^ 96 }
+        ensures { OnOk result (ledger_is self.new ≡ entered schedule step.now (ledger_is self.old)) }
+    {
+        self.make_row(step.line)?;
+        let mut row = self.lines[step.line as usize];
+        row.add(schedule, step);
+        self.all.add(schedule, step);
+        self.lines[step.line as usize] = row;
+        Ok(())
+    }
+}
