@@ -34,7 +34,8 @@ fn all_are_costed<R: Threads + Wait + Sync>(rt: &R, alloc: Global, rows: &[Coste
 }
 
 // The sum of eight numbers by a balanced tree, examples/tree_sum.pram without its comment.
-const TREE_SUM: &str = "rule erew; procs 8;\nshared a[1..8]; shared b[1..8]; var m;\nbegin\nfor 1 <= i <= 8 pardo b[i] := a[i]; end\nm := 8;\nwhile m > 1 do\nm := m div 2;\nfor 1 <= i <= m pardo b[i] := b[2 * i - 1] + b[2 * i]; end\nend\nprint b[1];\nend\n";
+const TREE_SUM: &str =
+    "rule erew; procs 8;\nshared a[1..8]; shared b[1..8]; var m;\nbegin\nfor 1 <= i <= 8 pardo b[i] := a[i]; end\nm := 8;\nwhile m > 1 do\nm := m div 2;\nfor 1 <= i <= m pardo b[i] := b[2 * i - 1] + b[2 * i]; end\nend\nprint b[1];\nend\n";
 
 // The bounds and the copy on line 4; line 5; the test four times on line 6; line 7 three times; on line 8 the bounds three times, and 4, 2
 // and 1 processors; line 10. On 3 processors the copy takes three rounds, the sum of four two, and every other statement one.
@@ -62,7 +63,17 @@ const SUMS: [Costed; 4] = [
     },
     // Three statements: the bounds, the copy and line 5.
     Costed {
-        words: &["cost", "program", "--input", "input", "--bound", "3", "--lines", "--schedule", "1"],
+        words: &[
+            "cost",
+            "program",
+            "--input",
+            "input",
+            "--bound",
+            "3",
+            "--lines",
+            "--schedule",
+            "1",
+        ],
         text: TREE_SUM,
         input: "1 2 3 4 5 6 7 8",
         out: "time 3\nwork 10\nwidth 8\nreads 8\nwrites 8\nrounds on 1: 10\nat most 13\nline 4 times 2 work 9 reads 8 writes 8\nline 5 times 1 work 1 reads 0 writes 0\ngoes on\n",
@@ -79,14 +90,30 @@ fn sums_by_a_tree(rt: HostRuntime) {
 // and no work. Without a statement there is no line.
 const OTHERS: [Costed; 3] = [
     Costed {
-        words: &["cost", "program", "--input", "input", "--schedule", "4", "--lines"],
+        words: &[
+            "cost",
+            "program",
+            "--input",
+            "input",
+            "--schedule",
+            "4",
+            "--lines",
+        ],
         text: "rule erew; procs 4;\nshared a[1..2]; shared b[1..4];\nbegin\nfor 1 <= i <= 4 pardo\nb[i] := a[1];\nend\nend\n",
         input: "9 8",
         out: "time 2\nwork 5\nwidth 4\nreads 0\nwrites 0\nrounds on 4: 2\nat most 3\nline 4 times 1 work 1 reads 0 writes 0\nline 5 times 1 work 4 reads 0 writes 0\nfault read-conflict a[1] line 5\n",
         code: 1,
     },
     Costed {
-        words: &["cost", "program", "--input", "input", "--schedule", "4", "--lines"],
+        words: &[
+            "cost",
+            "program",
+            "--input",
+            "input",
+            "--schedule",
+            "4",
+            "--lines",
+        ],
         text: "rule crew; procs 4;\nshared s;\nbegin\nfor 5 <= i <= 4 pardo s := 1; end\nend\n",
         input: "",
         out: "time 2\nwork 1\nwidth 1\nreads 0\nwrites 0\nrounds on 4: 2\nat most 2\nline 4 times 2 work 1 reads 0 writes 0\nended\ns = 0\n",

@@ -2,12 +2,15 @@
 
 ghost use Rattle.std.specs.Prelude.{◌<◌, ◌^◌};
 ghost use Rattle.program_texts.specs.StoppedFields.{stop_text};
-ghost use Rattle.pramc_command.specs.Answered.{Answers, IsReported, Leaves};
+ghost use Rattle.pramc_command.specs.Answered.{Answers, IsAProgram, IsReported, Leaves};
 
 use crate::loading::{load_input, load_listing, load_program};
 use crate::request::{Request, RunWords, Verb, read_words};
 use crate::running::{code_of, compare, cost, execute, mean, run};
-use crate::writing::{write_accepted, write_costs, write_exchanges, write_outcome, write_plan, write_rules};
+use crate::writing::{
+    write_accepted, write_costs, write_exchanges, write_outcome, write_plan, write_rules,
+};
+use pram_check::Program;
 use pram_syntax::Out;
 use program_texts::{Sources, Status, Stop, write_stop};
 use std::alloc::Global;
@@ -71,6 +74,23 @@ fn perform<'a, R: Threads + Wait + Sync, S: Sources, O: Out>(
     }
 }
 
+// What the run of a program costs, and its outcome.
+fn tell_costs<'a, S: Sources, O: Out>(
+    alloc: Global,
+    program: &Program,
+    words: RunWords<'a>,
+    sources: &mut S,
+    out: &mut O,
+) -> Result<Status, Stop<'a>>
+    requires out { (O.Out.state out.old).failures < 2 ^ 62 }
+    requires program { IsAProgram program.now }
+    ensures answers { Answers (O.Out.state out.old) (O.Out.state out.new) result }
+{
+    let input = load_input(alloc, sources, words.input)?;
+    let (outcome, cost) = cost(alloc, program, &input, words.options.bound, words.costs)?;
+    write_costs(out, program.layout(), &outcome, &cost, words.costs)
+}
+
 // What is done with the program of a file.
 fn on_program<'a, R: Threads + Wait + Sync, S: Sources, O: Out>(
     rt: &R,
@@ -96,17 +116,7 @@ fn on_program<'a, R: Threads + Wait + Sync, S: Sources, O: Out>(
             let outcome = mean(alloc, &program, &input, words.options.bound)?;
             write_outcome(out, program.layout(), &outcome)
         }
-        Verb::Cost => {
-            let input = load_input(alloc, sources, words.input)?;
-            let (outcome, cost) = cost(
-                alloc,
-                &program,
-                &input,
-                words.options.bound,
-                words.costs,
-            )?;
-            write_costs(out, program.layout(), &outcome, &cost, words.costs)
-        }
+        Verb::Cost => tell_costs(alloc, &program, words, sources, out),
         Verb::Rules => {
             let input = load_input(alloc, sources, words.input)?;
             let comparison = compare(alloc, program, &input, words.options.bound)?;

@@ -13,8 +13,8 @@ ghost use Rattle.work_time.specs.Steps as spec;
 ghost use Rattle.work_time.specs.Accounts.{entered};
 
 use crate::counter::Counter;
-use crate::meter::Meter;
 use crate::ledger::Ledger;
+use crate::meter::Meter;
 use crate::time_step::TimeStep;
 use pram_check::{Expression, Program, Target};
 use pram_meaning::attempt::{Effect, Failure, assignment, bounds, range, value_of};
@@ -259,7 +259,10 @@ impl<'a> Meter<'a> {
         let mut trail = Vec::new(self.interpreter.alloc);
         match self.try_effect(counter, target, e, &mut trail) {
             Ok(effect) => {
-                if self.pass(&mut counter.ledger, line, &trail, count_of(effect.cell)).is_err() {
+                if self
+                    .pass(&mut counter.ledger, line, &trail, count_of(effect.cell))
+                    .is_err()
+                {
                     return Err(Halt::OutOfMemory);
                 }
                 Ok(effect)

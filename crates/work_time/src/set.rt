@@ -14,8 +14,8 @@ ghost use Rattle.work_time.specs.Accounts.{entered};
 
 use crate::alone::{count_of, reads_on};
 use crate::counter::Counter;
-use crate::meter::Meter;
 use crate::ledger::Ledger;
+use crate::meter::Meter;
 use crate::time_step::TimeStep;
 use pram_check::{Expression, StepTarget};
 use pram_meaning::part::Part;
@@ -139,7 +139,10 @@ impl<'a> Meter<'a> {
                 Ok(parts)
             }
             Err(halt) => {
-                if self.act(&mut counter.ledger, line, active.len() as u32).is_err() {
+                if self
+                    .act(&mut counter.ledger, line, active.len() as u32)
+                    .is_err()
+                {
                     return Err(Halt::OutOfMemory);
                 }
                 Err(halt)

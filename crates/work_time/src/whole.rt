@@ -8,8 +8,8 @@ ghost use Rattle.work_time.specs.Counted.{counted};
 ghost use Rattle.work_time.specs.Ledgers.{ledger_is};
 
 use crate::counter::Counter;
-use crate::meter::Meter;
 use crate::ledger::Ledger;
+use crate::meter::Meter;
 use pram_check::Program;
 use pram_meaning::interpreter::Interpreter;
 use pram_meaning::run::Halt;
