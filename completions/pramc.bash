@@ -4,16 +4,17 @@ _pramc() {
     local word=${COMP_WORDS[COMP_CWORD]} before=${COMP_WORDS[COMP_CWORD - 1]} words=
     COMPREPLY=()
     if [ "$COMP_CWORD" -eq 1 ]; then
-        words="check plan meaning rules run trace exec --help"
+        words="check plan meaning cost rules run trace exec --help"
     else
         case $before in
         --input) ;;
         --map) words="identity affine:" ;;
-        --bound | --workers | --reserve) return ;;
+        --bound | --workers | --reserve | --schedule) return ;;
         *)
             case ${COMP_WORDS[1]} in
             check | plan) words="--help" ;;
             meaning | rules) words="--bound --input --help" ;;
+            cost) words="--bound --input --schedule --lines --help" ;;
             run | trace | exec) words="--bound --input --workers --map --reserve --help" ;;
             *) return ;;
             esac

@@ -28,10 +28,13 @@ def wrong(words, output, status):
 
 
 def of_the_gallery(program, text, output, folder):
-    """The calls that show the conflict and the T of an example of the gallery."""
+    """The calls that show the conflict and the T of an example of the gallery; its T and W are what it costs."""
     changed, _, _, fault = change(text)
     (folder / program.name).write_text(changed)
-    steps = int(foot(text)["T"].split()[-1])
+    steps, work = (int(foot(text)[it].split()[-1]) for it in "TW")
+    costs = subprocess.run([PROGRAM, "cost", program, "--input", EXAMPLES / f"{program.stem}.in"], capture_output=True, text=True, timeout=60)
+    if not costs.stdout.startswith(f"time {steps}\nwork {work}\n"):
+        sys.exit(f"pramc cost {program}: not time {steps}, work {work}\n{costs.stdout}{costs.stderr}")
     bounds = [(["meaning", program, "--bound", str(it)], output, status) for it, status in ((steps, 0), (steps - 1, GOES_ON))]
     return [(["run", folder / program.name], f"{fault}\n", 1), *bounds]
 
