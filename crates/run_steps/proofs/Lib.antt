@@ -1,0 +1,15 @@
+pub mod Differences
+pub mod Pushed
+pub mod Meetings
+pub mod Applied
+pub mod Kept
+pub mod Replays
+pub mod ByOne
+pub mod BySet
+pub mod Told
+pub mod InnerBlocks
+pub mod InnerLoops
+pub mod Blocks
+pub mod Loops
+pub mod ForLoops
+pub mod Complete

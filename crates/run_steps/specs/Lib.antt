@@ -1,0 +1,5 @@
+pub mod Moments
+pub mod Changes
+pub mod Entries
+pub mod Telling
+pub mod Kept

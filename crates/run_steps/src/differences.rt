@@ -1,0 +1,64 @@
+//! The difference of two stores.
+
+ghost use Rattle.std.specs.Prelude.{◌≡◌, ◌++◌, IfOk, OnOk, slice_set};
+ghost use Rattle.run_steps.specs.Changes.{change_at, difference};
+
+use crate::change::Change;
+use pram_meaning::view::number_at;
+use std::alloc::{AllocError, Global};
+
+// The change of a cell whose value differs, put behind the others.
+fn add_change(
+    changes: &mut Vec<Change>,
+    cell: usize,
+    before: i64,
+    after: i64,
+) -> Result<(), AllocError>
+    ensures { OnOk result (changes.new.items ≡ changes.old.items ++ change_at cell before after) }
+{
+    if before != after {
+        changes.push(Change {
+            cell,
+            before,
+            after,
+        })?;
+    }
+    Ok(())
+}
+
+/// The changes of the cells whose value differs, in ascending order.
+#[tactic(auto, using(crate::proofs::Differences::all_start, crate::proofs::Differences::all_go, crate::proofs::Differences::all_end))]
+pub fn changes_between(
+    alloc: Global,
+    before: &[i64],
+    after: &[i64],
+) -> Result<Vec<Change>, AllocError>
+    ensures { IfOk result (λ ds. ds.items ≡ difference before.now after.now) }
+{
+    let count = before.len().min(after.len());
+    let mut changes = Vec::new(alloc);
+    for cell in 0..count {
+        let old = number_at(before, cell);
+        let new = number_at(after, cell);
+        add_change(&mut changes, cell, old, new)?;
+    }
+    Ok(changes)
+}
+
+/// The change of cells of which one gets a value.
+#[tactic(auto, using(crate::proofs::Differences::one_inside, crate::proofs::Differences::one_outside))]
+pub fn change_of(
+    alloc: Global,
+    cells: &[i64],
+    cell: usize,
+    value: i64,
+) -> Result<Vec<Change>, AllocError>
+    ensures { IfOk result (λ ds. ds.items ≡ difference cells.now (slice_set cells.now cell value)) }
+{
+    let mut changes = Vec::new(alloc);
+    if cell < cells.len() {
+        let old = number_at(cells, cell);
+        add_change(&mut changes, cell, old, value)?;
+    }
+    Ok(changes)
+}

@@ -1,0 +1,10 @@
+//! Laws of runs that are told.
+
+ghost use Rattle.run_steps.specs.Entries.{ChangesGiveTheMemory};
+
+/// The changes that are told of a run, applied in order to its opening memory, give the memory of
+/// its outcome.
+#[tactic(auto, using(crate::proofs::Replays::changes_give_the_memory))]
+pub fn changes_give_the_memory()
+    ensures { ChangesGiveTheMemory }
+{}
