@@ -27,18 +27,15 @@ values_at values i d digits below is =
 pub entry_split : (name bounds rest : List ℕ) → (name ++ (bounds ++ rest)) ++ 10 ∷ [] ≡ (name ++ bounds) ++ (rest ++ 10 ∷ [])
 entry_split name bounds rest = ap (λ l. l ++ 10 ∷ []) (sym (append_assoc name bounds rest)) ∙ append_assoc (name ++ bounds) rest (10 ∷ [])
 
--- a fault's line: its kind, its place, its line
+-- a fault's text: its kind, its place, its line
 pub fault_split : (kind word place number digits : List ℕ) → word ≡ kind → digits ≡ number
-    → (codes "fault " ++ (kind ++ (codes " " ++ (place ++ (codes " line " ++ number))))) ++ 10 ∷ []
-    ≡ (codes "fault " ++ (word ++ codes " ")) ++ (place ++ (codes " line " ++ (digits ++ 10 ∷ [])))
+    → codes "fault " ++ (kind ++ (codes " " ++ (place ++ (codes " line " ++ number))))
+    ≡ (codes "fault " ++ (word ++ (codes " " ++ []))) ++ (place ++ (codes " line " ++ (digits ++ [])))
 fault_split kind word place number digits is_kind is_number =
-    let behind = codes " line " ++ (digits ++ 10 ∷ []) in
-    ap (λ l. (codes "fault " ++ (l ++ (codes " " ++ (place ++ (codes " line " ++ number))))) ++ 10 ∷ []) (sym is_kind)
-    ∙ ap (λ l. (codes "fault " ++ (word ++ (codes " " ++ (place ++ (codes " line " ++ l))))) ++ 10 ∷ []) (sym is_number)
-    ∙ ap (λ l. codes "fault " ++ l)
-    (append_assoc word (codes " " ++ (place ++ (codes " line " ++ digits))) (10 ∷ [])
-    ∙ ap (λ l. word ++ (codes " " ++ l)) (append_assoc place (codes " line " ++ digits) (10 ∷ []))
-    ∙ sym (append_assoc word (codes " ") (place ++ behind)))
+    let behind = codes " line " ++ (digits ++ []) in
+    ap (λ l. codes "fault " ++ (l ++ (codes " " ++ (place ++ (codes " line " ++ number))))) (sym is_kind)
+    ∙ ap (λ l. codes "fault " ++ (word ++ (codes " " ++ (place ++ (codes " line " ++ l))))) (sym is_number ∙ sym (append-nil digits))
+    ∙ ap (λ l. codes "fault " ++ l) (sym (append_assoc word (codes " ") (place ++ behind)))
 
 -- the declaration at i
 pub entry_at : (layout : List SharedEntry) (i : ℕ) → i < length layout

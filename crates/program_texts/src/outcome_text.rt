@@ -68,10 +68,24 @@ pub fn write_fault<W: Out>(out: &mut W, layout: &Layout, fault: &Fault) -> Resul
     requires counted { (W.Out.state out.old).failures < 2 ^ 63 }
     ensures written { Writes (W.Out.state out.old) (W.Out.state out.new) (shown.line (shown.fault_text layout.now fault.now)) result }
 {
+    write_fault_text(out, layout, fault)?;
+    out.write_all(b"\n")
+}
+
+/// Writes a fault, as `fault read-conflict a[1] line 4`, without the end of its line. The error is
+/// that the writer failed (E17).
+pub fn write_fault_text<W: Out>(
+    out: &mut W,
+    layout: &Layout,
+    fault: &Fault,
+) -> Result<(), WriteFault>
+    requires counted { (W.Out.state out.old).failures < 2 ^ 63 }
+    ensures written { Writes (W.Out.state out.old) (W.Out.state out.new) (shown.fault_text layout.now fault.now) result }
+{
     let mut digits = Buffer::new();
     out.write_parts(&[b"fault ", kind_word(fault.kind), b" "])?;
     write_place(out, layout, fault.place)?;
-    out.write_parts(&[b" line ", digits.format(fault.line).as_bytes(), b"\n"])
+    out.write_parts(&[b" line ", digits.format(fault.line).as_bytes()])
 }
 
 fn write_place<W: Out>(out: &mut W, layout: &Layout, place: Place) -> Result<(), WriteFault>
@@ -84,7 +98,7 @@ fn write_place<W: Out>(out: &mut W, layout: &Layout, place: Place) -> Result<(),
             let mut digits = Buffer::new();
             out.write_parts(&[b"processor ", digits.format(index).as_bytes()])
         }
-        Place::Cell(cell) => write_cell(out, layout, cell),
+        Place::Cell(cell) => write_cell(out, layout, cell as usize),
     }
 }
 

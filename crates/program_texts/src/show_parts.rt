@@ -28,8 +28,8 @@ pub(crate) fn write_items<W: Out>(out: &mut W, items: &[i64]) -> Result<(), Writ
     Ok(())
 }
 
-// Values, each behind a space.
-fn write_values<W: Out>(out: &mut W, values: &[i64]) -> Result<(), WriteFault>
+/// Writes values in decimal, each behind a space. The error is that the writer failed (E17).
+pub fn write_values<W: Out>(out: &mut W, values: &[i64]) -> Result<(), WriteFault>
     requires counted { (W.Out.state out.old).failures < 2 ^ 63 }
     ensures written { Writes (W.Out.state out.old) (W.Out.state out.new) (shown.spaced values.now) result }
 {
@@ -137,16 +137,17 @@ fn write_cell_of<W: Out>(
     }
 }
 
-// A cell by its number among those of all declarations.
-pub(crate) fn write_cell<W: Out>(out: &mut W, layout: &Layout, cell: u32) -> Result<(), WriteFault>
+/// Writes a cell by its number among those of all declarations, counted from 0: `s`, or `a[2]`. The
+/// error is that the writer failed (E17).
+pub fn write_cell<W: Out>(out: &mut W, layout: &Layout, cell: usize) -> Result<(), WriteFault>
     requires counted { (W.Out.state out.old).failures < 2 ^ 63 }
     ensures written { Writes (W.Out.state out.old) (W.Out.state out.new) (shown.cell_text layout.now cell) result }
 {
     let mut rest = cell;
     for i in 0..layout.len() {
-        let size = layout.size(i);
+        let size = layout.size(i) as usize;
         if rest < size {
-            return write_cell_of(out, layout, i, rest);
+            return write_cell_of(out, layout, i, rest as u32);
         }
         rest -= size;
     }

@@ -1,6 +1,6 @@
-pub mod Differences
+pub mod Differing
 pub mod Pushed
-pub mod Meetings
+pub mod MeetingReads
 pub mod Applied
 pub mod Kept
 pub mod Replays

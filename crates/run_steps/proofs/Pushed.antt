@@ -10,7 +10,7 @@ use Rattle.run_steps.specs.Entries.{Entry, Faulting, Ran, entry_is}
 use Rattle.run_steps.specs.Kept.{one_more, state_of, told_of}
 use Rattle.run_steps.specs.Moments.{Fell, Left}
 use Rattle.run_steps.specs.Telling.{tell}
-use Rattle.run_steps.proofs.Differences.{nothing_from}
+use Rattle.run_steps.proofs.Differing.{nothing_from}
 
 map_push : (now : List rust.Entry.Entry) (x : rust.Entry.Entry) → map entry_is (now ++ x ∷ []) ≡ map entry_is now ++ entry_is x ∷ []
 map_push [] x = refl

@@ -27,7 +27,7 @@ fn add_change(
 }
 
 /// The changes of the cells whose value differs, in ascending order.
-#[tactic(auto, using(crate::proofs::Differences::all_start, crate::proofs::Differences::all_go, crate::proofs::Differences::all_end))]
+#[tactic(auto, using(crate::proofs::Differing::all_start, crate::proofs::Differing::all_go, crate::proofs::Differing::all_end))]
 pub fn changes_between(
     alloc: Global,
     before: &[i64],
@@ -46,7 +46,7 @@ pub fn changes_between(
 }
 
 /// The change of cells of which one gets a value.
-#[tactic(auto, using(crate::proofs::Differences::one_inside, crate::proofs::Differences::one_outside))]
+#[tactic(auto, using(crate::proofs::Differing::one_inside, crate::proofs::Differing::one_outside))]
 pub fn change_of(
     alloc: Global,
     cells: &[i64],

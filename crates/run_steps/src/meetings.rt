@@ -21,7 +21,7 @@ fn is_cell(cell: u32, access: Option<u32>) -> bool
 }
 
 // Whether one of these reads is of the cell.
-#[tactic(auto, using(crate::proofs::Meetings::read_starts, crate::proofs::Meetings::read_goes, crate::proofs::Meetings::read_found, crate::proofs::Meetings::read_ends))]
+#[tactic(auto, using(crate::proofs::MeetingReads::read_starts, crate::proofs::MeetingReads::read_goes, crate::proofs::MeetingReads::read_found, crate::proofs::MeetingReads::read_ends))]
 fn reads(cell: u32, trail: &[Option<u32>]) -> bool
     ensures { result ≡ has_read cell trail.now }
 {

@@ -1,7 +1,7 @@
 //! What is told of one statement.
 
 ghost use Rattle.std.specs.Prelude.{◌≡◌, ◌++◌, ◌∷◌, [], ◌+◌, ◌<◌, ◌-◌, ◌^◌, List, OnOk, map};
-ghost use Rattle.pram_meaning.specs.declared.team as team;
+ghost use Rattle.pram_meaning.specs.declared.team.Member.{Member};
 ghost use Rattle.run_steps.specs.Entries.{Ran, entry_is};
 ghost use Rattle.run_steps.specs.Kept.{Halts, one_more, state_in, state_of, told_of};
 ghost use Rattle.run_steps.specs.Moments.{Left};
@@ -27,7 +27,7 @@ impl Journal {
         ensures told { OnOk result (map entry_is self.new.entries.items ≡ map entry_is self.old.entries.items
             ++ Ran line processors changes.items ∷ []) }
         ensures state { OnOk result (state_of self.new ≡ one_more (state_of self.old)) }
-        ensures team { OnOk result ((ms : List team.Member.Member) → state_in self.new ms ≡ one_more (state_in self.old ms)) }
+        ensures team { OnOk result ((ms : List Member) → state_in self.new ms ≡ one_more (state_in self.old ms)) }
     {
         self.entries.push(Entry::Ran {
             line,
@@ -44,7 +44,7 @@ impl Journal {
         requires room { self.old.run.count < 2 ^ 32 - 1 }
         ensures told { OnOk result (told_of self.new ≡ tell (Left line processors self.old.run.cells.items) (told_of self.old)) }
         ensures state { OnOk result (state_of self.new ≡ one_more (state_of self.old)) }
-        ensures team { OnOk result ((ms : List team.Member.Member) → state_in self.new ms ≡ one_more (state_in self.old ms)) }
+        ensures team { OnOk result ((ms : List Member) → state_in self.new ms ≡ one_more (state_in self.old ms)) }
     {
         self.add(line, processors, Vec::new(alloc))
     }
@@ -54,7 +54,7 @@ impl Journal {
     pub fn stop(&mut self, fault: Fault, processors: Vec<i64>) -> Halt
         ensures told { Halts fault processors.items result (told_of self.old) (told_of self.new) }
         ensures state { state_of self.new ≡ state_of self.old }
-        ensures team { (ms : List team.Member.Member) → state_in self.new ms ≡ state_in self.old ms }
+        ensures team { (ms : List Member) → state_in self.new ms ≡ state_in self.old ms }
     {
         if self
             .entries

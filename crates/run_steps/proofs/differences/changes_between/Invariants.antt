@@ -1,4 +1,4 @@
-use Rattle.run_steps.proofs.Differences.{InDifference}
+use Rattle.run_steps.proofs.Differing.{InDifference}
 use Rattle.run_steps.proofs.differences.changes_between.Given as goal
 
 abbrev pub invariant-loop-cell : goal.invariant-loop-cell

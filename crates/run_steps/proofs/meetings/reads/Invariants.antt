@@ -1,4 +1,4 @@
-use Rattle.run_steps.proofs.Meetings.{InReads}
+use Rattle.run_steps.proofs.MeetingReads.{InReads}
 use Rattle.run_steps.proofs.meetings.reads.Given as goal
 
 abbrev pub invariant-loop-access : goal.invariant-loop-access

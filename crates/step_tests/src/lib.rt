@@ -1,0 +1,5 @@
+//! Tests of runs that are told statement by statement.
+#![tactic(auto)]
+
+#[cfg(test)]
+mod rows;

@@ -1,0 +1,162 @@
+//! The text of entries.
+
+ghost use Rattle.std.specs.Prelude.{◌<◌, ◌+◌, ◌^◌, length, map};
+ghost use Rattle.text_out.specs.Out.{Writes};
+ghost use Rattle.program_texts.specs.Shown.{line};
+ghost use Rattle.run_steps.specs.Entries.{entry_is};
+ghost use Rattle.step_texts.specs.StepText as spec;
+
+use itoa::Buffer;
+use program_texts::{write_cell, write_fault_text, write_values};
+use pram_syntax::Layout;
+use run_steps::{Change, Entry};
+use text_out::{Out, WriteFault};
+use write_rules::Fault;
+
+// A cell's change, behind a space.
+fn write_change<W: Out>(out: &mut W, layout: &Layout, change: &Change) -> Result<(), WriteFault>
+    requires counted { (W.Out.state out.old).failures < 2 ^ 63 }
+    ensures written { Writes (W.Out.state out.old) (W.Out.state out.new) (spec.change_text layout.now change.now) result }
+{
+    let mut before = Buffer::new();
+    let mut after = Buffer::new();
+    out.write_all(b" ")?;
+    write_cell(out, layout, change.cell)?;
+    out.write_parts(&[
+        b" ",
+        before.format(change.before).as_bytes(),
+        b" -> ",
+        after.format(change.after).as_bytes(),
+    ])
+}
+
+fn write_changes<W: Out>(
+    out: &mut W,
+    layout: &Layout,
+    changes: &[Change],
+) -> Result<(), WriteFault>
+    requires counted { (W.Out.state out.old).failures < 2 ^ 63 }
+    ensures written { Writes (W.Out.state out.old) (W.Out.state out.new) (spec.changes_text layout.now changes.now) result }
+{
+    for change in changes {
+        write_change(out, layout, change)?;
+    }
+    Ok(())
+}
+
+fn write_meeting<W: Out>(out: &mut W, processors: &[i64]) -> Result<(), WriteFault>
+    requires counted { (W.Out.state out.old).failures < 2 ^ 63 }
+    ensures written { Writes (W.Out.state out.old) (W.Out.state out.new) (spec.meeting_text processors.now) result }
+{
+    if processors.is_empty() {
+        return Ok(());
+    }
+    out.write_all(b" processors")?;
+    write_values(out, processors)
+}
+
+// What is told of a statement that ran.
+fn write_ran<W: Out>(
+    out: &mut W,
+    layout: &Layout,
+    at: u32,
+    processors: usize,
+    changes: &[Change],
+) -> Result<(), WriteFault>
+    requires counted { (W.Out.state out.old).failures < 2 ^ 63 }
+    ensures written { Writes (W.Out.state out.old) (W.Out.state out.new) (spec.ran_text layout.now at processors changes.now) result }
+{
+    let mut digits = Buffer::new();
+    let mut count = Buffer::new();
+    out.write_parts(&[
+        b"line ",
+        digits.format(at).as_bytes(),
+        b" processors ",
+        count.format(processors).as_bytes(),
+    ])?;
+    write_changes(out, layout, changes)
+}
+
+// What is told of a fault.
+fn write_faulting<W: Out>(
+    out: &mut W,
+    layout: &Layout,
+    fault: &Fault,
+    processors: &[i64],
+) -> Result<(), WriteFault>
+    requires counted { (W.Out.state out.old).failures < 2 ^ 63 }
+    ensures written { Writes (W.Out.state out.old) (W.Out.state out.new) (spec.faulting_text layout.now fault.now processors.now) result }
+{
+    write_fault_text(out, layout, fault)?;
+    write_meeting(out, processors)
+}
+
+// What is told of a statement.
+fn write_told<W: Out>(out: &mut W, layout: &Layout, entry: &Entry) -> Result<(), WriteFault>
+    requires counted { (W.Out.state out.old).failures < 2 ^ 63 }
+    ensures written { Writes (W.Out.state out.old) (W.Out.state out.new) (spec.told_text layout.now (entry_is entry.now)) result }
+{
+    match entry {
+        Entry::Ran {
+            line,
+            processors,
+            changes,
+        } => write_ran(out, layout, *line, *processors, changes),
+        Entry::Faulted { fault, processors } => write_faulting(out, layout, fault, processors),
+    }
+}
+
+/// Writes an entry behind its number, on a line: `5 line 9 processors 4 a[3] 4 -> 7 a[4] 0 -> 2`, or
+/// at a fault `6 fault read-conflict a[1] line 4 processors 1 3`, where at a cell the indices of the
+/// processors follow that read or wrote it. The error is that the writer failed (E17).
+pub fn write_entry<W: Out>(
+    out: &mut W,
+    layout: &Layout,
+    number: usize,
+    entry: &Entry,
+) -> Result<(), WriteFault>
+    requires counted { (W.Out.state out.old).failures < 2 ^ 63 }
+    ensures written { Writes (W.Out.state out.old) (W.Out.state out.new) (line (spec.entry_text layout.now number (entry_is entry.now))) result }
+{
+    let mut digits = Buffer::new();
+    out.write_parts(&[digits.format(number).as_bytes(), b" "])?;
+    write_told(out, layout, entry)?;
+    out.write_all(b"\n")
+}
+
+// Entries on lines of their own, numbered from this on.
+fn write_lines<W: Out>(
+    out: &mut W,
+    layout: &Layout,
+    first: usize,
+    entries: &[Entry],
+) -> Result<(), WriteFault>
+    requires counted { (W.Out.state out.old).failures < 2 ^ 63 }
+    requires few { first + length entries.now < 2 ^ 64 }
+    ensures written { Writes (W.Out.state out.old) (W.Out.state out.new) (spec.entry_lines layout.now first (map entry_is entries.now)) result }
+{
+    let mut number = first;
+    for entry in entries {
+        write_entry(out, layout, number, entry)?;
+        number += 1;
+    }
+    Ok(())
+}
+
+/// Writes the entries whose numbers, counted from 1, go from `first` to `last`, each on a line: those
+/// that there are. The error is that the writer failed (E17).
+pub fn write_steps<W: Out>(
+    out: &mut W,
+    layout: &Layout,
+    entries: &[Entry],
+    first: u32,
+    last: u32,
+) -> Result<(), WriteFault>
+    requires counted { (W.Out.state out.old).failures < 2 ^ 63 }
+    requires some { 0 < first }
+    ensures written { Writes (W.Out.state out.old) (W.Out.state out.new) (spec.steps_text layout.now first last (map entry_is entries.now)) result }
+{
+    let begin = (first as usize - 1).min(entries.len());
+    let end = (last as usize).min(entries.len()).max(begin);
+    write_lines(out, layout, first as usize, &entries[begin..end])
+}
