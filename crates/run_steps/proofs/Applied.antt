@@ -1,6 +1,6 @@
 -- The difference of two stores, applied to the first, gives the second.
 use Rattle.std.proofs.Common.{◌≡◌, ℕ, ℤ, zero, suc, Bool, true, false, ◌+◌, List, [], ◌∷◌, ◌++◌, length, set, append_assoc, if◌then◌else◌, refl, ap, sym, ◌∙◌}
-use Rattle.std.proofs.Common.{arith, absurd}
+use Rattle.std.proofs.Common.{arith}
 use Rattle.std.proofs.lemmas.Int.{ints}
 use Rattle.pram_values.specs.Truth.{is_equal}
 use Rattle.run_steps.specs.declared.change.Change.{Change}

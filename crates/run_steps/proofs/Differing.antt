@@ -1,6 +1,6 @@
 -- The difference of two stores on its way, and of stores that differ in one cell at most.
 use Rattle.std.proofs.Common.{◌≡◌, ℕ, ℤ, pos, zero, suc, Bool, true, false, ◌+◌, ◌<◌, ◌≤◌, min, List, [], ◌∷◌, ◌++◌, drop, length, get_or, set}
-use Rattle.std.proofs.Common.{append_assoc, append-nil, if◌then◌else◌, nat_le, refl, ap, sym, ◌∙◌, arith, absurd}
+use Rattle.std.proofs.Common.{append_assoc, append-nil, if◌then◌else◌, nat_le, refl, ap, sym, ◌∙◌, arith}
 use Rattle.std.proofs.lemmas.Bool.{leb-true, leb-false}
 use Rattle.std.proofs.lemmas.Int.{ints}
 use Rattle.std.proofs.lemmas.List.{drop_more, drop_all}
@@ -34,10 +34,10 @@ to_nothing i (x ∷ old) = refl
 -- behind the end of one of them
 at_end : (old new : List ℤ) (i count : ℕ) (b : Bool) → nat_le (length old) i ≡ b → count ≤ i → count ≡ min (length old) (length new) →
     difference_from i (drop i old) (drop i new) ≡ []
-at_end old new i count true e h c = ap (λ xs. difference_from i xs (drop i new)) (drop_all old i (leb-true (length old) i e))
+at_end old new i count true e h c = ap (λ xs. difference_from i xs (drop i new)) (drop_all i old (leb-true (length old) i e))
 at_end old new i count false e h c =
     let l : i < length old = leb-false (length old) i e in
-    ap (difference_from i (drop i old)) (drop_all new i (omega (arith, h, c, l))) ∙ to_nothing i (drop i old)
+    ap (difference_from i (drop i old)) (drop_all i new (omega (arith, h, c, l))) ∙ to_nothing i (drop i old)
 
 pub all_end : (old new : List ℤ) (i count : ℕ) (now : List Change) → InDifference old new i now → count ≤ i →
     count ≡ min (length old) (length new) → now ≡ difference old new
@@ -47,7 +47,7 @@ all_end old new i count now b h c =
 -- ---- one cell
 
 equal_self : (x : ℤ) → is_equal x x ≡ true
-equal_self x = grind (ints)
+equal_self x = grind (arith, ints)
 
 no_change : (c : ℕ) (x : ℤ) → change_at c x x ≡ []
 no_change c x = ap (λ b. if b then [] else record { cell = c; before = x; after = x } ∷ []) (equal_self x)
@@ -77,7 +77,8 @@ none_from k (suc c) (x ∷ cells) v h =
 pub one_inside : (cells : List ℤ) (c : ℕ) (v x : ℤ) (now new : List Change) → c < length cells → x ≡ get_or cells c (pos 0) → now ≡ [] →
     new ≡ now ++ change_at c x v → new ≡ difference cells (set cells c v)
 one_inside cells c v x now new h u e f =
-    f ∙ ap (λ ds. ds ++ change_at c x v) e ∙ ap (λ x. change_at c x v) u ∙ sym (one_from 0 c cells v h)
+    f ∙ ap (λ ds. ds ++ change_at c x v) e ∙ ap (λ x. change_at c x v) u
+    ∙ ap (λ k. change_at k (get_or cells c (pos 0)) v) (let i : c ≡ 0 + c = omega arith in i) ∙ sym (one_from 0 c cells v h)
 
 pub one_outside : (cells : List ℤ) (c : ℕ) (v : ℤ) (now : List Change) → length cells ≤ c → now ≡ [] → now ≡ difference cells (set cells c v)
 one_outside cells c v now h e = e ∙ sym (none_from 0 c cells v h)

@@ -27,4 +27,4 @@ pub read_found : (c : ℕ) (t : Trail) (i : ℕ) (x : Option ℕ) (b : Bool) →
 read_found c t i x b r h is e y = sym (next_of c t i x b r h is e ∙ ap (λ b. b || has_read c (drop (i + 1) t)) y)
 
 pub read_ends : (c : ℕ) (t : Trail) (i : ℕ) → InReads c t i → length t ≤ i → false ≡ has_read c t
-read_ends c t i r h = sym (r.same ∙ ap (has_read c) (drop_all t i h))
+read_ends c t i r h = sym (r.same ∙ ap (has_read c) (drop_all i t h))

@@ -1,6 +1,7 @@
 -- The changes that are told of a run, applied in order, give its memory.
 use Rattle.std.proofs.Common.{◌≡◌, ℕ, ℤ, pos, ◌+ℤ◌, zero, suc, Bool, true, false, ◌+◌, List, [], ◌∷◌, ◌++◌, length, if◌then◌else◌, nat_lt, refl}
-use Rattle.std.proofs.Common.{ap, sym, ◌∙◌, subst, append_assoc, append-nil, Option, Some, None, Result, Ok, Err, map, ⊤}
+use Rattle.std.proofs.Common.{ap, sym, ◌∙◌, subst, append_assoc, append-nil, Option, Some, None, Result, Ok, Err, map}
+use Rattle.std.specs.Bool.{⊤}
 use Rattle.std.proofs.lemmas.List.{length-set}
 use Rattle.pram_model.specs.Layout.{width}
 use Rattle.pram_model.specs.declared.rule.Rule.{Rule}
@@ -39,6 +40,10 @@ use Rattle.run_steps.specs.Moments.{unchanged, value_moment}
 use Rattle.run_steps.specs.Telling.{Told, tell, tell_all}
 use Rattle.run_steps.proofs.Applied.{applied}
 use Rattle.run_steps.proofs.Kept.{told_through}
+
+-- the value of a statement
+abbrev done : Unit {0}
+done = tt
 
 -- where a part of a run goes on, its cells are as many as before, and what was told so far gives them
 abbrev IsSound : {A : Type 0} → List ℤ → List Moment → Behaviour A → Type 0
@@ -117,7 +122,7 @@ come_one line m (Err j) (Err k) = tt
 
 begin_one : {A : Type 0} (line : ℕ) (a : State → Attempt A) (m : State) (b : Bool) →
     IsSound m.cells (if b then by_one line unchanged m (alone line (a m)) ∷ [] else [])
-    (then_do (if b then Goes tt (one_more m) else Reaches m.output) (λ u m. valued (alone line (a m)) m))
+    (then_do (if b then Goes done (one_more m) else Reaches m.output) (λ u m. valued (alone line (a m)) m))
 begin_one line a m true = come_one line m (alone line (a m)) (alone line (a (one_more m)))
 begin_one line a m false = tt
 
@@ -126,31 +131,31 @@ evaluated_sound : {A : Type 0} (n line : ℕ) (a : State → Attempt A) (m : Sta
 evaluated_sound n line a m = begin_one line a m (nat_lt m.count n)
 
 assigned_sound : (line : ℕ) (x : Target) (g : Effect) (m : State) →
-    IsSound {A = Unit {0}} m.cells (Left line 1 (assigned x g m).cells ∷ []) (Goes tt (assigned x g (one_more m)))
-assigned_sound line (target.Uniform x) g m = left_sound m.cells (assigned (target.Uniform x) g (one_more m)) line 1 tt refl
+    IsSound {A = Unit {0}} m.cells (Left line 1 (assigned x g m).cells ∷ []) (Goes done (assigned x g (one_more m)))
+assigned_sound line (target.Uniform x) g m = left_sound m.cells (assigned (target.Uniform x) g (one_more m)) line 1 done refl
 assigned_sound line (target.Cell a) g m = to g.cell where
   to : (c : Option ℕ) → IsSound {A = Unit {0}} m.cells (Left line 1 (after_write c g.value m).cells ∷ [])
-      (Goes tt (after_write c g.value (one_more m)))
-  to None = left_sound m.cells (one_more m) line 1 tt refl
-  to (Some c) = left_sound m.cells (after_write (Some c) g.value (one_more m)) line 1 tt (length-set m.cells c g.value)
+      (Goes done (after_write c g.value (one_more m)))
+  to None = left_sound m.cells (one_more m) line 1 done refl
+  to (Some c) = left_sound m.cells (after_write (Some c) g.value (one_more m)) line 1 done (length-set m.cells c g.value)
 assigned_sound line (target.Element a e) g m = to g.cell where
   to : (c : Option ℕ) → IsSound {A = Unit {0}} m.cells (Left line 1 (after_write c g.value m).cells ∷ [])
-      (Goes tt (after_write c g.value (one_more m)))
-  to None = left_sound m.cells (one_more m) line 1 tt refl
-  to (Some c) = left_sound m.cells (after_write (Some c) g.value (one_more m)) line 1 tt (length-set m.cells c g.value)
+      (Goes done (after_write c g.value (one_more m)))
+  to None = left_sound m.cells (one_more m) line 1 done refl
+  to (Some c) = left_sound m.cells (after_write (Some c) g.value (one_more m)) line 1 done (length-set m.cells c g.value)
 
 assign_sound : (p : Checked) (n line : ℕ) (x : Target) (e : Expression) (m : State) →
     IsSound m.cells (assign_moment p n line x e m) (meaning.assign p n line x e m)
 assign_sound p n line x e m = by (nat_lt m.count n) where
   come : (r : Result Effect Fault) → IsSound {A = Unit {0}} m.cells (by_one line (assigned_cells x) m r ∷ [])
-      (then_do (valued r (one_more m)) (λ g m. Goes tt (assigned x g m)))
+      (then_do (valued r (one_more m)) (λ g m. Goes done (assigned x g m)))
   come (Ok g) = assigned_sound line x g m
   come (Err k) = tt
 
   by : (b : Bool) → IsSound m.cells
       (if b then by_one line (assigned_cells x) m (alone line (attempt_assign (seen p m) x e)) ∷ [] else [])
-      (then_do (then_do (if b then Goes tt (one_more m) else Reaches m.output)
-      (λ u m. valued (alone line (attempt_assign (seen p m) x e)) m)) (λ g m. Goes tt (assigned x g m)))
+      (then_do (then_do (if b then Goes done (one_more m) else Reaches m.output)
+      (λ u m. valued (alone line (attempt_assign (seen p m) x e)) m)) (λ g m. Goes done (assigned x g m)))
   by true = come (alone line (attempt_assign (seen p m) x e))
   by false = tt
 
@@ -171,18 +176,18 @@ tested_on_sound p n line e vs m = by (nat_lt m.count n) where
   come (Err k) = tt
 
   by : (b : Bool) → IsSound m.cells (if b then by_set line unchanged m xs (together p line xs) ∷ [] else [])
-      (then_do (if b then Goes tt (one_more m) else Reaches m.output)
+      (then_do (if b then Goes done (one_more m) else Reaches m.output)
       (λ u m. valued (together p line (parts p m (λ s. attempt_value s e) vs)) m))
   by true = come (together p line xs)
   by false = tt
 
 assigned_by_sound : (p : Checked) (line k : ℕ) (x : StepTarget) (ys : List Part) (m : State) →
-    IsSound {A = Unit {0}} m.cells (Left line k (set_cells p x ys m) ∷ []) (Goes tt (assigned_by p x ys (one_more m)))
-assigned_by_sound p line k (inner.Local x) ys m = left_sound m.cells (assigned_by p (inner.Local x) ys (one_more m)) line k tt refl
+    IsSound {A = Unit {0}} m.cells (Left line k (set_cells p x ys m) ∷ []) (Goes done (assigned_by p x ys (one_more m)))
+assigned_by_sound p line k (inner.Local x) ys m = left_sound m.cells (assigned_by p (inner.Local x) ys (one_more m)) line k done refl
 assigned_by_sound p line k (inner.Cell a) ys m =
-    left_sound m.cells (assigned_by p (inner.Cell a) ys (one_more m)) line k tt (overwritten_many p.rule ys 0 m.cells)
+    left_sound m.cells (assigned_by p (inner.Cell a) ys (one_more m)) line k done (overwritten_many p.rule ys 0 m.cells)
 assigned_by_sound p line k (inner.Element a e) ys m =
-    left_sound m.cells (assigned_by p (inner.Element a e) ys (one_more m)) line k tt (overwritten_many p.rule ys 0 m.cells)
+    left_sound m.cells (assigned_by p (inner.Element a e) ys (one_more m)) line k done (overwritten_many p.rule ys 0 m.cells)
 
 assign_on_sound : (p : Checked) (n line : ℕ) (x : StepTarget) (e : Expression) (vs : List ℕ) (m : State) →
     IsSound m.cells (set_assign_moment p n line x e vs m) (assign_on p n line x e vs m)
@@ -191,15 +196,25 @@ assign_on_sound p n line x e vs m = by (nat_lt m.count n) where
   xs = parts p m (λ s. attempt_step s x e) vs
 
   come : (r : Result (List Part) Fault) → IsSound {A = Unit {0}} m.cells (by_set line (set_cells p x) m xs r ∷ [])
-      (then_do (valued r (one_more m)) (λ xs m. Goes tt (assigned_by p x xs m)))
+      (then_do (valued r (one_more m)) (λ xs m. Goes done (assigned_by p x xs m)))
   come (Ok ys) = assigned_by_sound p line (length xs) x ys m
   come (Err k) = tt
 
   by : (b : Bool) → IsSound m.cells (if b then by_set line (set_cells p x) m xs (together p line xs) ∷ [] else [])
-      (then_do (then_do (if b then Goes tt (one_more m) else Reaches m.output)
-      (λ u m. valued (together p line (parts p m (λ s. attempt_step s x e) vs)) m)) (λ xs m. Goes tt (assigned_by p x xs m)))
+      (then_do (then_do (if b then Goes done (one_more m) else Reaches m.output)
+      (λ u m. valued (together p line (parts p m (λ s. attempt_step s x e) vs)) m)) (λ xs m. Goes done (assigned_by p x xs m)))
   by true = come (together p line xs)
   by false = tt
+
+turn_on_sound : (inside : List ℕ → State → List Moment) (body : List ℕ → State → Done) (rest : List ℕ → State → List Moment)
+    (others : List ℕ → State → Done) → ((vs : List ℕ) (m : State) → IsSound m.cells (inside vs m) (body vs m)) →
+    ((vs : List ℕ) (m : State) → IsSound m.cells (rest vs m) (others vs m)) → (us : List ℕ) (m : State) →
+    IsSound m.cells (if_any us (inside us m ++ behind (body us m) (λ w. rest us)))
+    (unless_none us (Goes done m) (then_do (body us m) (λ w. others us)))
+turn_on_sound inside body rest others b r [] m = none_sound m done
+turn_on_sound inside body rest others b r (u ∷ us) m =
+    sound_then m.cells (inside (u ∷ us) m) (body (u ∷ us) m) (λ w. rest (u ∷ us)) (λ w. others (u ∷ us)) (b (u ∷ us) m)
+    (λ w m. r (u ∷ us) m)
 
 turns_on_sound : (k : ℕ) (head : List ℕ → State → List Moment) (test : List ℕ → State → Behaviour (List Part))
     (inside : List ℕ → State → List Moment) (body : List ℕ → State → Done) →
@@ -211,16 +226,9 @@ turns_on_sound (suc k) head test inside body t b vs m =
     sound_then m.cells (head vs m) (test vs m)
     (λ xs m. if_any (those true xs) (inside (those true xs) m
     ++ behind (body (those true xs) m) (λ u. turns_on_moments k head test inside body (those true xs))))
-    (λ xs m. unless_none (those true xs) (Goes tt m) (then_do (body (those true xs) m) (λ u. turns_on k test body (those true xs))))
-    (t vs m) (λ xs m. go (those true xs) m)
-  where
-    go : (us : List ℕ) (m : State) →
-        IsSound m.cells (if_any us (inside us m ++ behind (body us m) (λ u. turns_on_moments k head test inside body us)))
-        (unless_none us (Goes tt m) (then_do (body us m) (λ u. turns_on k test body us)))
-    go [] m = none_sound m tt
-    go (u ∷ us) m =
-        sound_then m.cells (inside (u ∷ us) m) (body (u ∷ us) m) (λ w. turns_on_moments k head test inside body (u ∷ us))
-        (λ w. turns_on k test body (u ∷ us)) (b (u ∷ us) m) (λ w m. turns_on_sound k head test inside body t b (u ∷ us) m)
+    (λ xs m. unless_none (those true xs) (Goes done m) (then_do (body (those true xs) m) (λ u. turns_on k test body (those true xs))))
+    (t vs m) (λ xs m. turn_on_sound inside body (turns_on_moments k head test inside body) (turns_on k test body) b
+    (λ us m. turns_on_sound k head test inside body t b us m) (those true xs) m)
 
 module _ (p : Checked) (n : ℕ) where
   mutual
@@ -241,14 +249,14 @@ module _ (p : Checked) (n : ℕ) where
 
     inner_row_sound : {k : _} (ss : Row_of-Step k) (vs : List ℕ) (m : State) →
         IsSound m.cells (inner_row_moments p n ss vs m) (perform_row_on p n ss vs m)
-    inner_row_sound end_of-Step vs m = none_sound m tt
+    inner_row_sound end_of-Step vs m = none_sound m done
     inner_row_sound (more_of-Step s ss) vs m =
         sound_then m.cells (inner_moments p n s vs m) (perform_on p n s vs m) (λ u. inner_row_moments p n ss vs)
         (λ u. perform_row_on p n ss vs) (inner_sound s vs m) (λ u m. inner_row_sound ss vs m)
 
   inner_list_sound : (ss : List Step) (vs : List ℕ) (m : State) →
       IsSound m.cells (inner_list_moments p n ss vs m) (perform_list_on p n ss vs m)
-  inner_list_sound [] vs m = none_sound m tt
+  inner_list_sound [] vs m = none_sound m done
   inner_list_sound (s ∷ ss) vs m =
       sound_then m.cells (inner_moments p n s vs m) (perform_on p n s vs m) (λ u. inner_list_moments p n ss vs)
       (λ u. perform_list_on p n ss vs) (inner_sound s vs m) (λ u m. inner_list_sound ss vs m)
@@ -260,6 +268,13 @@ either : (z : Bool) (m : State) (xs ys : List Moment) (a b : Done) → IsSound m
 either true m xs ys a b h g = h
 either false m xs ys a b h g = g
 
+turn_sound : (inside : State → List Moment) (body : State → Done) (rest : State → List Moment) (others : State → Done) →
+    ((m : State) → IsSound m.cells (inside m) (body m)) → ((m : State) → IsSound m.cells (rest m) (others m)) → (z : Bool) (m : State) →
+    IsSound m.cells (if z then inside m ++ behind (body m) (λ u. rest) else [])
+    (if z then then_do (body m) (λ u. others) else Goes done m)
+turn_sound inside body rest others b r true m = sound_then m.cells (inside m) (body m) (λ u. rest) (λ u. others) (b m) (λ u m. r m)
+turn_sound inside body rest others b r false m = none_sound m done
+
 turns_sound : (k : ℕ) (head : State → List Moment) (test : State → Behaviour Bool) (inside : State → List Moment) (body : State → Done) →
     ((m : State) → IsSound m.cells (head m) (test m)) → ((m : State) → IsSound m.cells (inside m) (body m)) → (m : State) →
     IsSound m.cells (turns_moments k head test inside body m) (turns k test body m)
@@ -267,27 +282,21 @@ turns_sound zero head test inside body t b m = tt
 turns_sound (suc k) head test inside body t b m =
     sound_then m.cells (head m) (test m)
     (λ z m. if z then inside m ++ behind (body m) (λ u. turns_moments k head test inside body) else [])
-    (λ z m. if z then then_do (body m) (λ u. turns k test body) else Goes tt m) (t m) go
-  where
-    go : (z : Bool) (m : State) →
-        IsSound m.cells (if z then inside m ++ behind (body m) (λ u. turns_moments k head test inside body) else [])
-        (if z then then_do (body m) (λ u. turns k test body) else Goes tt m)
-    go true m =
-        sound_then m.cells (inside m) (body m) (λ u. turns_moments k head test inside body) (λ u. turns k test body) (b m)
-        (λ u m. turns_sound k head test inside body t b m)
-    go false m = none_sound m tt
+    (λ z m. if z then then_do (body m) (λ u. turns k test body) else Goes done m) (t m)
+    (λ z m. turn_sound inside body (turns_moments k head test inside body) (turns k test body) b
+    (λ m. turns_sound k head test inside body t b m) z m)
 
 counted_sound : (n line : ℕ) (m : State) → IsSound m.cells (begun n m (Left line 1 m.cells)) (counted n m)
 counted_sound n line m = by (nat_lt m.count n) where
   by : (b : Bool) → IsSound {A = Unit {0}} m.cells (if b then Left line 1 m.cells ∷ [] else [])
-      (if b then Goes tt (one_more m) else Reaches m.output)
-  by true = left_sound m.cells (one_more m) line 1 tt refl
+      (if b then Goes done (one_more m) else Reaches m.output)
+  by true = left_sound m.cells (one_more m) line 1 done refl
   by false = tt
 
 for_sound : (n line k x : ℕ) (a : ℤ) (inside : State → List Moment) (body : State → Done) →
     ((m : State) → IsSound m.cells (inside m) (body m)) → (m : State) →
     IsSound m.cells (for_turns_moments n line k x a inside body m) (for_turns n k x a body m)
-for_sound n line zero x a inside body b m = none_sound m tt
+for_sound n line zero x a inside body b m = none_sound m done
 for_sound n line (suc k) x a inside body b m =
     sound_then m.cells (begun n m (Left line 1 m.cells)) (counted n m)
     (λ u m. inside (with_uniform x a m) ++ behind (body (with_uniform x a m)) (λ u. for_turns_moments n line k x (a +ℤ pos 1) inside body))
@@ -309,14 +318,14 @@ module _ (p : Checked) (n : ℕ) where
       IsSound m.cells (inner_list_moments p n body (numbers 0 k) (with_team a k locals m)) (pardo_done p n locals body a k m)
   pardo_sound locals body a k m =
       sound_map m.cells (inner_list_moments p n body (numbers 0 k) (with_team a k locals m))
-      (perform_list_on p n body (numbers 0 k) (with_team a k locals m)) (λ u m. tt) (λ u m. without_team m)
+      (perform_list_on p n body (numbers 0 k) (with_team a k locals m)) (λ u m. done) (λ u m. without_team m)
       (inner_list_sound p n body (numbers 0 k) (with_team a k locals m)) (λ u m. refl)
 
   mutual
     sound : (s : Statement) (m : State) → IsSound m.cells (moments p n s m) (perform p n s m)
     sound (Assign line x e) m = assign_sound p n line x e m
     sound (Print line e) m =
-        sound_map m.cells (value_moment p n line e m) (found p n line e m) (λ v m. tt) printed (found_sound line e m) (λ v m. refl)
+        sound_map m.cells (value_moment p n line e m) (found p n line e m) (λ v m. done) printed (found_sound line e m) (λ v m. refl)
     sound (While' line e q body) m =
         turns_sound (n + 1) (value_moment p n line e) (tested p n line e) (row_moments p n body) (perform_row p n body)
         (λ m. tested_sound line e m) (λ m. row_sound body m) m
@@ -341,13 +350,13 @@ module _ (p : Checked) (n : ℕ) where
         (λ r m. pardo_sound locals body.items r.0 r.1 m)
 
     row_sound : {k : _} (ss : Row_of-Statement k) (m : State) → IsSound m.cells (row_moments p n ss m) (perform_row p n ss m)
-    row_sound end_of-Statement m = none_sound m tt
+    row_sound end_of-Statement m = none_sound m done
     row_sound (more_of-Statement s ss) m =
         sound_then m.cells (moments p n s m) (perform p n s m) (λ u. row_moments p n ss) (λ u. perform_row p n ss) (sound s m)
         (λ u m. row_sound ss m)
 
   list_sound : (ss : List Statement) (m : State) → IsSound m.cells (list_moments p n ss m) (perform_list p n ss m)
-  list_sound [] m = none_sound m tt
+  list_sound [] m = none_sound m done
   list_sound (s ∷ ss) m =
       sound_then m.cells (moments p n s m) (perform p n s m) (λ u. list_moments p n ss) (λ u. perform_list p n ss) (sound s m)
       (λ u m. list_sound ss m)

@@ -1,6 +1,6 @@
 //! The difference of two stores.
 
-ghost use Rattle.std.specs.Prelude.{◌≡◌, ◌++◌, IfOk, OnOk, slice_set};
+ghost use Rattle.std.specs.Prelude.{◌≡◌, ◌++◌, IfOk, OnOk, pos, slice_index_or, slice_set};
 ghost use Rattle.run_steps.specs.Changes.{change_at, difference};
 
 use crate::change::Change;
@@ -26,6 +26,21 @@ fn add_change(
     Ok(())
 }
 
+// The change of one cell of two stores.
+fn add_difference(
+    changes: &mut Vec<Change>,
+    cell: usize,
+    before: &[i64],
+    after: &[i64],
+) -> Result<(), AllocError>
+    ensures { OnOk result (changes.new.items ≡ changes.old.items
+        ++ change_at cell (slice_index_or before.now cell (pos 0)) (slice_index_or after.now cell (pos 0))) }
+{
+    let old = number_at(before, cell);
+    let new = number_at(after, cell);
+    add_change(changes, cell, old, new)
+}
+
 /// The changes of the cells whose value differs, in ascending order.
 #[tactic(auto, using(crate::proofs::Differing::all_start, crate::proofs::Differing::all_go, crate::proofs::Differing::all_end))]
 pub fn changes_between(
@@ -38,9 +53,7 @@ pub fn changes_between(
     let count = before.len().min(after.len());
     let mut changes = Vec::new(alloc);
     for cell in 0..count {
-        let old = number_at(before, cell);
-        let new = number_at(after, cell);
-        add_change(&mut changes, cell, old, new)?;
+        add_difference(&mut changes, cell, before, after)?;
     }
     Ok(changes)
 }

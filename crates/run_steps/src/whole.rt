@@ -20,7 +20,6 @@ use write_rules::Outcome;
 /// does, and tells beside the outcome what each statement did: entry k, counted from 1, is the k-th
 /// statement that ran. Where the run faults, the last entry is the fault. E11 where there are more
 /// values than cells; E16 only where memory was refused.
-#[tactic(auto, using(crate::proofs::Complete::ended, crate::proofs::Complete::stopped, crate::proofs::Complete::reached, crate::proofs::Complete::opens))]
 pub fn steps_of(
     alloc: Global,
     program: &Program,
@@ -42,9 +41,10 @@ pub fn steps_of(
         Ok(run) => run,
         Err(_) => return Err(RunRefusal::OutOfMemory),
     };
+    let nothing = Vec::new(alloc);
     let mut journal = Journal {
         run,
-        entries: Vec::new(alloc),
+        entries: nothing,
     };
     let interpreter = Interpreter {
         alloc,

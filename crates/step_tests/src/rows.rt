@@ -13,8 +13,8 @@ struct Row {
     text: &'static str,
     input: &'static [i64],
     bound: u32,
-    first: u32,
-    last: u32,
+    first: usize,
+    last: usize,
     told: &'static str,
 }
 
@@ -168,7 +168,7 @@ fn is_told(alloc: Global, row: &Row) -> Option<bool> {
         &mut out,
         program.layout(),
         &entries,
-        row.first.max(1),
+        row.first,
         row.last,
     ).ok()?;
     Some(out.bytes() == row.told.as_bytes())

@@ -1,6 +1,6 @@
 //! The text of entries.
 
-ghost use Rattle.std.specs.Prelude.{◌<◌, ◌+◌, ◌^◌, length, map};
+ghost use Rattle.std.specs.Prelude.{◌<◌, ◌^◌, map};
 ghost use Rattle.text_out.specs.Out.{Writes};
 ghost use Rattle.program_texts.specs.Shown.{line};
 ghost use Rattle.run_steps.specs.Entries.{entry_is};
@@ -13,21 +13,29 @@ use run_steps::{Change, Entry};
 use text_out::{Out, WriteFault};
 use write_rules::Fault;
 
-// A cell's change, behind a space.
-fn write_change<W: Out>(out: &mut W, layout: &Layout, change: &Change) -> Result<(), WriteFault>
+// A cell's values before and after.
+fn write_value<W: Out>(out: &mut W, change: &Change) -> Result<(), WriteFault>
     requires counted { (W.Out.state out.old).failures < 2 ^ 63 }
-    ensures written { Writes (W.Out.state out.old) (W.Out.state out.new) (spec.change_text layout.now change.now) result }
+    ensures written { Writes (W.Out.state out.old) (W.Out.state out.new) (spec.value_text change.now) result }
 {
     let mut before = Buffer::new();
     let mut after = Buffer::new();
-    out.write_all(b" ")?;
-    write_cell(out, layout, change.cell)?;
     out.write_parts(&[
         b" ",
         before.format(change.before).as_bytes(),
         b" -> ",
         after.format(change.after).as_bytes(),
     ])
+}
+
+// A cell's change, behind a space.
+fn write_change<W: Out>(out: &mut W, layout: &Layout, change: &Change) -> Result<(), WriteFault>
+    requires counted { (W.Out.state out.old).failures < 2 ^ 63 }
+    ensures written { Writes (W.Out.state out.old) (W.Out.state out.new) (spec.change_text layout.now change.now) result }
+{
+    out.write_all(b" ")?;
+    write_cell(out, layout, change.cell)?;
+    write_value(out, change)
 }
 
 fn write_changes<W: Out>(
@@ -55,6 +63,21 @@ fn write_meeting<W: Out>(out: &mut W, processors: &[i64]) -> Result<(), WriteFau
     write_values(out, processors)
 }
 
+// The line of a statement that ran, and its processors.
+fn write_head<W: Out>(out: &mut W, at: u32, processors: usize) -> Result<(), WriteFault>
+    requires counted { (W.Out.state out.old).failures < 2 ^ 63 }
+    ensures written { Writes (W.Out.state out.old) (W.Out.state out.new) (spec.head_text at processors) result }
+{
+    let mut digits = Buffer::new();
+    let mut count = Buffer::new();
+    out.write_parts(&[
+        b"line ",
+        digits.format(at).as_bytes(),
+        b" processors ",
+        count.format(processors).as_bytes(),
+    ])
+}
+
 // What is told of a statement that ran.
 fn write_ran<W: Out>(
     out: &mut W,
@@ -66,14 +89,7 @@ fn write_ran<W: Out>(
     requires counted { (W.Out.state out.old).failures < 2 ^ 63 }
     ensures written { Writes (W.Out.state out.old) (W.Out.state out.new) (spec.ran_text layout.now at processors changes.now) result }
 {
-    let mut digits = Buffer::new();
-    let mut count = Buffer::new();
-    out.write_parts(&[
-        b"line ",
-        digits.format(at).as_bytes(),
-        b" processors ",
-        count.format(processors).as_bytes(),
-    ])?;
+    write_head(out, at, processors)?;
     write_changes(out, layout, changes)
 }
 
@@ -106,6 +122,15 @@ fn write_told<W: Out>(out: &mut W, layout: &Layout, entry: &Entry) -> Result<(),
     }
 }
 
+// The number of an entry.
+fn write_number<W: Out>(out: &mut W, number: usize) -> Result<(), WriteFault>
+    requires counted { (W.Out.state out.old).failures < 2 ^ 63 }
+    ensures written { Writes (W.Out.state out.old) (W.Out.state out.new) (spec.number_text number) result }
+{
+    let mut digits = Buffer::new();
+    out.write_parts(&[digits.format(number).as_bytes(), b" "])
+}
+
 /// Writes an entry behind its number, on a line: `5 line 9 processors 4 a[3] 4 -> 7 a[4] 0 -> 2`, or
 /// at a fault `6 fault read-conflict a[1] line 4 processors 1 3`, where at a cell the indices of the
 /// processors follow that read or wrote it. The error is that the writer failed (E17).
@@ -118,45 +143,45 @@ pub fn write_entry<W: Out>(
     requires counted { (W.Out.state out.old).failures < 2 ^ 63 }
     ensures written { Writes (W.Out.state out.old) (W.Out.state out.new) (line (spec.entry_text layout.now number (entry_is entry.now))) result }
 {
-    let mut digits = Buffer::new();
-    out.write_parts(&[digits.format(number).as_bytes(), b" "])?;
+    write_number(out, number)?;
     write_told(out, layout, entry)?;
     out.write_all(b"\n")
 }
 
-// Entries on lines of their own, numbered from this on.
-fn write_lines<W: Out>(
+// The line of an entry, if its number is asked for.
+fn write_within<W: Out>(
     out: &mut W,
     layout: &Layout,
     first: usize,
-    entries: &[Entry],
+    last: usize,
+    number: usize,
+    entry: &Entry,
 ) -> Result<(), WriteFault>
     requires counted { (W.Out.state out.old).failures < 2 ^ 63 }
-    requires few { first + length entries.now < 2 ^ 64 }
-    ensures written { Writes (W.Out.state out.old) (W.Out.state out.new) (spec.entry_lines layout.now first (map entry_is entries.now)) result }
+    ensures written { Writes (W.Out.state out.old) (W.Out.state out.new) (spec.line_within layout.now first last number (entry_is entry.now))
+        result }
 {
-    let mut number = first;
-    for entry in entries {
-        write_entry(out, layout, number, entry)?;
-        number += 1;
+    if first <= number && number <= last {
+        write_entry(out, layout, number, entry)
+    } else {
+        out.write_all(b"")
     }
-    Ok(())
 }
 
-/// Writes the entries whose numbers, counted from 1, go from `first` to `last`, each on a line: those
-/// that there are. The error is that the writer failed (E17).
+/// Writes the entries whose numbers, counted from 1, go from `first` to `last`, each on a line. The
+/// error is that the writer failed (E17).
 pub fn write_steps<W: Out>(
     out: &mut W,
     layout: &Layout,
     entries: &[Entry],
-    first: u32,
-    last: u32,
+    first: usize,
+    last: usize,
 ) -> Result<(), WriteFault>
     requires counted { (W.Out.state out.old).failures < 2 ^ 63 }
-    requires some { 0 < first }
     ensures written { Writes (W.Out.state out.old) (W.Out.state out.new) (spec.steps_text layout.now first last (map entry_is entries.now)) result }
 {
-    let begin = (first as usize - 1).min(entries.len());
-    let end = (last as usize).min(entries.len()).max(begin);
-    write_lines(out, layout, first as usize, &entries[begin..end])
+    for i in 0..entries.len() {
+        write_within(out, layout, first, last, i + 1, &entries[i])?;
+    }
+    Ok(())
 }

@@ -1,0 +1,16 @@
+use Rattle.std.proofs.Common.{refl}
+use Rattle.text_out.proofs.Progress.{breaks_off, closes, goes_on, starts}
+use Rattle.step_texts.specs.StepText.{changes_text, head_text}
+use Rattle.step_texts.proofs.step_text.write_ran.Goals as goal
+
+pub returns-in_err-write_head : goal.returns-in_err-write_head
+returns-in_err-write_head g c = record {
+  written = breaks_off _ _ _ _ _ (head_text c.args.at c.args.processors) (changes_text c.args.layout.now c.args.changes.now)
+      c.from_residual.result _ c.from_residual.ensures.1 (starts _ _ c.requires.counted) refl c.in_err-write_head.ensures.written;
+}
+
+pub returns : goal.returns
+returns g c =
+    let head = goes_on _ _ _ _ _ (head_text c.args.at c.args.processors) (changes_text c.args.layout.now c.args.changes.now)
+    (starts _ _ c.requires.counted) refl c.in_ok-write_head.ensures.written in
+    record { written = closes _ _ _ _ _ c.write_changes.result head c.write_changes.ensures.written }
