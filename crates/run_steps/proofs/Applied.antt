@@ -1,10 +1,10 @@
 -- The difference of two stores, applied to the first, gives the second.
-use Rattle.std.proofs.Common.{◌≡◌, ℕ, ℤ, zero, suc, Bool, true, false, ◌+◌, List, [], ◌∷◌, ◌++◌, length, set, append_assoc, if◌then◌else◌, refl, ap, sym, ◌∙◌}
+use Rattle.std.proofs.Common.{◌≡◌, ℤ, Bool, true, false, ◌+◌, List, [], ◌∷◌, ◌++◌, length, set, append_assoc, if◌then◌else◌, refl, ap, sym, ◌∙◌}
 use Rattle.std.proofs.Common.{arith}
 use Rattle.std.proofs.lemmas.Int.{ints}
 use Rattle.pram_values.specs.Truth.{is_equal}
 use Rattle.run_steps.specs.declared.change.Change.{Change}
-use Rattle.run_steps.specs.Changes.{change_at, difference, difference_from, with_changes}
+use Rattle.run_steps.specs.Changes.{difference, difference_from, with_changes}
 
 equal_is : (x y : ℤ) → is_equal x y ≡ true → x ≡ y
 equal_is x y h = grind (arith, ints)

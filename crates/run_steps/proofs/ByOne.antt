@@ -1,5 +1,5 @@
 -- One processor's statement, by its value or its fault.
-use Rattle.std.proofs.Common.{◌≡◌, ℕ, ◌+◌, ◌<◌, ◌≤◌, ℤ, [], ◌∷◌, ◌++◌, List, set as slice_set, Option, Some, None, Result, Ok, Err, refl, ap, sym, ◌∙◌}
+use Rattle.std.proofs.Common.{◌≡◌, ℕ, ◌<◌, ◌≤◌, ℤ, [], ◌∷◌, ◌++◌, List, set as slice_set, Option, Some, None, Result, Ok, Err, refl, ap, sym, ◌∙◌}
 use Rattle.std.proofs.lemmas.Bool.{le-ltb, lt-ltb}
 use Rattle.write_rules.specs.declared.fault.Fault.{Fault}
 use Rattle.pram_check.specs.Checked.{Checked}

@@ -1,5 +1,5 @@
 -- A set's statement, by what its parts come to.
-use Rattle.std.proofs.Common.{◌≡◌, ℕ, ℤ, ◌+◌, ◌<◌, ◌≤◌, List, [], ◌∷◌, suc, Option, Some, None, Result, Ok, Err, Global, Vec, length, map, refl, ap}
+use Rattle.std.proofs.Common.{◌≡◌, ℕ, ℤ, ◌<◌, ◌≤◌, List, [], ◌∷◌, suc, Result, Ok, Err, Global, Vec, length, map, refl, ap}
 use Rattle.std.proofs.Common.{sym, ◌∙◌, ◌++◌, subst}
 use Rattle.std.proofs.lemmas.Bool.{le-ltb, lt-ltb}
 use Rattle.write_rules.specs.declared.fault.Fault.{Fault}

@@ -1,26 +1,21 @@
 -- A set's blocks and choices, told.
-use Rattle.std.proofs.Common.{◌≡◌, ℕ, true, false, Bool, List, [], ◌∷◌, ◌++◌, ◌+◌, ◌<◌, ◌≤◌, suc, zero, refl, ap, sym, ◌∙◌, Global, Vec, drop}
-use Rattle.std.proofs.Common.{length, get_or, Result, Ok, Err, subst, arith, ℤ, ◌^◌, if◌then◌else◌, map}
+use Rattle.std.proofs.Common.{◌≡◌, ℕ, true, false, List, ◌∷◌, ◌++◌, ◌+◌, ◌<◌, ◌≤◌, refl, ap, sym, ◌∙◌, Global, Vec, drop}
+use Rattle.std.proofs.Common.{length, get_or, Result, Ok, Err, subst, arith, ℤ, map}
 use Rattle.std.proofs.lemmas.List.{drop_more, drop_all}
-use Rattle.std.proofs.lemmas.List.Concat.{length-flat_map}
-use Rattle.std.proofs.lemmas.List.Sums.{sum_by-cons}
-use Rattle.std.specs.List.{sum_by}
 use Rattle.pram_names.specs.declared.body.Step as step
 use Rattle.pram_check.specs.Checked.{Checked}
 use Rattle.pram_names.specs.declared.body.Expression.{Expression}
 use Rattle.pram_names.specs.declared.body.Step.{Step}
 use Rattle.pram_names.specs.declared.body.Step.TheBlock.{hidden-the_row-Step-0}
 use Rattle.pram_names.specs.declared.body.StepTarget.{StepTarget}
-use Rattle.pram_values.specs.Truth.{is_nonzero}
 use Rattle.pram_meaning.specs.declared.part as part
 use Rattle.pram_meaning.specs.declared.run.Halt.{Halt}
 use Rattle.pram_meaning.specs.declared.run.Halt.TheVariants as halt
-use Rattle.pram_meaning.specs.Attempt.{attempt_step}
 use Rattle.pram_meaning.specs.Bounded.{assign_on, pardo_done, perform_list_on, perform_row_on, tested_on, then_do, turns_on}
 use Rattle.pram_meaning.specs.Conflict.{Part}
 use Rattle.pram_meaning.specs.Judging.{part_is}
 use Rattle.pram_meaning.specs.Store.{State, numbers, with_team, without_team}
-use Rattle.pram_meaning.specs.Together.{those, those_of, value_in}
+use Rattle.pram_meaning.specs.Together.{those}
 use Rattle.pram_meaning.proofs.SetBlocks.{block_is}
 use Rattle.run_steps.specs.Kept.{Going, Kept, Tells, kept}
 use Rattle.run_steps.specs.Moments.{behind, inner_list_moments, inner_row_moments, set_assign_moment, test_moment, turns_on_moments}

@@ -1,7 +1,6 @@
 -- The processors that meet at a cell, on the way through a trail.
-use Rattle.std.proofs.Common.{◌≡◌, ℕ, ◌+◌, ◌<◌, ◌≤◌, Bool, true, false, ◌||◌, List, ◌∷◌, drop, length, get_or, Option, refl, ap, sym, ◌∙◌}
+use Rattle.std.proofs.Common.{◌≡◌, ℕ, ◌+◌, ◌<◌, ◌≤◌, Bool, true, false, ◌||◌, ◌∷◌, drop, length, get_or, Option, refl, ap, sym, ◌∙◌}
 use Rattle.std.proofs.lemmas.List.{drop_more, drop_all}
-use Rattle.std.specs.List.{list_any}
 use Rattle.pram_meaning.specs.Attempt.{Trail}
 use Rattle.run_steps.specs.Moments.{has_read, is_cell}
 

@@ -6,7 +6,7 @@ use Rattle.run_steps.specs.declared.change.Change.{Change}
 use Rattle.run_steps.specs.declared.entry as rust
 use Rattle.run_steps.specs.declared.entry.Entry.TheVariants as variant
 use Rattle.run_steps.specs.declared.journal.Journal.{Journal}
-use Rattle.run_steps.specs.Entries.{Entry, Faulting, Ran, entry_is}
+use Rattle.run_steps.specs.Entries.{Ran, entry_is}
 use Rattle.run_steps.specs.Kept.{one_more, state_of, told_of}
 use Rattle.run_steps.specs.Moments.{Fell, Left}
 use Rattle.run_steps.specs.Telling.{tell}

@@ -1,6 +1,6 @@
 -- The changes that are told of a run, applied in order, give its memory.
 use Rattle.std.proofs.Common.{◌≡◌, ℕ, ℤ, pos, ◌+ℤ◌, zero, suc, Bool, true, false, ◌+◌, List, [], ◌∷◌, ◌++◌, length, if◌then◌else◌, nat_lt, refl}
-use Rattle.std.proofs.Common.{ap, sym, ◌∙◌, subst, append_assoc, append-nil, Option, Some, None, Result, Ok, Err, map}
+use Rattle.std.proofs.Common.{ap, sym, ◌∙◌, subst, append_assoc, append-nil, Option, Some, None, Result, Ok, Err}
 use Rattle.std.specs.Bool.{⊤}
 use Rattle.std.proofs.lemmas.List.{length-set}
 use Rattle.pram_model.specs.Layout.{width}
@@ -17,7 +17,7 @@ use Rattle.pram_names.specs.declared.body.Target.{Target}
 use Rattle.pram_names.specs.declared.body.Target.TheVariants as target
 use Rattle.pram_values.specs.Truth.{is_nonzero}
 use Rattle.write_rules.specs.declared.fault.Fault.{Fault}
-use Rattle.write_rules.specs.Verdict.{Verdict, Ended, Faulted, GoesOn}
+use Rattle.write_rules.specs.Verdict.{Verdict}
 use Rattle.pram_meaning.specs.Attempt.{Attempt, Effect, attempt, attempt_assign, attempt_bounds, attempt_range, attempt_step, attempt_value}
 use Rattle.pram_meaning.specs.Bounded.{Behaviour, Done, Goes, Reaches, Stops, assign_on, attempted_on, counted, evaluated, for_turns, found}
 use Rattle.pram_meaning.specs.Bounded.{pardo_done, perform, perform_list, perform_list_on, perform_on, perform_row, perform_row_on, tested}
@@ -26,7 +26,7 @@ use Rattle.pram_meaning.specs.Bounded as meaning
 use Rattle.pram_meaning.specs.Computed.{body_done, verdict_at}
 use Rattle.pram_meaning.specs.Conflict.{Part}
 use Rattle.pram_meaning.specs.Outcome.{IsOutcome, opening}
-use Rattle.pram_meaning.specs.Store.{State, View, numbers, printed, seen, with_team, with_uniform, without_team}
+use Rattle.pram_meaning.specs.Store.{State, numbers, printed, seen, with_team, with_uniform, without_team}
 use Rattle.pram_meaning.specs.Together.{after_write, alone, assigned, assigned_by, overwritten, parts, together, those}
 use Rattle.pram_meaning.proofs.OneOutcome.{outcome_is_computed}
 use Rattle.run_steps.specs.declared.change.Change.{Change}
@@ -35,7 +35,7 @@ use Rattle.run_steps.specs.Entries.{ChangesGiveTheMemory, Entry, Faulting, HasMe
 use Rattle.run_steps.specs.Kept.{one_more}
 use Rattle.run_steps.specs.Moments.{Fell, Left, Moment, assign_moment, assigned_cells, begun, behind, by_one, by_set, for_turns_moments, if_any}
 use Rattle.run_steps.specs.Moments.{inner_list_moments, inner_moments, inner_row_moments, list_moments, moments, one_moment, row_moments}
-use Rattle.run_steps.specs.Moments.{run_moments, set_assign_moment, set_cells, set_moment, test_moment, turns_moments, turns_on_moments}
+use Rattle.run_steps.specs.Moments.{run_moments, set_assign_moment, set_cells, test_moment, turns_moments, turns_on_moments}
 use Rattle.run_steps.specs.Moments.{unchanged, value_moment}
 use Rattle.run_steps.specs.Telling.{Told, tell, tell_all}
 use Rattle.run_steps.proofs.Applied.{applied}
@@ -68,9 +68,15 @@ replay_fault (Faulting f w ∷ es) fault who c = replay_fault es fault who c
 
 left_sound : {A : Type 0} (cells : List ℤ) (new : State) (line k : ℕ) (a : A) → length new.cells ≡ length cells →
     IsSound cells (Left line k new.cells ∷ []) (Goes a new)
-left_sound cells new line k a l = (l, λ c t is r. (refl, replay_push t.entries line k (difference t.cells new.cells) c
-    ∙ ap (with_changes (difference t.cells new.cells)) r ∙ ap (λ xs. with_changes (difference xs new.cells) cells) is
-    ∙ applied cells new.cells l))
+left_sound cells new line k a l = (
+  l,
+  λ c t is r. (
+    refl,
+    replay_push t.entries line k (difference t.cells new.cells) c
+        ∙ ap (with_changes (difference t.cells new.cells)) r ∙ ap (λ xs. with_changes (difference xs new.cells) cells) is
+        ∙ applied cells new.cells l,
+  ),
+)
 
 fell_sound : {A : Type 0} (cells : List ℤ) (new : State) (k : Fault) (who : List ℤ) (a : A) → cells ≡ new.cells →
     IsSound cells (Fell k who ∷ []) (Goes a new)
@@ -86,10 +92,13 @@ none_sound m a = (refl, λ c t is r. (is, r))
 
 joined : {A B : Type 0} (cells : List ℤ) (new : State) (a : A) (xs ys : List Moment) (d : Behaviour B) → IsSound cells xs (Goes a new) →
     IsSound new.cells ys d → IsSound cells (xs ++ ys) d
-joined cells new a xs ys (Goes b last) s h = (h.0 ∙ s.0, λ c t is r.
-    let u = s.1 c t is r in
-    let v = h.1 c (tell_all xs t) u.0 u.1 in
-    (ap (λ (t : Told). t.cells) (told_through xs ys t) ∙ v.0, ap (λ (t : Told). replay t.entries c) (told_through xs ys t) ∙ v.1))
+joined cells new a xs ys (Goes b last) s h = (
+  h.0 ∙ s.0,
+  λ c t is r.
+      let u = s.1 c t is r in
+      let v = h.1 c (tell_all xs t) u.0 u.1 in
+      (ap (λ (t : Told). t.cells) (told_through xs ys t) ∙ v.0, ap (λ (t : Told). replay t.entries c) (told_through xs ys t) ∙ v.1),
+)
 joined cells new a xs ys (Stops k out) s h = tt
 joined cells new a xs ys (Reaches out) s h = tt
 

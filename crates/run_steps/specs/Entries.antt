@@ -1,5 +1,5 @@
 -- A run told statement by statement: entry k is the k-th statement that ran, counted from 1.
-use Rattle.std.specs.Prelude.{◌≡◌, ℕ, List, [], ◌∷◌, ℤ, ⊤, map}
+use Rattle.std.specs.Prelude.{◌≡◌, ℕ, List, [], ◌∷◌, ℤ, ⊤}
 use Rattle.pram_check.specs.Checked.{Checked}
 use Rattle.write_rules.specs.declared.fault.Fault.{Fault}
 use Rattle.write_rules.specs.Verdict.{Verdict, Ended, Faulted, GoesOn}

@@ -1,5 +1,5 @@
 -- What the telling interpreter keeps of a run, and what its functions answer.
-use Rattle.std.specs.Prelude.{◌≡◌, ℕ, Result, Ok, Err, List, [], map, ◌+◌, ℤ, ⊤}
+use Rattle.std.specs.Prelude.{◌≡◌, Result, Ok, Err, List, [], map, ◌+◌, ℤ, ⊤}
 use Rattle.write_rules.specs.declared.fault.Fault.{Fault}
 use Rattle.pram_meaning.specs.declared.run.Halt.{Halt}
 use Rattle.pram_meaning.specs.declared.run.Halt.TheVariants as halt

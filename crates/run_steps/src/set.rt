@@ -183,8 +183,7 @@ impl<'a> Teller<'a> {
         }
         match self.judge(journal, team, active, line, target, e) {
             Ok(parts) => {
-                let settled =
-                    self.settle_cells(journal, team, line, active.len(), target, &parts);
+                let settled = self.settle_cells(journal, team, line, active.len(), target, &parts);
                 if settled.is_err() {
                     return Err(Halt::OutOfMemory);
                 }

@@ -1,4 +1,4 @@
-use Rattle.std.proofs.Common.{rules, ◌≡◌, ap, subst, arith, Err}
+use Rattle.std.proofs.Common.{rules, ◌≡◌, subst, arith, Err}
 use Rattle.std.proofs.lemmas.Result.{err_from_is_err_and}
 use Rattle.run_steps.specs.Kept.{Going, Tells, state_of, told_of}
 use Rattle.run_steps.specs.Telling.{Told}
