@@ -1,6 +1,6 @@
 //! The text of entries.
 
-ghost use Rattle.std.specs.Prelude.{◌<◌, ◌^◌, map};
+ghost use Rattle.std.specs.Prelude.{◌<◌, ◌+◌, ◌-◌, ◌^◌, map};
 ghost use Rattle.text_out.specs.Out.{Writes};
 ghost use Rattle.program_texts.specs.Shown.{line};
 ghost use Rattle.run_steps.specs.Entries.{entry_is};
@@ -148,19 +148,21 @@ pub fn write_entry<W: Out>(
     out.write_all(b"\n")
 }
 
-// The line of an entry, if its number is asked for.
+// The line of an entry behind so many others, if its number is asked for.
 fn write_within<W: Out>(
     out: &mut W,
     layout: &Layout,
     first: usize,
     last: usize,
-    number: usize,
+    before: usize,
     entry: &Entry,
 ) -> Result<(), WriteFault>
     requires counted { (W.Out.state out.old).failures < 2 ^ 63 }
-    ensures written { Writes (W.Out.state out.old) (W.Out.state out.new) (spec.line_within layout.now first last number (entry_is entry.now))
-        result }
+    requires few { before < 2 ^ 64 - 1 }
+    ensures written { Writes (W.Out.state out.old) (W.Out.state out.new)
+        (spec.line_within layout.now first last (before + 1) (entry_is entry.now)) result }
 {
+    let number = before + 1;
     if first <= number && number <= last {
         write_entry(out, layout, number, entry)
     } else {
@@ -180,8 +182,10 @@ pub fn write_steps<W: Out>(
     requires counted { (W.Out.state out.old).failures < 2 ^ 63 }
     ensures written { Writes (W.Out.state out.old) (W.Out.state out.new) (spec.steps_text layout.now first last (map entry_is entries.now)) result }
 {
-    for i in 0..entries.len() {
-        write_within(out, layout, first, last, i + 1, &entries[i])?;
+    let mut before = 0;
+    for entry in entries {
+        write_within(out, layout, first, last, before, entry)?;
+        before += 1;
     }
     Ok(())
 }
