@@ -19,7 +19,8 @@ struct Row {
 }
 
 // Two processors add two cells each, and then one adds what they left.
-const SUM: &str = "rule erew; procs 4; shared a[1..4]; shared s; var m;\nbegin\n  m := 2;\n  for 1 <= i <= m pardo\n    \
+const SUM: &str =
+    "rule erew; procs 4; shared a[1..4]; shared s; var m;\nbegin\n  m := 2;\n  for 1 <= i <= m pardo\n    \
     a[i] := a[i] + a[i + 2];\n  end\n  s := a[1] + a[2];\n  print s;\nend\n";
 
 const FOUR: &[i64] = &[1, 2, 3, 4];
@@ -164,13 +165,7 @@ fn is_told(alloc: Global, row: &Row) -> Option<bool> {
     let program = check(alloc, tree).ok()?;
     let (_outcome, entries) = steps_of(alloc, &program, row.input, row.bound).ok()?;
     let mut out = Buffer::new(alloc);
-    write_steps(
-        &mut out,
-        program.layout(),
-        &entries,
-        row.first,
-        row.last,
-    ).ok()?;
+    write_steps(&mut out, program.layout(), &entries, row.first, row.last).ok()?;
     Some(out.bytes() == row.told.as_bytes())
 }
 

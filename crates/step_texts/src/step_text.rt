@@ -7,8 +7,8 @@ ghost use Rattle.run_steps.specs.Entries.{entry_is};
 ghost use Rattle.step_texts.specs.StepText as spec;
 
 use itoa::Buffer;
-use program_texts::{write_cell, write_fault_text, write_values};
 use pram_syntax::Layout;
+use program_texts::{write_cell, write_fault_text, write_values};
 use run_steps::{Change, Entry};
 use text_out::{Out, WriteFault};
 use write_rules::Fault;
@@ -38,11 +38,7 @@ fn write_change<W: Out>(out: &mut W, layout: &Layout, change: &Change) -> Result
     write_value(out, change)
 }
 
-fn write_changes<W: Out>(
-    out: &mut W,
-    layout: &Layout,
-    changes: &[Change],
-) -> Result<(), WriteFault>
+fn write_changes<W: Out>(out: &mut W, layout: &Layout, changes: &[Change]) -> Result<(), WriteFault>
     requires counted { (W.Out.state out.old).failures < 2 ^ 63 }
     ensures written { Writes (W.Out.state out.old) (W.Out.state out.new) (spec.changes_text layout.now changes.now) result }
 {
