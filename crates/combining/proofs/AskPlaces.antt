@@ -1,10 +1,10 @@
 -- Where asks stand, and their values.
-use Rattle.std.proofs.Common.{◌≡◌, ℕ, zero, suc, ◌<◌, List, [], ◌∷◌, length, get_or, Bool, true, false, refl, sym, ap, ◌∙◌, arith, eqb}
+use Rattle.std.proofs.Common.{◌≡◌, ℕ, zero, suc, ◌<◌, List, [], ◌∷◌, length, map, pos, get_or, Bool, true, false, refl, sym, ap, ◌∙◌, arith, eqb}
 use Rattle.std.specs.Prelude.{if◌then◌else◌}
 use Rattle.combining.specs.declared.asks.Asked.{Asked}
 use Rattle.combining.specs.Places.{place_of}
 use Rattle.combining.specs.Held.{paired}
-use Rattle.combining.specs.Asked.{ask_at, ask_key, key_of, marked_twice, ask, answered, replied, value_for, place_held, value_held}
+use Rattle.combining.specs.Asked.{HeldAsk, value_there, ask_at, ask_key, key_of, marked_twice, ask, answered, replied, value_for, place_held, value_held}
 use Rattle.combining.specs.Asked.{ValueStandsAtItsPlace, RepliesMoveNothing, AsksMoveNothing}
 use Rattle.combining.proofs.Asking.{meant_at}
 
@@ -31,6 +31,19 @@ value_stands read cell (x ∷ rest) = go (eqb (key_of x.ask) (ask_key read cell)
         → (if b then x.value else value_for read cell rest) ≡ value_held (x ∷ rest) (if b then 0 else suc (place_held read cell rest))
     go true e = refl
     go false e = e
+
+values_paired : (ks : List ℕ) (xs : List Asked) → length xs ≡ length ks →
+    map (λ (x : HeldAsk). x.value) (paired ask_at ks xs) ≡ map (λ (x : Asked). x.value) xs
+values_paired [] [] n = refl
+values_paired [] (x ∷ xs) n = absurd (omega (arith, n))
+values_paired (k ∷ ks) [] n = absurd (omega (arith, n))
+values_paired (k ∷ ks) (x ∷ xs) n = ap (λ vs. x.value ∷ vs) (values_paired ks xs (omega (arith, n)))
+
+pub value_is_there : (read cell : ℕ) (ks : List ℕ) (xs : List Asked) → length xs ≡ length ks →
+    value_there xs (place_of (ask_key read cell) ks) ≡ value_for read cell (paired ask_at ks xs)
+value_is_there read cell ks xs n =
+    sym (value_stands read cell (paired ask_at ks xs) ∙ ap (value_held (paired ask_at ks xs)) (place_paired read cell ks xs n)
+    ∙ ap (λ vs. get_or vs (place_of (ask_key read cell) ks) (pos 0)) (values_paired ks xs n))
 
 pub replies_move_nothing : RepliesMoveNothing
 replies_move_nothing part j ws read cell [] = refl

@@ -1,4 +1,6 @@
 pub mod Chains
+pub mod Ascents
+pub mod AscendingAsks
 pub mod Pairs
 pub mod Packing
 pub mod Gathered

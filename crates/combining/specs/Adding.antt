@@ -1,5 +1,5 @@
 -- The asks of a worker, added read by read to what is held.
-use Rattle.std.specs.Prelude.{◌≡◌, ℕ, ◌+◌, ◌^◌, ◌<◌, pos, List, [], ◌∷◌, ◌++◌, map}
+use Rattle.std.specs.Prelude.{◌≡◌, ℕ, ◌+◌, ◌^◌, ◌<◌, pos, List, Option, [], ◌∷◌, ◌++◌, map}
 use Rattle.std.specs.List.{AllByRecursion}
 use Rattle.superstep_machine.specs.Setting.{Setting}
 use Rattle.superstep_machine.specs.Parts.{Read, PrivatePart}
@@ -21,6 +21,10 @@ asked_from s k (read ∷ rest) = map (λ (c : ℕ). (k, c)) (cells_added s read 
 
 abbrev pub asked_by : Worker → List (ℕ × ℕ)
 asked_by s = asked_from s 0 s.uniform.asks
+
+-- cells that are asked for by a read of that number
+abbrev pub by_read : ℕ → List (Option ℕ) → List (ℕ × ℕ)
+by_read k cells = map (λ (c : ℕ). (k, c)) (present cells)
 
 -- what is held after some asks, one by one
 abbrev pub asked_after : List (ℕ × ℕ) → List HeldAsk → List HeldAsk

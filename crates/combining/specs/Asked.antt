@@ -65,6 +65,10 @@ abbrev pub place_held : ℕ → ℕ → List HeldAsk → ℕ
 place_held read cell [] = 0
 place_held read cell (x ∷ rest) = if eqb (key_of x.ask) (ask_key read cell) then 0 else suc (place_held read cell rest)
 
+-- the value of the ask at a place
+abbrev pub value_there : List Asked → ℕ → ℤ
+value_there asked i = slice_index_or (map (λ (x : Asked). x.value) asked) i (pos 0)
+
 -- the value at a place
 abbrev pub value_held : List HeldAsk → ℕ → ℤ
 value_held held i = slice_index_or (map (λ (x : HeldAsk). x.value) held) i (pos 0)

@@ -8,16 +8,20 @@ ghost use Rattle.std.specs.List.{AllByRecursion};
 ghost use Rattle.std.proofs.Common.{eqb};
 ghost use Rattle.superstep_machine.specs.Words.{ask_word, ask_words};
 ghost use Rattle.combining.specs.AllModules.{HasRoomFor, HasGot};
+ghost use Rattle.combining.specs.Adding.{by_read, asked_after};
+ghost use Rattle.combining.specs.Columns.{AreBelow, HaveCome};
 ghost use Rattle.combining.specs.Came.{all_replied};
 ghost use Rattle.combining.specs.Held.{paired};
 ghost use Rattle.combining.specs.Asked.{ask, ask_at, asks_for, value_for, replied, IsAskBelow, place_held, value_held};
 
 use crate::index::Index;
+use crate::near::values_near;
 use crate::single::{append_asks, keep_in_order, taken_out};
 use crate::words::{ask_key, cell_of, push_ask, write_ask};
 use address_map::AddressMap;
 use std::alloc::{AllocError, Global};
 use std::marker::Model;
+use std::mem;
 
 // One ask: whether it was made more than once, and the value that came.
 #[derive(Clone, Copy, Debug)]
@@ -141,20 +145,63 @@ impl Asks {
         ensures room { self.new.room ≡ self.old.room }
     {
         let key = ask_key(ordinal, cell);
-        let i = self.index.find(key);
+        let i = self.index.hold(key);
         if i < self.asked.len() {
             self.asked[i] = Asked {
                 again: true,
                 value: self.asked[i].value,
             };
         } else {
-            self.index.push(key);
             self.asked.push_reserved(Asked {
                 again: false,
                 value: 0,
             });
         }
         i
+    }
+
+    /// Holds the asks by a read of that number for the first of some cells, one after the other, as long as their numbers and
+    /// those of what is held ascend. Says for how many.
+    pub fn add_ascending(&mut self, ordinal: u32, cells: &[Option<u32>]) -> usize
+        requires room { length self.old.held + length cells.now ≤ self.old.room }
+        requires ordinal { ordinal < 8 }
+        requires below { AreBelow (2 ^ 20) cells.now }
+        ensures held { self.new.held ≡ asked_after (by_read ordinal (take result cells.now)) self.old.held }
+        ensures few { result ≤ length cells.now }
+        ensures most { length self.new.held ≤ length self.old.held + result }
+        ensures room { self.new.room ≡ self.old.room }
+    {
+        let empty = Vec::new(*self.asked.allocator());
+        let asked = mem::replace(&mut self.asked, empty);
+        let (asked, n) = self.index.hold_ascending(ordinal, cells, asked);
+        self.asked = asked;
+        n
+    }
+
+    /// Puts the values that came for some cells, by a read of that number, at their places. A cell is first sought at the place behind the
+    /// last that was found, from `likely` on: where the cells are those of the asks, in order, it stands there. Says what is likely next.
+    pub fn take_values(
+        &self,
+        likely: usize,
+        ordinal: u32,
+        cells: &[Option<u32>],
+        values: &mut [i64],
+    ) -> usize
+        requires ordinal { ordinal < 8 }
+        requires below { AreBelow (2 ^ 20) cells.now }
+        requires values { length cells.now ≤ length values.old }
+        ensures each { HaveCome (λ cell. value_for ordinal cell self.now.held) cells.now values.new }
+        ensures count { length values.new ≡ length values.old }
+    {
+        values_near(
+            &self.index,
+            self.index.keys(),
+            &self.asked,
+            likely,
+            ordinal,
+            cells,
+            values,
+        )
     }
 
     /// Writes the words of the asks for one module, and says how many they are. What is behind them stays.

@@ -1,11 +1,21 @@
 //! Keys that are held, each once, and a table that finds them.
 ghost use Rattle.std.specs.Prelude.{◌≡◌, ◌<◌, ◌++◌, [], ◌∷◌, length, IfOk, vec_capacity, ◌^◌};
-ghost use Rattle.combining.specs.Places.{place_of, Held, believed};
+ghost use Rattle.std.specs.Prelude.{◌≤◌, ◌+◌, take};
+ghost use Rattle.combining.specs.Places.{place_of, Held, AreApart};
+ghost use Rattle.combining.specs.Columns.{AreBelow};
+ghost use Rattle.combining.specs.Held.{paired};
+ghost use Rattle.combining.specs.Asked.{ask_at};
+ghost use Rattle.combining.specs.Adding.{by_read, asked_after};
 
+use crate::ascending::append_ascending;
+use crate::asks::Asked;
+use crate::linking::{link, link_all, linked_place, place_from};
 use std::alloc::{AllocError, Global};
 use std::marker::Model;
+use std::mem;
 
-/// Keys in the order in which they were first held.
+/// Keys in the order in which they were first held. As long as each is greater than those before it, the last one tells whether
+/// another is held, and no table is kept; the first that isn't has all of them linked.
 #[derive(Drop)]
 pub struct Index {
     keys: Vec<u32>,
@@ -16,30 +26,14 @@ pub struct Index {
 
 impl Model for Index {
     ghost use Rattle.std.specs.Prelude.{◌≡◌, ◌<◌, ◌^◌, vec_capacity};
-    ghost use Rattle.combining.specs.Places.{Held, IsLinked};
+    ghost use Rattle.combining.specs.Places.{Held, IsIndexed};
 
     ghost Value = { Held };
 
     ghost view = { λ x. record { keys = x.keys.items; room = vec_capacity x.keys } };
 
     ghost invariant = { λ x. (vec_capacity x.links ≡ vec_capacity x.keys) × (vec_capacity x.keys < 2 ^ 31)
-        × IsLinked x.mask x.keys.items x.links.items x.heads.items };
-}
-
-/// The head of a chain, if it is one of the keys that are held now.
-#[inline(always)]
-fn trusted(mask: u32, keys: &[u32], at: u32, head: u32) -> u32
-    ensures head { result ≡ believed mask keys.now at head }
-{
-    if head == 0 {
-        return 0;
-    }
-    let i = (head - 1) as usize;
-    if i < keys.len() && keys[i] & mask == at {
-        head
-    } else {
-        0
-    }
+        × IsIndexed x.mask x.keys.items x.links.items x.heads.items };
 }
 
 impl Index {
@@ -77,6 +71,7 @@ impl Index {
     /// The keys, in the order first held.
     pub fn keys(&self) -> &[u32]
         ensures keys { result.now ≡ self.now.keys }
+        ensures apart { AreApart result.now }
     {
         self.keys.as_slice()
     }
@@ -91,34 +86,100 @@ impl Index {
     }
 
     /// The key's place, or the number of keys.
-    #[inline(always)]
     pub fn find(&self, key: u32) -> usize
         ensures place { result ≡ place_of key self.now.keys }
     {
-        let at = key & self.mask;
-        let mut left = trusted(self.mask, &self.keys, at, self.heads[at as usize]);
-        while left > 0 {
-            let i = (left - 1) as usize;
-            if self.keys[i] == key {
-                return i;
-            }
-            left = self.links[i];
+        let linked = self.links.len();
+        let i = linked_place(
+            self.mask,
+            &self.keys[..linked],
+            self.links.as_slice(),
+            self.heads.as_slice(),
+            key,
+        );
+        if i < linked {
+            return i;
         }
-        self.keys.len()
+        place_from(self.keys.as_slice(), linked, key)
     }
 
-    /// Holds a new key.
+    /// Holds a key, unless it is held. Its place.
     #[inline(always)]
-    pub fn push(&mut self, key: u32)
-        requires new { place_of key self.old.keys ≡ length self.old.keys }
+    pub fn hold(&mut self, key: u32) -> usize
         requires room { length self.old.keys < self.old.room }
-        ensures keys { self.new.keys ≡ self.old.keys ++ key ∷ [] }
+        ensures place { result ≡ place_of key self.old.keys }
+        ensures held { result < length self.old.keys → self.new.keys ≡ self.old.keys }
+        ensures new { result ≡ length self.old.keys → self.new.keys ≡ self.old.keys ++ key ∷ [] }
         ensures room { self.new.room ≡ self.old.room }
     {
-        let at = key & self.mask;
-        let before = trusted(self.mask, &self.keys, at, self.heads[at as usize]);
-        self.heads[at as usize] = self.keys.len() as u32 + 1;
-        self.keys.push_reserved(key);
-        self.links.push_reserved(before);
+        let n = self.keys.len();
+        if n == 0 {
+            self.keys.push_reserved(key);
+            return n;
+        }
+        if self.links.len() < n {
+            let last = self.keys[n - 1];
+            if last < key {
+                self.keys.push_reserved(key);
+                return n;
+            }
+            if last == key {
+                return n - 1;
+            }
+        }
+        link_all(
+            self.mask,
+            self.keys.as_slice(),
+            &mut self.links,
+            self.heads.as_mut_slice(),
+        );
+        let i = linked_place(
+            self.mask,
+            self.keys.as_slice(),
+            self.links.as_slice(),
+            self.heads.as_slice(),
+            key,
+        );
+        if i == n {
+            self.keys.push_reserved(key);
+            link(
+                self.mask,
+                self.keys.as_slice(),
+                &mut self.links,
+                self.heads.as_mut_slice(),
+            );
+        }
+        i
+    }
+
+    /// Holds the asks by a read for the first of some cells, whose answers are in `asked`, as `append_ascending` does. Says for how many,
+    /// and gives that list back. For none where keys are linked.
+    pub(crate) fn hold_ascending(
+        &mut self,
+        ordinal: u32,
+        cells: &[Option<u32>],
+        asked: Vec<Asked>,
+    ) -> (Vec<Asked>, usize)
+        requires long { length asked.items ≡ length self.old.keys }
+        requires room { length self.old.keys + length cells.now ≤ self.old.room }
+        requires rooms { vec_capacity asked ≡ self.old.room }
+        requires ordinal { ordinal < 8 }
+        requires below { AreBelow (2 ^ 20) cells.now }
+        ensures held { paired ask_at self.new.keys result.0.items
+            ≡ asked_after (by_read ordinal (take result.1 cells.now)) (paired ask_at self.old.keys asked.items) }
+        ensures long { length result.0.items ≡ length self.new.keys }
+        ensures few { result.1 ≤ length cells.now }
+        ensures most { length self.new.keys ≤ length self.old.keys + result.1 }
+        ensures room { self.new.room ≡ self.old.room }
+        ensures asked { vec_capacity result.0 ≡ vec_capacity asked }
+    {
+        if !self.links.is_empty() {
+            return (asked, 0);
+        }
+        let empty = Vec::new(*self.keys.allocator());
+        let keys = mem::replace(&mut self.keys, empty);
+        let (keys, asked, n) = append_ascending(keys, asked, ordinal, cells);
+        self.keys = keys;
+        (asked, n)
     }
 }

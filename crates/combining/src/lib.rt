@@ -2,12 +2,15 @@
 #![tactic(auto)]
 
 mod answers;
+mod ascending;
 mod asks;
 mod cells;
 mod compact;
 mod index;
 pub mod law;
+mod linking;
 mod merge;
+mod near;
 mod puts;
 mod readers;
 mod single;

@@ -71,11 +71,10 @@ impl Puts {
         ensures room { self.new.room ≡ self.old.room }
     {
         let entry = rule.single(processor, value);
-        let i = self.index.find(cell);
+        let i = self.index.hold(cell);
         if i < self.entries.len() {
             self.entries[i] = Compact::of(rule.join(self.entries[i].entry(), entry));
         } else {
-            self.index.push(cell);
             self.entries.push_reserved(Compact::of(entry));
         }
     }

@@ -47,8 +47,16 @@ fn answer_uniform(sent: &Asks, awaited: &[Read], registers: &mut [i64])
     }
 }
 
-// The values that came for the cells of the first processors, by a read of that number.
-fn values_for(sent: &Asks, ordinal: u32, cells: &[Option<u32>], many: usize, values: &mut [i64])
+// The values that came for the cells of the first processors, by a read of that number. Its first ask is likely to stand at a place;
+// the answer is where the next one is likely to.
+fn values_for(
+    sent: &Asks,
+    likely: usize,
+    ordinal: u32,
+    cells: &[Option<u32>],
+    many: usize,
+    values: &mut [i64],
+) -> usize
     requires ordinal { ordinal < 8 }
     requires cells { many ≤ length cells.now }
     requires below { (j cell : ℕ) → j < many → cell_in cells.now j ≡ Some cell → cell < 2 ^ 20 }
@@ -57,22 +65,20 @@ fn values_for(sent: &Asks, ordinal: u32, cells: &[Option<u32>], many: usize, val
         value_of values.new j ≡ value_for ordinal cell sent.now.held }
     ensures count { length values.new ≡ length values.old }
 {
-    'processors: for j in 0..many {
-        if let Some(cell) = cells[j] {
-            values[j] = sent.value(ordinal, cell);
-        }
-    }
+    sent.take_values(likely, ordinal, &cells[..many], values)
 }
 
-// The answers to one read. There are no processors where a uniform one is awaited.
+// The answers to one read, and where the first ask of the next one is likely to stand. There are no processors where a uniform one is
+// awaited.
 fn answer_read(
     sent: &Asks,
+    likely: usize,
     ordinal: u32,
     read: Read,
     cells: &[Option<u32>],
     bank: &mut Bank,
     values: &mut [i64],
-)
+) -> usize
     requires ordinal { ordinal < 8 }
     requires bank { IsBank bank.old }
     requires read { IsAwaited (2 ^ 20) (length bank.old.columns.items) bank.old.masks.many read }
@@ -87,10 +93,11 @@ fn answer_read(
     ensures count { length values.new ≡ length values.old }
 {
     match read.side {
-        Side::Uniform => {}
+        Side::Uniform => likely,
         Side::Private => {
-            values_for(sent, ordinal, cells, bank.masks.many, values);
+            let next = values_for(sent, likely, ordinal, cells, bank.masks.many, values);
             bank.answer(read.destination, cells, values);
+            next
         }
     }
 }
@@ -118,9 +125,11 @@ fn answer_own(
     ensures same { IsSameBank bank.old bank.new }
     ensures count { length values.new ≡ length values.old }
 {
+    let mut likely = 0;
     'reads: for k in 0..awaited.len() {
-        answer_read(
+        likely = answer_read(
             sent,
+            likely,
             k as u32,
             awaited[k],
             columns[k].as_slice(),

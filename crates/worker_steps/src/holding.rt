@@ -4,10 +4,10 @@ ghost use Rattle.std.specs.Prelude.{◌≡◌, ◌≤◌, ◌<◌, ◌+◌, ◌^
 ghost use Rattle.superstep_machine.specs.Worker.{by_processor};
 ghost use Rattle.superstep_steps.specs.Views.{uniform_of};
 ghost use Rattle.combining.specs.Held.{held_after};
-ghost use Rattle.combining.specs.Adding.{asked_after};
+ghost use Rattle.combining.specs.Adding.{by_read, asked_after};
 ghost use Rattle.worker_bank.specs.Bank.{number_of, IsBank};
 ghost use Rattle.worker_bank.specs.Cells.{cell_in};
-ghost use Rattle.worker_steps.specs.Held.{by_read, cells_of, made, writes_of};
+ghost use Rattle.worker_steps.specs.Held.{cells_of, made, writes_of};
 
 use crate::noting::number;
 use combining::{Asks, Puts};
@@ -40,7 +40,8 @@ pub fn hold_asks(asks: &mut Asks, ordinal: u32, cells: &[Option<u32>], many: usi
     ensures few { length asks.new.held ≤ length asks.old.held + many }
     ensures room { asks.new.room ≡ asks.old.room }
 {
-    'processors: for j in 0..many {
+    let first = asks.add_ascending(ordinal, &cells[..many]);
+    'processors: for j in first..many {
         hold_ask(asks, ordinal, cells[j]);
     }
 }

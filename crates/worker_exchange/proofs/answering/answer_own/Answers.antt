@@ -8,8 +8,8 @@ use Rattle.worker_bank.specs.Cells.{cell_in}
 use Rattle.worker_exchange.proofs.AnswerLemmas.{no_read, own_left, own_goes, own_ends, own_small, cell_small}
 use Rattle.worker_exchange.proofs.answering.answer_own.Goals as goal
 
-pub answer_read-requires-clause-below : goal.answer_read-requires-clause-below
-answer_read-requires-clause-below c = λ j cell l e.
+pub answer_read-likely-requires-clause-below : goal.answer_read-likely-requires-clause-below
+answer_read-likely-requires-clause-below c = λ j cell l e.
     let reads = c.args.awaited.now in
     let columns = c.args.columns.now in
     let k = c.reads.k in
@@ -26,7 +26,7 @@ answer_read-requires-clause-below c = λ j cell l e.
 pub reads-preserved : goal.reads-preserved
 reads-preserved c =
     let before = c.reads.invariant in
-    let done = c.answer_read.ensures in
+    let done = c.answer_read-likely.ensures in
     let reads = c.args.awaited.now in
     let columns = c.args.columns.now in
     let k = c.reads.k in
@@ -38,7 +38,7 @@ reads-preserved c =
       answered = λ value j gives l.
           let here : j < c.reads.bank.masks.many = subst (λ (m : Masks). j < m.many) (sym before.masks) l in
           let destination = (get_or reads k no_read).destination in
-          let answered : registers_at c.answer_read.new.bank j
+          let answered : registers_at c.answer_read-likely.new.bank j
           ≡ answer (value k) destination (cell_in c.as_slice.result.now j) (registers_at c.reads.bank j) =
           done.answered value j gives here in
           ap (own_left value reads columns j (k + 1))

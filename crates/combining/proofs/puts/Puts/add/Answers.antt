@@ -1,4 +1,4 @@
-use Rattle.std.proofs.Common.{◌≡◌, ◌<◌, length, sym, ap, ◌∙◌, arith, refl, eqb}
+use Rattle.std.proofs.Common.{length-append, ◌∷◌, [], ◌≡◌, ◌<◌, length, sym, ap, ◌∙◌, arith, refl, eqb}
 use Rattle.std.proofs.Common.{w64, to_z, of_z}
 use Rattle.std.proofs.lemmas.Int.{to_z-of_z}
 use Rattle.write_rules.specs.Combining.{Combining}
@@ -13,15 +13,8 @@ use Rattle.combining.proofs.CompactLemmas.{held_back}
 use Rattle.combining.proofs.Pairs.{hold_at, hold_new, place_bound, length_paired}
 use Rattle.combining.proofs.puts.Puts.add.Goals as goal
 
-pub push-requires-clause-new : goal.push-requires-clause-new
-push-requires-clause-new g c =
-    let inv = c.self.invariant in
-    let b = place_bound c.args.cell c.self.inside.index.keys in
-    let f = c.find-i.ensures.place in
-    omega arith
-
-pub push-requires-clause-room : goal.push-requires-clause-room
-push-requires-clause-room g c =
+pub hold-i-requires : goal.hold-i-requires
+hold-i-requires g c =
     let inv = c.self.invariant in
     let n = length_paired held_at c.self.inside.index.keys c.self.inside.entries.items inv.1 in
     let r = rw (← c.self.view_is) at c.requires in
@@ -47,7 +40,7 @@ returns-then-i-len-clause-held g c =
     ∙ ap (λ z. single z (to_z w64 (of_z w64 c.args.value))) (to_z-of_z w64 c.args.processor c.ranges.processor)
     ∙ ap (single c.args.processor) (to_z-of_z w64 c.args.value c.ranges.value)
     ∙ ap (λ (k : Combining). k.single c.args.processor c.args.value) known in
-    let f : c.find-i.result ≡ place_of c.args.cell ks = c.find-i.ensures.place in
+    let f : c.hold-i.result ≡ place_of c.args.cell ks = c.hold-i.ensures.place in
     let n : length xs ≡ length ks = c.self.invariant.1 in
     let l : place_of c.args.cell ks < length xs = (let v = c.self.inside.entries.ok.0 in omega arith) in
     let x = c.index.result.now in
@@ -58,7 +51,7 @@ returns-then-i-len-clause-held g c =
     ∙ ap (λ (k : Combining). k.join old c.single-entry.result) known
     ∙ ap ((combining rule).join old) s in
     let change = λ (x : CellPut). put_at x.cell ((combining rule).join x.entry e) in
-    rw (f, ← c.self.view_is)
+    rw (c.hold-i.ensures.held (omega (arith, f, l, n)), f, ← c.self.view_is)
     (hold_at held_at (λ (x : CellPut). eqb x.cell c.args.cell) change
     (λ (x : Compact). compact_of ((combining rule).join (entry_of x) e)) c.args.cell (compact_of e) (λ k x. refl)
     (λ k x. sym (held_back k ((combining rule).join (entry_of x) e))) ks xs x c.of.result n l is (c.of.ensures.compact ∙ ap compact_of joined)
@@ -79,10 +72,25 @@ returns-else-i-len-clause-held g c =
     ∙ ap (λ (k : Combining). k.single c.args.processor c.args.value) known in
     let n : length xs ≡ length ks = c.self.invariant.1 in
     let b = place_bound c.args.cell ks in
-    let p : place_of c.args.cell ks ≡ length ks = (let v = c.self.inside.entries.ok.0 in let f = c.find-i.ensures.place in omega arith) in
+    let p : place_of c.args.cell ks ≡ length ks = (let v = c.self.inside.entries.ok.0 in let f = c.hold-i.ensures.place in omega arith) in
     let change = λ (x : CellPut). put_at x.cell ((combining rule).join x.entry e) in
-    rw (c.push.ensures.keys, c.push_reserved.ensures.items, c.of-else-i-len.ensures.compact, s, ← c.self.view_is)
+    let last : c.hold-i.result ≡ length ks = c.hold-i.ensures.place ∙ p in
+    rw (c.hold-i.ensures.new last, c.push_reserved.ensures.items, c.of-else-i-len.ensures.compact, s, ← c.self.view_is)
     (hold_new held_at (λ (x : CellPut). eqb x.cell c.args.cell) change
     (λ (x : Compact). compact_of ((combining rule).join (entry_of x) e)) c.args.cell (compact_of e) (λ k x. refl)
     (λ k x. sym (held_back k ((combining rule).join (entry_of x) e))) ks xs n p
     ∙ ap (λ (y : CellPut). hold (λ (x : CellPut). eqb x.cell c.args.cell) change y (paired held_at ks xs)) (held_back c.args.cell e))
+
+pub invariant_of-self-else-i-len : goal.invariant_of-self-else-i-len
+invariant_of-self-else-i-len g c =
+    let ks = c.self.inside.index.keys in
+    let xs = c.self.inside.entries.items in
+    let inv = c.self.invariant in
+    let b = place_bound c.args.cell ks in
+    let f = c.hold-i.ensures.place in
+    let last : c.hold-i.result ≡ length ks = (let v = c.self.inside.entries.ok.0 in let n = inv.1 in omega arith) in
+    let n = length-append xs (c.of-else-i-len.result ∷ []) in
+    let m = length-append ks (c.args.cell ∷ []) in (
+      c.push_reserved.ensures.capacity ∙ inv.0 ∙ sym c.hold-i.ensures.room,
+      rw (c.push_reserved.ensures.items, c.hold-i.ensures.new last) (let i = inv.1 in omega (arith, n, m, i)),
+    )

@@ -10,8 +10,8 @@ use Rattle.worker_bank.specs.Bank.{part_at, number_of, IsFirstFault}
 use Rattle.superstep_machine.specs.Steps.{on_own}
 use Rattle.worker_bank.specs.Cells.{cell_in}
 use Rattle.worker_bank.proofs.LevelLemmas.{all_get}
-use Rattle.combining.specs.Adding.{asked_after}
-use Rattle.worker_steps.specs.Held.{by_read, cells_of}
+use Rattle.combining.specs.Adding.{by_read, asked_after}
+use Rattle.worker_steps.specs.Held.{cells_of}
 use Rattle.worker_steps.specs.Done.{IsDone}
 use Rattle.worker_steps.proofs.AskDone.{few_reads, own_cell_small, done_ask_private}
 use Rattle.worker_steps.proofs.worker.WorkerState.ask_private.Goals as goal
