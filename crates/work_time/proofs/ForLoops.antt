@@ -10,7 +10,8 @@ use Rattle.pram_meaning.proofs.ForLoops.{width_more, width_none}
 use Rattle.work_time.specs.Kept.{Going, Tells}
 use Rattle.work_time.specs.Accounts.{Accounts}
 use Rattle.work_time.proofs.Kept.{halts, then_keep}
-use Rattle.work_time.proofs.Told.{for_turns_are, told_for, told_list, told_setting}
+use Rattle.work_time.specs.Told.{told_closed, told_for, told_setting}
+use Rattle.work_time.proofs.Told.{for_turns_are}
 
 -- what is left gives what the whole gives
 pub record InFor (w : Checked) (q n line x : ℕ) (body : List Statement) (first last : ℤ) (start : State) (from : Accounts) (value end : ℤ)
@@ -32,7 +33,7 @@ no_turns w q n line x body first last m t h = ap (λ k. told_for w q n line k x 
 turn_of : (w : Checked) (q n line x : ℕ) (body : List Statement) (first last value end : ℤ) (start now : State) (from till : Accounts) →
     InFor w q n line x body first last start from value end now till →
     told_for w q n line (width first last) x first body start from ≡ then_keep (told_setting q n line now till)
-    (λ u m t. then_keep (told_list w q n body (with_uniform x value m) t)
+    (λ u m t. then_keep (told_closed w q n body (with_uniform x value m) t)
     (λ u. told_for w q n line (width (value +ℤ pos 1) last) x (value +ℤ pos 1) body))
 turn_of w q n line x body first last value end start now from till i =
     i.same ∙ ap (λ k. told_for w q n line k x value body now till) (width_more value last i.within)
@@ -45,35 +46,35 @@ pub setting_halts : (w : Checked) (q n line x : ℕ) (body : List Statement) (fi
 setting_halts w q n line x body first last value end start now new from till late h i e =
     rw (turn_of w q n line x body first last value end start now from till i)
     (halts {A = Unit {0}} {C = Unit {0}} (λ u. u) (λ u. u) h new late (told_setting q n line now till)
-    (λ u m t. then_keep (told_list w q n body (with_uniform x value m) t)
+    (λ u m t. then_keep (told_closed w q n body (with_uniform x value m) t)
     (λ u. told_for w q n line (width (value +ℤ pos 1) last) x (value +ℤ pos 1) body)) e)
 
 begun : (w : Checked) (q n line x : ℕ) (body : List Statement) (first last value end : ℤ) (start now mid set : State)
     (from till half : Accounts) → InFor w q n line x body first last start from value end now till →
     told_setting q n line now till ≡ Going tt mid half → set ≡ with_uniform x value mid →
-    told_for w q n line (width first last) x first body start from ≡ then_keep (told_list w q n body set half)
+    told_for w q n line (width first last) x first body start from ≡ then_keep (told_closed w q n body set half)
     (λ u. told_for w q n line (width (value +ℤ pos 1) last) x (value +ℤ pos 1) body)
 begun w q n line x body first last value end start now mid set from till half i c s =
     turn_of w q n line x body first last value end start now from till i
-    ∙ ap (λ b. then_keep b (λ u m t. then_keep (told_list w q n body (with_uniform x value m) t)
+    ∙ ap (λ b. then_keep b (λ u m t. then_keep (told_closed w q n body (with_uniform x value m) t)
     (λ u. told_for w q n line (width (value +ℤ pos 1) last) x (value +ℤ pos 1) body))) c
-    ∙ ap (λ m. then_keep (told_list w q n body m half) (λ u. told_for w q n line (width (value +ℤ pos 1) last) x (value +ℤ pos 1) body))
+    ∙ ap (λ m. then_keep (told_closed w q n body m half) (λ u. told_for w q n line (width (value +ℤ pos 1) last) x (value +ℤ pos 1) body))
     (sym s)
 
 pub turn_halts : (w : Checked) (q n line x : ℕ) (body : List Statement) (first last value end : ℤ) (start now mid set new : State)
     (from till half late : Accounts) (h : Halt) → InFor w q n line x body first last start from value end now till →
     told_setting q n line now till ≡ Going tt mid half → set ≡ with_uniform x value mid →
-    Tells {A = Unit {0}} (λ u. u) (Err h) new late (told_list w q n body set half) →
+    Tells {A = Unit {0}} (λ u. u) (Err h) new late (told_closed w q n body set half) →
     Tells {A = Unit {0}} (λ u. u) (Err h) new late (told_for w q n line (width first last) x first body start from)
 turn_halts w q n line x body first last value end start now mid set new from till half late h i c s e =
     rw (begun w q n line x body first last value end start now mid set from till half i c s)
-    (halts {A = Unit {0}} {C = Unit {0}} (λ u. u) (λ u. u) h new late (told_list w q n body set half)
+    (halts {A = Unit {0}} {C = Unit {0}} (λ u. u) (λ u. u) h new late (told_closed w q n body set half)
     (λ u. told_for w q n line (width (value +ℤ pos 1) last) x (value +ℤ pos 1) body) e)
 
 gone : (w : Checked) (q n line x : ℕ) (body : List Statement) (first last value end : ℤ) (start now mid set new : State)
     (from till half late : Accounts) → InFor w q n line x body first last start from value end now till →
     told_setting q n line now till ≡ Going tt mid half → set ≡ with_uniform x value mid →
-    told_list w q n body set half ≡ Going tt new late →
+    told_closed w q n body set half ≡ Going tt new late →
     told_for w q n line (width first last) x first body start from ≡
     told_for w q n line (width (value +ℤ pos 1) last) x (value +ℤ pos 1) body new late
 gone w q n line x body first last value end start now mid set new from till half late i c s e =
@@ -83,7 +84,7 @@ gone w q n line x body first last value end start now mid set new from till half
 pub turn_goes : (w : Checked) (q n line x : ℕ) (body : List Statement) (first last value end next till_end : ℤ)
     (start now mid set new : State) (from till half late : Accounts) → InFor w q n line x body first last start from value end now till →
     told_setting q n line now till ≡ Going tt mid half → set ≡ with_uniform x value mid →
-    told_list w q n body set half ≡ Going tt new late → next ≡ value +ℤ pos 1 → till_end ≡ end → ¬ (value ≡ end) →
+    told_closed w q n body set half ≡ Going tt new late → next ≡ value +ℤ pos 1 → till_end ≡ end → ¬ (value ≡ end) →
     start.count ≤ new.count → InFor w q n line x body first last start from next till_end new late
 turn_goes w q n line x body first last value end next till_end start now mid set new from till half late i c s e k u h g = record {
   same = gone w q n line x body first last value end start now mid set new from till half late i c s e
@@ -96,7 +97,7 @@ turn_goes w q n line x body first last value end next till_end start now mid set
 pub turns_end : (w : Checked) (q n line x : ℕ) (body : List Statement) (first last value end : ℤ) (start now mid set new : State)
     (from till half late : Accounts) → InFor w q n line x body first last start from value end now till →
     told_setting q n line now till ≡ Going tt mid half → set ≡ with_uniform x value mid →
-    told_list w q n body set half ≡ Going tt new late → value ≡ end →
+    told_closed w q n body set half ≡ Going tt new late → value ≡ end →
     told_for w q n line (width first last) x first body start from ≡ Going tt new late
 turns_end w q n line x body first last value end start now mid set new from till half late i c s e is =
     gone w q n line x body first last value end start now mid set new from till half late i c s e

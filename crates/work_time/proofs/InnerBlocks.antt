@@ -15,18 +15,20 @@ use Rattle.pram_values.specs.Truth.{is_nonzero}
 use Rattle.pram_meaning.specs.declared.part as part
 use Rattle.pram_meaning.specs.declared.run.Halt.{Halt}
 use Rattle.pram_meaning.specs.declared.run.Halt.TheVariants as halt
-use Rattle.pram_meaning.specs.Attempt.{attempt_step}
-use Rattle.pram_meaning.specs.Bounded.{assign_on, pardo_done, perform_list_on, perform_row_on, tested_on, then_do, turns_on}
+use Rattle.pram_meaning.specs.Bounded.{perform_list_on, perform_row_on, tested_on, then_do, turns_on}
 use Rattle.pram_meaning.specs.Conflict.{Part}
 use Rattle.pram_meaning.specs.Judging.{part_is}
 use Rattle.pram_meaning.specs.Store.{State, numbers, with_team, without_team}
 use Rattle.pram_meaning.specs.Together.{those, those_of, value_in}
 use Rattle.pram_meaning.proofs.SetBlocks.{block_is}
-use Rattle.work_time.specs.Kept.{Going, Kept, Tells, kept}
-use Rattle.work_time.specs.Steps.{behind, inner_list_steps, inner_row_steps, set_step, test_step, turns_on_steps}
-use Rattle.work_time.specs.Accounts.{Accounts}
-use Rattle.work_time.proofs.Kept.{halts, kept_map, kept_then, then_keep}
-use Rattle.work_time.proofs.Told.{block_steps_on, list_on_is, told_list_on, told_on, told_test_on, told_turns_on}
+use Rattle.exchange_bound.specs.Events.{step_row_events, steps_events, turns_on_events}
+use Rattle.exchange_bound.specs.Events as event
+use Rattle.work_time.specs.Kept.{Going, Kept, Tells, noted}
+use Rattle.work_time.specs.Steps.{behind, inner_list_steps, inner_row_steps, test_step, turns_on_steps}
+use Rattle.work_time.specs.Accounts.{Accounts, met_all}
+use Rattle.work_time.specs.Told.{inner_choice, inner_turn, told_assign_on, told_choice_on, told_list_on, told_on, told_team, told_turns_on}
+use Rattle.work_time.proofs.Kept.{halts, kept_map, noted_then, then_keep}
+use Rattle.work_time.proofs.Told.{block_events_on, block_steps_on, list_on_is}
 
 -- ---- blocks
 
@@ -72,7 +74,7 @@ block_ends w q n items vs i start now from till b h = b.same ∙ ap (λ xs. told
 
 pub assign_arm : (w : Checked) (q n line : ℕ) (s : Step) (x : StepTarget) (e : Expression) (vs : List ℕ) (m new : State) (t late : Accounts)
     (r : Result (Unit {0}) Halt) → s ≡ step.Assign line x e →
-    Tells (λ u. u) r new late (kept q t (set_step w n line (λ s. attempt_step s x e) vs m) (assign_on w n line x e vs m)) →
+    Tells (λ u. u) r new late (told_assign_on w q n line x e vs m t) →
     Tells (λ u. u) r new late (told_on w q n s vs m t)
 assign_arm w q n line s x e vs m new t late r is h = rw is h
 
@@ -83,64 +85,74 @@ pub while_arm : (w : Checked) (q n line : ℕ) (s : Step) (e : Expression) (body
 while_arm w q n line s e body vs m new t late r is h =
     let P : Kept (Unit {0}) → Type 0 = Tells (λ u. u) r new late in
     subst P (sym (ap (λ s. told_on w q n s vs m t) is
-    ∙ ap (λ f. kept q t (turns_on_steps (n + 1) (test_step w n line e) (tested_on w n line e) f
+    ∙ ap (λ f. noted q t (turns_on_steps (n + 1) (test_step w n line e) (tested_on w n line e) f
     (perform_row_on w n (hidden-the_row-Step-0 body)) vs m)
+    (turns_on_events (n + 1) (inner_turn n e) (tested_on w n line e) (perform_row_on w n (hidden-the_row-Step-0 body))
+    (step_row_events w n (hidden-the_row-Step-0 body)) vs m)
     (turns_on (n + 1) (tested_on w n line e) (perform_row_on w n (hidden-the_row-Step-0 body)) vs m)) (block_steps_on w n body)
-    ∙ ap (λ g. kept q t (turns_on_steps (n + 1) (test_step w n line e) (tested_on w n line e) (inner_list_steps w n body.items) g vs m)
+    ∙ ap (λ g. noted q t (turns_on_steps (n + 1) (test_step w n line e) (tested_on w n line e) (inner_list_steps w n body.items)
+    (perform_row_on w n (hidden-the_row-Step-0 body)) vs m)
+    (turns_on_events (n + 1) (inner_turn n e) (tested_on w n line e) (perform_row_on w n (hidden-the_row-Step-0 body)) g vs m)
+    (turns_on (n + 1) (tested_on w n line e) (perform_row_on w n (hidden-the_row-Step-0 body)) vs m)) (block_events_on w n body)
+    ∙ ap (λ g. noted q t (turns_on_steps (n + 1) (test_step w n line e) (tested_on w n line e) (inner_list_steps w n body.items) g vs m)
+    (turns_on_events (n + 1) (inner_turn n e) (tested_on w n line e) g (steps_events w n body.items) vs m)
     (turns_on (n + 1) (tested_on w n line e) g vs m)) (block_is w n body))) h
 
+-- a block, at the vector's items
+block_told : (w : Checked) (q n : ℕ) (a : Vec Step Global) →
+    (λ vs m t. noted q t (inner_row_steps w n (hidden-the_row-Step-0 a) vs m) (step_row_events w n (hidden-the_row-Step-0 a) vs m)
+    (perform_row_on w n (hidden-the_row-Step-0 a) vs m)) ≡ told_list_on w q n a.items
+block_told w q n a =
+    ap (λ f vs m t. noted q t (f vs m) (step_row_events w n (hidden-the_row-Step-0 a) vs m)
+    (perform_row_on w n (hidden-the_row-Step-0 a) vs m)) (block_steps_on w n a)
+    ∙ ap (λ f vs m t. noted q t (inner_list_steps w n a.items vs m) (f vs m) (perform_row_on w n (hidden-the_row-Step-0 a) vs m))
+    (block_events_on w n a)
+    ∙ ap (λ g vs m t. noted q t (inner_list_steps w n a.items vs m) (steps_events w n a.items vs m) (g vs m)) (block_is w n a)
+
 -- the two parts of an `if`, one behind the other
-both_parts : (w : Checked) (q n : ℕ) (a b : List Step) (us vs : List ℕ) (m : State) (t : Accounts) →
-    kept q t (inner_list_steps w n a us m ++ behind (perform_list_on w n a us m) (λ u. inner_list_steps w n b vs))
-    (then_do (perform_list_on w n a us m) (λ u. perform_list_on w n b vs))
-    ≡ then_keep (told_list_on w q n a us m t) (λ u. told_list_on w q n b vs)
+both_parts : (w : Checked) (q n : ℕ) (a b : Vec Step Global) (us vs : List ℕ) (m : State) (t : Accounts) →
+    noted q t (inner_row_steps w n (hidden-the_row-Step-0 a) us m ++ behind (perform_row_on w n (hidden-the_row-Step-0 a) us m)
+    (λ u. inner_row_steps w n (hidden-the_row-Step-0 b) vs))
+    (step_row_events w n (hidden-the_row-Step-0 a) us m ++ event.behind (perform_row_on w n (hidden-the_row-Step-0 a) us m)
+    (λ u. step_row_events w n (hidden-the_row-Step-0 b) vs))
+    (then_do (perform_row_on w n (hidden-the_row-Step-0 a) us m) (λ u. perform_row_on w n (hidden-the_row-Step-0 b) vs))
+    ≡ then_keep (told_list_on w q n a.items us m t) (λ u. told_list_on w q n b.items vs)
 both_parts w q n a b us vs m t =
-    kept_then q t (inner_list_steps w n a us m) (perform_list_on w n a us m) (λ u. inner_list_steps w n b vs)
-    (λ u. perform_list_on w n b vs)
+    noted_then q t (inner_row_steps w n (hidden-the_row-Step-0 a) us m) (step_row_events w n (hidden-the_row-Step-0 a) us m)
+    (perform_row_on w n (hidden-the_row-Step-0 a) us m) (λ u. inner_row_steps w n (hidden-the_row-Step-0 b) vs)
+    (λ u. step_row_events w n (hidden-the_row-Step-0 b) vs) (λ u. perform_row_on w n (hidden-the_row-Step-0 b) vs)
+    ∙ ap (λ f. then_keep (f us m t) (λ u m t. noted q t (inner_row_steps w n (hidden-the_row-Step-0 b) vs m)
+    (step_row_events w n (hidden-the_row-Step-0 b) vs m) (perform_row_on w n (hidden-the_row-Step-0 b) vs m))) (block_told w q n a)
+    ∙ ap (λ g. then_keep (told_list_on w q n a.items us m t) (λ u. g vs)) (block_told w q n b)
 
 if_arm : (w : Checked) (q n line : ℕ) (s : Step) (e : Expression) (a b : Vec Step Global) (vs : List ℕ) (m : State) (t : Accounts) →
-    s ≡ step.If line e a b → told_on w q n s vs m t ≡ then_keep (told_test_on w q n line e vs m t)
+    s ≡ step.If line e a b → told_on w q n s vs m t ≡ then_keep (told_choice_on w q n line e vs m t)
     (λ xs m t. then_keep (told_list_on w q n a.items (those true xs) m t) (λ u. told_list_on w q n b.items (those false xs)))
 if_arm w q n line s e a b vs m t is =
     ap (λ s. told_on w q n s vs m t) is
-    ∙ kept_then q t (test_step w n line e vs m) (tested_on w n line e vs m)
+    ∙ noted_then q t (test_step w n line e vs m) (inner_choice n e m) (tested_on w n line e vs m)
     (λ xs m. inner_row_steps w n (hidden-the_row-Step-0 a) (those true xs) m
     ++ behind (perform_row_on w n (hidden-the_row-Step-0 a) (those true xs) m)
     (λ u. inner_row_steps w n (hidden-the_row-Step-0 b) (those false xs)))
+    (λ xs m. step_row_events w n (hidden-the_row-Step-0 a) (those true xs) m
+    ++ event.behind (perform_row_on w n (hidden-the_row-Step-0 a) (those true xs) m)
+    (λ u. step_row_events w n (hidden-the_row-Step-0 b) (those false xs)))
     (λ xs m. then_do (perform_row_on w n (hidden-the_row-Step-0 a) (those true xs) m)
     (λ u. perform_row_on w n (hidden-the_row-Step-0 b) (those false xs)))
-    ∙ ap (λ f. then_keep (told_test_on w q n line e vs m t)
-    (λ xs m t. kept q t (f (those true xs) m ++ behind (perform_row_on w n (hidden-the_row-Step-0 a) (those true xs) m)
-    (λ u. inner_row_steps w n (hidden-the_row-Step-0 b) (those false xs)))
-    (then_do (perform_row_on w n (hidden-the_row-Step-0 a) (those true xs) m)
-    (λ u. perform_row_on w n (hidden-the_row-Step-0 b) (those false xs))))) (block_steps_on w n a)
-    ∙ ap (λ f. then_keep (told_test_on w q n line e vs m t)
-    (λ xs m t. kept q t (inner_list_steps w n a.items (those true xs) m
-    ++ behind (perform_row_on w n (hidden-the_row-Step-0 a) (those true xs) m) (λ u. f (those false xs)))
-    (then_do (perform_row_on w n (hidden-the_row-Step-0 a) (those true xs) m)
-    (λ u. perform_row_on w n (hidden-the_row-Step-0 b) (those false xs))))) (block_steps_on w n b)
-    ∙ ap (λ g. then_keep (told_test_on w q n line e vs m t)
-    (λ xs m t. kept q t (inner_list_steps w n a.items (those true xs) m
-    ++ behind (g (those true xs) m) (λ u. inner_list_steps w n b.items (those false xs)))
-    (then_do (g (those true xs) m) (λ u. perform_row_on w n (hidden-the_row-Step-0 b) (those false xs))))) (block_is w n a)
-    ∙ ap (λ g. then_keep (told_test_on w q n line e vs m t)
-    (λ xs m t. kept q t (inner_list_steps w n a.items (those true xs) m
-    ++ behind (perform_list_on w n a.items (those true xs) m) (λ u. inner_list_steps w n b.items (those false xs)))
-    (then_do (perform_list_on w n a.items (those true xs) m) (λ u. g (those false xs))))) (block_is w n b)
-    ∙ ap (then_keep (told_test_on w q n line e vs m t))
-    (λ j xs m t. both_parts w q n a.items b.items (those true xs) (those false xs) m t j)
+    ∙ ap (then_keep (told_choice_on w q n line e vs m t))
+    (λ j xs m t. both_parts w q n a b (those true xs) (those false xs) m t j)
 
 pub if_halts : (w : Checked) (q n line : ℕ) (s : Step) (e : Expression) (a b : Vec Step Global) (vs : List ℕ) (m new : State)
     (t late : Accounts) (h : Halt) → s ≡ step.If line e a b → Tells {A = Vec part.Part.Part Global} (λ xs. map part_is xs.items) (Err h) new late
-    (told_test_on w q n line e vs m t) → Tells {A = Unit {0}} (λ u. u) (Err h) new late (told_on w q n s vs m t)
+    (told_choice_on w q n line e vs m t) → Tells {A = Unit {0}} (λ u. u) (Err h) new late (told_on w q n s vs m t)
 if_halts w q n line s e a b vs m new t late h is f =
     rw (if_arm w q n line s e a b vs m t is)
     (halts {A = Vec part.Part.Part Global} {C = Unit {0}} (λ xs. map part_is xs.items) (λ u. u) h new late
-    (told_test_on w q n line e vs m t)
+    (told_choice_on w q n line e vs m t)
     (λ xs m t. then_keep (told_list_on w q n a.items (those true xs) m t) (λ u. told_list_on w q n b.items (those false xs))) f)
 
 if_tested : (w : Checked) (q n line : ℕ) (s : Step) (e : Expression) (a b : Vec Step Global) (vs us : List ℕ) (m mid : State)
-    (t half : Accounts) (xs : List Part) → s ≡ step.If line e a b → told_test_on w q n line e vs m t ≡ Going xs mid half →
+    (t half : Accounts) (xs : List Part) → s ≡ step.If line e a b → told_choice_on w q n line e vs m t ≡ Going xs mid half →
     us ≡ those true xs → told_on w q n s vs m t ≡ then_keep (told_list_on w q n a.items us mid half)
     (λ u. told_list_on w q n b.items (those false xs))
 if_tested w q n line s e a b vs us m mid t half xs is f u =
@@ -150,7 +162,7 @@ if_tested w q n line s e a b vs us m mid t half xs is f u =
     ∙ ap (λ us. then_keep (told_list_on w q n a.items us mid half) (λ u. told_list_on w q n b.items (those false xs))) (sym u)
 
 pub if_then_halts : (w : Checked) (q n line : ℕ) (s : Step) (e : Expression) (a b : Vec Step Global) (vs us : List ℕ) (m mid new : State)
-    (t half late : Accounts) (xs : List Part) (h : Halt) → s ≡ step.If line e a b → told_test_on w q n line e vs m t ≡ Going xs mid half →
+    (t half late : Accounts) (xs : List Part) (h : Halt) → s ≡ step.If line e a b → told_choice_on w q n line e vs m t ≡ Going xs mid half →
     us ≡ those true xs → Tells {A = Unit {0}} (λ u. u) (Err h) new late (told_list_on w q n a.items us mid half) →
     Tells {A = Unit {0}} (λ u. u) (Err h) new late (told_on w q n s vs m t)
 if_then_halts w q n line s e a b vs us m mid new t half late xs h is f u r =
@@ -160,7 +172,7 @@ if_then_halts w q n line s e a b vs us m mid new t half late xs h is f u r =
 
 pub if_goes : (w : Checked) (q n line : ℕ) (s : Step) (e : Expression) (a b : Vec Step Global) (vs us ws : List ℕ)
     (m mid later new : State) (t half most late : Accounts) (xs : List Part) (r : Result (Unit {0}) Halt) → s ≡ step.If line e a b →
-    told_test_on w q n line e vs m t ≡ Going xs mid half → us ≡ those true xs → ws ≡ those false xs →
+    told_choice_on w q n line e vs m t ≡ Going xs mid half → us ≡ those true xs → ws ≡ those false xs →
     told_list_on w q n a.items us mid half ≡ Going tt later most →
     Tells (λ u. u) r new late (told_list_on w q n b.items ws later most) → Tells (λ u. u) r new late (told_on w q n s vs m t)
 if_goes w q n line s e a b vs us ws m mid later new t half most late xs r is f u v g h =
@@ -205,17 +217,17 @@ as_many_numbers a zero = refl
 as_many_numbers a (suc k) = ap suc (as_many_numbers (a + 1) k)
 
 team_is : (w : Checked) (q n locals : ℕ) (body : List Step) (low : ℤ) (k : ℕ) (m : State) (t : Accounts) →
-    kept q t (inner_list_steps w n body (numbers 0 k) (with_team low k locals m)) (pardo_done w n locals body low k m)
+    told_team w q n locals body low k m t
     ≡ then_keep (told_list_on w q n body (numbers 0 k) (with_team low k locals m) t) (λ u m t. Going tt (without_team m) t)
 team_is w q n locals body low k m t =
-    kept_map q t (inner_list_steps w n body (numbers 0 k) (with_team low k locals m))
+    kept_map q (met_all (steps_events w n body (numbers 0 k) (with_team low k locals m)) t)
+    (inner_list_steps w n body (numbers 0 k) (with_team low k locals m))
     (perform_list_on w n body (numbers 0 k) (with_team low k locals m)) (λ u m. tt) (λ u m. without_team m)
 
 pub team_done : (w : Checked) (q n locals : ℕ) (body : List Step) (low : ℤ) (k : ℕ) (vs : List ℕ) (m set new : State) (t late : Accounts)
     (r : Result (Unit {0}) Halt) → set ≡ with_team low k locals m → vs ≡ numbers 0 k →
     Tells (λ u. u) r new late (told_list_on w q n body vs set t) →
-    Tells (λ u. u) r (without_team new) late
-    (kept q t (inner_list_steps w n body (numbers 0 k) (with_team low k locals m)) (pardo_done w n locals body low k m))
+    Tells (λ u. u) r (without_team new) late (told_team w q n locals body low k m t)
 team_done w q n locals body low k vs m set new t late r s v h =
     rw (team_is w q n locals body low k m t) (left r
     (let P : State → Type 0 = λ m. Tells (λ u. u) r new late (told_list_on w q n body (numbers 0 k) m t) in

@@ -4,6 +4,9 @@ pub mod ByOne
 pub mod PartSums
 pub mod BySet
 pub mod Told
+pub mod Closings
+pub mod Spendings
+pub mod Chains
 pub mod InnerBlocks
 pub mod InnerLoops
 pub mod Blocks

@@ -9,11 +9,13 @@ use Rattle.pram_check.specs.Checked.{Checked}
 use Rattle.pram_names.specs.declared.body.Expression.{Expression}
 use Rattle.pram_names.specs.declared.body.Statement.{Statement}
 use Rattle.pram_meaning.specs.Store.{State}
-use Rattle.work_time.specs.Kept.{AtBound, Going, Kept, Tells}
-use Rattle.work_time.specs.Steps.{acting}
+use Rattle.work_time.specs.Kept.{AtBound, Going, Kept, Tells, kept}
+use Rattle.work_time.specs.Steps.{acting, begun}
+use Rattle.pram_meaning.specs.Bounded.{counted}
 use Rattle.work_time.specs.Accounts.{Accounts, entered}
 use Rattle.work_time.proofs.Kept.{halts, then_keep}
-use Rattle.work_time.proofs.Told.{list_is, told, told_list, told_setting, told_test, told_turns, turn_told, turns_are}
+use Rattle.work_time.specs.Told.{told, told_list, told_test, told_turns}
+use Rattle.work_time.proofs.Told.{list_is, turn_told, turns_are}
 
 -- ---- a block: what is left of it gives what the whole gives
 
@@ -148,11 +150,11 @@ turn_goes w q n line e body start now m new from till half late v i t z b more =
 
 -- ---- the setting of a `for`
 
-pub setting_waits : (q n line : ℕ) (m : State) (t : Accounts) → n ≤ m.count → told_setting q n line m t ≡ AtBound m.output t
+pub setting_waits : (q n line : ℕ) (m : State) (t : Accounts) → n ≤ m.count → kept q t (begun n m (acting line 1)) (counted n m) ≡ AtBound m.output t
 setting_waits q n line m t h = rw (le-ltb m.count n h) refl
 
 pub setting_goes : (q n line : ℕ) (m new : State) (t late : Accounts) → m.count < n → t.all.time ≡ m.count →
-    late ≡ entered q (acting line 1) t → new ≡ record m { count = late.all.time } → told_setting q n line m t ≡ Going tt new late
+    late ≡ entered q (acting line 1) t → new ≡ record m { count = late.all.time } → kept q t (begun n m (acting line 1)) (counted n m) ≡ Going tt new late
 setting_goes q n line m new t late h c l s =
     rw (lt-ltb m.count n h)
     (ap (Going tt (record m { count = m.count + 1 })) (sym l)

@@ -9,9 +9,11 @@ use Rattle.work_time.specs.declared.ledger.Ledger.{Ledger}
 use Rattle.work_time.specs.declared.line_cost.LineCost.{LineCost}
 use Rattle.work_time.specs.declared.tally.Tally.{Tally}
 use Rattle.work_time.specs.declared.time_step.TimeStep.{TimeStep}
-use Rattle.work_time.specs.Accounts.{Accounts, entered, entered_all, opened}
+use Rattle.exchange_bound.specs.Events.{Event}
+use Rattle.work_time.specs.Accounts.{Accounts, entered, entered_all, met_all, opened}
+use Rattle.work_time.specs.Spending.{spend_all, unspent}
 use Rattle.work_time.specs.Cost.{has_run, last_line, line_cost, line_costs, on_line}
-use Rattle.work_time.specs.Ledgers.{ledger_is, row_at, tally_is}
+use Rattle.work_time.specs.Ledgers.{ledger_is, row_at, spending_is, tally_is}
 use Rattle.work_time.specs.RowCosts.{cost_of_row, costs_of_rows, row_has_run}
 use Rattle.work_time.specs.Totals.{Totals, added, added_all, nothing}
 use Rattle.work_time.proofs.Rows.{row_read}
@@ -96,12 +98,22 @@ lines_are : (q : ℕ) (ss : List TimeStep) (a : Accounts) (l : ℕ) → (entered
 lines_are q [] a l = refl
 lines_are q (s ∷ ss) a l = lines_are q ss (entered q s a) l ∙ picked q s (on_line ss l) (a.lines l) (nat_eq s.line l)
 
-pub all_told : (q : ℕ) (ss : List TimeStep) (k : Ledger) → ledger_is k ≡ entered_all q ss opened → tally_is k.all ≡ added_all q ss nothing
-all_told q ss k is = ap (λ (a : Accounts). a.all) is ∙ all_are q ss opened
+pub all_told : (q : ℕ) (ss : List TimeStep) (es : List Event) (k : Ledger) → ledger_is k ≡ entered_all q ss (met_all es opened) →
+    tally_is k.all ≡ added_all q ss nothing
+all_told q ss es k is = ap (λ (a : Accounts). a.all) is ∙ all_are q ss (met_all es opened)
 
-pub rows_told : (q : ℕ) (ss : List TimeStep) (k : Ledger) → ledger_is k ≡ entered_all q ss opened → (l : ℕ) →
-    row_at k.lines.items l ≡ added_all q (on_line ss l) nothing
-rows_told q ss k is l = ap (λ (a : Accounts). a.lines l) is ∙ lines_are q ss opened l
+pub rows_told : (q : ℕ) (ss : List TimeStep) (es : List Event) (k : Ledger) → ledger_is k ≡ entered_all q ss (met_all es opened) →
+    (l : ℕ) → row_at k.lines.items l ≡ added_all q (on_line ss l) nothing
+rows_told q ss es k is l = ap (λ (a : Accounts). a.lines l) is ∙ lines_are q ss (met_all es opened) l
+
+-- time steps spend nothing
+exchanges_are : (q : ℕ) (ss : List TimeStep) (a : Accounts) → (entered_all q ss a).exchanges ≡ a.exchanges
+exchanges_are q [] a = refl
+exchanges_are q (s ∷ ss) a = exchanges_are q ss (entered q s a)
+
+pub exchanges_told : (q : ℕ) (ss : List TimeStep) (es : List Event) (k : Ledger) → ledger_is k ≡ entered_all q ss (met_all es opened) →
+    spending_is k.exchanges ≡ spend_all es unspent
+exchanges_told q ss es k is = ap (λ (a : Accounts). a.exchanges) is ∙ exchanges_are q ss (met_all es opened)
 
 -- no time step stands behind the last line
 none_behind : (ss : List TimeStep) (l : ℕ) → last_line ss + 1 ≤ l → on_line ss l ≡ []

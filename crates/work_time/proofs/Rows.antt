@@ -1,12 +1,13 @@
 -- Rows of lines: how they grow, and what is entered in them.
-use Rattle.std.proofs.Common.{◌≡◌, ℕ, zero, suc, ◌+◌, ◌<◌, ◌≤◌, List, [], ◌∷◌, ◌++◌, map, length, get_or, set, take, replicate, refl, ap, sym, ◌∙◌, if◌then◌else◌, Bool, true, false, nat_eq, arith}
+use Rattle.std.proofs.Common.{◌≡◌, ℕ, zero, suc, ◌<◌, ◌≤◌, List, [], ◌∷◌, ◌++◌, length, get_or, set, take, replicate, refl, ap, sym, ◌∙◌, if◌then◌else◌, Bool, true, false, nat_eq, arith}
 use Rattle.std.proofs.lemmas.Bool.{eqb-true, eqb-false}
 use Rattle.std.proofs.lemmas.List.{take_all}
 use Rattle.work_time.specs.declared.ledger.Ledger.{Ledger}
 use Rattle.work_time.specs.declared.tally.Tally.{Tally}
 use Rattle.work_time.specs.declared.time_step.TimeStep.{TimeStep}
 use Rattle.work_time.specs.Accounts.{Accounts, entered, entered_at}
-use Rattle.work_time.specs.Ledgers.{ledger_is, row_at, tally_is}
+use Rattle.work_time.specs.Ledgers.{ledger_is, row_at, spending_is, tally_is}
+use Rattle.work_time.specs.Spending.{Spending}
 use Rattle.work_time.specs.Totals.{Totals, added, nothing}
 
 -- rows that count nothing change nothing behind the last
@@ -57,15 +58,15 @@ row_read [] i x h e = absurd (omega (arith, h))
 row_read (r ∷ rows) zero x h e = ap tally_is e
 row_read (r ∷ rows) (suc i) x h e = row_read rows i x (omega (arith, h)) e
 
-abbrev pub accounts : Totals → (ℕ → Totals) → Accounts
-accounts all lines = record { all = all; lines = lines }
+abbrev pub accounts : Totals → (ℕ → Totals) → Spending → Accounts
+accounts all lines spending = record { all = all; lines = lines; exchanges = spending }
 
 pub ledger_entered : (q : ℕ) (s : TimeStep) (old mid : Ledger) (all read row : Tally) (new : List Tally) → ledger_is mid ≡ ledger_is old →
     s.line < length mid.lines.items → read ≡ get_or mid.lines.items s.line read → tally_is row ≡ added q s (tally_is read) →
     tally_is all ≡ added q s (tally_is mid.all) → new ≡ set mid.lines.items s.line row →
-    accounts (tally_is all) (row_at new) ≡ entered q s (ledger_is old)
+    accounts (tally_is all) (row_at new) (spending_is mid.exchanges) ≡ entered q s (ledger_is old)
 ledger_entered q s old mid all read row new same h r e a is =
-    ap (λ t. accounts t (row_at new)) a
-    ∙ ap (accounts (added q s (tally_is mid.all))) (row_entered q s mid.lines.items new row h
+    ap (λ t. accounts t (row_at new) (spending_is mid.exchanges)) a
+    ∙ ap (λ l. accounts (added q s (tally_is mid.all)) l (spending_is mid.exchanges)) (row_entered q s mid.lines.items new row h
     (e ∙ ap (added q s) (row_read mid.lines.items s.line read h r)) is)
     ∙ ap (entered q s) same

@@ -1,5 +1,6 @@
 -- What the counting interpreter keeps of a run, and what its functions answer.
 use Rattle.std.specs.Prelude.{◌≡◌, ℕ, Result, Ok, Err, List, map, ℤ, ⊤}
+use Rattle.exchange_bound.specs.Events.{Event}
 use Rattle.write_rules.specs.declared.fault.Fault.{Fault}
 use Rattle.pram_values.specs.declared.place.Place.TheVariants.{All}
 use Rattle.pram_meaning.specs.declared.attempt.Failure.{Failure}
@@ -13,7 +14,7 @@ use Rattle.pram_meaning.specs.Bounded.{Behaviour, Goes, Stops, Reaches}
 use Rattle.work_time.specs.declared.counter.Counter.{Counter}
 use Rattle.work_time.specs.declared.time_step.TimeStep.{TimeStep}
 use Rattle.work_time.specs.Ledgers.{ledger_is}
-use Rattle.work_time.specs.Accounts.{Accounts, entered_all}
+use Rattle.work_time.specs.Accounts.{Accounts, entered_all, met_all}
 
 -- a behaviour, and what was counted up to it
 pub data Kept (A : Type 0) : Type 0 where
@@ -29,6 +30,10 @@ keep t (Reaches out) = AtBound out t
 -- a behaviour whose time steps are counted
 abbrev pub kept : {A : Type 0} → ℕ → Accounts → List TimeStep → Behaviour A → Kept A
 kept q t ss b = keep (entered_all q ss t) b
+
+-- one whose events are counted too
+abbrev pub noted : {A : Type 0} → ℕ → Accounts → List TimeStep → List Event → Behaviour A → Kept A
+noted q t ss es b = kept q (met_all es t) ss b
 
 abbrev pub counts_of : Counter → Accounts
 counts_of c = ledger_is c.ledger

@@ -1,8 +1,10 @@
 -- What the counting interpreter has counted, as accounts.
 use Rattle.std.specs.Prelude.{ℕ, List, get_or, map}
+use Rattle.work_time.specs.declared.exchanges.Exchanges.{Exchanges}
 use Rattle.work_time.specs.declared.ledger.Ledger.{Ledger}
 use Rattle.work_time.specs.declared.tally.Tally.{Tally}
 use Rattle.work_time.specs.Accounts.{Accounts}
+use Rattle.work_time.specs.Spending.{Spending}
 use Rattle.work_time.specs.Totals.{Totals, nothing}
 
 abbrev pub tally_is : Tally → Totals
@@ -12,5 +14,8 @@ tally_is t = record { time = t.time; work = t.work; width = t.width; reads = t.r
 abbrev pub row_at : List Tally → ℕ → Totals
 row_at rows l = get_or (map tally_is rows) l nothing
 
+abbrev pub spending_is : Exchanges → Spending
+spending_is x = record { count = x.count; held = x.held }
+
 abbrev pub ledger_is : Ledger → Accounts
-ledger_is k = record { all = tally_is k.all; lines = row_at k.lines.items }
+ledger_is k = record { all = tally_is k.all; lines = row_at k.lines.items; exchanges = spending_is k.exchanges }

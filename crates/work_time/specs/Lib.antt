@@ -1,8 +1,10 @@
 pub mod Steps
 pub mod Cost
 pub mod Totals
+pub mod Spending
 pub mod Accounts
 pub mod Ledgers
 pub mod Kept
+pub mod Told
 pub mod Counted
 pub mod RowCosts

@@ -4,6 +4,7 @@ ghost use Rattle.std.specs.Prelude.{◌≡◌, ◌↔◌, ◌<◌, ◌≤◌, �
 ghost use Rattle.pram_model.specs.Layout.{total_size};
 ghost use Rattle.write_rules.specs.Verdict.{verdict_of};
 ghost use Rattle.pram_meaning.specs.Outcome.{IsOutcome};
+ghost use Rattle.exchange_bound.specs.Bound.{exchange_bound};
 ghost use Rattle.work_time.specs.Cost as spec;
 ghost use Rattle.work_time.specs.Steps.{run_steps};
 
@@ -16,9 +17,9 @@ use std::alloc::Global;
 use write_rules::Outcome;
 
 /// What a run costs: its statements (time), one for each processor of each of them (work), the most
-/// processors at once, and its shared reads and writes; and, for a number of processors, the rounds
-/// in which they do that work, beside what Brent's principle allows; and of each line that ran what it
-/// costs, in ascending order.
+/// processors at once, and its shared reads and writes; its exchange bound; and, for a number of
+/// processors, the rounds in which they do that work, beside what Brent's principle allows; and of
+/// each line that ran what it costs, in ascending order.
 #[derive(Drop)]
 pub struct Cost {
     pub time: u32,
@@ -26,6 +27,7 @@ pub struct Cost {
     pub width: u32,
     pub reads: u128,
     pub writes: u64,
+    pub most_exchanges: u128,
     pub rounds: u64,
     pub most_rounds: u64,
     pub lines: Vec<LineCost>,
@@ -33,7 +35,8 @@ pub struct Cost {
 
 /// Runs a program on an input, for at most `bound` statements, as [`pram_meaning::reference_run`]
 /// does, and says beside the outcome what the run costs; rounds are those on `schedule` processors.
-/// A statement that faults counts in time and work, and none of its accesses does. E11 where there
+/// A statement that faults counts in time and work, and none of its accesses does; a run that
+/// faults has the bound of what it came to. E11 where there
 /// are more values than cells; E16 only where memory was refused.
 ///
 /// JáJá, An Introduction to Parallel Algorithms, chapter 1: work and time, and Brent's scheduling
@@ -54,6 +57,7 @@ pub fn cost_of(
     ensures width { IfOk result (λ r. r.1.width ≡ spec.most_processors (run_steps program.now input.now bound)) }
     ensures reads { IfOk result (λ r. r.1.reads ≡ spec.reads (run_steps program.now input.now bound)) }
     ensures writes { IfOk result (λ r. r.1.writes ≡ spec.writes (run_steps program.now input.now bound)) }
+    ensures most_exchanges { IfOk result (λ r. r.1.most_exchanges ≡ exchange_bound program.now input.now bound) }
     ensures rounds { IfOk result (λ r. r.1.rounds ≡ spec.rounds schedule (run_steps program.now input.now bound)) }
     ensures most_rounds { IfOk result (λ r. r.1.most_rounds ≡ r.1.work / schedule + r.1.time) }
     // Each line that ran, once, ascending.
@@ -65,6 +69,9 @@ pub fn cost_of(
     let Ok(lines) = costs_by_line(alloc, &ledger.lines) else {
         return Err(RunRefusal::OutOfMemory);
     };
+    let Ok(most_exchanges) = ledger.exchanges.close() else {
+        return Err(RunRefusal::OutOfMemory);
+    };
     let tally = ledger.all;
     let most_rounds = tally.work / u64::from(schedule) + u64::from(tally.time);
     let cost = Cost {
@@ -73,6 +80,7 @@ pub fn cost_of(
         width: tally.width,
         reads: tally.reads,
         writes: tally.writes,
+        most_exchanges,
         rounds: tally.rounds,
         most_rounds,
         lines,

@@ -4,6 +4,7 @@ ghost use Rattle.std.specs.Prelude.{◌≡◌, ◌<◌, ◌≤◌, ◌^◌, ◌-
 ghost use Rattle.work_time.specs.Accounts.{entered, opened};
 ghost use Rattle.work_time.specs.Ledgers.{ledger_is};
 
+use crate::exchanges::Exchanges;
 use crate::ledger::Ledger;
 use crate::tally::Tally;
 use crate::time_step::TimeStep;
@@ -17,6 +18,7 @@ impl Ledger {
         Ledger {
             all: Tally::new(),
             lines: Vec::new(alloc),
+            exchanges: Exchanges::new(),
         }
     }
 

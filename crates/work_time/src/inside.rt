@@ -1,20 +1,85 @@
 //! Statements inside pardo.
 
-ghost use Rattle.std.specs.Prelude.{◌≡◌, ◌≤◌, ◌<◌, ◌+◌, ◌-◌, ◌^◌, ◌+ℤ◌, pos, FitsSigned, OnOk, length};
+ghost use Rattle.std.specs.Prelude.{◌≡◌, ◌≤◌, ◌<◌, ◌+◌, ◌-◌, ◌^◌, ◌+ℤ◌, pos, FitsSigned, IfOk, OnOk, length, map};
 ghost use Rattle.std.specs.Int.{w64};
-ghost use Rattle.pram_meaning.specs.Bounded.{pardo_done, perform_list_on, perform_on, tested_on, turns_on};
-ghost use Rattle.pram_meaning.specs.Store.{numbers, with_team};
-ghost use Rattle.work_time.specs.Kept.{Tells, kept, state_in, state_of, counts_of};
-ghost use Rattle.work_time.specs.Steps.{inner_list_steps, inner_steps, test_step, turns_on_steps};
+ghost use Rattle.pram_meaning.specs.Judging.{part_is};
+ghost use Rattle.work_time.specs.Kept.{Tells, state_in, state_of, counts_of};
+ghost use Rattle.work_time.specs.Told.{told_assign_on, told_choice_on, told_list_on, told_on, told_team, told_test_on, told_turns_on};
 
 use crate::counter::Counter;
 use crate::meter::Meter;
 use crate::set::choose;
-use pram_check::{Expression, Step};
+use pram_check::{Expression, Step, StepTarget};
+use pram_meaning::part::Part;
 use pram_meaning::run::Halt;
 use pram_meaning::team::{Member, gather, numbers_below};
 
 impl<'a> Meter<'a> {
+    fn run_assignment_on(
+        &self,
+        counter: &mut Counter,
+        team: &mut Vec<Member>,
+        active: &Vec<u32>,
+        line: u32,
+        target: &StepTarget,
+        value: &Expression,
+    ) -> Result<(), Halt>
+        requires few { length active.now.items < 2 ^ 32 }
+        ensures value { Tells (λ u. u) result (state_in counter.new team.new.items) (counts_of counter.new)
+            (told_assign_on self.now.interpreter.program.now self.now.schedule self.now.interpreter.bound line target.now value.now
+            active.now.items (state_in counter.old team.old.items) (counts_of counter.old)) }
+        ensures grows { OnOk result (counter.old.ledger.all.time ≤ counter.new.ledger.all.time) }
+    {
+        if self.begin_step(&mut counter.ledger, target, value).is_err() {
+            return Err(Halt::OutOfMemory);
+        }
+        self.assign_on(counter, team, active, line, target, value)
+    }
+
+    // The test of an `if`.
+    fn run_choice_on(
+        &self,
+        counter: &mut Counter,
+        team: &Vec<Member>,
+        active: &Vec<u32>,
+        line: u32,
+        test: &Expression,
+    ) -> Result<Vec<Part>, Halt>
+        requires few { length active.now.items < 2 ^ 32 }
+        ensures value { Tells (λ xs. map part_is xs.items) result (state_in counter.new team.now.items) (counts_of counter.new)
+            (told_choice_on self.now.interpreter.program.now self.now.schedule self.now.interpreter.bound line test.now active.now.items
+            (state_in counter.old team.now.items) (counts_of counter.old)) }
+        ensures more { OnOk result (counter.new.ledger.all.time ≡ counter.old.ledger.all.time + 1) }
+        ensures few { IfOk result (λ xs. length xs.items < 2 ^ 32) }
+    {
+        if self.begin_value(&mut counter.ledger, test).is_err() {
+            return Err(Halt::OutOfMemory);
+        }
+        self.test_on(counter, team, active, line, test)
+    }
+
+    // The test of a `while`.
+    fn run_test_on(
+        &self,
+        counter: &mut Counter,
+        team: &Vec<Member>,
+        active: &Vec<u32>,
+        line: u32,
+        test: &Expression,
+    ) -> Result<Vec<Part>, Halt>
+        requires few { length active.now.items < 2 ^ 32 }
+        ensures value { Tells (λ xs. map part_is xs.items) result (state_in counter.new team.now.items) (counts_of counter.new)
+            (told_test_on self.now.interpreter.program.now self.now.schedule self.now.interpreter.bound line test.now active.now.items
+            (state_in counter.old team.now.items) (counts_of counter.old)) }
+        ensures more { OnOk result (counter.new.ledger.all.time ≡ counter.old.ledger.all.time + 1) }
+        ensures few { IfOk result (λ xs. length xs.items < 2 ^ 32) }
+    {
+        if self.begin_vote(&mut counter.ledger, test).is_err() {
+            return Err(Halt::OutOfMemory);
+        }
+        self.test_on(counter, team, active, line, test)
+    }
+
     /// A statement of a set, with all that it holds.
     #[cycle(inside)]
     #[tactic(auto, using(crate::proofs::InnerBlocks::assign_arm, crate::proofs::InnerBlocks::while_arm, crate::proofs::InnerBlocks::if_halts, crate::proofs::InnerBlocks::if_then_halts, crate::proofs::InnerBlocks::if_goes))]
@@ -27,11 +92,8 @@ impl<'a> Meter<'a> {
     ) -> Result<(), Halt>
         requires few { length active.now.items < 2 ^ 32 }
         ensures value { Tells (λ u. u) result (state_in counter.new team.new.items) (counts_of counter.new)
-            (kept self.now.schedule (counts_of counter.old)
-            (inner_steps self.now.interpreter.program.now self.now.interpreter.bound s.now active.now.items
-            (state_in counter.old team.old.items))
-            (perform_on self.now.interpreter.program.now self.now.interpreter.bound s.now active.now.items
-            (state_in counter.old team.old.items))) }
+            (told_on self.now.interpreter.program.now self.now.schedule self.now.interpreter.bound s.now active.now.items
+            (state_in counter.old team.old.items) (counts_of counter.old)) }
         ensures grows { OnOk result (counter.old.ledger.all.time ≤ counter.new.ledger.all.time) }
     {
         match s {
@@ -39,7 +101,7 @@ impl<'a> Meter<'a> {
                 line,
                 target,
                 value,
-            } => self.assign_on(counter, team, active, *line, target, value),
+            } => self.run_assignment_on(counter, team, active, *line, target, value),
             Step::While { line, test, body } => {
                 self.run_while_on(counter, team, active, body, *line, test)
             }
@@ -49,7 +111,7 @@ impl<'a> Meter<'a> {
                 then_part,
                 else_part,
             } => {
-                let all = self.test_on(counter, team, active, *line, test)?;
+                let all = self.run_choice_on(counter, team, active, *line, test)?;
                 let Ok(chosen) = choose(self.interpreter.alloc, true, &all) else {
                     return Err(Halt::OutOfMemory);
                 };
@@ -75,24 +137,15 @@ impl<'a> Meter<'a> {
     ) -> Result<(), Halt>
         requires few { length active.now.items < 2 ^ 32 }
         ensures value { Tells (λ u. u) result (state_in counter.new team.new.items) (counts_of counter.new)
-            (kept self.now.schedule (counts_of counter.old)
-            (turns_on_steps (self.now.interpreter.bound + 1)
-            (test_step self.now.interpreter.program.now self.now.interpreter.bound line test.now)
-            (tested_on self.now.interpreter.program.now self.now.interpreter.bound line test.now)
-            (inner_list_steps self.now.interpreter.program.now self.now.interpreter.bound body.now.items)
-            (perform_list_on self.now.interpreter.program.now self.now.interpreter.bound body.now.items) active.now.items
-            (state_in counter.old team.old.items))
-            (turns_on (self.now.interpreter.bound + 1)
-            (tested_on self.now.interpreter.program.now self.now.interpreter.bound line test.now)
-            (perform_list_on self.now.interpreter.program.now self.now.interpreter.bound body.now.items) active.now.items
-            (state_in counter.old team.old.items))) }
+            (told_turns_on self.now.interpreter.program.now self.now.schedule self.now.interpreter.bound line test.now body.now.items
+            (self.now.interpreter.bound + 1) active.now.items (state_in counter.old team.old.items) (counts_of counter.old)) }
         ensures grows { OnOk result (counter.old.ledger.all.time ≤ counter.new.ledger.all.time) }
     {
         let Ok(mut current) = Vec::from_slice(self.interpreter.alloc, active) else {
             return Err(Halt::OutOfMemory);
         };
         'turns: loop {
-            let all = self.test_on(counter, team, &current, line, test)?;
+            let all = self.run_test_on(counter, team, &current, line, test)?;
             let Ok(chosen) = choose(self.interpreter.alloc, true, &all) else {
                 return Err(Halt::OutOfMemory);
             };
@@ -116,11 +169,8 @@ impl<'a> Meter<'a> {
     ) -> Result<(), Halt>
         requires few { length active.now.items < 2 ^ 32 }
         ensures value { Tells (λ u. u) result (state_in counter.new team.new.items) (counts_of counter.new)
-            (kept self.now.schedule (counts_of counter.old)
-            (inner_list_steps self.now.interpreter.program.now self.now.interpreter.bound body.now.items active.now.items
-            (state_in counter.old team.old.items))
-            (perform_list_on self.now.interpreter.program.now self.now.interpreter.bound body.now.items active.now.items
-            (state_in counter.old team.old.items))) }
+            (told_list_on self.now.interpreter.program.now self.now.schedule self.now.interpreter.bound body.now.items active.now.items
+            (state_in counter.old team.old.items) (counts_of counter.old)) }
         ensures grows { OnOk result (counter.old.ledger.all.time ≤ counter.new.ledger.all.time) }
     {
         for s in body {
@@ -140,11 +190,9 @@ impl<'a> Meter<'a> {
         body: &Vec<Step>,
     ) -> Result<(), Halt>
         requires { FitsSigned w64 (low +ℤ pos (count - 1)) }
-        ensures value { Tells (λ u. u) result (state_of counter.new) (counts_of counter.new) (kept self.now.schedule (counts_of counter.old)
-            (inner_list_steps self.now.interpreter.program.now self.now.interpreter.bound body.now.items (numbers 0 count)
-            (with_team low count locals (state_of counter.old)))
-            (pardo_done self.now.interpreter.program.now self.now.interpreter.bound locals body.now.items low count
-            (state_of counter.old))) }
+        ensures value { Tells (λ u. u) result (state_of counter.new) (counts_of counter.new)
+            (told_team self.now.interpreter.program.now self.now.schedule self.now.interpreter.bound locals body.now.items low count
+            (state_of counter.old) (counts_of counter.old)) }
         ensures grows { OnOk result (counter.old.ledger.all.time ≤ counter.new.ledger.all.time) }
     {
         let Ok(mut team) = gather(self.interpreter.alloc, low, count, locals) else {

@@ -1,21 +1,27 @@
-//! What a run costs: its time and work, the most processors at once, and its shared accesses.
+//! What a run costs: its time and work, the most processors at once, its shared accesses, and the most exchanges
+//! that it takes.
 #![tactic(auto)]
 
 mod alone;
+mod beginning;
 mod cost;
 mod counter;
 mod counting;
 mod entering;
+mod exchanges;
 mod inside;
 pub mod law;
 mod ledger;
+mod levels;
 mod line_cost;
 mod meter;
 mod outside;
 mod row_costs;
 mod set;
+mod spending;
 mod tally;
 mod time_step;
+mod too_many;
 mod whole;
 
 pub use cost::{Cost, cost_of};

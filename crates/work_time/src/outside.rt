@@ -1,14 +1,16 @@
 //! Statements outside pardo.
 
-ghost use Rattle.std.specs.Prelude.{◌≡◌, ◌≤◌, ◌+◌, OnOk};
+ghost use Rattle.std.specs.Prelude.{◌≡◌, ◌≤◌, ◌+◌, ◌-◌, ◌+ℤ◌, pos, FitsSigned, IfOk, OnOk};
+ghost use Rattle.std.specs.Int.{w64};
 ghost use Rattle.pram_model.specs.Layout.{width};
-ghost use Rattle.pram_meaning.specs.Bounded.{counted, for_all, for_turns, pardo, perform, perform_list, tested, turns};
+ghost use Rattle.pram_meaning.specs.Bounded.{counted, tested};
 ghost use Rattle.pram_meaning.specs.Bounded as meaning;
 ghost use Rattle.pram_meaning.specs.Attempt.{attempt_assign};
 ghost use Rattle.pram_meaning.specs.Store.{seen, with_uniform};
 ghost use Rattle.work_time.specs.Kept.{Tells, kept, state_of, counts_of};
-ghost use Rattle.work_time.specs.Steps.{acting, begun, effect_writes, for_steps, for_turns_steps, list_steps, one_step, pardo_steps};
-ghost use Rattle.work_time.specs.Steps.{steps, turns_steps, value_step};
+ghost use Rattle.work_time.specs.Steps.{acting, begun, effect_writes, one_step, value_step};
+ghost use Rattle.work_time.specs.Told.{told, told_all, told_assign, told_bounds, told_choice, told_closed, told_for, told_list};
+ghost use Rattle.work_time.specs.Told.{told_pardo, told_print, told_range, told_setting, told_test, told_turns};
 
 use crate::counter::Counter;
 use crate::meter::Meter;
@@ -36,7 +38,7 @@ fn set_next(counter: &mut Counter, variable: usize, numbers: &Numbers)
 impl<'a> Meter<'a> {
     // The setting of a `for`: it is one statement.
     #[tactic(auto, using(crate::proofs::Loops::setting_waits, crate::proofs::Loops::setting_goes))]
-    fn begin_turn(&self, counter: &mut Counter, line: u32) -> Result<(), Halt>
+    fn count_turn(&self, counter: &mut Counter, line: u32) -> Result<(), Halt>
         ensures value { Tells (λ u. u) result (state_of counter.new) (counts_of counter.new) (kept self.now.schedule (counts_of counter.old)
             (begun self.now.interpreter.bound (state_of counter.old) (acting line 1))
             (counted self.now.interpreter.bound (state_of counter.old))) }
@@ -51,8 +53,19 @@ impl<'a> Meter<'a> {
         Ok(())
     }
 
+    fn begin_turn(&self, counter: &mut Counter, line: u32) -> Result<(), Halt>
+        ensures value { Tells (λ u. u) result (state_of counter.new) (counts_of counter.new)
+            (told_setting self.now.schedule self.now.interpreter.bound line (state_of counter.old) (counts_of counter.old)) }
+        ensures more { OnOk result (counter.new.ledger.all.time ≡ counter.old.ledger.all.time + 1) }
+    {
+        if self.begin_setting(&mut counter.ledger).is_err() {
+            return Err(Halt::OutOfMemory);
+        }
+        self.count_turn(counter, line)
+    }
+
     #[tactic(auto, using(crate::proofs::Blocks::test_halts, crate::proofs::Blocks::test_goes))]
-    fn run_test(&self, counter: &mut Counter, line: u32, test: &Expression) -> Result<bool, Halt>
+    fn test(&self, counter: &mut Counter, line: u32, test: &Expression) -> Result<bool, Halt>
         ensures value { Tells (λ b. b) result (state_of counter.new) (counts_of counter.new) (kept self.now.schedule (counts_of counter.old)
             (value_step self.now.interpreter.program.now self.now.interpreter.bound line test.now (state_of counter.old))
             (tested self.now.interpreter.program.now self.now.interpreter.bound line test.now (state_of counter.old))) }
@@ -60,6 +73,32 @@ impl<'a> Meter<'a> {
     {
         let value = self.run_value(counter, line, test)?;
         Ok(is_true(value))
+    }
+
+    // The test of an `if`.
+    fn run_choice(&self, counter: &mut Counter, line: u32, test: &Expression) -> Result<bool, Halt>
+        ensures value { Tells (λ b. b) result (state_of counter.new) (counts_of counter.new)
+            (told_choice self.now.interpreter.program.now self.now.schedule self.now.interpreter.bound line test.now (state_of counter.old)
+            (counts_of counter.old)) }
+        ensures more { OnOk result (counter.new.ledger.all.time ≡ counter.old.ledger.all.time + 1) }
+    {
+        if self.begin_choice(&mut counter.ledger, test).is_err() {
+            return Err(Halt::OutOfMemory);
+        }
+        self.test(counter, line, test)
+    }
+
+    // The test of a `while`.
+    fn run_test(&self, counter: &mut Counter, line: u32, test: &Expression) -> Result<bool, Halt>
+        ensures value { Tells (λ b. b) result (state_of counter.new) (counts_of counter.new)
+            (told_test self.now.interpreter.program.now self.now.schedule self.now.interpreter.bound line test.now (state_of counter.old)
+            (counts_of counter.old)) }
+        ensures more { OnOk result (counter.new.ledger.all.time ≡ counter.old.ledger.all.time + 1) }
+    {
+        if self.begin_test(&mut counter.ledger, test).is_err() {
+            return Err(Halt::OutOfMemory);
+        }
+        self.test(counter, line, test)
     }
 
     #[tactic(auto, using(crate::proofs::Blocks::assign_halts, crate::proofs::Blocks::assign_goes))]
@@ -88,6 +127,27 @@ impl<'a> Meter<'a> {
         Ok(())
     }
 
+    fn run_assignment(
+        &self,
+        counter: &mut Counter,
+        line: u32,
+        target: &Target,
+        value: &Expression,
+    ) -> Result<(), Halt>
+        ensures value { Tells (λ u. u) result (state_of counter.new) (counts_of counter.new)
+            (told_assign self.now.interpreter.program.now self.now.schedule self.now.interpreter.bound line target.now value.now
+            (state_of counter.old) (counts_of counter.old)) }
+        ensures grows { OnOk result (counter.old.ledger.all.time ≤ counter.new.ledger.all.time) }
+    {
+        if self
+            .begin_assignment(&mut counter.ledger, target, value)
+            .is_err()
+        {
+            return Err(Halt::OutOfMemory);
+        }
+        self.assign(counter, line, target, value)
+    }
+
     #[tactic(auto, using(crate::proofs::Blocks::print_halts, crate::proofs::Blocks::print_goes))]
     fn print(&self, counter: &mut Counter, line: u32, value: &Expression) -> Result<(), Halt>
         ensures value { Tells (λ u. u) result (state_of counter.new) (counts_of counter.new) (kept self.now.schedule (counts_of counter.old)
@@ -102,6 +162,57 @@ impl<'a> Meter<'a> {
         Ok(())
     }
 
+    fn run_print(&self, counter: &mut Counter, line: u32, value: &Expression) -> Result<(), Halt>
+        ensures value { Tells (λ u. u) result (state_of counter.new) (counts_of counter.new)
+            (told_print self.now.interpreter.program.now self.now.schedule self.now.interpreter.bound line value.now (state_of counter.old)
+            (counts_of counter.old)) }
+        ensures grows { OnOk result (counter.old.ledger.all.time ≤ counter.new.ledger.all.time) }
+    {
+        if self.begin_value(&mut counter.ledger, value).is_err() {
+            return Err(Halt::OutOfMemory);
+        }
+        self.print(counter, line, value)
+    }
+
+    // The range of a pardo.
+    fn find_range(
+        &self,
+        counter: &mut Counter,
+        line: u32,
+        low: &Expression,
+        high: &Expression,
+    ) -> Result<(i64, u32), Halt>
+        ensures value { Tells (λ r. (r.0, r.1)) result (state_of counter.new) (counts_of counter.new)
+            (told_range self.now.interpreter.program.now self.now.schedule self.now.interpreter.bound line low.now high.now
+            (state_of counter.old) (counts_of counter.old)) }
+        ensures more { OnOk result (counter.new.ledger.all.time ≡ counter.old.ledger.all.time + 1) }
+        ensures fits { IfOk result (λ r. FitsSigned w64 (r.0 +ℤ pos (r.1 - 1))) }
+    {
+        if self.begin_range(&mut counter.ledger, low, high).is_err() {
+            return Err(Halt::OutOfMemory);
+        }
+        self.run_range(counter, line, low, high)
+    }
+
+    // The bounds of a `for`.
+    fn find_bounds(
+        &self,
+        counter: &mut Counter,
+        line: u32,
+        low: &Expression,
+        high: &Expression,
+    ) -> Result<(i64, i64), Halt>
+        ensures value { Tells (λ r. (r.0, r.1)) result (state_of counter.new) (counts_of counter.new)
+            (told_bounds self.now.interpreter.program.now self.now.schedule self.now.interpreter.bound line low.now high.now
+            (state_of counter.old) (counts_of counter.old)) }
+        ensures more { OnOk result (counter.new.ledger.all.time ≡ counter.old.ledger.all.time + 1) }
+    {
+        if self.begin_bounds(&mut counter.ledger, low, high).is_err() {
+            return Err(Halt::OutOfMemory);
+        }
+        self.run_bounds(counter, line, low, high)
+    }
+
     #[tactic(auto, using(crate::proofs::Blocks::pardo_halts, crate::proofs::Blocks::pardo_goes))]
     fn run_pardo(
         &self,
@@ -112,14 +223,12 @@ impl<'a> Meter<'a> {
         high: &Expression,
         locals: usize,
     ) -> Result<(), Halt>
-        ensures value { Tells (λ u. u) result (state_of counter.new) (counts_of counter.new) (kept self.now.schedule (counts_of counter.old)
-            (pardo_steps self.now.interpreter.program.now self.now.interpreter.bound line low.now high.now locals body.now.items
-            (state_of counter.old))
-            (pardo self.now.interpreter.program.now self.now.interpreter.bound line low.now high.now locals body.now.items
-            (state_of counter.old))) }
+        ensures value { Tells (λ u. u) result (state_of counter.new) (counts_of counter.new)
+            (told_pardo self.now.interpreter.program.now self.now.schedule self.now.interpreter.bound line low.now high.now locals
+            body.now.items (state_of counter.old) (counts_of counter.old)) }
         ensures grows { OnOk result (counter.old.ledger.all.time ≤ counter.new.ledger.all.time) }
     {
-        let (first, count) = self.run_range(counter, line, low, high)?;
+        let (first, count) = self.find_range(counter, line, low, high)?;
         self.run_team(counter, first, count, locals, body)
     }
 
@@ -127,9 +236,9 @@ impl<'a> Meter<'a> {
     #[cycle(outside)]
     #[tactic(auto, using(crate::proofs::Blocks::assign_arm, crate::proofs::Blocks::print_arm, crate::proofs::Blocks::while_arm, crate::proofs::Blocks::for_arm, crate::proofs::Blocks::pardo_arm, crate::proofs::Blocks::if_halts_arm, crate::proofs::Blocks::then_arm, crate::proofs::Blocks::else_arm))]
     pub fn run_statement(&self, counter: &mut Counter, s: &Statement) -> Result<(), Halt>
-        ensures value { Tells (λ u. u) result (state_of counter.new) (counts_of counter.new) (kept self.now.schedule (counts_of counter.old)
-            (steps self.now.interpreter.program.now self.now.interpreter.bound s.now (state_of counter.old))
-            (perform self.now.interpreter.program.now self.now.interpreter.bound s.now (state_of counter.old))) }
+        ensures value { Tells (λ u. u) result (state_of counter.new) (counts_of counter.new)
+            (told self.now.interpreter.program.now self.now.schedule self.now.interpreter.bound s.now (state_of counter.old)
+            (counts_of counter.old)) }
         ensures grows { OnOk result (counter.old.ledger.all.time ≤ counter.new.ledger.all.time) }
     {
         match s {
@@ -137,8 +246,8 @@ impl<'a> Meter<'a> {
                 line,
                 target,
                 value,
-            } => self.assign(counter, *line, target, value),
-            Statement::Print { line, value } => self.print(counter, *line, value),
+            } => self.run_assignment(counter, *line, target, value),
+            Statement::Print { line, value } => self.run_print(counter, *line, value),
             Statement::While { line, test, body } => self.run_while(counter, body, *line, test),
             Statement::If {
                 line,
@@ -146,11 +255,11 @@ impl<'a> Meter<'a> {
                 then_part,
                 else_part,
             } => {
-                let holds = self.run_test(counter, *line, test)?;
+                let holds = self.run_choice(counter, *line, test)?;
                 if holds {
-                    self.run_block(counter, then_part)
+                    self.run_closed(counter, then_part)
                 } else {
-                    self.run_block(counter, else_part)
+                    self.run_closed(counter, else_part)
                 }
             }
             Statement::For {
@@ -179,15 +288,9 @@ impl<'a> Meter<'a> {
         line: u32,
         test: &Expression,
     ) -> Result<(), Halt>
-        ensures value { Tells (λ u. u) result (state_of counter.new) (counts_of counter.new) (kept self.now.schedule (counts_of counter.old)
-            (turns_steps (self.now.interpreter.bound + 1)
-            (value_step self.now.interpreter.program.now self.now.interpreter.bound line test.now)
-            (tested self.now.interpreter.program.now self.now.interpreter.bound line test.now)
-            (list_steps self.now.interpreter.program.now self.now.interpreter.bound body.now.items)
-            (perform_list self.now.interpreter.program.now self.now.interpreter.bound body.now.items) (state_of counter.old))
-            (turns (self.now.interpreter.bound + 1)
-            (tested self.now.interpreter.program.now self.now.interpreter.bound line test.now)
-            (perform_list self.now.interpreter.program.now self.now.interpreter.bound body.now.items) (state_of counter.old))) }
+        ensures value { Tells (λ u. u) result (state_of counter.new) (counts_of counter.new)
+            (told_turns self.now.interpreter.program.now self.now.schedule self.now.interpreter.bound line test.now body.now.items
+            (self.now.interpreter.bound + 1) (state_of counter.old) (counts_of counter.old)) }
         ensures grows { OnOk result (counter.old.ledger.all.time ≤ counter.new.ledger.all.time) }
     {
         'turns: while self.run_test(counter, line, test)? {
@@ -207,15 +310,12 @@ impl<'a> Meter<'a> {
         low: &Expression,
         high: &Expression,
     ) -> Result<(), Halt>
-        ensures value { Tells (λ u. u) result (state_of counter.new) (counts_of counter.new) (kept self.now.schedule (counts_of counter.old)
-            (for_steps self.now.interpreter.program.now self.now.interpreter.bound line variable low.now high.now
-            (list_steps self.now.interpreter.program.now self.now.interpreter.bound body.now.items)
-            (perform_list self.now.interpreter.program.now self.now.interpreter.bound body.now.items) (state_of counter.old))
-            (for_all self.now.interpreter.program.now self.now.interpreter.bound line variable low.now high.now
-            (perform_list self.now.interpreter.program.now self.now.interpreter.bound body.now.items) (state_of counter.old))) }
+        ensures value { Tells (λ u. u) result (state_of counter.new) (counts_of counter.new)
+            (told_all self.now.interpreter.program.now self.now.schedule self.now.interpreter.bound line variable low.now high.now
+            body.now.items (state_of counter.old) (counts_of counter.old)) }
         ensures grows { OnOk result (counter.old.ledger.all.time ≤ counter.new.ledger.all.time) }
     {
-        let (first, last) = self.run_bounds(counter, line, low, high)?;
+        let (first, last) = self.find_bounds(counter, line, low, high)?;
         let numbers = between(first, last);
         self.run_turns(counter, body, line, variable, &numbers)
     }
@@ -231,12 +331,10 @@ impl<'a> Meter<'a> {
         variable: usize,
         numbers: &Numbers,
     ) -> Result<(), Halt>
-        ensures value { Tells (λ u. u) result (state_of counter.new) (counts_of counter.new) (kept self.now.schedule (counts_of counter.old)
-            (for_turns_steps self.now.interpreter.bound line (width numbers.now.next numbers.now.last) variable numbers.now.next
-            (list_steps self.now.interpreter.program.now self.now.interpreter.bound body.now.items)
-            (perform_list self.now.interpreter.program.now self.now.interpreter.bound body.now.items) (state_of counter.old))
-            (for_turns self.now.interpreter.bound (width numbers.now.next numbers.now.last) variable numbers.now.next
-            (perform_list self.now.interpreter.program.now self.now.interpreter.bound body.now.items) (state_of counter.old))) }
+        ensures value { Tells (λ u. u) result (state_of counter.new) (counts_of counter.new)
+            (told_for self.now.interpreter.program.now self.now.schedule self.now.interpreter.bound line
+            (width numbers.now.next numbers.now.last) variable numbers.now.next body.now.items (state_of counter.old)
+            (counts_of counter.old)) }
         ensures grows { OnOk result (counter.old.ledger.all.time ≤ counter.new.ledger.all.time) }
     {
         if numbers.is_empty() {
@@ -246,7 +344,7 @@ impl<'a> Meter<'a> {
         'turns: loop {
             self.begin_turn(counter, line)?;
             set_next(counter, variable, &left);
-            self.run_block(counter, body)?;
+            self.run_closed(counter, body)?;
             if left.is_at_end() {
                 return Ok(());
             }
@@ -254,13 +352,29 @@ impl<'a> Meter<'a> {
         }
     }
 
+    // A block behind which what was written is sent.
+    #[cycle(outside)]
+    #[tactic(auto, using(crate::proofs::Closings::closes))]
+    fn run_closed(&self, counter: &mut Counter, body: &Vec<Statement>) -> Result<(), Halt>
+        ensures value { Tells (λ u. u) result (state_of counter.new) (counts_of counter.new)
+            (told_closed self.now.interpreter.program.now self.now.schedule self.now.interpreter.bound body.now.items (state_of counter.old)
+            (counts_of counter.old)) }
+        ensures grows { OnOk result (counter.old.ledger.all.time ≤ counter.new.ledger.all.time) }
+    {
+        let done = self.run_block(counter, body);
+        let Ok(()) = counter.ledger.exchanges.cut() else {
+            return Err(Halt::OutOfMemory);
+        };
+        done
+    }
+
     /// The statements of a block, in order.
     #[cycle(outside)]
     #[tactic(auto, using(crate::proofs::Loops::block_starts, crate::proofs::Loops::block_halts, crate::proofs::Loops::block_goes, crate::proofs::Loops::block_ends))]
     fn run_block(&self, counter: &mut Counter, body: &Vec<Statement>) -> Result<(), Halt>
-        ensures value { Tells (λ u. u) result (state_of counter.new) (counts_of counter.new) (kept self.now.schedule (counts_of counter.old)
-            (list_steps self.now.interpreter.program.now self.now.interpreter.bound body.now.items (state_of counter.old))
-            (perform_list self.now.interpreter.program.now self.now.interpreter.bound body.now.items (state_of counter.old))) }
+        ensures value { Tells (λ u. u) result (state_of counter.new) (counts_of counter.new)
+            (told_list self.now.interpreter.program.now self.now.schedule self.now.interpreter.bound body.now.items (state_of counter.old)
+            (counts_of counter.old)) }
         ensures grows { OnOk result (counter.old.ledger.all.time ≤ counter.new.ledger.all.time) }
     {
         for s in body {
@@ -272,11 +386,9 @@ impl<'a> Meter<'a> {
     /// The whole body of a program.
     #[tactic(auto, using(crate::proofs::Loops::block_starts, crate::proofs::Loops::block_halts, crate::proofs::Loops::block_goes, crate::proofs::Loops::block_ends))]
     pub fn run_body(&self, counter: &mut Counter) -> Result<(), Halt>
-        ensures { Tells (λ u. u) result (state_of counter.new) (counts_of counter.new) (kept self.now.schedule (counts_of counter.old)
-            (list_steps self.now.interpreter.program.now self.now.interpreter.bound self.now.interpreter.program.now.body
-            (state_of counter.old))
-            (perform_list self.now.interpreter.program.now self.now.interpreter.bound self.now.interpreter.program.now.body
-            (state_of counter.old))) }
+        ensures { Tells (λ u. u) result (state_of counter.new) (counts_of counter.new)
+            (told_list self.now.interpreter.program.now self.now.schedule self.now.interpreter.bound
+            self.now.interpreter.program.now.body (state_of counter.old) (counts_of counter.old)) }
     {
         for s in self.interpreter.program.body() {
             self.run_statement(counter, s)?;

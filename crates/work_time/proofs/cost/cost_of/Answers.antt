@@ -1,58 +1,76 @@
 use Rattle.std.proofs.Common.{◌∙◌, ap, length}
+use Rattle.exchange_bound.specs.Events.{events_of}
 use Rattle.work_time.specs.Ledgers.{tally_is}
+use Rattle.work_time.specs.Spending.{closed}
 use Rattle.work_time.specs.Steps.{run_steps}
 use Rattle.work_time.specs.RowCosts.{costs_of_rows}
 use Rattle.work_time.proofs.Brent.{kept_brent}
-use Rattle.work_time.proofs.RowCosts.{all_told, lines_told, rows_told}
+use Rattle.work_time.proofs.RowCosts.{all_told, exchanges_told, lines_told, rows_told}
+use Rattle.work_time.proofs.Spendings.{closed_is}
 use Rattle.work_time.proofs.Sums.{reads_are, rounds_are, time_is, width_is, work_is, writes_are}
 use Rattle.work_time.proofs.cost.cost_of.Goals as goal
 
 pub returns-clause-time : goal.returns-clause-time
 returns-clause-time c =
     let steps = run_steps c.args.program.now c.args.input.now c.args.bound in
+    let events = events_of c.args.program.now c.args.input.now c.args.bound in
     let ledger = c.in_ok-outcome.ledger in
-    time_is c.args.schedule steps (tally_is ledger.all) (all_told c.args.schedule steps ledger c.in_ok-outcome.ensures.totals)
+    time_is c.args.schedule steps (tally_is ledger.all) (all_told c.args.schedule steps events ledger c.in_ok-outcome.ensures.totals)
 
 pub returns-clause-work : goal.returns-clause-work
 returns-clause-work c =
     let steps = run_steps c.args.program.now c.args.input.now c.args.bound in
+    let events = events_of c.args.program.now c.args.input.now c.args.bound in
     let ledger = c.in_ok-outcome.ledger in
-    work_is c.args.schedule steps (tally_is ledger.all) (all_told c.args.schedule steps ledger c.in_ok-outcome.ensures.totals)
+    work_is c.args.schedule steps (tally_is ledger.all) (all_told c.args.schedule steps events ledger c.in_ok-outcome.ensures.totals)
 
 pub returns-clause-width : goal.returns-clause-width
 returns-clause-width c =
     let steps = run_steps c.args.program.now c.args.input.now c.args.bound in
+    let events = events_of c.args.program.now c.args.input.now c.args.bound in
     let ledger = c.in_ok-outcome.ledger in
-    width_is c.args.schedule steps (tally_is ledger.all) (all_told c.args.schedule steps ledger c.in_ok-outcome.ensures.totals)
+    width_is c.args.schedule steps (tally_is ledger.all) (all_told c.args.schedule steps events ledger c.in_ok-outcome.ensures.totals)
 
 pub returns-clause-reads : goal.returns-clause-reads
 returns-clause-reads c =
     let steps = run_steps c.args.program.now c.args.input.now c.args.bound in
+    let events = events_of c.args.program.now c.args.input.now c.args.bound in
     let ledger = c.in_ok-outcome.ledger in
-    reads_are c.args.schedule steps (tally_is ledger.all) (all_told c.args.schedule steps ledger c.in_ok-outcome.ensures.totals)
+    reads_are c.args.schedule steps (tally_is ledger.all) (all_told c.args.schedule steps events ledger c.in_ok-outcome.ensures.totals)
 
 pub returns-clause-writes : goal.returns-clause-writes
 returns-clause-writes c =
     let steps = run_steps c.args.program.now c.args.input.now c.args.bound in
+    let events = events_of c.args.program.now c.args.input.now c.args.bound in
     let ledger = c.in_ok-outcome.ledger in
-    writes_are c.args.schedule steps (tally_is ledger.all) (all_told c.args.schedule steps ledger c.in_ok-outcome.ensures.totals)
+    writes_are c.args.schedule steps (tally_is ledger.all) (all_told c.args.schedule steps events ledger c.in_ok-outcome.ensures.totals)
 
 pub returns-clause-rounds : goal.returns-clause-rounds
 returns-clause-rounds c =
     let steps = run_steps c.args.program.now c.args.input.now c.args.bound in
+    let events = events_of c.args.program.now c.args.input.now c.args.bound in
     let ledger = c.in_ok-outcome.ledger in
-    rounds_are c.args.schedule steps (tally_is ledger.all) (all_told c.args.schedule steps ledger c.in_ok-outcome.ensures.totals)
+    rounds_are c.args.schedule steps (tally_is ledger.all) (all_told c.args.schedule steps events ledger c.in_ok-outcome.ensures.totals)
 
 pub returns-clause-lines : goal.returns-clause-lines
 returns-clause-lines c =
     let steps = run_steps c.args.program.now c.args.input.now c.args.bound in
+    let events = events_of c.args.program.now c.args.input.now c.args.bound in
     let ledger = c.in_ok-outcome.ledger in
-    lines_told c.args.schedule steps ledger.lines.items (rows_told c.args.schedule steps ledger c.in_ok-outcome.ensures.totals) _
+    lines_told c.args.schedule steps ledger.lines.items (rows_told c.args.schedule steps events ledger c.in_ok-outcome.ensures.totals) _
     (c.in-Ok.ensures ∙ ap (λ rows. costs_of_rows rows (length rows)) c.deref.ensures.value)
 
 pub returns-clause-brent : goal.returns-clause-brent
 returns-clause-brent c =
     let steps = run_steps c.args.program.now c.args.input.now c.args.bound in
+    let events = events_of c.args.program.now c.args.input.now c.args.bound in
     let ledger = c.in_ok-outcome.ledger in
     kept_brent c.args.schedule steps (tally_is ledger.all) c.from.result c.from-2.result c.requires.some
-    (all_told c.args.schedule steps ledger c.in_ok-outcome.ensures.totals) c.from.ensures c.from-2.ensures
+    (all_told c.args.schedule steps events ledger c.in_ok-outcome.ensures.totals) c.from.ensures c.from-2.ensures
+
+pub returns-clause-most_exchanges : goal.returns-clause-most_exchanges
+returns-clause-most_exchanges c =
+    let steps = run_steps c.args.program.now c.args.input.now c.args.bound in
+    let events = events_of c.args.program.now c.args.input.now c.args.bound in
+    c.in-Ok-close.ensures
+    ∙ ap closed (exchanges_told c.args.schedule steps events c.in_ok-outcome.ledger c.in_ok-outcome.ensures.totals) ∙ closed_is events
