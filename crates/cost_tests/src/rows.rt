@@ -17,7 +17,8 @@ struct Row {
     told: &'static str,
 }
 
-// The sum of eight numbers by a balanced tree: 17 statements, of which the copy has 8 processors and the turns have 4, 2 and 1.
+// The sum of eight numbers by a balanced tree: 17 statements, of which the copy has 8 processors and the turns have 4, 2 and 1. Exchanges:
+// 3 for the copy, whose write the test cuts off, 3 a turn, 2 for the print, and the close.
 const TREE_SUM: &str = "rule erew; procs 8; shared a[1..8]; shared b[1..8]; var m; begin \
     for 1 <= i <= 8 pardo b[i] := a[i]; end m := 8; while m > 1 do m := m div 2; \
     for 1 <= i <= m pardo b[i] := b[2 * i - 1] + b[2 * i]; end end print b[1]; end";
@@ -30,15 +31,15 @@ const ROWS: [Row; 5] = [
         input: EIGHT,
         bound: 1000,
         schedule: 2,
-        told: "time 17\nwork 28\nwidth 8\nreads 23\nwrites 15\nrounds on 2: 21\nat most 31\n",
+        told: "time 17\nwork 28\nwidth 8\nreads 23\nwrites 15\nexchanges at most 15\nrounds on 2: 21\nat most 31\n",
     },
-    // The bounds, the copy and the setting of m alone.
+    // The bounds, the copy and the setting of m alone: 3 exchanges, and the close.
     Row {
         text: TREE_SUM,
         input: EIGHT,
         bound: 3,
         schedule: 3,
-        told: "time 3\nwork 10\nwidth 8\nreads 8\nwrites 8\nrounds on 3: 5\nat most 6\n",
+        told: "time 3\nwork 10\nwidth 8\nreads 8\nwrites 8\nexchanges at most 4\nrounds on 3: 5\nat most 6\n",
     },
     // No statement.
     Row {
@@ -46,17 +47,17 @@ const ROWS: [Row; 5] = [
         input: &[],
         bound: 1000,
         schedule: 1,
-        told: "time 0\nwork 0\nwidth 0\nreads 0\nwrites 0\nrounds on 1: 0\nat most 0\n",
+        told: "time 0\nwork 0\nwidth 0\nreads 0\nwrites 0\nexchanges at most 1\nrounds on 1: 0\nat most 0\n",
     },
-    // A statement of nobody costs time and no work, and one round.
+    // A statement of nobody costs time and no work, and one round; and an exchange for its write.
     Row {
         text: "rule crew; procs 4; shared s; begin for 5 <= i <= 4 pardo s := 1; end end",
         input: &[],
         bound: 1000,
         schedule: 4,
-        told: "time 2\nwork 1\nwidth 1\nreads 0\nwrites 0\nrounds on 4: 2\nat most 2\n",
+        told: "time 2\nwork 1\nwidth 1\nreads 0\nwrites 0\nexchanges at most 2\nrounds on 4: 2\nat most 2\n",
     },
-    // Four processors read one cell, which the rule forbids: none of the accesses counts.
+    // Four processors read one cell, which the rule forbids: none of the accesses counts, and no exchanges are told.
     Row {
         text: "rule erew; procs 4; shared a[1..2]; shared b[1..4]; begin for 1 <= i <= 4 pardo b[i] := a[1]; end end",
         input: &[9, 8],
@@ -66,32 +67,34 @@ const ROWS: [Row; 5] = [
     },
 ];
 
-// Pointer jumping over n cells in k rounds, n = 2 ^ k: time 1 + 3 k and work 1 + k (n + 2), so O(log n) and O(n log n).
+// Pointer jumping over n cells in k rounds, n = 2 ^ k: time 1 + 3 k and work 1 + k (n + 2), so O(log n) and O(n log n). Exchanges: two
+// levels of reads and the write a turn, so 5 k + 1.
 const JUMPS: [Row; 3] = [
     Row {
         text: "rule crew; procs 2; shared s[1..2]; var k; begin for k := 1 to 1 do for 1 <= i <= 2 pardo s[i] := s[s[i]]; end end end",
         input: &[1, 1],
         bound: 1000,
         schedule: 2,
-        told: "time 4\nwork 5\nwidth 2\nreads 4\nwrites 2\nrounds on 2: 4\nat most 6\n",
+        told: "time 4\nwork 5\nwidth 2\nreads 4\nwrites 2\nexchanges at most 6\nrounds on 2: 4\nat most 6\n",
     },
     Row {
         text: "rule crew; procs 4; shared s[1..4]; var k; begin for k := 1 to 2 do for 1 <= i <= 4 pardo s[i] := s[s[i]]; end end end",
         input: &[1, 1, 2, 3],
         bound: 1000,
         schedule: 2,
-        told: "time 7\nwork 13\nwidth 4\nreads 16\nwrites 8\nrounds on 2: 9\nat most 13\n",
+        told: "time 7\nwork 13\nwidth 4\nreads 16\nwrites 8\nexchanges at most 11\nrounds on 2: 9\nat most 13\n",
     },
     Row {
         text: "rule crew; procs 8; shared s[1..8]; var k; begin for k := 1 to 3 do for 1 <= i <= 8 pardo s[i] := s[s[i]]; end end end",
         input: &[1, 1, 2, 3, 4, 5, 6, 7],
         bound: 1000,
         schedule: 2,
-        told: "time 10\nwork 31\nwidth 8\nreads 48\nwrites 24\nrounds on 2: 19\nat most 25\n",
+        told: "time 10\nwork 31\nwidth 8\nreads 48\nwrites 24\nexchanges at most 16\nrounds on 2: 19\nat most 25\n",
     },
 ];
 
 // Prefix sums of n numbers by doubling, n = 2 ^ k: k turns of n - 1, n - 2, n - 4 .. processors, so O(log n) time and O(n log n) work.
+// Exchanges: one level of reads and the write a turn, so 3 k + 1.
 const PREFIX_SUMS: [Row; 3] = [
     Row {
         text: "rule crew; procs 2; shared a[1..2]; var d; begin d := 1; while d < 2 do \
@@ -99,7 +102,7 @@ const PREFIX_SUMS: [Row; 3] = [
         input: &[1, 1],
         bound: 1000,
         schedule: 2,
-        told: "time 6\nwork 6\nwidth 1\nreads 2\nwrites 1\nrounds on 2: 6\nat most 9\n",
+        told: "time 6\nwork 6\nwidth 1\nreads 2\nwrites 1\nexchanges at most 4\nrounds on 2: 6\nat most 9\n",
     },
     Row {
         text: "rule crew; procs 4; shared a[1..4]; var d; begin d := 1; while d < 4 do \
@@ -107,7 +110,7 @@ const PREFIX_SUMS: [Row; 3] = [
         input: &[1, 1, 1, 1],
         bound: 1000,
         schedule: 2,
-        told: "time 10\nwork 13\nwidth 3\nreads 10\nwrites 5\nrounds on 2: 11\nat most 16\n",
+        told: "time 10\nwork 13\nwidth 3\nreads 10\nwrites 5\nexchanges at most 7\nrounds on 2: 11\nat most 16\n",
     },
     Row {
         text: "rule crew; procs 8; shared a[1..8]; var d; begin d := 1; while d < 8 do \
@@ -115,7 +118,45 @@ const PREFIX_SUMS: [Row; 3] = [
         input: &[1, 1, 1, 1, 1, 1, 1, 1],
         bound: 1000,
         schedule: 2,
-        told: "time 14\nwork 28\nwidth 7\nreads 34\nwrites 17\nrounds on 2: 20\nat most 28\n",
+        told: "time 14\nwork 28\nwidth 7\nreads 34\nwrites 17\nexchanges at most 10\nrounds on 2: 20\nat most 28\n",
+    },
+];
+
+// Exchanges of each kind: reads ask and answer, a write goes with the next reads or alone, a set votes.
+const BOUNDS: [Row; 4] = [
+    // Three votes, and the writes of two turns, which the tests cut off.
+    Row {
+        text: "rule crew; procs 2; shared a[1..2]; begin for 1 <= i <= 2 pardo local k; k := i; while k > 0 do \
+            a[i] := k; k := k - 1; end end end",
+        input: &[],
+        bound: 1000,
+        schedule: 2,
+        told: "time 9\nwork 14\nwidth 2\nreads 0\nwrites 3\nexchanges at most 6\nrounds on 2: 9\nat most 16\n",
+    },
+    // The first write goes with the read of the test; the end of the `if` cuts the second off, and the last goes at the end.
+    Row {
+        text: "rule crew; procs 1; shared s; shared t; begin s := 1; if s = 1 then t := 2; else t := 3; end s := 4; end",
+        input: &[],
+        bound: 1000,
+        schedule: 1,
+        told: "time 4\nwork 4\nwidth 1\nreads 1\nwrites 3\nexchanges at most 5\nrounds on 1: 4\nat most 8\n",
+    },
+    // The first write goes before the second, and that one with the reads.
+    Row {
+        text: "rule crew; procs 1; shared s; shared t; var x; begin s := 1; t := 2; x := s + t; end",
+        input: &[],
+        bound: 1000,
+        schedule: 1,
+        told: "time 3\nwork 3\nwidth 1\nreads 2\nwrites 2\nexchanges at most 4\nrounds on 1: 3\nat most 6\n",
+    },
+    // An `if` of a set cuts nothing: the write of one part goes with the reads of the other.
+    Row {
+        text: "rule crew; procs 2; shared a[1..2]; begin for 1 <= i <= 2 pardo if a[i] = 0 then a[i] := 5; \
+            else a[i] := a[i] + 1; end end end",
+        input: &[0, 7],
+        bound: 1000,
+        schedule: 2,
+        told: "time 4\nwork 5\nwidth 2\nreads 3\nwrites 2\nexchanges at most 6\nrounds on 2: 4\nat most 6\n",
     },
 ];
 
@@ -123,15 +164,9 @@ const PREFIX_SUMS: [Row; 3] = [
 fn is_told(alloc: Global, row: &Row) -> Option<bool> {
     let tree = parse(alloc, row.text.as_bytes()).ok()?;
     let program = check(alloc, tree).ok()?;
-    let (_outcome, cost) = cost_of(
-        alloc,
-        &program,
-        row.input,
-        row.bound,
-        row.schedule.max(1),
-    ).ok()?;
+    let (outcome, cost) = cost_of(alloc, &program, row.input, row.bound, row.schedule.max(1)).ok()?;
     let mut out = Buffer::new(alloc);
-    write_cost(&cost, Some(row.schedule), &mut out).ok()?;
+    write_cost(&outcome, &cost, Some(row.schedule), &mut out).ok()?;
     Some(out.bytes() == row.told.as_bytes())
 }
 
@@ -139,6 +174,14 @@ fn is_told(alloc: Global, row: &Row) -> Option<bool> {
 fn costs_are_those_worked_by_hand(rt: HostRuntime) {
     let alloc = rt.alloc();
     for row in &ROWS {
+        assert_eq!(rt; is_told(alloc, row), Some(true));
+    }
+}
+
+#[test]
+fn exchange_bounds_are_those_worked_by_hand(rt: HostRuntime) {
+    let alloc = rt.alloc();
+    for row in &BOUNDS {
         assert_eq!(rt; is_told(alloc, row), Some(true));
     }
 }

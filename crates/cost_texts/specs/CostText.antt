@@ -1,5 +1,6 @@
 -- How the costs of a run are written.
 use Rattle.std.specs.Prelude.{ℕ, List, [], ◌∷◌, ◌++◌, Option, Some, None, codes, decimal}
+use Rattle.write_rules.specs.Verdict.{Verdict, Ended, Faulted, GoesOn}
 use Rattle.work_time.specs.declared.cost.Cost.{Cost}
 use Rattle.work_time.specs.declared.line_cost.LineCost.{LineCost}
 
@@ -13,6 +14,12 @@ work_lines c = fact (codes "time ") c.time ++ (fact (codes "work ") c.work ++ fa
 abbrev pub access_lines : Cost → List ℕ
 access_lines c = fact (codes "reads ") c.reads ++ fact (codes "writes ") c.writes
 
+-- `exchanges at most 10`, where the run doesn't fault
+abbrev pub bound_line : Verdict → Cost → List ℕ
+bound_line (Ended output memory) c = fact (codes "exchanges at most ") c.most_exchanges
+bound_line (Faulted fault output) c = []
+bound_line (GoesOn output) c = fact (codes "exchanges at most ") c.most_exchanges
+
 -- `rounds on 4: 17`, and what Brent's principle allows
 abbrev pub round_lines : Cost → ℕ → List ℕ
 round_lines c q = fact (codes "rounds on " ++ (decimal q ++ codes ": ")) c.rounds ++ fact (codes "at most ") c.most_rounds
@@ -22,8 +29,8 @@ schedule_lines c None = []
 schedule_lines c (Some q) = round_lines c q
 
 -- each fact on a line of its own
-abbrev pub cost_text : Cost → Option ℕ → List ℕ
-cost_text c schedule = work_lines c ++ (access_lines c ++ schedule_lines c schedule)
+abbrev pub cost_text : Verdict → Cost → Option ℕ → List ℕ
+cost_text v c schedule = work_lines c ++ (access_lines c ++ (bound_line v c ++ schedule_lines c schedule))
 
 -- `line 4 times 2 work 9 reads 8 writes 8`
 abbrev pub line_text : LineCost → List ℕ

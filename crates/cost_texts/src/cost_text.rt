@@ -1,22 +1,31 @@
 //! The text of what a run costs.
 
-ghost use Rattle.std.specs.Prelude.{◌<◌, ◌^◌};
+ghost use Rattle.std.specs.Prelude.{◌<◌, ◌^◌, codes};
 ghost use Rattle.text_out.specs.Out.{Writes};
+ghost use Rattle.write_rules.specs.Verdict.{verdict_of};
 ghost use Rattle.cost_texts.specs.CostText as spec;
 
 use itoa::Buffer;
 use text_out::{Out, WriteFault};
 use work_time::Cost;
+use write_rules::Outcome;
 
-/// Writes what a run costs, one fact a line: its time, its work, its width, its reads and its
-/// writes; and where it is scheduled on some number of processors, the rounds on them and the most
+/// Writes what a run with that outcome costs, one fact a line: its time, its work, its width, its
+/// reads and its writes; where it doesn't fault, the most exchanges that it takes; and where it is scheduled on some number of processors, the rounds on them and the most
 /// that Brent's principle allows. The error is that the writer failed (E17).
-pub fn write_cost<W: Out>(cost: &Cost, schedule: Option<u32>, out: &mut W) -> Result<(), WriteFault>
+pub fn write_cost<W: Out>(
+    outcome: &Outcome,
+    cost: &Cost,
+    schedule: Option<u32>,
+    out: &mut W,
+) -> Result<(), WriteFault>
     requires counted { (W.Out.state out.old).failures < 2 ^ 63 }
-    ensures written { Writes (W.Out.state out.old) (W.Out.state out.new) (spec.cost_text cost.now schedule) result }
+    ensures written { Writes (W.Out.state out.old) (W.Out.state out.new)
+        (spec.cost_text (verdict_of outcome.now) cost.now schedule) result }
 {
     write_work(cost, out)?;
     write_accesses(cost, out)?;
+    write_bound(outcome, cost, out)?;
     match schedule {
         None => Ok(()),
         Some(processors) => write_rounds(cost, processors, out),
@@ -54,6 +63,31 @@ fn write_accesses<W: Out>(cost: &Cost, out: &mut W) -> Result<(), WriteFault>
         reads.format(cost.reads).as_bytes(),
         b"\nwrites ",
         writes.format(cost.writes).as_bytes(),
+        b"\n",
+    ])
+}
+
+// The most exchanges, where the run doesn't fault.
+fn write_bound<W: Out>(outcome: &Outcome, cost: &Cost, out: &mut W) -> Result<(), WriteFault>
+    requires counted { (W.Out.state out.old).failures < 2 ^ 63 }
+    ensures written { Writes (W.Out.state out.old) (W.Out.state out.new) (spec.bound_line (verdict_of outcome.now) cost.now) result }
+{
+    match outcome {
+        Outcome::Ended { .. } => write_most(cost, out),
+        Outcome::Faulted { .. } => Ok(()),
+        Outcome::GoesOn { .. } => write_most(cost, out),
+    }
+}
+
+fn write_most<W: Out>(cost: &Cost, out: &mut W) -> Result<(), WriteFault>
+    requires counted { (W.Out.state out.old).failures < 2 ^ 63 }
+    ensures written { Writes (W.Out.state out.old) (W.Out.state out.new)
+        (spec.fact (codes "exchanges at most ") cost.now.most_exchanges) result }
+{
+    let mut most = Buffer::new();
+    out.write_parts(&[
+        b"exchanges at most ",
+        most.format(cost.most_exchanges).as_bytes(),
         b"\n",
     ])
 }

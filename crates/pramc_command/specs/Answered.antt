@@ -91,7 +91,7 @@ pub data Tells : Status → List ℕ → Type 0 where
       → Tells (status_of outcome) (shown layout (verdict_of outcome))
   Costed : (layout : List SharedEntry) (outcome : Outcome) (schedule : Option ℕ) (lines : Bool) (cost : Cost)
       → HasCost layout outcome schedule cost
-      → Tells (status_of outcome) (costs_text cost schedule lines ++ shown layout (verdict_of outcome))
+      → Tells (status_of outcome) (costs_text (verdict_of outcome) cost schedule lines ++ shown layout (verdict_of outcome))
   Compared : (c : Comparison) → IsCompared c → Tells Done (comparison_text c)
   Traced : (outcome : Outcome) (exchanges : List Exchange) → HasTrace outcome exchanges → Tells (status_of outcome) (trace_text exchanges)
   Executed : (code : SuperstepCode) (outcome : Outcome) → IsAListing code → HasRun code outcome

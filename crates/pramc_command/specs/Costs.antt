@@ -1,8 +1,9 @@
 -- What the run of a program costs, and the text of it.
 use Rattle.std.specs.Prelude.{◌≡◌, ℕ, ℤ, List, [], ◌++◌, Bool, true, false, Option, Some, None, ◌+◌, ◌/◌}
 use Rattle.pram_model.specs.Layout.{SharedEntry}
-use Rattle.write_rules.specs.Verdict.{verdict_of}
+use Rattle.write_rules.specs.Verdict.{Verdict, verdict_of}
 use Rattle.write_rules.specs.declared.outcome.Outcome.{Outcome}
+use Rattle.exchange_bound.specs.Bound.{exchange_bound}
 use Rattle.work_time.specs.Cost as cost
 use Rattle.work_time.specs.Steps.{run_steps}
 use Rattle.work_time.specs.declared.cost.Cost.{Cost}
@@ -33,11 +34,12 @@ pub record HasCost (layout : List SharedEntry) (outcome : Outcome) (schedule : O
   pub bound : ℕ
   pub run : IsRunOf text input bound layout (verdict_of outcome)
   pub cost : IsCost (run_steps run.program input bound) (processors_of schedule) c
+  pub most_exchanges : c.most_exchanges ≡ exchange_bound run.program input bound
 
 abbrev pub if_lines : Bool → List ℕ → List ℕ
 if_lines true text = text
 if_lines false text = []
 
 -- the costs of a run, and where it is asked for those of each line
-abbrev pub costs_text : Cost → Option ℕ → Bool → List ℕ
-costs_text c schedule lines = cost_text c schedule ++ if_lines lines (lines_text c.lines.items)
+abbrev pub costs_text : Verdict → Cost → Option ℕ → Bool → List ℕ
+costs_text v c schedule lines = cost_text v c schedule ++ if_lines lines (lines_text c.lines.items)

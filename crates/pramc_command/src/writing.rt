@@ -42,11 +42,17 @@ pub(crate) fn write_outcome<'a, O: Out>(
 }
 
 // A run's costs, as far as they are asked for.
-fn write_numbers<O: Out>(out: &mut O, cost: &Cost, words: CostWords) -> Result<(), WriteFault>
+fn write_numbers<O: Out>(
+    out: &mut O,
+    outcome: &Outcome,
+    cost: &Cost,
+    words: CostWords,
+) -> Result<(), WriteFault>
     requires out { (O.Out.state out.old).failures < 2 ^ 62 }
-    ensures written { Writes (O.Out.state out.old) (O.Out.state out.new) (costs_text cost.now words.schedule words.lines) result }
+    ensures written { Writes (O.Out.state out.old) (O.Out.state out.new)
+        (costs_text (verdict_of outcome.now) cost.now words.schedule words.lines) result }
 {
-    write_cost(cost, words.schedule, out)?;
+    write_cost(outcome, cost, words.schedule, out)?;
     if words.lines {
         write_lines(&cost.lines, out)
     } else {
@@ -64,9 +70,9 @@ fn write_numbers_and_outcome<O: Out>(
 ) -> Result<(), WriteFault>
     requires out { (O.Out.state out.old).failures < 2 ^ 62 }
     ensures written { Writes (O.Out.state out.old) (O.Out.state out.new)
-        (costs_text cost.now words.schedule words.lines ++ shown layout.now (verdict_of outcome.now)) result }
+        (costs_text (verdict_of outcome.now) cost.now words.schedule words.lines ++ shown layout.now (verdict_of outcome.now)) result }
 {
-    write_numbers(out, cost, words)?;
+    write_numbers(out, outcome, cost, words)?;
     show(layout, outcome, out)
 }
 

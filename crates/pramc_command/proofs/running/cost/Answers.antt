@@ -16,6 +16,7 @@ returns-in-Ok-clause-cost c =
       cost = costs_are (run_steps c.args.program.now c.args.input.now c.args.bound) c.processors_of-schedule.result
           (spec.processors_of c.args.words.schedule) c.in-Ok.found.1 c.processors_of-schedule.ensures.value e.time e.work e.width e.reads
           e.writes e.rounds e.most_rounds e.lines;
+      most_exchanges = e.most_exchanges;
     }
 
 pub returns-in-Err-InputTooLong-clause-refused : goal.returns-in-Err-InputTooLong-clause-refused

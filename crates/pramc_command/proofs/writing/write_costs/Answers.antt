@@ -9,7 +9,8 @@ use Rattle.pramc_command.proofs.writing.write_costs.Goals as goal
 pub returns-in-Ok : goal.returns-in-Ok
 returns-in-Ok g c =
     let words = c.args.words in
-    let all = costs_text c.args.cost.now words.schedule words.lines ++ shown c.args.layout.now (verdict_of c.args.outcome.now) in
+    let verdict = verdict_of c.args.outcome.now in
+    let all = costs_text verdict c.args.cost.now words.schedule words.lines ++ shown c.args.layout.now verdict in
     let tells = Costed c.args.layout.now c.args.outcome.now words.schedule words.lines c.args.cost.now c.requires.cost in
     record {
       answers = told c.of-status.result _ _ _ all _ (subst (λ s. Tells s all) (sym c.of-status.ensures) tells)

@@ -11,7 +11,7 @@ returns-in_err-write_numbers g c =
     let words = c.args.words in
     let outcome = shown c.args.layout.now (verdict_of c.args.outcome.now) in
     record {
-      written = breaks_off _ _ _ _ _ (costs_text c.args.cost.now words.schedule words.lines) outcome c.from_residual.result _
+      written = breaks_off _ _ _ _ _ (costs_text (verdict_of c.args.outcome.now) c.args.cost.now words.schedule words.lines) outcome c.from_residual.result _
           c.from_residual.ensures.1 (starts _ _ (room _ c.requires.out)) refl c.in_err-write_numbers.ensures.written;
     }
 
@@ -20,6 +20,6 @@ returns g c =
     let words = c.args.words in
     let outcome = shown c.args.layout.now (verdict_of c.args.outcome.now) in
     record {
-      written = closes _ _ _ _ _ c.show.result (goes_on _ _ _ _ _ (costs_text c.args.cost.now words.schedule words.lines)
+      written = closes _ _ _ _ _ c.show.result (goes_on _ _ _ _ _ (costs_text (verdict_of c.args.outcome.now) c.args.cost.now words.schedule words.lines)
           outcome (starts _ _ (room _ c.requires.out)) refl c.in_ok-write_numbers.ensures.written) c.show.ensures.written;
     }
