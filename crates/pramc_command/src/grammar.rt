@@ -55,7 +55,7 @@ const MEANING: Subcommand = Subcommand {
 
 const COST: Subcommand = Subcommand {
     name: "cost",
-    about: "Counts time, work and shared accesses of the run, beside its outcome",
+    about: "Counts time, work, shared accesses and exchanges of the run, beside its outcome",
     file: PROGRAM,
     example: "Example: pramc cost examples/tree_sum.pram --input examples/tree_sum.in --schedule 2",
 };
