@@ -4,17 +4,18 @@ _pramc() {
     local word=${COMP_WORDS[COMP_CWORD]} before=${COMP_WORDS[COMP_CWORD - 1]} words=
     COMPREPLY=()
     if [ "$COMP_CWORD" -eq 1 ]; then
-        words="check plan meaning cost rules run trace exec --help"
+        words="check plan meaning cost steps rules run trace exec --help"
     else
         case $before in
         --input) ;;
         --map) words="identity affine:" ;;
-        --bound | --workers | --reserve | --schedule) return ;;
+        --bound | --workers | --reserve | --schedule | --from | --to) return ;;
         *)
             case ${COMP_WORDS[1]} in
             check | plan) words="--help" ;;
             meaning | rules) words="--bound --input --help" ;;
             cost) words="--bound --input --schedule --lines --help" ;;
+            steps) words="--bound --input --from --to --help" ;;
             run | trace | exec) words="--bound --input --workers --map --reserve --help" ;;
             *) return ;;
             esac

@@ -2,7 +2,7 @@
 """Runs each example of examples/ with its input, and compares all that it writes, and its exit status, with the files beside it.
 
 examples.py PROGRAM: by its definition, by 1, 3 and 4 workers, under each rule, from the listing of its plan, with the change that gives a
-conflict, and within as many statements as its T, and one less, with which it goes on.
+conflict, within as many statements as its T, and one less, with which it goes on; and that as many statements are told of it, and no more.
 """
 import subprocess
 import sys
@@ -36,7 +36,8 @@ def of_the_gallery(program, text, output, folder):
     if not costs.stdout.startswith(f"time {steps}\nwork {work}\n"):
         sys.exit(f"pramc cost {program}: not time {steps}, work {work}\n{costs.stdout}{costs.stderr}")
     bounds = [(["meaning", program, "--bound", str(it)], output, status) for it, status in ((steps, 0), (steps - 1, GOES_ON))]
-    return [(["run", folder / program.name], f"{fault}\n", 1), *bounds]
+    behind = (["steps", program, "--from", str(steps + 1)], output, 0)
+    return [(["run", folder / program.name], f"{fault}\n", 1), *bounds, behind]
 
 
 def tried(name, text, folder):

@@ -38,4 +38,6 @@ mod rows_workers;
 #[cfg(test)]
 mod rules;
 #[cfg(test)]
+mod steps;
+#[cfg(test)]
 mod syntax;

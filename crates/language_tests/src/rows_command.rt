@@ -109,13 +109,14 @@ fn the_program_is_judged_before_the_input(rt: HostRuntime) -> Result<(), Fail> {
 // The words of the command line's parser are not fixed, but that they are there is.
 #[test]
 fn a_wrong_command_line_is_explained(rt: HostRuntime) -> Result<(), Fail> {
-    let rows: [&[&str]; 8] = [
+    let rows: [&[&str]; 9] = [
         &[],
         &["run"],
         &["walk", "program"],
         &["check", "program", "--bound", "3"],
         &["plan", "program", "--bound", "3"],
         &["rules", "program", "--workers", "2"],
+        &["steps", "program", "--lines"],
         &["run", "program", "more"],
         &["--help"],
     ];
@@ -131,7 +132,7 @@ fn a_wrong_command_line_is_explained(rt: HostRuntime) -> Result<(), Fail> {
 // The help of each command ends with a call of it.
 #[test]
 fn help_shows_an_example(rt: HostRuntime) -> Result<(), Fail> {
-    let rows: [(&[&str], &[u8]); 8] = [
+    let rows: [(&[&str], &[u8]); 9] = [
         (&["--help"], b"Example: pramc run examples/sum.pram\n"),
         (
             &["check", "--help"],
@@ -148,6 +149,10 @@ fn help_shows_an_example(rt: HostRuntime) -> Result<(), Fail> {
         (
             &["cost", "--help"],
             b"Example: pramc cost examples/tree_sum.pram --input examples/tree_sum.in --schedule 2\n",
+        ),
+        (
+            &["steps", "--help"],
+            b"Example: pramc steps examples/tree_sum.pram --input examples/tree_sum.in --from 3 --to 7\n",
         ),
         (
             &["run", "--help"],
@@ -222,10 +227,10 @@ fn a_full_output_is_told(rt: HostRuntime) -> Result<(), Fail> {
     Ok(())
 }
 
-// The listing of a plan, and the lines of all rules, are written whole, or the failure is told.
+// The listing of a plan, the lines of all rules, and what is told of a run are written whole, or the failure is told.
 #[test]
-fn a_plan_and_rules_that_are_cut_off_are_told(rt: HostRuntime) -> Result<(), Fail> {
-    for verb in ["plan", "rules"] {
+fn a_text_that_is_cut_off_is_told(rt: HostRuntime) -> Result<(), Fail> {
+    for verb in ["plan", "rules", "steps"] {
         let whole = call(&rt, rt.alloc(), &[verb, "program"], SUM, b"")?;
         let size = whole.out.bytes().len();
         let words = [

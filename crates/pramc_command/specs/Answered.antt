@@ -37,6 +37,8 @@ use Rattle.pramc.specs.declared.options.Options.{Options}
 use Rattle.pramc.specs.Runs.{IsChoice, IsCodeRun, IsRunByWorkers}
 use Rattle.pramc.specs.Reserved.{IsCodePast, IsTextPast}
 use Rattle.pramc_command.specs.Costs.{HasCost, costs_text}
+use Rattle.run_steps.specs.Entries.{Entry}
+use Rattle.pramc_command.specs.Steps.{HasSteps, told_text}
 
 -- `accepted cells 16 procs 8 rule erew`
 abbrev pub accepted_line : Checked → List ℕ
@@ -83,7 +85,8 @@ HasRun code outcome =
     (input : List ℤ) × (options : Options) × (exchanges : List Exchange) × IsCodeRun code input options (verdict_of outcome) exchanges
 
 -- The texts that go with an exit status: of a text's program that it is accepted, the listing of its code, how it comes out, by its own
--- rule or by all, what its run costs and then how it comes out, or the exchanges of its run; of a listing how its code comes out.
+-- rule or by all, what its run costs and then how it comes out, its run statement by statement and then how it comes out, or the exchanges
+-- of its run; of a listing how its code comes out.
 pub data Tells : Status → List ℕ → Type 0 where
   Accepted : (program : Checked) → IsAProgram program → Tells Done (accepted_line program)
   Planned : (code : SuperstepCode) → IsPlanned code → Tells Done (spelling code)
@@ -92,6 +95,9 @@ pub data Tells : Status → List ℕ → Type 0 where
   Costed : (layout : List SharedEntry) (outcome : Outcome) (schedule : Option ℕ) (lines : Bool) (cost : Cost)
       → HasCost layout outcome schedule cost
       → Tells (status_of outcome) (costs_text (verdict_of outcome) cost schedule lines ++ shown layout (verdict_of outcome))
+  Stepped : (layout : List SharedEntry) (outcome : Outcome) (entries : List Entry) (first last : ℕ)
+      → HasSteps layout outcome entries
+      → Tells (status_of outcome) (told_text layout outcome entries first last)
   Compared : (c : Comparison) → IsCompared c → Tells Done (comparison_text c)
   Traced : (outcome : Outcome) (exchanges : List Exchange) → HasTrace outcome exchanges → Tells (status_of outcome) (trace_text exchanges)
   Executed : (code : SuperstepCode) (outcome : Outcome) → IsAListing code → HasRun code outcome

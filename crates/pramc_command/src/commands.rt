@@ -6,9 +6,10 @@ ghost use Rattle.pramc_command.specs.Answered.{Answers, IsAProgram, IsReported, 
 
 use crate::loading::{load_input, load_listing, load_program};
 use crate::request::{Request, RunWords, Verb, read_words};
-use crate::running::{code_of, compare, cost, execute, mean, run};
+use crate::running::{code_of, compare, cost, execute, mean, run, steps};
 use crate::writing::{
     write_accepted, write_costs, write_exchanges, write_outcome, write_plan, write_rules,
+    write_told,
 };
 use pram_check::Program;
 use pram_syntax::Out;
@@ -20,11 +21,12 @@ use std::thread::Threads;
 /// Does what the words behind the program's name ask for, and answers the exit status.
 ///
 /// `check FILE` writes `accepted cells N procs M rule R`; `plan FILE` the listing of the program's code; `meaning FILE` the outcome by
-/// the definition, `cost FILE` what that run costs and then its outcome, and `rules FILE` how it comes out under each rule; `run FILE`
-/// that of its code, run by workers in threads, and `trace FILE` the exchanges of that run; `exec LISTING` the outcome of a listing,
-/// run so. What is refused is written to `err`: P1 for the words, P2 for a file that can't be read, and E1 to E18. It is judged in this
-/// order: the words; the file and its text (of a listing E2, E15, E14); the input's file and its text; the number of workers (E13), the
-/// map (E12), and the number of the input's values (E11). With `--reserve` a run is refused besides where it comes past that (E18).
+/// the definition, `cost FILE` what that run costs and then its outcome, `steps FILE` that run statement by statement and then its
+/// outcome, and `rules FILE` how it comes out under each rule; `run FILE` that of its code, run by workers in threads, and `trace FILE`
+/// the exchanges of that run; `exec LISTING` the outcome of a listing, run so. What is refused is written to `err`: P1 for the words, P2
+/// for a file that can't be read, and E1 to E18. It is judged in this order: the words; the file and its text (of a listing E2, E15,
+/// E14); the input's file and its text; the number of workers (E13), the map (E12), and the number of the input's values (E11). With
+/// `--reserve` a run is refused besides where it comes past that (E18).
 pub fn command<R: Threads + Wait + Sync, S: Sources, O: Out, E: Out>(
     rt: &R,
     alloc: Global,
@@ -91,6 +93,23 @@ fn tell_costs<'a, S: Sources, O: Out>(
     write_costs(out, program.layout(), &outcome, &cost, words.costs)
 }
 
+// The run of a program statement by statement, and its outcome.
+fn tell_steps<'a, S: Sources, O: Out>(
+    alloc: Global,
+    program: &Program,
+    words: RunWords<'a>,
+    sources: &mut S,
+    out: &mut O,
+) -> Result<Status, Stop<'a>>
+    requires out { (O.Out.state out.old).failures < 2 ^ 62 }
+    requires program { IsAProgram program.now }
+    ensures answers { Answers (O.Out.state out.old) (O.Out.state out.new) result }
+{
+    let input = load_input(alloc, sources, words.input)?;
+    let (outcome, entries) = steps(alloc, program, &input, words.options.bound)?;
+    write_told(out, program.layout(), &outcome, &entries, words.steps)
+}
+
 // What is done with the program of a file.
 fn on_program<'a, R: Threads + Wait + Sync, S: Sources, O: Out>(
     rt: &R,
@@ -117,6 +136,7 @@ fn on_program<'a, R: Threads + Wait + Sync, S: Sources, O: Out>(
             write_outcome(out, program.layout(), &outcome)
         }
         Verb::Cost => tell_costs(alloc, &program, words, sources, out),
+        Verb::Steps => tell_steps(alloc, &program, words, sources, out),
         Verb::Rules => {
             let input = load_input(alloc, sources, words.input)?;
             let comparison = compare(alloc, program, &input, words.options.bound)?;

@@ -19,6 +19,10 @@ pub(crate) const SCHEDULE: &str = "schedule";
 
 pub(crate) const LINES: &str = "lines";
 
+pub(crate) const FROM: &str = "from";
+
+pub(crate) const TO: &str = "to";
+
 // What the help of a subcommand says.
 struct Subcommand {
     name: &'static str,
@@ -58,6 +62,13 @@ const COST: Subcommand = Subcommand {
     about: "Counts time, work, shared accesses and exchanges of the run, beside its outcome",
     file: PROGRAM,
     example: "Example: pramc cost examples/tree_sum.pram --input examples/tree_sum.in --schedule 2",
+};
+
+const STEPS: Subcommand = Subcommand {
+    name: "steps",
+    about: "Tells the run statement by statement, and then its outcome",
+    file: PROGRAM,
+    example: "Example: pramc steps examples/tree_sum.pram --input examples/tree_sum.in --from 3 --to 7",
 };
 
 const RULES: Subcommand = Subcommand {
@@ -124,6 +135,21 @@ fn over_cost<'a>(alloc: Global, words: &Subcommand) -> Result<Command<'a>, Alloc
     over_run(alloc, words)?.arg(schedule)?.arg(lines)
 }
 
+// A subcommand that tells a run statement by statement.
+fn over_steps<'a>(alloc: Global, words: &Subcommand) -> Result<Command<'a>, AllocError> {
+    let from = Arg::new(alloc, FROM)
+        .long(FROM)
+        .value_name("K")
+        .default_value("1")
+        .help("The first statement that is told, counted from 1");
+    let to = Arg::new(alloc, TO)
+        .long(TO)
+        .value_name("K")
+        .default_value("4294967295")
+        .help("The last statement that is told");
+    over_run(alloc, words)?.arg(from)?.arg(to)
+}
+
 // A subcommand that runs it by workers.
 fn over_workers<'a>(alloc: Global, words: &Subcommand) -> Result<Command<'a>, AllocError> {
     let workers = Arg::new(alloc, WORKERS)
@@ -156,6 +182,7 @@ pub(crate) fn grammar<'a>(alloc: Global) -> Result<Command<'a>, AllocError> {
         .subcommand(over_file(alloc, &PLAN)?)?
         .subcommand(over_run(alloc, &MEANING)?)?
         .subcommand(over_cost(alloc, &COST)?)?
+        .subcommand(over_steps(alloc, &STEPS)?)?
         .subcommand(over_run(alloc, &RULES)?)?
         .subcommand(over_workers(alloc, &RUN)?)?
         .subcommand(over_workers(alloc, &TRACE)?)?

@@ -7,6 +7,7 @@ mod grammar;
 mod loading;
 mod request;
 mod running;
+mod step_words;
 mod writing;
 
 pub use commands::command;

@@ -5,7 +5,10 @@ ghost use Rattle.std.specs.Option.{ForSome};
 ghost use Rattle.pramc_command.specs.Answered.{IsTrueStop};
 
 use crate::cost_words::CostWords;
-use crate::grammar::{BOUND, FILE, INPUT, LINES, MAP, RESERVE, SCHEDULE, WORKERS, grammar};
+use crate::grammar::{
+    BOUND, FILE, FROM, INPUT, LINES, MAP, RESERVE, SCHEDULE, TO, WORKERS, grammar,
+};
+use crate::step_words::StepWords;
 use bsp_machine::Reserve;
 use clap::ArgMatches;
 use clap::error::ErrorKind;
@@ -25,6 +28,8 @@ pub(crate) enum Verb {
     Meaning,
     /// What its run by its definition costs is counted.
     Cost,
+    /// Its run by its definition is told statement by statement.
+    Steps,
     /// It is run by its definition under each of the rules.
     Rules,
     /// It is run by workers.
@@ -42,6 +47,7 @@ pub(crate) struct RunWords<'a> {
     /// For how much workers take all their memory before the first exchange. Without one they take it on the way.
     pub(crate) reserve: Option<Reserve>,
     pub(crate) costs: CostWords,
+    pub(crate) steps: StepWords,
 }
 
 /// One call of the program.
@@ -121,6 +127,15 @@ fn cost_words<'a>(words: &ArgMatches<'a>) -> Result<CostWords, Stop<'a>>
     Ok(CostWords { schedule, lines })
 }
 
+// Both are 0 where the command has no such options.
+fn step_words<'a>(words: &ArgMatches<'a>) -> Result<StepWords, Stop<'a>>
+    ensures { IfErr result IsTrueStop }
+{
+    let from = number_of(words, FROM)?;
+    let to = number_of(words, TO)?;
+    Ok(StepWords { from, to })
+}
+
 fn run_words<'a>(words: &ArgMatches<'a>) -> Result<RunWords<'a>, Stop<'a>>
     ensures { IfErr result IsTrueStop }
 {
@@ -129,6 +144,7 @@ fn run_words<'a>(words: &ArgMatches<'a>) -> Result<RunWords<'a>, Stop<'a>>
     let map = map_of(words)?;
     let reserve = reserve_of(words)?;
     let costs = cost_words(words)?;
+    let steps = step_words(words)?;
     Ok(RunWords {
         input: words.get_str(INPUT),
         options: Options {
@@ -138,6 +154,7 @@ fn run_words<'a>(words: &ArgMatches<'a>) -> Result<RunWords<'a>, Stop<'a>>
         },
         reserve,
         costs,
+        steps,
     })
 }
 
@@ -183,6 +200,7 @@ pub(crate) fn read_words<'a>(alloc: Global, words: &'a [String]) -> Result<Reque
         Some(("plan", inner)) => asked(Verb::Plan, inner),
         Some(("meaning", inner)) => asked(Verb::Meaning, inner),
         Some(("cost", inner)) => asked(Verb::Cost, inner),
+        Some(("steps", inner)) => asked(Verb::Steps, inner),
         Some(("rules", inner)) => asked(Verb::Rules, inner),
         Some(("run", inner)) => asked(Verb::Run, inner),
         Some(("trace", inner)) => asked(Verb::Trace, inner),

@@ -1,9 +1,11 @@
 //! What programs and listings come to.
 
-ghost use Rattle.std.specs.Prelude.{◌≡◌, ◌<◌, IfOk, IfErr};
+ghost use Rattle.std.specs.Prelude.{◌≡◌, ◌<◌, IfOk, IfErr, map};
+ghost use Rattle.run_steps.specs.Entries.{entry_is};
 ghost use Rattle.pramc_command.specs.Answered.{HasOutcome, HasRun, HasTrace, IsAListing, IsAProgram, IsCompared, IsPlanned, IsTrueStop};
 ghost use Rattle.pramc_command.specs.Costs.{HasCost};
 ghost use Rattle.pramc_command.specs.Costs as spec;
+ghost use Rattle.pramc_command.specs.Steps.{HasSteps};
 
 use crate::cost_words::CostWords;
 use bsp_machine::Reserve;
@@ -15,6 +17,7 @@ use pram_meaning::RunRefusal;
 use pramc::{Options, run_code, run_program};
 use program_texts::{Refusal, Stop, mean_program};
 use rule_comparison::{Comparison, compare_rules};
+use run_steps::{Entry, steps_of};
 use std::alloc::Global;
 use std::sync::Wait;
 use std::thread::Threads;
@@ -73,6 +76,24 @@ pub(crate) fn cost<'a>(
 {
     let schedule = processors_of(words);
     match cost_of(alloc, program, input, bound, schedule) {
+        Ok(found) => Ok(found),
+        Err(RunRefusal::InputTooLong) => Err(Stop::Refused(Refusal::InputTooLong)),
+        Err(RunRefusal::OutOfMemory) => Err(Stop::Refused(Refusal::OutOfMemory)),
+    }
+}
+
+/// The outcome by the definition, and what is told of that run, statement by statement.
+pub(crate) fn steps<'a>(
+    alloc: Global,
+    program: &Program,
+    input: &[i64],
+    bound: u32,
+) -> Result<(Outcome, Vec<Entry>), Stop<'a>>
+    requires program { IsAProgram program.now }
+    ensures steps { IfOk result (λ found. HasSteps program.now.layout found.0 (map entry_is found.1.items)) }
+    ensures refused { IfErr result IsTrueStop }
+{
+    match steps_of(alloc, program, input, bound) {
         Ok(found) => Ok(found),
         Err(RunRefusal::InputTooLong) => Err(Stop::Refused(Refusal::InputTooLong)),
         Err(RunRefusal::OutOfMemory) => Err(Stop::Refused(Refusal::OutOfMemory)),

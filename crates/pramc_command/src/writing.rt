@@ -1,14 +1,17 @@
 //! What a call writes to standard output.
 
-ghost use Rattle.std.specs.Prelude.{◌<◌, ◌^◌, ◌++◌};
+ghost use Rattle.std.specs.Prelude.{◌<◌, ◌^◌, ◌++◌, map};
 ghost use Rattle.text_out.specs.Out.{Writes};
 ghost use Rattle.write_rules.specs.Verdict.{verdict_of};
 ghost use Rattle.program_texts.specs.Shown.{shown};
 ghost use Rattle.program_texts.specs.Status.{status_of};
+ghost use Rattle.run_steps.specs.Entries.{entry_is};
 ghost use Rattle.pramc_command.specs.Answered.{Answers, HasTrace, IsAProgram, IsCompared, IsPlanned, Tells, accepted_line};
 ghost use Rattle.pramc_command.specs.Costs.{HasCost, costs_text};
+ghost use Rattle.pramc_command.specs.Steps.{HasSteps, told_text};
 
 use crate::cost_words::CostWords;
+use crate::step_words::StepWords;
 use cost_texts::{write_cost, write_lines};
 use exchange_counts::Counts;
 use itoa::Buffer;
@@ -16,6 +19,8 @@ use pram_check::Program;
 use pram_syntax::{Layout, Out, WriteFault};
 use program_texts::{Status, Stop, finish, rule_word, show};
 use rule_comparison::{Comparison, show_comparison};
+use run_steps::Entry;
+use step_texts::write_steps;
 use superstep_code::Code;
 use superstep_listing::write_listing;
 use tracer::write_trace;
@@ -89,6 +94,43 @@ pub(crate) fn write_costs<'a, O: Out>(
     ensures answers { Answers (O.Out.state out.old) (O.Out.state out.new) result }
 {
     match write_numbers_and_outcome(out, layout, outcome, cost, words) {
+        Ok(()) => {
+            let status = Status::of(outcome);
+            finish(out, status)
+        }
+        Err(WriteFault) => Err(Stop::WriteFailed),
+    }
+}
+
+// The entries that are asked for, and behind them the run's outcome.
+fn write_entries_and_outcome<O: Out>(
+    out: &mut O,
+    layout: &Layout,
+    outcome: &Outcome,
+    entries: &[Entry],
+    words: StepWords,
+) -> Result<(), WriteFault>
+    requires out { (O.Out.state out.old).failures < 2 ^ 62 }
+    ensures written { Writes (O.Out.state out.old) (O.Out.state out.new)
+        (told_text layout.now outcome.now (map entry_is entries.now) words.from words.to) result }
+{
+    write_steps(out, layout, entries, words.from as usize, words.to as usize)?;
+    show(layout, outcome, out)
+}
+
+/// Writes a run statement by statement, and behind that its outcome.
+pub(crate) fn write_told<'a, O: Out>(
+    out: &mut O,
+    layout: &Layout,
+    outcome: &Outcome,
+    entries: &[Entry],
+    words: StepWords,
+) -> Result<Status, Stop<'a>>
+    requires out { (O.Out.state out.old).failures < 2 ^ 62 }
+    requires steps { HasSteps layout.now outcome.now (map entry_is entries.now) }
+    ensures answers { Answers (O.Out.state out.old) (O.Out.state out.new) result }
+{
+    match write_entries_and_outcome(out, layout, outcome, entries, words) {
         Ok(()) => {
             let status = Status::of(outcome);
             finish(out, status)
