@@ -1,3 +1,4 @@
 pub mod Answering
 pub mod Reasons
 pub mod Costs
+pub mod Versions

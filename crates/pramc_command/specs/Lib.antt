@@ -1,3 +1,4 @@
 pub mod Costs
 pub mod Steps
+pub mod Version
 pub mod Answered

@@ -1,15 +1,17 @@
 //! The program `pramc`, but for the real files and streams.
 
-ghost use Rattle.std.specs.Prelude.{◌<◌, ◌^◌};
+ghost use Rattle.std.specs.Prelude.{◌<◌, ◌^◌, map};
+ghost use Rattle.std.specs.String.{string_bytes};
 ghost use Rattle.program_texts.specs.StoppedFields.{stop_text};
 ghost use Rattle.pramc_command.specs.Answered.{Answers, IsAProgram, IsReported, Leaves};
+ghost use Rattle.pramc_command.specs.Version.{AnswersVersion, AsksForVersion, LeavesVersion};
 
 use crate::loading::{load_input, load_listing, load_program};
 use crate::request::{Request, RunWords, Verb, read_words};
 use crate::running::{code_of, compare, cost, execute, mean, run, steps};
 use crate::writing::{
     write_accepted, write_costs, write_exchanges, write_outcome, write_plan, write_rules,
-    write_told,
+    write_told, write_version,
 };
 use pram_check::Program;
 use pram_syntax::Out;
@@ -23,8 +25,8 @@ use std::thread::Threads;
 /// `check FILE` writes `accepted cells N procs M rule R`; `plan FILE` the listing of the program's code; `meaning FILE` the outcome by
 /// the definition, `cost FILE` what that run costs and then its outcome, `steps FILE` that run statement by statement and then its
 /// outcome, and `rules FILE` how it comes out under each rule; `run FILE` that of its code, run by workers in threads, and `trace FILE`
-/// the exchanges of that run; `exec LISTING` the outcome of a listing, run so. What is refused is written to `err`: P1 for the words, P2
-/// for a file that can't be read, and E1 to E18. It is judged in this order: the words; the file and its text (of a listing E2, E15,
+/// the exchanges of that run; `exec LISTING` the outcome of a listing, run so; `--version`, or `-V`, the line `pramc 0.1.0`. What is
+/// refused is written to `err`: P1 for the words, P2 for a file that can't be read, and E1 to E18. It is judged in this order: the words; the file and its text (of a listing E2, E15,
 /// E14); the input's file and its text; the number of workers (E13), the map (E12), and the number of the input's values (E11). With
 /// `--reserve` a run is refused besides where it comes past that (E18).
 pub fn command<R: Threads + Wait + Sync, S: Sources, O: Out, E: Out>(
@@ -38,6 +40,8 @@ pub fn command<R: Threads + Wait + Sync, S: Sources, O: Out, E: Out>(
     requires out { (O.Out.state out.old).failures < 2 ^ 62 }
     requires err { (E.Out.state err.old).failures < 2 ^ 62 }
     ensures leaves { Leaves (O.Out.state out.old) (O.Out.state out.new) (E.Out.state err.old) (E.Out.state err.new) result }
+    ensures version { AsksForVersion (map string_bytes words.now) → LeavesVersion (O.Out.state out.old) (O.Out.state out.new)
+        (E.Out.state err.old) (E.Out.state err.new) result }
 {
     match perform(rt, alloc, words, sources, out) {
         Ok(status) => status,
@@ -67,8 +71,10 @@ fn perform<'a, R: Threads + Wait + Sync, S: Sources, O: Out>(
 ) -> Result<Status, Stop<'a>>
     requires out { (O.Out.state out.old).failures < 2 ^ 62 }
     ensures answers { Answers (O.Out.state out.old) (O.Out.state out.new) result }
+    ensures version { AsksForVersion (map string_bytes words.now) → AnswersVersion (O.Out.state out.old) (O.Out.state out.new) result }
 {
     match read_words(alloc, words)? {
+        Request::Version => write_version(out),
         Request::Program { verb, file, words } => {
             on_program(rt, alloc, verb, file, words, sources, out)
         }

@@ -1,5 +1,6 @@
 //! The words that the program takes, and its help.
 
+use crate::version::VERSION;
 use clap::{Arg, ArgAction, Command};
 use std::alloc::{AllocError, Global};
 
@@ -176,7 +177,7 @@ pub(crate) fn grammar<'a>(alloc: Global) -> Result<Command<'a>, AllocError> {
         .after_help("Example: pramc run examples/sum.pram")
         .no_binary_name(true)
         .subcommand_required(true)
-        .disable_version_flag(true)
+        .version(VERSION)
         .bin_name("pramc")?
         .subcommand(over_file(alloc, &CHECK)?)?
         .subcommand(over_file(alloc, &PLAN)?)?

@@ -8,6 +8,7 @@ mod loading;
 mod request;
 mod running;
 mod step_words;
+mod version;
 mod writing;
 
 pub use commands::command;

@@ -1,14 +1,17 @@
 //! What a command line asks for.
 
-ghost use Rattle.std.specs.Prelude.{◌<◌, IfOk, IfErr};
+ghost use Rattle.std.specs.Prelude.{◌≡◌, ◌<◌, IfOk, IfErr, map};
 ghost use Rattle.std.specs.Option.{ForSome};
+ghost use Rattle.std.specs.String.{string_bytes};
 ghost use Rattle.pramc_command.specs.Answered.{IsTrueStop};
+ghost use Rattle.pramc_command.specs.Version.{AsksForVersion};
 
 use crate::cost_words::CostWords;
 use crate::grammar::{
     BOUND, FILE, FROM, INPUT, LINES, MAP, RESERVE, SCHEDULE, TO, WORKERS, grammar,
 };
 use crate::step_words::StepWords;
+use crate::version::asks_for_version;
 use bsp_machine::Reserve;
 use clap::ArgMatches;
 use clap::error::ErrorKind;
@@ -53,6 +56,8 @@ pub(crate) struct RunWords<'a> {
 /// One call of the program.
 #[derive(Clone, Copy, Debug)]
 pub(crate) enum Request<'a> {
+    /// For the version.
+    Version,
     /// Over the text of a program.
     Program {
         verb: Verb,
@@ -187,13 +192,28 @@ fn refused<'a>(alloc: Global, error: clap::Error) -> Stop<'a>
     }
 }
 
-/// Reads the words behind the program's name.
-pub(crate) fn read_words<'a>(alloc: Global, words: &'a [String]) -> Result<Request<'a>, Stop<'a>>
+// The parser has found the version asked for among other words, or it refused the command line.
+fn unmatched<'a>(alloc: Global, error: clap::Error) -> Result<Request<'a>, Stop<'a>>
     ensures { IfErr result IsTrueStop }
 {
+    if error.kind() == ErrorKind::DisplayVersion {
+        return Ok(Request::Version);
+    }
+    Err(refused(alloc, error))
+}
+
+/// Reads the words behind the program's name.
+pub(crate) fn read_words<'a>(alloc: Global, words: &'a [String]) -> Result<Request<'a>, Stop<'a>>
+    ensures version { AsksForVersion (map string_bytes words.now) → result ≡ Ok Request.Version }
+    ensures refused { IfErr result IsTrueStop }
+{
+    // No contract says what the parser makes of these words.
+    if asks_for_version(words) {
+        return Ok(Request::Version);
+    }
     let matches = match grammar(alloc)?.try_get_matches_from(words) {
         Ok(matches) => matches,
-        Err(error) => return Err(refused(alloc, error)),
+        Err(error) => return unmatched(alloc, error),
     };
     match matches.subcommand() {
         Some(("check", inner)) => asked(Verb::Check, inner),

@@ -9,9 +9,11 @@ ghost use Rattle.run_steps.specs.Entries.{entry_is};
 ghost use Rattle.pramc_command.specs.Answered.{Answers, HasTrace, IsAProgram, IsCompared, IsPlanned, Tells, accepted_line};
 ghost use Rattle.pramc_command.specs.Costs.{HasCost, costs_text};
 ghost use Rattle.pramc_command.specs.Steps.{HasSteps, told_text};
+ghost use Rattle.pramc_command.specs.Version.{AnswersVersion, version_text};
 
 use crate::cost_words::CostWords;
 use crate::step_words::StepWords;
+use crate::version::VERSION;
 use cost_texts::{write_cost, write_lines};
 use exchange_counts::Counts;
 use itoa::Buffer;
@@ -183,6 +185,25 @@ pub(crate) fn write_plan<'a, O: Out>(out: &mut O, code: &Code) -> Result<Status,
         Ok(()) => finish(out, Status::Done),
         Err(WriteFault) => Err(Stop::WriteFailed),
     }
+}
+
+/// Writes the version.
+pub(crate) fn write_version<'a, O: Out>(out: &mut O) -> Result<Status, Stop<'a>>
+    requires out { (O.Out.state out.old).failures < 2 ^ 62 }
+    ensures answers { Answers (O.Out.state out.old) (O.Out.state out.new) result }
+    ensures version { AnswersVersion (O.Out.state out.old) (O.Out.state out.new) result }
+{
+    match write_version_line(out) {
+        Ok(()) => finish(out, Status::Done),
+        Err(WriteFault) => Err(Stop::WriteFailed),
+    }
+}
+
+fn write_version_line<O: Out>(out: &mut O) -> Result<(), WriteFault>
+    requires out { (O.Out.state out.old).failures < 2 ^ 62 }
+    ensures written { Writes (O.Out.state out.old) (O.Out.state out.new) version_text result }
+{
+    out.write_parts(&[b"pramc ", VERSION.as_bytes(), b"\n"])
 }
 
 /// Writes that a program is accepted.
