@@ -4,7 +4,7 @@ _pramc() {
     local word=${COMP_WORDS[COMP_CWORD]} before=${COMP_WORDS[COMP_CWORD - 1]} words=
     COMPREPLY=()
     if [ "$COMP_CWORD" -eq 1 ]; then
-        words="check plan meaning cost steps rules run trace exec --help"
+        words="check plan meaning cost steps rules run trace exec --help --version"
     else
         case $before in
         --input) ;;

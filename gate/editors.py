@@ -101,7 +101,7 @@ def completed(*words):
 
 
 def completions():
-    yield "commands", completed("pramc", ""), set(commands()) | {"--help"}
+    yield "commands", completed("pramc", ""), set(commands()) | {"--help", "--version"}
     for name, options in commands().items():
         yield f"options of {name}", completed("pramc", name, "-"), {f"--{it}" for it in options} | {"--help"}
     yield "maps", completed("pramc", "run", "--map", ""), {"identity", "affine:"}

@@ -176,6 +176,46 @@ fn help_shows_an_example(rt: HostRuntime) -> Result<(), Fail> {
     Ok(())
 }
 
+// The version is written wherever it is asked for before a command, and a command has none of its own.
+#[test]
+fn the_version_is_written(rt: HostRuntime) -> Result<(), Fail> {
+    let rows: [&[&str]; 4] = [
+        &["--version"],
+        &["-V"],
+        &["--version", "run"],
+        &["-V", "walk"],
+    ];
+    for words in rows {
+        assert!(&rt; prints(&rt, rt.alloc(), words, SUM, b"", (b"pramc 0.1.0\n", b"", 0)));
+    }
+    let said = call(&rt, rt.alloc(), &["run", "--version"], SUM, b"")?;
+    assert!(&rt; said.status == Status::Refused);
+    assert!(&rt; said.out.bytes().is_empty());
+    Ok(())
+}
+
+#[test]
+fn a_version_that_is_cut_off_is_told(rt: HostRuntime) -> Result<(), Fail> {
+    let words = [String::from_str(rt.alloc(), "--version")?];
+    for room in 0..13 {
+        let mut shelf = Shelf {
+            program: SUM,
+            input: b"",
+        };
+        let mut out = Full { room, failures: 0 };
+        let mut err = Buffer::new(rt.alloc());
+        let status = command(&rt, rt.alloc(), &words, &mut shelf, &mut out, &mut err);
+        let line: &[u8] = if room == 12 {
+            b""
+        } else {
+            b"refused E17 WriteFailed\n"
+        };
+        assert!(&rt; (status == Status::Done) == (room == 12));
+        assert!(&rt; err.bytes() == line);
+    }
+    Ok(())
+}
+
 // Takes some bytes, and then fails.
 #[derive(Drop)]
 struct Full {
