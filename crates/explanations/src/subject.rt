@@ -1,0 +1,139 @@
+//! What is explained.
+
+ghost use Rattle.std.specs.Prelude.{◌≡◌, IfSome, None};
+ghost use Rattle.explanations.specs.Explained.{NamesNothing, subject_word};
+
+/// What is explained: a refusal, or a kind of fault.
+#[derive(Clone, Copy, Debug, PartialEq, Eq)]
+pub enum Subject {
+    /// `E1`.
+    NotAscii,
+    /// `E2`.
+    TextTooLong,
+    /// `E3`.
+    BadToken,
+    /// `E4`.
+    Syntax,
+    /// `E5`.
+    TooDeep,
+    /// `E6`.
+    UnknownName,
+    /// `E7`.
+    DoubleName,
+    /// `E8`.
+    WrongKind,
+    /// `E9`.
+    AssignedLoopVariable,
+    /// `E10`.
+    Limit,
+    /// `E11`.
+    InputTooLong,
+    /// `E12`.
+    BadMap,
+    /// `E13`.
+    BadWorkers,
+    /// `E14`.
+    NotVerified,
+    /// `E15`.
+    BadListing,
+    /// `E16`.
+    OutOfMemory,
+    /// `E17`.
+    WriteFailed,
+    /// `E18`.
+    OutOfReserve,
+    /// `P1`.
+    CommandLine,
+    /// `P2`.
+    UnreadableFile,
+    /// `overflow`.
+    Overflow,
+    /// `divide-by-zero`.
+    DivideByZero,
+    /// `out-of-range`.
+    OutOfRange,
+    /// `too-wide`.
+    TooWide,
+    /// `read-conflict`.
+    ReadConflict,
+    /// `write-conflict`.
+    WriteConflict,
+}
+
+const SUBJECTS: [Subject; 26] = [
+    Subject::NotAscii,
+    Subject::TextTooLong,
+    Subject::BadToken,
+    Subject::Syntax,
+    Subject::TooDeep,
+    Subject::UnknownName,
+    Subject::DoubleName,
+    Subject::WrongKind,
+    Subject::AssignedLoopVariable,
+    Subject::Limit,
+    Subject::InputTooLong,
+    Subject::BadMap,
+    Subject::BadWorkers,
+    Subject::NotVerified,
+    Subject::BadListing,
+    Subject::OutOfMemory,
+    Subject::WriteFailed,
+    Subject::OutOfReserve,
+    Subject::CommandLine,
+    Subject::UnreadableFile,
+    Subject::Overflow,
+    Subject::DivideByZero,
+    Subject::OutOfRange,
+    Subject::TooWide,
+    Subject::ReadConflict,
+    Subject::WriteConflict,
+];
+
+// The word of a subject.
+fn word_of(subject: Subject) -> &'static str
+    ensures { result.now ≡ subject_word subject }
+{
+    match subject {
+        Subject::NotAscii => "E1",
+        Subject::TextTooLong => "E2",
+        Subject::BadToken => "E3",
+        Subject::Syntax => "E4",
+        Subject::TooDeep => "E5",
+        Subject::UnknownName => "E6",
+        Subject::DoubleName => "E7",
+        Subject::WrongKind => "E8",
+        Subject::AssignedLoopVariable => "E9",
+        Subject::Limit => "E10",
+        Subject::InputTooLong => "E11",
+        Subject::BadMap => "E12",
+        Subject::BadWorkers => "E13",
+        Subject::NotVerified => "E14",
+        Subject::BadListing => "E15",
+        Subject::OutOfMemory => "E16",
+        Subject::WriteFailed => "E17",
+        Subject::OutOfReserve => "E18",
+        Subject::CommandLine => "P1",
+        Subject::UnreadableFile => "P2",
+        Subject::Overflow => "overflow",
+        Subject::DivideByZero => "divide-by-zero",
+        Subject::OutOfRange => "out-of-range",
+        Subject::TooWide => "too-wide",
+        Subject::ReadConflict => "read-conflict",
+        Subject::WriteConflict => "write-conflict",
+    }
+}
+
+/// The subject that a word names: the number of a refusal, `E1` to `E18`, `P1` or `P2`, or the name of a fault, as `read-conflict`.
+/// `None`: it names none.
+pub fn subject_of(word: &str) -> Option<Subject>
+    ensures named { IfSome result (λ subject. word.now ≡ subject_word subject) }
+    ensures none { result ≡ None → NamesNothing word.now }
+{
+    'subjects: for i in 0..SUBJECTS.len() {
+        let subject = SUBJECTS[i];
+        if word_of(subject) == word {
+            return Some(subject);
+        }
+    }
+    None
+}
