@@ -4,7 +4,7 @@ _pramc() {
     local word=${COMP_WORDS[COMP_CWORD]} before=${COMP_WORDS[COMP_CWORD - 1]} words=
     COMPREPLY=()
     if [ "$COMP_CWORD" -eq 1 ]; then
-        words="check plan meaning cost steps rules run trace exec --help --version"
+        words="check plan meaning cost steps rules run trace exec explain --help --version"
     else
         case $before in
         --input) ;;
@@ -17,9 +17,12 @@ _pramc() {
             cost) words="--bound --input --schedule --lines --help" ;;
             steps) words="--bound --input --from --to --help" ;;
             run | trace | exec) words="--bound --input --workers --map --reserve --help" ;;
+            explain)
+                words="$(echo E{1..18}) P1 P2 overflow divide-by-zero out-of-range too-wide read-conflict write-conflict --help"
+                ;;
             *) return ;;
             esac
-            [[ $word == -* ]] || words=
+            [[ $word == -* || ${COMP_WORDS[1]} == explain ]] || words=
             ;;
         esac
     fi

@@ -43,6 +43,11 @@ def commands():
     return {names[of]: makers[maker] for maker, of in re.findall(r"\.subcommand\((\w+)\(alloc, &(\w+)\)\?\)", text)}
 
 
+def subjects():
+    """The words that name a refusal or a fault."""
+    return set(re.findall(r'Subject::\w+ => "([^"]+)"', source("explanations/src/subject.rt")))
+
+
 def alternatives(text):
     """The words of each group of alternatives in a pattern of the editors' files."""
     return {word for group in re.findall(r"\(([a-z|\\]+)\)", text) for word in group.replace("\\", "").split("|")}
@@ -104,6 +109,7 @@ def completions():
     yield "commands", completed("pramc", ""), set(commands()) | {"--help", "--version"}
     for name, options in commands().items():
         yield f"options of {name}", completed("pramc", name, "-"), {f"--{it}" for it in options} | {"--help"}
+    yield "subjects", completed("pramc", "explain", "") - {"--help"}, subjects()
     yield "maps", completed("pramc", "run", "--map", ""), {"identity", "affine:"}
 
 

@@ -101,19 +101,19 @@ code 1
 0 halt
 ";
 
-pub(crate) const OUT_OF_MEMORY: [u8; 403] = *b"E16 OutOfMemory: memory was refused.
+pub(crate) const OUT_OF_MEMORY: [u8; 421] = *b"E16 OutOfMemory: memory was refused.
 
 The system gave no more memory, or started no more threads. Nothing is lost but the run. A run takes memory
 for its cells, for its output, and for the code of its program; `pramc steps` holds the whole run.
 
 This has it:
 
-$ (ulimit -v 100000; pramc steps long.pram)
+$ (ulimit -v 100000; pramc steps loop.pram --bound 100000000)
 refused E16 OutOfMemory
 
 This is mended:
 
-$ (ulimit -v 100000; pramc steps long.pram --bound 1000)
+$ (ulimit -v 100000; pramc steps loop.pram --bound 1000)
 ";
 
 pub(crate) const WRITE_FAILED: [u8; 250] = *b"E17 WriteFailed: standard output failed.

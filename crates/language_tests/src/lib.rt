@@ -10,6 +10,8 @@ mod costs;
 #[cfg(test)]
 mod exchanges;
 #[cfg(test)]
+mod explained;
+#[cfg(test)]
 mod limits;
 #[cfg(test)]
 mod narrow;

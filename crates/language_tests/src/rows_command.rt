@@ -109,7 +109,7 @@ fn the_program_is_judged_before_the_input(rt: HostRuntime) -> Result<(), Fail> {
 // The words of the command line's parser are not fixed, but that they are there is.
 #[test]
 fn a_wrong_command_line_is_explained(rt: HostRuntime) -> Result<(), Fail> {
-    let rows: [&[&str]; 9] = [
+    let rows: [&[&str]; 10] = [
         &[],
         &["run"],
         &["walk", "program"],
@@ -117,6 +117,7 @@ fn a_wrong_command_line_is_explained(rt: HostRuntime) -> Result<(), Fail> {
         &["plan", "program", "--bound", "3"],
         &["rules", "program", "--workers", "2"],
         &["steps", "program", "--lines"],
+        &["explain"],
         &["run", "program", "more"],
         &["--help"],
     ];
@@ -132,7 +133,7 @@ fn a_wrong_command_line_is_explained(rt: HostRuntime) -> Result<(), Fail> {
 // The help of each command ends with a call of it.
 #[test]
 fn help_shows_an_example(rt: HostRuntime) -> Result<(), Fail> {
-    let rows: [(&[&str], &[u8]); 9] = [
+    let rows: [(&[&str], &[u8]); 10] = [
         (&["--help"], b"Example: pramc run examples/sum.pram\n"),
         (
             &["check", "--help"],
@@ -166,6 +167,7 @@ fn help_shows_an_example(rt: HostRuntime) -> Result<(), Fail> {
             &["exec", "--help"],
             b"Example: pramc exec sum.bsp --workers 2 --map affine:5,3\n",
         ),
+        (&["explain", "--help"], b"Example: pramc explain E6\n"),
     ];
     for (words, example) in rows {
         let said = call(&rt, rt.alloc(), words, SUM, b"")?;

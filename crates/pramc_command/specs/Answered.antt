@@ -40,6 +40,8 @@ use Rattle.pramc_command.specs.Costs.{HasCost, costs_text}
 use Rattle.run_steps.specs.Entries.{Entry}
 use Rattle.pramc_command.specs.Steps.{HasSteps, told_text}
 use Rattle.pramc_command.specs.Version.{version_text}
+use Rattle.explanations.specs.Explained.{explanation}
+use Rattle.explanations.specs.declared.subject.Subject.{Subject}
 
 -- `accepted cells 16 procs 8 rule erew`
 abbrev pub accepted_line : Checked → List ℕ
@@ -87,7 +89,7 @@ HasRun code outcome =
 
 -- The texts that go with an exit status: of a text's program that it is accepted, the listing of its code, how it comes out, by its own
 -- rule or by all, what its run costs and then how it comes out, its run statement by statement and then how it comes out, or the exchanges
--- of its run; of a listing how its code comes out; or the version.
+-- of its run; of a listing how its code comes out; what there is to say of a refusal or a fault; or the version.
 pub data Tells : Status → List ℕ → Type 0 where
   Accepted : (program : Checked) → IsAProgram program → Tells Done (accepted_line program)
   Planned : (code : SuperstepCode) → IsPlanned code → Tells Done (spelling code)
@@ -103,6 +105,7 @@ pub data Tells : Status → List ℕ → Type 0 where
   Traced : (outcome : Outcome) (exchanges : List Exchange) → HasTrace outcome exchanges → Tells (status_of outcome) (trace_text exchanges)
   Executed : (code : SuperstepCode) (outcome : Outcome) → IsAListing code → HasRun code outcome
       → Tells (status_of outcome) (shown code.layout (verdict_of outcome))
+  Explained : (subject : Subject) → Tells Done (explanation subject)
   Versioned : Tells Done version_text
 
 -- all of such a text was written

@@ -11,7 +11,7 @@ use crate::request::{Request, RunWords, Verb, read_words};
 use crate::running::{code_of, compare, cost, execute, mean, run, steps};
 use crate::writing::{
     write_accepted, write_costs, write_exchanges, write_outcome, write_plan, write_rules,
-    write_told, write_version,
+    write_subject, write_told, write_version,
 };
 use pram_check::Program;
 use pram_syntax::Out;
@@ -25,10 +25,12 @@ use std::thread::Threads;
 /// `check FILE` writes `accepted cells N procs M rule R`; `plan FILE` the listing of the program's code; `meaning FILE` the outcome by
 /// the definition, `cost FILE` what that run costs and then its outcome, `steps FILE` that run statement by statement and then its
 /// outcome, and `rules FILE` how it comes out under each rule; `run FILE` that of its code, run by workers in threads, and `trace FILE`
-/// the exchanges of that run; `exec LISTING` the outcome of a listing, run so; `--version`, or `-V`, the line `pramc 0.1.0`. What is
-/// refused is written to `err`: P1 for the words, P2 for a file that can't be read, and E1 to E18. It is judged in this order: the words; the file and its text (of a listing E2, E15,
-/// E14); the input's file and its text; the number of workers (E13), the map (E12), and the number of the input's values (E11). With
-/// `--reserve` a run is refused besides where it comes past that (E18).
+/// the exchanges of that run; `exec LISTING` the outcome of a listing, run so; `explain WORD` what a refusal or a fault is; `--version`,
+/// or `-V`, the line `pramc 0.1.0`.
+///
+/// What is refused is written to `err`: P1 for the words, P2 for a file that can't be read, and E1 to E18. It is judged in this order:
+/// the words; the file and its text (of a listing E2, E15, E14); the input's file and its text; the number of workers (E13), the map
+/// (E12), and the number of the input's values (E11). With `--reserve` a run is refused besides where it comes past that (E18).
 pub fn command<R: Threads + Wait + Sync, S: Sources, O: Out, E: Out>(
     rt: &R,
     alloc: Global,
@@ -75,6 +77,7 @@ fn perform<'a, R: Threads + Wait + Sync, S: Sources, O: Out>(
 {
     match read_words(alloc, words)? {
         Request::Version => write_version(out),
+        Request::Explanation(subject) => write_subject(out, subject),
         Request::Program { verb, file, words } => {
             on_program(rt, alloc, verb, file, words, sources, out)
         }

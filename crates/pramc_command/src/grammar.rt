@@ -6,6 +6,8 @@ use std::alloc::{AllocError, Global};
 
 pub(crate) const FILE: &str = "FILE";
 
+pub(crate) const WORD: &str = "WORD";
+
 pub(crate) const BOUND: &str = "bound";
 
 pub(crate) const INPUT: &str = "input";
@@ -28,8 +30,8 @@ pub(crate) const TO: &str = "to";
 struct Subcommand {
     name: &'static str,
     about: &'static str,
-    // what its file is
-    file: &'static str,
+    // what it is over
+    over: &'static str,
     example: &'static str,
 }
 
@@ -40,69 +42,85 @@ const LISTING: &str = "A listing of superstep code";
 const CHECK: Subcommand = Subcommand {
     name: "check",
     about: "Says whether the program is accepted",
-    file: PROGRAM,
+    over: PROGRAM,
     example: "Example: pramc check examples/sum.pram",
 };
 
 const PLAN: Subcommand = Subcommand {
     name: "plan",
     about: "Writes the superstep code of the program",
-    file: PROGRAM,
+    over: PROGRAM,
     example: "Example: pramc plan examples/sum.pram > sum.bsp",
 };
 
 const MEANING: Subcommand = Subcommand {
     name: "meaning",
     about: "Runs the program by its definition",
-    file: PROGRAM,
+    over: PROGRAM,
     example: "Example: pramc meaning examples/tree_sum.pram --input examples/tree_sum.in",
 };
 
 const COST: Subcommand = Subcommand {
     name: "cost",
     about: "Counts time, work, shared accesses and exchanges of the run, beside its outcome",
-    file: PROGRAM,
+    over: PROGRAM,
     example: "Example: pramc cost examples/tree_sum.pram --input examples/tree_sum.in --schedule 2",
 };
 
 const STEPS: Subcommand = Subcommand {
     name: "steps",
     about: "Tells the run statement by statement, and then its outcome",
-    file: PROGRAM,
+    over: PROGRAM,
     example: "Example: pramc steps examples/tree_sum.pram --input examples/tree_sum.in --from 3 --to 7",
 };
 
 const RULES: Subcommand = Subcommand {
     name: "rules",
     about: "Compares what the program comes to under each rule",
-    file: PROGRAM,
+    over: PROGRAM,
     example: "Example: pramc rules examples/maximum.pram --input examples/maximum.in",
 };
 
 const RUN: Subcommand = Subcommand {
     name: "run",
     about: "Compiles the program and runs it",
-    file: PROGRAM,
+    over: PROGRAM,
     example: "Example: pramc run examples/tree_sum.pram --input examples/tree_sum.in --workers 2",
 };
 
 const TRACE: Subcommand = Subcommand {
     name: "trace",
     about: "Writes the exchanges of the same run",
-    file: PROGRAM,
+    over: PROGRAM,
     example: "Example: pramc trace examples/tree_sum.pram --input examples/tree_sum.in --workers 2",
 };
 
 const EXEC: Subcommand = Subcommand {
     name: "exec",
     about: "Runs a listing",
-    file: LISTING,
+    over: LISTING,
     example: "Example: pramc exec sum.bsp --workers 2 --map affine:5,3",
 };
 
+const EXPLAIN: Subcommand = Subcommand {
+    name: "explain",
+    about: "Says what a refusal or a fault is, with an example",
+    over: "The number of a refusal, as E6, or the name of a fault, as read-conflict",
+    example: "Example: pramc explain E6",
+};
+
+// A subcommand over a word.
+fn over_word<'a>(alloc: Global, words: &Subcommand) -> Result<Command<'a>, AllocError> {
+    let word = Arg::new(alloc, WORD).required(true).help(words.over);
+    Command::new(alloc, words.name)
+        .about(words.about)
+        .after_help(words.example)
+        .arg(word)
+}
+
 // A subcommand over a file.
 fn over_file<'a>(alloc: Global, words: &Subcommand) -> Result<Command<'a>, AllocError> {
-    let file = Arg::new(alloc, FILE).required(true).help(words.file);
+    let file = Arg::new(alloc, FILE).required(true).help(words.over);
     Command::new(alloc, words.name)
         .about(words.about)
         .after_help(words.example)
@@ -187,5 +205,6 @@ pub(crate) fn grammar<'a>(alloc: Global) -> Result<Command<'a>, AllocError> {
         .subcommand(over_run(alloc, &RULES)?)?
         .subcommand(over_workers(alloc, &RUN)?)?
         .subcommand(over_workers(alloc, &TRACE)?)?
-        .subcommand(over_workers(alloc, &EXEC)?)
+        .subcommand(over_workers(alloc, &EXEC)?)?
+        .subcommand(over_word(alloc, &EXPLAIN)?)
 }

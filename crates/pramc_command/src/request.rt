@@ -8,13 +8,14 @@ ghost use Rattle.pramc_command.specs.Version.{AsksForVersion};
 
 use crate::cost_words::CostWords;
 use crate::grammar::{
-    BOUND, FILE, FROM, INPUT, LINES, MAP, RESERVE, SCHEDULE, TO, WORKERS, grammar,
+    BOUND, FILE, FROM, INPUT, LINES, MAP, RESERVE, SCHEDULE, TO, WORD, WORKERS, grammar,
 };
 use crate::step_words::StepWords;
 use crate::version::asks_for_version;
 use bsp_machine::Reserve;
 use clap::ArgMatches;
 use clap::error::ErrorKind;
+use explanations::{Subject, subject_of};
 use pramc::Options;
 use program_texts::{Refusal, Stop};
 use run_options::{MapChoice, read_map, read_number, read_pair};
@@ -58,6 +59,8 @@ pub(crate) struct RunWords<'a> {
 pub(crate) enum Request<'a> {
     /// For the version.
     Version,
+    /// For what there is to say of a subject.
+    Explanation(Subject),
     /// Over the text of a program.
     Program {
         verb: Verb,
@@ -179,6 +182,16 @@ fn asked_listing<'a>(matches: &ArgMatches<'a>) -> Result<Request<'a>, Stop<'a>>
     Ok(Request::Listing { file, words })
 }
 
+fn asked_subject<'a>(matches: &ArgMatches<'a>) -> Result<Request<'a>, Stop<'a>>
+    ensures { IfErr result IsTrueStop }
+{
+    let word = matches.get_str(WORD).unwrap_or("");
+    match subject_of(word) {
+        Some(subject) => Ok(Request::Explanation(subject)),
+        None => Err(Stop::Number(word)),
+    }
+}
+
 // The words of the parser, where it refused the command line.
 fn refused<'a>(alloc: Global, error: clap::Error) -> Stop<'a>
     ensures { IsTrueStop result }
@@ -224,7 +237,8 @@ pub(crate) fn read_words<'a>(alloc: Global, words: &'a [String]) -> Result<Reque
         Some(("rules", inner)) => asked(Verb::Rules, inner),
         Some(("run", inner)) => asked(Verb::Run, inner),
         Some(("trace", inner)) => asked(Verb::Trace, inner),
-        Some((_, inner)) => asked_listing(inner),
+        Some(("exec", inner)) => asked_listing(inner),
+        Some((_, inner)) => asked_subject(inner),
         None => Err(Stop::Number("")),
     }
 }

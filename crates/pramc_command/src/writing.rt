@@ -16,6 +16,7 @@ use crate::step_words::StepWords;
 use crate::version::VERSION;
 use cost_texts::{write_cost, write_lines};
 use exchange_counts::Counts;
+use explanations::{Subject, write_explanation};
 use itoa::Buffer;
 use pram_check::Program;
 use pram_syntax::{Layout, Out, WriteFault};
@@ -182,6 +183,17 @@ pub(crate) fn write_plan<'a, O: Out>(out: &mut O, code: &Code) -> Result<Status,
     ensures answers { Answers (O.Out.state out.old) (O.Out.state out.new) result }
 {
     match write_listing(code, out) {
+        Ok(()) => finish(out, Status::Done),
+        Err(WriteFault) => Err(Stop::WriteFailed),
+    }
+}
+
+/// Writes what there is to say of a subject.
+pub(crate) fn write_subject<'a, O: Out>(out: &mut O, subject: Subject) -> Result<Status, Stop<'a>>
+    requires out { (O.Out.state out.old).failures < 2 ^ 62 }
+    ensures answers { Answers (O.Out.state out.old) (O.Out.state out.new) result }
+{
+    match write_explanation(out, subject) {
         Ok(()) => finish(out, Status::Done),
         Err(WriteFault) => Err(Stop::WriteFailed),
     }
