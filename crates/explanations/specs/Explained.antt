@@ -4,7 +4,8 @@ use Rattle.explanations.specs.declared.subject.Subject.{Subject}
 use Rattle.explanations.specs.declared.subject.Subject.TheVariants as subject
 use Rattle.explanations.specs.declared.texts.TheConstants.{NOT_ASCII, TEXT_TOO_LONG, BAD_TOKEN, SYNTAX, TOO_DEEP}
 use Rattle.explanations.specs.declared.names.TheConstants.{UNKNOWN_NAME, DOUBLE_NAME, WRONG_KIND, ASSIGNED_LOOP_VARIABLE, LIMIT}
-use Rattle.explanations.specs.declared.runs.TheConstants.{INPUT_TOO_LONG, BAD_MAP, BAD_WORKERS, NOT_VERIFIED, BAD_LISTING, OUT_OF_MEMORY, WRITE_FAILED, OUT_OF_RESERVE, COMMAND_LINE, UNREADABLE_FILE}
+use Rattle.explanations.specs.declared.runs.TheConstants.{INPUT_TOO_LONG, BAD_MAP, BAD_WORKERS, NOT_VERIFIED, BAD_LISTING}
+use Rattle.explanations.specs.declared.runs.TheConstants.{OUT_OF_MEMORY, WRITE_FAILED, OUT_OF_RESERVE, COMMAND_LINE, UNREADABLE_FILE}
 use Rattle.explanations.specs.declared.faults.TheConstants.{OVERFLOW, DIVIDE_BY_ZERO, OUT_OF_RANGE, TOO_WIDE, READ_CONFLICT, WRITE_CONFLICT}
 
 -- the number of a refusal, or the name of a fault
