@@ -11,8 +11,9 @@ use work_time::Cost;
 use write_rules::Outcome;
 
 /// Writes what a run with that outcome costs, one fact a line: its time, its work, its width, its
-/// reads and its writes; where it doesn't fault, the most exchanges that it takes; and where it is scheduled on some number of processors, the rounds on them and the most
-/// that Brent's principle allows. The error is that the writer failed (E17).
+/// reads and its writes; where it doesn't fault, the most exchanges that it takes; and where it is
+/// scheduled on some number of processors, the rounds on them and the most that Brent's principle
+/// allows. The error is that the writer failed (E17).
 pub fn write_cost<W: Out>(
     outcome: &Outcome,
     cost: &Cost,
