@@ -25,10 +25,10 @@ entry_other c x h = ap (λ (b : Bool). if b then Some x.entry else None) (ne_eqb
 
 -- what is read from a column, item by item
 module _ (rule : Rule) (m : Shape) (j : ℕ) where
-  abbrev here : ℕ → PlacedPut → Option Entry
+  abbrev pub here : ℕ → PlacedPut → Option Entry
   here c x = entry_in c (put_at x.cell x.entry)
 
-  of_items : (c : ℕ) (ws : List ℕ) → entry_of_column rule m j c ws ≡ total None (join rule) (here c) (puts_placed rule m j ws)
+  pub of_items : (c : ℕ) (ws : List ℕ) → entry_of_column rule m j c ws ≡ total None (join rule) (here c) (puts_placed rule m j ws)
   of_items c ws = sym (total_map None (join rule) (here c) (placed m) (puts_in rule m j ws))
 
   -- one put, with what comes behind the column

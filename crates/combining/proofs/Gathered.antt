@@ -13,7 +13,7 @@ use Rattle.superstep_machine.specs.Sending.{verdict_on, settled}
 use Rattle.combining.specs.Gathering.{slot, value_at, Gathers, IsNoted, note, Notes, Owes}
 
 -- different cells of a module lie apart
-offsets_apart : (m : Shape) → IsLawful m → (j c d : ℕ) → IsOf m j c → IsOf m j d → m.offset c ≡ m.offset d → c ≡ d
+pub offsets_apart : (m : Shape) → IsLawful m → (j c d : ℕ) → IsOf m j c → IsOf m j d → m.offset c ≡ m.offset d → c ≡ d
 offsets_apart m lawful j c d p q e =
     sym (lawful.back c p.below) ∙ ap (λ k. m.cell k (m.offset c)) (p.here ∙ sym q.here) ∙ ap (m.cell (m.part d)) e ∙ lawful.back d q.below
 
@@ -21,7 +21,7 @@ pub offset_within : (m : Shape) → IsLawful m → (j c : ℕ) → IsOf m j c �
 offset_within m lawful j c p = subst (λ (k : ℕ). m.offset c < m.width k) p.here (lawful.offset_below c p.below)
 
 -- one conflict more
-note_one : (m : Shape) (j : ℕ) (found left after : ℕ → Option Kind) (d : ℕ) → IsOf m j d → after d ≡ None →
+pub note_one : (m : Shape) (j : ℕ) (found left after : ℕ → Option Kind) (d : ℕ) → IsOf m j d → after d ≡ None →
     ((c : ℕ) → IsOf m j c → (c ≡ d → ⊥) → after c ≡ left c)
     → (noted : Option (ℕ × Kind)) → IsNoted m j found left noted → IsNoted m j found after (note d (left d) noted)
 note_one m j found left after d of gone same noted known = go (left d) refl noted known

@@ -5,6 +5,7 @@ pub mod Pairs
 pub mod Packing
 pub mod Gathered
 pub mod Columns
+pub mod OnlyPuts
 pub mod MachinePuts
 pub mod ReadBack
 pub mod Asking

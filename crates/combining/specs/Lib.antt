@@ -4,6 +4,7 @@ pub mod Held
 pub mod Compact
 pub mod Gathering
 pub mod Merged
+pub mod Alone
 pub mod Asked
 pub mod Adding
 pub mod Came

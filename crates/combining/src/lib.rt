@@ -1,6 +1,7 @@
 //! What a worker holds for the next exchange, and what a module does with what comes.
 #![tactic(auto)]
 
+mod alone;
 mod answers;
 mod ascending;
 mod asks;

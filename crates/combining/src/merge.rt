@@ -6,6 +6,7 @@ ghost use Rattle.superstep_machine.specs.Sending.{join, verdict_on, settled};
 ghost use Rattle.combining.specs.Gathering.{slot, value_at, note, Collects, CollectsAll, TakesOut, TakesAllOut, Settles};
 ghost use Rattle.combining.specs.Merged.{refusal, IsMerged};
 
+use crate::alone::{ascend_all, settle_all_alone};
 use crate::cells::Cells;
 use crate::slots::Slots;
 use crate::words::{PutWords, next};
@@ -156,7 +157,7 @@ fn settle_all<R: WriteRule, M: AddressMap>(
     noted
 }
 
-// Joins the puts of all workers in the entries, and then settles them.
+// Settles the puts of all workers: as they are read where their cells ascend, and else once they are joined in the entries.
 fn apply<R: WriteRule, M: AddressMap>(
     rule: &R,
     map: &M,
@@ -174,6 +175,9 @@ fn apply<R: WriteRule, M: AddressMap>(
     ensures empty { (o : ℕ) → slot entries.new o ≡ None }
     ensures length { length entries.new ≡ length entries.old }
 {
+    if ascend_all(rule, columns) {
+        return settle_all_alone(rule, map, part, columns, values);
+    }
     gather(rule, map, part, columns, entries);
     settle_all(rule, map, part, columns, entries, values)
 }

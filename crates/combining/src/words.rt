@@ -127,9 +127,10 @@ pub(crate) fn push_put<R: WriteRule>(rule: &R, out: &mut Vec<u64>, cell: u32, en
     }
 }
 
-// How many words a put has.
-fn put_length<R: WriteRule>(rule: &R) -> usize
-    ensures { result ≡ length_of_put (R.WriteRule.rule rule.now) }
+/// How many words a put has.
+pub(crate) fn put_length<R: WriteRule>(rule: &R) -> usize
+    ensures size { result ≡ length_of_put (R.WriteRule.rule rule.now) }
+    ensures some { 1 ≤ result }
 {
     if rule.sums() { 4 } else { 3 }
 }
