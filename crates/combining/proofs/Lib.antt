@@ -14,6 +14,7 @@ pub mod Askers
 pub mod ModuleSends
 pub mod ModuleReplies
 pub mod AskPlaces
+pub mod ColumnValues
 pub mod MachineAsks
 pub mod Came
 pub mod ByTheRule

@@ -1,11 +1,15 @@
-use Rattle.std.proofs.Common.{◌≡◌, ℕ, ◌<◌, length, Some, None, pos, slice_index_or}
+use Rattle.std.proofs.Common.{◌≡◌, ◌≤◌, ◌-◌, length}
+use Rattle.combining.specs.Columns.{HaveComeTo}
 use Rattle.combining.specs.Held.{paired}
 use Rattle.combining.specs.Asked.{ask_at, value_for}
 use Rattle.combining.proofs.near.values_near.Given as goal
 
 abbrev pub invariant-processors : goal.invariant-processors
 invariant-processors l = record {
-  each : (k cell : ℕ) → k < l.j → slice_index_or l.cells k None ≡ Some cell →
-      slice_index_or l.values k (pos 0) ≡ value_for l.ordinal cell (paired ask_at l.keys l.asked);
-  count : length l.values ≡ length l.initial.values;
+  each : HaveComeTo l.j (λ cell. value_for l.ordinal cell (paired ask_at l.keys l.asked)) l.cells l.values;
+  within : l.j ≤ length l.cells;
+  count : length l.values ≡ length l.fn.values;
 }
+
+abbrev pub decreases-processors : goal.decreases-processors
+decreases-processors l = length l.cells - l.j
