@@ -1,5 +1,5 @@
 -- The values that came to a worker, when the replies of all modules were taken.
-use Rattle.std.specs.Prelude.{◌≡◌, ℕ, ◌+◌, ◌^◌, ◌<◌, List, [], ◌∷◌, map, FitsSigned}
+use Rattle.std.specs.Prelude.{◌≡◌, ℕ, ◌+◌, ◌^◌, ◌<◌, List, [], ◌∷◌, map, drop, get_or, FitsSigned}
 use Rattle.std.specs.List.{AllByRecursion}
 use Rattle.std.specs.Int.{w64}
 use Rattle.superstep_machine.specs.Setting.{Setting}
@@ -16,6 +16,11 @@ use Rattle.combining.specs.Adding.{unanswered, asked_by, asked_after}
 abbrev pub all_replied : (ℕ → ℕ) → ℕ → List (List ℕ) → List HeldAsk → List HeldAsk
 all_replied part j [] held = held
 all_replied part j (ws ∷ rest) held = all_replied part (j + 1) rest (replied part j ws held)
+
+-- what is left of the replies of modules j, j + 1, .., where so many words were taken of each
+abbrev pub left_of_all : List ℕ → ℕ → List (List ℕ) → List (List ℕ)
+left_of_all taken j [] = []
+left_of_all taken j (ws ∷ rest) = drop (get_or taken j 0) ws ∷ left_of_all taken (j + 1) rest
 
 -- the words of the values of all messages
 abbrev pub reply_words : List Message → List (List ℕ)

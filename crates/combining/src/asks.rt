@@ -16,6 +16,7 @@ ghost use Rattle.combining.specs.Asked.{ask, ask_at, asks_for, value_for, replie
 
 use crate::index::Index;
 use crate::near::values_near;
+use crate::runs::keep_run;
 use crate::single::{append_asks, keep_in_order, taken_out};
 use crate::words::{ask_key, cell_of, push_ask, write_ask};
 use address_map::AddressMap;
@@ -55,19 +56,6 @@ fn keep<M: AddressMap>(map: &M, part: u32, words: &[u64], keys: &[u32], asked: &
     }
 }
 
-// The value of word n of a reply, if there are so many.
-fn value_of(words: &[u64], n: usize) -> Option<i64>
-    ensures some { IfSome result (λ v. (n < length words.now) × (v ≡ cast_signed w64 (get_or words.now n 0))) }
-    ensures none { result ≡ None → length words.now ≤ n }
-    ensures few { IfSome result (λ v. n + 1 < 2 ^ 64) }
-{
-    if n < words.len() {
-        Some(words[n].cast_signed())
-    } else {
-        None
-    }
-}
-
 // Keeps the words of all modules' replies at the asks that they are for.
 fn keep_all<M: AddressMap>(map: &M, replies: &[&[u64]], keys: &[u32], asked: &mut [Asked])
     requires cells { AllByRecursion (IsAskBelow (M.shape map.now).count) (paired ask_at keys.now asked.old) }
@@ -78,14 +66,13 @@ fn keep_all<M: AddressMap>(map: &M, replies: &[&[u64]], keys: &[u32], asked: &mu
     ensures length { length asked.new ≡ length asked.old }
 {
     let mut taken = [0; 32];
-    for i in 0..asked.len() {
+    let mut i = 0;
+    'asks: while i < asked.len() {
         let (home, _offset) = map.place(cell_of(keys[i]));
         let at = home as usize;
-        let came = value_of(replies[at], taken[at]);
-        if let Some(value) = came {
-            asked[i].value = value;
-            taken[at] += 1;
-        }
+        let (next, n) = keep_run(map, home, replies[at], taken[at], keys, i, asked);
+        taken[at] = n;
+        i = next;
     }
 }
 

@@ -14,6 +14,7 @@ mod merge;
 mod near;
 mod puts;
 mod readers;
+mod runs;
 mod single;
 mod slots;
 mod words;

@@ -1,0 +1,19 @@
+use Rattle.std.proofs.Common.{◌≡◌, ◌<◌, ◌++◌, ℕ, List, [], length, take, drop, get_or, set}
+use Rattle.combining.specs.Held.{paired}
+use Rattle.combining.specs.Asked.{ask_at}
+use Rattle.combining.specs.Came.{all_replied, left_of_all}
+use Rattle.combining.proofs.runs.keep_run.Given as goal
+
+abbrev pub invariant-asks : goal.invariant-asks
+invariant-asks g l =
+    let at = (g.M.AddressMap.shape l.map).part in
+    record {
+      long : length l.asked ≡ length l.fn.asked;
+      rest : drop l.i l.asked ≡ drop l.i l.fn.asked;
+      held : (taken : List ℕ) (replies : List (List ℕ)) → l.home < length taken → l.home < length replies →
+          get_or taken l.home 0 ≡ l.first → get_or replies l.home [] ≡ l.words →
+          take l.i (paired ask_at l.keys l.asked)
+          ++ all_replied at 0 (left_of_all (set taken l.home l.n) 0 replies) (drop l.i (paired ask_at l.keys l.fn.asked))
+          ≡ take l.from (paired ask_at l.keys l.fn.asked)
+          ++ all_replied at 0 (left_of_all taken 0 replies) (drop l.from (paired ask_at l.keys l.fn.asked));
+    }
