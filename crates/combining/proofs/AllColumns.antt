@@ -1,9 +1,9 @@
 -- Words that are added to the columns of all modules, one item after the other.
 use Rattle.std.proofs.Common.{◌≡◌, ℕ, zero, suc, ◌+◌, ◌<◌, ◌≤◌, List, [], ◌∷◌, ◌++◌, length, get_or, set, map, drop, refl, sym, ap, ◌∙◌}
-use Rattle.std.proofs.Common.{arith, eqb, ⊎_elim, Vec, Global, vec_capacity, length-append}
+use Rattle.std.proofs.Common.{subst, arith, eqb, ⊎_elim, Vec, Global, vec_capacity, length-append}
 use Rattle.std.proofs.lemmas.List.{get_or-set_same, get_or-set_other, length-map}
 use Rattle.std.proofs.lemmas.Bool.{eq-eqb, ne_eqb, cases_eq}
-use Rattle.combining.specs.AllModules.{column, room_at}
+use Rattle.combining.specs.AllModules.{column, room_at, GetsFirst}
 use Rattle.combining.proofs.Packing.{packed, pack_yes, pack_not, pack_room, pack_end}
 
 -- ---- a list of which one item is changed
@@ -101,3 +101,27 @@ room_here row first n k v all within is rooms room one =
     ap (λ rs. room_at rs n) (sym rooms) ∙ item_of vec_capacity row n v 0 within is ∙ ap vec_capacity is in
     let c = length-append (column (map items first) n) all in
     omega (arith, a, b, c, room, one)
+
+-- a run of words is added to one column
+pub run_added : (row : List Words) (n : ℕ) (v w : Words) → n < length row → v ≡ get_or row n v → (before after : ℕ → List ℕ) →
+    GetsFirst n before after (get_or row n v).items w.items → (j : ℕ) →
+    column (map items (set row n w)) j ++ after j ≡ column (map items row) j ++ before j
+run_added row n v w within is before after got j =
+    ⊎_elim
+    (λ same.
+    subst (λ (k : ℕ). column (map items (set row n w)) k ++ after k ≡ column (map items row) k ++ before k) same
+    (ap (λ ws. ws ++ after n) (changed_here items row n w [] within) ∙ got.got ∙ ap (λ (u : Words). u.items ++ before n) (sym is)
+    ∙ ap (λ ws. ws ++ before n) (sym (item_of items row n v [] within is))))
+    (λ apart.
+    ap (λ ws. ws ++ after j) (changed_elsewhere items row n j w [] apart) ∙ ap (λ ws. column (map items row) j ++ ws) (got.others j apart))
+    (cases_eq n j)
+
+-- and there is room for it
+pub room_for_run : (row first : List Words) (n : ℕ) (v : Words) (before all : List ℕ) → n < length row → v ≡ get_or row n v →
+    map vec_capacity row ≡ map vec_capacity first →
+    length (column (map items first) n) + length all ≤ room_at (map vec_capacity first) n →
+    column (map items row) n ++ before ≡ column (map items first) n ++ all →
+    length (get_or row n v).items + length before ≤ vec_capacity (get_or row n v)
+room_for_run row first n v before all within is rooms room known =
+    room_here row first n (length before) v all within is rooms room
+    (let a = length-append (column (map items row) n) before in let b = ap length known in omega (arith, a, b))

@@ -1,5 +1,5 @@
 -- The words of all modules at once, a column for each.
-use Rattle.std.specs.Prelude.{◌≡◌, ℕ, ◌+◌, ◌<◌, ◌≤◌, List, [], ◌++◌, length, get_or}
+use Rattle.std.specs.Prelude.{◌≡◌, ◌≢◌, ℕ, ◌+◌, ◌<◌, ◌≤◌, List, [], ◌++◌, length, get_or}
 
 -- a column, and the room of one
 abbrev pub column : List (List ℕ) → ℕ → List ℕ
@@ -15,3 +15,9 @@ HasRoomFor p words columns rooms = (j : ℕ) → j < p → length (column column
 -- .. and gets them
 abbrev pub HasGot : ℕ → (ℕ → List ℕ) → List (List ℕ) → List (List ℕ) → Type 0
 HasGot p words old new = (j : ℕ) → j < p → column new j ≡ column old j ++ words j
+
+-- A column gets the first of the words that are still to come for it, behind what it holds: of what was to come for each column, the words
+-- behind them are, and for the others it is the same.
+pub record GetsFirst (home : ℕ) (before after : ℕ → List ℕ) (old new : List ℕ) : Type 0 where
+  pub got : new ++ after home ≡ old ++ before home
+  pub others : (j : ℕ) → home ≢ j → after j ≡ before j

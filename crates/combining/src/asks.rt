@@ -16,9 +16,9 @@ ghost use Rattle.combining.specs.Asked.{ask, ask_at, asks_for, value_for, replie
 
 use crate::index::Index;
 use crate::near::values_near;
-use crate::runs::keep_run;
+use crate::runs::{add_ask_run, keep_run};
 use crate::single::{append_asks, keep_in_order, taken_out};
-use crate::words::{ask_key, cell_of, push_ask, write_ask};
+use crate::words::{ask_key, cell_of, write_ask};
 use address_map::AddressMap;
 use std::alloc::{AllocError, Global};
 use std::marker::Model;
@@ -228,10 +228,11 @@ impl Asks {
             columns[0] = append_asks(map, keys, &self.asked, list);
             return;
         }
-        for i in 0..self.asked.len() {
-            let key = keys[i];
-            let (home, _offset) = map.place(cell_of(key));
-            push_ask(&mut columns[home as usize], key, self.asked[i]);
+        let mut i = 0;
+        'asks: while i < self.asked.len() {
+            let (home, _offset) = map.place(cell_of(keys[i]));
+            let at = home as usize;
+            i = add_ask_run(map, home, keys, &self.asked, i, &mut columns[at]);
         }
     }
 

@@ -11,8 +11,9 @@ ghost use Rattle.combining.specs.Held.{put, put_at, packed_puts, IsPutBelow};
 
 use crate::compact::Compact;
 use crate::index::Index;
+use crate::runs::add_put_run;
 use crate::single::{append_puts, taken_out};
-use crate::words::{push_put, write_put};
+use crate::words::write_put;
 use address_map::AddressMap;
 use std::alloc::{AllocError, Global};
 use std::marker::Model;
@@ -124,11 +125,11 @@ impl Puts {
             columns[0] = append_puts(rule, map, keys, &self.entries, list);
             return;
         }
-        for i in 0..self.entries.len() {
-            let cell = keys[i];
-            let (home, _offset) = map.place(cell);
-            let entry = self.entries[i].entry();
-            push_put(rule, &mut columns[home as usize], cell, entry);
+        let mut i = 0;
+        'puts: while i < self.entries.len() {
+            let (home, _offset) = map.place(keys[i]);
+            let at = home as usize;
+            i = add_put_run(rule, map, home, keys, &self.entries, i, &mut columns[at]);
         }
     }
 

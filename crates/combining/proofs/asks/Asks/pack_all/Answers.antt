@@ -1,11 +1,11 @@
-use Rattle.std.proofs.Common.{◌≡◌, ◌<◌, ◌+◌, ◌%◌, ◌^◌, ◌∷◌, ◌++◌, length, drop, map, sym, ap, ◌∙◌, subst, arith, get_or, vec_capacity}
-use Rattle.std.proofs.Common.{slice_set}
-use Rattle.std.proofs.lemmas.List.{get_or_default}
-use Rattle.combining.specs.Asked.{HeldAsk, HeldAsks, ask_at, IsAskBelow}
-use Rattle.combining.specs.AllModules.{column}
-use Rattle.combining.proofs.Pairs.{length_paired, paired_more, all_keys}
-use Rattle.combining.proofs.Asking.{words_of, words_for}
-use Rattle.combining.proofs.AllColumns.{packed_for, one_more, room_for_one, all_in, as_long, added_here, others_stay, rooms_stay, room_here}
+use Rattle.std.proofs.Common.{◌≡◌, ◌≤◌, ◌<◌, ◌-◌, ◌+◌, ◌%◌, ◌^◌, ◌++◌, ℕ, List, length, drop, map, sym, ap, ◌∙◌, subst, arith, get_or, vec_capacity, append-nil}
+use Rattle.std.proofs.lemmas.List.{drop_all}
+use Rattle.superstep_machine.specs.Words.{ask_words}
+use Rattle.combining.specs.Held.{paired}
+use Rattle.combining.specs.Asked.{HeldAsk, HeldAsks, ask_at, asks_for, IsAskBelow}
+use Rattle.combining.specs.AllModules.{column, GetsFirst}
+use Rattle.combining.proofs.Pairs.{length_paired, all_keys}
+use Rattle.combining.proofs.AllColumns.{as_long, same_of_all, run_added, room_for_run}
 use Rattle.combining.proofs.asks.Asks.pack_all.Goals as goal
 
 pub place-home-requires : goal.place-home-requires
@@ -14,106 +14,129 @@ place-home-requires g c =
     let ks = c.self.inside.index.keys in
     let xs = c.self.inside.asked.items in
     let n : length xs ≡ length ks = c.self.invariant.1 in
-    let l : c.loop-i.i < length ks = (let v = c.self.inside.asked.ok.0 in omega arith) in
+    let l : c.asks.i < length ks = (let v = c.self.inside.asked.ok.0 in omega arith) in
     rw (c.cell_of.ensures, c.keys-keys.ensures.keys) (all_keys ask_at (IsAskBelow m.count) (λ k. k % 2 ^ 20 < m.count) (λ k x h. h) ks xs
-    c.loop-i.i n l (rw (← c.self.view_is) at c.requires.cells))
+    c.asks.i n l (rw (← c.self.view_is) at c.requires.cells))
 
-pub bounds-columns-home : goal.bounds-columns-home
-bounds-columns-home g c =
+pub bounds-columns-at : goal.bounds-columns-at
+bounds-columns-at g c =
     let m = g.M.AddressMap.shape c.args.map.now in
     let ks = c.self.inside.index.keys in
     let xs = c.self.inside.asked.items in
     let n : length xs ≡ length ks = c.self.invariant.1 in
-    let l : c.loop-i.i < length ks = (let v = c.self.inside.asked.ok.0 in omega arith) in
-    let k = get_or c.keys-keys.result.now c.loop-i.i 0 in
+    let l : c.asks.i < length ks = (let v = c.self.inside.asked.ok.0 in omega arith) in
+    let k = get_or c.keys-keys.result.now c.asks.i 0 in
     let below : k % 2 ^ 20 < m.count =
-    rw c.keys-keys.ensures.keys (all_keys ask_at (IsAskBelow m.count) (λ k. k % 2 ^ 20 < m.count) (λ k x h. h) ks xs c.loop-i.i n l
+    rw c.keys-keys.ensures.keys (all_keys ask_at (IsAskBelow m.count) (λ k. k % 2 ^ 20 < m.count) (λ k x h. h) ks xs c.asks.i n l
     (rw (← c.self.view_is) at c.requires.cells)) in
     let part = (g.met.M.AddressMap.lawful c.args.map.now).part_below (k % 2 ^ 20) below in
-    let long = as_long vec_capacity c.loop-i.columns c.args.columns.now c.loop-i.invariant.rooms in
+    let long = as_long vec_capacity c.asks.columns c.args.columns.now c.asks.invariant.rooms in
     let is = c.place-home.ensures.part ∙ ap m.part c.cell_of.ensures in
     let all = c.requires.modules in
     omega (arith, part, long, is, all)
 
-pub push_ask-requires : goal.push_ask-requires
-push_ask-requires g c =
+pub add_ask_run-i-requires-clause-cells : goal.add_ask_run-i-requires-clause-cells
+add_ask_run-i-requires-clause-cells g c =
     let m = g.M.AddressMap.shape c.args.map.now in
     let ks = c.self.inside.index.keys in
     let xs = c.self.inside.asked.items in
-    let i = c.loop-i.i in
     let n : length xs ≡ length ks = c.self.invariant.1 in
-    let l : i < length ks = (let v = c.self.inside.asked.ok.0 in omega arith) in
-    let k = get_or c.keys-keys.result.now i 0 in
-    let p : k ≡ get_or ks i k = ap (λ w. get_or w i 0) c.keys-keys.ensures.keys ∙ get_or_default ks i 0 k l in
-    let held = c.args.self.now.held in
-    let x = c.index.result.now in
-    let more : drop i held ≡ ask_at k x ∷ drop (i + 1) held =
-    rw (← c.self.view_is) (paired_more ask_at ks xs i k x n l p c.index.ensures) in
-    let row = c.loop-i.columns in
-    let home = c.place-home.result.0 in
-    let v = c.index-columns-home.result in
-    let part : home ≡ m.part (k % 2 ^ 20) = c.place-home.ensures.part ∙ ap m.part c.cell_of.ensures in
-    let below : k % 2 ^ 20 < m.count =
-    rw c.keys-keys.ensures.keys (all_keys ask_at (IsAskBelow m.count) (λ k. k % 2 ^ 20 < m.count) (λ k x h. h) ks xs i n l
-    (rw (← c.self.view_is) at c.requires.cells)) in
-    let there : home < m.parts = rw part ((g.met.M.AddressMap.lawful c.args.map.now).part_below (k % 2 ^ 20) below) in
-    let long = as_long vec_capacity row c.args.columns.now c.loop-i.invariant.rooms in
-    let within : home < length row = (let all = c.requires.modules in omega (arith, there, long, all)) in
-    let is : v ≡ get_or row home v = c.index-columns-home.is in
-    let all = packed_for words_of (λ (y : HeldAsk). m.part y.ask.cell) home held in
-    let one = room_for_one words_of (λ (y : HeldAsk). m.part y.ask.cell) held i (ask_at k x) more (column (map (λ v. v.items) row) home) _
-    (subst (λ j. column (map (λ v. v.items) row) home
-    ++ packed_for words_of (λ (y : HeldAsk). m.part y.ask.cell) j (drop i held) ≡ column (map (λ v. v.items) c.args.columns.now) home
-    ++ all) part
-    (c.loop-i.invariant.got home there)) in
-    let same = ap length (words_for m.part home held) in
-    let room = c.requires.room home there in
-    room_here row c.args.columns.now home 1 v all within is c.loop-i.invariant.rooms (omega (arith, same, room)) one
+    let all : (i : ℕ) → i < length ks → get_or ks i 0 % 2 ^ 20 < m.count =
+    λ i l. all_keys ask_at (IsAskBelow m.count) (λ k. k % 2 ^ 20 < m.count) (λ k x h. h) ks xs i n l
+    (rw (← c.self.view_is) at c.requires.cells) in
+    subst (λ (us : List ℕ). (i : ℕ) → i < length us → get_or us i 0 % 2 ^ 20 < m.count) (sym c.keys-keys.ensures.keys) all
 
-pub loop-i-preserved : goal.loop-i-preserved
-loop-i-preserved g c =
+pub add_ask_run-i-requires-clause-room : goal.add_ask_run-i-requires-clause-room
+add_ask_run-i-requires-clause-room g c =
     let m = g.M.AddressMap.shape c.args.map.now in
     let ks = c.self.inside.index.keys in
     let xs = c.self.inside.asked.items in
-    let i = c.loop-i.i in
+    let i = c.asks.i in
+    let inv = c.asks.invariant in
     let n : length xs ≡ length ks = c.self.invariant.1 in
     let l : i < length ks = (let v = c.self.inside.asked.ok.0 in omega arith) in
-    let k = get_or c.keys-keys.result.now i 0 in
-    let p : k ≡ get_or ks i k = ap (λ w. get_or w i 0) c.keys-keys.ensures.keys ∙ get_or_default ks i 0 k l in
     let held = c.args.self.now.held in
-    let x = c.index.result.now in
-    let more : drop i held ≡ ask_at k x ∷ drop (i + 1) held =
-    rw (← c.self.view_is) (paired_more ask_at ks xs i k x n l p c.index.ensures) in
-    let row = c.loop-i.columns in
+    let same : paired ask_at c.keys-keys.result.now c.deref-in-asks.result.now ≡ held =
+    rw (c.keys-keys.ensures.keys, c.deref-in-asks.ensures.value) (ap (λ (v : HeldAsks). v.held) c.self.view_is) in
+    let row = c.asks.columns in
     let home = c.place-home.result.0 in
-    let v = c.index-columns-home.result in
-    let part : home ≡ m.part (k % 2 ^ 20) = c.place-home.ensures.part ∙ ap m.part c.cell_of.ensures in
+    let v = c.index-columns-at.result in
+    let k = get_or c.keys-keys.result.now i 0 in
     let below : k % 2 ^ 20 < m.count =
     rw c.keys-keys.ensures.keys (all_keys ask_at (IsAskBelow m.count) (λ k. k % 2 ^ 20 < m.count) (λ k x h. h) ks xs i n l
     (rw (← c.self.view_is) at c.requires.cells)) in
+    let part : home ≡ m.part (k % 2 ^ 20) = c.place-home.ensures.part ∙ ap m.part c.cell_of.ensures in
     let there : home < m.parts = rw part ((g.met.M.AddressMap.lawful c.args.map.now).part_below (k % 2 ^ 20) below) in
-    let long = as_long vec_capacity row c.args.columns.now c.loop-i.invariant.rooms in
+    let long = as_long vec_capacity row c.args.columns.now inv.rooms in
     let within : home < length row = (let all = c.requires.modules in omega (arith, there, long, all)) in
-    let is : v ≡ get_or row home v = c.index-columns-home.is in
-    let w = c.push_ask.new.out in
-    let words = c.push_ask.ensures.word in
+    subst (λ (hs : List HeldAsk). length (get_or row home v).items + length (ask_words (asks_for m.part home (drop i hs)))
+    ≤ vec_capacity (get_or row home v)) (sym same)
+    (room_for_run row c.args.columns.now home v (ask_words (asks_for m.part home (drop i held))) (ask_words (asks_for m.part home held)) within
+    c.index-columns-at.is inv.rooms (c.requires.room home there) (inv.got home there))
+
+pub asks-smaller : goal.asks-smaller
+asks-smaller g c =
+    let m = g.M.AddressMap.shape c.args.map.now in
+    let ks = c.self.inside.index.keys in
+    let xs = c.self.inside.asked.items in
+    let n : length xs ≡ length ks = c.self.invariant.1 in
+    let i = c.asks.i in
+    let held = c.args.self.now.held in
+    let l : i < length xs = (let v = c.self.inside.asked.ok.0 in omega arith) in
+    let deref : length c.deref-in-asks.result.now ≡ length xs = ap length c.deref-in-asks.ensures.value in
+    let h = ap (λ (v : HeldAsks). length v.held) c.self.view_is in
+    let p = length_paired ask_at ks xs n in
+    let part : m.part (get_or c.keys-keys.result.now i 0 % 2 ^ 20) ≡ c.place-home.result.0 =
+    sym (c.place-home.ensures.part ∙ ap m.part c.cell_of.ensures) in
+    let on : i < c.add_ask_run-i.result = c.add_ask_run-i.ensures.some (omega (arith, l, deref)) part in
+    let less : length held - c.add_ask_run-i.result < length held - i = omega (arith, on, l, n, h, p) in
+    less
+
+pub asks-preserved : goal.asks-preserved
+asks-preserved g c =
+    let m = g.M.AddressMap.shape c.args.map.now in
+    let ks = c.self.inside.index.keys in
+    let xs = c.self.inside.asked.items in
+    let i = c.asks.i in
+    let inv = c.asks.invariant in
+    let n : length xs ≡ length ks = c.self.invariant.1 in
+    let l : i < length ks = (let v = c.self.inside.asked.ok.0 in omega arith) in
+    let held = c.args.self.now.held in
+    let same : paired ask_at c.keys-keys.result.now c.deref-in-asks.result.now ≡ held =
+    rw (c.keys-keys.ensures.keys, c.deref-in-asks.ensures.value) (ap (λ (v : HeldAsks). v.held) c.self.view_is) in
+    let row = c.asks.columns in
+    let home = c.place-home.result.0 in
+    let v = c.index-columns-at.result in
+    let w = c.add_ask_run-i.new.column in
+    let next = c.add_ask_run-i.result in
+    let k = get_or c.keys-keys.result.now i 0 in
+    let below : k % 2 ^ 20 < m.count =
+    rw c.keys-keys.ensures.keys (all_keys ask_at (IsAskBelow m.count) (λ k. k % 2 ^ 20 < m.count) (λ k x h. h) ks xs i n l
+    (rw (← c.self.view_is) at c.requires.cells)) in
+    let part : home ≡ m.part (k % 2 ^ 20) = c.place-home.ensures.part ∙ ap m.part c.cell_of.ensures in
+    let there : home < m.parts = rw part ((g.met.M.AddressMap.lawful c.args.map.now).part_below (k % 2 ^ 20) below) in
+    let long = as_long vec_capacity row c.args.columns.now inv.rooms in
+    let within : home < length row = (let all = c.requires.modules in omega (arith, there, long, all)) in
+    let is : v ≡ get_or row home v = c.index-columns-at.is in
+    let to_come : ℕ → ℕ → List ℕ = λ i j. ask_words (asks_for m.part j (drop i held)) in
+    let got = subst (λ (hs : List HeldAsk). GetsFirst home (λ j. ask_words (asks_for m.part j (drop i hs)))
+    (λ j. ask_words (asks_for m.part j (drop next hs))) (get_or row home v).items w.items) same c.add_ask_run-i.ensures.got in
     record {
-      rooms = rooms_stay row home v w within is (words_of (ask_at k x)) words c.push_ask.ensures.room ∙ c.loop-i.invariant.rooms;
-      got = λ j low.
-          one_more words_of (λ (y : HeldAsk). m.part y.ask.cell) held i (ask_at k x) more (map (λ v. v.items) row)
-          (map (λ v. v.items) (slice_set row home w))
-          (subst (λ j. column (map (λ v. v.items) (slice_set row home w)) j ≡ column (map (λ v. v.items) row) j
-          ++ words_of (ask_at k x)) part
-          (added_here row home v w within is (words_of (ask_at k x)) words))
-          (λ j apart. others_stay row home v w within is (words_of (ask_at k x)) words j (λ e. apart (sym part ∙ e)))
-          j _ (c.loop-i.invariant.got j low);
+      rooms = same_of_all vec_capacity row home v w is (c.add_ask_run-i.ensures.room ∙ ap vec_capacity (sym is)) ∙ inv.rooms;
+      within = (let a = c.add_ask_run-i.ensures.within in let d = ap length c.deref-in-asks.ensures.value in
+          let h = ap (λ (v : HeldAsks). length v.held) c.self.view_is in let p = length_paired ask_at ks xs n in omega (arith, a, d, h, p, n));
+      got = λ j low. run_added row home v w within is (to_come i) (to_come next) got j ∙ inv.got j low;
     }
 
 pub returns-clause-words : goal.returns-clause-words
 returns-clause-words g c j below =
     let m = g.M.AddressMap.shape c.args.map.now in
-    let n = length_paired ask_at c.self.inside.index.keys c.self.inside.asked.items c.self.invariant.1 in
+    let n : length c.self.inside.asked.items ≡ length c.self.inside.index.keys = c.self.invariant.1 in
+    let p = length_paired ask_at c.self.inside.index.keys c.self.inside.asked.items n in
     let h = ap (λ (v : HeldAsks). length v.held) c.self.view_is in
-    all_in words_of (λ (y : HeldAsk). m.part y.ask.cell) c.args.self.now.held c.loop-i.i j _ _
-    (let v = c.self.inside.asked.ok.0 in omega arith) (c.loop-i.invariant.got j below)
-    ∙ ap (λ ws. column (map (λ v. v.items) c.args.columns.now) j ++ ws) (sym (words_for m.part j c.args.self.now.held))
+    let held = c.args.self.now.held in
+    let i = c.asks.i in
+    let done : length held ≤ i = (let v = c.self.inside.asked.ok.0 in omega arith) in
+    let now = column (map (λ v. v.items) c.asks.columns) j in
+    sym (ap (λ (hs : List HeldAsk). now ++ ask_words (asks_for m.part j hs)) (drop_all i held done) ∙ append-nil now)
+    ∙ c.asks.invariant.got j below

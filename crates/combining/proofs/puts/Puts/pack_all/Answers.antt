@@ -1,137 +1,149 @@
-use Rattle.std.proofs.Common.{◌≡◌, ◌<◌, ◌+◌, ◌∷◌, ◌++◌, length, drop, map, sym, ap, ◌∙◌, subst, arith, get_or, vec_capacity, slice_set}
-use Rattle.std.proofs.lemmas.List.{get_or_default}
-use Rattle.superstep_machine.specs.Words.{CellPut, put_words}
-use Rattle.superstep_machine.specs.WordReading.{put_length}
-use Rattle.superstep_machine.specs.Fitting.{FitsPut}
-use Rattle.superstep_machine.proofs.ReadBack.{put_long}
+use Rattle.std.proofs.Common.{◌≡◌, ◌≤◌, ◌<◌, ◌-◌, ◌+◌, ◌++◌, ℕ, List, length, drop, map, sym, ap, ◌∙◌, subst, arith, get_or, vec_capacity, append-nil}
+use Rattle.std.proofs.lemmas.List.{drop_all}
+use Rattle.superstep_machine.specs.Words.{CellPut}
 use Rattle.combining.specs.Compact.{held_at}
-use Rattle.combining.specs.Held.{HeldPuts, packed_puts, IsPutBelow}
-use Rattle.combining.specs.AllModules.{column}
-use Rattle.combining.proofs.Pairs.{length_paired, paired_more, all_here, all_keys}
-use Rattle.combining.proofs.AllColumns.{one_more, room_for_one, all_in, as_long, added_here, others_stay, rooms_stay, room_here}
+use Rattle.combining.specs.Held.{HeldPuts, paired, packed_puts, IsPutBelow}
+use Rattle.combining.specs.AllModules.{column, GetsFirst}
+use Rattle.combining.proofs.Pairs.{length_paired, all_keys}
+use Rattle.combining.proofs.AllColumns.{as_long, same_of_all, run_added, room_for_run}
 use Rattle.combining.proofs.puts.Puts.pack_all.Goals as goal
 
 pub place-home-requires : goal.place-home-requires
 place-home-requires g c =
+    let rule = g.R.WriteRule.rule c.args.rule.now in
     let m = g.M.AddressMap.shape c.args.map.now in
     let ks = c.self.inside.index.keys in
     let xs = c.self.inside.entries.items in
     let n : length xs ≡ length ks = c.self.invariant.1 in
-    let l : c.loop-i.i < length ks = (let v = c.self.inside.entries.ok.0 in omega arith) in
-    rw c.keys-keys.ensures.keys (all_keys held_at (IsPutBelow m.count) (λ k. k < m.count) (λ k x h. h) ks xs c.loop-i.i n l
-    (rw (← c.self.view_is) at c.requires.cells))
+    let l : c.puts.i < length ks = (let v = c.self.inside.entries.ok.0 in omega arith) in
+    rw c.keys-keys.ensures.keys (all_keys held_at (IsPutBelow m.count) (λ k. k < m.count) (λ k x h. h) ks xs
+    c.puts.i n l (rw (← c.self.view_is) at c.requires.cells))
 
-pub bounds-columns-home : goal.bounds-columns-home
-bounds-columns-home g c =
+pub bounds-columns-at : goal.bounds-columns-at
+bounds-columns-at g c =
+    let rule = g.R.WriteRule.rule c.args.rule.now in
     let m = g.M.AddressMap.shape c.args.map.now in
     let ks = c.self.inside.index.keys in
     let xs = c.self.inside.entries.items in
     let n : length xs ≡ length ks = c.self.invariant.1 in
-    let l : c.loop-i.i < length ks = (let v = c.self.inside.entries.ok.0 in omega arith) in
-    let below : get_or c.keys-keys.result.now c.loop-i.i 0 < m.count =
-    rw c.keys-keys.ensures.keys (all_keys held_at (IsPutBelow m.count) (λ k. k < m.count) (λ k x h. h) ks xs c.loop-i.i n l
+    let l : c.puts.i < length ks = (let v = c.self.inside.entries.ok.0 in omega arith) in
+    let k = get_or c.keys-keys.result.now c.puts.i 0 in
+    let below : k < m.count =
+    rw c.keys-keys.ensures.keys (all_keys held_at (IsPutBelow m.count) (λ k. k < m.count) (λ k x h. h) ks xs c.puts.i n l
     (rw (← c.self.view_is) at c.requires.cells)) in
-    let part = (g.met.M.AddressMap.lawful c.args.map.now).part_below (get_or c.keys-keys.result.now c.loop-i.i 0) below in
-    let long = as_long vec_capacity c.loop-i.columns c.args.columns.now c.loop-i.invariant.rooms in
+    let part = (g.met.M.AddressMap.lawful c.args.map.now).part_below (k) below in
+    let long = as_long vec_capacity c.puts.columns c.args.columns.now c.puts.invariant.rooms in
     let is = c.place-home.ensures.part in
     let all = c.requires.modules in
     omega (arith, part, long, is, all)
 
-pub push_put-requires-clause-room : goal.push_put-requires-clause-room
-push_put-requires-clause-room g c =
+pub add_put_run-i-requires-clause-cells : goal.add_put_run-i-requires-clause-cells
+add_put_run-i-requires-clause-cells g c =
     let rule = g.R.WriteRule.rule c.args.rule.now in
     let m = g.M.AddressMap.shape c.args.map.now in
     let ks = c.self.inside.index.keys in
     let xs = c.self.inside.entries.items in
-    let i = c.loop-i.i in
     let n : length xs ≡ length ks = c.self.invariant.1 in
-    let l : i < length ks = (let v = c.self.inside.entries.ok.0 in omega arith) in
-    let k = get_or c.keys-keys.result.now i 0 in
-    let p : k ≡ get_or ks i k = ap (λ w. get_or w i 0) c.keys-keys.ensures.keys ∙ get_or_default ks i 0 k l in
-    let held = c.args.self.now.held in
-    let x = c.index.result.now in
-    let more : drop i held ≡ held_at k x ∷ drop (i + 1) held =
-    rw (← c.self.view_is) (paired_more held_at ks xs i k x n l p c.index.ensures) in
-    let row = c.loop-i.columns in
-    let home = c.place-home.result.0 in
-    let v = c.index-columns-home.result in
-    let part : home ≡ m.part k = c.place-home.ensures.part in
-    let below : k < m.count =
-    rw c.keys-keys.ensures.keys (all_keys held_at (IsPutBelow m.count) (λ k. k < m.count) (λ k x h. h) ks xs i n l
-    (rw (← c.self.view_is) at c.requires.cells)) in
-    let there : home < m.parts = rw part ((g.met.M.AddressMap.lawful c.args.map.now).part_below k below) in
-    let long = as_long vec_capacity row c.args.columns.now c.loop-i.invariant.rooms in
-    let within : home < length row = (let all = c.requires.modules in omega (arith, there, long, all)) in
-    let is : v ≡ get_or row home v = c.index-columns-home.is in
-    let all = packed_puts rule m.part home held in
-    let one = room_for_one (put_words rule) (λ (y : CellPut). m.part y.cell) held i (held_at k x) more (column (map (λ v. v.items) row) home)
-    _
-    (subst (λ j. column (map (λ v. v.items) row) home
-    ++ packed_puts rule m.part j (drop i held) ≡ column (map (λ v. v.items) c.args.columns.now) home ++ all) part
-    (c.loop-i.invariant.got home there)) in
-    let size = put_long rule (held_at k x) in
-    room_here row c.args.columns.now home (put_length rule) v all within is c.loop-i.invariant.rooms (c.requires.room home there)
-    (omega (arith, one, size))
+    let all : (i : ℕ) → i < length ks → get_or ks i 0 < m.count =
+    λ i l. all_keys held_at (IsPutBelow m.count) (λ k. k < m.count) (λ k x h. h) ks xs i n l
+    (rw (← c.self.view_is) at c.requires.cells) in
+    subst (λ (us : List ℕ). (i : ℕ) → i < length us → get_or us i 0 < m.count) (sym c.keys-keys.ensures.keys) all
 
-pub push_put-requires-clause-fits : goal.push_put-requires-clause-fits
-push_put-requires-clause-fits g c =
-    let ks = c.self.inside.index.keys in
-    let xs = c.self.inside.entries.items in
-    let i = c.loop-i.i in
-    let rule = g.R.WriteRule.rule c.args.rule.now in
-    let n : length xs ≡ length ks = c.self.invariant.1 in
-    let l : i < length ks = (let v = c.self.inside.entries.ok.0 in omega arith) in
-    let k = get_or c.keys-keys.result.now i 0 in
-    let p : k ≡ get_or ks i k = ap (λ w. get_or w i 0) c.keys-keys.ensures.keys ∙ get_or_default ks i 0 k l in
-    let x = c.index.result.now in
-    rw c.entry-entry.ensures
-    (all_here held_at (FitsPut rule) ks xs i k x n l p c.index.ensures (rw (← c.self.view_is) at c.requires.fit)).value
-
-pub loop-i-preserved : goal.loop-i-preserved
-loop-i-preserved g c =
+pub add_put_run-i-requires-clause-room : goal.add_put_run-i-requires-clause-room
+add_put_run-i-requires-clause-room g c =
     let rule = g.R.WriteRule.rule c.args.rule.now in
     let m = g.M.AddressMap.shape c.args.map.now in
     let ks = c.self.inside.index.keys in
     let xs = c.self.inside.entries.items in
-    let i = c.loop-i.i in
+    let i = c.puts.i in
+    let inv = c.puts.invariant in
     let n : length xs ≡ length ks = c.self.invariant.1 in
     let l : i < length ks = (let v = c.self.inside.entries.ok.0 in omega arith) in
-    let k = get_or c.keys-keys.result.now i 0 in
-    let p : k ≡ get_or ks i k = ap (λ w. get_or w i 0) c.keys-keys.ensures.keys ∙ get_or_default ks i 0 k l in
     let held = c.args.self.now.held in
-    let x = c.index.result.now in
-    let more : drop i held ≡ held_at k x ∷ drop (i + 1) held =
-    rw (← c.self.view_is) (paired_more held_at ks xs i k x n l p c.index.ensures) in
-    let row = c.loop-i.columns in
+    let same : paired held_at c.keys-keys.result.now c.deref-in-puts.result.now ≡ held =
+    rw (c.keys-keys.ensures.keys, c.deref-in-puts.ensures.value) (ap (λ (v : HeldPuts). v.held) c.self.view_is) in
+    let row = c.puts.columns in
     let home = c.place-home.result.0 in
-    let v = c.index-columns-home.result in
-    let part : home ≡ m.part k = c.place-home.ensures.part in
+    let v = c.index-columns-at.result in
+    let k = get_or c.keys-keys.result.now i 0 in
     let below : k < m.count =
     rw c.keys-keys.ensures.keys (all_keys held_at (IsPutBelow m.count) (λ k. k < m.count) (λ k x h. h) ks xs i n l
     (rw (← c.self.view_is) at c.requires.cells)) in
-    let there : home < m.parts = rw part ((g.met.M.AddressMap.lawful c.args.map.now).part_below k below) in
-    let long = as_long vec_capacity row c.args.columns.now c.loop-i.invariant.rooms in
+    let part : home ≡ m.part (k) = c.place-home.ensures.part in
+    let there : home < m.parts = rw part ((g.met.M.AddressMap.lawful c.args.map.now).part_below (k) below) in
+    let long = as_long vec_capacity row c.args.columns.now inv.rooms in
     let within : home < length row = (let all = c.requires.modules in omega (arith, there, long, all)) in
-    let is : v ≡ get_or row home v = c.index-columns-home.is in
-    let w = c.push_put.new.out in
-    let words = rw c.entry-entry.ensures at c.push_put.ensures.words in
+    subst (λ (hs : List CellPut). length (get_or row home v).items + length (packed_puts rule m.part home (drop i hs))
+    ≤ vec_capacity (get_or row home v)) (sym same)
+    (room_for_run row c.args.columns.now home v (packed_puts rule m.part home (drop i held)) (packed_puts rule m.part home held) within
+    c.index-columns-at.is inv.rooms (c.requires.room home there) (inv.got home there))
+
+pub puts-smaller : goal.puts-smaller
+puts-smaller g c =
+    let rule = g.R.WriteRule.rule c.args.rule.now in
+    let m = g.M.AddressMap.shape c.args.map.now in
+    let ks = c.self.inside.index.keys in
+    let xs = c.self.inside.entries.items in
+    let n : length xs ≡ length ks = c.self.invariant.1 in
+    let i = c.puts.i in
+    let held = c.args.self.now.held in
+    let l : i < length xs = (let v = c.self.inside.entries.ok.0 in omega arith) in
+    let deref : length c.deref-in-puts.result.now ≡ length xs = ap length c.deref-in-puts.ensures.value in
+    let h = ap (λ (v : HeldPuts). length v.held) c.self.view_is in
+    let p = length_paired held_at ks xs n in
+    let part : m.part (get_or c.keys-keys.result.now i 0) ≡ c.place-home.result.0 =
+    sym (c.place-home.ensures.part) in
+    let on : i < c.add_put_run-i.result = c.add_put_run-i.ensures.some (omega (arith, l, deref)) part in
+    let less : length held - c.add_put_run-i.result < length held - i = omega (arith, on, l, n, h, p) in
+    less
+
+pub puts-preserved : goal.puts-preserved
+puts-preserved g c =
+    let rule = g.R.WriteRule.rule c.args.rule.now in
+    let m = g.M.AddressMap.shape c.args.map.now in
+    let ks = c.self.inside.index.keys in
+    let xs = c.self.inside.entries.items in
+    let i = c.puts.i in
+    let inv = c.puts.invariant in
+    let n : length xs ≡ length ks = c.self.invariant.1 in
+    let l : i < length ks = (let v = c.self.inside.entries.ok.0 in omega arith) in
+    let held = c.args.self.now.held in
+    let same : paired held_at c.keys-keys.result.now c.deref-in-puts.result.now ≡ held =
+    rw (c.keys-keys.ensures.keys, c.deref-in-puts.ensures.value) (ap (λ (v : HeldPuts). v.held) c.self.view_is) in
+    let row = c.puts.columns in
+    let home = c.place-home.result.0 in
+    let v = c.index-columns-at.result in
+    let w = c.add_put_run-i.new.column in
+    let next = c.add_put_run-i.result in
+    let k = get_or c.keys-keys.result.now i 0 in
+    let below : k < m.count =
+    rw c.keys-keys.ensures.keys (all_keys held_at (IsPutBelow m.count) (λ k. k < m.count) (λ k x h. h) ks xs i n l
+    (rw (← c.self.view_is) at c.requires.cells)) in
+    let part : home ≡ m.part (k) = c.place-home.ensures.part in
+    let there : home < m.parts = rw part ((g.met.M.AddressMap.lawful c.args.map.now).part_below (k) below) in
+    let long = as_long vec_capacity row c.args.columns.now inv.rooms in
+    let within : home < length row = (let all = c.requires.modules in omega (arith, there, long, all)) in
+    let is : v ≡ get_or row home v = c.index-columns-at.is in
+    let to_come : ℕ → ℕ → List ℕ = λ i j. packed_puts rule m.part j (drop i held) in
+    let got = subst (λ (hs : List CellPut). GetsFirst home (λ j. packed_puts rule m.part j (drop i hs))
+    (λ j. packed_puts rule m.part j (drop next hs)) (get_or row home v).items w.items) same c.add_put_run-i.ensures.got in
     record {
-      rooms = rooms_stay row home v w within is (put_words rule (held_at k x)) words c.push_put.ensures.room ∙ c.loop-i.invariant.rooms;
-      got = λ j low.
-          one_more (put_words rule) (λ (y : CellPut). m.part y.cell) held i (held_at k x) more (map (λ v. v.items) row)
-          (map (λ v. v.items) (slice_set row home w))
-          (subst (λ j. column (map (λ v. v.items) (slice_set row home w)) j ≡ column (map (λ v. v.items) row) j
-          ++ put_words rule (held_at k x)) part
-          (added_here row home v w within is (put_words rule (held_at k x)) words))
-          (λ j apart. others_stay row home v w within is (put_words rule (held_at k x)) words j (λ e. apart (sym part ∙ e)))
-          j _ (c.loop-i.invariant.got j low);
+      rooms = same_of_all vec_capacity row home v w is (c.add_put_run-i.ensures.room ∙ ap vec_capacity (sym is)) ∙ inv.rooms;
+      within = (let a = c.add_put_run-i.ensures.within in let d = ap length c.deref-in-puts.ensures.value in
+          let h = ap (λ (v : HeldPuts). length v.held) c.self.view_is in let p = length_paired held_at ks xs n in omega (arith, a, d, h, p, n));
+      got = λ j low. run_added row home v w within is (to_come i) (to_come next) got j ∙ inv.got j low;
     }
 
 pub returns-clause-words : goal.returns-clause-words
 returns-clause-words g c j below =
     let rule = g.R.WriteRule.rule c.args.rule.now in
     let m = g.M.AddressMap.shape c.args.map.now in
-    let n = length_paired held_at c.self.inside.index.keys c.self.inside.entries.items c.self.invariant.1 in
+    let n : length c.self.inside.entries.items ≡ length c.self.inside.index.keys = c.self.invariant.1 in
+    let p = length_paired held_at c.self.inside.index.keys c.self.inside.entries.items n in
     let h = ap (λ (v : HeldPuts). length v.held) c.self.view_is in
-    all_in (put_words rule) (λ (y : CellPut). m.part y.cell) c.args.self.now.held c.loop-i.i j _ _
-    (let v = c.self.inside.entries.ok.0 in omega arith) (c.loop-i.invariant.got j below)
+    let held = c.args.self.now.held in
+    let i = c.puts.i in
+    let done : length held ≤ i = (let v = c.self.inside.entries.ok.0 in omega arith) in
+    let now = column (map (λ v. v.items) c.puts.columns) j in
+    sym (ap (λ (hs : List CellPut). now ++ packed_puts rule m.part j hs) (drop_all i held done) ∙ append-nil now)
+    ∙ c.puts.invariant.got j below
