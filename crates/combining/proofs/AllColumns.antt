@@ -2,9 +2,8 @@
 use Rattle.std.proofs.Common.{◌≡◌, ℕ, zero, suc, ◌+◌, ◌<◌, ◌≤◌, List, [], ◌∷◌, ◌++◌, length, get_or, set, map, drop, refl, sym, ap, ◌∙◌}
 use Rattle.std.proofs.Common.{subst, arith, eqb, ⊎_elim, Vec, Global, vec_capacity, length-append}
 use Rattle.std.proofs.lemmas.List.{get_or-set_same, get_or-set_other, length-map}
-use Rattle.std.proofs.lemmas.Bool.{eq-eqb, ne_eqb, cases_eq}
+use Rattle.std.proofs.lemmas.Bool.{cases_eq}
 use Rattle.combining.specs.AllModules.{column, room_at, GetsFirst}
-use Rattle.combining.proofs.Packing.{packed, pack_yes, pack_not, pack_room, pack_end}
 
 -- ---- a list of which one item is changed
 
@@ -35,39 +34,11 @@ same_of_all f [] n v w is e = refl
 same_of_all f (x ∷ xs) zero v w is e = ap (λ y. y ∷ map f xs) (e ∙ ap f is)
 same_of_all f (x ∷ xs) (suc n) v w is e = ap (λ ys. f x ∷ ys) (same_of_all f xs n v w is e)
 
--- ---- one item more
-
-module _ {X : Type 0} (words : X → List ℕ) (home : X → ℕ) where
-  abbrev pub packed_for : ℕ → List X → List ℕ
-  packed_for j = packed words (λ x. eqb (home x) j)
-
-  module _ (held : List X) (i : ℕ) (q : X) (more : drop i held ≡ q ∷ drop (i + 1) held) where
-    pub one_more : (old new : List (List ℕ)) → column new (home q) ≡ column old (home q) ++ words q →
-        ((j : ℕ) → (home q ≡ j → ⊥) → column new j ≡ column old j) → (j : ℕ) (all : List ℕ) →
-        column old j ++ packed_for j (drop i held) ≡ all → column new j ++ packed_for j (drop (i + 1) held) ≡ all
-    one_more old new here elsewhere j all known =
-        ⊎_elim
-        (λ same.
-        pack_yes words (λ x. eqb (home x) j) held i q more (column old j) all known (column new j) (eq-eqb (home q) j same)
-        (ap (column new) (sym same) ∙ here ∙ ap (λ k. column old k ++ words q) same))
-        (λ apart.
-        ap (λ ws. ws ++ packed_for j (drop (i + 1) held)) (elsewhere j apart)
-        ∙ pack_not words (λ x. eqb (home x) j) held i q more (column old j) all known (ne_eqb (home q) j apart))
-        (cases_eq (home q) j)
-
-    pub room_for_one : (before all : List ℕ) → before ++ packed_for (home q) (drop i held) ≡ all →
-        length before + length (words q) ≤ length all
-    room_for_one before all known =
-        pack_room words (λ x. eqb (home x) (home q)) held i q more before all known (length before) (eq-eqb (home q) (home q) refl) refl
-
-  pub all_in : (held : List X) (i j : ℕ) (before all : List ℕ) → length held ≤ i → before ++ packed_for j (drop i held) ≡ all → before ≡ all
-  all_in held i j before all l known = pack_end words (λ x. eqb (home x) j) held i before all l known
-
 -- as many columns as there are rooms
 pub as_long : {A B : Type 0} (f : A → B) (xs ys : List A) → map f xs ≡ map f ys → length xs ≡ length ys
 as_long f xs ys e = sym (length-map xs f) ∙ ap length e ∙ length-map ys f
 
--- ---- a row of columns, to one of which words were added
+-- ---- a row of columns, to one of which words are added
 
 abbrev Words : Type 0
 Words = Vec ℕ Global
@@ -75,21 +46,8 @@ Words = Vec ℕ Global
 abbrev items : Words → List ℕ
 items v = v.items
 
-module _ (row : List Words) (n : ℕ) (v w : Words) (within : n < length row) (is : v ≡ get_or row n v) (added : List ℕ)
-    (words : w.items ≡ (get_or row n v).items ++ added) where
-  pub added_here : column (map items (set row n w)) n ≡ column (map items row) n ++ added
-  added_here =
-      changed_here items row n w [] within ∙ words ∙ ap (λ (u : Words). u.items ++ added) (sym is)
-      ∙ ap (λ ws. ws ++ added) (sym (item_of items row n v [] within is))
-
-  pub others_stay : (j : ℕ) → (n ≡ j → ⊥) → column (map items (set row n w)) j ≡ column (map items row) j
-  others_stay j apart = changed_elsewhere items row n j w [] apart
-
-  pub rooms_stay : vec_capacity w ≡ vec_capacity (get_or row n v) → map vec_capacity (set row n w) ≡ map vec_capacity row
-  rooms_stay e = same_of_all vec_capacity row n v w is (e ∙ ap vec_capacity (sym is))
-
--- there is room for one item more
-pub room_here : (row first : List Words) (n k : ℕ) (v : Words) (all : List ℕ) → n < length row → v ≡ get_or row n v →
+-- there is room for so many more words
+room_here : (row first : List Words) (n k : ℕ) (v : Words) (all : List ℕ) → n < length row → v ≡ get_or row n v →
     map vec_capacity row ≡ map vec_capacity first →
     length (column (map items first) n) + length all ≤ room_at (map vec_capacity first) n →
     length (column (map items row) n) + k ≤ length (column (map items first) n ++ all) →

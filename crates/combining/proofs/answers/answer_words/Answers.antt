@@ -7,22 +7,22 @@ use Rattle.combining.specs.Gathering.{value_at}
 use Rattle.combining.specs.Answers.{answers}
 use Rattle.combining.proofs.AnswerWords.{answers_next, answers_end}
 use Rattle.combining.proofs.Packing.{take_one, drop_further}
-use Rattle.combining.proofs.answers.answer_asks.Goals as goal
+use Rattle.combining.proofs.answers.answer_words.Goals as goal
 
 pub loop-ask-preserved : goal.loop-ask-preserved
 loop-ask-preserved g c =
     let m = g.M.AddressMap.shape c.args.map.now in
     let j = c.args.part in
-    let values = c.args.cells.now in
+    let values = c.args.values.now in
     let inv = c.loop-ask.invariant in
     let x = c.in-Some.ask in
     let out = c.loop-ask.out in
     let n = c.loop-ask.n in
     let shorter = c.in-Some.ensures.shorter in
     let behind = answers m j values c.in-Some.behind.now in
-    let fits : FitsSigned w64 c.get.result = search rules in
+    let fits : FitsSigned w64 c.value_of.result = search rules in
     let word : c.cast_unsigned.result ≡ word_of (value_at values x.offset) =
-    c.cast_unsigned.ensures ∙ ap (of_z w64) (to_z-of_z w64 c.get.result fits) ∙ ap (of_z w64) c.get.ensures.value in
+    c.cast_unsigned.ensures ∙ ap (of_z w64) (to_z-of_z w64 c.value_of.result fits) ∙ ap (of_z w64) c.value_of.ensures in
     let room : n + 1 ≤ length out = (let f = inv.few in let r = c.requires.room in let l = inv.long in omega (arith, f, r, l, shorter)) in
     record {
       few = (let f = inv.few in omega (arith, f, shorter));
@@ -41,7 +41,7 @@ returns-clause-words g c =
     let m = g.M.AddressMap.shape c.args.map.now in
     let before = take c.loop-ask.n c.loop-ask.out in
     sym (append-nil before)
-    ∙ sym (ap (λ ws. before ++ ws) (answers_end m c.args.part c.args.cells.now c.loop-ask.rest.now (c.next.ensures.none c.in_default.is)))
+    ∙ sym (ap (λ ws. before ++ ws) (answers_end m c.args.part c.args.values.now c.loop-ask.rest.now (c.next.ensures.none c.in_default.is)))
     ∙ c.loop-ask.invariant.written
 
 pub returns-clause-count : goal.returns-clause-count

@@ -1,6 +1,6 @@
 use Rattle.std.proofs.Common.{◌≡◌, ◌≤◌, ◌+◌, ◌++◌, length, take, drop}
 use Rattle.combining.specs.Answers.{answers}
-use Rattle.combining.proofs.answers.answer_asks.Given as goal
+use Rattle.combining.proofs.answers.answer_words.Given as goal
 
 abbrev pub invariant-loop-ask : goal.invariant-loop-ask
 invariant-loop-ask g l =
@@ -8,7 +8,7 @@ invariant-loop-ask g l =
     record {
       few : l.n + length l.rest ≤ length l.words;
       long : length l.out ≡ length l.fn.out;
-      written : take l.n l.out ++ answers m l.part l.cells l.rest ≡ answers m l.part l.cells l.words;
+      written : take l.n l.out ++ answers m l.part l.values l.rest ≡ answers m l.part l.values l.words;
       rest : drop l.n l.out ≡ drop l.n l.fn.out;
     }
 
