@@ -14,7 +14,6 @@ use Rattle.address_map.specs.Lawful.{Shape, IsOf, IsLawful}
 use Rattle.superstep_machine.specs.Words.{CellPut}
 use Rattle.superstep_machine.specs.WordReading.{word, put_length, read_put, entry_of_column, entry_read}
 use Rattle.superstep_machine.specs.Sending.{join, entry_in, verdict_on, settled}
-use Rattle.superstep_machine.proofs.Collected.{entries_are_monoid}
 use Rattle.combining.specs.declared.words.PlacedPut.{PlacedPut}
 use Rattle.combining.specs.Held.{put_at}
 use Rattle.combining.specs.Items.{placed_if, puts_placed}

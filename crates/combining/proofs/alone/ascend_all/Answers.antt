@@ -1,4 +1,4 @@
-use Rattle.std.proofs.Common.{◌≡◌, ◌<◌, ◌+◌, ℕ, List, Bor, length, get_or, map, drop, sym, subst, arith}
+use Rattle.std.proofs.Common.{◌<◌, ℕ, List, Bor, length, map, sym, subst, arith}
 use Rattle.std.proofs.lemmas.List.{drop_more, drop_all}
 use Rattle.combining.specs.Alone.{AscendAll}
 use Rattle.combining.proofs.alone.ascend_all.Goals as goal

@@ -1,4 +1,4 @@
-use Rattle.std.proofs.Common.{◌≤◌, ◌<◌, ◌+◌, ◌^◌, ℕ, List, length, get_or, ap, subst, arith}
+use Rattle.std.proofs.Common.{◌≤◌, ◌<◌, ◌+◌, ◌^◌, ℕ, List, length, get_or, ap, subst}
 use Rattle.combining.specs.Alone.{cells_put, AscendTo}
 use Rattle.combining.proofs.OnlyPuts.{ascend_next}
 use Rattle.combining.proofs.alone.ascend_column.Goals as goal

@@ -1,4 +1,4 @@
-use Rattle.std.proofs.Common.{◌≡◌, ◌<◌, ◌+◌, ℕ, List, Bor, Option, None, length, map, drop, subst, ◌∙◌, arith}
+use Rattle.std.proofs.Common.{◌<◌, ◌+◌, ℕ, List, Bor, Option, None, length, map, drop, subst, ◌∙◌, arith}
 use Rattle.std.proofs.lemmas.List.{drop_more}
 use Rattle.write_rules.specs.declared.entry.Entry.{Entry}
 use Rattle.superstep_machine.specs.Sending.{join, verdict_on, settled}

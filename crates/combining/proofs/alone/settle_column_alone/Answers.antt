@@ -1,4 +1,4 @@
-use Rattle.std.proofs.Common.{◌≡◌, ◌≤◌, ◌<◌, ◌+◌, ◌∷◌, length, ℕ, List, map, ap, subst, ◌∙◌, length-set, Option, None, arith}
+use Rattle.std.proofs.Common.{◌≡◌, ◌≤◌, ◌+◌, ◌∷◌, length, ℕ, List, map, ap, subst, ◌∙◌, length-set, Option, None, arith}
 use Rattle.write_rules.specs.declared.entry.Entry.{Entry}
 use Rattle.superstep_machine.specs.WordReading.{entry_of_column}
 use Rattle.superstep_machine.specs.Sending.{join, entry_in}

@@ -1,4 +1,4 @@
-use Rattle.std.proofs.Common.{◌≡◌, ◌≤◌, ◌<◌, ◌%◌, ◌^◌, ◌++◌, [], ℕ, List, length, map, take, drop, set, refl, sym, ap, ◌∙◌, arith, append-nil, length-set, get_or}
+use Rattle.std.proofs.Common.{◌≡◌, ◌<◌, ◌%◌, ◌^◌, ◌++◌, [], ℕ, List, length, map, take, drop, set, refl, sym, ap, ◌∙◌, arith, append-nil, length-set}
 use Rattle.std.proofs.lemmas.List.{length-map, drop_all, take_all}
 use Rattle.combining.specs.Held.{paired}
 use Rattle.combining.specs.Asked.{ask_at, IsAskBelow}

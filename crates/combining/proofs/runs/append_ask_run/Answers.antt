@@ -1,4 +1,4 @@
-use Rattle.std.proofs.Common.{ℕ, List, subst, ◌≡◌, ◌<◌, ◌+◌, ◌%◌, ◌^◌, ◌++◌, ◌∷◌, [], length, drop, sym, ap, ◌∙◌, arith, true, false, get_or, pos, length-append, refl, eqb}
+use Rattle.std.proofs.Common.{ℕ, List, subst, ◌≡◌, ◌<◌, ◌+◌, ◌%◌, ◌^◌, ◌++◌, ◌∷◌, [], length, drop, sym, ap, ◌∙◌, arith, true, false, get_or, pos, length-append, refl}
 use Rattle.std.proofs.lemmas.List.{get_or_default}
 use Rattle.std.proofs.lemmas.Bool.{eq-eqb, ne_eqb}
 use Rattle.combining.specs.declared.asks.Asked.{Asked}

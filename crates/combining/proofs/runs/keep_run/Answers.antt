@@ -1,4 +1,4 @@
-use Rattle.std.proofs.Common.{rules, ◌≡◌, ◌≤◌, ◌<◌, ◌+◌, ◌%◌, ◌^◌, ◌++◌, [], ◌∷◌, ℕ, List, length, take, drop, set, refl, sym, ap, ◌∙◌}
+use Rattle.std.proofs.Common.{rules, ◌≡◌, ◌≤◌, ◌<◌, ◌+◌, ◌%◌, ◌^◌, ◌++◌, [], ◌∷◌, length, take, drop, set, refl, sym, ap, ◌∙◌}
 use Rattle.std.proofs.Common.{subst, arith, append_assoc, get_or, length-set, pos, false, FitsSigned, w64, to_z, of_z}
 use Rattle.std.proofs.lemmas.List.{get_or_default, get_or-set_same, drop-set-lt, set-get_or}
 use Rattle.std.proofs.lemmas.Int.{to_z-of_z}
