@@ -1,0 +1,10 @@
+//! Places of a text: the line and the column of an offset, and the line of a text with a caret below a place.
+#![tactic(auto)]
+
+mod excerpt;
+mod lines;
+mod place;
+
+pub use excerpt::{write_excerpt, write_line_excerpt, write_shown};
+pub use lines::line_text;
+pub use place::{Place, place_of};
