@@ -5,7 +5,7 @@ use pram_parser::parse;
 use pram_syntax::Buffer;
 use run_steps::steps_of;
 use std::alloc::Global;
-use step_texts::write_steps;
+use step_texts::{Manner, write_steps};
 
 // A program, its input and bound, the first and the last entry that are asked for, and what is written.
 #[derive(Clone, Copy)]
@@ -159,14 +159,72 @@ const RANGES: [Row; 4] = [
     },
 ];
 
-// Whether that is written of a row's run.
-fn is_told(alloc: Global, row: &Row) -> Option<bool> {
+// The same for a reader on a terminal: where colours are asked for, changes stand between what begins cyan and what ends it.
+const PLAIN_ON_TERMINAL: [Row; 2] = [
+    Row {
+        text: SUM,
+        input: FOUR,
+        bound: 1000,
+        first: 2,
+        last: 3,
+        told: "2 line 4 processors 1  |   for 1 <= i <= m pardo\n\
+            3 line 5 processors 2 a[1] 1 -> 4 a[2] 2 -> 6  |     a[i] := a[i] + a[i + 2];\n",
+    },
+    // A tab stays; a byte that steers a terminal, and the carriage return at the end of a line, don't come out.
+    Row {
+        text: "rule crew; procs 2; shared s; begin #\x1b[2J\r\n\ts := 1 div 0;\r\nend",
+        input: &[],
+        bound: 1000,
+        first: 1,
+        last: 1000,
+        told: "1 fault divide-by-zero all line 2  | \ts := 1 div 0;\n",
+    },
+];
+
+const COLOURED: [Row; 2] = [
+    Row {
+        text: SUM,
+        input: FOUR,
+        bound: 1000,
+        first: 4,
+        last: 5,
+        told: "4 line 7 processors 1\x1b[36m s 0 -> 10\x1b[0m  |   s := a[1] + a[2];\n5 line 8 processors 1  |   print s;\n",
+    },
+    Row {
+        text: "rule crew; procs 2; shared s; begin s := 1; # \x1b[2J\nend",
+        input: &[],
+        bound: 1000,
+        first: 1,
+        last: 1000,
+        told: "1 line 1 processors 1\x1b[36m s 0 -> 1\x1b[0m  | rule crew; procs 2; shared s; begin s := 1; # ?[2J\n",
+    },
+];
+
+// Whether that is written of a row's run, plainly or on a terminal.
+fn is_written(alloc: Global, row: &Row, manner: &Manner<'_>) -> Option<bool> {
     let tree = parse(alloc, row.text.as_bytes()).ok()?;
     let program = check(alloc, tree).ok()?;
     let (_outcome, entries) = steps_of(alloc, &program, row.input, row.bound).ok()?;
     let mut out = Buffer::new(alloc);
-    write_steps(&mut out, program.layout(), &entries, row.first, row.last).ok()?;
+    write_steps(
+        &mut out,
+        program.layout(),
+        manner,
+        &entries,
+        row.first,
+        row.last,
+    )
+    .ok()?;
     Some(out.bytes() == row.told.as_bytes())
+}
+
+fn is_told(alloc: Global, row: &Row) -> Option<bool> {
+    is_written(alloc, row, &Manner::Plain)
+}
+
+fn is_told_on_terminal(alloc: Global, row: &Row, colours: bool) -> Option<bool> {
+    let text = row.text.as_bytes();
+    is_written(alloc, row, &Manner::OnTerminal { text, colours })
 }
 
 #[test]
@@ -190,5 +248,16 @@ fn entries_are_cut_to_a_range(rt: HostRuntime) {
     let alloc = rt.alloc();
     for row in &RANGES {
         assert_eq!(rt; is_told(alloc, row), Some(true));
+    }
+}
+
+#[test]
+fn entries_stand_beside_their_lines(rt: HostRuntime) {
+    let alloc = rt.alloc();
+    for row in &PLAIN_ON_TERMINAL {
+        assert_eq!(rt; is_told_on_terminal(alloc, row, false), Some(true));
+    }
+    for row in &COLOURED {
+        assert_eq!(rt; is_told_on_terminal(alloc, row, true), Some(true));
     }
 }

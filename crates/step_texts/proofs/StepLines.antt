@@ -8,7 +8,9 @@ use Rattle.run_steps.specs.Entries.{entry_is}
 use Rattle.text_out.specs.Out.{OutState, with_bytes}
 use Rattle.text_out.proofs.Progress.{Progress, goes_on}
 use Rattle.program_texts.specs.Shown.{spaced}
-use Rattle.step_texts.specs.StepText.{change_text, changes_text, line_within, lines_from, meeting_text}
+use Rattle.step_texts.specs.declared.manner.Manner.{Manner}
+use Rattle.step_texts.specs.StepText.{line_within, lines_from}
+use Rattle.step_texts.specs.Told.{change_text, changes_text, meeting_text}
 
 -- the change at i, and those behind it
 pub changes_at : (layout : List SharedEntry) (ds : List Change) (i : ℕ) (d : Change) → i < length ds → d ≡ get_or ds i d →
@@ -18,27 +20,27 @@ changes_at layout ds i d below is =
     ∙ ap (λ d. change_text layout d ++ changes_text layout (drop (i + 1) ds)) (sym is)
 
 -- the entry at i, and those behind it
-pub lines_at : (layout : List SharedEntry) (first last : ℕ) (es : List rust.Entry.Entry) (i before : ℕ) (e : rust.Entry.Entry) →
-    i < length es → e ≡ get_or es i e → lines_from layout first last (before + 1) (map entry_is (drop i es)) ≡
-    line_within layout first last (before + 1) (entry_is e) ++ lines_from layout first last ((before + 1) + 1) (map entry_is (drop (i + 1) es))
-lines_at layout first last es i before e below is =
-    ap (λ es. lines_from layout first last (before + 1) (map entry_is es)) (drop_more es i e below)
-    ∙ ap (λ e. line_within layout first last (before + 1) (entry_is e)
-    ++ lines_from layout first last ((before + 1) + 1) (map entry_is (drop (i + 1) es))) (sym is)
+pub lines_at : (layout : List SharedEntry) (manner : Manner) (first last : ℕ) (es : List rust.Entry.Entry) (i before : ℕ) (e : rust.Entry.Entry) →
+    i < length es → e ≡ get_or es i e → lines_from layout manner first last (before + 1) (map entry_is (drop i es)) ≡
+    line_within layout manner first last (before + 1) (entry_is e) ++ lines_from layout manner first last ((before + 1) + 1) (map entry_is (drop (i + 1) es))
+lines_at layout manner first last es i before e below is =
+    ap (λ es. lines_from layout manner first last (before + 1) (map entry_is es)) (drop_more es i e below)
+    ∙ ap (λ e. line_within layout manner first last (before + 1) (entry_is e)
+    ++ lines_from layout manner first last ((before + 1) + 1) (map entry_is (drop (i + 1) es))) (sym is)
 
 -- lines on their way: what was written, and how many entries are behind
-pub record InLines (old new : OutState) (all : List ℕ) (layout : List SharedEntry) (first last : ℕ) (es : List rust.Entry.Entry) (i before : ℕ) :
+pub record InLines (old new : OutState) (all : List ℕ) (layout : List SharedEntry) (manner : Manner) (first last : ℕ) (es : List rust.Entry.Entry) (i before : ℕ) :
     Type 0 where
-  pub progress : Progress old new all (lines_from layout first last (before + 1) (map entry_is (drop i es)))
+  pub progress : Progress old new all (lines_from layout manner first last (before + 1) (map entry_is (drop i es)))
   pub counted : before ≡ i
 
-pub line_written : (old now new : OutState) (all : List ℕ) (layout : List SharedEntry) (first last : ℕ) (es : List rust.Entry.Entry)
-    (i before : ℕ) (e : rust.Entry.Entry) → InLines old now all layout first last es i before → i < length es → e ≡ get_or es i e →
-    new ≡ with_bytes now (line_within layout first last (before + 1) (entry_is e)) →
-    InLines old new all layout first last es (i + 1) (before + 1)
-line_written old now new all layout first last es i before e l below is w =
+pub line_written : (old now new : OutState) (all : List ℕ) (layout : List SharedEntry) (manner : Manner) (first last : ℕ) (es : List rust.Entry.Entry)
+    (i before : ℕ) (e : rust.Entry.Entry) → InLines old now all layout manner first last es i before → i < length es → e ≡ get_or es i e →
+    new ≡ with_bytes now (line_within layout manner first last (before + 1) (entry_is e)) →
+    InLines old new all layout manner first last es (i + 1) (before + 1)
+line_written old now new all layout manner first last es i before e l below is w =
     record {
-      progress = goes_on _ _ _ _ _ _ _ l.progress (lines_at layout first last es i before e below is) w;
+      progress = goes_on _ _ _ _ _ _ _ l.progress (lines_at layout manner first last es i before e below is) w;
       counted = let c : before ≡ i = l.counted in omega (arith, c);
     }
 

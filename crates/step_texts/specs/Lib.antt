@@ -1,1 +1,3 @@
+pub mod Told
+pub mod OnTerminal
 pub mod StepText

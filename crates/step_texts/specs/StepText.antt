@@ -1,61 +1,29 @@
 -- How the entries of a run are written, each on a line.
-use Rattle.std.specs.Prelude.{ℕ, ◌+◌, nat_le, ◌&&◌, if◌then◌else◌, List, [], ◌∷◌, ◌++◌, ℤ, codes, decimal}
-use Rattle.std.specs.Fmt.{signed_decimal}
+use Rattle.std.specs.Prelude.{ℕ, ◌+◌, nat_le, ◌&&◌, if◌then◌else◌, List, [], ◌∷◌, ◌++◌}
 use Rattle.pram_model.specs.Layout.{SharedEntry}
-use Rattle.write_rules.specs.declared.fault.Fault.{Fault}
-use Rattle.program_texts.specs.Shown.{cell_text, fault_text, line, spaced}
-use Rattle.run_steps.specs.declared.change.Change.{Change}
-use Rattle.run_steps.specs.Entries.{Entry, Faulting, Ran}
+use Rattle.program_texts.specs.Shown.{line}
+use Rattle.run_steps.specs.Entries.{Entry}
+use Rattle.step_texts.specs.declared.manner.Manner.{Manner}
+use Rattle.step_texts.specs.declared.manner.Manner.TheVariants.{OnTerminal, Plain}
+use Rattle.step_texts.specs.OnTerminal as terminal
+use Rattle.step_texts.specs.Told.{entry_text}
 
--- its values: ` 4 -> 7`
-abbrev pub value_text : Change → List ℕ
-value_text d = codes " " ++ (signed_decimal d.before ++ (codes " -> " ++ signed_decimal d.after))
+-- the line of an entry
+abbrev pub entry_line : List SharedEntry → Manner → ℕ → Entry → List ℕ
+entry_line layout Plain number e = line (entry_text layout number e)
+entry_line layout (OnTerminal text colours) number e = terminal.entry_line layout text.now colours number e
 
--- a cell's change: ` a[3] 4 -> 7`
-abbrev pub change_text : List SharedEntry → Change → List ℕ
-change_text layout d = codes " " ++ (cell_text layout d.cell ++ value_text d)
-
-abbrev pub changes_text : List SharedEntry → List Change → List ℕ
-changes_text layout [] = []
-changes_text layout (d ∷ ds) = change_text layout d ++ changes_text layout ds
-
--- those that met: ` processors 1 3`, and nothing where nobody did
-abbrev pub meeting_text : List ℤ → List ℕ
-meeting_text [] = []
-meeting_text (i ∷ is) = codes " processors" ++ spaced (i ∷ is)
-
--- `line 9 processors 4`
-abbrev pub head_text : (at processors : ℕ) → List ℕ
-head_text at k = codes "line " ++ (decimal at ++ (codes " processors " ++ decimal k))
-
--- `line 9 processors 4 a[3] 4 -> 7 a[4] 0 -> 2`
-abbrev pub ran_text : List SharedEntry → (at processors : ℕ) → List Change → List ℕ
-ran_text layout at k ds = head_text at k ++ changes_text layout ds
-
--- `fault read-conflict a[1] line 4 processors 1 3`
-abbrev pub faulting_text : List SharedEntry → Fault → List ℤ → List ℕ
-faulting_text layout fault who = fault_text layout fault ++ meeting_text who
-
-abbrev pub told_text : List SharedEntry → Entry → List ℕ
-told_text layout (Ran at k ds) = ran_text layout at k ds
-told_text layout (Faulting fault who) = faulting_text layout fault who
-
-abbrev pub number_text : ℕ → List ℕ
-number_text number = decimal number ++ codes " "
-
--- an entry behind its number
-abbrev pub entry_text : List SharedEntry → ℕ → Entry → List ℕ
-entry_text layout number e = number_text number ++ told_text layout e
-
--- the line of an entry whose number is asked for
-abbrev pub line_within : List SharedEntry → (first last number : ℕ) → Entry → List ℕ
-line_within layout first last number e = if nat_le first number && nat_le number last then line (entry_text layout number e) else []
+-- that of an entry whose number is asked for
+abbrev pub line_within : List SharedEntry → Manner → (first last number : ℕ) → Entry → List ℕ
+line_within layout manner first last number e =
+    if nat_le first number && nat_le number last then entry_line layout manner number e else []
 
 -- the lines of entries that are numbered from this on
-abbrev pub lines_from : List SharedEntry → (first last number : ℕ) → List Entry → List ℕ
-lines_from layout first last number [] = []
-lines_from layout first last number (e ∷ es) = line_within layout first last number e ++ lines_from layout first last (number + 1) es
+abbrev pub lines_from : List SharedEntry → Manner → (first last number : ℕ) → List Entry → List ℕ
+lines_from layout manner first last number [] = []
+lines_from layout manner first last number (e ∷ es) =
+    line_within layout manner first last number e ++ lines_from layout manner first last (number + 1) es
 
 -- those whose numbers, counted from 1, go from `first` to `last`
-abbrev pub steps_text : List SharedEntry → (first last : ℕ) → List Entry → List ℕ
-steps_text layout first last es = lines_from layout first last 1 es
+abbrev pub steps_text : List SharedEntry → Manner → (first last : ℕ) → List Entry → List ℕ
+steps_text layout manner first last es = lines_from layout manner first last 1 es

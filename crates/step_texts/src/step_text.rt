@@ -4,8 +4,11 @@ ghost use Rattle.std.specs.Prelude.{◌<◌, ◌+◌, ◌-◌, ◌^◌, map};
 ghost use Rattle.text_out.specs.Out.{Writes};
 ghost use Rattle.program_texts.specs.Shown.{line};
 ghost use Rattle.run_steps.specs.Entries.{entry_is};
-ghost use Rattle.step_texts.specs.StepText as spec;
+ghost use Rattle.step_texts.specs.StepText.{entry_line, line_within, steps_text};
+ghost use Rattle.step_texts.specs.Told as spec;
 
+use crate::manner::Manner;
+use crate::terminal::write_on_terminal;
 use itoa::Buffer;
 use pram_syntax::Layout;
 use program_texts::{write_cell, write_fault_text, write_values};
@@ -38,7 +41,11 @@ fn write_change<W: Out>(out: &mut W, layout: &Layout, change: &Change) -> Result
     write_value(out, change)
 }
 
-fn write_changes<W: Out>(out: &mut W, layout: &Layout, changes: &[Change]) -> Result<(), WriteFault>
+pub(crate) fn write_changes<W: Out>(
+    out: &mut W,
+    layout: &Layout,
+    changes: &[Change],
+) -> Result<(), WriteFault>
     requires counted { (W.Out.state out.old).failures < 2 ^ 63 }
     ensures written { Writes (W.Out.state out.old) (W.Out.state out.new) (spec.changes_text layout.now changes.now) result }
 {
@@ -60,7 +67,7 @@ fn write_meeting<W: Out>(out: &mut W, processors: &[i64]) -> Result<(), WriteFau
 }
 
 // The line of a statement that ran, and its processors.
-fn write_head<W: Out>(out: &mut W, at: u32, processors: usize) -> Result<(), WriteFault>
+pub(crate) fn write_head<W: Out>(out: &mut W, at: u32, processors: usize) -> Result<(), WriteFault>
     requires counted { (W.Out.state out.old).failures < 2 ^ 63 }
     ensures written { Writes (W.Out.state out.old) (W.Out.state out.new) (spec.head_text at processors) result }
 {
@@ -90,7 +97,7 @@ fn write_ran<W: Out>(
 }
 
 // What is told of a fault.
-fn write_faulting<W: Out>(
+pub(crate) fn write_faulting<W: Out>(
     out: &mut W,
     layout: &Layout,
     fault: &Fault,
@@ -119,7 +126,7 @@ fn write_told<W: Out>(out: &mut W, layout: &Layout, entry: &Entry) -> Result<(),
 }
 
 // The number of an entry.
-fn write_number<W: Out>(out: &mut W, number: usize) -> Result<(), WriteFault>
+pub(crate) fn write_number<W: Out>(out: &mut W, number: usize) -> Result<(), WriteFault>
     requires counted { (W.Out.state out.old).failures < 2 ^ 63 }
     ensures written { Writes (W.Out.state out.old) (W.Out.state out.new) (spec.number_text number) result }
 {
@@ -144,10 +151,30 @@ pub fn write_entry<W: Out>(
     out.write_all(b"\n")
 }
 
+// The line of an entry.
+fn write_in<W: Out>(
+    out: &mut W,
+    layout: &Layout,
+    manner: &Manner<'_>,
+    number: usize,
+    entry: &Entry,
+) -> Result<(), WriteFault>
+    requires counted { (W.Out.state out.old).failures < 2 ^ 63 }
+    ensures written { Writes (W.Out.state out.old) (W.Out.state out.new) (entry_line layout.now manner.now number (entry_is entry.now)) result }
+{
+    match manner {
+        Manner::Plain => write_entry(out, layout, number, entry),
+        Manner::OnTerminal { text, colours } => {
+            write_on_terminal(out, layout, text, *colours, number, entry)
+        }
+    }
+}
+
 // The line of an entry behind so many others, if its number is asked for.
 fn write_within<W: Out>(
     out: &mut W,
     layout: &Layout,
+    manner: &Manner<'_>,
     first: usize,
     last: usize,
     before: usize,
@@ -156,11 +183,11 @@ fn write_within<W: Out>(
     requires counted { (W.Out.state out.old).failures < 2 ^ 63 }
     requires few { before < 2 ^ 64 - 1 }
     ensures written { Writes (W.Out.state out.old) (W.Out.state out.new)
-        (spec.line_within layout.now first last (before + 1) (entry_is entry.now)) result }
+        (line_within layout.now manner.now first last (before + 1) (entry_is entry.now)) result }
 {
     let number = before + 1;
     if first <= number && number <= last {
-        write_entry(out, layout, number, entry)
+        write_in(out, layout, manner, number, entry)
     } else {
         out.write_all(b"")
     }
@@ -171,16 +198,18 @@ fn write_within<W: Out>(
 pub fn write_steps<W: Out>(
     out: &mut W,
     layout: &Layout,
+    manner: &Manner<'_>,
     entries: &[Entry],
     first: usize,
     last: usize,
 ) -> Result<(), WriteFault>
     requires counted { (W.Out.state out.old).failures < 2 ^ 63 }
-    ensures written { Writes (W.Out.state out.old) (W.Out.state out.new) (spec.steps_text layout.now first last (map entry_is entries.now)) result }
+    ensures written { Writes (W.Out.state out.old) (W.Out.state out.new)
+        (steps_text layout.now manner.now first last (map entry_is entries.now)) result }
 {
     let mut before = 0;
     for entry in entries {
-        write_within(out, layout, first, last, before, entry)?;
+        write_within(out, layout, manner, first, last, before, entry)?;
         before += 1;
     }
     Ok(())

@@ -51,8 +51,9 @@ pub fn write_shown<W: Out>(out: &mut W, bytes: &[u8]) -> Result<(), WriteFault>
     Ok(())
 }
 
-// A line of a text.
-fn write_line<W: Out>(out: &mut W, text: &[u8], line: usize) -> Result<(), WriteFault>
+/// Writes the line of that number of a text, from 1, so that it steers no terminal, and the end of the line. The error is that the writer
+/// failed (E17).
+pub fn write_line<W: Out>(out: &mut W, text: &[u8], line: usize) -> Result<(), WriteFault>
     requires counted { (W.Out.state out.old).failures < 2 ^ 63 }
     ensures written { Writes (W.Out.state out.old) (W.Out.state out.new) (spec.shown_line text.now line) result }
 {

@@ -5,6 +5,6 @@ mod excerpt;
 mod lines;
 mod place;
 
-pub use excerpt::{write_excerpt, write_line_excerpt, write_shown};
+pub use excerpt::{write_excerpt, write_line, write_line_excerpt, write_shown};
 pub use lines::line_text;
 pub use place::{Place, place_of};

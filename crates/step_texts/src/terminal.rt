@@ -1,0 +1,124 @@
+//! The text of entries on a terminal.
+
+ghost use Rattle.std.specs.Prelude.{◌≡◌, ◌<◌, ◌^◌};
+ghost use Rattle.text_out.specs.Out.{Writes};
+ghost use Rattle.run_steps.specs.Entries.{entry_is};
+ghost use Rattle.step_texts.specs.OnTerminal as spec;
+
+use crate::step_text::{write_changes, write_faulting, write_head, write_number};
+use pram_syntax::Layout;
+use run_steps::{Change, Entry};
+use text_out::{Out, WriteFault};
+use text_places::write_line;
+use write_rules::Fault;
+
+// Changes between what begins a colour and what ends it.
+fn write_in_colour<W: Out>(
+    out: &mut W,
+    layout: &Layout,
+    changes: &[Change],
+) -> Result<(), WriteFault>
+    requires counted { (W.Out.state out.old).failures < 2 ^ 63 }
+    ensures written { Writes (W.Out.state out.old) (W.Out.state out.new) (spec.in_colour layout.now changes.now) result }
+{
+    out.write_all(b"\x1b[36m")?;
+    write_changes(out, layout, changes)?;
+    out.write_all(b"\x1b[0m")
+}
+
+// Changes, in colour where that is asked for and there are any.
+fn write_coloured<W: Out>(
+    out: &mut W,
+    layout: &Layout,
+    colours: bool,
+    changes: &[Change],
+) -> Result<(), WriteFault>
+    requires counted { (W.Out.state out.old).failures < 2 ^ 63 }
+    ensures written { Writes (W.Out.state out.old) (W.Out.state out.new) (spec.coloured_changes layout.now colours changes.now) result }
+{
+    if colours && !changes.is_empty() {
+        write_in_colour(out, layout, changes)
+    } else {
+        write_changes(out, layout, changes)
+    }
+}
+
+// What is told of a statement that ran.
+fn write_ran<W: Out>(
+    out: &mut W,
+    layout: &Layout,
+    colours: bool,
+    at: u32,
+    processors: usize,
+    changes: &[Change],
+) -> Result<(), WriteFault>
+    requires counted { (W.Out.state out.old).failures < 2 ^ 63 }
+    ensures written { Writes (W.Out.state out.old) (W.Out.state out.new) (spec.ran_text layout.now colours at processors changes.now) result }
+{
+    write_head(out, at, processors)?;
+    write_coloured(out, layout, colours, changes)
+}
+
+// What is told of a statement.
+fn write_told<W: Out>(
+    out: &mut W,
+    layout: &Layout,
+    colours: bool,
+    entry: &Entry,
+) -> Result<(), WriteFault>
+    requires counted { (W.Out.state out.old).failures < 2 ^ 63 }
+    ensures written { Writes (W.Out.state out.old) (W.Out.state out.new) (spec.told_text layout.now colours (entry_is entry.now)) result }
+{
+    match entry {
+        Entry::Ran {
+            line,
+            processors,
+            changes,
+        } => write_ran(out, layout, colours, *line, *processors, changes),
+        Entry::Faulted { fault, processors } => write_faulting(out, layout, fault, processors),
+    }
+}
+
+// The line of an entry's statement.
+fn line_of(entry: &Entry) -> u32
+    ensures { result ≡ spec.line_of (entry_is entry.now) }
+{
+    match entry {
+        Entry::Ran {
+            line,
+            processors: _,
+            changes: _,
+        } => *line,
+        Entry::Faulted {
+            fault,
+            processors: _,
+        } => fault.line,
+    }
+}
+
+// The line of the text beside an entry, and the end of the entry's line.
+fn write_beside<W: Out>(out: &mut W, text: &[u8], line: u32) -> Result<(), WriteFault>
+    requires counted { (W.Out.state out.old).failures < 2 ^ 63 }
+    ensures written { Writes (W.Out.state out.old) (W.Out.state out.new) (spec.beside text.now line) result }
+{
+    out.write_all(b"  | ")?;
+    write_line(out, text, line as usize)
+}
+
+/// Writes an entry behind its number, and beside it its line of the text.
+pub(crate) fn write_on_terminal<W: Out>(
+    out: &mut W,
+    layout: &Layout,
+    text: &[u8],
+    colours: bool,
+    number: usize,
+    entry: &Entry,
+) -> Result<(), WriteFault>
+    requires counted { (W.Out.state out.old).failures < 2 ^ 63 }
+    ensures written { Writes (W.Out.state out.old) (W.Out.state out.new)
+        (spec.entry_line layout.now text.now colours number (entry_is entry.now)) result }
+{
+    write_number(out, number)?;
+    write_told(out, layout, colours, entry)?;
+    write_beside(out, text, line_of(entry))
+}
