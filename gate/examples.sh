@@ -1,5 +1,5 @@
 #!/usr/bin/env bash
-# Runs each example of examples/ and each command of docs/TUTORIAL.md, and compares what they print.
+# Runs each example of examples/ and each command of docs/TUTORIAL.md, and compares what they print; and draws the trace of each example.
 # The program may be named: the gate names the one that it proved and built. Otherwise it is bin/pramc, which is built first.
 set -eu
 top=$(cd "$(dirname "$0")/.." && pwd)
@@ -11,3 +11,4 @@ if [ -z "$program" ]; then
 fi
 python3 "$top/gate/examples.py" "$program"
 python3 "$top/gate/tutorial.py" "$program"
+python3 "$top/gate/pictures.py" "$program"

@@ -20,7 +20,7 @@ the_greater x y =
 greatest_cons : (x : ℕ) (xs : List ℕ) → greatest (x ∷ xs) ≡ max x (greatest xs)
 greatest_cons x xs = the_greater x (greatest xs)
 
-at_most_greatest : (xs : List ℕ) (i : ℕ) → i < length xs → get_or xs i 0 ≤ greatest xs
+pub at_most_greatest : (xs : List ℕ) (i : ℕ) → i < length xs → get_or xs i 0 ≤ greatest xs
 at_most_greatest [] i l = omega (arith, l)
 at_most_greatest (x ∷ xs) zero l = (let e = greatest_cons x xs in omega (arith, e))
 at_most_greatest (x ∷ xs) (suc i) l =

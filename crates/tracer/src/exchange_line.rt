@@ -10,7 +10,8 @@ use exchange_counts::{Counts, Step};
 use itoa::Buffer;
 use text_out::{Out, WriteFault};
 
-fn kind_word(step: Step) -> &'static [u8]
+/// The word for what an exchange is for: `send`, `reply`, `vote` or `close`.
+pub fn kind_word(step: Step) -> &'static [u8]
     ensures { result.now ≡ kind_text (purpose_is step) }
 {
     match step {

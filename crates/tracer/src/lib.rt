@@ -6,4 +6,5 @@ pub mod law;
 mod trace;
 
 pub use exchange_counts::{Count, Counts, Step};
+pub use exchange_line::kind_word;
 pub use trace::write_trace;

@@ -1,0 +1,2 @@
+pub mod BarTexts
+pub mod ColumnTexts

@@ -1,0 +1,81 @@
+#!/usr/bin/env python3
+"""Draws the trace of each example, and compares the picture, read as XML, with the trace that is written.
+
+pictures.py PROGRAM: each exchange that is drawn has its number, its kind and its h, and for each worker the words that it sent and
+received, by bars that stand within their column and are as tall as the words are to the most; no element but boxes, lines and texts stands
+there.
+"""
+import re
+import subprocess
+import sys
+import xml.etree.ElementTree as tree
+from concurrent.futures import ThreadPoolExecutor
+from pathlib import Path
+
+from gallery import EXAMPLES, programs
+
+PROGRAM = Path(sys.argv[1]).resolve()
+SVG = "{http://www.w3.org/2000/svg}"
+LINE = re.compile(r"(\d+) (\w+) sent ((?:\d+ )+)received ((?:\d+ )+)h (\d+)")
+MOST_DRAWN = 200
+
+
+def written(words):
+    done = subprocess.run([PROGRAM, *words], capture_output=True, text=True, timeout=60)
+    if done.returncode not in (0, 1) or done.stderr:
+        sys.exit(f"pramc {' '.join(map(str, words))}: {done.returncode} {done.stderr}")
+    return done.stdout
+
+
+def traced(text):
+    """The exchanges of a trace: number, kind, words sent, words received, h."""
+    found = [LINE.fullmatch(line).groups() for line in text.splitlines()]
+    return [(int(k), kind, [*map(int, sent.split())], [*map(int, received.split())], int(h)) for k, kind, sent, received, h in found]
+
+
+def bars(root):
+    """Each bar's name, its left edge, and how far it goes up and down from the axis."""
+    axis = int(next(root.iter(f"{SVG}line")).get("y1"))
+    for it in root.iter(f"{SVG}rect"):
+        name = it.find(f"{SVG}title")
+        if name is not None:
+            top, height = int(it.get("y")), int(it.get("height"))
+            yield name.text, int(it.get("x")), axis - top, top + height - axis
+
+
+def wanted(exchanges, left, width):
+    most = max(h for *_, h in exchanges)
+    for k, _, sent, received, _ in exchanges:
+        for did, words in (("sent", sent), ("received", received)):
+            for w, count in enumerate(words):
+                tall = -(-count * 100 // most) if most else 0
+                up, down = (tall, 0) if did == "sent" else (0, tall)
+                yield f"worker {w} {did} {count}", left + width * (k - 1) + 4 + 10 * w, up, down
+
+
+def wrong(name, _text):
+    """What is wrong with the picture of an example, if anything is."""
+    words = [EXAMPLES / f"{name}.pram", "--input", EXAMPLES / f"{name}.in", "--workers", "3"]
+    exchanges = traced(written(["trace", *words]))
+    root = tree.fromstring(written(["trace", *words, "--svg"]))
+    drawn = exchanges[:MOST_DRAWN]
+    texts = [it.text for it in root.iter(f"{SVG}text")]
+    cut = f", of which the first {MOST_DRAWN} are drawn" if len(exchanges) > MOST_DRAWN else ""
+    said = [f"workers 3, exchanges {len(exchanges)}{cut}", "words sent", "words received"]
+    said += [it for k, kind, _, _, h in drawn for it in (str(k), kind, f"h {h}")] + ["sent", "received"]
+    kinds = {it.tag.removeprefix(SVG) for it in root.iter()}
+    checks = [texts == said, list(bars(root)) == list(wanted(drawn, 72, 80)), kinds == {"svg", "rect", "line", "text", "title"}]
+    checks += [int(root.get("width")) >= 72 + 80 * len(drawn), root.get("version") == "1.1"]
+    return [] if all(checks) else [f"{name}: {checks}"]
+
+
+def main():
+    with ThreadPoolExecutor(4) as pool:
+        found = list(pool.map(lambda it: wrong(*it), programs()))
+    for it in sum(found, []):
+        print(it)
+    print(f"pictures: {found.count([])} of {len(found)} traces are drawn as they are written")
+    sys.exit(1 if any(found) else 0)
+
+
+main()
