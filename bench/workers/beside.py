@@ -1,4 +1,4 @@
-"""Times runs by workers in threads beside the definition and the interpreter, and what a run and an exchange cost by themselves."""
+"""Times runs by workers in threads beside the definition and the interpreter, and what a run, a reserve and an exchange cost."""
 
 import os
 import platform
@@ -72,6 +72,12 @@ def empty_exchange(workers):
     return (more - less) * 1e6 / TURNS
 
 
+def reserved(path):
+    """How long four workers take that have taken all memory first, and others that take it on the way."""
+    exchanges, _words = traffic(path, 4)
+    return fastest([[*run(path, 4), "--reserve", f"10,{exchanges}"], run(path, 4)])
+
+
 def programs(crossing):
     for name in ["jump", "sums", "local", "uniform"]:
         path = f"{PROGRAMS}/{name}.pram"
@@ -87,6 +93,8 @@ def programs(crossing):
                 exchanges, words = traffic(path, p)
                 waits = exchanges * crossing[p] / 1e6
                 print(f"  {p} workers: {exchanges} exchanges, {words} words; as many exchanges without words take {waits:.3f} s")
+        first, on_the_way = reserved(path)
+        print(f"  4 workers with a reserve {first:.3f} s, without {on_the_way:.3f}")
 
 
 def main():

@@ -16,14 +16,14 @@ use write_rules::Outcome;
 const WORKERS: [u32; 6] = [1, 2, 3, 4, 7, 32];
 
 // Enough places for the cells of each code.
-const PLACES: u32 = 16;
+pub(crate) const PLACES: u32 = 16;
 
-fn verified(alloc: Global, text: &[u8]) -> Option<Verified> {
+pub(crate) fn verified(alloc: Global, text: &[u8]) -> Option<Verified> {
     let code = read_listing(alloc, text).ok()?;
     verify(alloc, code).ok()
 }
 
-fn is_same(one: &Outcome, other: &Outcome) -> bool {
+pub(crate) fn is_same(one: &Outcome, other: &Outcome) -> bool {
     match (one, other) {
         (
             Outcome::Ended { output, memory },

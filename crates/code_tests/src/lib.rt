@@ -13,6 +13,8 @@ mod fused;
 #[cfg(test)]
 mod held_and_merged;
 #[cfg(test)]
+mod in_threads;
+#[cfg(test)]
 mod listing;
 #[cfg(test)]
 mod maps;
