@@ -1,0 +1,13 @@
+use Rattle.std.proofs.Common.{◌≡◌, ◌+◌, ◌-◌, ◌≤◌, length, drop}
+use Rattle.std.specs.List.{prefix_len}
+use Rattle.pram_model.specs.Names.{is_word}
+use Rattle.diagnoses.proofs.places.word_len.Given as goal
+
+abbrev pub invariant-loop-end : goal.invariant-loop-end
+invariant-loop-end l = record {
+  is : l.end + prefix_len is_word (drop l.end l.text) ≡ prefix_len is_word l.text;
+  within : l.end ≤ length l.text;
+}
+
+abbrev pub decreases-loop-end : goal.decreases-loop-end
+decreases-loop-end l = length l.text - l.end

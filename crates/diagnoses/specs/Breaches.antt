@@ -1,0 +1,95 @@
+-- What is said of the first thing that is wrong with a program: E6 to E10.
+use Rattle.std.specs.Prelude.{ℕ, if◌then◌else◌, List, [], ◌∷◌, ◌++◌, codes, decimal, length}
+use Rattle.pram_model.specs.Names.{is_one_of}
+use Rattle.pram_names.specs.declared.fault.Cause.{Cause}
+use Rattle.pram_names.specs.declared.fault.Cause.TheVariants as cause
+use Rattle.pram_names.specs.declared.fault.Limit.{Limit}
+use Rattle.pram_names.specs.declared.fault.Limit.TheVariants as limit
+use Rattle.pram_names.specs.declared.fault.Spot.{Spot}
+use Rattle.pram_names.specs.declared.fault.Spot.TheVariants as spot
+use Rattle.pram_names.specs.declared.fault.Breach.{Breach}
+use Rattle.scope_names.specs.declared.known.Sort.{Sort}
+use Rattle.scope_names.specs.declared.known.Sort.TheVariants as sort
+use Rattle.text_places.specs.Excerpts.{excerpt}
+use Rattle.diagnoses.specs.declared.source.Source.{Source}
+use Rattle.diagnoses.specs.Places.{quoted, token_at}
+use Rattle.diagnoses.specs.Remarks.{Remark, Nothing, Nearest, Declared}
+
+abbrev pub sort_text : Sort → List ℕ
+sort_text sort.Cell = codes "a shared cell"
+sort_text sort.Array = codes "a shared array"
+sort_text sort.Variable = codes "a variable"
+sort_text sort.Index = codes "the index of a pardo"
+sort_text sort.Local = codes "a local of a pardo"
+
+-- what is not allowed with a name of that sort, where another kind is wanted
+abbrev pub kind_reason : Sort → List ℕ
+kind_reason sort.Cell = codes "it has no subscript, and no for runs over it\n"
+kind_reason sort.Array = codes "it wants a subscript, and no for runs over it\n"
+kind_reason sort.Variable = codes "it has no subscript, and is not set inside pardo\n"
+kind_reason sort.Index = codes "it has no subscript\n"
+kind_reason sort.Local = codes "it has no subscript\n"
+
+-- why a variable of a loop can't be set
+abbrev pub loop_reason : Sort → List ℕ
+loop_reason sort.Variable = codes "it is the variable of a for around this, and is not set in its body\n"
+loop_reason sort.Cell = codes "it is not set here\n"
+loop_reason sort.Array = codes "it is not set here\n"
+loop_reason sort.Index = codes "an index is never set\n"
+loop_reason sort.Local = codes "it is not set here\n"
+
+abbrev pub reason : Cause → Sort → List ℕ
+reason cause.UnknownName s = codes "it is not in scope here\n"
+reason cause.DoubleName s = codes "it can't be declared again here\n"
+reason cause.WrongKind s = kind_reason s
+reason cause.AssignedLoopVariable s = loop_reason s
+reason (cause.Limit l) s = codes "it passes a limit\n"
+
+-- what is said behind a word of which no more is known
+abbrev pub wrong_kind : List ℕ → List ℕ
+wrong_kind word =
+    if is_one_of (codes "print" ∷ codes "for" ∷ []) word then codes " has no place inside pardo: there is no print, no for and no pardo in it\n"
+    else codes " is of another kind than what may stand here\n"
+
+abbrev pub bare : List ℕ → Cause → List ℕ
+bare word cause.UnknownName = codes " is not declared here\n"
+bare word cause.DoubleName = codes " is declared already\n"
+bare word cause.WrongKind = wrong_kind word
+bare word cause.AssignedLoopVariable = codes " is the variable of a loop, and is not set in its body\n"
+bare word (cause.Limit l) = codes " passes a limit\n"
+
+-- as what and where it is declared, and what is wrong with that
+abbrev pub declared_text : Cause → Sort → ℕ → List ℕ
+declared_text c s line =
+    codes " is " ++ (sort_text s ++ (codes ", declared at line " ++ (decimal line ++ (codes ": " ++ reason c s))))
+
+-- what is said behind the word
+abbrev pub remarked : List ℕ → Cause → Remark → List ℕ
+remarked word c Nothing = bare word c
+remarked word c (Nearest name) = codes " is not declared here; did you mean \"" ++ (name ++ codes "\"?\n")
+remarked word c (Declared s line) = declared_text c s line
+
+abbrev pub limit_sentence : Limit → List ℕ
+limit_sentence limit.Cells = codes "with this the program has more than 1048576 shared cells, the most that there may be\n"
+limit_sentence limit.Procs = codes "procs is a number from 1 to 16384\n"
+limit_sentence limit.Bounds = codes "the first bound of an array is at most its last\n"
+limit_sentence limit.Reads = codes "this is the ninth shared read of the statement, which has at most 8\n"
+limit_sentence limit.Tokens = codes "a program has at most 16384 tokens\n"
+
+abbrev pub named_sentence : List ℕ → Cause → Remark → List ℕ
+named_sentence word c r = quoted word ++ remarked word c r
+
+abbrev pub breach_sentence : List ℕ → Cause → Remark → List ℕ
+breach_sentence word (cause.Limit l) r = limit_sentence l
+breach_sentence word c r = named_sentence word c r
+
+-- where it stands
+abbrev pub offset_of : List ℕ → Spot → ℕ
+offset_of text (spot.Offset at) = at
+offset_of text spot.TextEnd = length text
+
+-- what is said of the first thing that is wrong with the program of a text, by what there is to say of its name
+abbrev pub breach_diagnosis : Source → Breach → Remark → List ℕ
+breach_diagnosis s b r =
+    let at = offset_of s.bytes.items b.spot in
+    excerpt s.name.now s.bytes.items at ++ breach_sentence (token_at s.bytes.items at) b.cause r

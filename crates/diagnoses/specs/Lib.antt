@@ -1,0 +1,7 @@
+pub mod Places
+pub mod TextFaults
+pub mod Remarks
+pub mod Breaches
+pub mod Stops
+pub mod Met
+pub mod FaultTexts

@@ -1,0 +1,54 @@
+-- What there is to say of a name that is wrong: which name was meant, or as what and where it is declared.
+use Rattle.std.specs.Prelude.{◌≡◌, ◌⊎◌, ℕ, List, Option, Some, None}
+use Rattle.pram_names.specs.declared.fault.Cause.{Cause}
+use Rattle.pram_names.specs.declared.fault.Cause.TheVariants as cause
+use Rattle.pram_names.specs.declared.fault.Spot.{Spot}
+use Rattle.pram_names.specs.declared.fault.Spot.TheVariants as spot
+use Rattle.pram_names.specs.declared.fault.Breach.{Breach}
+use Rattle.pram_syntax.specs.Program.{ProgramTree}
+use Rattle.scope_names.specs.InScope.{Known, names_at}
+use Rattle.scope_names.specs.Nearness.{named, nearest}
+use Rattle.scope_names.specs.declared.known.Sort.{Sort}
+use Rattle.diagnoses.specs.declared.remark as rust
+use Rattle.diagnoses.specs.declared.remark.Remark.TheVariants as variant
+use Rattle.diagnoses.specs.Places.{token_at}
+
+pub data Remark : Type 0 where
+  Nothing : Remark
+  Nearest : List ℕ → Remark
+  Declared : Sort → ℕ → Remark
+
+abbrev pub remark_is : rust.Remark.Remark → Remark
+remark_is variant.Nothing = Nothing
+remark_is (variant.Nearest name) = Nearest name.items
+remark_is (variant.Declared s line) = Declared s line
+
+-- the name that was meant, if there is one
+abbrev pub meant : Option Known → Remark
+meant None = Nothing
+meant (Some k) = Nearest k.name
+
+-- as what and where the name is declared
+abbrev pub declared : Option Known → Remark
+declared None = Nothing
+declared (Some k) = Declared k.sort k.line
+
+-- of an unknown name the nearest one in scope, and of any other as what and where it is declared; of a limit nothing
+abbrev pub remark_on : List Known → List ℕ → Cause → Remark
+remark_on names word cause.UnknownName = meant (nearest names word)
+remark_on names word cause.DoubleName = declared (named names word)
+remark_on names word cause.WrongKind = declared (named names word)
+remark_on names word cause.AssignedLoopVariable = declared (named names word)
+remark_on names word (cause.Limit l) = Nothing
+
+-- what there is to say of the first thing that is wrong with a program
+abbrev pub remark_at : (text : List ℕ) → ProgramTree → Spot → Cause → Remark
+remark_at text tree spot.TextEnd c = Nothing
+remark_at text tree (spot.Offset at) c = remark_on (names_at tree at) (token_at text at) c
+
+abbrev pub remark_of : (text : List ℕ) → ProgramTree → Breach → Remark
+remark_of text tree b = remark_at text tree b.spot b.cause
+
+-- what is said, or nothing where memory was refused
+abbrev pub IsRemark : (text : List ℕ) → ProgramTree → Breach → Remark → Type 0
+IsRemark text tree b r = (r ≡ remark_of text tree b) ⊎ (r ≡ Nothing)

@@ -1,0 +1,96 @@
+-- What is said behind the line of a refusal.
+use Rattle.std.specs.Prelude.{◌≡◌, ℕ, if◌then◌else◌, List, [], ◌++◌, codes, decimal}
+use Rattle.pram_model.specs.Names.{same_text}
+use Rattle.pram_tokens.specs.declared.error.TextFault.{TextFault}
+use Rattle.pram_names.specs.declared.fault.Breach.{Breach}
+use Rattle.pram_syntax.specs.Program.{ProgramTree}
+use Rattle.pram_parser.specs.Text.{IsTextOf}
+use Rattle.text_places.specs.Excerpts.{excerpt}
+use Rattle.program_texts.specs.declared.from_text.Refusal.{Refusal}
+use Rattle.program_texts.specs.declared.from_text.Refusal.TheVariants as refusal
+use Rattle.program_texts.specs.declared.stop.Stop.{Stop}
+use Rattle.program_texts.specs.declared.stop.Stop.TheVariants as stop
+use Rattle.diagnoses.specs.declared.source.Source.{Source}
+use Rattle.diagnoses.specs.declared.about.About.{About}
+use Rattle.diagnoses.specs.declared.about.About.TheVariants as about
+use Rattle.diagnoses.specs.Remarks.{Remark, IsRemark, Nothing}
+use Rattle.diagnoses.specs.TextFaults.{no_memory, text_diagnosis}
+use Rattle.diagnoses.specs.Breaches.{breach_diagnosis}
+
+-- a text that is refused; where it isn't at hand nothing is said
+abbrev pub of_text : TextFault → About → List ℕ
+of_text f about.Nothing = []
+of_text f (about.Text s) = text_diagnosis s f
+of_text f (about.Values values cells) = []
+
+-- a program that is refused
+abbrev pub of_program : Breach → About → Remark → List ℕ
+of_program b about.Nothing r = []
+of_program b (about.Text s) r = breach_diagnosis s b r
+of_program b (about.Values values cells) r = []
+
+abbrev pub too_many : (values cells : ℕ) → List ℕ
+too_many values cells = codes "the input has " ++ (decimal values ++ (codes " values, and the shared cells are " ++ (decimal cells ++ codes "\n")))
+
+-- an input that is too long
+abbrev pub of_input : About → List ℕ
+of_input about.Nothing = []
+of_input (about.Text s) = []
+of_input (about.Values values cells) = too_many values cells
+
+abbrev pub of_refusal : Refusal → About → Remark → List ℕ
+of_refusal (refusal.Text f) a r = of_text f a
+of_refusal (refusal.Program b) a r = of_program b a r
+of_refusal refusal.InputTooLong a r = of_input a
+of_refusal refusal.BadMap a r = codes "a map affine:A,B wants an odd A, so that no two cells have one place\n"
+of_refusal refusal.BadWorkers a r = codes "a run has from 1 to 32 workers\n"
+of_refusal refusal.OutOfMemory a r = no_memory
+of_refusal refusal.OutOfReserve a r = codes "the run prints more numbers, or has more exchanges, than its reserve was made for\n"
+
+abbrev pub line_sentence : List ℕ
+line_sentence = codes "no listing goes on with this line, or one is missing here\n"
+
+abbrev pub line_fault : Source → ℕ → List ℕ
+line_fault s at = excerpt s.name.now s.bytes.items at ++ line_sentence
+
+-- a text that is no listing
+abbrev pub of_listing : ℕ → About → List ℕ
+of_listing at about.Nothing = []
+of_listing at (about.Text s) = line_fault s at
+of_listing at (about.Values values cells) = []
+
+-- what the word for the reason means
+abbrev pub reason_sentence : List ℕ → List ℕ
+reason_sentence word =
+    if same_text word (codes "state") then codes "no lower place leads here, or one that does comes in another state\n"
+    else (if same_text word (codes "register") then codes "it names a register that isn't there\n"
+    else (if same_text word (codes "entry") then codes "it names an entry that the layout doesn't have\n"
+    else (if same_text word (codes "target") then codes "its target is no instruction, or is neither above it nor a mark\n"
+    else (if same_text word (codes "mode") then codes "it may not stand there: some stand outside of a range alone, some within\n"
+    else (if same_text word (codes "mask") then codes "it is a 65th mask, or wants one that isn't on, or leaves one on\n"
+    else (if same_text word (codes "exchange") then codes "an exchange, a reply, a read or a put may not stand there\n"
+    else codes "it is the last one and goes on, or there are no instructions\n"))))))
+
+-- code that isn't well formed
+abbrev pub of_code : ℕ → List ℕ → List ℕ
+of_code at word = codes "instruction " ++ (decimal at ++ (codes ": " ++ reason_sentence word))
+
+-- what is said behind the line, by what is known besides, and by what there is to say of a name
+abbrev pub stop_diagnosis : Stop → About → Remark → List ℕ
+stop_diagnosis (stop.Words text) a r = []
+stop_diagnosis (stop.Number word) a r = []
+stop_diagnosis (stop.Unreadable name) a r = codes "this file can't be read\n"
+stop_diagnosis (stop.Refused refusal) a r = of_refusal refusal a r
+stop_diagnosis (stop.NotVerified at word) a r = of_code at word.now
+stop_diagnosis (stop.BadListing at) a r = of_listing at a
+stop_diagnosis stop.WriteFailed a r = codes "standard output failed: what stands there is a beginning of the text\n"
+
+-- what there is to say of a name, of a program whose text is at hand; of anything else nothing
+abbrev pub IsRemarkIn : Breach → About → Remark → Type 0
+IsRemarkIn b about.Nothing r = r ≡ Nothing
+IsRemarkIn b (about.Text s) r = (tree : ProgramTree) → IsTextOf s.bytes.items tree → IsRemark s.bytes.items tree b r
+IsRemarkIn b (about.Values values cells) r = r ≡ Nothing
+
+abbrev pub HasRemark : Stop → About → Remark → Type 0
+HasRemark (stop.Refused (refusal.Program b)) a r = IsRemarkIn b a r
+HasRemark _ a r = r ≡ Nothing

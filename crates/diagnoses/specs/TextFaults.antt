@@ -1,0 +1,69 @@
+-- What is said of a text that is refused before it is a program: E1 to E5.
+use Rattle.std.specs.Prelude.{ℕ, nat_le, if◌then◌else◌, List, ◌++◌, Option, Some, None, codes, decimal, length, slice_index}
+use Rattle.pram_model.specs.Names.{is_digit}
+use Rattle.pram_tokens.specs.declared.error.TextFault.{TextFault}
+use Rattle.pram_tokens.specs.declared.error.TextFault.TheVariants as fault
+use Rattle.text_places.specs.Excerpts.{excerpt}
+use Rattle.diagnoses.specs.declared.source.Kind.{Kind}
+use Rattle.diagnoses.specs.declared.source.Kind.TheVariants as kind
+use Rattle.diagnoses.specs.declared.source.Source.{Source}
+use Rattle.diagnoses.specs.Places.{quoted, token_at}
+
+abbrev pub not_ascii : ℕ → List ℕ
+not_ascii byte = codes "byte " ++ (decimal byte ++ codes " is no ASCII: a text has bytes from 0 to 127 alone, in comments too\n")
+
+abbrev pub too_long : Kind → List ℕ
+too_long kind.Program = codes "a program has at most 1048576 bytes\n"
+too_long kind.Input = codes "an input has at most 1048576 bytes\n"
+too_long kind.Listing = codes "a listing has at most 8388608 bytes\n"
+
+-- of a program, what is no token; it begins with that byte
+abbrev pub no_token : ℕ → List ℕ
+no_token byte =
+    if is_digit byte then codes "a number is at most 9223372036854775807, and no letter follows it at once\n"
+    else codes "nothing of the language begins so\n"
+
+abbrev pub bad_token : Kind → ℕ → List ℕ
+bad_token kind.Input byte = codes "an input has whole numbers from -9223372036854775808 to 9223372036854775807, with white space between them\n"
+bad_token kind.Program byte = no_token byte
+bad_token kind.Listing byte = no_token byte
+
+abbrev pub stranger : List ℕ → List ℕ
+stranger token = quoted token ++ codes " can't stand here: no program goes on with it\n"
+
+-- the token with which no program goes on, or the end of the text
+abbrev pub bad_syntax : List ℕ → ℕ → List ℕ
+bad_syntax text at =
+    if nat_le (length text) at then codes "the text ends here, and the program does not\n"
+    else stranger (token_at text at)
+
+abbrev pub too_deep : List ℕ
+too_deep = codes "this is one level too many: blocks nest at most 64 deep, and so do expressions\n"
+
+abbrev pub no_memory : List ℕ
+no_memory = codes "memory was refused: nothing is said of the text or the run, and with more memory it may go well\n"
+
+abbrev pub text_sentence : Source → TextFault → List ℕ
+text_sentence s (fault.NotAscii at) = not_ascii (slice_index s.bytes.items at)
+text_sentence s fault.TextTooLong = too_long s.kind
+text_sentence s (fault.BadToken at) = bad_token s.kind (slice_index s.bytes.items at)
+text_sentence s (fault.Syntax at) = bad_syntax s.bytes.items at
+text_sentence s (fault.TooDeep at) = too_deep
+text_sentence s fault.OutOfMemory = no_memory
+
+-- the place, if there is one, and the sentence
+abbrev pub text_place : TextFault → Option ℕ
+text_place (fault.NotAscii at) = Some at
+text_place fault.TextTooLong = None
+text_place (fault.BadToken at) = Some at
+text_place (fault.Syntax at) = Some at
+text_place (fault.TooDeep at) = Some at
+text_place fault.OutOfMemory = None
+
+abbrev pub placed : Source → Option ℕ → List ℕ → List ℕ
+placed s None sentence = sentence
+placed s (Some at) sentence = excerpt s.name.now s.bytes.items at ++ sentence
+
+-- what is said of such a fault of a text
+abbrev pub text_diagnosis : Source → TextFault → List ℕ
+text_diagnosis s f = placed s (text_place f) (text_sentence s f)

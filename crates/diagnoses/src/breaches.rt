@@ -1,0 +1,195 @@
+//! What is said of the first thing that is wrong with a program.
+
+ghost use Rattle.std.specs.Prelude.{◌≡◌, ◌++◌, ◌<◌, ◌^◌};
+ghost use Rattle.text_out.specs.Out.{Writes};
+ghost use Rattle.diagnoses.specs.Remarks.{remark_is};
+ghost use Rattle.diagnoses.specs.Breaches as spec;
+
+use crate::places::{token_at, write_quoted};
+use crate::remark::Remark;
+use crate::source::Source;
+use itoa::Buffer;
+use pram_check::{Breach, Cause, Limit, Spot};
+use scope_names::Sort;
+use text_out::{Out, WriteFault};
+use text_places::write_excerpt;
+
+fn sort_text(sort: Sort) -> &'static [u8]
+    ensures { result.now ≡ spec.sort_text sort }
+{
+    match sort {
+        Sort::Cell => b"a shared cell",
+        Sort::Array => b"a shared array",
+        Sort::Variable => b"a variable",
+        Sort::Index => b"the index of a pardo",
+        Sort::Local => b"a local of a pardo",
+    }
+}
+
+fn kind_reason(sort: Sort) -> &'static [u8]
+    ensures { result.now ≡ spec.kind_reason sort }
+{
+    match sort {
+        Sort::Cell => b"it has no subscript, and no for runs over it\n",
+        Sort::Array => b"it wants a subscript, and no for runs over it\n",
+        Sort::Variable => b"it has no subscript, and is not set inside pardo\n",
+        Sort::Index => b"it has no subscript\n",
+        Sort::Local => b"it has no subscript\n",
+    }
+}
+
+fn loop_reason(sort: Sort) -> &'static [u8]
+    ensures { result.now ≡ spec.loop_reason sort }
+{
+    match sort {
+        Sort::Variable => {
+            b"it is the variable of a for around this, and is not set in its body\n"
+        }
+        Sort::Index => b"an index is never set\n",
+        Sort::Cell | Sort::Array | Sort::Local => b"it is not set here\n",
+    }
+}
+
+fn reason(cause: Cause, sort: Sort) -> &'static [u8]
+    ensures { result.now ≡ spec.reason cause sort }
+{
+    match cause {
+        Cause::UnknownName => b"it is not in scope here\n",
+        Cause::DoubleName => b"it can't be declared again here\n",
+        Cause::WrongKind => kind_reason(sort),
+        Cause::AssignedLoopVariable => loop_reason(sort),
+        Cause::Limit(_) => b"it passes a limit\n",
+    }
+}
+
+fn wrong_kind(word: &[u8]) -> &'static [u8]
+    ensures { result.now ≡ spec.wrong_kind word.now }
+{
+    match word {
+        b"print" | b"for" => {
+            b" has no place inside pardo: there is no print, no for and no pardo in it\n"
+        }
+        _ => b" is of another kind than what may stand here\n",
+    }
+}
+
+fn bare(word: &[u8], cause: Cause) -> &'static [u8]
+    ensures { result.now ≡ spec.bare word.now cause }
+{
+    match cause {
+        Cause::UnknownName => b" is not declared here\n",
+        Cause::DoubleName => b" is declared already\n",
+        Cause::WrongKind => wrong_kind(word),
+        Cause::AssignedLoopVariable => b" is the variable of a loop, and is not set in its body\n",
+        Cause::Limit(_) => b" passes a limit\n",
+    }
+}
+
+fn write_declared<W: Out>(
+    out: &mut W,
+    cause: Cause,
+    sort: Sort,
+    line: u32,
+) -> Result<(), WriteFault>
+    requires counted { (W.Out.state out.old).failures < 2 ^ 63 }
+    ensures written { Writes (W.Out.state out.old) (W.Out.state out.new) (spec.declared_text cause sort line) result }
+{
+    let mut digits = Buffer::new();
+    out.write_parts(&[
+        b" is ",
+        sort_text(sort),
+        b", declared at line ",
+        digits.format(line).as_bytes(),
+        b": ",
+        reason(cause, sort),
+    ])
+}
+
+// What is said behind the word.
+fn write_remarked<W: Out>(
+    out: &mut W,
+    word: &[u8],
+    cause: Cause,
+    remark: &Remark,
+) -> Result<(), WriteFault>
+    requires counted { (W.Out.state out.old).failures < 2 ^ 63 }
+    ensures written { Writes (W.Out.state out.old) (W.Out.state out.new) (spec.remarked word.now cause (remark_is remark.now)) result }
+{
+    match remark {
+        Remark::Nothing => out.write_all(bare(word, cause)),
+        Remark::Nearest(name) => out.write_parts(&[
+            b" is not declared here; did you mean \"",
+            name.as_slice(),
+            b"\"?\n",
+        ]),
+        Remark::Declared(sort, line) => write_declared(out, cause, *sort, *line),
+    }
+}
+
+fn limit_sentence(limit: Limit) -> &'static [u8]
+    ensures { result.now ≡ spec.limit_sentence limit }
+{
+    match limit {
+        Limit::Cells => {
+            b"with this the program has more than 1048576 shared cells, the most that there may be\n"
+        }
+        Limit::Procs => b"procs is a number from 1 to 16384\n",
+        Limit::Bounds => b"the first bound of an array is at most its last\n",
+        Limit::Reads => b"this is the ninth shared read of the statement, which has at most 8\n",
+        Limit::Tokens => b"a program has at most 16384 tokens\n",
+    }
+}
+
+fn write_named<W: Out>(
+    out: &mut W,
+    word: &[u8],
+    cause: Cause,
+    remark: &Remark,
+) -> Result<(), WriteFault>
+    requires counted { (W.Out.state out.old).failures < 2 ^ 63 }
+    ensures written { Writes (W.Out.state out.old) (W.Out.state out.new) (spec.named_sentence word.now cause (remark_is remark.now)) result }
+{
+    write_quoted(out, word)?;
+    write_remarked(out, word, cause, remark)
+}
+
+fn write_sentence<W: Out>(
+    out: &mut W,
+    word: &[u8],
+    cause: Cause,
+    remark: &Remark,
+) -> Result<(), WriteFault>
+    requires counted { (W.Out.state out.old).failures < 2 ^ 63 }
+    ensures written { Writes (W.Out.state out.old) (W.Out.state out.new) (spec.breach_sentence word.now cause (remark_is remark.now)) result }
+{
+    match cause {
+        Cause::Limit(limit) => out.write_all(limit_sentence(limit)),
+        _ => write_named(out, word, cause, remark),
+    }
+}
+
+fn offset_of(text: &[u8], spot: Spot) -> usize
+    ensures { result ≡ spec.offset_of text.now spot }
+{
+    match spot {
+        Spot::Offset(at) => at as usize,
+        Spot::TextEnd => text.len(),
+    }
+}
+
+/// Writes what is said of the first thing that is wrong with a program (E6 to E10): where, with the line and a caret, and a sentence on the
+/// name there by what there is to say of it, or on the limit. The error is that the writer failed (E17).
+pub fn write_breach<W: Out>(
+    out: &mut W,
+    source: &Source<'_>,
+    breach: Breach,
+    remark: &Remark,
+) -> Result<(), WriteFault>
+    requires counted { (W.Out.state out.old).failures < 2 ^ 63 }
+    ensures written { Writes (W.Out.state out.old) (W.Out.state out.new) (spec.breach_diagnosis source.now breach (remark_is remark.now)) result }
+{
+    let text = source.bytes.as_slice();
+    let at = offset_of(text, breach.spot);
+    write_excerpt(out, source.name.as_bytes(), text, at)?;
+    write_sentence(out, token_at(text, at), breach.cause, remark)
+}

@@ -1,0 +1,21 @@
+//! What a reader needs behind a refusal or a fault: the place, its line with a caret, and a sentence.
+#![tactic(auto)]
+
+mod about;
+mod breaches;
+mod fault_text;
+mod met;
+mod places;
+mod remark;
+mod source;
+mod stops;
+mod text_faults;
+
+pub use about::About;
+pub use breaches::write_breach;
+pub use fault_text::{write_fault_sentence, write_run_fault};
+pub use met::who_met;
+pub use remark::{Remark, remark_of};
+pub use source::{Kind, Source};
+pub use stops::write_stop_diagnosis;
+pub use text_faults::write_text_fault;

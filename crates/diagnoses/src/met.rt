@@ -1,0 +1,36 @@
+//! Who met at a fault.
+
+ghost use Rattle.std.specs.Prelude.{◌≡◌, IfSome, IfOk, map};
+ghost use Rattle.run_steps.specs.Entries.{entry_is};
+ghost use Rattle.diagnoses.specs.Met as spec;
+
+use pram_check::Program;
+use run_steps::{Entry, steps_of};
+use std::alloc::{AllocError, Global};
+
+// Those that met at the first fault that is told.
+fn met_in(alloc: Global, entries: &[Entry]) -> Result<Vec<i64>, AllocError>
+    ensures { IfOk result (λ who. who.items ≡ spec.met_in (map entry_is entries.now)) }
+{
+    for entry in entries {
+        match entry {
+            Entry::Ran { .. } => {}
+            Entry::Faulted { processors, .. } => return Vec::from_slice(alloc, processors),
+        }
+    }
+    Ok(Vec::new(alloc))
+}
+
+/// The processors that met at the cell at which a program's run faults, found by running the meaning again. None where memory was
+/// refused, or where the input has more values than there are cells.
+pub fn who_met(alloc: Global, program: &Program, input: &[i64], bound: u32) -> Option<Vec<i64>>
+    ensures { IfSome result (λ who. who.items ≡ spec.who_met program.now input.now bound) }
+{
+    match steps_of(alloc, program, input, bound) {
+        Ok((_outcome, entries)) => match met_in(alloc, &entries) {
+            Ok(who) => Some(who),
+            Err(AllocError) => None,
+        },
+        Err(_) => None,
+    }
+}

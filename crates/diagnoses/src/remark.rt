@@ -1,0 +1,91 @@
+//! What there is to say of a name that is wrong.
+
+ghost use Rattle.std.specs.Prelude.{◌≡◌, List, ℕ, IfOk, Err, map};
+ghost use Rattle.std.specs.Option.{option_map};
+ghost use Rattle.pram_syntax.specs.Program.{ProgramTree};
+ghost use Rattle.pram_parser.specs.Text.{IsTextOf};
+ghost use Rattle.scope_names.specs.InScope.{known_is};
+ghost use Rattle.scope_names.specs.InScope as scope;
+ghost use Rattle.diagnoses.specs.Remarks as spec;
+
+use crate::places::token_at;
+use pram_check::{Breach, Cause, Spot};
+use pram_parser::parse;
+use pram_syntax::Tree;
+use scope_names::{Known, Sort, find, names_at, nearest};
+use std::alloc::{AllocError, Global};
+
+/// What there is to say of a name that is wrong.
+#[derive(Drop)]
+pub enum Remark {
+    /// Nothing: no name is near, or memory was refused.
+    Nothing,
+    /// This name in scope was meant.
+    Nearest(Vec<u8>),
+    /// As what the name is declared, and on which line.
+    Declared(Sort, u32),
+}
+
+// The name that was meant, if there is one.
+fn meant(alloc: Global, found: Option<Known<'_>>) -> Result<Remark, AllocError>
+    ensures { IfOk result (λ r. spec.remark_is r ≡ spec.meant (option_map known_is found.entry)) }
+{
+    match found {
+        None => Ok(Remark::Nothing),
+        Some(k) => Ok(Remark::Nearest(Vec::from_slice(alloc, k.name)?)),
+    }
+}
+
+// As what and where the name is declared.
+fn declared(found: Option<Known<'_>>) -> Remark
+    ensures { spec.remark_is result ≡ spec.declared (option_map known_is found.entry) }
+{
+    match found {
+        None => Remark::Nothing,
+        Some(k) => Remark::Declared(k.sort, k.line),
+    }
+}
+
+// What there is to say of a word by the names in scope.
+fn remark_on(
+    alloc: Global,
+    names: &[Known<'_>],
+    word: &[u8],
+    cause: Cause,
+) -> Result<Remark, AllocError>
+    ensures { IfOk result (λ r. spec.remark_is r ≡ spec.remark_on (map known_is names.now) word.now cause) }
+{
+    match cause {
+        Cause::UnknownName => meant(alloc, nearest(alloc, names, word)?),
+        Cause::DoubleName => Ok(declared(find(names, word))),
+        Cause::WrongKind => Ok(declared(find(names, word))),
+        Cause::AssignedLoopVariable => Ok(declared(find(names, word))),
+        Cause::Limit(_) => Ok(Remark::Nothing),
+    }
+}
+
+// What there is to say of the first thing that is wrong with a program, by its tree.
+fn remark_in(alloc: Global, text: &[u8], tree: &Tree, breach: Breach) -> Result<Remark, AllocError>
+    ensures { IfOk result (λ r. spec.remark_is r ≡ spec.remark_of text.now tree.now breach) }
+{
+    match breach.spot {
+        Spot::TextEnd => Ok(Remark::Nothing),
+        Spot::Offset(at) => {
+            let names = names_at(alloc, tree, at)?;
+            remark_on(alloc, &names, token_at(text, at as usize), breach.cause)
+        }
+    }
+}
+
+/// What there is to say of the first thing that is wrong with a program, by its text. Nothing is said where memory was refused.
+pub fn remark_of(alloc: Global, text: &[u8], breach: Breach) -> Remark
+    ensures { (tree : ProgramTree) → IsTextOf text.now tree → spec.IsRemark text.now tree breach (spec.remark_is result) }
+{
+    match parse(alloc, text) {
+        Ok(tree) => match remark_in(alloc, text, &tree, breach) {
+            Ok(remark) => remark,
+            Err(AllocError) => Remark::Nothing,
+        },
+        Err(_) => Remark::Nothing,
+    }
+}

@@ -1,0 +1,2 @@
+pub mod InScope
+pub mod Nearness

@@ -1,0 +1,10 @@
+//! The names that are in scope at a place of a program, and which of them is nearest to a word.
+#![tactic(auto)]
+
+mod in_scope;
+mod known;
+mod nearness;
+
+pub use in_scope::names_at;
+pub use known::{Known, Sort};
+pub use nearness::{find, nearest};

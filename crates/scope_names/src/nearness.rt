@@ -1,0 +1,78 @@
+//! A name by its word, and the name that is nearest to a word.
+
+ghost use Rattle.std.specs.Prelude.{◌≡◌, IfOk, map};
+ghost use Rattle.std.specs.Option.{option_map};
+ghost use Rattle.scope_names.specs.InScope as spec;
+ghost use Rattle.scope_names.specs.Nearness as near;
+ghost use Rattle.pram_model.specs.Names.{same_text};
+
+use crate::known::Known;
+use std::alloc::{AllocError, Global};
+use strsim::generic_levenshtein;
+
+fn is_same(a: &[u8], b: &[u8]) -> bool
+    ensures { result ≡ same_text a.now b.now }
+{
+    a == b
+}
+
+/// The first of some names that is spelled so.
+pub fn find<'a>(names: &[Known<'a>], word: &[u8]) -> Option<Known<'a>>
+    ensures { option_map spec.known_is result ≡ near.named (map spec.known_is names.now) word.now }
+{
+    for k in names {
+        if is_same(k.name, word) {
+            return Some(*k);
+        }
+    }
+    None
+}
+
+// The most edits that a name may be away from a word: a third of the longer one's length, and at least one.
+fn most_edits(word: &[u8], name: &[u8]) -> usize
+    ensures { result ≡ near.most_edits word.now name.now }
+{
+    (word.len().max(name.len()) / 3).max(1)
+}
+
+// The nearer of the two: the one so far, unless the other is near enough and nearer.
+fn nearer<'a>(
+    alloc: Global,
+    word: &[u8],
+    so_far: Option<Known<'a>>,
+    other: Known<'a>,
+) -> Result<Option<Known<'a>>, AllocError>
+    ensures { IfOk result (λ k. option_map spec.known_is k
+        ≡ near.nearer word.now (option_map spec.known_is so_far.entry) (spec.known_is other.entry)) }
+{
+    let edits = generic_levenshtein(alloc, word, other.name)?;
+    if edits > most_edits(word, other.name) {
+        return Ok(so_far);
+    }
+    match so_far {
+        None => Ok(Some(other)),
+        Some(best) => {
+            if edits < generic_levenshtein(alloc, word, best.name)? {
+                Ok(Some(other))
+            } else {
+                Ok(Some(best))
+            }
+        }
+    }
+}
+
+/// The name that is nearest to a word, by the edits that lead from one to the other: at most a third of the longer one's length, or one.
+/// Of names that are equally near it is the first.
+pub fn nearest<'a>(
+    alloc: Global,
+    names: &[Known<'a>],
+    word: &[u8],
+) -> Result<Option<Known<'a>>, AllocError>
+    ensures { IfOk result (λ k. option_map spec.known_is k ≡ near.nearest (map spec.known_is names.now) word.now) }
+{
+    let mut best = None;
+    for k in names {
+        best = nearer(alloc, word, best, *k)?;
+    }
+    Ok(best)
+}
