@@ -12,11 +12,12 @@ _pramc() {
         --bound | --workers | --reserve | --schedule | --from | --to) return ;;
         *)
             case ${COMP_WORDS[1]} in
-            check | plan) words="--help" ;;
-            meaning | rules) words="--bound --input --help" ;;
-            cost) words="--bound --input --schedule --lines --help" ;;
-            steps) words="--bound --input --from --to --help" ;;
-            run | trace | exec) words="--bound --input --workers --map --reserve --help" ;;
+            check | plan) words="--explain --help" ;;
+            meaning | rules) words="--bound --input --explain --help" ;;
+            cost) words="--bound --input --schedule --lines --explain --help" ;;
+            steps) words="--bound --input --from --to --explain --help" ;;
+            run | exec) words="--bound --input --workers --map --reserve --explain --help" ;;
+            trace) words="--bound --input --workers --map --reserve --svg --explain --help" ;;
             explain)
                 words="$(echo E{1..18}) P1 P2 overflow divide-by-zero out-of-range too-wide read-conflict write-conflict --help"
                 ;;

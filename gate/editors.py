@@ -31,7 +31,7 @@ def rules():
 
 def commands():
     """The options of each command, with the names of their values, and the name of what the command is over."""
-    text = source("pramc_command/src/grammar.rt")
+    text = source("command_words/src/grammar.rt")
     words = dict(re.findall(r'const (\w+): &str = "([^"]*)";', text))
     names = dict(re.findall(r'const (\w+): Subcommand = Subcommand \{\n    name: "(\w+)"', text))
     makers = {}

@@ -8,6 +8,8 @@ mod compiled;
 #[cfg(test)]
 mod costs;
 #[cfg(test)]
+mod diagnosed;
+#[cfg(test)]
 mod exchanges;
 #[cfg(test)]
 mod explained;
@@ -15,6 +17,8 @@ mod explained;
 mod limits;
 #[cfg(test)]
 mod narrow;
+#[cfg(test)]
+mod pictures;
 #[cfg(test)]
 mod plans;
 #[cfg(test)]

@@ -4,7 +4,7 @@ use crate::by_workers::is_run;
 use crate::compiled::is_compiled;
 use crate::read_back::is_read_back;
 use pram_syntax::Buffer;
-use pramc_command::command;
+use pramc_command::{Terminal, command};
 use program_texts::{SourceFault, Sources, Status};
 use std::alloc::{AllocError, Global};
 use std::sync::Wait;
@@ -50,10 +50,29 @@ pub(crate) struct Said {
     pub(crate) err: Buffer,
 }
 
-// Calls the program with these words over these files.
+// No terminal.
+pub(crate) const SILENT: Terminal = Terminal {
+    errors: false,
+    output: false,
+    colours: false,
+};
+
+// Calls the program with these words over these files, on no terminal.
 pub(crate) fn call<R: Threads + Wait + Sync>(
     rt: &R,
     alloc: Global,
+    words: &[&str],
+    program: &[u8],
+    input: &[u8],
+) -> Result<Said, AllocError> {
+    call_on(rt, alloc, SILENT, words, program, input)
+}
+
+// The same on a terminal.
+pub(crate) fn call_on<R: Threads + Wait + Sync>(
+    rt: &R,
+    alloc: Global,
+    terminal: Terminal,
     words: &[&str],
     program: &[u8],
     input: &[u8],
@@ -65,7 +84,8 @@ pub(crate) fn call<R: Threads + Wait + Sync>(
     let mut shelf = Shelf { program, input };
     let mut out = Buffer::new(alloc);
     let mut err = Buffer::new(alloc);
-    let status = command(rt, alloc, owned.as_slice(), &mut shelf, &mut out, &mut err);
+    let words = owned.as_slice();
+    let status = command(rt, alloc, words, terminal, &mut shelf, &mut out, &mut err);
     Ok(Said { status, out, err })
 }
 

@@ -1,6 +1,6 @@
 // What the program prints for its command line, its files and its writers.
 
-use crate::rows::{Shelf, call, prints};
+use crate::rows::{SILENT, Shelf, call, prints};
 use pram_syntax::{Buffer, Out, OutFailed};
 use pramc_command::command;
 use program_texts::Status;
@@ -206,7 +206,15 @@ fn a_version_that_is_cut_off_is_told(rt: HostRuntime) -> Result<(), Fail> {
         };
         let mut out = Full { room, failures: 0 };
         let mut err = Buffer::new(rt.alloc());
-        let status = command(&rt, rt.alloc(), &words, &mut shelf, &mut out, &mut err);
+        let status = command(
+            &rt,
+            rt.alloc(),
+            &words,
+            SILENT,
+            &mut shelf,
+            &mut out,
+            &mut err,
+        );
         let line: &[u8] = if room == 12 {
             b""
         } else {
@@ -258,7 +266,17 @@ fn a_full_output_is_told(rt: HostRuntime) -> Result<(), Fail> {
         };
         let mut out = Full { room, failures: 0 };
         let mut err = Buffer::new(rt.alloc());
-        assert!(&rt; command(&rt, rt.alloc(), &words, &mut shelf, &mut out, &mut err) == status);
+        assert!(&rt;
+            command(
+                &rt,
+                rt.alloc(),
+                &words,
+                SILENT,
+                &mut shelf,
+                &mut out,
+                &mut err
+            ) == status
+        );
         let line: &[u8] = if status == Status::Done {
             b""
         } else {
@@ -286,7 +304,15 @@ fn a_text_that_is_cut_off_is_told(rt: HostRuntime) -> Result<(), Fail> {
             };
             let mut out = Full { room, failures: 0 };
             let mut err = Buffer::new(rt.alloc());
-            let status = command(&rt, rt.alloc(), &words, &mut shelf, &mut out, &mut err);
+            let status = command(
+                &rt,
+                rt.alloc(),
+                &words,
+                SILENT,
+                &mut shelf,
+                &mut out,
+                &mut err,
+            );
             let line: &[u8] = if room == size {
                 b""
             } else {

@@ -6,10 +6,10 @@ use std::sync::Wait;
 use std::test::Fail;
 use std::thread::Threads;
 
-const SUM: &[u8] =
+pub(crate) const SUM: &[u8] =
     b"rule crew; procs 1;\nvar i; var t;\nbegin\nfor i := 1 to 10 do\nt := t + i;\nend\nprint t;\nend\n";
 
-const COPY: &[u8] =
+pub(crate) const COPY: &[u8] =
     b"rule crew; procs 4;\nshared a[1..2]; shared b[1..4];\nbegin\nfor 1 <= i <= 4 pardo b[i] := a[1]; end\nend\n";
 
 // b[i] := a[1] for four processors.
@@ -37,7 +37,7 @@ code 13
 ";
 
 // The words of a call, the file and the input, and what is printed on each stream, with the exit status.
-type Row = (
+pub(crate) type Row = (
     &'static [&'static str],
     &'static [u8],
     &'static [u8],
@@ -46,7 +46,7 @@ type Row = (
     u8,
 );
 
-fn all_print<R: Threads + Wait + Sync>(rt: &R, alloc: Global, rows: &[Row]) -> bool {
+pub(crate) fn all_print<R: Threads + Wait + Sync>(rt: &R, alloc: Global, rows: &[Row]) -> bool {
     for (words, file, input, out, err, status) in rows {
         if !prints(
             rt,

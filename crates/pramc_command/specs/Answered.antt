@@ -14,6 +14,7 @@ use Rattle.bsp_verify.specs.FirstFault.{IsFirstFault}
 use Rattle.bsp_verify.specs.declared.fault.Reason.{Reason}
 use Rattle.bsp_verify.specs.declared.fault.Reason.TheVariants as reason
 use Rattle.tracer.specs.Traced.{trace_text}
+use Rattle.trace_pictures.specs.Picture.{picture}
 use Rattle.compiling.specs.Compiled.{IsCompiledFrom}
 use Rattle.write_rules.specs.Verdict.{verdict_of}
 use Rattle.write_rules.specs.declared.outcome.Outcome.{Outcome}
@@ -89,7 +90,7 @@ HasRun code outcome =
 
 -- The texts that go with an exit status: of a text's program that it is accepted, the listing of its code, how it comes out, by its own
 -- rule or by all, what its run costs and then how it comes out, its run statement by statement and then how it comes out, or the exchanges
--- of its run; of a listing how its code comes out; what there is to say of a refusal or a fault; or the version.
+-- of its run, in words or drawn; of a listing how its code comes out; what there is to say of a refusal or a fault; or the version.
 pub data Tells : Status → List ℕ → Type 0 where
   Accepted : (program : Checked) → IsAProgram program → Tells Done (accepted_line program)
   Planned : (code : SuperstepCode) → IsPlanned code → Tells Done (spelling code)
@@ -103,6 +104,7 @@ pub data Tells : Status → List ℕ → Type 0 where
       → Tells (status_of outcome) (told_text layout outcome entries first last)
   Compared : (c : Comparison) → IsCompared c → Tells Done (comparison_text c)
   Traced : (outcome : Outcome) (exchanges : List Exchange) → HasTrace outcome exchanges → Tells (status_of outcome) (trace_text exchanges)
+  Drawn : (outcome : Outcome) (exchanges : List Exchange) → HasTrace outcome exchanges → Tells (status_of outcome) (picture exchanges)
   Executed : (code : SuperstepCode) (outcome : Outcome) → IsAListing code → HasRun code outcome
       → Tells (status_of outcome) (shown code.layout (verdict_of outcome))
   Explained : (subject : Subject) → Tells Done (explanation subject)
@@ -175,18 +177,6 @@ abbrev pub IsStopped : Stop → OutState → OutState → Type 0
 IsStopped stop.WriteFailed old new = IsCutOff old new
 IsStopped why old new = IsTrueStop why × (new ≡ old)
 
--- standard output, and how the call ended
-abbrev pub Answers : OutState → OutState → Result Status Stop → Type 0
-Answers old new (Ok status) = IsTold status old new
-Answers old new (Err why) = IsStopped why old new
-
 -- a text was written whole, or the writer failed in it or behind it
 abbrev pub IsReported : OutState → OutState → List ℕ → Type 0
 IsReported old new text = (new ≡ with_bytes old text) ⊎ StopsIn old new text
-
--- Both streams after a call with that exit status. A status but that of a refusal goes with its text on standard output and with
--- nothing on the other stream; a refusal's line goes there, as far as that stream takes it.
-pub data Leaves (out out_new err err_new : OutState) : Status → Type 0 where
-  Answered : (status : Status) → IsTold status out out_new → err_new ≡ err → Leaves out out_new err err_new status
-  Stopped : (why : Stop) → IsStopped why out out_new → IsReported err err_new (stop_text why)
-      → Leaves out out_new err err_new Refused

@@ -5,6 +5,7 @@ use Rattle.write_rules.specs.Verdict.{verdict_of}
 use Rattle.write_rules.specs.declared.outcome.Outcome.{Outcome}
 use Rattle.run_steps.specs.Entries.{Entry, run_entries}
 use Rattle.step_texts.specs.StepText.{steps_text}
+use Rattle.step_texts.specs.declared.manner.Manner.TheVariants.{Plain}
 use Rattle.program_texts.specs.Report.{IsRunOf}
 use Rattle.program_texts.specs.Shown.{shown}
 
@@ -19,4 +20,4 @@ pub record HasSteps (layout : List SharedEntry) (outcome : Outcome) (entries : L
 
 -- the entries whose numbers, counted from 1, go from `first` to `last`, and behind them the outcome
 abbrev pub told_text : List SharedEntry → Outcome → List Entry → (first last : ℕ) → List ℕ
-told_text layout outcome entries first last = steps_text layout first last entries ++ shown layout (verdict_of outcome)
+told_text layout outcome entries first last = steps_text layout Plain first last entries ++ shown layout (verdict_of outcome)

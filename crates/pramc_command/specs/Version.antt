@@ -1,28 +1,20 @@
--- The version of the program: which words ask for it, and what is left on the streams then.
-use Rattle.std.specs.Prelude.{◌≡◌, ◌⊎◌, ℕ, List, [], ◌∷◌, Result, Ok, Err, codes}
+-- The version of the program, and what is left on the streams by a call that asks for it.
+use Rattle.std.specs.Prelude.{◌≡◌, ◌⊎◌, ℕ, List, Result, Ok, Err, None, codes}
 use Rattle.text_out.specs.Out.{OutState, StopsIn, with_bytes}
 use Rattle.program_texts.specs.Shown.{line}
 use Rattle.program_texts.specs.declared.status.Status.{Status}
 use Rattle.program_texts.specs.declared.status.Status.TheVariants.{Done, Refused}
-use Rattle.program_texts.specs.declared.stop.Stop.{Stop}
 use Rattle.program_texts.specs.declared.stop.Stop.TheVariants as stop
-
-abbrev pub IsVersionWord : List ℕ → Type 0
-IsVersionWord word = (word ≡ codes "--version") ⊎ (word ≡ codes "-V")
-
--- one such word, and no other
-abbrev pub AsksForVersion : List (List ℕ) → Type 0
-AsksForVersion [] = ⊥
-AsksForVersion (word ∷ []) = IsVersionWord word
-AsksForVersion (word ∷ other ∷ words) = ⊥
+use Rattle.pramc_command.specs.declared.answer.Answer.{Answer}
+use Rattle.pramc_command.specs.declared.answer.Halted.{Halted}
 
 abbrev pub version_text : List ℕ
 version_text = line (codes "pramc 0.1.0")
 
--- standard output has got the version, or the writer failed in it
-abbrev pub AnswersVersion : OutState → OutState → Result Status Stop → Type 0
-AnswersVersion old new (Ok status) = (status ≡ Done) × (new ≡ with_bytes old version_text)
-AnswersVersion old new (Err why) = (why ≡ stop.WriteFailed) × StopsIn old new version_text
+-- standard output has got the version, and nothing is to be explained; or the writer failed in it
+abbrev pub AnswersVersion : OutState → OutState → Result Answer Halted → Type 0
+AnswersVersion old new (Ok a) = (a.status ≡ Done) × (a.fault ≡ None) × (new ≡ with_bytes old version_text)
+AnswersVersion old new (Err h) = (h.stop ≡ stop.WriteFailed) × StopsIn old new version_text
 
 -- the same of both streams: nothing is left on standard error, but where standard output failed
 abbrev pub LeavesVersion : (out out_new err err_new : OutState) → Status → Type 0

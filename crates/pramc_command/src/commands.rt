@@ -1,21 +1,28 @@
 //! The program `pramc`, but for the real files and streams.
 
-ghost use Rattle.std.specs.Prelude.{◌<◌, ◌^◌, map};
+ghost use Rattle.std.specs.Prelude.{◌≡◌, ◌<◌, ◌^◌, ◌||◌, IfErr, IfOk, None, Ok, Err, map};
 ghost use Rattle.std.specs.String.{string_bytes};
-ghost use Rattle.program_texts.specs.StoppedFields.{stop_text};
-ghost use Rattle.pramc_command.specs.Answered.{Answers, IsAProgram, IsReported, Leaves};
-ghost use Rattle.pramc_command.specs.Version.{AnswersVersion, AsksForVersion, LeavesVersion};
+ghost use Rattle.command_words.specs.Words.{AsksForVersion, asks_to_explain as spec_asks};
+ghost use Rattle.program_texts.specs.Report.{IsProgramOf};
+ghost use Rattle.diagnoses.specs.declared.about.About.TheVariants as known;
+ghost use Rattle.pramc_command.specs.Answered.{IsAProgram};
+ghost use Rattle.pramc_command.specs.Explained.{Leaves, Performs, TellsRun};
+ghost use Rattle.pramc_command.specs.Version.{AnswersVersion, LeavesVersion};
 
+use crate::answer::{Answer, Ended, Halted, Loaded};
+use crate::explaining::{answer_of, halted_code, halted_run, report, report_fault};
 use crate::loading::{load_input, load_listing, load_program};
-use crate::request::{Request, RunWords, Verb, read_words};
-use crate::running::{code_of, compare, cost, execute, mean, run, steps};
+use crate::running::{code_of, compare, execute};
+use crate::telling::{tell_costs, tell_meaning, tell_run, tell_steps, tell_trace};
+use crate::terminal::Terminal;
 use crate::writing::{
-    write_accepted, write_costs, write_exchanges, write_outcome, write_plan, write_rules,
-    write_subject, write_told, write_version,
+    write_accepted, write_outcome, write_plan, write_rules, write_subject, write_version,
 };
+use command_words::{Request, RunWords, Verb, asks_to_explain, read_words};
+use diagnoses::About;
 use pram_check::Program;
 use pram_syntax::Out;
-use program_texts::{Sources, Status, Stop, write_stop};
+use program_texts::{Sources, Status, Stop};
 use std::alloc::Global;
 use std::sync::Wait;
 use std::thread::Threads;
@@ -31,92 +38,85 @@ use std::thread::Threads;
 /// What is refused is written to `err`: P1 for the words, P2 for a file that can't be read, and E1 to E18. It is judged in this order:
 /// the words; the file and its text (of a listing E2, E15, E14); the input's file and its text; the number of workers (E13), the map
 /// (E12), and the number of the input's values (E11). With `--reserve` a run is refused besides where it comes past that (E18).
+///
+/// With `--explain`, or where standard error is a terminal, what a reader needs follows there: the place, its line and a caret, and a
+/// sentence; and so of the fault of a program's run.
 pub fn command<R: Threads + Wait + Sync, S: Sources, O: Out, E: Out>(
     rt: &R,
     alloc: Global,
     words: &[String],
+    terminal: Terminal,
     sources: &mut S,
     out: &mut O,
     err: &mut E,
 ) -> Status
     requires out { (O.Out.state out.old).failures < 2 ^ 62 }
     requires err { (E.Out.state err.old).failures < 2 ^ 62 }
-    ensures leaves { Leaves (O.Out.state out.old) (O.Out.state out.new) (E.Out.state err.old) (E.Out.state err.new) result }
+    ensures leaves { Leaves (terminal.errors || spec_asks (map string_bytes words.now))
+        (O.Out.state out.old) (O.Out.state out.new) (E.Out.state err.old) (E.Out.state err.new) result }
     ensures version { AsksForVersion (map string_bytes words.now) → LeavesVersion (O.Out.state out.old) (O.Out.state out.new)
         (E.Out.state err.old) (E.Out.state err.new) result }
 {
-    match perform(rt, alloc, words, sources, out) {
-        Ok(status) => status,
-        Err(stop) => {
-            report(err, &stop);
+    let explains = is_explained(terminal, words);
+    match perform(rt, alloc, words, explains, sources, out) {
+        Ok(answer) => {
+            report_fault(err, &answer.fault);
+            answer.status
+        }
+        Err(halted) => {
+            report(alloc, err, &halted, explains);
             Status::Refused
         }
     }
 }
 
-// Writes the line of a refusal. That standard error fails changes no status.
-fn report<E: Out>(err: &mut E, stop: &Stop<'_>)
-    requires err { (E.Out.state err.old).failures < 2 ^ 62 }
-    ensures written { IsReported (E.Out.state err.old) (E.Out.state err.new) (stop_text stop.now) }
+// Whether what is refused, and a fault, is explained.
+fn is_explained(terminal: Terminal, words: &[String]) -> bool
+    ensures { result ≡ (terminal.errors || spec_asks (map string_bytes words.now)) }
 {
-    if write_stop(err, stop).is_ok() {
-        let _ = err.flush();
-    }
+    terminal.errors || asks_to_explain(words)
 }
 
 fn perform<'a, R: Threads + Wait + Sync, S: Sources, O: Out>(
     rt: &R,
     alloc: Global,
     words: &'a [String],
+    explains: bool,
     sources: &mut S,
     out: &mut O,
-) -> Result<Status, Stop<'a>>
+) -> Result<Answer<'a>, Halted<'a>>
     requires out { (O.Out.state out.old).failures < 2 ^ 62 }
-    ensures answers { Answers (O.Out.state out.old) (O.Out.state out.new) result }
+    ensures performs { Performs explains (O.Out.state out.old) (O.Out.state out.new) result }
     ensures version { AsksForVersion (map string_bytes words.now) → AnswersVersion (O.Out.state out.old) (O.Out.state out.new) result }
 {
-    match read_words(alloc, words)? {
-        Request::Version => write_version(out),
-        Request::Explanation(subject) => write_subject(out, subject),
-        Request::Program { verb, file, words } => {
-            on_program(rt, alloc, verb, file, words, sources, out)
+    match read_words(alloc, words) {
+        Err(stop) => quietly(Err(stop)),
+        Ok(Request::Version) => quietly(write_version(out)),
+        Ok(Request::Explanation(subject)) => quietly(write_subject(out, subject)),
+        Ok(Request::Program { verb, file, words }) => {
+            on_program(rt, alloc, verb, file, words, explains, sources, out)
         }
-        Request::Listing { file, words } => on_listing(rt, alloc, file, words, sources, out),
+        Ok(Request::Listing { file, words }) => {
+            on_listing(rt, alloc, file, words, explains, sources, out)
+        }
     }
 }
 
-// What the run of a program costs, and its outcome.
-fn tell_costs<'a, S: Sources, O: Out>(
-    alloc: Global,
-    program: &Program,
-    words: RunWords<'a>,
-    sources: &mut S,
-    out: &mut O,
-) -> Result<Status, Stop<'a>>
-    requires out { (O.Out.state out.old).failures < 2 ^ 62 }
-    requires program { IsAProgram program.now }
-    ensures answers { Answers (O.Out.state out.old) (O.Out.state out.new) result }
+// An answer of which nothing is to be explained.
+fn quietly<'a>(written: Result<Status, Stop<'a>>) -> Result<Answer<'a>, Halted<'a>>
+    ensures ok { IfOk written.entry (λ s. result ≡ Ok (record { status = s; fault = None })) }
+    ensures err { IfErr written.entry (λ why. result ≡ Err (record { stop = why; about = known.Nothing })) }
 {
-    let input = load_input(alloc, sources, words.input)?;
-    let (outcome, cost) = cost(alloc, program, &input, words.options.bound, words.costs)?;
-    write_costs(out, program.layout(), &outcome, &cost, words.costs)
-}
-
-// The run of a program statement by statement, and its outcome.
-fn tell_steps<'a, S: Sources, O: Out>(
-    alloc: Global,
-    program: &Program,
-    words: RunWords<'a>,
-    sources: &mut S,
-    out: &mut O,
-) -> Result<Status, Stop<'a>>
-    requires out { (O.Out.state out.old).failures < 2 ^ 62 }
-    requires program { IsAProgram program.now }
-    ensures answers { Answers (O.Out.state out.old) (O.Out.state out.new) result }
-{
-    let input = load_input(alloc, sources, words.input)?;
-    let (outcome, entries) = steps(alloc, program, &input, words.options.bound)?;
-    write_told(out, program.layout(), &outcome, &entries, words.steps)
+    match written {
+        Ok(status) => Ok(Answer {
+            status,
+            fault: None,
+        }),
+        Err(stop) => Err(Halted {
+            stop,
+            about: About::Nothing,
+        }),
+    }
 }
 
 // What is done with the program of a file.
@@ -126,47 +126,115 @@ fn on_program<'a, R: Threads + Wait + Sync, S: Sources, O: Out>(
     verb: Verb,
     file: &'a str,
     words: RunWords<'a>,
+    explains: bool,
     sources: &mut S,
     out: &mut O,
-) -> Result<Status, Stop<'a>>
+) -> Result<Answer<'a>, Halted<'a>>
     requires out { (O.Out.state out.old).failures < 2 ^ 62 }
-    ensures answers { Answers (O.Out.state out.old) (O.Out.state out.new) result }
+    ensures { Performs explains (O.Out.state out.old) (O.Out.state out.new) result }
 {
-    let program = load_program(alloc, sources, file)?;
+    let loaded = load_program(alloc, sources, file)?;
     match verb {
-        Verb::Check => write_accepted(out, &program),
-        Verb::Plan => {
-            let code = code_of(alloc, &program)?;
-            write_plan(out, code.code())
+        Verb::Check => quietly(write_accepted(out, &loaded.program)),
+        Verb::Plan => on_plan(alloc, loaded, explains, out),
+        Verb::Rules => on_rules(alloc, loaded, words, explains, sources, out),
+        Verb::Meaning | Verb::Cost | Verb::Steps | Verb::Run | Verb::Trace => {
+            on_run(rt, alloc, verb, loaded, words, explains, sources, out)
         }
-        Verb::Meaning => {
-            let input = load_input(alloc, sources, words.input)?;
-            let outcome = mean(alloc, &program, &input, words.options.bound)?;
-            write_outcome(out, program.layout(), &outcome)
+    }
+}
+
+// The listing of a program's code.
+fn on_plan<'a, O: Out>(
+    alloc: Global,
+    loaded: Loaded<'a>,
+    explains: bool,
+    out: &mut O,
+) -> Result<Answer<'a>, Halted<'a>>
+    requires out { (O.Out.state out.old).failures < 2 ^ 62 }
+    requires program { IsProgramOf loaded.source.bytes.items loaded.program }
+    ensures { Performs explains (O.Out.state out.old) (O.Out.state out.new) result }
+{
+    match code_of(alloc, &loaded.program) {
+        Ok(code) => quietly(write_plan(out, code.code())),
+        Err(stop) => {
+            let cells = loaded.program.layout().cells();
+            Err(halted_run(stop, loaded.source, 0, cells))
         }
-        Verb::Cost => tell_costs(alloc, &program, words, sources, out),
-        Verb::Steps => tell_steps(alloc, &program, words, sources, out),
-        Verb::Rules => {
-            let input = load_input(alloc, sources, words.input)?;
-            let comparison = compare(alloc, program, &input, words.options.bound)?;
-            write_rules(out, &comparison)
+    }
+}
+
+// How a program comes out under each rule.
+fn on_rules<'a, S: Sources, O: Out>(
+    alloc: Global,
+    loaded: Loaded<'a>,
+    words: RunWords<'a>,
+    explains: bool,
+    sources: &mut S,
+    out: &mut O,
+) -> Result<Answer<'a>, Halted<'a>>
+    requires out { (O.Out.state out.old).failures < 2 ^ 62 }
+    requires program { IsProgramOf loaded.source.bytes.items loaded.program }
+    ensures { Performs explains (O.Out.state out.old) (O.Out.state out.new) result }
+{
+    let input = load_input(alloc, sources, words.input)?;
+    let Loaded { source, program } = loaded;
+    let cells = program.layout().cells();
+    match compare(alloc, program, &input, words.options.bound) {
+        Ok(comparison) => quietly(write_rules(out, &comparison)),
+        Err(stop) => Err(halted_run(stop, source, input.len(), cells)),
+    }
+}
+
+// A run of a program is told.
+fn tell<'a, R: Threads + Wait + Sync, O: Out>(
+    rt: &R,
+    alloc: Global,
+    verb: Verb,
+    program: &Program,
+    input: &[i64],
+    words: RunWords<'a>,
+    out: &mut O,
+) -> Result<Ended, Stop<'a>>
+    requires out { (O.Out.state out.old).failures < 2 ^ 62 }
+    requires program { IsAProgram program.now }
+    ensures told { TellsRun program.now input.now words.entry.options.bound (O.Out.state out.old) (O.Out.state out.new) result }
+{
+    match verb {
+        Verb::Cost => tell_costs(alloc, program, input, words, out),
+        Verb::Steps => tell_steps(alloc, program, input, words, out),
+        Verb::Run => tell_run(rt, alloc, program, input, words, out),
+        Verb::Trace => tell_trace(rt, alloc, program, input, words, out),
+        Verb::Meaning | Verb::Check | Verb::Plan | Verb::Rules => {
+            tell_meaning(alloc, program, input, words.options.bound, out)
         }
-        Verb::Run => {
-            let input = load_input(alloc, sources, words.input)?;
-            let (outcome, _counts) = run(
-                rt,
-                alloc,
-                &program,
-                &input,
-                words.options,
-                words.reserve,
-            )?;
-            write_outcome(out, program.layout(), &outcome)
+    }
+}
+
+// A run of a program, and its fault if that is to be explained.
+fn on_run<'a, R: Threads + Wait + Sync, S: Sources, O: Out>(
+    rt: &R,
+    alloc: Global,
+    verb: Verb,
+    loaded: Loaded<'a>,
+    words: RunWords<'a>,
+    explains: bool,
+    sources: &mut S,
+    out: &mut O,
+) -> Result<Answer<'a>, Halted<'a>>
+    requires out { (O.Out.state out.old).failures < 2 ^ 62 }
+    requires program { IsProgramOf loaded.source.bytes.items loaded.program }
+    ensures { Performs explains (O.Out.state out.old) (O.Out.state out.new) result }
+{
+    let input = load_input(alloc, sources, words.input)?;
+    match tell(rt, alloc, verb, &loaded.program, &input, words, out) {
+        Ok(ended) => {
+            let bound = words.options.bound;
+            Ok(answer_of(alloc, explains, loaded, &input, bound, ended))
         }
-        Verb::Trace => {
-            let input = load_input(alloc, sources, words.input)?;
-            let (outcome, counts) = run(rt, alloc, &program, &input, words.options, words.reserve)?;
-            write_exchanges(out, &outcome, &counts)
+        Err(stop) => {
+            let cells = loaded.program.layout().cells();
+            Err(halted_run(stop, loaded.source, input.len(), cells))
         }
     }
 }
@@ -177,14 +245,20 @@ fn on_listing<'a, R: Threads + Wait + Sync, S: Sources, O: Out>(
     alloc: Global,
     file: &'a str,
     words: RunWords<'a>,
+    explains: bool,
     sources: &mut S,
     out: &mut O,
-) -> Result<Status, Stop<'a>>
+) -> Result<Answer<'a>, Halted<'a>>
     requires out { (O.Out.state out.old).failures < 2 ^ 62 }
-    ensures answers { Answers (O.Out.state out.old) (O.Out.state out.new) result }
+    ensures { Performs explains (O.Out.state out.old) (O.Out.state out.new) result }
 {
     let code = load_listing(alloc, sources, file)?;
     let input = load_input(alloc, sources, words.input)?;
-    let (outcome, _counts) = execute(rt, alloc, &code, &input, words.options, words.reserve)?;
-    write_outcome(out, code.code().layout(), &outcome)
+    match execute(rt, alloc, &code, &input, words.options, words.reserve) {
+        Ok((outcome, _counts)) => quietly(write_outcome(out, code.code().layout(), &outcome)),
+        Err(stop) => {
+            let cells = code.code().layout().cells();
+            Err(halted_code(stop, input.len(), cells))
+        }
+    }
 }

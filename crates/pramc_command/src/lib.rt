@@ -1,14 +1,14 @@
 //! The program `pramc`, but for the system's files and streams.
 #![tactic(auto)]
 
+mod answer;
 mod commands;
-mod cost_words;
-mod grammar;
+mod explaining;
 mod loading;
-mod request;
 mod running;
-mod step_words;
-mod version;
+mod telling;
+mod terminal;
 mod writing;
 
 pub use commands::command;
+pub use terminal::Terminal;

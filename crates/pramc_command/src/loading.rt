@@ -5,10 +5,13 @@ ghost use Rattle.superstep_code.specs.Code.{SuperstepCode};
 ghost use Rattle.superstep_listing.specs.Text.{IsFaultOf};
 ghost use Rattle.bsp_verify.specs.WellFormed.{IsWellFormed};
 ghost use Rattle.bsp_verify.specs.FirstFault.{IsRefusal};
-ghost use Rattle.pramc_command.specs.Answered.{IsAProgram, IsAListing, IsTrueStop, reason_word as spec_reason_word};
+ghost use Rattle.program_texts.specs.Report.{IsProgramOf};
+ghost use Rattle.pramc_command.specs.Answered.{IsAListing, IsTrueStop, reason_word as spec_reason_word};
+ghost use Rattle.pramc_command.specs.Explained.{IsKnownAlone, IsOfListing, IsTrueHalt};
 
+use crate::answer::{Halted, Loaded};
 use bsp_verify::{Reason, Verified, VerifyFault, verify};
-use pram_check::Program;
+use diagnoses::{About, Kind, Source};
 use pram_syntax::{TextFault, read_input};
 use pram_tokens::LONGEST;
 use program_texts::{Refusal, SourceFault, Sources, Stop, read_program};
@@ -22,7 +25,7 @@ fn load<'a, S: Sources>(
     name: &'a str,
     most: u32,
 ) -> Result<Vec<u8>, Stop<'a>>
-    ensures { IfErr result IsTrueStop }
+    ensures { IfErr result IsKnownAlone }
 {
     match sources.read(alloc, name, most) {
         Ok(bytes) => Ok(bytes),
@@ -36,15 +39,27 @@ pub(crate) fn load_program<'a, S: Sources>(
     alloc: Global,
     sources: &mut S,
     name: &'a str,
-) -> Result<Program, Stop<'a>>
-    ensures program { IfOk result IsAProgram }
-    ensures refused { IfErr result IsTrueStop }
+) -> Result<Loaded<'a>, Halted<'a>>
+    ensures program { IfOk result (λ l. IsProgramOf l.source.bytes.items l.program) }
+    ensures refused { IfErr result IsTrueHalt }
 {
-    let text = load(alloc, sources, name, LONGEST as u32)?;
-    match read_program(alloc, &text) {
-        Ok(program) => Ok(program),
-        Err(refusal) => Err(Stop::Refused(refusal)),
+    let bytes = load(alloc, sources, name, LONGEST as u32)?;
+    match read_program(alloc, &bytes) {
+        Ok(program) => {
+            let source = source_of(Kind::Program, name, bytes);
+            Ok(Loaded { source, program })
+        }
+        Err(refusal) => Err(Halted {
+            stop: Stop::Refused(refusal),
+            about: About::Text(source_of(Kind::Program, name, bytes)),
+        }),
     }
+}
+
+fn source_of<'a>(kind: Kind, name: &'a str, bytes: Vec<u8>) -> Source<'a>
+    ensures { result.bytes.items ≡ bytes.items }
+{
+    Source { kind, name, bytes }
 }
 
 /// The values of the input's file, and none where there is no file.
@@ -52,23 +67,26 @@ pub(crate) fn load_input<'a, S: Sources>(
     alloc: Global,
     sources: &mut S,
     name: Option<&'a str>,
-) -> Result<Vec<i64>, Stop<'a>>
-    ensures { IfErr result IsTrueStop }
+) -> Result<Vec<i64>, Halted<'a>>
+    ensures { IfErr result IsTrueHalt }
 {
     let name = match name {
         None => return Ok(Vec::new(alloc)),
         Some(name) => name,
     };
-    let text = load(alloc, sources, name, LONGEST as u32)?;
-    match read_input(alloc, &text) {
+    let bytes = load(alloc, sources, name, LONGEST as u32)?;
+    match read_input(alloc, &bytes) {
         Ok(values) => Ok(values),
-        Err(fault) => Err(Stop::Refused(Refusal::of_text(fault))),
+        Err(fault) => Err(Halted {
+            stop: Stop::Refused(Refusal::of_text(fault)),
+            about: About::Text(source_of(Kind::Input, name, bytes)),
+        }),
     }
 }
 
 // Why a text is no listing.
 fn stop_of_listing<'a>(fault: ListingFault) -> Stop<'a>
-    ensures { (text : List ℕ) → IsFaultOf {X = SuperstepCode} text (Err fault) → IsTrueStop result }
+    ensures { (text : List ℕ) → IsFaultOf {X = SuperstepCode} text (Err fault) → IsOfListing result text }
 {
     match fault {
         ListingFault::TextTooLong => Stop::Refused(Refusal::Text(TextFault::TextTooLong)),
@@ -95,7 +113,7 @@ fn reason_word(reason: Reason) -> &'static str
 
 // Why code is not run.
 fn stop_of_code<'a>(fault: VerifyFault) -> Stop<'a>
-    ensures { (code : SuperstepCode) → IsRefusal code fault → IsTrueStop result }
+    ensures { (code : SuperstepCode) → IsRefusal code fault → IsKnownAlone result }
 {
     match fault {
         VerifyFault::NotVerified { at, reason } => Stop::NotVerified(at, reason_word(reason)),
@@ -108,17 +126,25 @@ pub(crate) fn load_listing<'a, S: Sources>(
     alloc: Global,
     sources: &mut S,
     name: &'a str,
-) -> Result<Verified, Stop<'a>>
+) -> Result<Verified, Halted<'a>>
     ensures listing { IfOk result IsAListing }
-    ensures refused { IfErr result IsTrueStop }
+    ensures refused { IfErr result IsTrueHalt }
 {
-    let text = load(alloc, sources, name, LONGEST_LISTING as u32)?;
-    let code = match read_listing(alloc, &text) {
+    let bytes = load(alloc, sources, name, LONGEST_LISTING as u32)?;
+    let code = match read_listing(alloc, &bytes) {
         Ok(code) => code,
-        Err(fault) => return Err(stop_of_listing(fault)),
+        Err(fault) => {
+            return Err(Halted {
+                stop: stop_of_listing(fault),
+                about: About::Text(source_of(Kind::Listing, name, bytes)),
+            });
+        }
     };
     match verify(alloc, code) {
         Ok(verified) => Ok(verified),
-        Err((fault, _code)) => Err(stop_of_code(fault)),
+        Err((fault, _code)) => Err(Halted {
+            stop: stop_of_code(fault),
+            about: About::Nothing,
+        }),
     }
 }

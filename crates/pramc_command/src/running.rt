@@ -3,13 +3,15 @@
 ghost use Rattle.std.specs.Prelude.{◌≡◌, ◌<◌, IfOk, IfErr, map};
 ghost use Rattle.run_steps.specs.Entries.{entry_is};
 ghost use Rattle.pramc_command.specs.Answered.{HasOutcome, HasRun, HasTrace, IsAListing, IsAProgram, IsCompared, IsPlanned, IsTrueStop};
+ghost use Rattle.write_rules.specs.Verdict.{verdict_of};
 ghost use Rattle.pramc_command.specs.Costs.{HasCost};
 ghost use Rattle.pramc_command.specs.Costs as spec;
+ghost use Rattle.pramc_command.specs.Explained.{IsCodesStop, IsOutcomeIn, IsRunsStop};
 ghost use Rattle.pramc_command.specs.Steps.{HasSteps};
 
-use crate::cost_words::CostWords;
 use bsp_machine::Reserve;
 use bsp_verify::Verified;
+use command_words::CostWords;
 use compiling::compile_program;
 use exchange_counts::Counts;
 use pram_check::Program;
@@ -30,6 +32,7 @@ pub(crate) fn code_of<'a>(alloc: Global, program: &Program) -> Result<Verified, 
     requires program { IsAProgram program.now }
     ensures code { IfOk result IsPlanned }
     ensures refused { IfErr result IsTrueStop }
+    ensures known { IfErr result (IsRunsStop program.now) }
 {
     Ok(compile_program(alloc, program)?)
 }
@@ -43,7 +46,9 @@ pub(crate) fn mean<'a>(
 ) -> Result<Outcome, Stop<'a>>
     requires program { IsAProgram program.now }
     ensures outcome { IfOk result (HasOutcome program.now.layout) }
+    ensures by_text { IfOk result (λ o. IsOutcomeIn program.now input.now bound (verdict_of o)) }
     ensures refused { IfErr result IsTrueStop }
+    ensures known { IfErr result (IsRunsStop program.now) }
 {
     match mean_program(alloc, program, input, bound) {
         Ok(outcome) => Ok(outcome),
@@ -72,7 +77,9 @@ pub(crate) fn cost<'a>(
 ) -> Result<(Outcome, Cost), Stop<'a>>
     requires program { IsAProgram program.now }
     ensures cost { IfOk result (λ found. HasCost program.now.layout found.0 words.schedule found.1) }
+    ensures by_text { IfOk result (λ found. IsOutcomeIn program.now input.now bound (verdict_of found.0)) }
     ensures refused { IfErr result IsTrueStop }
+    ensures known { IfErr result (IsRunsStop program.now) }
 {
     let schedule = processors_of(words);
     match cost_of(alloc, program, input, bound, schedule) {
@@ -91,7 +98,9 @@ pub(crate) fn steps<'a>(
 ) -> Result<(Outcome, Vec<Entry>), Stop<'a>>
     requires program { IsAProgram program.now }
     ensures steps { IfOk result (λ found. HasSteps program.now.layout found.0 (map entry_is found.1.items)) }
+    ensures by_text { IfOk result (λ found. IsOutcomeIn program.now input.now bound (verdict_of found.0)) }
     ensures refused { IfErr result IsTrueStop }
+    ensures known { IfErr result (IsRunsStop program.now) }
 {
     match steps_of(alloc, program, input, bound) {
         Ok(found) => Ok(found),
@@ -110,6 +119,7 @@ pub(crate) fn compare<'a>(
     requires program { IsAProgram program }
     ensures compared { IfOk result IsCompared }
     ensures refused { IfErr result IsTrueStop }
+    ensures known { IfErr result (IsRunsStop program) }
 {
     match compare_rules(alloc, program, input, bound) {
         Ok(comparison) => Ok(comparison),
@@ -130,7 +140,9 @@ pub(crate) fn run<'a, R: Threads + Wait + Sync>(
     requires program { IsAProgram program.now }
     ensures outcome { IfOk result (λ found. HasOutcome program.now.layout found.0) }
     ensures trace { IfOk result (λ found. HasTrace found.0 found.1) }
+    ensures by_text { IfOk result (λ found. IsOutcomeIn program.now input.now options.bound (verdict_of found.0)) }
     ensures refused { IfErr result IsTrueStop }
+    ensures known { IfErr result (IsRunsStop program.now) }
 {
     match run_program(rt, alloc, program, input, options, reserve, &OpenGate) {
         Ok(found) => Ok(found),
@@ -150,6 +162,7 @@ pub(crate) fn execute<'a, R: Threads + Wait + Sync>(
     requires listing { IsAListing code.now }
     ensures run { IfOk result (λ found. HasRun code.now found.0) }
     ensures refused { IfErr result IsTrueStop }
+    ensures known { IfErr result IsCodesStop }
 {
     match run_code(rt, alloc, code, input, options, reserve, &OpenGate) {
         Ok(found) => Ok(found),

@@ -6,14 +6,19 @@ ghost use Rattle.write_rules.specs.Verdict.{verdict_of};
 ghost use Rattle.program_texts.specs.Shown.{shown};
 ghost use Rattle.program_texts.specs.Status.{status_of};
 ghost use Rattle.run_steps.specs.Entries.{entry_is};
-ghost use Rattle.pramc_command.specs.Answered.{Answers, HasTrace, IsAProgram, IsCompared, IsPlanned, Tells, accepted_line};
-ghost use Rattle.pramc_command.specs.Costs.{HasCost, costs_text};
-ghost use Rattle.pramc_command.specs.Steps.{HasSteps, told_text};
-ghost use Rattle.pramc_command.specs.Version.{AnswersVersion, version_text};
+ghost use Rattle.program_texts.specs.declared.status.Status.TheVariants.{Done};
+ghost use Rattle.explanations.specs.Explained.{explanation};
+ghost use Rattle.rule_comparison.specs.ComparisonText.{comparison_text};
+ghost use Rattle.superstep_listing.specs.Listing.{spelling};
+ghost use Rattle.trace_pictures.specs.Picture.{picture};
+ghost use Rattle.tracer.specs.Traced.{trace_text};
+ghost use Rattle.pramc_command.specs.Answered.{accepted_line};
+ghost use Rattle.pramc_command.specs.Costs.{costs_text};
+ghost use Rattle.pramc_command.specs.Explained.{Wrote};
+ghost use Rattle.pramc_command.specs.Steps.{told_text};
+ghost use Rattle.pramc_command.specs.Version.{version_text};
 
-use crate::cost_words::CostWords;
-use crate::step_words::StepWords;
-use crate::version::VERSION;
+use command_words::{CostWords, StepWords, VERSION};
 use cost_texts::{write_cost, write_lines};
 use exchange_counts::Counts;
 use explanations::{Subject, write_explanation};
@@ -23,9 +28,10 @@ use pram_syntax::{Layout, Out, WriteFault};
 use program_texts::{Status, Stop, finish, rule_word, show};
 use rule_comparison::{Comparison, show_comparison};
 use run_steps::Entry;
-use step_texts::write_steps;
+use step_texts::{Manner, write_steps};
 use superstep_code::Code;
 use superstep_listing::write_listing;
+use trace_pictures::write_picture;
 use tracer::write_trace;
 use work_time::Cost;
 use write_rules::Outcome;
@@ -37,8 +43,8 @@ pub(crate) fn write_outcome<'a, O: Out>(
     outcome: &Outcome,
 ) -> Result<Status, Stop<'a>>
     requires out { (O.Out.state out.old).failures < 2 ^ 62 }
-    requires tells { Tells (status_of outcome.now) (shown layout.now (verdict_of outcome.now)) }
-    ensures answers { Answers (O.Out.state out.old) (O.Out.state out.new) result }
+    ensures written { Wrote (status_of outcome.now) (shown layout.now (verdict_of outcome.now))
+        (O.Out.state out.old) (O.Out.state out.new) result }
 {
     match show(layout, outcome, out) {
         Ok(()) => {
@@ -93,8 +99,9 @@ pub(crate) fn write_costs<'a, O: Out>(
     words: CostWords,
 ) -> Result<Status, Stop<'a>>
     requires out { (O.Out.state out.old).failures < 2 ^ 62 }
-    requires cost { HasCost layout.now outcome.now words.schedule cost.now }
-    ensures answers { Answers (O.Out.state out.old) (O.Out.state out.new) result }
+    ensures written { Wrote (status_of outcome.now) (costs_text (verdict_of outcome.now) cost.now words.schedule words.lines
+        ++ shown layout.now (verdict_of outcome.now))
+        (O.Out.state out.old) (O.Out.state out.new) result }
 {
     match write_numbers_and_outcome(out, layout, outcome, cost, words) {
         Ok(()) => {
@@ -117,7 +124,8 @@ fn write_entries_and_outcome<O: Out>(
     ensures written { Writes (O.Out.state out.old) (O.Out.state out.new)
         (told_text layout.now outcome.now (map entry_is entries.now) words.from words.to) result }
 {
-    write_steps(out, layout, entries, words.from as usize, words.to as usize)?;
+    let (first, last) = (words.from as usize, words.to as usize);
+    write_steps(out, layout, &Manner::Plain, entries, first, last)?;
     show(layout, outcome, out)
 }
 
@@ -130,8 +138,8 @@ pub(crate) fn write_told<'a, O: Out>(
     words: StepWords,
 ) -> Result<Status, Stop<'a>>
     requires out { (O.Out.state out.old).failures < 2 ^ 62 }
-    requires steps { HasSteps layout.now outcome.now (map entry_is entries.now) }
-    ensures answers { Answers (O.Out.state out.old) (O.Out.state out.new) result }
+    ensures written { Wrote (status_of outcome.now) (told_text layout.now outcome.now (map entry_is entries.now) words.from words.to)
+        (O.Out.state out.old) (O.Out.state out.new) result }
 {
     match write_entries_and_outcome(out, layout, outcome, entries, words) {
         Ok(()) => {
@@ -148,8 +156,8 @@ pub(crate) fn write_rules<'a, O: Out>(
     comparison: &Comparison,
 ) -> Result<Status, Stop<'a>>
     requires out { (O.Out.state out.old).failures < 2 ^ 62 }
-    requires compared { IsCompared comparison.now }
-    ensures answers { Answers (O.Out.state out.old) (O.Out.state out.new) result }
+    ensures written { Wrote Done (comparison_text comparison.now)
+        (O.Out.state out.old) (O.Out.state out.new) result }
 {
     match show_comparison(comparison, out) {
         Ok(()) => finish(out, Status::Done),
@@ -164,10 +172,29 @@ pub(crate) fn write_exchanges<'a, O: Out>(
     counts: &Counts,
 ) -> Result<Status, Stop<'a>>
     requires out { (O.Out.state out.old).failures < 2 ^ 62 }
-    requires trace { HasTrace outcome.now counts.now }
-    ensures answers { Answers (O.Out.state out.old) (O.Out.state out.new) result }
+    ensures written { Wrote (status_of outcome.now) (trace_text counts.now)
+        (O.Out.state out.old) (O.Out.state out.new) result }
 {
     match write_trace(counts, out) {
+        Ok(()) => {
+            let status = Status::of(outcome);
+            finish(out, status)
+        }
+        Err(WriteFault) => Err(Stop::WriteFailed),
+    }
+}
+
+/// Writes a picture of the exchanges of a run.
+pub(crate) fn write_drawn<'a, O: Out>(
+    out: &mut O,
+    outcome: &Outcome,
+    counts: &Counts,
+) -> Result<Status, Stop<'a>>
+    requires out { (O.Out.state out.old).failures < 2 ^ 62 }
+    ensures written { Wrote (status_of outcome.now) (picture counts.now)
+        (O.Out.state out.old) (O.Out.state out.new) result }
+{
+    match write_picture(counts, out) {
         Ok(()) => {
             let status = Status::of(outcome);
             finish(out, status)
@@ -179,8 +206,8 @@ pub(crate) fn write_exchanges<'a, O: Out>(
 /// Writes the listing of a program's code.
 pub(crate) fn write_plan<'a, O: Out>(out: &mut O, code: &Code) -> Result<Status, Stop<'a>>
     requires out { (O.Out.state out.old).failures < 2 ^ 62 }
-    requires planned { IsPlanned code.now }
-    ensures answers { Answers (O.Out.state out.old) (O.Out.state out.new) result }
+    ensures written { Wrote Done (spelling code.now)
+        (O.Out.state out.old) (O.Out.state out.new) result }
 {
     match write_listing(code, out) {
         Ok(()) => finish(out, Status::Done),
@@ -191,7 +218,8 @@ pub(crate) fn write_plan<'a, O: Out>(out: &mut O, code: &Code) -> Result<Status,
 /// Writes what there is to say of a subject.
 pub(crate) fn write_subject<'a, O: Out>(out: &mut O, subject: Subject) -> Result<Status, Stop<'a>>
     requires out { (O.Out.state out.old).failures < 2 ^ 62 }
-    ensures answers { Answers (O.Out.state out.old) (O.Out.state out.new) result }
+    ensures written { Wrote Done (explanation subject)
+        (O.Out.state out.old) (O.Out.state out.new) result }
 {
     match write_explanation(out, subject) {
         Ok(()) => finish(out, Status::Done),
@@ -202,8 +230,8 @@ pub(crate) fn write_subject<'a, O: Out>(out: &mut O, subject: Subject) -> Result
 /// Writes the version.
 pub(crate) fn write_version<'a, O: Out>(out: &mut O) -> Result<Status, Stop<'a>>
     requires out { (O.Out.state out.old).failures < 2 ^ 62 }
-    ensures answers { Answers (O.Out.state out.old) (O.Out.state out.new) result }
-    ensures version { AnswersVersion (O.Out.state out.old) (O.Out.state out.new) result }
+    ensures written { Wrote Done version_text
+        (O.Out.state out.old) (O.Out.state out.new) result }
 {
     match write_version_line(out) {
         Ok(()) => finish(out, Status::Done),
@@ -221,8 +249,8 @@ fn write_version_line<O: Out>(out: &mut O) -> Result<(), WriteFault>
 /// Writes that a program is accepted.
 pub(crate) fn write_accepted<'a, O: Out>(out: &mut O, program: &Program) -> Result<Status, Stop<'a>>
     requires out { (O.Out.state out.old).failures < 2 ^ 62 }
-    requires program { IsAProgram program.now }
-    ensures answers { Answers (O.Out.state out.old) (O.Out.state out.new) result }
+    ensures written { Wrote Done (accepted_line program.now)
+        (O.Out.state out.old) (O.Out.state out.new) result }
 {
     match write_accepted_line(out, program) {
         Ok(()) => finish(out, Status::Done),

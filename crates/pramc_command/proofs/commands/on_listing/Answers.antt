@@ -1,15 +1,10 @@
-use Rattle.std.proofs.Common.{subst, sym, ap, ◌∙◌, List}
-use Rattle.write_rules.specs.Verdict.{verdict_of}
-use Rattle.pram_model.specs.Layout.{SharedEntry}
+use Rattle.std.proofs.Common.{◌∙◌, ap}
 use Rattle.superstep_code.specs.Code.{SuperstepCode}
-use Rattle.program_texts.specs.Shown.{shown}
-use Rattle.program_texts.specs.Status.{status_of}
-use Rattle.pramc_command.specs.Answered.{Executed, Tells}
+use Rattle.pramc_command.proofs.Answering.{told_code}
 use Rattle.pramc_command.proofs.commands.on_listing.Goals as goal
 
-pub write_outcome-requires-clause-tells : goal.write_outcome-requires-clause-tells
-write_outcome-requires-clause-tells g c =
-    let outcome = c.in_ok-outcome.outcome in
-    subst (λ (l : List SharedEntry). Tells (status_of outcome) (shown l (verdict_of outcome)))
-    (sym (c.layout.ensures.value ∙ ap (λ (code : SuperstepCode). code.layout) c.code-2.ensures.value))
-    (Executed c.in_ok-code.code outcome c.in_ok-code.ensures.listing c.in_ok-outcome.ensures.run)
+pub returns-in-Ok : goal.returns-in-Ok
+returns-in-Ok g c =
+    let same = c.layout.ensures.value ∙ ap (λ (code : SuperstepCode). code.layout) c.code-in-Ok.ensures.value in
+    told_code c.args.explains c.in_ok-code.code c.in-Ok.outcome c.layout.result.now _ _ c.write_outcome.result c.quietly.result same
+    c.in_ok-code.ensures.listing c.in-Ok.ensures.run c.write_outcome.ensures.written c.quietly.ensures.ok c.quietly.ensures.err

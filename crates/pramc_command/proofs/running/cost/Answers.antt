@@ -32,3 +32,8 @@ returns-in-Err-InputTooLong-clause-refused c =
         too_long = found.ensures.too_long.0 (ap Err found.field-0-is);
       },
     )
+
+pub returns-in-Ok-clause-by_text : goal.returns-in-Ok-clause-by_text
+returns-in-Ok-clause-by_text c text is =
+    let e = c.in-Ok.ensures in
+    record { program = c.args.program.now; is_program = is; declared = refl; fits = e.fits; outcome = e.outcome }

@@ -1,11 +1,11 @@
-use Rattle.pramc_command.specs.Answered.{Compared}
-use Rattle.pramc_command.proofs.Answering.{cut_off, told}
+use Rattle.std.proofs.Common.{refl}
+use Rattle.pramc_command.proofs.Answering.{wrote}
 use Rattle.pramc_command.proofs.writing.write_rules.Goals as goal
 
 pub returns-in-Ok : goal.returns-in-Ok
 returns-in-Ok g c = record {
-  answers = told _ _ _ _ _ _ (Compared _ c.requires.compared) c.in-Ok.ensures.written c.finish.ensures.ok c.finish.ensures.failed;
+  written = wrote _ _ _ _ _ _ c.finish.result refl c.in-Ok.ensures.written c.finish.ensures.ok c.finish.ensures.failed;
 }
 
 pub returns-in-Err : goal.returns-in-Err
-returns-in-Err g c = record { answers = cut_off _ _ _ _ (Compared _ c.requires.compared) c.in-Err.ensures.written }
+returns-in-Err g c = record { written = (refl, c.in-Err.ensures.written) }

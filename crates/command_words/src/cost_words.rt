@@ -1,0 +1,14 @@
+//! What is told of the costs of a run.
+
+ghost use Rattle.std.specs.Prelude.{◌<◌};
+ghost use Rattle.std.specs.Option.{ForSome};
+
+/// What is told of the costs of a run.
+#[derive(Clone, Copy, Debug)]
+pub struct CostWords {
+    /// The number of processors on which the work is scheduled. Without one no rounds are told.
+    pub schedule: Option<u32>,
+    /// Whether what each line costs is told.
+    pub lines: bool,
+    ghost scheduled: { ForSome schedule (λ q. 0 < q) },
+}

@@ -1,0 +1,228 @@
+//! The words that the program takes, and its help.
+
+use crate::version::VERSION;
+use clap::{Arg, ArgAction, Command};
+use std::alloc::{AllocError, Global};
+
+pub(crate) const FILE: &str = "FILE";
+
+pub(crate) const WORD: &str = "WORD";
+
+pub(crate) const BOUND: &str = "bound";
+
+pub(crate) const INPUT: &str = "input";
+
+pub(crate) const WORKERS: &str = "workers";
+
+pub(crate) const MAP: &str = "map";
+
+pub(crate) const RESERVE: &str = "reserve";
+
+pub(crate) const SCHEDULE: &str = "schedule";
+
+pub(crate) const LINES: &str = "lines";
+
+pub(crate) const FROM: &str = "from";
+
+pub(crate) const TO: &str = "to";
+
+pub(crate) const SVG: &str = "svg";
+
+const EXPLAINED: &str = "explain";
+
+// What the help of a subcommand says.
+struct Subcommand {
+    name: &'static str,
+    about: &'static str,
+    // what it is over
+    over: &'static str,
+    example: &'static str,
+}
+
+const PROGRAM: &str = "The text of a PRAM program";
+
+const LISTING: &str = "A listing of superstep code";
+
+const CHECK: Subcommand = Subcommand {
+    name: "check",
+    about: "Says whether the program is accepted",
+    over: PROGRAM,
+    example: "Example: pramc check examples/sum.pram",
+};
+
+const PLAN: Subcommand = Subcommand {
+    name: "plan",
+    about: "Writes the superstep code of the program",
+    over: PROGRAM,
+    example: "Example: pramc plan examples/sum.pram > sum.bsp",
+};
+
+const MEANING: Subcommand = Subcommand {
+    name: "meaning",
+    about: "Runs the program by its definition",
+    over: PROGRAM,
+    example: "Example: pramc meaning examples/tree_sum.pram --input examples/tree_sum.in",
+};
+
+const COST: Subcommand = Subcommand {
+    name: "cost",
+    about: "Counts time, work, shared accesses and exchanges of the run, beside its outcome",
+    over: PROGRAM,
+    example: "Example: pramc cost examples/tree_sum.pram --input examples/tree_sum.in --schedule 2",
+};
+
+const STEPS: Subcommand = Subcommand {
+    name: "steps",
+    about: "Tells the run statement by statement, and then its outcome",
+    over: PROGRAM,
+    example: "Example: pramc steps examples/tree_sum.pram --input examples/tree_sum.in --from 3 --to 7",
+};
+
+const RULES: Subcommand = Subcommand {
+    name: "rules",
+    about: "Compares what the program comes to under each rule",
+    over: PROGRAM,
+    example: "Example: pramc rules examples/maximum.pram --input examples/maximum.in",
+};
+
+const RUN: Subcommand = Subcommand {
+    name: "run",
+    about: "Compiles the program and runs it",
+    over: PROGRAM,
+    example: "Example: pramc run examples/tree_sum.pram --input examples/tree_sum.in --workers 2",
+};
+
+const TRACE: Subcommand = Subcommand {
+    name: "trace",
+    about: "Writes the exchanges of the same run",
+    over: PROGRAM,
+    example: "Example: pramc trace examples/tree_sum.pram --input examples/tree_sum.in --workers 2",
+};
+
+const EXEC: Subcommand = Subcommand {
+    name: "exec",
+    about: "Runs a listing",
+    over: LISTING,
+    example: "Example: pramc exec sum.bsp --workers 2 --map affine:5,3",
+};
+
+const EXPLAIN: Subcommand = Subcommand {
+    name: "explain",
+    about: "Says what a refusal or a fault is, with an example",
+    over: "The number of a refusal, as E6, or the name of a fault, as read-conflict",
+    example: "Example: pramc explain E6",
+};
+
+// A subcommand over a word.
+fn over_word<'a>(alloc: Global, words: &Subcommand) -> Result<Command<'a>, AllocError> {
+    let word = Arg::new(alloc, WORD).required(true).help(words.over);
+    Command::new(alloc, words.name)
+        .about(words.about)
+        .after_help(words.example)
+        .arg(word)
+}
+
+// A subcommand over a file.
+fn over_file<'a>(alloc: Global, words: &Subcommand) -> Result<Command<'a>, AllocError> {
+    let file = Arg::new(alloc, FILE).required(true).help(words.over);
+    let explained = Arg::new(alloc, EXPLAINED)
+        .long(EXPLAINED)
+        .action(ArgAction::SetTrue)
+        .help("Explains a refusal or a fault on standard error");
+    Command::new(alloc, words.name)
+        .about(words.about)
+        .after_help(words.example)
+        .arg(file)?
+        .arg(explained)
+}
+
+// A subcommand that runs what is in a file.
+fn over_run<'a>(alloc: Global, words: &Subcommand) -> Result<Command<'a>, AllocError> {
+    let bound = Arg::new(alloc, BOUND)
+        .long(BOUND)
+        .value_name("N")
+        .default_value("1000000")
+        .help("The most statements that are run");
+    let input = Arg::new(alloc, INPUT)
+        .long(INPUT)
+        .value_name("FILE")
+        .help("A file with the values of the first cells");
+    over_file(alloc, words)?.arg(bound)?.arg(input)
+}
+
+// A subcommand that counts what a run costs.
+fn over_cost<'a>(alloc: Global, words: &Subcommand) -> Result<Command<'a>, AllocError> {
+    let schedule = Arg::new(alloc, SCHEDULE)
+        .long(SCHEDULE)
+        .value_name("P")
+        .help("Counts the rounds on P processors too, P from 1");
+    let lines = Arg::new(alloc, LINES)
+        .long(LINES)
+        .action(ArgAction::SetTrue)
+        .help("Counts for each line of the program too");
+    over_run(alloc, words)?.arg(schedule)?.arg(lines)
+}
+
+// A subcommand that tells a run statement by statement.
+fn over_steps<'a>(alloc: Global, words: &Subcommand) -> Result<Command<'a>, AllocError> {
+    let from = Arg::new(alloc, FROM)
+        .long(FROM)
+        .value_name("K")
+        .default_value("1")
+        .help("The first statement that is told, counted from 1");
+    let to = Arg::new(alloc, TO)
+        .long(TO)
+        .value_name("K")
+        .default_value("4294967295")
+        .help("The last statement that is told");
+    over_run(alloc, words)?.arg(from)?.arg(to)
+}
+
+// A subcommand that runs it by workers.
+fn over_workers<'a>(alloc: Global, words: &Subcommand) -> Result<Command<'a>, AllocError> {
+    let workers = Arg::new(alloc, WORKERS)
+        .long(WORKERS)
+        .value_name("P")
+        .default_value("4")
+        .help("The number of workers, 1 to 32");
+    let map = Arg::new(alloc, MAP)
+        .long(MAP)
+        .value_name("MAP")
+        .default_value("identity")
+        .help("Where cells lie: identity, or affine:A,B with A odd");
+    let reserve = Arg::new(alloc, RESERVE)
+        .long(RESERVE)
+        .value_name("ITEMS,EXCHANGES")
+        .help("Takes all memory first, for so many printed numbers and exchanges");
+    over_run(alloc, words)?.arg(workers)?.arg(map)?.arg(reserve)
+}
+
+// A subcommand that shows the exchanges of that run.
+fn over_trace<'a>(alloc: Global, words: &Subcommand) -> Result<Command<'a>, AllocError> {
+    let svg = Arg::new(alloc, SVG)
+        .long(SVG)
+        .action(ArgAction::SetTrue)
+        .help("Draws them, as SVG");
+    over_workers(alloc, words)?.arg(svg)
+}
+
+/// The subcommands, their options and the help of each.
+pub(crate) fn grammar<'a>(alloc: Global) -> Result<Command<'a>, AllocError> {
+    Command::new(alloc, "pramc")
+        .about("Runs programs of a parallel random access machine")
+        .after_help("Example: pramc run examples/sum.pram")
+        .no_binary_name(true)
+        .subcommand_required(true)
+        .version(VERSION)
+        .bin_name("pramc")?
+        .subcommand(over_file(alloc, &CHECK)?)?
+        .subcommand(over_file(alloc, &PLAN)?)?
+        .subcommand(over_run(alloc, &MEANING)?)?
+        .subcommand(over_cost(alloc, &COST)?)?
+        .subcommand(over_steps(alloc, &STEPS)?)?
+        .subcommand(over_run(alloc, &RULES)?)?
+        .subcommand(over_workers(alloc, &RUN)?)?
+        .subcommand(over_trace(alloc, &TRACE)?)?
+        .subcommand(over_workers(alloc, &EXEC)?)?
+        .subcommand(over_word(alloc, &EXPLAIN)?)
+}

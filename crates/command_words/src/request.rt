@@ -1,0 +1,246 @@
+//! What a command line asks for.
+
+ghost use Rattle.std.specs.Prelude.{◌≡◌, ◌<◌, IfOk, IfErr, map};
+ghost use Rattle.std.specs.Option.{ForSome};
+ghost use Rattle.std.specs.String.{string_bytes};
+ghost use Rattle.command_words.specs.Words.{AsksForVersion, IsOfWords};
+
+use crate::cost_words::CostWords;
+use crate::grammar::{
+    BOUND, FILE, FROM, INPUT, LINES, MAP, RESERVE, SCHEDULE, SVG, TO, WORD, WORKERS, grammar,
+};
+use crate::step_words::StepWords;
+use crate::version::asks_for_version;
+use bsp_machine::Reserve;
+use clap::ArgMatches;
+use clap::error::ErrorKind;
+use explanations::{Subject, subject_of};
+use pramc::Options;
+use program_texts::{Refusal, Stop};
+use run_options::{MapChoice, read_map, read_number, read_pair};
+use std::alloc::Global;
+
+/// What is done with the program of a file.
+#[derive(Clone, Copy, Debug, Drop, PartialEq, Eq)]
+pub enum Verb {
+    /// It is checked.
+    Check,
+    /// Its code is shown.
+    Plan,
+    /// It is run by its definition.
+    Meaning,
+    /// What its run by its definition costs is counted.
+    Cost,
+    /// Its run by its definition is told statement by statement.
+    Steps,
+    /// It is run by its definition under each of the rules.
+    Rules,
+    /// It is run by workers.
+    Run,
+    /// The exchanges of that run are shown.
+    Trace,
+}
+
+/// How something is run.
+#[derive(Clone, Copy, Debug)]
+pub struct RunWords<'a> {
+    /// The name of the file with the input's values. Without one there are none.
+    pub input: Option<&'a str>,
+    pub options: Options,
+    /// For how much workers take all their memory before the first exchange. Without one they take it on the way.
+    pub reserve: Option<Reserve>,
+    pub costs: CostWords,
+    pub steps: StepWords,
+    /// Whether the exchanges are drawn.
+    pub svg: bool,
+}
+
+/// One call of the program.
+#[derive(Clone, Copy, Debug)]
+pub enum Request<'a> {
+    /// For the version.
+    Version,
+    /// For what there is to say of a subject.
+    Explanation(Subject),
+    /// Over the text of a program.
+    Program {
+        verb: Verb,
+        file: &'a str,
+        words: RunWords<'a>,
+    },
+    /// A listing is run.
+    Listing {
+        file: &'a str,
+        words: RunWords<'a>,
+    },
+}
+
+// The number of an option, and 0 where the command has no such option.
+fn number_of<'a>(words: &ArgMatches<'a>, option: &str) -> Result<u32, Stop<'a>>
+    ensures { IfErr result IsOfWords }
+{
+    match words.get_str(option) {
+        None => Ok(0),
+        Some(word) => match read_number(word) {
+            Some(number) => Ok(number),
+            None => Err(Stop::Number(word)),
+        },
+    }
+}
+
+// The map, and the identity where the command has no such option.
+fn map_of<'a>(words: &ArgMatches<'a>) -> Result<MapChoice, Stop<'a>>
+    ensures { IfErr result IsOfWords }
+{
+    match words.get_str(MAP) {
+        None => Ok(MapChoice::Identity),
+        Some(word) => match read_map(word) {
+            Some(map) => Ok(map),
+            None => Err(Stop::Number(word)),
+        },
+    }
+}
+
+// The reserve, if the command line has one.
+fn reserve_of<'a>(words: &ArgMatches<'a>) -> Result<Option<Reserve>, Stop<'a>>
+    ensures { IfErr result IsOfWords }
+{
+    match words.get_str(RESERVE) {
+        None => Ok(None),
+        Some(word) => match read_pair(word) {
+            Some((items, exchanges)) => Ok(Some(Reserve { items, exchanges })),
+            None => Err(Stop::Number(word)),
+        },
+    }
+}
+
+// The number of processors, if the command line has one. It is at least 1.
+fn schedule_of<'a>(words: &ArgMatches<'a>) -> Result<Option<u32>, Stop<'a>>
+    ensures some { IfOk result (λ schedule. ForSome schedule (λ q. 0 < q)) }
+    ensures refused { IfErr result IsOfWords }
+{
+    match words.get_str(SCHEDULE) {
+        None => Ok(None),
+        Some(word) => match read_number(word) {
+            Some(0) | None => Err(Stop::Number(word)),
+            Some(processors) => Ok(Some(processors)),
+        },
+    }
+}
+
+fn cost_words<'a>(words: &ArgMatches<'a>) -> Result<CostWords, Stop<'a>>
+    ensures { IfErr result IsOfWords }
+{
+    let schedule = schedule_of(words)?;
+    let lines = words.get_flag(LINES);
+    Ok(CostWords { schedule, lines })
+}
+
+// Both are 0 where the command has no such options.
+fn step_words<'a>(words: &ArgMatches<'a>) -> Result<StepWords, Stop<'a>>
+    ensures { IfErr result IsOfWords }
+{
+    let from = number_of(words, FROM)?;
+    let to = number_of(words, TO)?;
+    Ok(StepWords { from, to })
+}
+
+fn run_words<'a>(words: &ArgMatches<'a>) -> Result<RunWords<'a>, Stop<'a>>
+    ensures { IfErr result IsOfWords }
+{
+    let bound = number_of(words, BOUND)?;
+    let workers = number_of(words, WORKERS)?;
+    let map = map_of(words)?;
+    let reserve = reserve_of(words)?;
+    let costs = cost_words(words)?;
+    let steps = step_words(words)?;
+    Ok(RunWords {
+        input: words.get_str(INPUT),
+        options: Options {
+            workers,
+            map,
+            bound,
+        },
+        reserve,
+        costs,
+        steps,
+        svg: words.get_flag(SVG),
+    })
+}
+
+fn asked<'a>(verb: Verb, matches: &ArgMatches<'a>) -> Result<Request<'a>, Stop<'a>>
+    ensures { IfErr result IsOfWords }
+{
+    let words = run_words(matches)?;
+    let file = matches.get_str(FILE).unwrap_or("");
+    Ok(Request::Program { verb, file, words })
+}
+
+fn asked_listing<'a>(matches: &ArgMatches<'a>) -> Result<Request<'a>, Stop<'a>>
+    ensures { IfErr result IsOfWords }
+{
+    let words = run_words(matches)?;
+    let file = matches.get_str(FILE).unwrap_or("");
+    Ok(Request::Listing { file, words })
+}
+
+fn asked_subject<'a>(matches: &ArgMatches<'a>) -> Result<Request<'a>, Stop<'a>>
+    ensures { IfErr result IsOfWords }
+{
+    let word = matches.get_str(WORD).unwrap_or("");
+    match subject_of(word) {
+        Some(subject) => Ok(Request::Explanation(subject)),
+        None => Err(Stop::Number(word)),
+    }
+}
+
+// The words of the parser, where it refused the command line.
+fn refused<'a>(alloc: Global, error: clap::Error) -> Stop<'a>
+    ensures { IsOfWords result }
+{
+    if error.kind() == ErrorKind::OutOfMemory {
+        return Stop::Refused(Refusal::OutOfMemory);
+    }
+    match format!(in alloc; "{error}") {
+        Ok(text) => Stop::Words(text),
+        Err(_) => Stop::Refused(Refusal::OutOfMemory),
+    }
+}
+
+// The parser has found the version asked for among other words, or it refused the command line.
+fn unmatched<'a>(alloc: Global, error: clap::Error) -> Result<Request<'a>, Stop<'a>>
+    ensures { IfErr result IsOfWords }
+{
+    if error.kind() == ErrorKind::DisplayVersion {
+        return Ok(Request::Version);
+    }
+    Err(refused(alloc, error))
+}
+
+/// Reads the words behind the program's name.
+pub fn read_words<'a>(alloc: Global, words: &'a [String]) -> Result<Request<'a>, Stop<'a>>
+    ensures version { AsksForVersion (map string_bytes words.now) → result ≡ Ok Request.Version }
+    ensures refused { IfErr result IsOfWords }
+{
+    // No contract says what the parser makes of these words.
+    if asks_for_version(words) {
+        return Ok(Request::Version);
+    }
+    let matches = match grammar(alloc)?.try_get_matches_from(words) {
+        Ok(matches) => matches,
+        Err(error) => return unmatched(alloc, error),
+    };
+    match matches.subcommand() {
+        Some(("check", inner)) => asked(Verb::Check, inner),
+        Some(("plan", inner)) => asked(Verb::Plan, inner),
+        Some(("meaning", inner)) => asked(Verb::Meaning, inner),
+        Some(("cost", inner)) => asked(Verb::Cost, inner),
+        Some(("steps", inner)) => asked(Verb::Steps, inner),
+        Some(("rules", inner)) => asked(Verb::Rules, inner),
+        Some(("run", inner)) => asked(Verb::Run, inner),
+        Some(("trace", inner)) => asked(Verb::Trace, inner),
+        Some(("exec", inner)) => asked_listing(inner),
+        Some((_, inner)) => asked_subject(inner),
+        None => Err(Stop::Number("")),
+    }
+}

@@ -1,0 +1,134 @@
+//! Runs of a program, told on standard output.
+
+ghost use Rattle.std.specs.Prelude.{◌≡◌, ◌<◌, ◌^◌, Err, IfErr, IfOk, Ok};
+ghost use Rattle.pramc_command.specs.Answered.{IsAProgram};
+ghost use Rattle.program_texts.specs.Status.{status_of};
+ghost use Rattle.pramc_command.specs.Explained.{TellsRun, Wrote, counts_text};
+
+use crate::answer::Ended;
+use crate::running::{cost, mean, run, steps};
+use crate::writing::{write_costs, write_drawn, write_exchanges, write_outcome, write_told};
+use command_words::RunWords;
+use exchange_counts::Counts;
+use pram_check::Program;
+use pram_syntax::Out;
+use program_texts::{Status, Stop};
+use std::alloc::Global;
+use std::sync::Wait;
+use std::thread::Threads;
+use write_rules::Outcome;
+
+// A run of which that was written.
+fn ended<'a>(written: Result<Status, Stop<'a>>, outcome: Outcome) -> Result<Ended, Stop<'a>>
+    ensures ok { IfOk written.entry (λ s. result ≡ Ok (record { status = s; outcome = outcome })) }
+    ensures err { IfErr written.entry (λ why. result ≡ Err why) }
+{
+    match written {
+        Ok(status) => Ok(Ended { status, outcome }),
+        Err(stop) => Err(stop),
+    }
+}
+
+/// The outcome of a program by its definition.
+pub(crate) fn tell_meaning<'a, O: Out>(
+    alloc: Global,
+    program: &Program,
+    input: &[i64],
+    bound: u32,
+    out: &mut O,
+) -> Result<Ended, Stop<'a>>
+    requires out { (O.Out.state out.old).failures < 2 ^ 62 }
+    requires program { IsAProgram program.now }
+    ensures told { TellsRun program.now input.now bound (O.Out.state out.old) (O.Out.state out.new) result }
+{
+    let outcome = mean(alloc, program, input, bound)?;
+    let written = write_outcome(out, program.layout(), &outcome);
+    ended(written, outcome)
+}
+
+/// What the run of a program costs, and its outcome.
+pub(crate) fn tell_costs<'a, O: Out>(
+    alloc: Global,
+    program: &Program,
+    input: &[i64],
+    words: RunWords<'a>,
+    out: &mut O,
+) -> Result<Ended, Stop<'a>>
+    requires out { (O.Out.state out.old).failures < 2 ^ 62 }
+    requires program { IsAProgram program.now }
+    ensures told { TellsRun program.now input.now words.entry.options.bound (O.Out.state out.old) (O.Out.state out.new) result }
+{
+    let (outcome, cost) = cost(alloc, program, input, words.options.bound, words.costs)?;
+    let written = write_costs(out, program.layout(), &outcome, &cost, words.costs);
+    ended(written, outcome)
+}
+
+/// The run of a program statement by statement, and its outcome.
+pub(crate) fn tell_steps<'a, O: Out>(
+    alloc: Global,
+    program: &Program,
+    input: &[i64],
+    words: RunWords<'a>,
+    out: &mut O,
+) -> Result<Ended, Stop<'a>>
+    requires out { (O.Out.state out.old).failures < 2 ^ 62 }
+    requires program { IsAProgram program.now }
+    ensures told { TellsRun program.now input.now words.entry.options.bound (O.Out.state out.old) (O.Out.state out.new) result }
+{
+    let (outcome, entries) = steps(alloc, program, input, words.options.bound)?;
+    let written = write_told(out, program.layout(), &outcome, &entries, words.steps);
+    ended(written, outcome)
+}
+
+/// The outcome of a program by workers.
+pub(crate) fn tell_run<'a, R: Threads + Wait + Sync, O: Out>(
+    rt: &R,
+    alloc: Global,
+    program: &Program,
+    input: &[i64],
+    words: RunWords<'a>,
+    out: &mut O,
+) -> Result<Ended, Stop<'a>>
+    requires out { (O.Out.state out.old).failures < 2 ^ 62 }
+    requires program { IsAProgram program.now }
+    ensures told { TellsRun program.now input.now words.entry.options.bound (O.Out.state out.old) (O.Out.state out.new) result }
+{
+    let (outcome, _counts) = run(rt, alloc, program, input, words.options, words.reserve)?;
+    let written = write_outcome(out, program.layout(), &outcome);
+    ended(written, outcome)
+}
+
+// The exchanges of a run, in words or drawn.
+fn write_counts<'a, O: Out>(
+    out: &mut O,
+    outcome: &Outcome,
+    counts: &Counts,
+    svg: bool,
+) -> Result<Status, Stop<'a>>
+    requires out { (O.Out.state out.old).failures < 2 ^ 62 }
+    ensures written { Wrote (status_of outcome.now) (counts_text svg counts.now) (O.Out.state out.old) (O.Out.state out.new) result }
+{
+    if svg {
+        write_drawn(out, outcome, counts)
+    } else {
+        write_exchanges(out, outcome, counts)
+    }
+}
+
+/// The exchanges of that run.
+pub(crate) fn tell_trace<'a, R: Threads + Wait + Sync, O: Out>(
+    rt: &R,
+    alloc: Global,
+    program: &Program,
+    input: &[i64],
+    words: RunWords<'a>,
+    out: &mut O,
+) -> Result<Ended, Stop<'a>>
+    requires out { (O.Out.state out.old).failures < 2 ^ 62 }
+    requires program { IsAProgram program.now }
+    ensures told { TellsRun program.now input.now words.entry.options.bound (O.Out.state out.old) (O.Out.state out.new) result }
+{
+    let (outcome, counts) = run(rt, alloc, program, input, words.options, words.reserve)?;
+    let written = write_counts(out, &outcome, &counts, words.svg);
+    ended(written, outcome)
+}
