@@ -1,0 +1,55 @@
+//! Facts as values of JSON.
+
+ghost use Rattle.std.specs.Prelude.{◌≡◌, IfOk};
+ghost use Rattle.serde_json.specs.View.{view};
+ghost use Rattle.json_lines.specs.Facts as facts;
+
+use itoa::Buffer;
+use serde_json::Value;
+use std::alloc::{AllocError, Global};
+
+/// A text by its bytes. Those that are no UTF-8 are replaced.
+pub(crate) fn letters_of(alloc: Global, bytes: &[u8]) -> Result<Value, AllocError>
+    ensures { IfOk result (λ v. view v ≡ facts.letters bytes.now) }
+{
+    let text = String::from_utf8_lossy(alloc, bytes)?;
+    Ok(Value::String(text))
+}
+
+/// A value of a program: a string, in decimal.
+pub fn value_of(alloc: Global, value: i64) -> Result<Value, AllocError>
+    ensures { IfOk result (λ v. view v ≡ facts.value value) }
+{
+    let mut digits = Buffer::new();
+    Value::try_from_str(alloc, digits.format(value))
+}
+
+/// A count that may come to 2^53 or more: a string, in decimal.
+pub(crate) fn large_of(alloc: Global, count: u128) -> Result<Value, AllocError>
+    ensures { IfOk result (λ v. view v ≡ facts.large count) }
+{
+    let mut digits = Buffer::new();
+    Value::try_from_str(alloc, digits.format(count))
+}
+
+/// Values of a program, in order.
+pub fn values_of(alloc: Global, values: &[i64]) -> Result<Value, AllocError>
+    ensures { IfOk result (λ v. view v ≡ facts.values values.now) }
+{
+    let mut list = Vec::new(alloc);
+    for value in values {
+        list.push(value_of(alloc, *value)?)?;
+    }
+    Ok(Value::Array(list))
+}
+
+/// Counts, in order.
+pub fn counts_of(alloc: Global, counts: &[u64]) -> Result<Value, AllocError>
+    ensures { IfOk result (λ v. view v ≡ facts.counts counts.now) }
+{
+    let mut list = Vec::new(alloc);
+    for count in counts {
+        list.push(Value::from(*count))?;
+    }
+    Ok(Value::Array(list))
+}

@@ -1,0 +1,3 @@
+pub mod DeclarationFacts
+pub mod EntryFacts
+pub mod Readable

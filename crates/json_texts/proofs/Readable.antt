@@ -1,0 +1,195 @@
+-- What is told can be read: it has no float, and nests five levels at most.
+use Rattle.std.proofs.Common.{ℕ, List, [], ◌∷◌, lit≤, map, take, drop}
+use Rattle.std.specs.Prelude.{Bool, true, false, ℤ, Option, Some, None, codes}
+use Rattle.json_lines.specs.Facts.{Field, object_of}
+use Rattle.json_lines.specs.Small.{IsReadable, IsSmall}
+use Rattle.json_lines.proofs.Small.{AreSmall, HasSmall, has_all, small_count, small_flag, small_large, small_letters}
+use Rattle.json_lines.proofs.Small.{small_list, small_map, small_object, small_value, small_values, small_word, smaller}
+use Rattle.pram_tokens.specs.declared.error.TextFault.{TextFault}
+use Rattle.pram_tokens.specs.declared.error.TextFault.TheVariants as text
+use Rattle.pram_names.specs.declared.fault.Cause.{Cause}
+use Rattle.pram_names.specs.declared.fault.Cause.TheVariants as cause
+use Rattle.pram_model.specs.Layout.{SharedEntry, size}
+use Rattle.pram_model.specs.declared.rule.Rule.{Rule}
+use Rattle.pram_check.specs.Checked.{Checked}
+use Rattle.write_rules.specs.declared.fault.Fault.{Fault}
+use Rattle.write_rules.specs.Verdict.{Verdict, Ended, Faulted, GoesOn}
+use Rattle.work_time.specs.declared.cost.Cost.{Cost}
+use Rattle.work_time.specs.declared.line_cost.LineCost.{LineCost}
+use Rattle.program_texts.specs.declared.from_text.Refusal.{Refusal}
+use Rattle.program_texts.specs.declared.from_text.Refusal.TheVariants as refusal
+use Rattle.program_texts.specs.declared.stop.Stop.{Stop}
+use Rattle.program_texts.specs.declared.stop.Stop.TheVariants as stop
+use Rattle.program_texts.specs.Stopped.{refusal_place}
+use Rattle.rule_comparison.specs.Compared.{finding_of, rules}
+use Rattle.rule_comparison.specs.declared.comparison.Comparison.{Comparison}
+use Rattle.rule_comparison.specs.declared.finding.Finding.{Finding}
+use Rattle.rule_comparison.specs.declared.finding.Finding.TheVariants as finding
+use Rattle.run_steps.specs.declared.change.Change.{Change}
+use Rattle.run_steps.specs.Entries.{Entry, Faulting, Ran}
+use Rattle.json_texts.specs.AcceptedFacts.{accepted_facts, accepted_fields}
+use Rattle.json_texts.specs.CostFacts.{bound_fields, cost_facts, cost_fields, line_facts, line_fields, round_fields}
+use Rattle.json_texts.specs.OutcomeFacts.{bounds_fields, entry_facts, fault_fields, memory_facts, outcome_facts, outcome_fields}
+use Rattle.json_texts.specs.RefusalFacts.{cause_fields, place_fields, reason_fields, stop_facts, stop_fields, text_fields}
+use Rattle.json_texts.specs.RuleFacts.{comparison_facts, finding_fields, rule_facts}
+use Rattle.json_texts.specs.StepFacts.{change_facts, step_facts, told_fields}
+
+-- ---- outcomes
+
+small_bounds : (n : ℕ) (bounds : Option (ℤ × ℤ)) → HasSmall n (bounds_fields bounds)
+small_bounds n None = tt
+small_bounds n (Some (low, high)) = (small_value n low, (small_value n high, tt))
+
+small_entry : (e : SharedEntry) (vs : List ℤ) → IsSmall 2 (entry_facts e vs)
+small_entry e vs =
+    small_object 1 ((codes "name", _) ∷ (codes "values", _) ∷ bounds_fields e.bounds)
+    (small_letters 1 e.name, (small_values 0 vs, small_bounds 1 e.bounds))
+
+small_memory : (layout : List SharedEntry) (memory : List ℤ) → AreSmall 2 (memory_facts layout memory)
+small_memory [] memory = tt
+small_memory (e ∷ es) memory = (small_entry e (take (size e.bounds) memory), small_memory es (drop (size e.bounds) memory))
+
+small_fault : (n : ℕ) (layout : List SharedEntry) (fault : Fault) → HasSmall n (fault_fields layout fault)
+small_fault n layout fault = (small_word n _, (small_letters n _, (small_count n fault.line, tt)))
+
+small_outcome : (layout : List SharedEntry) (v : Verdict) → HasSmall 3 (outcome_fields layout v)
+small_outcome layout (Ended output memory) =
+    (small_word 3 _, (small_values 2 output, (small_list 2 (memory_facts layout memory) (small_memory layout memory), tt)))
+small_outcome layout (Faulted fault output) = (small_word 3 _, (small_values 2 output, small_fault 3 layout fault))
+small_outcome layout (GoesOn output) = (small_word 3 _, (small_values 2 output, tt))
+
+readable : (fields : List Field) → HasSmall 3 fields → IsReadable (object_of fields)
+readable fields h = smaller 4 127 (object_of fields) (lit≤ tt) (small_object 3 fields h)
+
+pub readable_outcome : (layout : List SharedEntry) (v : Verdict) → IsReadable (outcome_facts layout v)
+readable_outcome layout v = readable (outcome_fields layout v) (small_outcome layout v)
+
+-- ---- accepted programs
+
+pub readable_accepted : (program : Checked) → IsReadable (accepted_facts program)
+readable_accepted program =
+    readable (accepted_fields program) (small_flag 3 true, (small_count 3 _, (small_count 3 _, (small_word 3 _, tt))))
+
+-- ---- refusals
+
+small_place : (source : List ℕ) (place : Option ℕ) → HasSmall 3 (place_fields source place)
+small_place source None = tt
+small_place source (Some at) = (small_count 3 at, (small_count 3 _, (small_count 3 _, tt)))
+
+small_text : (fault : TextFault) → HasSmall 3 (text_fields fault)
+small_text (text.NotAscii at) = (small_word 3 _, (small_word 3 _, tt))
+small_text text.TextTooLong = (small_word 3 _, (small_word 3 _, tt))
+small_text (text.BadToken at) = (small_word 3 _, (small_word 3 _, tt))
+small_text (text.Syntax at) = (small_word 3 _, (small_word 3 _, tt))
+small_text (text.TooDeep at) = (small_word 3 _, (small_word 3 _, tt))
+small_text text.OutOfMemory = (small_word 3 _, (small_word 3 _, tt))
+
+small_cause : (c : Cause) → HasSmall 3 (cause_fields c)
+small_cause cause.UnknownName = (small_word 3 _, (small_word 3 _, tt))
+small_cause cause.DoubleName = (small_word 3 _, (small_word 3 _, tt))
+small_cause cause.WrongKind = (small_word 3 _, (small_word 3 _, tt))
+small_cause cause.AssignedLoopVariable = (small_word 3 _, (small_word 3 _, tt))
+small_cause (cause.Limit l) = (small_word 3 _, (small_word 3 _, (small_word 3 _, tt)))
+
+small_reason : (r : Refusal) → HasSmall 3 (reason_fields r)
+small_reason (refusal.Text fault) = small_text fault
+small_reason (refusal.Program breach) = small_cause breach.cause
+small_reason refusal.InputTooLong = (small_word 3 _, (small_word 3 _, tt))
+small_reason refusal.BadMap = (small_word 3 _, (small_word 3 _, tt))
+small_reason refusal.BadWorkers = (small_word 3 _, (small_word 3 _, tt))
+small_reason refusal.OutOfMemory = (small_word 3 _, (small_word 3 _, tt))
+small_reason refusal.OutOfReserve = (small_word 3 _, (small_word 3 _, tt))
+
+small_stop : (source : List ℕ) (why : Stop) → HasSmall 3 (stop_fields source why)
+small_stop source (stop.Words message) = (small_word 3 _, (small_word 3 _, tt))
+small_stop source (stop.Number w) = (small_word 3 _, (small_word 3 _, tt))
+small_stop source (stop.Unreadable file) = (small_word 3 _, (small_word 3 _, tt))
+small_stop source (stop.Refused r) =
+    has_all 3 (reason_fields r) (place_fields source (refusal_place r)) (small_reason r) (small_place source (refusal_place r))
+small_stop source (stop.NotVerified at reason) = (small_word 3 _, (small_word 3 _, (small_count 3 at, (small_word 3 _, tt))))
+small_stop source (stop.BadListing at) = (small_word 3 _, (small_word 3 _, small_place source (Some at)))
+small_stop source stop.WriteFailed = (small_word 3 _, (small_word 3 _, tt))
+
+pub readable_stop : (source : List ℕ) (why : Stop) → IsReadable (stop_facts source why)
+readable_stop source why = readable (stop_fields source why) (small_stop source why)
+
+-- ---- costs
+
+small_bound : (v : Verdict) (c : Cost) → HasSmall 3 (bound_fields v c)
+small_bound (Ended output memory) c = (small_large 3 c.most_exchanges, tt)
+small_bound (Faulted fault output) c = tt
+small_bound (GoesOn output) c = (small_large 3 c.most_exchanges, tt)
+
+small_rounds : (c : Cost) (schedule : Option ℕ) → HasSmall 3 (round_fields c schedule)
+small_rounds c None = tt
+small_rounds c (Some q) = (small_count 3 q, (small_large 3 c.rounds, (small_large 3 c.most_rounds, tt)))
+
+small_line : (c : LineCost) → IsSmall 1 (line_facts c)
+small_line c =
+    small_object 0 ((codes "line", _) ∷ (codes "times", _) ∷ (codes "work", _) ∷ (codes "reads", _) ∷ (codes "writes", _) ∷ [])
+    (small_count 0 c.line, (small_count 0 c.times, (small_large 0 c.work, (small_large 0 c.reads, (small_large 0 c.writes, tt)))))
+
+small_lines : (c : Cost) (lines : Bool) → HasSmall 3 (line_fields c lines)
+small_lines c true =
+    (smaller 2 3 _ (lit≤ tt) (small_list 1 (map line_facts c.lines.items) (small_map 1 line_facts small_line c.lines.items)), tt)
+small_lines c false = tt
+
+pub readable_cost : (layout : List SharedEntry) (v : Verdict) (c : Cost) (schedule : Option ℕ) (lines : Bool) →
+    IsReadable (cost_facts layout v c schedule lines)
+readable_cost layout v c schedule lines = readable (cost_fields layout v c schedule lines) (
+  small_count 3 c.time,
+  (
+    small_large 3 c.work,
+    (
+      small_count 3 c.width,
+      (
+        small_large 3 c.reads,
+        (
+          small_large 3 c.writes,
+          has_all 3 (bound_fields v c) _ (small_bound v c) (has_all 3 (round_fields c schedule) _ (small_rounds c schedule)
+              (has_all 3 (line_fields c lines) (outcome_fields layout v) (small_lines c lines) (small_outcome layout v))),
+        ),
+      ),
+    ),
+  ),
+)
+
+-- ---- rules
+
+small_finding : (layout : List SharedEntry) (f : Finding) → HasSmall 1 (finding_fields layout f)
+small_finding layout finding.Same = (small_word 1 _, (small_word 1 _, tt))
+small_finding layout finding.Other = (small_word 1 _, (small_word 1 _, tt))
+small_finding layout (finding.Faulted fault) = (small_word 1 _, small_fault 1 layout fault)
+small_finding layout finding.GoesOn = (small_word 1 _, tt)
+
+small_rule : (c : Comparison) (r : Rule) → IsSmall 2 (rule_facts c r)
+small_rule c r =
+    small_object 1 ((codes "rule", _) ∷ finding_fields c.layout (finding_of c r)) (small_word 1 _, small_finding c.layout (finding_of c r))
+
+pub readable_comparison : (c : Comparison) → IsReadable (comparison_facts c)
+readable_comparison c = readable ((codes "rules", _) ∷ [])
+    (small_list 2 (map (rule_facts c) rules) (small_map 2 (rule_facts c) (small_rule c) rules), tt)
+
+-- ---- steps
+
+small_change : (layout : List SharedEntry) (d : Change) → IsSmall 1 (change_facts layout d)
+small_change layout d =
+    small_object 0 ((codes "cell", _) ∷ (codes "before", _) ∷ (codes "after", _) ∷ [])
+    (small_letters 0 _, (small_value 0 d.before, (small_value 0 d.after, tt)))
+
+small_told : (layout : List SharedEntry) (e : Entry) → HasSmall 3 (told_fields layout e)
+small_told layout (Ran at k ds) = (
+  small_count 3 at,
+  (
+    small_count 3 k,
+    (
+      smaller 2 3 _ (lit≤ tt)
+          (small_list 1 (map (change_facts layout) ds) (small_map 1 (change_facts layout) (small_change layout) ds)),
+      tt,
+    ),
+  ),
+)
+small_told layout (Faulting fault who) = (small_values 2 who, small_fault 3 layout fault)
+
+pub readable_step : (layout : List SharedEntry) (number : ℕ) (e : Entry) → IsReadable (step_facts layout number e)
+readable_step layout number e = readable ((codes "step", _) ∷ told_fields layout e) (small_count 3 number, small_told layout e)

@@ -1,0 +1,8 @@
+use Rattle.std.proofs.Common.{◌≡◌, map, take}
+use Rattle.serde_json.specs.View.{view}
+use Rattle.rule_comparison.specs.Compared.{rules}
+use Rattle.json_texts.specs.RuleFacts.{rule_facts}
+use Rattle.json_texts.proofs.rules.findings.Given as goal
+
+abbrev pub invariant-loop-rule : goal.invariant-loop-rule
+invariant-loop-rule l = map view l.list.items ≡ map (rule_facts l.comparison) (take l.rule-index rules)

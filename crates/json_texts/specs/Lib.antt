@@ -1,0 +1,6 @@
+pub mod OutcomeFacts
+pub mod AcceptedFacts
+pub mod RefusalFacts
+pub mod CostFacts
+pub mod RuleFacts
+pub mod StepFacts

@@ -1,0 +1,80 @@
+//! Faults.
+
+ghost use Rattle.std.specs.Prelude.{◌≡◌, ◌<◌, ◌^◌, IfOk, OnOk, Some};
+ghost use Rattle.json_lines.specs.Facts.{with_fields};
+ghost use Rattle.json_lines.specs.Shown.{shown};
+ghost use Rattle.text_out.specs.Out.{Writes};
+ghost use Rattle.program_texts.specs.Shown as texts;
+ghost use Rattle.json_texts.specs.OutcomeFacts as spec;
+
+use itoa::Buffer as Digits;
+use json_lines::Object;
+use pram_syntax::{Buffer, Layout, Out, WriteFault};
+use pram_values::{Kind, Place};
+use program_texts::write_cell;
+use std::alloc::{AllocError, Global};
+use write_rules::Fault;
+
+fn kind_word(kind: Kind) -> &'static str
+    ensures { result.now ≡ texts.kind_text kind }
+{
+    match kind {
+        Kind::Overflow => "overflow",
+        Kind::DivideByZero => "divide-by-zero",
+        Kind::OutOfRange => "out-of-range",
+        Kind::TooWide => "too-wide",
+        Kind::ReadConflict => "read-conflict",
+        Kind::WriteConflict => "write-conflict",
+    }
+}
+
+fn write_place<W: Out>(out: &mut W, layout: &Layout, place: Place) -> Result<(), WriteFault>
+    requires counted { (W.Out.state out.old).failures < 2 ^ 63 }
+    ensures written { Writes (W.Out.state out.old) (W.Out.state out.new) (texts.place_text layout.now place) result }
+{
+    match place {
+        Place::All => out.write_all(b"all"),
+        Place::Processor(index) => {
+            let mut digits = Digits::new();
+            out.write_parts(&[b"processor ", digits.format(index).as_bytes()])
+        }
+        Place::Cell(cell) => write_cell(out, layout, cell as usize),
+    }
+}
+
+// A buffer with the text of a place.
+fn place_text(alloc: Global, layout: &Layout, place: Place) -> Result<Buffer, AllocError>
+    ensures { IfOk result (λ text. (⟦<Buffer as Out>⟧.state text).taken ≡ Some (texts.place_text layout.now place)) }
+{
+    let mut text = Buffer::new(alloc);
+    match write_place(&mut text, layout, place) {
+        Ok(()) => Ok(text),
+        Err(WriteFault) => Err(AllocError),
+    }
+}
+
+/// A buffer with the text of a cell.
+pub(crate) fn cell_text(alloc: Global, layout: &Layout, cell: usize) -> Result<Buffer, AllocError>
+    ensures { IfOk result (λ text. (⟦<Buffer as Out>⟧.state text).taken ≡ Some (texts.cell_text layout.now cell)) }
+{
+    let mut text = Buffer::new(alloc);
+    match write_cell(&mut text, layout, cell) {
+        Ok(()) => Ok(text),
+        Err(WriteFault) => Err(AllocError),
+    }
+}
+
+/// Puts a fault: its kind, its place and its line.
+pub(crate) fn put_fault(
+    alloc: Global,
+    object: &mut Object,
+    layout: &Layout,
+    fault: &Fault,
+) -> Result<(), AllocError>
+    ensures { OnOk result (shown object.new ≡ with_fields (spec.fault_fields layout.now fault.now) (shown object.old)) }
+{
+    let place = place_text(alloc, layout, fault.place)?;
+    object.put_word("kind", kind_word(fault.kind))?;
+    object.put_letters("place", place.bytes())?;
+    object.put_count("line", u64::from(fault.line))
+}

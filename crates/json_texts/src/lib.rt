@@ -1,0 +1,19 @@
+//! What the program's commands tell, as JSON: outcomes, accepted programs, refusals, costs, comparisons and entries.
+#![tactic(auto)]
+
+mod accepted;
+mod cost;
+mod fault;
+mod memory;
+mod outcome;
+mod refusal;
+mod rule;
+mod rules;
+mod steps;
+
+pub use accepted::json_accepted;
+pub use cost::json_cost;
+pub use outcome::json_outcome;
+pub use refusal::{json_stop, out_of_memory_line};
+pub use rules::json_comparison;
+pub use steps::json_steps;

@@ -1,0 +1,72 @@
+//! The values of cells.
+
+ghost use Rattle.std.specs.Prelude.{◌≡◌, IfOk, OnOk, drop, map, take};
+ghost use Rattle.serde_json.specs.View.{view};
+ghost use Rattle.json_lines.specs.Facts.{with_fields};
+ghost use Rattle.json_lines.specs.Shown.{shown};
+ghost use Rattle.json_texts.specs.OutcomeFacts as spec;
+
+use json_lines::{Object, Value};
+use pram_syntax::Layout;
+use std::alloc::{AllocError, Global};
+
+// The bounds of an array.
+fn put_bounds(object: &mut Object, bounds: &Option<(i64, i64)>) -> Result<(), AllocError>
+    ensures { OnOk result (shown object.new ≡ with_fields (spec.bounds_fields bounds.now) (shown object.old)) }
+{
+    match bounds {
+        None => Ok(()),
+        Some((low, high)) => {
+            object.put_value("low", *low)?;
+            object.put_value("high", *high)
+        }
+    }
+}
+
+// A declaration, with the values of its cells.
+fn entry_of(
+    alloc: Global,
+    name: &[u8],
+    bounds: &Option<(i64, i64)>,
+    values: &[i64],
+) -> Result<Value, AllocError>
+    ensures { IfOk result (λ v. view v ≡ spec.entry_facts record { name = name.now; bounds = bounds.now } values.now) }
+{
+    let mut object = Object::new(alloc);
+    object.put_letters("name", name)?;
+    object.put_values("values", values)?;
+    put_bounds(&mut object, bounds)?;
+    Ok(object.into_value())
+}
+
+// The first values, as many as that, and the others.
+fn parted(values: &[i64], count: usize) -> (&[i64], &[i64])
+    ensures first { result.0.now ≡ take count values.now }
+    ensures others { result.1.now ≡ drop count values.now }
+{
+    if count < values.len() {
+        values.split_at(count)
+    } else {
+        (values, &[])
+    }
+}
+
+/// Each declaration with the values of its cells, in order.
+pub(crate) fn memory_of(
+    alloc: Global,
+    layout: &Layout,
+    memory: &[i64],
+) -> Result<Vec<Value>, AllocError>
+    ensures { IfOk result (λ list. map view list.items ≡ spec.memory_facts layout.now memory.now) }
+{
+    let mut list = Vec::new(alloc);
+    let mut rest = memory;
+    for i in 0..layout.len() {
+        let (values, behind) = parted(rest, layout.size(i) as usize);
+        let bounds = layout.bounds(i);
+        let entry = entry_of(alloc, layout.name(i), &bounds, values)?;
+        list.push(entry)?;
+        rest = behind;
+    }
+    Ok(list)
+}

@@ -1,0 +1,197 @@
+//! Refusals.
+
+ghost use Rattle.std.specs.Prelude.{◌≡◌, ℕ, List, ◌∷◌, ◌++◌, [], IfOk, OnOk, string_bytes};
+ghost use Rattle.json_lines.specs.Facts.{with_fields};
+ghost use Rattle.json_lines.specs.Lines.{IsJson};
+ghost use Rattle.json_lines.specs.Shown.{shown};
+ghost use Rattle.program_texts.specs.Stopped as texts;
+ghost use Rattle.json_texts.specs.RefusalFacts as spec;
+
+use json_lines::{Object, line_of};
+use pram_check::{Breach, Cause, Limit, Spot};
+use pram_syntax::TextFault;
+use program_texts::{Refusal, Stop};
+use std::alloc::{AllocError, Global};
+use text_places::place_of;
+
+// The number and the name.
+fn put_named(object: &mut Object, number: &str, name: &str) -> Result<(), AllocError>
+    ensures { OnOk result (shown object.new ≡ with_fields (spec.named number.now name.now) (shown object.old)) }
+{
+    object.put_word("refused", number)?;
+    object.put_word("name", name)
+}
+
+// The offset of a place, its line and its column.
+fn put_offset(object: &mut Object, source: &[u8], offset: u32) -> Result<(), AllocError>
+    ensures { OnOk result (shown object.new ≡ with_fields (spec.place_fields source.now (Some offset)) (shown object.old)) }
+{
+    let place = place_of(source, offset as usize);
+    object.put_count("offset", u64::from(offset))?;
+    object.put_count("line", place.line as u64)?;
+    object.put_count("column", place.column as u64)
+}
+
+fn put_place(object: &mut Object, source: &[u8], place: Option<u32>) -> Result<(), AllocError>
+    ensures { OnOk result (shown object.new ≡ with_fields (spec.place_fields source.now place) (shown object.old)) }
+{
+    match place {
+        None => Ok(()),
+        Some(offset) => put_offset(object, source, offset),
+    }
+}
+
+fn put_text_fault(object: &mut Object, fault: TextFault) -> Result<(), AllocError>
+    ensures { OnOk result (shown object.new ≡ with_fields (spec.text_fields fault) (shown object.old)) }
+{
+    match fault {
+        TextFault::NotAscii(_) => put_named(object, "E1", "NotAscii"),
+        TextFault::TextTooLong => put_named(object, "E2", "TextTooLong"),
+        TextFault::BadToken(_) => put_named(object, "E3", "BadToken"),
+        TextFault::Syntax(_) => put_named(object, "E4", "Syntax"),
+        TextFault::TooDeep(_) => put_named(object, "E5", "TooDeep"),
+        TextFault::OutOfMemory => put_named(object, "E16", "OutOfMemory"),
+    }
+}
+
+fn limit_word(limit: Limit) -> &'static str
+    ensures { result.now ≡ spec.limit_word limit }
+{
+    match limit {
+        Limit::Cells => "cells",
+        Limit::Procs => "procs",
+        Limit::Bounds => "bounds",
+        Limit::Reads => "reads",
+        Limit::Tokens => "tokens",
+    }
+}
+
+fn put_limit(object: &mut Object, limit: Limit) -> Result<(), AllocError>
+    ensures { OnOk result (shown object.new ≡ with_fields (spec.cause_fields (Cause.Limit limit)) (shown object.old)) }
+{
+    put_named(object, "E10", "Limit")?;
+    object.put_word("limit", limit_word(limit))
+}
+
+fn put_cause(object: &mut Object, cause: Cause) -> Result<(), AllocError>
+    ensures { OnOk result (shown object.new ≡ with_fields (spec.cause_fields cause) (shown object.old)) }
+{
+    match cause {
+        Cause::UnknownName => put_named(object, "E6", "UnknownName"),
+        Cause::DoubleName => put_named(object, "E7", "DoubleName"),
+        Cause::WrongKind => put_named(object, "E8", "WrongKind"),
+        Cause::AssignedLoopVariable => put_named(object, "E9", "AssignedLoopVariable"),
+        Cause::Limit(limit) => put_limit(object, limit),
+    }
+}
+
+fn put_reason(object: &mut Object, refusal: Refusal) -> Result<(), AllocError>
+    ensures { OnOk result (shown object.new ≡ with_fields (spec.reason_fields refusal) (shown object.old)) }
+{
+    match refusal {
+        Refusal::Text(fault) => put_text_fault(object, fault),
+        Refusal::Program(breach) => put_cause(object, breach.cause),
+        Refusal::InputTooLong => put_named(object, "E11", "InputTooLong"),
+        Refusal::BadMap => put_named(object, "E12", "BadMap"),
+        Refusal::BadWorkers => put_named(object, "E13", "BadWorkers"),
+        Refusal::OutOfMemory => put_named(object, "E16", "OutOfMemory"),
+        Refusal::OutOfReserve => put_named(object, "E18", "OutOfReserve"),
+    }
+}
+
+fn text_place(fault: TextFault) -> Option<u32>
+    ensures { result ≡ texts.text_place fault }
+{
+    match fault {
+        TextFault::NotAscii(at)
+        | TextFault::BadToken(at)
+        | TextFault::Syntax(at)
+        | TextFault::TooDeep(at) => Some(at),
+        TextFault::TextTooLong | TextFault::OutOfMemory => None,
+    }
+}
+
+fn breach_place(breach: Breach) -> Option<u32>
+    ensures { result ≡ texts.cause_place breach.spot breach.cause }
+{
+    match (breach.cause, breach.spot) {
+        (Cause::Limit(_), _) | (_, Spot::TextEnd) => None,
+        (_, Spot::Offset(at)) => Some(at),
+    }
+}
+
+// The offset of a refusal that has one.
+fn offset_of(refusal: Refusal) -> Option<u32>
+    ensures { result ≡ texts.refusal_place refusal }
+{
+    match refusal {
+        Refusal::Text(fault) => text_place(fault),
+        Refusal::Program(breach) => breach_place(breach),
+        Refusal::InputTooLong => None,
+        Refusal::BadMap => None,
+        Refusal::BadWorkers => None,
+        Refusal::OutOfMemory => None,
+        Refusal::OutOfReserve => None,
+    }
+}
+
+fn put_refusal(object: &mut Object, source: &[u8], refusal: Refusal) -> Result<(), AllocError>
+    ensures { OnOk result (shown object.new ≡ with_fields (spec.stop_fields source.now (Stop.Refused refusal)) (shown object.old)) }
+{
+    put_reason(object, refusal)?;
+    put_place(object, source, offset_of(refusal))
+}
+
+fn put_unverified(object: &mut Object, at: u32, reason: &str) -> Result<(), AllocError>
+    ensures { OnOk result (shown object.new ≡ with_fields (spec.unverified_fields at reason.now) (shown object.old)) }
+{
+    put_named(object, "E14", "NotVerified")?;
+    object.put_count("instruction", u64::from(at))?;
+    object.put_word("reason", reason)
+}
+
+fn put_bad_listing(object: &mut Object, source: &[u8], at: u32) -> Result<(), AllocError>
+    ensures { OnOk result (shown object.new ≡ with_fields (spec.stop_fields source.now (Stop.BadListing at)) (shown object.old)) }
+{
+    put_named(object, "E15", "BadListing")?;
+    put_offset(object, source, at)
+}
+
+// A word of the command line, or a file, that was refused.
+fn put_about(object: &mut Object, number: &str, name: &str, word: &str) -> Result<(), AllocError>
+    ensures { OnOk result (shown object.new ≡ with_fields (spec.about number.now name.now word.now) (shown object.old)) }
+{
+    object.put_word("refused", number)?;
+    object.put_word(name, word)
+}
+
+fn put_stop(object: &mut Object, source: &[u8], stop: &Stop<'_>) -> Result<(), AllocError>
+    ensures { OnOk result (shown object.new ≡ with_fields (spec.stop_fields source.now stop.now) (shown object.old)) }
+{
+    match stop {
+        Stop::Words(message) => put_about(object, "P1", "message", message.as_str()),
+        Stop::Number(word) => put_about(object, "P1", "word", word),
+        Stop::Unreadable(file) => put_about(object, "P2", "file", file),
+        Stop::Refused(refusal) => put_refusal(object, source, *refusal),
+        Stop::NotVerified(at, reason) => put_unverified(object, *at, reason),
+        Stop::BadListing(at) => put_bad_listing(object, source, *at),
+        Stop::WriteFailed => put_named(object, "E17", "WriteFailed"),
+    }
+}
+
+/// Why a call stops, on a line: `{"column":7,"line":4,"name":"UnknownName","offset":57,"refused":"E6"}`. The text is the one that was
+/// refused; where the refusal has no place in a text it makes no difference.
+pub fn json_stop(alloc: Global, source: &[u8], stop: &Stop<'_>) -> Result<String, AllocError>
+    ensures json { IfOk result (λ text. IsJson (spec.stop_facts source.now stop.now ∷ []) (string_bytes text)) }
+{
+    let mut object = Object::new(alloc);
+    put_stop(&mut object, source, stop)?;
+    line_of(alloc, &object.into_value())
+}
+
+/// The line of a call that stops where memory was refused (E16). It takes no memory.
+pub fn out_of_memory_line() -> &'static [u8]
+    ensures json { (source : List ℕ) → IsJson (spec.stop_facts source (Stop.Refused Refusal.OutOfMemory) ∷ []) result.now }
+{
+    b"{\"name\":\"OutOfMemory\",\"refused\":\"E16\"}\n"
+}
