@@ -1,0 +1,10 @@
+//! Which tokens could stand at a place of a text, and how they are told.
+#![tactic(auto)]
+
+mod asking;
+mod choice;
+mod writing;
+
+pub use asking::choices_behind;
+pub use choice::Choice;
+pub use writing::{write_choice, write_choices};
