@@ -60,7 +60,7 @@ only_rules front true no_name could = (could, no_name)
 only_rules front false no_name never = λ both. never both.0
 
 -- the token of each kind is one that a text can have
-real_sample : (k : Choice) → IsReal (sample k)
+pub real_sample : (k : Choice) → IsReal (sample k)
 real_sample choice.Name = record { letter = refl; words = refl; no_keyword = refl }
 real_sample choice.Rule = record { letter = refl; words = refl; no_keyword = refl }
 real_sample choice.Number = record { no_sign = search rules; bounded = search rules }

@@ -1,13 +1,14 @@
 -- Which kinds of tokens could stand at a place, said by the grammar alone.
-use Rattle.std.specs.Prelude.{◌≡◌, ℕ, Bool, true, false, List, [], ◌∷◌, ◌++◌, Result, Ok, Err}
+use Rattle.std.specs.Prelude.{◌≡◌, ◌↔◌, ℕ, Bool, true, false, List, [], ◌∷◌, ◌++◌, Result, Ok, Err}
 use Rattle.pram_tokens.specs.declared.error.LexError.{LexError}
 use Rattle.pram_tokens.specs.declared.error.LexError.TheVariants.{OutOfMemory, BadToken}
 use Rattle.pram_tokens.specs.declared.token.Token.{Token}
+use Rattle.pram_tokens.specs.Tokens.{IsReal}
 use Rattle.pram_tokens.specs.Scanning.{Cut, cut_of}
 use Rattle.pram_syntax.specs.Program.{Begins, limit}
 use Rattle.token_choices.specs.declared.choice.Choice.{Choice}
 use Rattle.token_choices.specs.declared.choice.Choice.TheVariants as choice
-use Rattle.token_choices.specs.Kinds.{all_choices, sample}
+use Rattle.token_choices.specs.Kinds.{IsOf, all_choices, sample}
 
 -- the answer to whether something is so
 abbrev pub Decides : Bool → Type 0 → Type 0
@@ -21,6 +22,10 @@ CouldStand front t = Begins limit limit (front ++ t ∷ [])
 -- a rule's word could stand there, and no other name
 abbrev pub OnlyRules : List Token → Type 0
 OnlyRules front = CouldStand front (sample choice.Rule) × (CouldStand front (sample choice.Name) → ⊥)
+
+-- One token of a kind speaks for each of them: where it could stand, so could they.
+abbrev pub SamplesSpeak : Type 0
+SamplesSpeak = (front : List Token) (k : Choice) (t : Token) → IsReal t → IsOf k t → CouldStand front t ↔ CouldStand front (sample k)
 
 -- A token of the kind could stand there. Rules' words are names, and told as such where any name could.
 abbrev pub IsTold : List Token → Choice → Type 0

@@ -1,5 +1,7 @@
 -- The kinds of tokens: names, the rules' words, numbers, and each keyword and symbol of the language.
-use Rattle.std.specs.Prelude.{ℕ, List, ◌∷◌, ◌++◌, codes, map, pos}
+use Rattle.std.specs.Prelude.{◌≡◌, true, false, ℕ, List, ◌∷◌, ◌++◌, codes, map, pos}
+use Rattle.pram_model.specs.Names.{is_one_of}
+use Rattle.pram_model.specs.Rules.{rule_words}
 use Rattle.pram_tokens.specs.declared.token.Location.{Location}
 use Rattle.pram_tokens.specs.declared.token.Token.{Token}
 use Rattle.pram_tokens.specs.declared.token.Token.TheVariants as token
@@ -25,7 +27,15 @@ name_token text = token.Name (record { text = text; location = start })
 abbrev pub fixed_token : Fixed → Token
 fixed_token f = token_of f start
 
--- a token of each kind, in whose place each other one of the kind could stand
+-- the tokens of a kind
+abbrev pub IsOf : Choice → Token → Type 0
+IsOf choice.Name (token.Name x) = is_one_of rule_words x.text ≡ false
+IsOf choice.Rule (token.Name x) = is_one_of rule_words x.text ≡ true
+IsOf choice.Number (token.Number n) = Unit {0}
+IsOf (choice.Fixed f) t = (place : Location) × (t ≡ token_of f place)
+IsOf _ _ = ⊥
+
+-- one of each kind
 abbrev pub sample : Choice → Token
 sample choice.Name = name_token (codes "x")
 sample choice.Rule = name_token (codes "crew")

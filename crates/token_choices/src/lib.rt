@@ -3,6 +3,7 @@
 
 mod asking;
 mod choice;
+pub mod law;
 mod writing;
 
 pub use asking::choices_behind;
