@@ -13,7 +13,7 @@ use Rattle.scope_names.specs.declared.known.Sort.TheVariants as sort
 use Rattle.text_places.specs.Excerpts.{excerpt}
 use Rattle.diagnoses.specs.declared.source.Source.{Source}
 use Rattle.diagnoses.specs.Places.{quoted, token_at}
-use Rattle.diagnoses.specs.Remarks.{Remark, Nothing, Nearest, Declared}
+use Rattle.diagnoses.specs.Remarks.{Remark, Nothing, Nearest, Declared, Expected}
 
 abbrev pub sort_text : Sort → List ℕ
 sort_text sort.Cell = codes "a shared cell"
@@ -68,6 +68,7 @@ abbrev pub remarked : List ℕ → Cause → Remark → List ℕ
 remarked word c Nothing = bare word c
 remarked word c (Nearest name) = codes " is not declared here; did you mean \"" ++ (name ++ codes "\"?\n")
 remarked word c (Declared s line) = declared_text c s line
+remarked word c (Expected found) = bare word c
 
 abbrev pub limit_sentence : Limit → List ℕ
 limit_sentence limit.Cells = codes "with this the program has more than 1048576 shared cells, the most that there may be\n"

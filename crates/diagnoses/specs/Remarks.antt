@@ -1,5 +1,6 @@
--- What there is to say of a name that is wrong: which name was meant, or as what and where it is declared.
-use Rattle.std.specs.Prelude.{◌≡◌, ◌⊎◌, ℕ, List, Option, Some, None}
+-- What there is to say of a name that is wrong: which name was meant, or as what and where it is declared; and of a token, what could stand
+-- in its place.
+use Rattle.std.specs.Prelude.{◌≡◌, ◌⊎◌, ℕ, List, Option, Some, None, take}
 use Rattle.pram_names.specs.declared.fault.Cause.{Cause}
 use Rattle.pram_names.specs.declared.fault.Cause.TheVariants as cause
 use Rattle.pram_names.specs.declared.fault.Spot.{Spot}
@@ -9,6 +10,8 @@ use Rattle.pram_syntax.specs.Program.{ProgramTree}
 use Rattle.scope_names.specs.InScope.{Known, names_at}
 use Rattle.scope_names.specs.Nearness.{named, nearest}
 use Rattle.scope_names.specs.declared.known.Sort.{Sort}
+use Rattle.token_choices.specs.declared.choice.Choice.{Choice}
+use Rattle.token_choices.specs.Choices.{AreChoicesBehind}
 use Rattle.diagnoses.specs.declared.remark as rust
 use Rattle.diagnoses.specs.declared.remark.Remark.TheVariants as variant
 use Rattle.diagnoses.specs.Places.{token_at}
@@ -17,11 +20,13 @@ pub data Remark : Type 0 where
   Nothing : Remark
   Nearest : List ℕ → Remark
   Declared : Sort → ℕ → Remark
+  Expected : List Choice → Remark
 
 abbrev pub remark_is : rust.Remark.Remark → Remark
 remark_is variant.Nothing = Nothing
 remark_is (variant.Nearest name) = Nearest name.items
 remark_is (variant.Declared s line) = Declared s line
+remark_is (variant.Expected found) = Expected found.items
 
 -- the name that was meant, if there is one
 abbrev pub meant : Option Known → Remark
@@ -52,3 +57,7 @@ remark_of text tree b = remark_at text tree b.spot b.cause
 -- what is said, or nothing where memory was refused
 abbrev pub IsRemark : (text : List ℕ) → ProgramTree → Breach → Remark → Type 0
 IsRemark text tree b r = (r ≡ remark_of text tree b) ⊎ (r ≡ Nothing)
+
+-- the kinds of tokens that could stand at a place, behind what stands before it, or nothing where memory was refused
+abbrev pub IsExpectation : (text : List ℕ) → ℕ → Remark → Type 0
+IsExpectation text at r = ((found : List Choice) × (r ≡ Expected found) × AreChoicesBehind (take at text) found) ⊎ (r ≡ Nothing)

@@ -2,6 +2,7 @@
 use Rattle.std.specs.Prelude.{◌≡◌, ℕ, if◌then◌else◌, List, [], ◌++◌, codes, decimal}
 use Rattle.pram_model.specs.Names.{same_text}
 use Rattle.pram_tokens.specs.declared.error.TextFault.{TextFault}
+use Rattle.pram_tokens.specs.declared.error.TextFault.TheVariants as fault
 use Rattle.pram_names.specs.declared.fault.Breach.{Breach}
 use Rattle.pram_syntax.specs.Program.{ProgramTree}
 use Rattle.pram_parser.specs.Text.{IsTextOf}
@@ -13,15 +14,15 @@ use Rattle.program_texts.specs.declared.stop.Stop.TheVariants as stop
 use Rattle.diagnoses.specs.declared.source.Source.{Source}
 use Rattle.diagnoses.specs.declared.about.About.{About}
 use Rattle.diagnoses.specs.declared.about.About.TheVariants as about
-use Rattle.diagnoses.specs.Remarks.{Remark, IsRemark, Nothing}
+use Rattle.diagnoses.specs.Remarks.{Remark, IsExpectation, IsRemark, Nothing}
 use Rattle.diagnoses.specs.TextFaults.{no_memory, text_diagnosis}
 use Rattle.diagnoses.specs.Breaches.{breach_diagnosis}
 
 -- a text that is refused; where it isn't at hand nothing is said
-abbrev pub of_text : TextFault → About → List ℕ
-of_text f about.Nothing = []
-of_text f (about.Text s) = text_diagnosis s f
-of_text f (about.Values values cells) = []
+abbrev pub of_text : TextFault → About → Remark → List ℕ
+of_text f about.Nothing r = []
+of_text f (about.Text s) r = text_diagnosis s f r
+of_text f (about.Values values cells) r = []
 
 -- a program that is refused
 abbrev pub of_program : Breach → About → Remark → List ℕ
@@ -39,7 +40,7 @@ of_input (about.Text s) = []
 of_input (about.Values values cells) = too_many values cells
 
 abbrev pub of_refusal : Refusal → About → Remark → List ℕ
-of_refusal (refusal.Text f) a r = of_text f a
+of_refusal (refusal.Text f) a r = of_text f a r
 of_refusal (refusal.Program b) a r = of_program b a r
 of_refusal refusal.InputTooLong a r = of_input a
 of_refusal refusal.BadMap a r = codes "a map affine:A,B wants an odd A, so that no two cells have one place\n"
@@ -75,7 +76,7 @@ reason_sentence word =
 abbrev pub of_code : ℕ → List ℕ → List ℕ
 of_code at word = codes "instruction " ++ (decimal at ++ (codes ": " ++ reason_sentence word))
 
--- what is said behind the line, by what is known besides, and by what there is to say of a name
+-- what is said behind the line, by what is known besides, and by what there is to say of a name or of a token
 abbrev pub stop_diagnosis : Stop → About → Remark → List ℕ
 stop_diagnosis (stop.Words text) a r = []
 stop_diagnosis (stop.Number word) a r = []
@@ -91,6 +92,13 @@ IsRemarkIn b about.Nothing r = r ≡ Nothing
 IsRemarkIn b (about.Text s) r = (tree : ProgramTree) → IsTextOf s.bytes.items tree → IsRemark s.bytes.items tree b r
 IsRemarkIn b (about.Values values cells) r = r ≡ Nothing
 
+-- and of a token with which no program goes on
+abbrev pub IsExpectationIn : ℕ → About → Remark → Type 0
+IsExpectationIn at about.Nothing r = r ≡ Nothing
+IsExpectationIn at (about.Text s) r = IsExpectation s.bytes.items at r
+IsExpectationIn at (about.Values values cells) r = r ≡ Nothing
+
 abbrev pub HasRemark : Stop → About → Remark → Type 0
 HasRemark (stop.Refused (refusal.Program b)) a r = IsRemarkIn b a r
+HasRemark (stop.Refused (refusal.Text (fault.Syntax at))) a r = IsExpectationIn at a r
 HasRemark _ a r = r ≡ Nothing

@@ -123,6 +123,7 @@ fn write_remarked<W: Out>(
             b"\"?\n",
         ]),
         Remark::Declared(sort, line) => write_declared(out, cause, *sort, *line),
+        Remark::Expected(_) => out.write_all(bare(word, cause)),
     }
 }
 

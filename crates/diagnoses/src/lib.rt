@@ -15,7 +15,7 @@ pub use about::About;
 pub use breaches::write_breach;
 pub use fault_text::{write_fault_sentence, write_run_fault};
 pub use met::who_met;
-pub use remark::{Remark, remark_of};
+pub use remark::{Remark, expected_at, remark_of};
 pub use source::{Kind, Source};
 pub use stops::write_stop_diagnosis;
 pub use text_faults::write_text_fault;

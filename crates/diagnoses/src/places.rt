@@ -54,8 +54,8 @@ fn word_len(text: &[u8]) -> usize
     end
 }
 
-// The first bytes of a text, as many as that, or all of them.
-fn front(text: &[u8], count: usize) -> &[u8]
+/// The first bytes of a text, as many as that, or all of them.
+pub(crate) fn front(text: &[u8], count: usize) -> &[u8]
     ensures { result.now ≡ take count text.now }
 {
     if count < text.len() {

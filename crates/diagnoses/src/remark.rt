@@ -1,4 +1,4 @@
-//! What there is to say of a name that is wrong.
+//! What there is to say of a name that is wrong, and of a token with which no program goes on.
 
 ghost use Rattle.std.specs.Prelude.{◌≡◌, List, ℕ, IfOk, Err, map};
 ghost use Rattle.std.specs.Option.{option_map};
@@ -8,14 +8,16 @@ ghost use Rattle.scope_names.specs.InScope.{known_is};
 ghost use Rattle.scope_names.specs.InScope as scope;
 ghost use Rattle.diagnoses.specs.Remarks as spec;
 
-use crate::places::token_at;
+use crate::places::{front, token_at};
 use pram_check::{Breach, Cause, Spot};
 use pram_parser::parse;
 use pram_syntax::Tree;
+use pram_tokens::LONGEST;
 use scope_names::{Known, Sort, find, names_at, nearest};
 use std::alloc::{AllocError, Global};
+use token_choices::{Choice, choices_behind};
 
-/// What there is to say of a name that is wrong.
+/// What there is to say of a name that is wrong, or of a token with which no program goes on.
 #[derive(Drop)]
 pub enum Remark {
     /// Nothing: no name is near, or memory was refused.
@@ -24,6 +26,8 @@ pub enum Remark {
     Nearest(Vec<u8>),
     /// As what the name is declared, and on which line.
     Declared(Sort, u32),
+    /// These kinds of tokens could stand there.
+    Expected(Vec<Choice>),
 }
 
 // The name that was meant, if there is one.
@@ -86,6 +90,20 @@ pub fn remark_of(alloc: Global, text: &[u8], breach: Breach) -> Remark
             Ok(remark) => remark,
             Err(AllocError) => Remark::Nothing,
         },
+        Err(_) => Remark::Nothing,
+    }
+}
+
+/// Which kinds of tokens could stand at a place, behind what stands before it. Nothing is said where memory was refused.
+pub fn expected_at(alloc: Global, text: &[u8], at: u32) -> Remark
+    ensures { spec.IsExpectation text.now at (spec.remark_is result) }
+{
+    let before = front(text, at as usize);
+    if LONGEST < before.len() {
+        return Remark::Nothing;
+    }
+    match choices_behind(alloc, before) {
+        Ok(found) => Remark::Expected(found),
         Err(_) => Remark::Nothing,
     }
 }

@@ -8,7 +8,7 @@ ghost use Rattle.diagnoses.specs.Stops as spec;
 
 use crate::about::About;
 use crate::breaches::write_breach;
-use crate::remark::{Remark, remark_of};
+use crate::remark::{Remark, expected_at, remark_of};
 use crate::source::Source;
 use crate::text_faults::write_text_fault;
 use itoa::Buffer;
@@ -19,12 +19,17 @@ use std::alloc::Global;
 use text_out::{Out, WriteFault};
 use text_places::write_excerpt;
 
-fn write_text<W: Out>(out: &mut W, fault: TextFault, about: &About<'_>) -> Result<(), WriteFault>
+fn write_text<W: Out>(
+    out: &mut W,
+    fault: TextFault,
+    about: &About<'_>,
+    remark: &Remark,
+) -> Result<(), WriteFault>
     requires counted { (W.Out.state out.old).failures < 2 ^ 63 }
-    ensures written { Writes (W.Out.state out.old) (W.Out.state out.new) (spec.of_text fault about.now) result }
+    ensures written { Writes (W.Out.state out.old) (W.Out.state out.new) (spec.of_text fault about.now (remark_is remark.now)) result }
 {
     match about {
-        About::Text(source) => write_text_fault(out, source, fault),
+        About::Text(source) => write_text_fault(out, source, fault, remark),
         About::Nothing => out.write_all(b""),
         About::Values { .. } => out.write_all(b""),
     }
@@ -82,7 +87,7 @@ fn write_refusal<W: Out>(
     ensures written { Writes (W.Out.state out.old) (W.Out.state out.new) (spec.of_refusal refusal about.now (remark_is remark.now)) result }
 {
     match refusal {
-        Refusal::Text(fault) => write_text(out, fault, about),
+        Refusal::Text(fault) => write_text(out, fault, about, remark),
         Refusal::Program(breach) => write_program(out, breach, about, remark),
         Refusal::InputTooLong => write_input(out, about),
         Refusal::BadMap => {
@@ -168,7 +173,7 @@ fn write_code<W: Out>(out: &mut W, at: u32, word: &[u8]) -> Result<(), WriteFaul
     ])
 }
 
-// What is said, by what there is to say of a name.
+// What is said, by what there is to say of a name or of a token.
 fn write_said<W: Out>(
     out: &mut W,
     stop: &Stop<'_>,
@@ -202,17 +207,30 @@ fn remark_in(alloc: Global, breach: Breach, about: &About<'_>) -> Remark
     }
 }
 
+// What there is to say of a token with which no program goes on, of a text that is at hand.
+fn expected_in(alloc: Global, at: u32, about: &About<'_>) -> Remark
+    ensures { spec.IsExpectationIn at about.now (remark_is result) }
+{
+    match about {
+        About::Text(source) => expected_at(alloc, source.bytes.as_slice(), at),
+        About::Nothing => Remark::Nothing,
+        About::Values { .. } => Remark::Nothing,
+    }
+}
+
 fn remark_on(alloc: Global, stop: &Stop<'_>, about: &About<'_>) -> Remark
     ensures { spec.HasRemark stop.now about.now (remark_is result) }
 {
     match stop {
         Stop::Refused(Refusal::Program(breach)) => remark_in(alloc, *breach, about),
+        Stop::Refused(Refusal::Text(TextFault::Syntax(at))) => expected_in(alloc, *at, about),
         _ => Remark::Nothing,
     }
 }
 
-/// Writes what a reader needs behind the line of a refusal: the place with its line and a caret, where it has one, and a sentence. Of a
-/// name that is wrong nothing more than that is said where memory was refused. Nothing is written where nothing is known beside the line,
+/// Writes what a reader needs behind the line of a refusal: the place with its line and a caret, where it has one, and a sentence; of a token
+/// with which no program goes on (E4) also what could stand there. Of a name that is wrong, and of such a token, nothing more than that is
+/// said where memory was refused. Nothing is written where nothing is known beside the line,
 /// as of a text that isn't at hand. The error is that the writer failed (E17).
 pub fn write_stop_diagnosis<W: Out>(
     alloc: Global,

@@ -2,14 +2,17 @@
 
 ghost use Rattle.std.specs.Prelude.{◌≡◌, ◌<◌, ◌^◌};
 ghost use Rattle.text_out.specs.Out.{Writes};
+ghost use Rattle.diagnoses.specs.Remarks.{remark_is};
 ghost use Rattle.diagnoses.specs.TextFaults as spec;
 
 use crate::places::{byte_at, token_at, write_quoted};
+use crate::remark::Remark;
 use crate::source::{Kind, Source};
 use itoa::Buffer;
 use pram_syntax::TextFault;
 use text_out::{Out, WriteFault};
 use text_places::write_excerpt;
+use token_choices::{Choice, write_choices};
 
 fn write_not_ascii<W: Out>(out: &mut W, byte: u8) -> Result<(), WriteFault>
     requires counted { (W.Out.state out.old).failures < 2 ^ 63 }
@@ -55,7 +58,7 @@ fn bad_token(kind: Kind, byte: u8) -> &'static [u8]
     }
 }
 
-fn write_bad_token<W: Out>(out: &mut W, token: &[u8]) -> Result<(), WriteFault>
+fn write_stranger<W: Out>(out: &mut W, token: &[u8]) -> Result<(), WriteFault>
     requires counted { (W.Out.state out.old).failures < 2 ^ 63 }
     ensures written { Writes (W.Out.state out.old) (W.Out.state out.new) (spec.stranger token.now) result }
 {
@@ -63,14 +66,85 @@ fn write_bad_token<W: Out>(out: &mut W, token: &[u8]) -> Result<(), WriteFault>
     out.write_all(b" can't stand here: no program goes on with it\n")
 }
 
-fn write_bad_syntax<W: Out>(out: &mut W, text: &[u8], at: usize) -> Result<(), WriteFault>
+fn write_named_choices<W: Out>(out: &mut W, found: &[Choice]) -> Result<(), WriteFault>
     requires counted { (W.Out.state out.old).failures < 2 ^ 63 }
-    ensures written { Writes (W.Out.state out.old) (W.Out.state out.new) (spec.bad_syntax text.now at) result }
+    ensures written { Writes (W.Out.state out.old) (W.Out.state out.new) (spec.named_choices found.now) result }
+{
+    write_choices(out, found)?;
+    out.write_all(b"\n")
+}
+
+fn write_could_stand<W: Out>(out: &mut W, found: &[Choice]) -> Result<(), WriteFault>
+    requires counted { (W.Out.state out.old).failures < 2 ^ 63 }
+    ensures written { Writes (W.Out.state out.old) (W.Out.state out.new) (spec.could_stand found.now) result }
+{
+    out.write_all(b"here could stand ")?;
+    write_named_choices(out, found)
+}
+
+// What could stand there, if that is known.
+fn write_expected<W: Out>(out: &mut W, remark: &Remark) -> Result<(), WriteFault>
+    requires counted { (W.Out.state out.old).failures < 2 ^ 63 }
+    ensures written { Writes (W.Out.state out.old) (W.Out.state out.new) (spec.expected (remark_is remark.now)) result }
+{
+    match remark {
+        Remark::Expected(found) => write_could_stand(out, found),
+        Remark::Nothing => out.write_all(b""),
+        Remark::Nearest(_) => out.write_all(b""),
+        Remark::Declared(_, _) => out.write_all(b""),
+    }
+}
+
+fn write_open_end<W: Out>(out: &mut W, found: &[Choice]) -> Result<(), WriteFault>
+    requires counted { (W.Out.state out.old).failures < 2 ^ 63 }
+    ensures written { Writes (W.Out.state out.old) (W.Out.state out.new) (spec.open_end found.now) result }
+{
+    out.write_all(b"the text ends here; ")?;
+    write_could_stand(out, found)
+}
+
+fn write_bare_end<W: Out>(out: &mut W) -> Result<(), WriteFault>
+    requires counted { (W.Out.state out.old).failures < 2 ^ 63 }
+    ensures written { Writes (W.Out.state out.old) (W.Out.state out.new) spec.bare_end result }
+{
+    out.write_all(b"the text ends here, and the program does not\n")
+}
+
+// The end of a text whose program goes on.
+fn write_ended<W: Out>(out: &mut W, remark: &Remark) -> Result<(), WriteFault>
+    requires counted { (W.Out.state out.old).failures < 2 ^ 63 }
+    ensures written { Writes (W.Out.state out.old) (W.Out.state out.new) (spec.ended (remark_is remark.now)) result }
+{
+    match remark {
+        Remark::Expected(found) => write_open_end(out, found),
+        Remark::Nothing => write_bare_end(out),
+        Remark::Nearest(_) => write_bare_end(out),
+        Remark::Declared(_, _) => write_bare_end(out),
+    }
+}
+
+// A token with which no program goes on, and what could stand in its place.
+fn write_misplaced<W: Out>(out: &mut W, token: &[u8], remark: &Remark) -> Result<(), WriteFault>
+    requires counted { (W.Out.state out.old).failures < 2 ^ 63 }
+    ensures written { Writes (W.Out.state out.old) (W.Out.state out.new) (spec.misplaced token.now (remark_is remark.now)) result }
+{
+    write_stranger(out, token)?;
+    write_expected(out, remark)
+}
+
+fn write_bad_syntax<W: Out>(
+    out: &mut W,
+    text: &[u8],
+    at: usize,
+    remark: &Remark,
+) -> Result<(), WriteFault>
+    requires counted { (W.Out.state out.old).failures < 2 ^ 63 }
+    ensures written { Writes (W.Out.state out.old) (W.Out.state out.new) (spec.bad_syntax text.now at (remark_is remark.now)) result }
 {
     if text.len() <= at {
-        out.write_all(b"the text ends here, and the program does not\n")
+        write_ended(out, remark)
     } else {
-        write_bad_token(out, token_at(text, at))
+        write_misplaced(out, token_at(text, at), remark)
     }
 }
 
@@ -79,9 +153,11 @@ fn write_sentence<W: Out>(
     out: &mut W,
     source: &Source<'_>,
     fault: TextFault,
+    remark: &Remark,
 ) -> Result<(), WriteFault>
     requires counted { (W.Out.state out.old).failures < 2 ^ 63 }
-    ensures written { Writes (W.Out.state out.old) (W.Out.state out.new) (spec.text_sentence source.now fault) result }
+    ensures written { Writes (W.Out.state out.old) (W.Out.state out.new)
+        (spec.text_sentence source.now fault (remark_is remark.now)) result }
 {
     let text = source.bytes.as_slice();
     match fault {
@@ -91,7 +167,7 @@ fn write_sentence<W: Out>(
             source.kind,
             byte_at(text, at as usize),
         )),
-        TextFault::Syntax(at) => write_bad_syntax(out, text, at as usize),
+        TextFault::Syntax(at) => write_bad_syntax(out, text, at as usize, remark),
         TextFault::TooDeep(_) => {
             out.write_all(
                 b"this is one level too many: blocks nest at most 64 deep, and so do expressions\n",
@@ -124,10 +200,11 @@ fn write_placed<W: Out>(
     source: &Source<'_>,
     at: u32,
     fault: TextFault,
+    remark: &Remark,
 ) -> Result<(), WriteFault>
     requires counted { (W.Out.state out.old).failures < 2 ^ 63 }
     ensures written { Writes (W.Out.state out.old) (W.Out.state out.new)
-        (spec.placed source.now (Some at) (spec.text_sentence source.now fault)) result }
+        (spec.placed source.now (Some at) (spec.text_sentence source.now fault (remark_is remark.now))) result }
 {
     write_excerpt(
         out,
@@ -135,21 +212,23 @@ fn write_placed<W: Out>(
         source.bytes.as_slice(),
         at as usize,
     )?;
-    write_sentence(out, source, fault)
+    write_sentence(out, source, fault, remark)
 }
 
 /// Writes what is said of a text that is refused for E1 to E5: where, with the line and a caret, and a sentence that says what is there.
-/// E2 has no place. The error is that the writer failed (E17).
+/// E2 has no place. Of E4 the remark says what could stand there. The error is that the writer failed (E17).
 pub fn write_text_fault<W: Out>(
     out: &mut W,
     source: &Source<'_>,
     fault: TextFault,
+    remark: &Remark,
 ) -> Result<(), WriteFault>
     requires counted { (W.Out.state out.old).failures < 2 ^ 63 }
-    ensures written { Writes (W.Out.state out.old) (W.Out.state out.new) (spec.text_diagnosis source.now fault) result }
+    ensures written { Writes (W.Out.state out.old) (W.Out.state out.new)
+        (spec.text_diagnosis source.now fault (remark_is remark.now)) result }
 {
     match text_place(fault) {
-        None => write_sentence(out, source, fault),
-        Some(at) => write_placed(out, source, at, fault),
+        None => write_sentence(out, source, fault, remark),
+        Some(at) => write_placed(out, source, at, fault, remark),
     }
 }

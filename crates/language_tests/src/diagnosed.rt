@@ -19,7 +19,7 @@ const CHECK: &[&str] = &["check", "program", "--explain"];
 const RUN: &[&str] = &["run", "program", "--input", "input", "--explain"];
 
 // A column counts the bytes of its line from 1, and a text's end has the place behind its last byte.
-const TEXTS: [Row; 8] = [
+const TEXTS: [Row; 12] = [
     (
         CHECK,
         b"rule crew; # \xc3\xa9\nprocs 1;\nbegin\nend\n",
@@ -49,7 +49,42 @@ const TEXTS: [Row; 8] = [
         b"rule crew;\nprocs 1;\nbegin\n  print ;\nend\n",
         b"",
         b"",
-        b"refused E4 Syntax at 34\nprogram:4:9\n  print ;\n        ^\n\";\" can't stand here: no program goes on with it\n",
+        b"refused E4 Syntax at 34\nprogram:4:9\n  print ;\n        ^\n\";\" can't stand here: no program goes on with it\nhere could stand a name, a number, \"not\", \"(\" or \"-\"\n",
+        2,
+    ),
+    // What names a rule is one of five words.
+    (
+        CHECK,
+        b"rule fast;\nprocs 1;\nbegin\nend\n",
+        b"",
+        b"",
+        b"refused E4 Syntax at 5\nprogram:1:6\nrule fast;\n     ^\n\"fast\" can't stand here: no program goes on with it\nhere could stand one of erew, crew, common, priority, sum\n",
+        2,
+    ),
+    // A comparison has no second one behind it.
+    (
+        CHECK,
+        b"rule crew;\nprocs 1;\nvar x;\nbegin\n  x := 1 < 2 < 3;\nend\n",
+        b"",
+        b"",
+        b"refused E4 Syntax at 46\nprogram:5:14\n  x := 1 < 2 < 3;\n             ^\n\"<\" can't stand here: no program goes on with it\nhere could stand \"and\", \"or\", \"div\", \"mod\", \";\", \"+\", \"-\" or \"*\"\n",
+        2,
+    ),
+    // A name behind `for` is that of a variable, or the low bound of a pardo begins with it.
+    (
+        CHECK,
+        b"rule crew;\nprocs 1;\nvar k;\nbegin\n  for k = 1 to 3 do end\nend\n",
+        b"",
+        b"",
+        b"refused E4 Syntax at 41\nprogram:5:9\n  for k = 1 to 3 do end\n        ^\n\"=\" can't stand here: no program goes on with it\nhere could stand \"div\", \"mod\", \":=\", \"<=\", \"[\", \"+\", \"-\" or \"*\"\n",
+        2,
+    ),
+    (
+        CHECK,
+        b"rule crew;\nprocs 1;\nbegin\nend\nend\n",
+        b"",
+        b"",
+        b"refused E4 Syntax at 30\nprogram:5:1\nend\n^\n\"end\" can't stand here: no program goes on with it\nhere could stand nothing more\n",
         2,
     ),
     (
@@ -57,7 +92,7 @@ const TEXTS: [Row; 8] = [
         b"rule crew;\nprocs 1;\nbegin\n",
         b"",
         b"",
-        b"refused E4 Syntax at 26\nprogram:4:1\n\n^\nthe text ends here, and the program does not\n",
+        b"refused E4 Syntax at 26\nprogram:4:1\n\n^\nthe text ends here; here could stand a name, \"end\", \"for\", \"while\", \"if\" or \"print\"\n",
         2,
     ),
     (

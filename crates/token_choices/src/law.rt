@@ -1,0 +1,8 @@
+//! What one token of a kind says of the others.
+
+ghost use Rattle.token_choices.specs.Choices.{SamplesSpeak};
+
+/// Where one token of a kind could stand, each of them could.
+pub fn samples_speak()
+    ensures { SamplesSpeak }
+{}

@@ -1,0 +1,11 @@
+//! Which tokens could stand at a place of a text, and how they are told.
+#![tactic(auto)]
+
+mod asking;
+mod choice;
+pub mod law;
+mod writing;
+
+pub use asking::choices_behind;
+pub use choice::Choice;
+pub use writing::{write_choice, write_choices};
