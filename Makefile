@@ -1,6 +1,6 @@
 # The crates are proved, built and tested by the toolchain's command `rt`.
 
-.PHONY: all check test examples bench refusals memory hostile unthreaded clean install uninstall
+.PHONY: all check test examples bench refusals memory hostile unthreaded page-test clean install uninstall
 
 sources := $(shell find crates -name out -prune -o \( -name '*.rt' -o -name '*.antt' \) -print) crates.txt
 
@@ -49,6 +49,10 @@ memory:
 # Shows that the tests of runs in threads refuse a run whose threads do nothing.
 unthreaded:
 	bash crates/run_tests/unthreaded/check.sh
+
+# Steps through the pages of three runs in Chromium, and compares what they show with the facts in them.
+page-test: bin/pramc
+	python3 gate/page_test.py bin/pramc
 
 clean:
 	rm -rf bin crates/*/out

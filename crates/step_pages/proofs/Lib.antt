@@ -1,0 +1,4 @@
+pub mod Embedding
+pub mod Cutting
+pub mod Sizes
+pub mod Readable

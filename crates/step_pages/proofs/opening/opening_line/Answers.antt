@@ -1,0 +1,7 @@
+use Rattle.std.proofs.Common.{subst, sym}
+use Rattle.json_lines.specs.Small.{IsReadable}
+use Rattle.step_pages.proofs.Readable.{readable_opening}
+use Rattle.step_pages.proofs.opening.opening_line.Goals as goal
+
+pub line_of-requires : goal.line_of-requires
+line_of-requires c = record { readable = subst IsReadable (sym c.in_ok-facts.ensures) (readable_opening c.args.text.now c.args.tree.now c.args.input.now) }

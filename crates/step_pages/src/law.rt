@@ -1,0 +1,15 @@
+//! What holds of every page.
+
+ghost use Rattle.std.specs.Prelude.{ℕ, List, ◌<◌, ◌≤◌, ◌^◌, length};
+ghost use Rattle.step_pages.specs.Facts.{HasNoTag, IsCut, embedded};
+ghost use Rattle.step_pages.specs.Page.{most_bytes, page};
+
+/// A page has at most 2 MiB.
+pub fn pages_are_small()
+    ensures { (facts : List ℕ) (kept : ℕ) → length facts < 2 ^ 64 → IsCut facts kept → length (page facts kept) ≤ most_bytes }
+{}
+
+/// Facts never end the script that they stand in: no `<` is in them.
+pub fn facts_have_no_tag()
+    ensures { (facts : List ℕ) → HasNoTag (embedded facts) }
+{}

@@ -1,0 +1,154 @@
+//! What is known of a run before its first statement.
+
+ghost use Rattle.std.specs.Prelude.{◌≡◌, ◌∷◌, ◌++◌, [], IfOk, OnOk, map, string_bytes};
+ghost use Rattle.std.specs.List.{flat_map};
+ghost use Rattle.serde_json.specs.View.{view};
+ghost use Rattle.json_lines.specs.Facts.{letters as letters_of, with_fields};
+ghost use Rattle.json_lines.specs.Lines.{IsJson};
+ghost use Rattle.json_lines.specs.Shown.{shown};
+ghost use Rattle.pram_model.specs.Rules.{rule_word};
+ghost use Rattle.step_pages.specs.Opening as spec;
+
+use json_lines::{Object, Value, line_of};
+use pram_syntax::{Declaration, Name, Numeral, Rule, Tree};
+use std::alloc::{AllocError, Global};
+
+fn rule_name(rule: Rule) -> &'static str
+    ensures { result.now ≡ rule_word rule }
+{
+    match rule {
+        Rule::Erew => "erew",
+        Rule::Crew => "crew",
+        Rule::Common => "common",
+        Rule::Priority => "priority",
+        Rule::Sum => "sum",
+    }
+}
+
+fn single_facts(alloc: Global, x: &Name) -> Result<Value, AllocError>
+    ensures { IfOk result (λ v. view v ≡ spec.single_facts x.now) }
+{
+    let mut object = Object::new(alloc);
+    object.put_letters("name", x.text.as_slice())?;
+    Ok(object.into_value())
+}
+
+fn array_facts(alloc: Global, x: &Name, low: &Numeral, high: &Numeral) -> Result<Value, AllocError>
+    ensures { IfOk result (λ v. view v ≡ spec.array_facts x.now low.now high.now) }
+{
+    let mut object = Object::new(alloc);
+    object.put_letters("name", x.text.as_slice())?;
+    object.put_value("low", low.value)?;
+    object.put_value("high", high.value)?;
+    Ok(object.into_value())
+}
+
+// Puts what a declaration says of shared memory behind the others.
+fn push_cells(alloc: Global, list: &mut Vec<Value>, d: &Declaration) -> Result<(), AllocError>
+    ensures { OnOk result (map view list.new.items ≡ map view list.old.items ++ spec.cells_of d.now) }
+{
+    match d {
+        Declaration::Cell(x) => {
+            let cell = single_facts(alloc, x)?;
+            list.push(cell)?;
+            Ok(())
+        }
+        Declaration::Array(name, low, high) => {
+            let cells = array_facts(alloc, name, low, high)?;
+            list.push(cells)?;
+            Ok(())
+        }
+        Declaration::Uniform(_) => Ok(()),
+    }
+}
+
+// The shared declarations, in order.
+fn cells_facts(alloc: Global, declarations: &[Declaration]) -> Result<Vec<Value>, AllocError>
+    ensures { IfOk result (λ list. map view list.items ≡ flat_map spec.cells_of declarations.now) }
+{
+    let mut list = Vec::new(alloc);
+    for d in declarations {
+        push_cells(alloc, &mut list, d)?;
+    }
+    Ok(list)
+}
+
+// A text by its bytes. A program has ASCII alone.
+fn letters(alloc: Global, bytes: &[u8]) -> Result<Value, AllocError>
+    ensures { IfOk result (λ v. view v ≡ letters_of bytes.now) }
+{
+    let text = String::from_utf8_lossy(alloc, bytes)?;
+    Ok(Value::String(text))
+}
+
+// Puts the name of a uniform variable behind the others.
+fn push_variable(alloc: Global, list: &mut Vec<Value>, d: &Declaration) -> Result<(), AllocError>
+    ensures { OnOk result (map view list.new.items ≡ map view list.old.items ++ spec.variables_of d.now) }
+{
+    match d {
+        Declaration::Uniform(x) => {
+            let name = letters(alloc, x.text.as_slice())?;
+            list.push(name)?;
+            Ok(())
+        }
+        Declaration::Cell(_) => Ok(()),
+        Declaration::Array(_, _, _) => Ok(()),
+    }
+}
+
+// The names of the uniform variables, in order.
+fn variables_facts(alloc: Global, declarations: &[Declaration]) -> Result<Vec<Value>, AllocError>
+    ensures { IfOk result (λ list. map view list.items ≡ flat_map spec.variables_of declarations.now) }
+{
+    let mut list = Vec::new(alloc);
+    for d in declarations {
+        push_variable(alloc, &mut list, d)?;
+    }
+    Ok(list)
+}
+
+fn put_opening(
+    alloc: Global,
+    object: &mut Object,
+    text: &[u8],
+    tree: &Tree,
+    input: &[i64],
+) -> Result<(), AllocError>
+    ensures { OnOk result (shown object.new
+        ≡ with_fields (spec.opening_fields text.now tree.now input.now) (shown object.old)) }
+{
+    let cells = cells_facts(alloc, tree.declarations())?;
+    let variables = variables_facts(alloc, tree.declarations())?;
+    object.put_letters("program", text)?;
+    object.put_word("rule", rule_name(tree.rule()))?;
+    object.put_list("cells", cells)?;
+    object.put_list("variables", variables)?;
+    object.put_values("input", input)
+}
+
+fn opening_value(
+    alloc: Global,
+    text: &[u8],
+    tree: &Tree,
+    input: &[i64],
+) -> Result<Value, AllocError>
+    ensures { IfOk result (λ v. view v ≡ spec.opening_facts text.now tree.now input.now) }
+{
+    let mut object = Object::new(alloc);
+    put_opening(alloc, &mut object, text, tree, input)?;
+    Ok(object.into_value())
+}
+
+/// What a page says before the first statement, on a line: the program's text, its rule, its shared declarations with their bounds, the
+/// names of its uniform variables, and the input. `AllocError`: memory was refused.
+pub fn opening_line(
+    alloc: Global,
+    text: &[u8],
+    tree: &Tree,
+    input: &[i64],
+) -> Result<String, AllocError>
+    ensures json { IfOk result (λ line. IsJson (spec.opening_facts text.now tree.now input.now ∷ []) (string_bytes line)) }
+{
+    let facts = opening_value(alloc, text, tree, input)?;
+    line_of(alloc, &facts)
+}
