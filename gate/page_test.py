@@ -2,7 +2,8 @@
 """Steps through the pages of three runs in a browser without a screen, and compares what they show with the facts in them.
 
 page_test.py PROGRAM: `PROGRAM steps FILE --html` writes the page of a run. A script behind the page's own presses its keys and buttons and
-moves its slider, and notes what is shown; Chromium writes the page that this leaves. The facts are read from the page as JSON.
+moves its slider, and notes what is shown; Chromium writes the page that this leaves. The facts in the page are read as JSON, and are those
+that `--format json` tells.
 """
 import json
 import re
@@ -56,8 +57,9 @@ NOTES = """<script>
 """
 
 
-def page_of(name):
-    words = ["steps", EXAMPLES / f"{name}.pram", "--input", EXAMPLES / f"{name}.in", "--html"]
+def written(name, *options):
+    """What the program writes of the steps of an example."""
+    words = ["steps", EXAMPLES / f"{name}.pram", "--input", EXAMPLES / f"{name}.in", *options]
     done = subprocess.run([PROGRAM, *words], capture_output=True, text=True, timeout=60)
     if done.returncode not in (0, 1) or done.stderr:
         sys.exit(f"{name}: {done.returncode} {done.stderr}")
@@ -97,7 +99,7 @@ def wanted(facts):
     values, variables, output = dict(zip(cells, given)), dict.fromkeys(opening["variables"], "0"), []
     moments = [(dict(values), dict(variables), "", [], [], False)]
     for step in steps:
-        for change in step.get("cells", step.get("changes", [])):
+        for change in step.get("changes", []):
             values[change["cell"]] = change["after"]
         for change in step.get("variables", []):
             variables[opening["variables"][change["variable"]]] = change["after"]
@@ -132,8 +134,11 @@ def differs(shown, moment, step):
 
 
 def wrong(name):
-    page = page_of(name)
+    page = written(name, "--html")
     facts = facts_of(page)
+    told = [json.loads(line) for line in written(name, "--format", "json").splitlines()]
+    if facts[1:] != [*told, {"left_out": 0}]:
+        return [f"{name}: the facts in the page are not those that are told"]
     moments, steps, seen = wanted(facts), [None] + [it for it in facts if "step" in it], stepped(page)
     found = [f"{name}, moment {i}: {it}" for i, (s, m, e) in enumerate(zip(seen["ahead"], moments, steps)) for it in differs(s, m, e)]
     same = [len(seen["ahead"]) == len(moments), seen["ahead"] == seen["back"], seen["end"] == seen["last"] == seen["ahead"][-1]]

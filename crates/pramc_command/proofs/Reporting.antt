@@ -10,11 +10,13 @@ use Rattle.program_texts.specs.declared.from_text.Refusal.TheVariants as refusal
 use Rattle.program_texts.specs.declared.stop.Stop.{Stop}
 use Rattle.program_texts.specs.declared.stop.Stop.TheVariants as stop
 use Rattle.pram_names.specs.declared.fault.Breach.{Breach}
+use Rattle.pram_tokens.specs.declared.error.TextFault.{TextFault}
+use Rattle.pram_tokens.specs.declared.error.TextFault.TheVariants as text_fault
 use Rattle.diagnoses.specs.declared.about.About.{About}
 use Rattle.diagnoses.specs.declared.about.About.TheVariants as about
 use Rattle.diagnoses.specs.declared.source.Source.{Source}
 use Rattle.diagnoses.specs.Remarks.{Remark, Nothing}
-use Rattle.diagnoses.specs.Stops.{HasRemark, IsRemarkIn, stop_diagnosis}
+use Rattle.diagnoses.specs.Stops.{HasRemark, IsExpectationIn, IsRemarkIn, stop_diagnosis}
 use Rattle.pramc_command.specs.Answered.{IsReported, IsTrueStop}
 use Rattle.pramc_command.specs.Explained.{IsKnown, IsOfListing, refusal_text}
 
@@ -37,12 +39,25 @@ nothing_in b about.Nothing = refl
 nothing_in b (about.Text s) = λ tree is. inr refl
 nothing_in b (about.Values values cells) = refl
 
--- of a name nothing may be said
+nothing_expected : (at : ℕ) (a : About) → IsExpectationIn at a Nothing
+nothing_expected at about.Nothing = refl
+nothing_expected at (about.Text s) = inr refl
+nothing_expected at (about.Values values cells) = refl
+
+nothing_of_text : (fault : TextFault) (a : About) → HasRemark (stop.Refused (refusal.Text fault)) a Nothing
+nothing_of_text (text_fault.NotAscii at) a = refl
+nothing_of_text text_fault.TextTooLong a = refl
+nothing_of_text (text_fault.BadToken at) a = refl
+nothing_of_text (text_fault.Syntax at) a = nothing_expected at a
+nothing_of_text (text_fault.TooDeep at) a = refl
+nothing_of_text text_fault.OutOfMemory a = refl
+
+-- of a name, and of a token, nothing may be said
 pub nothing_said : (why : Stop) (a : About) → HasRemark why a Nothing
 nothing_said (stop.Words text) a = refl
 nothing_said (stop.Number word) a = refl
 nothing_said (stop.Unreadable name) a = refl
-nothing_said (stop.Refused (refusal.Text fault)) a = refl
+nothing_said (stop.Refused (refusal.Text fault)) a = nothing_of_text fault a
 nothing_said (stop.Refused (refusal.Program b)) a = nothing_in b a
 nothing_said (stop.Refused refusal.InputTooLong) a = refl
 nothing_said (stop.Refused refusal.BadMap) a = refl

@@ -27,11 +27,11 @@ no_tag-append (x ∷ a) b h g = (h.0, no_tag-append a b h.1 g)
 no_tag_byte : (b : ℕ) → HasNoTag (embedded_byte b)
 no_tag_byte b = by (b == 60) refl
   where
-    other : (c : Bool) → (b ≡ 60 → ⊥) → HasNoTag (if c then codes ",\n" else b ∷ [])
-    other true none = ((λ h. omega (arith, h)), ((λ h. omega (arith, h)), tt))
+    other : (c : Bool) → (b ≡ 60 → ⊥) → HasNoTag (if c then codes "," else b ∷ [])
+    other true none = ((λ h. omega (arith, h)), tt)
     other false none = (none, tt)
 
-    by : (c : Bool) → (b == 60) ≡ c → HasNoTag (if c then codes "\\u003c" else (if b == 10 then codes ",\n" else b ∷ []))
+    by : (c : Bool) → (b == 60) ≡ c → HasNoTag (if c then codes "\\u003c" else (if b == 10 then codes "," else b ∷ []))
     by true is = (
       (λ h. omega (arith, h)),
       ((λ h. omega (arith, h)), ((λ h. omega (arith, h)), ((λ h. omega (arith, h)), ((λ h. omega (arith, h)), ((λ h. omega (arith, h)), tt))))),

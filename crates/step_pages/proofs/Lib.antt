@@ -1,4 +1,7 @@
-pub mod Embedding
+pub mod AsList
 pub mod Cutting
-pub mod Sizes
+pub mod Embedding
+pub mod Lexed
 pub mod Readable
+pub mod Sizes
+pub mod Strings

@@ -5,7 +5,7 @@ use Rattle.std.specs.Prelude.{slice_index, take}
 -- A byte of facts. A `<`, which stands in texts alone, is written by its number, so that no tag begins there; and what ends a line parts it
 -- from the next.
 abbrev pub embedded_byte : ℕ → List ℕ
-embedded_byte b = if b == 60 then codes "\\u003c" else (if b == 10 then codes ",\n" else b ∷ [])
+embedded_byte b = if b == 60 then codes "\\u003c" else (if b == 10 then codes "," else b ∷ [])
 
 abbrev pub embedded : List ℕ → List ℕ
 embedded [] = []

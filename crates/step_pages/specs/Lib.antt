@@ -1,3 +1,4 @@
 pub mod Opening
 pub mod Facts
 pub mod Page
+pub mod Stand

@@ -12,7 +12,6 @@ fn width(byte: u8) -> usize
 {
     match byte {
         b'<' => 6,
-        b'\n' => 2,
         _ => 1,
     }
 }

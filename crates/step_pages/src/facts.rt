@@ -14,7 +14,7 @@ fn write_byte<W: Out>(out: &mut W, byte: u8) -> Result<(), WriteFault>
 {
     match byte {
         b'<' => out.write_all(b"\\u003c"),
-        b'\n' => out.write_all(b",\n"),
+        b'\n' => out.write_all(b","),
         _ => out.write_all(&[byte]),
     }
 }

@@ -3,6 +3,7 @@
 ghost use Rattle.std.specs.Prelude.{ℕ, List, ◌<◌, ◌≤◌, ◌^◌, length};
 ghost use Rattle.step_pages.specs.Facts.{HasNoTag, IsCut, embedded};
 ghost use Rattle.step_pages.specs.Page.{most_bytes, page};
+ghost use Rattle.step_pages.specs.Stand.{FactsAreRead};
 
 /// A page has at most 2 MiB.
 pub fn pages_are_small()
@@ -12,4 +13,9 @@ pub fn pages_are_small()
 /// Facts never end the script that they stand in: no `<` is in them.
 pub fn facts_have_no_tag()
     ensures { (facts : List ℕ) → HasNoTag (embedded facts) }
+{}
+
+/// Where all lines of facts have room, what stands in the page is read as the list of these facts.
+pub fn facts_are_read()
+    ensures { FactsAreRead }
 {}

@@ -58,11 +58,10 @@ var variables = opening.variables.map(function (name) {
 ";
 
 /// The values behind and before a statement, and who did what.
-pub(crate) const MOVING: [u8; 1669] = *b"var at = 0, last = steps.length;
+pub(crate) const MOVING: [u8; 1615] = *b"var at = 0, last = steps.length;
 var faulted = last > 0 && steps[last - 1].met !== undefined;
-function cells_of(s) { return s.cells || s.changes || []; }
 function move(s, side) {
-  cells_of(s).forEach(function (c) {
+  (s.changes || []).forEach(function (c) {
     values[c.cell] = c[side];
     if (boxes[c.cell]) { boxes[c.cell].value.textContent = c[side]; }
   });
