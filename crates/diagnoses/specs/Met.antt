@@ -1,13 +1,14 @@
 -- Who met at the cell at which a run faults.
 use Rattle.std.specs.Prelude.{ℕ, ℤ, List, [], ◌∷◌}
 use Rattle.pram_check.specs.Checked.{Checked}
-use Rattle.run_steps.specs.Entries.{Entry, Ran, Faulting, run_entries}
+use Rattle.run_entries.specs.Entries.{Entry, Ran, Faulting}
+use Rattle.run_steps.specs.Entries.{run_entries}
 
 -- those that met at the first fault that is told
 abbrev pub met_in : List Entry → List ℤ
 met_in [] = []
-met_in (Ran line k ds ∷ es) = met_in es
-met_in (Faulting fault who ∷ es) = who
+met_in (Ran line acts cells variables items ∷ es) = met_in es
+met_in (Faulting fault acts met ∷ es) = met
 
 -- those that met at the fault of a program's run on an input, of at most n statements
 abbrev pub who_met : Checked → List ℤ → ℕ → List ℤ

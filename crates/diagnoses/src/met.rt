@@ -1,11 +1,12 @@
 //! Who met at a fault.
 
 ghost use Rattle.std.specs.Prelude.{◌≡◌, IfSome, IfOk, map};
-ghost use Rattle.run_steps.specs.Entries.{entry_is};
+ghost use Rattle.run_entries.specs.Entries.{entry_is};
 ghost use Rattle.diagnoses.specs.Met as spec;
 
 use pram_check::Program;
-use run_steps::{Entry, steps_of};
+use run_entries::Entry;
+use run_steps::steps_of;
 use std::alloc::{AllocError, Global};
 
 // Those that met at the first fault that is told.
@@ -15,7 +16,7 @@ fn met_in(alloc: Global, entries: &[Entry]) -> Result<Vec<i64>, AllocError>
     for entry in entries {
         match entry {
             Entry::Ran { .. } => {}
-            Entry::Faulted { processors, .. } => return Vec::from_slice(alloc, processors),
+            Entry::Faulted { met, .. } => return Vec::from_slice(alloc, met),
         }
     }
     Ok(Vec::new(alloc))

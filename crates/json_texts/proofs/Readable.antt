@@ -1,7 +1,7 @@
 -- What is told can be read: it has no float, and nests five levels at most.
-use Rattle.std.proofs.Common.{ℕ, List, [], ◌∷◌, lit≤, map, take, drop}
+use Rattle.std.proofs.Common.{ℕ, List, [], ◌∷◌, length, lit≤, map, take, drop, arith, refl}
 use Rattle.std.specs.Prelude.{Bool, true, false, ℤ, Option, Some, None, codes}
-use Rattle.json_lines.specs.Facts.{Field, object_of}
+use Rattle.json_lines.specs.Facts.{Field, list, object_of}
 use Rattle.json_lines.specs.Small.{IsReadable, IsSmall}
 use Rattle.json_lines.proofs.Small.{AreSmall, HasSmall, has_all, small_count, small_flag, small_large, small_letters}
 use Rattle.json_lines.proofs.Small.{small_list, small_map, small_object, small_value, small_values, small_word, smaller}
@@ -25,14 +25,15 @@ use Rattle.rule_comparison.specs.Compared.{finding_of, rules}
 use Rattle.rule_comparison.specs.declared.comparison.Comparison.{Comparison}
 use Rattle.rule_comparison.specs.declared.finding.Finding.{Finding}
 use Rattle.rule_comparison.specs.declared.finding.Finding.TheVariants as finding
-use Rattle.run_steps.specs.declared.change.Change.{Change}
-use Rattle.run_steps.specs.Entries.{Entry, Faulting, Ran}
+use Rattle.run_entries.specs.declared.change.Change.{Change}
+use Rattle.run_entries.specs.Entries.{Act, Entry, Faulting, Ran}
 use Rattle.json_texts.specs.AcceptedFacts.{accepted_facts, accepted_fields}
 use Rattle.json_texts.specs.CostFacts.{bound_fields, cost_facts, cost_fields, line_facts, line_fields, round_fields}
 use Rattle.json_texts.specs.OutcomeFacts.{bounds_fields, entry_facts, fault_fields, memory_facts, outcome_facts, outcome_fields}
 use Rattle.json_texts.specs.RefusalFacts.{cause_fields, place_fields, reason_fields, stop_facts, stop_fields, text_fields}
 use Rattle.json_texts.specs.RuleFacts.{comparison_facts, finding_fields, rule_facts}
-use Rattle.json_texts.specs.StepFacts.{change_facts, step_facts, told_fields}
+use Rattle.json_texts.specs.ActFacts.{act_facts, cell_fact, processor_fact, write_fact}
+use Rattle.json_texts.specs.StepFacts.{change_facts, step_facts, told_fields, variable_facts}
 
 -- ---- outcomes
 
@@ -177,19 +178,51 @@ small_change layout d =
     small_object 0 ((codes "cell", _) ∷ (codes "before", _) ∷ (codes "after", _) ∷ [])
     (small_letters 0 _, (small_value 0 d.before, (small_value 0 d.after, tt)))
 
+small_variable : (d : Change) → IsSmall 1 (variable_facts d)
+small_variable d =
+    small_object 0 ((codes "variable", _) ∷ (codes "before", _) ∷ (codes "after", _) ∷ [])
+    (small_count 0 d.cell, (small_value 0 d.before, (small_value 0 d.after, tt)))
+
+small_processor : (i : Option ℤ) → IsSmall 1 (processor_fact i)
+small_processor None = record { nests = omega arith; no_float = refl }
+small_processor (Some i) = small_value 1 i
+
+small_write : (layout : List SharedEntry) (c : Option ℕ) → IsSmall 1 (write_fact layout c)
+small_write layout None = record { nests = omega arith; no_float = refl }
+small_write layout (Some c) = small_letters 1 _
+
+small_act : (layout : List SharedEntry) (a : Act) → IsSmall 2 (act_facts layout a)
+small_act layout a =
+    small_object 1 ((codes "processor", _) ∷ (codes "reads", _) ∷ (codes "write", _) ∷ []) (
+      small_processor a.processor,
+      (
+        small_list 0 (map (cell_fact layout) a.reads) (small_map 0 (cell_fact layout) (λ c. small_letters 0 _) a.reads),
+        (small_write layout a.write, tt),
+      ),
+    )
+
+small_acts : (layout : List SharedEntry) (acts : List Act) → IsSmall 3 (list (map (act_facts layout) acts))
+small_acts layout acts = small_list 2 (map (act_facts layout) acts) (small_map 2 (act_facts layout) (small_act layout) acts)
+
 small_told : (layout : List SharedEntry) (e : Entry) → HasSmall 3 (told_fields layout e)
-small_told layout (Ran at k ds) = (
+small_told layout (Ran at acts cells variables items) = (
   small_count 3 at,
   (
-    small_count 3 k,
+    small_count 3 (length acts),
     (
-      smaller 2 3 _ (lit≤ tt)
-          (small_list 1 (map (change_facts layout) ds) (small_map 1 (change_facts layout) (small_change layout) ds)),
-      tt,
+      small_acts layout acts,
+      (
+        smaller 2 3 _ (lit≤ tt)
+            (small_list 1 (map (change_facts layout) cells) (small_map 1 (change_facts layout) (small_change layout) cells)),
+        (
+          smaller 2 3 _ (lit≤ tt) (small_list 1 (map variable_facts variables) (small_map 1 variable_facts small_variable variables)),
+          (small_values 2 items, tt),
+        ),
+      ),
     ),
   ),
 )
-small_told layout (Faulting fault who) = (small_values 2 who, small_fault 3 layout fault)
+small_told layout (Faulting fault acts met) = (small_values 2 met, (small_acts layout acts, small_fault 3 layout fault))
 
 pub readable_step : (layout : List SharedEntry) (number : ℕ) (e : Entry) → IsReadable (step_facts layout number e)
 readable_step layout number e = readable ((codes "step", _) ∷ told_fields layout e) (small_count 3 number, small_told layout e)

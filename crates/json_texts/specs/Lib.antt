@@ -3,4 +3,5 @@ pub mod AcceptedFacts
 pub mod RefusalFacts
 pub mod CostFacts
 pub mod RuleFacts
+pub mod ActFacts
 pub mod StepFacts

@@ -1,12 +1,13 @@
 -- What JSON says of a run that is told statement by statement.
-use Rattle.std.specs.Prelude.{ℕ, ◌+◌, nat_le, ◌&&◌, if◌then◌else◌, List, [], ◌∷◌, ◌++◌, codes, map}
+use Rattle.std.specs.Prelude.{ℕ, ◌+◌, nat_le, ◌&&◌, if◌then◌else◌, List, [], ◌∷◌, ◌++◌, codes, length, map}
 use Rattle.serde_json.specs.Data.{Data}
 use Rattle.json_lines.specs.Facts.{Field, count, letters, list, object_of, value, values}
 use Rattle.pram_model.specs.Layout.{SharedEntry}
 use Rattle.program_texts.specs.Shown.{cell_text}
-use Rattle.run_steps.specs.declared.change.Change.{Change}
-use Rattle.run_steps.specs.Entries.{Entry, Faulting, Ran}
+use Rattle.run_entries.specs.declared.change.Change.{Change}
+use Rattle.run_entries.specs.Entries.{Entry, Faulting, Ran}
 use Rattle.write_rules.specs.Verdict.{Verdict}
+use Rattle.json_texts.specs.ActFacts.{act_facts}
 use Rattle.json_texts.specs.OutcomeFacts.{fault_fields, outcome_facts}
 
 -- a cell's value before the statement and behind it
@@ -14,11 +15,20 @@ abbrev pub change_facts : List SharedEntry → Change → Data
 change_facts layout d =
     object_of ((codes "cell", letters (cell_text layout d.cell)) ∷ (codes "before", value d.before) ∷ (codes "after", value d.after) ∷ [])
 
--- what is told of a statement: its line, how many processors executed it, and the cells that changed; or its fault, and who met at its cell
+-- the same of a uniform variable, by its number in the order of declarations
+abbrev pub variable_facts : Change → Data
+variable_facts d =
+    object_of ((codes "variable", count d.cell) ∷ (codes "before", value d.before) ∷ (codes "after", value d.after) ∷ [])
+
+-- what is told of a statement: its line, how many processors executed it and what each did, the cells and the uniform variables that
+-- changed, and what it printed; or its fault, what each did up to there, and who met at its cell
 abbrev pub told_fields : List SharedEntry → Entry → List Field
-told_fields layout (Ran at k ds) =
-    (codes "line", count at) ∷ (codes "processors", count k) ∷ (codes "changes", list (map (change_facts layout) ds)) ∷ []
-told_fields layout (Faulting fault who) = (codes "met", values who) ∷ fault_fields layout fault
+told_fields layout (Ran at acts cells variables items) =
+    (codes "line", count at) ∷ (codes "processors", count (length acts)) ∷ (codes "acts", list (map (act_facts layout) acts))
+    ∷ (codes "changes", list (map (change_facts layout) cells)) ∷ (codes "variables", list (map variable_facts variables))
+    ∷ (codes "printed", values items) ∷ []
+told_fields layout (Faulting fault acts met) =
+    (codes "met", values met) ∷ (codes "acts", list (map (act_facts layout) acts)) ∷ fault_fields layout fault
 
 abbrev pub step_facts : List SharedEntry → ℕ → Entry → Data
 step_facts layout number e = object_of ((codes "step", count number) ∷ told_fields layout e)

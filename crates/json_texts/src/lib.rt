@@ -2,6 +2,7 @@
 #![tactic(auto)]
 
 mod accepted;
+mod acts;
 mod cost;
 mod fault;
 mod memory;

@@ -5,16 +5,18 @@ ghost use Rattle.serde_json.specs.View.{view};
 ghost use Rattle.json_lines.specs.Facts.{with_fields};
 ghost use Rattle.json_lines.specs.Lines.{Adds, IsJson};
 ghost use Rattle.json_lines.specs.Shown.{shown};
-ghost use Rattle.run_steps.specs.Entries.{Ran, Faulting, entry_is};
+ghost use Rattle.run_entries.specs.Entries.{act_is, entry_is};
+ghost use Rattle.run_entries.specs.Entries as entry;
 ghost use Rattle.write_rules.specs.Verdict.{verdict_of};
 ghost use Rattle.json_texts.specs.OutcomeFacts.{outcome_facts};
 ghost use Rattle.json_texts.specs.StepFacts as spec;
 
+use crate::acts::acts_facts;
 use crate::fault::{cell_text, put_fault};
 use crate::outcome::outcome_value;
 use json_lines::{Object, Value, push_line};
 use pram_syntax::Layout;
-use run_steps::{Change, Entry};
+use run_entries::{Act, Change, Entry};
 use std::alloc::{AllocError, Global};
 use write_rules::{Fault, Outcome};
 
@@ -44,36 +46,73 @@ fn changes_facts(
     Ok(list)
 }
 
-// A statement that ran.
+// A uniform variable's value before and behind.
+fn variable_facts(alloc: Global, change: &Change) -> Result<Value, AllocError>
+    ensures { IfOk result (λ v. view v ≡ spec.variable_facts change.now) }
+{
+    let mut object = Object::new(alloc);
+    object.put_count("variable", change.cell as u64)?;
+    object.put_value("before", change.before)?;
+    object.put_value("after", change.after)?;
+    Ok(object.into_value())
+}
+
+fn variables_facts(alloc: Global, changes: &[Change]) -> Result<Vec<Value>, AllocError>
+    ensures { IfOk result (λ list. map view list.items ≡ map spec.variable_facts changes.now) }
+{
+    let mut list = Vec::new(alloc);
+    for change in changes {
+        list.push(variable_facts(alloc, change)?)?;
+    }
+    Ok(list)
+}
+
+// Who acted in a statement that ran, and what it changed and printed.
+#[derive(Clone, Copy)]
+struct Ran<'a> {
+    line: u32,
+    acts: &'a [Act],
+    cells: &'a [Change],
+    variables: &'a [Change],
+    printed: &'a [i64],
+}
+
 fn put_ran(
     alloc: Global,
     object: &mut Object,
     layout: &Layout,
-    line: u32,
-    processors: usize,
-    changes: &[Change],
+    ran: &Ran<'_>,
 ) -> Result<(), AllocError>
-    ensures { OnOk result (shown object.new
-        ≡ with_fields (spec.told_fields layout.now (Ran line processors changes.now)) (shown object.old)) }
+    ensures { OnOk result (shown object.new ≡ with_fields (spec.told_fields layout.now
+        (entry.Ran ran.now.line (map act_is ran.now.acts.now) ran.now.cells.now ran.now.variables.now ran.now.printed.now))
+        (shown object.old)) }
 {
-    let list = changes_facts(alloc, layout, changes)?;
-    object.put_count("line", u64::from(line))?;
-    object.put_count("processors", processors as u64)?;
-    object.put_list("changes", list)
+    let acts = acts_facts(alloc, layout, ran.acts)?;
+    let changes = changes_facts(alloc, layout, ran.cells)?;
+    let variables = variables_facts(alloc, ran.variables)?;
+    object.put_count("line", u64::from(ran.line))?;
+    object.put_count("processors", ran.acts.len() as u64)?;
+    object.put_list("acts", acts)?;
+    object.put_list("changes", changes)?;
+    object.put_list("variables", variables)?;
+    object.put_values("printed", ran.printed)
 }
 
-// A statement that faulted, and who met.
+// A statement that faulted, what each did up to there, and who met.
 fn put_faulting(
     alloc: Global,
     object: &mut Object,
     layout: &Layout,
     fault: &Fault,
-    processors: &[i64],
+    acts: &[Act],
+    met: &[i64],
 ) -> Result<(), AllocError>
-    ensures { OnOk result (shown object.new
-        ≡ with_fields (spec.told_fields layout.now (Faulting fault.now processors.now)) (shown object.old)) }
+    ensures { OnOk result (shown object.new ≡ with_fields
+        (spec.told_fields layout.now (entry.Faulting fault.now (map act_is acts.now) met.now)) (shown object.old)) }
 {
-    object.put_values("met", processors)?;
+    let acts = acts_facts(alloc, layout, acts)?;
+    object.put_values("met", met)?;
+    object.put_list("acts", acts)?;
     put_fault(alloc, object, layout, fault)
 }
 
@@ -88,11 +127,22 @@ fn put_told(
     match entry {
         Entry::Ran {
             line,
-            processors,
-            changes,
-        } => put_ran(alloc, object, layout, *line, *processors, changes),
-        Entry::Faulted { fault, processors } => {
-            put_faulting(alloc, object, layout, fault, processors)
+            acts,
+            cells,
+            variables,
+            printed,
+        } => {
+            let ran = Ran {
+                line: *line,
+                acts,
+                cells,
+                variables,
+                printed,
+            };
+            put_ran(alloc, object, layout, &ran)
+        }
+        Entry::Faulted { fault, acts, met } => {
+            put_faulting(alloc, object, layout, fault, acts, met)
         }
     }
 }
@@ -169,8 +219,10 @@ fn push_outcome(
 }
 
 /// The entries whose numbers, counted from 1, go from `first` to `last`, each on a line, and the outcome on the last line:
-/// `{"changes":[{"after":"7","before":"4","cell":"a[3]"}],"line":9,"processors":4,"step":5}`, or at a fault
-/// `{"kind":"read-conflict","line":4,"met":["1","3"],"place":"a[1]","step":6}`.
+/// `{"acts":[{"processor":"3","reads":["a[3]"],"write":"a[3]"}],"changes":[{"after":"7","before":"4","cell":"a[3]"}],"line":9,"printed":[],`
+/// `"processors":1,"step":5,"variables":[]}`, where `processor` is null of the one outside pardo and `write` where it writes no cell, and a
+/// variable goes by its number in the order of declarations; or at a fault
+/// `{"acts":[..],"kind":"read-conflict","line":4,"met":["1","3"],"place":"a[1]","step":6}`.
 pub fn json_steps(
     alloc: Global,
     layout: &Layout,

@@ -3,7 +3,7 @@ use Rattle.std.proofs.Common.{◌≡◌, ℤ, Bool, true, false, ◌+◌, List, 
 use Rattle.std.proofs.Common.{arith}
 use Rattle.std.proofs.lemmas.Int.{ints}
 use Rattle.pram_values.specs.Truth.{is_equal}
-use Rattle.run_steps.specs.declared.change.Change.{Change}
+use Rattle.run_entries.specs.declared.change.Change.{Change}
 use Rattle.run_steps.specs.Changes.{difference, difference_from, with_changes}
 
 equal_is : (x y : ℤ) → is_equal x y ≡ true → x ≡ y

@@ -11,17 +11,17 @@ use Rattle.pram_meaning.specs.declared.run.Halt.{Halt}
 use Rattle.pram_meaning.specs.Attempt.{attempt_bounds, attempt_range}
 use Rattle.pram_meaning.specs.Bounded.{evaluated, for_all, for_turns, found, pardo, pardo_done, perform_list, perform_row, tested, turns}
 use Rattle.pram_meaning.specs.Bounded as meaning
-use Rattle.pram_meaning.specs.Store.{State, numbers, printed, seen, with_team}
+use Rattle.pram_meaning.specs.Store.{State, numbers, seen, with_team}
 use Rattle.pram_model.specs.Layout.{width}
 use Rattle.pram_meaning.proofs.Blocks.{block_is}
 use Rattle.run_steps.specs.Kept.{Going, Kept, Tells, kept}
-use Rattle.run_steps.specs.Moments.{assign_moment, for_moments, for_turns_moments, inner_list_moments, list_moments, one_moment, unchanged}
-use Rattle.run_steps.specs.Moments.{pardo_moments, row_moments, turns_moments, value_moment}
+use Rattle.run_steps.specs.Moments.{assign_moment, bounds_moment, for_moments, for_turns_moments, inner_list_moments, list_moments}
+use Rattle.run_steps.specs.Moments.{pardo_moments, print_moment, range_moment, row_moments, turns_moments, value_moment}
 use Rattle.run_steps.specs.Telling.{Told}
 use Rattle.run_steps.proofs.Kept.{halts, kept_map, kept_then, then_keep}
 use Rattle.run_steps.proofs.Told.{block_moments, told, told_for, told_list, told_test, told_turns}
 
--- ---- a test, a print
+-- ---- a test
 
 abbrev told_value : Checked → (n line : ℕ) → Expression → State → Told → Kept ℤ
 told_value p n line e m t = kept t (value_moment p n line e m) (found p n line e m)
@@ -43,29 +43,11 @@ pub test_goes : (p : Checked) (n line : ℕ) (e : Expression) (m new : State) (t
 test_goes p n line e m new t late v b is z =
     test_is p n line e m t ∙ ap (λ x. then_keep x (λ v m t. Going (is_nonzero v) m t)) is ∙ ap (λ b. Going b new late) (sym z)
 
-print_is : (p : Checked) (n line : ℕ) (e : Expression) (m : State) (t : Told) →
-    kept t (value_moment p n line e m) (meaning.print p n line e m) ≡
-    then_keep (told_value p n line e m t) (λ v m t. Going tt (printed v m) t)
-print_is p n line e m t = kept_map t (value_moment p n line e m) (found p n line e m) (λ v m. tt) printed
-
-pub print_halts : (p : Checked) (n line : ℕ) (e : Expression) (m new : State) (t late : Told) (h : Halt) →
-    Tells {A = ℤ} (λ v. v) (Err h) new late (kept t (value_moment p n line e m) (found p n line e m)) →
-    Tells {A = Unit {0}} (λ u. u) (Err h) new late (kept t (value_moment p n line e m) (meaning.print p n line e m))
-print_halts p n line e m new t late h is =
-    rw (print_is p n line e m t)
-    (halts {A = ℤ} {C = Unit {0}} (λ v. v) (λ u. u) h new late (told_value p n line e m t) (λ v m t. Going tt (printed v m) t) is)
-
-pub print_goes : (p : Checked) (n line : ℕ) (e : Expression) (m mid new : State) (t late : Told) (v : ℤ) →
-    kept t (value_moment p n line e m) (found p n line e m) ≡ Going v mid late → new ≡ printed v mid →
-    kept t (value_moment p n line e m) (meaning.print p n line e m) ≡ Going tt new late
-print_goes p n line e m mid new t late v is left =
-    print_is p n line e m t ∙ ap (λ y. then_keep y (λ v m t. Going tt (printed v m) t)) is ∙ ap (λ m. Going tt m late) (sym left)
-
 -- ---- a pardo, from its bounds and its body
 
 abbrev told_range : Checked → (n line : ℕ) → Expression → Expression → State → Told → Kept (ℤ × ℕ)
 told_range p n line e f m t =
-    kept t (one_moment n line unchanged (λ m. attempt_range p.procs (seen p m) e f) m)
+    kept t (range_moment p n line e f m)
     (evaluated n line (λ m. attempt_range p.procs (seen p m) e f) m)
 
 abbrev told_team : Checked → (n locals : ℕ) → List Step → ℤ → ℕ → State → Told → Kept (Unit {0})
@@ -76,7 +58,7 @@ pardo_is : (p : Checked) (n line : ℕ) (e f : Expression) (locals : ℕ) (body 
     kept t (pardo_moments p n line e f locals body m) (pardo p n line e f locals body m) ≡
     then_keep (told_range p n line e f m t) (λ r. told_team p n locals body r.0 r.1)
 pardo_is p n line e f locals body m t =
-    kept_then t (one_moment n line unchanged (λ m. attempt_range p.procs (seen p m) e f) m)
+    kept_then t (range_moment p n line e f m)
     (evaluated n line (λ m. attempt_range p.procs (seen p m) e f) m)
     (λ r m. inner_list_moments p n body (numbers 0 r.1) (with_team r.0 r.1 locals m))
     (λ r. pardo_done p n locals body r.0 r.1)
@@ -103,7 +85,7 @@ pardo_goes p n line e f locals body m mid new t half late c r is h =
 
 abbrev told_bounds : Checked → (n line : ℕ) → Expression → Expression → State → Told → Kept (ℤ × ℤ)
 told_bounds p n line e f m t =
-    kept t (one_moment n line unchanged (λ m. attempt_bounds (seen p m) e f) m)
+    kept t (bounds_moment p n line e f m)
     (evaluated n line (λ m. attempt_bounds (seen p m) e f) m)
 
 for_is : (p : Checked) (n line x : ℕ) (e f : Expression) (body : List Statement) (m : State) (t : Told) →
@@ -111,7 +93,7 @@ for_is : (p : Checked) (n line x : ℕ) (e f : Expression) (body : List Statemen
     (for_all p n line x e f (perform_list p n body) m) ≡
     then_keep (told_bounds p n line e f m t) (λ r. told_for p n line (width r.0 r.1) x r.0 body)
 for_is p n line x e f body m t =
-    kept_then t (one_moment n line unchanged (λ m. attempt_bounds (seen p m) e f) m)
+    kept_then t (bounds_moment p n line e f m)
     (evaluated n line (λ m. attempt_bounds (seen p m) e f) m)
     (λ r. for_turns_moments n line (width r.0 r.1) x r.0 (list_moments p n body) (perform_list p n body))
     (λ r. for_turns n (width r.0 r.1) x r.0 (perform_list p n body))
@@ -147,7 +129,7 @@ assign_arm p n line s x e m new t late r is h = rw is h
 
 pub print_arm : (p : Checked) (n line : ℕ) (s : Statement) (e : Expression) (m new : State) (t late : Told)
     (r : Result (Unit {0}) Halt) → s ≡ Print line e → Tells (λ u. u) r new late
-    (kept t (value_moment p n line e m) (meaning.print p n line e m)) → Tells (λ u. u) r new late (told p n s m t)
+    (kept t (print_moment p n line e m) (meaning.print p n line e m)) → Tells (λ u. u) r new late (told p n s m t)
 print_arm p n line s e m new t late r is h = rw is h
 
 pub while_arm : (p : Checked) (n line : ℕ) (s : Statement) (e : Expression) (body : Vec Statement Global) (m new : State)

@@ -1,5 +1,5 @@
 -- A set's statement, by what its parts come to.
-use Rattle.std.proofs.Common.{◌≡◌, ℕ, ℤ, ◌<◌, ◌≤◌, List, [], ◌∷◌, suc, Result, Ok, Err, Global, Vec, length, map, refl, ap}
+use Rattle.std.proofs.Common.{◌≡◌, ℕ, ℤ, ◌<◌, ◌≤◌, List, [], ◌∷◌, Option, Some, None, Result, Ok, Err, Global, Vec, drop, length, map, refl, ap}
 use Rattle.std.proofs.Common.{sym, ◌∙◌, ◌++◌, subst}
 use Rattle.std.proofs.lemmas.Bool.{le-ltb, lt-ltb}
 use Rattle.write_rules.specs.declared.fault.Fault.{Fault}
@@ -13,62 +13,69 @@ use Rattle.pram_meaning.specs.declared.run.Halt.TheVariants as halt
 use Rattle.pram_meaning.specs.Attempt.{Attempt, Effect, attempt_step, attempt_value}
 use Rattle.pram_meaning.specs.Bounded.{attempted_on, tested_on, valued}
 use Rattle.pram_meaning.specs.Bounded as meaning
-use Rattle.pram_meaning.specs.Conflict.{Part}
+use Rattle.pram_meaning.specs.declared.key.Key.{Key}
+use Rattle.pram_meaning.specs.Conflict.{Part, keys, least}
 use Rattle.pram_meaning.specs.Judging.{part_is}
 use Rattle.pram_meaning.specs.Runs.{IsValue}
 use Rattle.pram_meaning.specs.Store.{State, View}
-use Rattle.pram_meaning.specs.Together.{assigned_by, parts, together}
-use Rattle.run_steps.specs.declared.change.Change.{Change}
+use Rattle.pram_meaning.specs.Together.{assigned_by, on_key, parts, together}
+use Rattle.run_entries.specs.declared.change.Change.{Change}
+use Rattle.run_entries.specs.Entries.{Act, Ran}
+use Rattle.run_steps.specs.Acts.{act_of}
 use Rattle.run_steps.specs.Kept.{AtBound, Going, HaltsSet, Kept, Stopped, Tells, keep, kept, one_more}
-use Rattle.run_steps.specs.Moments.{Left, by_set, set_assign_moment, set_cells, set_moment, test_moment, unchanged}
+use Rattle.run_steps.specs.Moments.{Left, Shown, by_set, set_assign_moment, set_moment, shown, test_moment, unchanged}
 use Rattle.run_steps.specs.Changes.{difference}
-use Rattle.run_steps.specs.Entries.{Ran}
 use Rattle.run_steps.specs.Telling.{Told, tell}
+use Rattle.run_steps.proofs.Differing.{nothing_from}
 use Rattle.run_steps.proofs.Kept.{halts, kept_map, then_keep}
+use Rattle.run_steps.proofs.Pushed.{entry_told, no_gain}
 
-pub set_waits : (p : Checked) (n line : ℕ) (cells : List Part → State → List ℤ) (a : View → Attempt Effect) (vs : List ℕ) (m : State)
-    (t : Told) → n ≤ m.count → kept t (set_moment p n line cells a vs m) (attempted_on p n line a vs m) ≡ AtBound m.output t
-set_waits p n line cells a vs m t h = rw (le-ltb m.count n h) refl
+pub set_waits : (p : Checked) (n line : ℕ) (left : List Part → State → State) (a : View → Attempt Effect) (vs : List ℕ) (m : State)
+    (t : Told) → n ≤ m.count → kept t (set_moment p n line left a vs m) (attempted_on p n line a vs m) ≡ AtBound m.output t
+set_waits p n line left a vs m t h = rw (le-ltb m.count n h) refl
 
-begins : (p : Checked) (n line : ℕ) (cells : List Part → State → List ℤ) (a : View → Attempt Effect) (vs : List ℕ) (m : State) (t : Told)
+-- lawful parts are answered as they are
+lawful : (p : Checked) (line : ℕ) (xs ys : List Part) → together p line xs ≡ Ok ys → xs ≡ ys
+lawful p line xs ys e = by (least (keys p.rule xs)) e where
+  by : (k : Option Key) → on_key line k xs ≡ Ok ys → xs ≡ ys
+  by None e = cc
+  by (Some k) e = cc
+
+begins : (p : Checked) (n line : ℕ) (left : List Part → State → State) (a : View → Attempt Effect) (vs : List ℕ) (m : State) (t : Told)
     (x : Result (List Part) Fault) → m.count < n → together p line (parts p m a vs) ≡ x →
-    kept t (set_moment p n line cells a vs m) (attempted_on p n line a vs m) ≡
-    keep (tell (by_set line cells m (parts p m a vs) x) t) (valued x (one_more m))
-begins p n line cells a vs m t x h e =
+    kept t (set_moment p n line left a vs m) (attempted_on p n line a vs m) ≡
+    keep (tell (by_set line left m (parts p m a vs) x) t) (valued x (one_more m))
+begins p n line left a vs m t x h e =
     rw (lt-ltb m.count n h)
-    (ap (λ x. keep (tell (by_set line cells m (parts p m a vs) x) t) (valued x (one_more m))) e)
-
--- as many parts as members
-pub as_many : (p : Checked) (m : State) (a : View → Attempt Effect) (vs : List ℕ) → length (parts p m a vs) ≡ length vs
-as_many p m a [] = refl
-as_many p m a (v ∷ vs) = ap suc (as_many p m a vs)
+    (ap (λ x. keep (tell (by_set line left m (parts p m a vs) x) t) (valued x (one_more m))) e)
 
 -- where the parts are lawful
-pub set_gives : (p : Checked) (n line : ℕ) (cells : List Part → State → List ℤ) (a : View → Attempt Effect) (vs : List ℕ) (m new : State)
-    (t late : Told) (k : ℕ) (xs : List part.Part.Part) → m.count < n → together p line (parts p m a vs) ≡ Ok (map part_is xs) →
-    k ≡ length vs → late ≡ tell (Left line k (cells (map part_is xs) m)) t → new ≡ one_more m →
-    kept t (set_moment p n line cells a vs m) (attempted_on p n line a vs m) ≡ Going (map part_is xs) new late
-set_gives p n line cells a vs m new t late k xs h e c l s =
-    begins p n line cells a vs m t (Ok (map part_is xs)) h e
-    ∙ ap (λ k. Going (map part_is xs) (one_more m) (tell (Left line k (cells (map part_is xs) m)) t)) (as_many p m a vs ∙ sym c)
+pub set_gives : (p : Checked) (n line : ℕ) (left : List Part → State → State) (a : View → Attempt Effect) (vs : List ℕ) (m new : State)
+    (t late : Told) (xs : List part.Part.Part) → m.count < n → together p line (parts p m a vs) ≡ Ok (map part_is xs) →
+    late ≡ tell (Left line (map act_of (map part_is xs)) (shown (left (map part_is xs) m))) t → new ≡ one_more m →
+    kept t (set_moment p n line left a vs m) (attempted_on p n line a vs m) ≡ Going (map part_is xs) new late
+set_gives p n line left a vs m new t late xs h e l s =
+    begins p n line left a vs m t (Ok (map part_is xs)) h e
+    ∙ ap (λ ys. Going (map part_is xs) (one_more m) (tell (Left line (map act_of ys) (shown (left (map part_is xs) m))) t))
+    (lawful p line (parts p m a vs) (map part_is xs) e)
     ∙ ap (Going (map part_is xs) (one_more m)) (sym l)
     ∙ ap (λ m. Going (map part_is xs) m late) (sym s)
 
 -- where they fault
-pub set_fails : (p : Checked) (n line : ℕ) (cells : List Part → State → List ℤ) (a : View → Attempt Effect) (vs : List ℕ) (m new : State)
+pub set_fails : (p : Checked) (n line : ℕ) (left : List Part → State → State) (a : View → Attempt Effect) (vs : List ℕ) (m new : State)
     (t late : Told) (why h : Halt) → m.count < n →
     IsValue {A = Vec part.Part.Part Global} (λ xs. map part_is xs.items) (Err why) (together p line (parts p m a vs)) →
     HaltsSet (parts p m a vs) why h t late → new.output ≡ m.output → Tells {A = Vec part.Part.Part Global} (λ xs. map part_is xs.items)
-    (Err h) new late (kept t (set_moment p n line cells a vs m) (attempted_on p n line a vs m))
-set_fails p n line cells a vs m new t late (halt.Fault k) (halt.Fault g) h e l s =
-    begins p n line cells a vs m t (Err k) h e ∙ ap (Stopped k m.output) (sym l.1) ∙ ap (λ k. Stopped k m.output late) (sym l.0)
+    (Err h) new late (kept t (set_moment p n line left a vs m) (attempted_on p n line a vs m))
+set_fails p n line left a vs m new t late (halt.Fault k) (halt.Fault g) h e l s =
+    begins p n line left a vs m t (Err k) h e ∙ ap (Stopped k m.output) (sym l.1) ∙ ap (λ k. Stopped k m.output late) (sym l.0)
     ∙ ap (λ o. Stopped g o late) (sym s)
-set_fails p n line cells a vs m new t late (halt.Fault k) halt.Bound h e l s = absurd l
-set_fails p n line cells a vs m new t late (halt.Fault k) halt.OutOfMemory h e l s = tt
-set_fails p n line cells a vs m new t late halt.Bound g h e l s = absurd e
-set_fails p n line cells a vs m new t late halt.OutOfMemory (halt.Fault g) h e l s = cc
-set_fails p n line cells a vs m new t late halt.OutOfMemory halt.Bound h e l s = cc
-set_fails p n line cells a vs m new t late halt.OutOfMemory halt.OutOfMemory h e l s = tt
+set_fails p n line left a vs m new t late (halt.Fault k) halt.Bound h e l s = absurd l
+set_fails p n line left a vs m new t late (halt.Fault k) halt.OutOfMemory h e l s = tt
+set_fails p n line left a vs m new t late halt.Bound g h e l s = absurd e
+set_fails p n line left a vs m new t late halt.OutOfMemory (halt.Fault g) h e l s = cc
+set_fails p n line left a vs m new t late halt.OutOfMemory halt.Bound h e l s = cc
+set_fails p n line left a vs m new t late halt.OutOfMemory halt.OutOfMemory h e l s = tt
 
 -- ---- a test
 
@@ -79,13 +86,14 @@ pub test_waits : (p : Checked) (n line : ℕ) (e : Expression) (vs : List ℕ) (
     kept t (test_moment p n line e vs m) (tested_on p n line e vs m) ≡ AtBound m.output t
 test_waits p n line e vs m t = set_waits p n line unchanged (λ s. attempt_value s e) vs m t
 
-pub test_goes : (p : Checked) (n line : ℕ) (e : Expression) (vs : List ℕ) (m mid new : State) (t half late : Told) (k : ℕ)
+pub test_goes : (p : Checked) (n line : ℕ) (e : Expression) (vs : List ℕ) (m mid new : State) (t half late : Told)
     (xs : List part.Part.Part) → m.count < n → together p line (parts p m (λ s. attempt_value s e) vs) ≡ Ok (map part_is xs) →
-    mid ≡ m → half ≡ t → k ≡ length vs → late ≡ tell (Left line k mid.cells) half → new ≡ one_more mid →
+    mid ≡ m → half ≡ t → late ≡ tell (Left line (map act_of (map part_is xs)) (shown mid)) half → new ≡ one_more mid →
     kept t (test_moment p n line e vs m) (tested_on p n line e vs m) ≡ Going (map part_is xs) new late
-test_goes p n line e vs m mid new t half late k xs h is a b c l s =
-    set_gives p n line unchanged (λ s. attempt_value s e) vs m new t late k xs h is c
-    (l ∙ ap (λ (m : State). tell (Left line k m.cells) half) a ∙ ap (tell (Left line k m.cells)) b) (s ∙ ap one_more a)
+test_goes p n line e vs m mid new t half late xs h is a b l s =
+    set_gives p n line unchanged (λ s. attempt_value s e) vs m new t late xs h is
+    (l ∙ ap (λ m. tell (Left line (map act_of (map part_is xs)) (shown m)) half) a ∙ ap (tell (Left line (map act_of (map part_is xs)) (shown m))) b)
+    (s ∙ ap one_more a)
 
 pub test_fails : (p : Checked) (n line : ℕ) (e : Expression) (vs : List ℕ) (m mid new : State) (t half late : Told) (why h : Halt) →
     m.count < n → IsValue {A = Vec part.Part.Part Global} (λ xs. map part_is xs.items) (Err why)
@@ -120,16 +128,18 @@ pub assign_waits : (p : Checked) (n line : ℕ) (x : StepTarget) (e : Expression
     kept t (set_assign_moment p n line x e vs m) (meaning.assign_on p n line x e vs m) ≡ AtBound m.output t
 assign_waits p n line x e vs m t h = rw (le-ltb m.count n h) refl
 
-pub assign_goes : (p : Checked) (n line : ℕ) (x : StepTarget) (e : Expression) (vs : List ℕ) (m mid new : State) (t half late : Told) (k : ℕ)
+pub assign_goes : (p : Checked) (n line : ℕ) (x : StepTarget) (e : Expression) (vs : List ℕ) (m mid new : State) (t half late : Told)
     (xs : List part.Part.Part) → m.count < n → together p line (parts p m (λ s. attempt_step s x e) vs) ≡ Ok (map part_is xs) →
-    mid ≡ m → half ≡ t → k ≡ length vs → late ≡ tell (Left line k (set_cells p x (map part_is xs) mid)) half →
+    mid ≡ m → half ≡ t → late ≡ tell (Left line (map act_of (map part_is xs)) (shown (assigned_by p x (map part_is xs) mid))) half →
     new ≡ one_more (assigned_by p x (map part_is xs) mid) →
     kept t (set_assign_moment p n line x e vs m) (meaning.assign_on p n line x e vs m) ≡ Going tt new late
-assign_goes p n line x e vs m mid new t half late k xs h is a b c l s =
+assign_goes p n line x e vs m mid new t half late xs h is a b l s =
+    let acts = map act_of (map part_is xs) in
     assigned p n line x e vs m t
     ∙ ap (λ b. then_keep b (λ xs m t. Going tt (assigned_by p x xs m) t))
-    (set_gives p n line (set_cells p x) (λ s. attempt_step s x e) vs m (one_more m) t late k xs h is c
-    (l ∙ ap (λ m. tell (Left line k (set_cells p x (map part_is xs) m)) half) a ∙ ap (tell (Left line k (set_cells p x (map part_is xs) m))) b)
+    (set_gives p n line (assigned_by p x) (λ s. attempt_step s x e) vs m (one_more m) t late xs h is
+    (l ∙ ap (λ m. tell (Left line acts (shown (assigned_by p x (map part_is xs) m))) half) a
+    ∙ ap (tell (Left line acts (shown (assigned_by p x (map part_is xs) m)))) b)
     refl)
     ∙ ap (λ m. Going tt m late)
     (sym (s ∙ ap (λ m. one_more (assigned_by p x (map part_is xs) m)) a ∙ recounted p x (map part_is xs) m))
@@ -146,7 +156,7 @@ assign_fails p n line x e vs m mid new t half late why h l is a b f s =
     (halts {A = Vec part.Part.Part Global} {C = Unit {0}} (λ xs. map part_is xs.items) (λ u. u) h new late
     (kept t (set_assign_moment p n line x e vs m) (attempted_on p n line (λ s. attempt_step s x e) vs m))
     (λ xs m t. Going tt (assigned_by p x xs m) t)
-    (set_fails p n line (set_cells p x) (λ s. attempt_step s x e) vs m new t late why h l is (subst Q b (subst P a f))
+    (set_fails p n line (assigned_by p x) (λ s. attempt_step s x e) vs m new t late why h l is (subst Q b (subst P a f))
     (ap (λ (m : State). m.output) (s ∙ a))))
 
 -- ---- what it leaves
@@ -155,9 +165,25 @@ pub cells_left : (p : Checked) (x : StepTarget) (xs : List Part) (old mid new : 
     new ≡ one_more (assigned_by p x xs old)
 cells_left p x xs old mid new e s = s ∙ ap one_more e
 
-pub cells_told : (line k : ℕ) (ds : List Change) (before after : List ℤ) (t late : Told) → before ≡ t.cells → ds ≡ difference before after →
-    late.entries ≡ t.entries ++ Ran line k ds ∷ [] → late.cells ≡ after → late ≡ tell (Left line k after) t
-cells_told line k ds before after t late b d e s = λ j. record {
-  entries = (e ∙ ap (λ ds. t.entries ++ Ran line k ds ∷ []) (d ∙ ap (λ xs. difference xs after) b)) j;
-  cells = s j;
-}
+-- it changes the cells alone, of what is shown
+only_cells : (p : Checked) (x : StepTarget) (xs : List Part) (m : State) →
+    (m.uniforms ≡ (assigned_by p x xs m).uniforms) × (m.output ≡ (assigned_by p x xs m).output)
+only_cells p (step.Local x) xs m = (refl, refl)
+only_cells p (step.Cell a) xs m = (refl, refl)
+only_cells p (step.Element a e) xs m = (refl, refl)
+
+pub cells_told : (p : Checked) (line : ℕ) (x : StepTarget) (xs : List Part) (acts real : List Act) (cells variables : List Change)
+    (items before after : List ℤ) (m mid new : State) (t late : Told) → acts ≡ real → t.now ≡ shown m → before ≡ m.cells →
+    cells ≡ difference before after → variables ≡ [] → items ≡ [] →
+    late.entries ≡ t.entries ++ Ran line acts cells variables items ∷ [] → mid ≡ assigned_by p x xs m → after ≡ mid.cells →
+    new ≡ one_more mid → late.now ≡ shown new → late ≡ tell (Left line real (shown (assigned_by p x xs m))) t
+cells_told p line x xs acts real cells variables items before after m mid new t late w n b d v o e s f u l =
+    let old : State = assigned_by p x xs m in
+    let same = only_cells p x xs m in
+    entry_told line acts cells variables items (shown old) t late e (l ∙ ap shown (u ∙ ap one_more s))
+    (d ∙ ap (λ xs. difference xs after) (b ∙ ap (λ (s : Shown). s.cells) (sym n)) ∙ ap (difference t.now.cells) (f ∙ ap (λ (m : State). m.cells) s))
+    (v ∙ sym (nothing_from 0 m.uniforms) ∙ ap (λ (s : Shown). difference s.uniforms m.uniforms) (sym n)
+    ∙ ap (difference t.now.uniforms) same.0)
+    (o ∙ sym (no_gain m.output) ∙ ap (λ (s : Shown). drop (length s.output) m.output) (sym n)
+    ∙ ap (drop (length t.now.output)) same.1)
+    ∙ ap (λ acts. tell (Left line acts (shown old)) t) w

@@ -5,7 +5,7 @@ use Rattle.std.proofs.lemmas.Bool.{leb-true, leb-false}
 use Rattle.std.proofs.lemmas.Int.{ints}
 use Rattle.std.proofs.lemmas.List.{drop_more, drop_all}
 use Rattle.pram_values.specs.Truth.{is_equal}
-use Rattle.run_steps.specs.declared.change.Change.{Change}
+use Rattle.run_entries.specs.declared.change.Change.{Change}
 use Rattle.run_steps.specs.Changes.{change_at, difference, difference_from}
 
 pub record InDifference (old new : List ℤ) (i : ℕ) (now : List Change) : Type 0 where

@@ -1,8 +1,10 @@
 pub mod Differing
 pub mod Pushed
 pub mod MeetingReads
+pub mod ActLists
 pub mod Applied
 pub mod Kept
+pub mod Sound
 pub mod Replays
 pub mod ByOne
 pub mod BySet

@@ -1,5 +1,5 @@
 -- A told run on its way through a block or a loop.
-use Rattle.std.proofs.Common.{◌≡◌, ℕ, ℤ, Bool, true, false, List, ◌∷◌, zero, suc, ◌+◌, ◌<◌, ◌≤◌, refl, ap, sym, ◌∙◌, drop}
+use Rattle.std.proofs.Common.{◌≡◌, ℕ, ℤ, Bool, true, false, List, [], ◌∷◌, None, zero, suc, ◌+◌, ◌<◌, ◌≤◌, refl, ap, sym, ◌∙◌, drop}
 use Rattle.std.proofs.Common.{length, get_or, Err, arith}
 use Rattle.std.proofs.lemmas.List.{drop_more, drop_all}
 use Rattle.std.proofs.lemmas.Bool.{le-ltb, lt-ltb}
@@ -8,9 +8,11 @@ use Rattle.pram_meaning.specs.declared.run.Halt.TheVariants as halt
 use Rattle.pram_check.specs.Checked.{Checked}
 use Rattle.pram_names.specs.declared.body.Expression.{Expression}
 use Rattle.pram_names.specs.declared.body.Statement.{Statement}
-use Rattle.pram_meaning.specs.Store.{State}
+use Rattle.pram_meaning.specs.Store.{State, with_uniform}
 use Rattle.run_steps.specs.Kept.{AtBound, Going, Kept, Tells, one_more}
-use Rattle.run_steps.specs.Moments.{Left}
+use Rattle.run_entries.specs.Entries.{Act}
+use Rattle.run_steps.specs.Acts.{alone_acts}
+use Rattle.run_steps.specs.Moments.{Left, shown}
 use Rattle.run_steps.specs.Telling.{Told, tell}
 use Rattle.run_steps.proofs.Kept.{halts, then_keep}
 use Rattle.run_steps.proofs.Told.{list_is, told, told_list, told_setting, told_test, told_turns, turn_told, turns_are}
@@ -148,10 +150,13 @@ turn_goes w n line e body start now m new from till half late v i t z b more =
 
 -- ---- the setting of a `for`
 
-pub setting_waits : (n line : ℕ) (m : State) (t : Told) → n ≤ m.count → told_setting n line m t ≡ AtBound m.output t
-setting_waits n line m t h = rw (le-ltb m.count n h) refl
+pub setting_waits : (n line x : ℕ) (a : ℤ) (m : State) (t : Told) → n ≤ m.count → told_setting n line x a m t ≡ AtBound m.output t
+setting_waits n line x a m t h = rw (le-ltb m.count n h) refl
 
-pub setting_goes : (n line : ℕ) (m new : State) (t late : Told) → m.count < n → late ≡ tell (Left line 1 m.cells) t → new ≡ one_more m →
-    told_setting n line m t ≡ Going tt new late
-setting_goes n line m new t late h l s =
-    rw (lt-ltb m.count n h) (ap (Going tt (one_more m)) (sym l) ∙ ap (λ m. Going tt m late) (sym s))
+pub setting_goes : (n line x : ℕ) (a : ℤ) (acts : List Act) (m new : State) (t late : Told) → m.count < n → acts ≡ alone_acts [] None →
+    late ≡ tell (Left line acts (shown (with_uniform x a m))) t → new ≡ one_more (with_uniform x a m) →
+    told_setting n line x a m t ≡ Going tt new late
+setting_goes n line x a acts m new t late h c l s =
+    rw (lt-ltb m.count n h)
+    (ap (Going tt (one_more (with_uniform x a m)))
+    (sym (l ∙ ap (λ acts. tell (Left line acts (shown (with_uniform x a m))) t) c)) ∙ ap (λ m. Going tt m late) (sym s))

@@ -8,14 +8,14 @@ use Rattle.pram_names.specs.declared.body.Statement.TheBlock.{hidden-the_row-Sta
 use Rattle.pram_names.specs.declared.body.Step.{Row_of-Step, Step, end_of-Step, items-the_row-Step, items_hidden-the_row-Step-0}
 use Rattle.pram_names.specs.declared.body.Step.{more_of-Step}
 use Rattle.pram_names.specs.declared.body.Step.TheBlock.{hidden-the_row-Step-0}
-use Rattle.pram_meaning.specs.Bounded.{Goes, counted, perform, perform_list, perform_list_on, perform_on, tested, tested_on}
+use Rattle.pram_meaning.specs.Bounded.{Done, Goes, Reaches, Stops, counted, perform, perform_list, perform_list_on, perform_on, tested, tested_on}
 use Rattle.pram_meaning.specs.Bounded.{then_do, turns, turns_on, unless_none, for_turns}
 use Rattle.pram_meaning.specs.Conflict.{Part}
 use Rattle.pram_meaning.specs.Store.{State, with_uniform}
 use Rattle.pram_meaning.specs.Together.{those}
-use Rattle.run_steps.specs.Kept.{Going, Kept, kept}
-use Rattle.run_steps.specs.Moments.{Left, begun, behind, for_turns_moments, if_any, inner_list_moments, inner_row_moments, inner_moments}
-use Rattle.run_steps.specs.Moments.{list_moments, row_moments, moments, test_moment, turns_on_moments, turns_moments, value_moment}
+use Rattle.run_steps.specs.Kept.{Going, Kept, kept, setting}
+use Rattle.run_steps.specs.Moments.{Moment, behind, for_turns_moments, if_any, inner_list_moments, inner_row_moments, inner_moments}
+use Rattle.run_steps.specs.Moments.{list_moments, row_moments, moments, setting_moment, test_moment, turns_on_moments, turns_moments, value_moment}
 use Rattle.run_steps.specs.Telling.{Told}
 use Rattle.run_steps.proofs.Kept.{kept_then, then_keep}
 
@@ -152,18 +152,30 @@ told_for p n line k x a body m t =
     (for_turns n k x a (perform_list p n body) m)
 
 -- the setting of the variable
-abbrev pub told_setting : (n line : ℕ) → State → Told → Kept (Unit {0})
-told_setting n line m t = kept t (begun n m (Left line 1 m.cells)) (counted n m)
+abbrev pub told_setting : (n line x : ℕ) → ℤ → State → Told → Kept (Unit {0})
+told_setting n line x a m t = kept t (setting_moment n line x a m) (setting n x a m)
+
+abbrev set_in : ℕ → ℤ → Unit {0} → State → Done
+set_in x a u m = Goes tt (with_uniform x a m)
+
+set_behind : (x : ℕ) (a : ℤ) (t : Told) (ss : List Moment) (b : Done) (f : State → Told → Kept (Unit {0})) →
+    then_keep (kept t ss b) (λ u m t. f (with_uniform x a m) t) ≡
+    then_keep (kept t ss (then_do b (set_in x a))) (λ u. f)
+set_behind x a t ss (Goes u m) f = refl
+set_behind x a t ss (Stops k out) f = refl
+set_behind x a t ss (Reaches out) f = refl
 
 pub for_turns_are : (p : Checked) (n line : ℕ) (k x : ℕ) (a : ℤ) (body : List Statement) (m : State) (t : Told) →
-    told_for p n line (suc k) x a body m t ≡ then_keep (told_setting n line m t)
-    (λ u m t. then_keep (told_list p n body (with_uniform x a m) t) (λ u. told_for p n line k x (a +ℤ pos 1) body))
+    told_for p n line (suc k) x a body m t ≡ then_keep (told_setting n line x a m t)
+    (λ u m t. then_keep (told_list p n body m t) (λ u. told_for p n line k x (a +ℤ pos 1) body))
 for_turns_are p n line k x a body m t =
-    kept_then t (begun n m (Left line 1 m.cells)) (counted n m)
+    kept_then t (setting_moment n line x a m) (counted n m)
     (λ u m. list_moments p n body (with_uniform x a m) ++ behind (perform_list p n body (with_uniform x a m))
     (λ u. for_turns_moments n line k x (a +ℤ pos 1) (list_moments p n body) (perform_list p n body)))
     (λ u m. then_do (perform_list p n body (with_uniform x a m)) (λ u. for_turns n k x (a +ℤ pos 1) (perform_list p n body)))
-    ∙ ap (then_keep (told_setting n line m t)) (λ j u m t. kept_then t (list_moments p n body (with_uniform x a m))
+    ∙ ap (then_keep (kept t (setting_moment n line x a m) (counted n m))) (λ j u m t. kept_then t (list_moments p n body (with_uniform x a m))
     (perform_list p n body (with_uniform x a m))
     (λ u. for_turns_moments n line k x (a +ℤ pos 1) (list_moments p n body) (perform_list p n body))
     (λ u. for_turns n k x (a +ℤ pos 1) (perform_list p n body)) j)
+    ∙ set_behind x a t (setting_moment n line x a m) (counted n m)
+    (λ m t. then_keep (told_list p n body m t) (λ u. told_for p n line k x (a +ℤ pos 1) body))

@@ -1,13 +1,13 @@
--- The difference of two stores, cell by cell, and how it is applied.
+-- The difference of two lists of values, of cells or of uniform variables, and how it is applied.
 use Rattle.std.specs.Prelude.{ℕ, ◌+◌, List, [], ◌∷◌, ◌++◌, ℤ, if◌then◌else◌, slice_set}
 use Rattle.pram_values.specs.Truth.{is_equal}
-use Rattle.run_steps.specs.declared.change.Change.{Change}
+use Rattle.run_entries.specs.declared.change.Change.{Change}
 
--- that of one cell
+-- that of one of them
 abbrev pub change_at : ℕ → ℤ → ℤ → List Change
 change_at c x y = if is_equal x y then [] else record { cell = c; before = x; after = y } ∷ []
 
--- the cells, numbered from c on, whose value differs, in ascending order
+-- those, numbered from c on, whose value differs, in ascending order
 abbrev pub difference_from : ℕ → List ℤ → List ℤ → List Change
 difference_from c [] new = []
 difference_from c (x ∷ old) [] = []
@@ -16,7 +16,7 @@ difference_from c (x ∷ old) (y ∷ new) = change_at c x y ++ difference_from (
 abbrev pub difference : List ℤ → List ℤ → List Change
 difference = difference_from 0
 
--- the cells after some changes
+-- the values after some changes
 abbrev pub with_changes : List Change → List ℤ → List ℤ
 with_changes [] cells = cells
 with_changes (d ∷ ds) cells = with_changes ds (slice_set cells d.cell d.after)

@@ -1,42 +1,30 @@
 -- A run told statement by statement: entry k is the k-th statement that ran, counted from 1.
-use Rattle.std.specs.Prelude.{◌≡◌, ℕ, List, [], ◌∷◌, ℤ, ⊤}
+use Rattle.std.specs.Prelude.{◌≡◌, ℕ, List, [], ◌∷◌, ◌++◌, ℤ, ⊤}
 use Rattle.pram_check.specs.Checked.{Checked}
-use Rattle.write_rules.specs.declared.fault.Fault.{Fault}
 use Rattle.write_rules.specs.Verdict.{Verdict, Ended, Faulted, GoesOn}
 use Rattle.pram_meaning.specs.Outcome.{IsOutcome, opening}
-use Rattle.run_steps.specs.declared.change.Change.{Change}
-use Rattle.run_steps.specs.declared.entry as rust
-use Rattle.run_steps.specs.declared.entry.Entry.TheVariants as variant
-use Rattle.run_steps.specs.Changes.{difference, with_changes}
-use Rattle.run_steps.specs.Moments.{Moment, Left, Fell, run_moments}
+use Rattle.run_entries.specs.Entries.{Entry, Ran, Faulting}
+use Rattle.run_steps.specs.Changes.{with_changes}
+use Rattle.run_steps.specs.Moments.{Moment, Left, Fell, Shown, run_moments, shown}
+use Rattle.run_steps.specs.Telling.{ran}
 
--- a statement that ran: its line, how many processors executed it, and the cells whose value differs behind it; or the fault of one,
--- and the indices of the processors that met at its cell
-pub data Entry : Type 0 where
-  Ran : (line processors : ℕ) → List Change → Entry
-  Faulting : Fault → List ℤ → Entry
-
--- what is told of the moments of a run that has these cells before them: each store's difference from the one before it
-abbrev pub entries_from : List ℤ → List Moment → List Entry
-entries_from cells [] = []
-entries_from cells (Left line k new ∷ ms) = Ran line k (difference cells new) ∷ entries_from new ms
-entries_from cells (Fell fault who ∷ ms) = Faulting fault who ∷ entries_from cells ms
+-- what is told of the moments of a run of which this is shown before them: each state's difference from the one before it
+abbrev pub entries_from : Shown → List Moment → List Entry
+entries_from old [] = []
+entries_from old (Left line acts new ∷ ms) = ran line acts old new ∷ entries_from new ms
+entries_from old (Fell fault acts met ∷ ms) = Faulting fault acts met ∷ entries_from old ms
 
 -- what is told of a program's run on an input, of at most n statements
 abbrev pub run_entries : Checked → List ℤ → ℕ → List Entry
-run_entries p input n = entries_from (opening p input).cells (run_moments p input n)
+run_entries p input n = entries_from (shown (opening p input)) (run_moments p input n)
 
-abbrev pub entry_is : rust.Entry.Entry → Entry
-entry_is (variant.Ran line k ds) = Ran line k ds.items
-entry_is (variant.Faulted fault who) = Faulting fault who.items
-
--- ---- the changes, applied in order
+-- ---- the changes of cells, applied in order
 
 -- the cells behind all entries
 abbrev pub replay : List Entry → List ℤ → List ℤ
 replay [] cells = cells
-replay (Ran line k ds ∷ es) cells = replay es (with_changes ds cells)
-replay (Faulting fault who ∷ es) cells = replay es cells
+replay (Ran line acts changed variables items ∷ es) cells = replay es (with_changes changed cells)
+replay (Faulting fault acts met ∷ es) cells = replay es cells
 
 -- the memory of an outcome that has one
 abbrev pub HasMemory : Verdict → List ℤ → Type 0
@@ -49,3 +37,20 @@ abbrev pub ChangesGiveTheMemory : Type 0
 ChangesGiveTheMemory =
     (p : Checked) (input : List ℤ) (n : ℕ) (v : Verdict) → IsOutcome p input n v →
     HasMemory v (replay (run_entries p input n) (opening p input).cells)
+
+-- ---- the items that were printed, joined
+
+abbrev pub items_of : List Entry → List ℤ
+items_of [] = []
+items_of (Ran line acts changed variables items ∷ es) = items ++ items_of es
+items_of (Faulting fault acts met ∷ es) = items_of es
+
+abbrev pub output_of : Verdict → List ℤ
+output_of (Ended output memory) = output
+output_of (Faulted fault output) = output
+output_of (GoesOn output) = output
+
+-- The items that are told of a run, joined, are the output of its outcome, whatever it comes to.
+abbrev pub ItemsGiveTheOutput : Type 0
+ItemsGiveTheOutput =
+    (p : Checked) (input : List ℤ) (n : ℕ) (v : Verdict) → IsOutcome p input n v → items_of (run_entries p input n) ≡ output_of v

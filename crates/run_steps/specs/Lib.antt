@@ -1,3 +1,4 @@
+pub mod Acts
 pub mod Moments
 pub mod Changes
 pub mod Entries

@@ -1,8 +1,8 @@
--- A run as a sequence of stores: each statement that ran, with the cells behind it, by recursion beside the bounded meaning.
+-- A run as a sequence of states: each statement that ran, with what is shown behind it, by recursion beside the bounded meaning.
 -- A run as a sequence of time units, in each of which some processors act: JáJá, An Introduction to Parallel Algorithms, chapter 1 (the
 -- work-time presentation). What counts as one statement is this project's own profile.
 use Rattle.std.specs.Prelude.{Result, Ok, Err, ℕ, zero, suc, ◌+◌, List, [], ◌∷◌, ◌++◌, Bool, true, false, ◌||◌, if◌then◌else◌, Option, Some}
-use Rattle.std.specs.Prelude.{None, ℤ, pos, ◌+ℤ◌, nat_lt, nat_eq, length}
+use Rattle.std.specs.Prelude.{None, ℤ, pos, ◌+ℤ◌, nat_lt, nat_eq, map}
 use Rattle.std.specs.List.{flat_map, list_any}
 use Rattle.pram_model.specs.Layout.{width}
 use Rattle.pram_check.specs.Checked.{Checked}
@@ -16,20 +16,31 @@ use Rattle.pram_names.specs.declared.body.Target.{Target}
 use Rattle.pram_values.specs.declared.place.Place.{Place}
 use Rattle.pram_values.specs.declared.place.Place.TheVariants.{All, Cell, Processor}
 use Rattle.write_rules.specs.declared.fault.Fault.{Fault}
-use Rattle.pram_meaning.specs.Store.{State, View, seen, with_uniform, numbers, with_team}
+use Rattle.pram_meaning.specs.Store.{State, View, seen, with_uniform, printed, numbers, with_team}
 use Rattle.pram_meaning.specs.Attempt.{Attempt, Gives, Fails, Trail, Effect, attempt, attempt_value, attempt_assign, attempt_step}
 use Rattle.pram_meaning.specs.Attempt.{attempt_bounds, attempt_range}
 use Rattle.pram_meaning.specs.Conflict.{Part, trail_of}
-use Rattle.pram_meaning.specs.Together.{alone, assigned, assigned_by, parts, together, those}
+use Rattle.pram_meaning.specs.Together.{assigned, assigned_by, parts, together, those}
 use Rattle.pram_meaning.specs.Outcome.{opening}
 use Rattle.pram_meaning.specs.Bounded.{Behaviour, Goes, Stops, Reaches, Done, counted, evaluated, tested, tested_on, perform}
 use Rattle.pram_meaning.specs.Bounded.{perform_row, perform_on, perform_row_on}
+use Rattle.run_entries.specs.Entries.{Act}
+use Rattle.run_steps.specs.Acts.{act_of, alone_acts}
 
--- a statement that ran: its line, how many processors executed it, and the cells behind it; or one that faulted: its fault, and the
--- indices of the processors that met at a cell
+-- what is shown of a state: the uniform variables, the cells, and the output
+pub record Shown : Type 0 where
+  pub uniforms : List ℤ
+  pub cells : List ℤ
+  pub output : List ℤ
+
+abbrev pub shown : State → Shown
+shown m = record { uniforms = m.uniforms; cells = m.cells; output = m.output }
+
+-- a statement that ran: its line, what each of those did that executed it, and what is shown of the state behind it; or one that faulted:
+-- its fault, what each did up to there, and the indices of the processors that met at a cell
 pub data Moment : Type 0 where
-  Left : (line processors : ℕ) → List ℤ → Moment
-  Fell : Fault → List ℤ → Moment
+  Left : (line : ℕ) → List Act → Shown → Moment
+  Fell : Fault → List Act → (met : List ℤ) → Moment
 
 -- ---- the processors that meet at a cell
 
@@ -59,27 +70,27 @@ meeting All xs = []
 
 -- ---- one statement
 
--- what leaves all cells as they are
-abbrev pub unchanged : {A : Type 0} → A → State → List ℤ
-unchanged a m = m.cells
+-- what leaves the state as it is
+abbrev pub unchanged : {A : Type 0} → A → State → State
+unchanged a m = m
 
--- the cells behind an assignment outside pardo
-abbrev pub assigned_cells : Target → Effect → State → List ℤ
-assigned_cells x g m = (assigned x g m).cells
+-- what writes no cell
+abbrev pub nowhere : {A : Type 0} → A → Option ℕ
+nowhere a = None
 
--- the same inside pardo
-abbrev pub set_cells : Checked → StepTarget → List Part → State → List ℤ
-set_cells p x xs m = (assigned_by p x xs m).cells
+-- where an assignment writes
+abbrev pub goes_to : Effect → Option ℕ
+goes_to g = g.cell
 
--- by the one processor outside pardo, whose value, or fault, this is
-abbrev pub by_one : {A : Type 0} → ℕ → (A → State → List ℤ) → State → Result A Fault → Moment
-by_one line cells m (Ok a) = Left line 1 (cells a m)
-by_one line cells m (Err k) = Fell k []
+-- by the one processor outside pardo, whose attempt this is
+abbrev pub by_one : {A : Type 0} → ℕ → (A → Option ℕ) → (A → State → State) → State → Attempt A → Moment
+by_one line write left m (Gives t a) = Left line (alone_acts t (write a)) (shown (left a m))
+by_one line write left m (Fails t k) = Fell (record { kind = k; line = line; place = All }) (alone_acts t None) []
 
 -- by a set
-abbrev pub by_set : ℕ → (List Part → State → List ℤ) → State → List Part → Result (List Part) Fault → Moment
-by_set line cells m xs (Ok ys) = Left line (length xs) (cells ys m)
-by_set line cells m xs (Err k) = Fell k (meeting k.place xs)
+abbrev pub by_set : ℕ → (List Part → State → State) → State → List Part → Result (List Part) Fault → Moment
+by_set line left m xs (Ok ys) = Left line (map act_of xs) (shown (left ys m))
+by_set line left m xs (Err k) = Fell k (map act_of xs) (meeting k.place xs)
 
 -- ---- what is so of every statement
 
@@ -94,28 +105,44 @@ behind (Stops k out) f = []
 behind (Reaches out) f = []
 
 -- that of one processor's value
-abbrev pub one_moment : {A : Type 0} → ℕ → ℕ → (A → State → List ℤ) → (State → Attempt A) → State → List Moment
-one_moment n line cells a m = begun n m (by_one line cells m (alone line (a m)))
+abbrev pub one_moment : {A : Type 0} → ℕ → ℕ → (A → Option ℕ) → (A → State → State) → (State → Attempt A) → State → List Moment
+one_moment n line write left a m = begun n m (by_one line write left m (a m))
 
 -- that of an expression's value
 abbrev pub value_moment : Checked → ℕ → ℕ → Expression → State → List Moment
-value_moment p n line e = one_moment n line unchanged (λ m. attempt (seen p m) e [])
+value_moment p n line e = one_moment n line nowhere unchanged (λ m. attempt (seen p m) e [])
+
+-- that of a print
+abbrev pub print_moment : Checked → ℕ → ℕ → Expression → State → List Moment
+print_moment p n line e = one_moment n line nowhere printed (λ m. attempt (seen p m) e [])
 
 -- that of an assignment
 abbrev pub assign_moment : Checked → ℕ → ℕ → Target → Expression → State → List Moment
-assign_moment p n line x e = one_moment n line (assigned_cells x) (λ m. attempt_assign (seen p m) x e)
+assign_moment p n line x e = one_moment n line goes_to (assigned x) (λ m. attempt_assign (seen p m) x e)
+
+-- that of the bounds of a `for`
+abbrev pub bounds_moment : Checked → ℕ → ℕ → Expression → Expression → State → List Moment
+bounds_moment p n line e f = one_moment n line nowhere unchanged (λ m. attempt_bounds (seen p m) e f)
+
+-- that of the setting of its variable
+abbrev pub setting_moment : ℕ → (line x : ℕ) → ℤ → State → List Moment
+setting_moment n line x a m = begun n m (Left line (alone_acts [] None) (shown (with_uniform x a m)))
+
+-- that of the bounds of a pardo
+abbrev pub range_moment : Checked → ℕ → ℕ → Expression → Expression → State → List Moment
+range_moment p n line e f = one_moment n line nowhere unchanged (λ m. attempt_range p.procs (seen p m) e f)
 
 -- ---- inside pardo
 
 -- that of a set
-abbrev pub set_moment : Checked → ℕ → ℕ → (List Part → State → List ℤ) → (View → Attempt Effect) → List ℕ → State → List Moment
-set_moment p n line cells a vs m = begun n m (by_set line cells m (parts p m a vs) (together p line (parts p m a vs)))
+abbrev pub set_moment : Checked → ℕ → ℕ → (List Part → State → State) → (View → Attempt Effect) → List ℕ → State → List Moment
+set_moment p n line left a vs m = begun n m (by_set line left m (parts p m a vs) (together p line (parts p m a vs)))
 
 abbrev pub test_moment : Checked → ℕ → ℕ → Expression → List ℕ → State → List Moment
 test_moment p n line e = set_moment p n line unchanged (λ s. attempt_value s e)
 
 abbrev pub set_assign_moment : Checked → ℕ → ℕ → StepTarget → Expression → List ℕ → State → List Moment
-set_assign_moment p n line x e = set_moment p n line (set_cells p x) (λ s. attempt_step s x e)
+set_assign_moment p n line x e = set_moment p n line (assigned_by p x) (λ s. attempt_step s x e)
 
 abbrev pub if_any : List ℕ → List Moment → List Moment
 if_any [] ss = []
@@ -164,18 +191,18 @@ turns_moments (suc k) head test inside body m =
 abbrev pub for_turns_moments : ℕ → ℕ → ℕ → ℕ → ℤ → (State → List Moment) → (State → Done) → State → List Moment
 for_turns_moments n line zero x a inside body m = []
 for_turns_moments n line (suc k) x a inside body m =
-    begun n m (Left line 1 m.cells) ++ behind (counted n m) (λ u m. inside (with_uniform x a m)
+    setting_moment n line x a m ++ behind (counted n m) (λ u m. inside (with_uniform x a m)
     ++ behind (body (with_uniform x a m)) (λ u. for_turns_moments n line k x (a +ℤ pos 1) inside body))
 
 abbrev pub for_moments : Checked → ℕ → (line x : ℕ) → Expression → Expression → (State → List Moment) → (State → Done) → State →
     List Moment
 for_moments p n line x e f inside body m =
-    one_moment n line unchanged (λ m. attempt_bounds (seen p m) e f) m
+    bounds_moment p n line e f m
     ++ behind (evaluated n line (λ m. attempt_bounds (seen p m) e f) m) (λ r. for_turns_moments n line (width r.0 r.1) x r.0 inside body)
 
 abbrev pub pardo_moments : Checked → ℕ → ℕ → Expression → Expression → ℕ → List Step → State → List Moment
 pardo_moments p n line e f locals body m =
-    one_moment n line unchanged (λ m. attempt_range p.procs (seen p m) e f) m
+    range_moment p n line e f m
     ++ behind (evaluated n line (λ m. attempt_range p.procs (seen p m) e f) m) (λ r m.
     inner_list_moments p n body (numbers 0 r.1) (with_team r.0 r.1 locals m))
 
@@ -183,7 +210,7 @@ abbrev mutual
   -- those of a statement outside pardo
   pub moments : Checked → ℕ → Statement → State → List Moment
   moments p n (Assign line x e) m = assign_moment p n line x e m
-  moments p n (Print line e) m = value_moment p n line e m
+  moments p n (Print line e) m = print_moment p n line e m
   moments p n (While' line e q body) m =
       turns_moments (n + 1) (value_moment p n line e) (tested p n line e) (row_moments p n body) (perform_row p n body) m
   moments p n (If' line e q then_part r else_part) m =

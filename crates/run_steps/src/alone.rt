@@ -1,24 +1,27 @@
 //! A statement outside pardo: one processor acts.
 
-ghost use Rattle.std.specs.Prelude.{◌≡◌, ◌≤◌, ◌<◌, ◌+◌, ◌-◌, ◌^◌, ◌+ℤ◌, pos, [], FitsSigned, IfOk, OnOk, true, false};
+ghost use Rattle.std.specs.Prelude.{◌≡◌, ◌≤◌, ◌<◌, ◌+◌, ◌-◌, ◌^◌, ◌+ℤ◌, pos, [], FitsSigned, IfOk, None, OnOk, true, false};
 ghost use Rattle.std.specs.Int.{w64};
-ghost use Rattle.pram_meaning.specs.Attempt.{attempt, attempt_bounds, attempt_range};
 ghost use Rattle.pram_meaning.specs.Bounded.{evaluated, found};
 ghost use Rattle.pram_meaning.specs.Bounded as meaning;
+ghost use Rattle.pram_meaning.specs.Attempt.{attempt_bounds, attempt_range};
 ghost use Rattle.pram_meaning.specs.Runs.{effect_is};
-ghost use Rattle.pram_meaning.specs.Store.{seen, with_cell};
+ghost use Rattle.pram_meaning.specs.Store.{printed, seen};
 ghost use Rattle.pram_meaning.specs.Together.{assigned};
+ghost use Rattle.run_steps.specs.Acts as spec;
 ghost use Rattle.run_steps.specs.Kept.{HaltsOne, Tells, kept, one_more, state_of, told_of};
-ghost use Rattle.run_steps.specs.Moments.{Left, assign_moment, one_moment, unchanged, value_moment};
+ghost use Rattle.run_steps.specs.Moments.{Left, assign_moment, bounds_moment, print_moment, range_moment, shown, value_moment};
 ghost use Rattle.run_steps.specs.Telling.{tell};
 
-use crate::differences::change_of;
+use crate::acts::alone_acts;
 use crate::journal::Journal;
 use crate::teller::Teller;
 use pram_check::{Expression, Target};
-use pram_meaning::attempt::Effect;
-use pram_meaning::run::{Halt, set_number};
+use pram_meaning::attempt::{Effect, Failure};
+use pram_meaning::run::Halt;
+use pram_values::Place;
 use std::alloc::AllocError;
+use write_rules::Fault;
 
 impl<'a> Teller<'a> {
     /// Whether the bound lets one statement more begin.
@@ -30,16 +33,47 @@ impl<'a> Teller<'a> {
         journal.run.count < self.interpreter.bound
     }
 
-    // What halted a statement halts the run, and a fault is told.
-    fn halt(&self, journal: &mut Journal, why: Halt) -> Halt
-        ensures told { HaltsOne why result (told_of journal.old) (told_of journal.new) }
+    // An attempt that fails halts the run, and a fault is told.
+    fn halt(
+        &self,
+        journal: &mut Journal,
+        line: u32,
+        trail: &[Option<u32>],
+        failure: Failure,
+    ) -> Halt
+        ensures told { HaltsOne line trail.now failure result (told_of journal.old) (told_of journal.new) }
         ensures state { state_of journal.new ≡ state_of journal.old }
     {
-        match why {
-            Halt::Fault(fault) => journal.stop(fault, Vec::new(self.interpreter.alloc)),
-            Halt::Bound => Halt::Bound,
-            Halt::OutOfMemory => Halt::OutOfMemory,
+        match failure {
+            Failure::Fault(kind) => {
+                let Ok(acts) = alone_acts(self.interpreter.alloc, trail, None) else {
+                    return Halt::OutOfMemory;
+                };
+                let fault = Fault {
+                    kind,
+                    line,
+                    place: Place::All,
+                };
+                journal.stop(fault, acts, Vec::new(self.interpreter.alloc))
+            }
+            Failure::OutOfMemory => Halt::OutOfMemory,
         }
+    }
+
+    // A statement has run that only reads.
+    fn pass(
+        &self,
+        journal: &mut Journal,
+        line: u32,
+        trail: &[Option<u32>],
+    ) -> Result<(), AllocError>
+        requires room { journal.old.run.count < 2 ^ 32 - 1 }
+        ensures told { OnOk result (told_of journal.new ≡ tell (Left line (spec.alone_acts trail.now None) (shown (state_of journal.old)))
+            (told_of journal.old)) }
+        ensures state { OnOk result (state_of journal.new ≡ one_more (state_of journal.old)) }
+    {
+        let acts = alone_acts(self.interpreter.alloc, trail, None)?;
+        journal.pass(self.interpreter.alloc, line, acts)
     }
 
     /// The value of an expression.
@@ -53,14 +87,15 @@ impl<'a> Teller<'a> {
         if !self.may_begin(journal) {
             return Err(Halt::Bound);
         }
-        match self.interpreter.evaluate(&journal.run, line, e) {
+        let mut trail = Vec::new(self.interpreter.alloc);
+        match self.try_value(journal, e, &mut trail) {
             Ok(value) => {
-                if journal.pass(self.interpreter.alloc, line, 1).is_err() {
+                if self.pass(journal, line, &trail).is_err() {
                     return Err(Halt::OutOfMemory);
                 }
                 Ok(value)
             }
-            Err(why) => Err(self.halt(journal, why)),
+            Err(failure) => Err(self.halt(journal, line, &trail, failure)),
         }
     }
 
@@ -74,8 +109,7 @@ impl<'a> Teller<'a> {
         high: &Expression,
     ) -> Result<(i64, i64), Halt>
         ensures value { Tells (λ r. (r.0, r.1)) result (state_of journal.new) (told_of journal.new) (kept (told_of journal.old)
-            (one_moment self.now.interpreter.bound line unchanged
-            (λ m. attempt_bounds (seen self.now.interpreter.program.now m) low.now high.now) (state_of journal.old))
+            (bounds_moment self.now.interpreter.program.now self.now.interpreter.bound line low.now high.now (state_of journal.old))
             (evaluated self.now.interpreter.bound line (λ m. attempt_bounds (seen self.now.interpreter.program.now m) low.now high.now)
             (state_of journal.old))) }
         ensures more { OnOk result (journal.new.run.count ≡ journal.old.run.count + 1) }
@@ -83,17 +117,15 @@ impl<'a> Teller<'a> {
         if !self.may_begin(journal) {
             return Err(Halt::Bound);
         }
-        match self
-            .interpreter
-            .evaluate_bounds(&journal.run, line, low, high)
-        {
+        let mut trail = Vec::new(self.interpreter.alloc);
+        match self.try_bounds(journal, low, high, &mut trail) {
             Ok(pair) => {
-                if journal.pass(self.interpreter.alloc, line, 1).is_err() {
+                if self.pass(journal, line, &trail).is_err() {
                     return Err(Halt::OutOfMemory);
                 }
                 Ok(pair)
             }
-            Err(why) => Err(self.halt(journal, why)),
+            Err(failure) => Err(self.halt(journal, line, &trail, failure)),
         }
     }
 
@@ -107,9 +139,8 @@ impl<'a> Teller<'a> {
         high: &Expression,
     ) -> Result<(i64, u32), Halt>
         ensures value { Tells (λ r. (r.0, r.1)) result (state_of journal.new) (told_of journal.new) (kept (told_of journal.old)
-            (one_moment self.now.interpreter.bound line unchanged
-            (λ m. attempt_range self.now.interpreter.program.now.procs (seen self.now.interpreter.program.now m) low.now high.now)
-            (state_of journal.old)) (evaluated self.now.interpreter.bound line
+            (range_moment self.now.interpreter.program.now self.now.interpreter.bound line low.now high.now (state_of journal.old))
+            (evaluated self.now.interpreter.bound line
             (λ m. attempt_range self.now.interpreter.program.now.procs (seen self.now.interpreter.program.now m) low.now high.now)
             (state_of journal.old))) }
         ensures more { OnOk result (journal.new.run.count ≡ journal.old.run.count + 1) }
@@ -119,64 +150,41 @@ impl<'a> Teller<'a> {
         if !self.may_begin(journal) {
             return Err(Halt::Bound);
         }
-        match self
-            .interpreter
-            .evaluate_range(&journal.run, line, low, high)
-        {
+        let mut trail = Vec::new(self.interpreter.alloc);
+        match self.try_range(journal, low, high, &mut trail) {
             Ok(pair) => {
-                if journal.pass(self.interpreter.alloc, line, 1).is_err() {
+                if self.pass(journal, line, &trail).is_err() {
                     return Err(Halt::OutOfMemory);
                 }
                 Ok(pair)
             }
-            Err(why) => Err(self.halt(journal, why)),
+            Err(failure) => Err(self.halt(journal, line, &trail, failure)),
         }
     }
 }
 
 impl<'a> Teller<'a> {
-    // A cell gets a value.
-    #[tactic(auto, using(crate::proofs::ByOne::cell_told, crate::proofs::ByOne::cell_left))]
-    fn write(
-        &self,
-        journal: &mut Journal,
-        line: u32,
-        cell: u32,
-        value: i64,
-    ) -> Result<(), AllocError>
-        requires room { journal.old.run.count < 2 ^ 32 - 1 }
-        ensures left { OnOk result (state_of journal.new ≡ one_more (with_cell cell value (state_of journal.old))) }
-        ensures told { OnOk result (told_of journal.new ≡ tell (Left line 1 (with_cell cell value (state_of journal.old)).cells)
-            (told_of journal.old)) }
-    {
-        let place = cell as usize;
-        let changes = change_of(self.interpreter.alloc, &journal.run.cells, place, value)?;
-        set_number(&mut journal.run.cells, place, value);
-        journal.add(line, 1, changes)
-    }
-
     // The store gets what an assignment gives.
-    #[tactic(auto, using(crate::proofs::ByOne::cell_left))]
     fn settle(
         &self,
         journal: &mut Journal,
         line: u32,
+        trail: &[Option<u32>],
         target: &Target,
         effect: &Effect,
     ) -> Result<(), AllocError>
         requires room { journal.old.run.count < 2 ^ 32 - 1 }
         ensures left { OnOk result (state_of journal.new ≡ one_more (assigned target.now (effect_is effect.now) (state_of journal.old))) }
-        ensures told { OnOk result (told_of journal.new ≡ tell (Left line 1 (assigned target.now (effect_is effect.now)
-            (state_of journal.old)).cells) (told_of journal.old)) }
+        ensures told { OnOk result (told_of journal.new ≡ tell (Left line (spec.alone_acts trail.now effect.now.cell)
+            (shown (assigned target.now (effect_is effect.now) (state_of journal.old)))) (told_of journal.old)) }
     {
+        let alloc = self.interpreter.alloc;
+        let acts = alone_acts(alloc, trail, effect.cell)?;
         match target {
-            Target::Uniform(x) => {
-                set_number(&mut journal.run.uniforms, *x, effect.value);
-                journal.pass(self.interpreter.alloc, line, 1)
-            }
+            Target::Uniform(x) => journal.set(alloc, line, acts, *x, effect.value),
             Target::Cell(_) | Target::Element(_, _) => match effect.cell {
-                Some(cell) => self.write(journal, line, cell, effect.value),
-                None => journal.pass(self.interpreter.alloc, line, 1),
+                Some(cell) => journal.write(alloc, line, acts, cell, effect.value),
+                None => journal.pass(alloc, line, acts),
             },
         }
     }
@@ -198,17 +206,55 @@ impl<'a> Teller<'a> {
         if !self.may_begin(journal) {
             return Err(Halt::Bound);
         }
-        match self
-            .interpreter
-            .evaluate_assignment(&journal.run, line, target, value)
-        {
+        let mut trail = Vec::new(self.interpreter.alloc);
+        match self.try_effect(journal, target, value, &mut trail) {
             Ok(effect) => {
-                if self.settle(journal, line, target, &effect).is_err() {
+                if self.settle(journal, line, &trail, target, &effect).is_err() {
                     return Err(Halt::OutOfMemory);
                 }
                 Ok(())
             }
-            Err(why) => Err(self.halt(journal, why)),
+            Err(failure) => Err(self.halt(journal, line, &trail, failure)),
+        }
+    }
+
+    // An item is printed.
+    fn put_item(
+        &self,
+        journal: &mut Journal,
+        line: u32,
+        trail: &[Option<u32>],
+        item: i64,
+    ) -> Result<(), AllocError>
+        requires room { journal.old.run.count < 2 ^ 32 - 1 }
+        ensures left { OnOk result (state_of journal.new ≡ one_more (printed item (state_of journal.old))) }
+        ensures told { OnOk result (told_of journal.new ≡ tell (Left line (spec.alone_acts trail.now None)
+            (shown (printed item (state_of journal.old)))) (told_of journal.old)) }
+    {
+        let acts = alone_acts(self.interpreter.alloc, trail, None)?;
+        journal.print(self.interpreter.alloc, line, acts, item)
+    }
+
+    /// A print.
+    #[tactic(auto, using(crate::proofs::ByOne::print_waits, crate::proofs::ByOne::print_goes, crate::proofs::ByOne::print_fails))]
+    pub fn print(&self, journal: &mut Journal, line: u32, value: &Expression) -> Result<(), Halt>
+        ensures value { Tells (λ u. u) result (state_of journal.new) (told_of journal.new) (kept (told_of journal.old)
+            (print_moment self.now.interpreter.program.now self.now.interpreter.bound line value.now (state_of journal.old))
+            (meaning.print self.now.interpreter.program.now self.now.interpreter.bound line value.now (state_of journal.old))) }
+        ensures grows { OnOk result (journal.old.run.count ≤ journal.new.run.count) }
+    {
+        if !self.may_begin(journal) {
+            return Err(Halt::Bound);
+        }
+        let mut trail = Vec::new(self.interpreter.alloc);
+        match self.try_value(journal, value, &mut trail) {
+            Ok(item) => {
+                if self.put_item(journal, line, &trail, item).is_err() {
+                    return Err(Halt::OutOfMemory);
+                }
+                Ok(())
+            }
+            Err(failure) => Err(self.halt(journal, line, &trail, failure)),
         }
     }
 }

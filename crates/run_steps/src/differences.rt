@@ -3,8 +3,8 @@
 ghost use Rattle.std.specs.Prelude.{◌≡◌, ◌++◌, IfOk, OnOk, pos, slice_index_or, slice_set};
 ghost use Rattle.run_steps.specs.Changes.{change_at, difference};
 
-use crate::change::Change;
 use pram_meaning::view::number_at;
+use run_entries::Change;
 use std::alloc::{AllocError, Global};
 
 // The change of a cell whose value differs, put behind the others.

@@ -1,7 +1,7 @@
 //! A run between two statements, and what was told of it.
 
-use crate::entry::Entry;
 use pram_meaning::run::Run;
+use run_entries::Entry;
 
 /// A run between two statements, and what was told of those before.
 #[derive(Drop)]

@@ -1,10 +1,11 @@
-//! A run told statement by statement: which cells each statement changes, and who met at a fault.
+//! A run told statement by statement: what each processor reads and writes, what each statement
+//! changes and prints, and who met at a fault.
 #![tactic(auto)]
 
+mod acts;
 mod alone;
-mod change;
+mod attempts;
 mod differences;
-mod entry;
 mod inside;
 mod journal;
 pub mod law;
@@ -15,6 +16,4 @@ mod teller;
 mod telling;
 mod whole;
 
-pub use change::Change;
-pub use entry::Entry;
 pub use whole::steps_of;

@@ -2,18 +2,17 @@
 
 ghost use Rattle.std.specs.Prelude.{◌≡◌, ◌≤◌, ◌+◌, OnOk};
 ghost use Rattle.pram_model.specs.Layout.{width};
-ghost use Rattle.pram_meaning.specs.Bounded.{counted, for_all, for_turns, pardo, perform, perform_list, tested, turns};
-ghost use Rattle.pram_meaning.specs.Bounded as meaning;
-ghost use Rattle.pram_meaning.specs.Store.{with_uniform};
-ghost use Rattle.run_steps.specs.Kept.{Tells, kept, state_of, told_of};
-ghost use Rattle.run_steps.specs.Moments.{Left, begun, for_moments, for_turns_moments, list_moments, pardo_moments};
-ghost use Rattle.run_steps.specs.Moments.{moments, turns_moments, value_moment};
+ghost use Rattle.pram_meaning.specs.Bounded.{for_all, for_turns, pardo, perform, perform_list, tested, turns};
+ghost use Rattle.run_steps.specs.Kept.{Tells, kept, setting, state_of, told_of};
+ghost use Rattle.run_steps.specs.Moments.{for_moments, for_turns_moments, list_moments, moments, pardo_moments};
+ghost use Rattle.run_steps.specs.Moments.{setting_moment, turns_moments, value_moment};
 
+use crate::acts::alone_acts;
 use crate::journal::Journal;
 use crate::teller::Teller;
 use pram_check::{Expression, Statement, Step};
 use pram_meaning::numbers::Numbers;
-use pram_meaning::run::{Halt, set_number};
+use pram_meaning::run::Halt;
 use pram_values::is_true;
 
 // The numbers from the first to the last.
@@ -24,28 +23,30 @@ fn between(first: i64, last: i64) -> Numbers
     Numbers { next: first, last }
 }
 
-// A uniform variable gets the next number.
-fn set_next(journal: &mut Journal, variable: usize, numbers: &Numbers)
-    ensures set { state_of journal.new ≡ with_uniform variable numbers.now.next (state_of journal.old) }
-    ensures kept { told_of journal.new ≡ told_of journal.old }
-    ensures count { journal.new.run.count ≡ journal.old.run.count }
-{
-    set_number(&mut journal.run.uniforms, variable, numbers.next);
-}
-
 impl<'a> Teller<'a> {
-    // The setting of a `for`: it is one statement.
+    // The setting of a `for`: a uniform variable gets the next number, as one statement.
     #[tactic(auto, using(crate::proofs::Loops::setting_waits, crate::proofs::Loops::setting_goes))]
-    fn begin_turn(&self, journal: &mut Journal, line: u32) -> Result<(), Halt>
+    fn begin_turn(
+        &self,
+        journal: &mut Journal,
+        line: u32,
+        variable: usize,
+        numbers: &Numbers,
+    ) -> Result<(), Halt>
         ensures value { Tells (λ u. u) result (state_of journal.new) (told_of journal.new) (kept (told_of journal.old)
-            (begun self.now.interpreter.bound (state_of journal.old) (Left line 1 journal.old.run.cells.items))
-            (counted self.now.interpreter.bound (state_of journal.old))) }
+            (setting_moment self.now.interpreter.bound line variable numbers.now.next (state_of journal.old))
+            (setting self.now.interpreter.bound variable numbers.now.next (state_of journal.old))) }
         ensures more { OnOk result (journal.new.run.count ≡ journal.old.run.count + 1) }
     {
         if !self.may_begin(journal) {
             return Err(Halt::Bound);
         }
-        if journal.pass(self.interpreter.alloc, line, 1).is_err() {
+        let alloc = self.interpreter.alloc;
+        let Ok(acts) = alone_acts(alloc, &[], None) else {
+            return Err(Halt::OutOfMemory);
+        };
+        let set = journal.set(alloc, line, acts, variable, numbers.next);
+        if set.is_err() {
             return Err(Halt::OutOfMemory);
         }
         Ok(())
@@ -60,20 +61,6 @@ impl<'a> Teller<'a> {
     {
         let value = self.run_value(journal, line, test)?;
         Ok(is_true(value))
-    }
-
-    #[tactic(auto, using(crate::proofs::Blocks::print_halts, crate::proofs::Blocks::print_goes))]
-    fn print(&self, journal: &mut Journal, line: u32, value: &Expression) -> Result<(), Halt>
-        ensures value { Tells (λ u. u) result (state_of journal.new) (told_of journal.new) (kept (told_of journal.old)
-            (value_moment self.now.interpreter.program.now self.now.interpreter.bound line value.now (state_of journal.old))
-            (meaning.print self.now.interpreter.program.now self.now.interpreter.bound line value.now (state_of journal.old))) }
-        ensures grows { OnOk result (journal.old.run.count ≤ journal.new.run.count) }
-    {
-        let item = self.run_value(journal, line, value)?;
-        if journal.run.output.push(item).is_err() {
-            return Err(Halt::OutOfMemory);
-        }
-        Ok(())
     }
 
     #[tactic(auto, using(crate::proofs::Blocks::pardo_halts, crate::proofs::Blocks::pardo_goes))]
@@ -218,8 +205,7 @@ impl<'a> Teller<'a> {
         }
         let mut left = *numbers;
         'turns: loop {
-            self.begin_turn(journal, line)?;
-            set_next(journal, variable, &left);
+            self.begin_turn(journal, line, variable, &left)?;
             self.run_block(journal, body)?;
             if left.is_at_end() {
                 return Ok(());

@@ -1,6 +1,7 @@
 //! A statement on a set of processors.
 
-ghost use Rattle.std.specs.Prelude.{◌≡◌, ◌≤◌, ◌<◌, ◌+◌, ◌-◌, ◌^◌, IfSome, OnOk, map};
+ghost use Rattle.std.specs.Prelude.{◌≡◌, ◌≤◌, ◌<◌, ◌+◌, ◌-◌, ◌^◌, IfSome, List, OnOk, map};
+ghost use Rattle.pram_meaning.specs.declared.team.Member as declared;
 ghost use Rattle.pram_meaning.specs.Attempt.{attempt_step};
 ghost use Rattle.pram_meaning.specs.Bounded.{tested_on};
 ghost use Rattle.pram_meaning.specs.Bounded as meaning;
@@ -8,10 +9,12 @@ ghost use Rattle.pram_meaning.specs.Judging.{part_is};
 ghost use Rattle.pram_meaning.specs.Runs.{IsValue};
 ghost use Rattle.pram_meaning.specs.Sets as sets;
 ghost use Rattle.pram_meaning.specs.Together.{assigned_by, part_of, parts, together};
-ghost use Rattle.run_steps.specs.Kept.{HaltsSet, Tells, kept, one_more, state_in, told_of};
-ghost use Rattle.run_steps.specs.Moments.{Left, set_assign_moment, set_cells, test_moment};
+ghost use Rattle.run_steps.specs.Acts.{act_of};
+ghost use Rattle.run_steps.specs.Kept.{HaltsSet, Tells, kept, one_more, state_in, state_of, told_of};
+ghost use Rattle.run_steps.specs.Moments.{Left, set_assign_moment, shown, test_moment};
 ghost use Rattle.run_steps.specs.Telling.{tell};
 
+use crate::acts::acts_of;
 use crate::differences::changes_between;
 use crate::journal::Journal;
 use crate::meetings::meeting;
@@ -105,10 +108,13 @@ impl<'a> Teller<'a> {
                 let Some(all) = self.parts_in(&journal.run, team, active, target, e) else {
                     return Halt::OutOfMemory;
                 };
-                let Ok(who) = meeting(self.interpreter.alloc, fault.place, &all) else {
+                let Ok(acts) = acts_of(self.interpreter.alloc, &all) else {
                     return Halt::OutOfMemory;
                 };
-                journal.stop(fault, who)
+                let Ok(met) = meeting(self.interpreter.alloc, fault.place, &all) else {
+                    return Halt::OutOfMemory;
+                };
+                journal.stop(fault, acts, met)
             }
             Halt::Bound => Halt::Bound,
             Halt::OutOfMemory => Halt::OutOfMemory,
@@ -136,28 +142,42 @@ impl<'a> Teller<'a> {
             .judge_on(&mut journal.run, team, active, line, target, e)
     }
 
-    // The store gets what the parts of an assignment to cells leave.
+    // The store gets what the parts of an assignment leave.
     #[tactic(auto, using(crate::proofs::BySet::cells_told, crate::proofs::BySet::cells_left))]
     fn settle_cells(
         &self,
         journal: &mut Journal,
         team: &mut Vec<Member>,
         line: u32,
-        processors: usize,
         target: &StepTarget,
         parts: &[Part],
     ) -> Result<(), AllocError>
         requires room { journal.old.run.count < 2 ^ 32 - 1 }
         ensures left { OnOk result (state_in journal.new team.new.items ≡ one_more (assigned_by self.now.interpreter.program.now target.now
             (map part_is parts.now) (state_in journal.old team.old.items))) }
-        ensures told { OnOk result (told_of journal.new ≡ tell (Left line processors (set_cells self.now.interpreter.program.now target.now
-            (map part_is parts.now) (state_in journal.old team.old.items))) (told_of journal.old)) }
+        ensures told { OnOk result (told_of journal.new ≡ tell (Left line (map act_of (map part_is parts.now))
+            (shown (assigned_by self.now.interpreter.program.now target.now (map part_is parts.now) (state_in journal.old team.old.items))))
+            (told_of journal.old)) }
     {
-        let before = Vec::from_slice(self.interpreter.alloc, &journal.run.cells)?;
+        let alloc = self.interpreter.alloc;
+        let acts = acts_of(alloc, parts)?;
+        let before = Vec::from_slice(alloc, &journal.run.cells)?;
         self.interpreter
             .settle_on(&mut journal.run, team, target, parts)?;
-        let changes = changes_between(self.interpreter.alloc, &before, &journal.run.cells)?;
-        journal.add(line, processors, changes)
+        let changes = changes_between(alloc, &before, &journal.run.cells)?;
+        journal.add(line, acts, changes, Vec::new(alloc), Vec::new(alloc))?;
+        Ok(())
+    }
+
+    // A test of a set has run, with these parts.
+    fn pass_on(&self, journal: &mut Journal, line: u32, parts: &[Part]) -> Result<(), AllocError>
+        requires room { journal.old.run.count < 2 ^ 32 - 1 }
+        ensures told { OnOk result (told_of journal.new ≡ tell (Left line (map act_of (map part_is parts.now))
+            (shown (state_of journal.old))) (told_of journal.old)) }
+        ensures team { OnOk result ((ms : List declared.Member) → state_in journal.new ms ≡ one_more (state_in journal.old ms)) }
+    {
+        let acts = acts_of(self.interpreter.alloc, parts)?;
+        journal.pass(self.interpreter.alloc, line, acts)
     }
 
     /// An assignment of a set.
@@ -183,7 +203,7 @@ impl<'a> Teller<'a> {
         }
         match self.judge(journal, team, active, line, target, e) {
             Ok(parts) => {
-                let settled = self.settle_cells(journal, team, line, active.len(), target, &parts);
+                let settled = self.settle_cells(journal, team, line, target, &parts);
                 if settled.is_err() {
                     return Err(Halt::OutOfMemory);
                 }
@@ -217,10 +237,7 @@ impl<'a> Teller<'a> {
         let none = StepTarget::Local(0);
         match self.judge(journal, team, active, line, &none, test) {
             Ok(parts) => {
-                if journal
-                    .pass(self.interpreter.alloc, line, active.len())
-                    .is_err()
-                {
+                if self.pass_on(journal, line, &parts).is_err() {
                     return Err(Halt::OutOfMemory);
                 }
                 Ok(parts)

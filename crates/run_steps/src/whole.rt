@@ -4,21 +4,23 @@ ghost use Rattle.std.specs.Prelude.{◌≡◌, ◌↔◌, ◌<◌, ◌≤◌, If
 ghost use Rattle.pram_model.specs.Layout.{total_size};
 ghost use Rattle.write_rules.specs.Verdict.{verdict_of};
 ghost use Rattle.pram_meaning.specs.Outcome.{IsOutcome, opening};
-ghost use Rattle.run_steps.specs.Entries.{HasMemory, entry_is, replay, run_entries};
+ghost use Rattle.run_entries.specs.Entries.{entry_is};
+ghost use Rattle.run_steps.specs.Entries.{HasMemory, items_of, output_of, replay, run_entries};
 
-use crate::entry::Entry;
 use crate::journal::Journal;
 use crate::teller::Teller;
 use pram_check::Program;
 use pram_meaning::interpreter::Interpreter;
 use pram_meaning::run::Halt;
 use pram_meaning::{RunRefusal, open};
+use run_entries::Entry;
 use std::alloc::Global;
 use write_rules::Outcome;
 
 /// Runs a program on an input, for at most `bound` statements, as [`pram_meaning::reference_run`]
 /// does, and tells beside the outcome what each statement did: entry k, counted from 1, is the k-th
-/// statement that ran. Where the run faults, the last entry is the fault. E11 where there are more
+/// statement that ran, with what each processor read and wrote, what it changed and what it printed.
+/// Where the run faults, the last entry is the fault. E11 where there are more
 /// values than cells; E16 only where memory was refused.
 pub fn steps_of(
     alloc: Global,
@@ -33,6 +35,8 @@ pub fn steps_of(
     // The changes, applied in order to the opening memory, give the memory of the outcome.
     ensures memory { IfOk result (λ r. HasMemory (verdict_of r.0)
         (replay (map entry_is r.1.items) (opening program.now input.now).cells)) }
+    // The items that were printed, joined, are the output of the outcome.
+    ensures output { IfOk result (λ r. items_of (map entry_is r.1.items) ≡ output_of (verdict_of r.0)) }
 {
     if input.len() > program.layout().cells() as usize {
         return Err(RunRefusal::InputTooLong);

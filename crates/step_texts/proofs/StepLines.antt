@@ -2,9 +2,9 @@
 use Rattle.std.proofs.Common.{◌≡◌, ◌∙◌, ◌<◌, ◌+◌, ◌++◌, ◌∷◌, [], List, ℕ, ℤ, ap, arith, codes, drop, get_or, length, map, refl, sym}
 use Rattle.std.proofs.lemmas.List.{drop_more}
 use Rattle.pram_model.specs.Layout.{SharedEntry}
-use Rattle.run_steps.specs.declared.change.Change.{Change}
-use Rattle.run_steps.specs.declared.entry as rust
-use Rattle.run_steps.specs.Entries.{entry_is}
+use Rattle.run_entries.specs.declared.change.Change.{Change}
+use Rattle.run_entries.specs.declared.entry as rust
+use Rattle.run_entries.specs.Entries.{entry_is}
 use Rattle.text_out.specs.Out.{OutState, with_bytes}
 use Rattle.text_out.proofs.Progress.{Progress, goes_on}
 use Rattle.program_texts.specs.Shown.{spaced}

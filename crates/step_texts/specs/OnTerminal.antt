@@ -1,8 +1,8 @@
 -- How entries are written for a reader on a terminal.
-use Rattle.std.specs.Prelude.{ℕ, List, [], ◌∷◌, ◌++◌, Bool, true, false, codes}
+use Rattle.std.specs.Prelude.{ℕ, List, [], ◌∷◌, ◌++◌, Bool, true, false, codes, length}
 use Rattle.pram_model.specs.Layout.{SharedEntry}
-use Rattle.run_steps.specs.declared.change.Change.{Change}
-use Rattle.run_steps.specs.Entries.{Entry, Faulting, Ran}
+use Rattle.run_entries.specs.declared.change.Change.{Change}
+use Rattle.run_entries.specs.Entries.{Entry, Faulting, Ran}
 use Rattle.text_places.specs.Excerpts.{shown_line}
 use Rattle.step_texts.specs.Told.{changes_text, faulting_text, head_text, number_text}
 
@@ -20,12 +20,12 @@ abbrev pub ran_text : List SharedEntry → Bool → (at processors : ℕ) → Li
 ran_text layout colours at k ds = head_text at k ++ coloured_changes layout colours ds
 
 abbrev pub told_text : List SharedEntry → Bool → Entry → List ℕ
-told_text layout colours (Ran at k ds) = ran_text layout colours at k ds
-told_text layout colours (Faulting fault who) = faulting_text layout fault who
+told_text layout colours (Ran at acts cells variables items) = ran_text layout colours at (length acts) cells
+told_text layout colours (Faulting fault acts met) = faulting_text layout fault met
 
 abbrev pub line_of : Entry → ℕ
-line_of (Ran at k ds) = at
-line_of (Faulting fault who) = fault.line
+line_of (Ran at acts cells variables items) = at
+line_of (Faulting fault acts met) = fault.line
 
 -- the line of the text that the entry is of
 abbrev pub beside : List ℕ → ℕ → List ℕ

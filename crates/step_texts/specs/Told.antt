@@ -1,11 +1,11 @@
 -- How what is told of a statement is written.
-use Rattle.std.specs.Prelude.{ℕ, List, [], ◌∷◌, ◌++◌, ℤ, codes, decimal}
+use Rattle.std.specs.Prelude.{ℕ, List, [], ◌∷◌, ◌++◌, ℤ, codes, decimal, length}
 use Rattle.std.specs.Fmt.{signed_decimal}
 use Rattle.pram_model.specs.Layout.{SharedEntry}
 use Rattle.write_rules.specs.declared.fault.Fault.{Fault}
 use Rattle.program_texts.specs.Shown.{cell_text, fault_text, spaced}
-use Rattle.run_steps.specs.declared.change.Change.{Change}
-use Rattle.run_steps.specs.Entries.{Entry, Faulting, Ran}
+use Rattle.run_entries.specs.declared.change.Change.{Change}
+use Rattle.run_entries.specs.Entries.{Entry, Faulting, Ran}
 
 -- its values: ` 4 -> 7`
 abbrev pub value_text : Change → List ℕ
@@ -37,8 +37,8 @@ abbrev pub faulting_text : List SharedEntry → Fault → List ℤ → List ℕ
 faulting_text layout fault who = fault_text layout fault ++ meeting_text who
 
 abbrev pub told_text : List SharedEntry → Entry → List ℕ
-told_text layout (Ran at k ds) = ran_text layout at k ds
-told_text layout (Faulting fault who) = faulting_text layout fault who
+told_text layout (Ran at acts cells variables items) = ran_text layout at (length acts) cells
+told_text layout (Faulting fault acts met) = faulting_text layout fault met
 
 abbrev pub number_text : ℕ → List ℕ
 number_text number = decimal number ++ codes " "

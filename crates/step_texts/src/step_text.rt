@@ -3,7 +3,7 @@
 ghost use Rattle.std.specs.Prelude.{◌<◌, ◌+◌, ◌-◌, ◌^◌, map};
 ghost use Rattle.text_out.specs.Out.{Writes};
 ghost use Rattle.program_texts.specs.Shown.{line};
-ghost use Rattle.run_steps.specs.Entries.{entry_is};
+ghost use Rattle.run_entries.specs.Entries.{entry_is};
 ghost use Rattle.step_texts.specs.StepText.{entry_line, line_within, steps_text};
 ghost use Rattle.step_texts.specs.Told as spec;
 
@@ -12,7 +12,7 @@ use crate::terminal::write_on_terminal;
 use itoa::Buffer;
 use pram_syntax::Layout;
 use program_texts::{write_cell, write_fault_text, write_values};
-use run_steps::{Change, Entry};
+use run_entries::{Change, Entry};
 use text_out::{Out, WriteFault};
 use write_rules::Fault;
 
@@ -118,10 +118,11 @@ fn write_told<W: Out>(out: &mut W, layout: &Layout, entry: &Entry) -> Result<(),
     match entry {
         Entry::Ran {
             line,
-            processors,
-            changes,
-        } => write_ran(out, layout, *line, *processors, changes),
-        Entry::Faulted { fault, processors } => write_faulting(out, layout, fault, processors),
+            acts,
+            cells,
+            ..
+        } => write_ran(out, layout, *line, acts.len(), cells),
+        Entry::Faulted { fault, met, .. } => write_faulting(out, layout, fault, met),
     }
 }
 

@@ -2,12 +2,12 @@
 
 ghost use Rattle.std.specs.Prelude.{◌≡◌, ◌<◌, ◌^◌};
 ghost use Rattle.text_out.specs.Out.{Writes};
-ghost use Rattle.run_steps.specs.Entries.{entry_is};
+ghost use Rattle.run_entries.specs.Entries.{entry_is};
 ghost use Rattle.step_texts.specs.OnTerminal as spec;
 
 use crate::step_text::{write_changes, write_faulting, write_head, write_number};
 use pram_syntax::Layout;
-use run_steps::{Change, Entry};
+use run_entries::{Change, Entry};
 use text_out::{Out, WriteFault};
 use text_places::write_line;
 use write_rules::Fault;
@@ -72,10 +72,11 @@ fn write_told<W: Out>(
     match entry {
         Entry::Ran {
             line,
-            processors,
-            changes,
-        } => write_ran(out, layout, colours, *line, *processors, changes),
-        Entry::Faulted { fault, processors } => write_faulting(out, layout, fault, processors),
+            acts,
+            cells,
+            ..
+        } => write_ran(out, layout, colours, *line, acts.len(), cells),
+        Entry::Faulted { fault, met, .. } => write_faulting(out, layout, fault, met),
     }
 }
 
@@ -84,15 +85,8 @@ fn line_of(entry: &Entry) -> u32
     ensures { result ≡ spec.line_of (entry_is entry.now) }
 {
     match entry {
-        Entry::Ran {
-            line,
-            processors: _,
-            changes: _,
-        } => *line,
-        Entry::Faulted {
-            fault,
-            processors: _,
-        } => fault.line,
+        Entry::Ran { line, .. } => *line,
+        Entry::Faulted { fault, .. } => fault.line,
     }
 }
 

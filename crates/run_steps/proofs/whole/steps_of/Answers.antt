@@ -4,7 +4,7 @@ use Rattle.pram_meaning.specs.declared.run.Halt.TheVariants as halt
 use Rattle.run_steps.specs.declared.journal.Journal.{Journal}
 use Rattle.run_steps.specs.Kept.{state_of, told_of}
 use Rattle.run_steps.proofs.Complete.{body_ended, body_reached, body_stopped, opens}
-use Rattle.run_steps.proofs.Replays.{told_memory}
+use Rattle.run_steps.proofs.Replays.{told_memory, told_output}
 use Rattle.run_steps.proofs.whole.steps_of.Goals as goal
 
 pub returns-in-Ok-done-clause-outcome : goal.returns-in-Ok-done-clause-outcome
@@ -33,6 +33,15 @@ returns-in-Ok-done-clause-memory c =
     let o = opens c.args.program.now c.args.input.now k c.new-nothing.ensures.items e.count e.output e.uniforms e.cells in
     let b = body_ended c.args.program.now c.args.input.now c.args.bound k (state_of new) (told_of new) o c.in-Ok-done.ensures in
     told_memory c.args.program.now c.args.input.now c.args.bound (Ended new.run.output.items new.run.cells.items) (told_of new).entries b.0 b.1
+
+pub returns-in-Ok-done-clause-output : goal.returns-in-Ok-done-clause-output
+returns-in-Ok-done-clause-output c =
+    let e = c.in-Ok.ensures in
+    let k : Journal = record { run = c.in-Ok.run'; entries = c.new-nothing.result } in
+    let new = c.run_body-done.new.journal in
+    let o = opens c.args.program.now c.args.input.now k c.new-nothing.ensures.items e.count e.output e.uniforms e.cells in
+    let b = body_ended c.args.program.now c.args.input.now c.args.bound k (state_of new) (told_of new) o c.in-Ok-done.ensures in
+    told_output c.args.program.now c.args.input.now c.args.bound (Ended new.run.output.items new.run.cells.items) (told_of new).entries b.0 b.1
 
 pub returns-in-Err-Fault-clause-outcome : goal.returns-in-Err-Fault-clause-outcome
 returns-in-Err-Fault-clause-outcome c =
@@ -67,6 +76,17 @@ returns-in-Err-Fault-clause-memory c =
     c.in-Err-Fault.field-0 c.in-Err-Fault.fault o c.in-Err-Fault.is f c.run_body-done.ensures in
     told_memory c.args.program.now c.args.input.now c.args.bound (Faulted c.in-Err-Fault.fault new.run.output.items) (told_of new).entries b.0 b.1
 
+pub returns-in-Err-Fault-clause-output : goal.returns-in-Err-Fault-clause-output
+returns-in-Err-Fault-clause-output c =
+    let e = c.in-Ok.ensures in
+    let k : Journal = record { run = c.in-Ok.run'; entries = c.new-nothing.result } in
+    let new = c.run_body-done.new.journal in
+    let o = opens c.args.program.now c.args.input.now k c.new-nothing.ensures.items e.count e.output e.uniforms e.cells in
+    let f : c.in-Err-Fault.field-0 ≡ halt.Fault c.in-Err-Fault.fault = search (rules, c.in-Err-Fault.field-0-is) in
+    let b = body_stopped c.args.program.now c.args.input.now c.args.bound k (state_of new) (told_of new) c.run_body-done.result
+    c.in-Err-Fault.field-0 c.in-Err-Fault.fault o c.in-Err-Fault.is f c.run_body-done.ensures in
+    told_output c.args.program.now c.args.input.now c.args.bound (Faulted c.in-Err-Fault.fault new.run.output.items) (told_of new).entries b.0 b.1
+
 pub returns-in-Err-Bound-clause-outcome : goal.returns-in-Err-Bound-clause-outcome
 returns-in-Err-Bound-clause-outcome c =
     let e = c.in-Ok.ensures in
@@ -99,3 +119,14 @@ returns-in-Err-Bound-clause-memory c =
     let b = body_reached c.args.program.now c.args.input.now c.args.bound k (state_of new) (told_of new) c.run_body-done.result
     c.in-Err-Bound.field-0 o c.in-Err-Bound.is f c.run_body-done.ensures in
     told_memory c.args.program.now c.args.input.now c.args.bound (GoesOn new.run.output.items) (told_of new).entries b.0 b.1
+
+pub returns-in-Err-Bound-clause-output : goal.returns-in-Err-Bound-clause-output
+returns-in-Err-Bound-clause-output c =
+    let e = c.in-Ok.ensures in
+    let k : Journal = record { run = c.in-Ok.run'; entries = c.new-nothing.result } in
+    let new = c.run_body-done.new.journal in
+    let o = opens c.args.program.now c.args.input.now k c.new-nothing.ensures.items e.count e.output e.uniforms e.cells in
+    let f : c.in-Err-Bound.field-0 ≡ halt.Bound = search (rules, c.in-Err-Bound.field-0-is) in
+    let b = body_reached c.args.program.now c.args.input.now c.args.bound k (state_of new) (told_of new) c.run_body-done.result
+    c.in-Err-Bound.field-0 o c.in-Err-Bound.is f c.run_body-done.ensures in
+    told_output c.args.program.now c.args.input.now c.args.bound (GoesOn new.run.output.items) (told_of new).entries b.0 b.1

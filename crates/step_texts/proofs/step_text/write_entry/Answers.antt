@@ -1,6 +1,6 @@
 use Rattle.std.proofs.Common.{◌++◌, ◌∷◌, [], append_assoc, refl}
 use Rattle.text_out.proofs.Progress.{breaks_off, closes, goes_on, starts}
-use Rattle.run_steps.specs.Entries.{entry_is}
+use Rattle.run_entries.specs.Entries.{entry_is}
 use Rattle.step_texts.specs.Told.{number_text, told_text}
 use Rattle.step_texts.proofs.step_text.write_entry.Goals as goal
 

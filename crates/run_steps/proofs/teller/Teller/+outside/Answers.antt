@@ -1,11 +1,9 @@
-use Rattle.std.proofs.Common.{rules, ◌≡◌, subst, arith, Err}
+use Rattle.std.proofs.Common.{rules, ◌≡◌, arith}
 use Rattle.std.proofs.lemmas.Result.{err_from_is_err_and}
-use Rattle.run_steps.specs.Kept.{Going, Tells, state_of, told_of}
-use Rattle.run_steps.specs.Telling.{Told}
+use Rattle.run_steps.specs.Kept.{state_of, told_of}
 use Rattle.run_steps.proofs.Blocks.{else_arm, for_arm, for_goes, then_arm}
 use Rattle.run_steps.proofs.ForLoops.{turn_goes, turn_halts}
 use Rattle.run_steps.proofs.Loops as loop
-use Rattle.run_steps.proofs.Told.{told_list}
 use Rattle.run_steps.proofs.teller.Teller.+outside.Goals as goal
 
 pub run_for-returns-clause-value : goal.run_for-returns-clause-value
@@ -45,36 +43,25 @@ pub run_turns-returns-in_err-run_block-clause-value : goal.run_turns-returns-in_
 run_turns-returns-in_err-run_block-clause-value t c =
     let r = c.from_residual-in_err-run_block in
     let p = err_from_is_err_and r.result r.ensures.1 in
-    let e : told_of c.set_next.new.journal ≡ told_of c.begin_turn.new.journal = c.set_next.ensures.kept in
-    let P : Told → Type 0 = λ t. Tells {A = Unit {0}} (λ u. u) (Err c.in_err-run_block.field-0.0) (state_of c.run_block.new.journal)
-    (told_of c.run_block.new.journal)
-    (told_list c.args.self.now.interpreter.program.now c.args.self.now.interpreter.bound c.args.body.now.items
-    (state_of c.set_next.new.journal) t) in
     rw (p.1, p.2)
     (turn_halts c.args.self.now.interpreter.program.now c.args.self.now.interpreter.bound c.args.line c.args.variable
     c.args.body.now.items c.args.numbers.now.next c.args.numbers.now.last c.turns.left.next c.turns.left.last
-    (state_of c.args.journal.now) (state_of c.turns.journal) (state_of c.begin_turn.new.journal) (state_of c.set_next.new.journal)
-    (state_of c.run_block.new.journal) (told_of c.args.journal.now) (told_of c.turns.journal) (told_of c.begin_turn.new.journal)
-    (told_of c.run_block.new.journal) c.in_err-run_block.field-0.0 c.turns.invariant c.in_ok-begin_turn.ensures.value c.set_next.ensures.set
-    (subst P e c.in_err-run_block.ensures.value))
+    (state_of c.args.journal.now) (state_of c.turns.journal) (state_of c.begin_turn.new.journal) (state_of c.run_block.new.journal)
+    (told_of c.args.journal.now) (told_of c.turns.journal) (told_of c.begin_turn.new.journal) (told_of c.run_block.new.journal)
+    c.in_err-run_block.field-0.0 c.turns.invariant c.in_ok-begin_turn.ensures.value c.in_err-run_block.ensures.value)
 
 pub run_turns-turns-preserved : goal.run_turns-turns-preserved
 run_turns-turns-preserved t c =
     let a = c.turns.invariant.grows in
     let b = c.in_ok-begin_turn.ensures.more in
     let d = c.in_ok-run_block.ensures.grows in
-    let e : told_of c.set_next.new.journal ≡ told_of c.begin_turn.new.journal = c.set_next.ensures.kept in
-    let f = c.set_next.ensures.count in
-    let P : Told → Type 0 = λ t. told_list c.args.self.now.interpreter.program.now
-    c.args.self.now.interpreter.bound c.args.body.now.items (state_of c.set_next.new.journal) t ≡
-    Going tt (state_of c.run_block.new.journal) (told_of c.run_block.new.journal) in
     turn_goes c.args.self.now.interpreter.program.now c.args.self.now.interpreter.bound c.args.line c.args.variable
     c.args.body.now.items c.args.numbers.now.next c.args.numbers.now.last c.turns.left.next c.turns.left.last
     c.advance.new.self.next c.advance.new.self.last (state_of c.args.journal.now) (state_of c.turns.journal)
-    (state_of c.begin_turn.new.journal) (state_of c.set_next.new.journal) (state_of c.run_block.new.journal)
-    (told_of c.args.journal.now) (told_of c.turns.journal) (told_of c.begin_turn.new.journal) (told_of c.run_block.new.journal)
-    c.turns.invariant c.in_ok-begin_turn.ensures.value c.set_next.ensures.set (subst P e c.in_ok-run_block.ensures.value)
-    c.advance.ensures.next c.advance.ensures.last (c.is_at_end.ensures.more c.if-is_at_end.false) (omega (arith, a, b, d, f))
+    (state_of c.begin_turn.new.journal) (state_of c.run_block.new.journal) (told_of c.args.journal.now) (told_of c.turns.journal)
+    (told_of c.begin_turn.new.journal) (told_of c.run_block.new.journal) c.turns.invariant c.in_ok-begin_turn.ensures.value
+    c.in_ok-run_block.ensures.value c.advance.ensures.next c.advance.ensures.last
+    (c.is_at_end.ensures.more c.if-is_at_end.false) (omega (arith, a, b, d))
 
 pub run_while-returns-in_err-run_block-clause-value : goal.run_while-returns-in_err-run_block-clause-value
 run_while-returns-in_err-run_block-clause-value t c =

@@ -1,0 +1,26 @@
+-- What JSON says of what processors did in a statement.
+use Rattle.std.specs.Prelude.{ℕ, ℤ, List, [], ◌∷◌, Option, Some, None, codes, map}
+use Rattle.serde_json.specs.Data.{Data, null}
+use Rattle.json_lines.specs.Facts.{letters, list, object_of, value}
+use Rattle.pram_model.specs.Layout.{SharedEntry}
+use Rattle.program_texts.specs.Shown.{cell_text}
+use Rattle.run_entries.specs.Entries.{Act}
+
+-- the index of a processor, and null of the one outside pardo
+abbrev pub processor_fact : Option ℤ → Data
+processor_fact None = null
+processor_fact (Some i) = value i
+
+abbrev pub cell_fact : List SharedEntry → ℕ → Data
+cell_fact layout c = letters (cell_text layout c)
+
+-- the cell that is written, and null where none is
+abbrev pub write_fact : List SharedEntry → Option ℕ → Data
+write_fact layout None = null
+write_fact layout (Some c) = cell_fact layout c
+
+-- what one processor did: the cells that it read, in order, and the cell that it wrote
+abbrev pub act_facts : List SharedEntry → Act → Data
+act_facts layout a = object_of
+    ((codes "processor", processor_fact a.processor) ∷ (codes "reads", list (map (cell_fact layout) a.reads))
+    ∷ (codes "write", write_fact layout a.write) ∷ [])

@@ -1,0 +1,10 @@
+//! What is told of the statements of a run: types alone, for what tells of runs and for what writes that down.
+#![tactic(auto)]
+
+mod act;
+mod change;
+mod entry;
+
+pub use act::Act;
+pub use change::Change;
+pub use entry::Entry;

@@ -1,0 +1,5 @@
+use Rattle.run_steps.proofs.ActLists.{InActs}
+use Rattle.run_steps.proofs.acts.acts_of.Given as goal
+
+abbrev pub invariant-loop-x : goal.invariant-loop-x
+invariant-loop-x l = InActs l.parts l.x-index l.acts.items
