@@ -1,0 +1,4 @@
+pub mod Measures
+pub mod Marks
+pub mod Columns
+pub mod Picture

@@ -1,0 +1,74 @@
+// Pictures of runs, worked by hand from what is told of them.
+
+use pram_check::check;
+use pram_parser::parse;
+use pram_syntax::Buffer;
+use run_steps::steps_of;
+use std::alloc::Global;
+use step_pictures::write_picture;
+
+// A program, and the picture of its run behind what is what.
+#[derive(Clone, Copy)]
+struct Row {
+    text: &'static str,
+    front: &'static str,
+    table: &'static str,
+}
+
+const KEY: &str = "<rect x='12' y='48' width='60' height='18' fill='#e0e0e0'/>\n<text x='78' y='61'>acts</text>\n\
+    <rect x='122' y='50' width='26' height='14' fill='#0072b2'/>\n<text x='132' y='61' fill='#ffffff'>r</text>\n<text x='154' y='61'>reads</text>\n\
+    <rect x='202' y='50' width='26' height='14' fill='#e69f00'/>\n<text x='210' y='61'>w</text>\n<text x='234' y='61'>writes</text>\n\
+    <rect x='284' y='48' width='60' height='18' fill='none' stroke='#000000' stroke-width='3'/>\n<text x='350' y='61'>met at a fault</text>\n\
+    <text x='12' y='117'>outside</text>\n";
+
+// The one processor writes, and no other acts.
+const ONE: Row = Row {
+    text: "rule crew; procs 1; shared s;\nbegin s := 1; end",
+    front: "<svg xmlns='http://www.w3.org/2000/svg' version='1.1' width='480' height='154' font-family='sans-serif' font-size='12'>\n\
+        <rect x='0' y='0' width='480' height='154' fill='#ffffff'/>\n<text x='12' y='20'>statements 1</text>\n\
+        <text x='12' y='38'>no processor of a pardo</text>\n",
+    table: "<text x='160' y='80'>1</text>\n<text x='160' y='96'>line 2</text>\n\
+        <rect x='160' y='104' width='60' height='18' fill='#e0e0e0'><title>outside pardo writes s</title></rect>\n\
+        <rect x='192' y='106' width='26' height='14' fill='#e69f00'/>\n<text x='200' y='117'>w</text>\n</svg>\n",
+};
+
+// Processors -1 and 0 read one cell, which the rule forbids.
+const TWO: Row = Row {
+    text: "rule erew; procs 2; shared s; shared a[1..2];\nbegin for -1 <= i <= 0 pardo\na[i + 2] := s; end end",
+    front: "<svg xmlns='http://www.w3.org/2000/svg' version='1.1' width='480' height='194' font-family='sans-serif' font-size='12'>\n\
+        <rect x='0' y='0' width='480' height='194' fill='#ffffff'/>\n<text x='12' y='20'>statements 2</text>\n\
+        <text x='12' y='38'>processors -1 to 0</text>\n",
+    table: "<text x='12' y='137'>-1</text>\n<text x='12' y='157'>0</text>\n<text x='160' y='80'>1</text>\n<text x='160' y='96'>line 2</text>\n\
+        <rect x='160' y='104' width='60' height='18' fill='#e0e0e0'><title>outside pardo</title></rect>\n\
+        <text x='224' y='80'>2</text>\n<text x='224' y='96'>line 3</text>\n\
+        <rect x='224' y='124' width='60' height='18' fill='#e0e0e0'><title>processor -1 reads s writes a[1]</title></rect>\n\
+        <rect x='226' y='126' width='26' height='14' fill='#0072b2'/>\n<text x='236' y='137' fill='#ffffff'>r</text>\n\
+        <rect x='256' y='126' width='26' height='14' fill='#e69f00'/>\n<text x='264' y='137'>w</text>\n\
+        <rect x='224' y='144' width='60' height='18' fill='#e0e0e0'><title>processor 0 reads s writes a[2]</title></rect>\n\
+        <rect x='226' y='146' width='26' height='14' fill='#0072b2'/>\n<text x='236' y='157' fill='#ffffff'>r</text>\n\
+        <rect x='256' y='146' width='26' height='14' fill='#e69f00'/>\n<text x='264' y='157'>w</text>\n\
+        <rect x='224' y='124' width='60' height='18' fill='none' stroke='#000000' stroke-width='3'><title>processor -1 met</title></rect>\n\
+        <rect x='224' y='144' width='60' height='18' fill='none' stroke='#000000' stroke-width='3'><title>processor 0 met</title></rect>\n\
+        <text x='12' y='182'>fault read-conflict s line 3</text>\n</svg>\n",
+};
+
+// Whether that is the picture of a row's run.
+fn is_drawn(alloc: Global, row: &Row) -> Option<bool> {
+    let tree = parse(alloc, row.text.as_bytes()).ok()?;
+    let program = check(alloc, tree).ok()?;
+    let (_outcome, entries) = steps_of(alloc, &program, &[], 1000).ok()?;
+    let mut out = Buffer::new(alloc);
+    write_picture(&mut out, program.layout(), &entries).ok()?;
+    let mut wanted = Vec::new(alloc);
+    for part in [row.front, KEY, row.table] {
+        wanted.extend_from_slice(part.as_bytes()).ok()?;
+    }
+    Some(out.bytes() == wanted.as_slice())
+}
+
+#[test]
+fn a_run_is_drawn_as_worked_by_hand(rt: HostRuntime) {
+    let alloc = rt.alloc();
+    assert_eq!(rt; is_drawn(alloc, &ONE), Some(true));
+    assert_eq!(rt; is_drawn(alloc, &TWO), Some(true));
+}
