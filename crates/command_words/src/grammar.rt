@@ -28,6 +28,8 @@ pub(crate) const TO: &str = "to";
 
 pub(crate) const SVG: &str = "svg";
 
+pub(crate) const FORMAT: &str = "format";
+
 const EXPLAINED: &str = "explain";
 
 // What the help of a subcommand says.
@@ -136,6 +138,16 @@ fn over_file<'a>(alloc: Global, words: &Subcommand) -> Result<Command<'a>, Alloc
         .arg(explained)
 }
 
+// With the choice of how it tells what it does.
+fn in_formats<'a>(alloc: Global, command: Command<'a>) -> Result<Command<'a>, AllocError> {
+    let format = Arg::new(alloc, FORMAT)
+        .long(FORMAT)
+        .value_name("FORMAT")
+        .default_value("text")
+        .help("How it is told: text, or json for programs that read");
+    command.arg(format)
+}
+
 // A subcommand that runs what is in a file.
 fn over_run<'a>(alloc: Global, words: &Subcommand) -> Result<Command<'a>, AllocError> {
     let bound = Arg::new(alloc, BOUND)
@@ -215,14 +227,14 @@ pub(crate) fn grammar<'a>(alloc: Global) -> Result<Command<'a>, AllocError> {
         .subcommand_required(true)
         .version(VERSION)
         .bin_name("pramc")?
-        .subcommand(over_file(alloc, &CHECK)?)?
+        .subcommand(in_formats(alloc, over_file(alloc, &CHECK)?)?)?
         .subcommand(over_file(alloc, &PLAN)?)?
-        .subcommand(over_run(alloc, &MEANING)?)?
-        .subcommand(over_cost(alloc, &COST)?)?
-        .subcommand(over_steps(alloc, &STEPS)?)?
-        .subcommand(over_run(alloc, &RULES)?)?
-        .subcommand(over_workers(alloc, &RUN)?)?
-        .subcommand(over_trace(alloc, &TRACE)?)?
+        .subcommand(in_formats(alloc, over_run(alloc, &MEANING)?)?)?
+        .subcommand(in_formats(alloc, over_cost(alloc, &COST)?)?)?
+        .subcommand(in_formats(alloc, over_steps(alloc, &STEPS)?)?)?
+        .subcommand(in_formats(alloc, over_run(alloc, &RULES)?)?)?
+        .subcommand(in_formats(alloc, over_workers(alloc, &RUN)?)?)?
+        .subcommand(in_formats(alloc, over_trace(alloc, &TRACE)?)?)?
         .subcommand(over_workers(alloc, &EXEC)?)?
         .subcommand(over_word(alloc, &EXPLAIN)?)
 }

@@ -7,7 +7,8 @@ ghost use Rattle.command_words.specs.Words.{AsksForVersion, IsOfWords};
 
 use crate::cost_words::CostWords;
 use crate::grammar::{
-    BOUND, FILE, FROM, INPUT, LINES, MAP, RESERVE, SCHEDULE, SVG, TO, WORD, WORKERS, grammar,
+    BOUND, FILE, FORMAT, FROM, INPUT, LINES, MAP, RESERVE, SCHEDULE, SVG, TO, WORD, WORKERS,
+    grammar,
 };
 use crate::step_words::StepWords;
 use crate::version::asks_for_version;
@@ -168,9 +169,22 @@ fn run_words<'a>(words: &ArgMatches<'a>) -> Result<RunWords<'a>, Stop<'a>>
     })
 }
 
+// The format is one that there is, and nothing is drawn in JSON. Which of them it is `asks_for_json` says.
+fn check_format<'a>(words: &ArgMatches<'a>) -> Result<(), Stop<'a>>
+    ensures { IfErr result IsOfWords }
+{
+    match words.get_str(FORMAT) {
+        None | Some("text") => Ok(()),
+        Some("json") if words.get_flag(SVG) => Err(Stop::Number("--svg")),
+        Some("json") => Ok(()),
+        Some(word) => Err(Stop::Number(word)),
+    }
+}
+
 fn asked<'a>(verb: Verb, matches: &ArgMatches<'a>) -> Result<Request<'a>, Stop<'a>>
     ensures { IfErr result IsOfWords }
 {
+    check_format(matches)?;
     let words = run_words(matches)?;
     let file = matches.get_str(FILE).unwrap_or("");
     Ok(Request::Program { verb, file, words })
