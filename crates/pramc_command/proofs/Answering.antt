@@ -1,8 +1,7 @@
 -- How a call answers, put together from what was written and what the last flush said.
 use Rattle.std.proofs.Common.{◌≡◌, ◌∙◌, ◌⊎◌, ◌++◌, ℕ, ℤ, List, [], ap, inl, inr, refl, sym, subst}
-use Rattle.std.proofs.lemmas.List.{append-nil}
 use Rattle.std.specs.Prelude.{Result, Ok, Err, IfOk, IfErr, IfSome, Option, Some, None, Bool, false, true}
-use Rattle.text_out.specs.Out.{OutState, StopsIn, with_bytes, with_failure}
+use Rattle.text_out.specs.Out.{OutState, StopsIn, with_bytes}
 use Rattle.pram_model.specs.Layout.{SharedEntry}
 use Rattle.pram_check.specs.Checked.{Checked}
 use Rattle.write_rules.specs.Verdict as verdict
@@ -20,24 +19,20 @@ use Rattle.program_texts.specs.declared.status.Status.{Status}
 use Rattle.program_texts.specs.declared.status.Status.TheVariants.{Done, Faulted}
 use Rattle.program_texts.specs.declared.stop.Stop.{Stop}
 use Rattle.program_texts.specs.declared.stop.Stop.TheVariants.{WriteFailed}
-use Rattle.program_texts.specs.declared.stop.Stop.TheVariants as stop
 use Rattle.diagnoses.specs.declared.about.About.TheVariants.{Nothing}
 use Rattle.pramc_command.specs.declared.answer.Answer.{Answer}
 use Rattle.pramc_command.specs.declared.answer.Ended.{Ended}
 use Rattle.pramc_command.specs.declared.answer.FaultedRun.{FaultedRun}
-use Rattle.pramc_command.specs.declared.answer.Halted.{Halted}
-use Rattle.pramc_command.specs.Answered.{Drawn, Executed, HasOutcome, HasRun, HasTrace, IsAListing, IsStopped, IsTold, IsTrueStop, Tells, Traced}
-use Rattle.pramc_command.specs.Explained.{IsAnswered, IsFault, IsKnown, IsOutcomeIn, IsQuiet, IsRunTold, IsRunsStop, Performs, TellsOutcome}
-use Rattle.pramc_command.specs.Explained.{Answered, FaultExplained, IsFaultReported, Leaves, TellsRun, Wrote, counts_text}
-
--- all of the text, and what the last flush said
-pub wrote : (ends given : Status) (text : List ℕ) (old mid new : OutState) (r : Result Status Stop) → given ≡ ends → mid ≡ with_bytes old text →
-    IfOk r (λ s. (s ≡ given) × (new ≡ mid)) → IfErr r (λ stop. (stop ≡ WriteFailed) × (new ≡ with_failure mid)) → Wrote ends text old new r
-wrote ends given text old mid new (Ok s) is written ok failed = (ok.0 ∙ is, ok.1 ∙ written)
-wrote ends given text old mid new (Err why) is written ok failed = (
-  failed.0,
-  record { front = text; rest = []; whole = sym (append-nil text); stopped = failed.1 ∙ ap with_failure written },
-)
+use Rattle.program_calls.specs.declared.halted.Halted.{Halted}
+use Rattle.pramc_command.specs.Answered.{Drawn, Executed, IsStopped, IsTold, Tells, Traced}
+use Rattle.program_calls.specs.Found.{HasOutcome, HasRun, HasTrace, IsAListing}
+use Rattle.program_calls.specs.Stops.{IsTrueStop}
+use Rattle.pramc_command.specs.Explained.{IsAnswered, IsFault, IsQuiet, IsRunTold, Performs, TellsOutcome}
+use Rattle.program_calls.specs.Known.{IsKnown, IsRunsStop}
+use Rattle.program_calls.specs.Found.{IsOutcomeIn}
+use Rattle.pramc_command.specs.Explained.{Answered, FaultExplained, IsFaultReported, Leaves, TellsRun, counts_text}
+use Rattle.program_calls.proofs.Writing.{stopped_in_nothing}
+use Rattle.program_calls.specs.Written.{Wrote}
 
 -- the writer failed in such a text
 pub cut_off : (why : Stop) (ends : Status) (text : List ℕ) (old new : OutState) → Tells ends text → (why ≡ WriteFailed) × StopsIn old new text →
@@ -118,13 +113,7 @@ module _ (explains : Bool) (program : Checked) (input : List ℤ) (n : ℕ) (old
 
 -- a true reason, with nothing written
 pub stopped_before : (why : Stop) (s : OutState) → IsTrueStop why → IsStopped why s s
-stopped_before (stop.Words text) s h = (h, refl)
-stopped_before (stop.Number word) s h = (h, refl)
-stopped_before (stop.Unreadable name) s h = (h, refl)
-stopped_before (stop.Refused r) s h = (h, refl)
-stopped_before (stop.NotVerified at reason) s h = (h, refl)
-stopped_before (stop.BadListing at) s h = (h, refl)
-stopped_before stop.WriteFailed s h = absurd h
+stopped_before why s h = stopped_in_nothing Tells why s h
 
 -- the writer failed in the text of a run
 pub run_cut_off : (program : Checked) (why : Stop) (ends : Status) (text : List ℕ) (old new : OutState) → Tells ends text →

@@ -1,28 +1,21 @@
 -- What is known besides where a call is explained: of a refusal the text that has it, of a fault the run that came to it.
-use Rattle.std.specs.Prelude.{◌≡◌, ◌⊎◌, ◌++◌, ℕ, ℤ, List, [], length, Result, Ok, Err, Option, Some, None, Bool, true, false}
-use Rattle.pram_model.specs.Layout.{SharedEntry, total_size}
-use Rattle.text_out.specs.Out.{OutState, StopsIn, Writes, with_bytes}
+use Rattle.std.specs.Prelude.{◌≡◌, ◌⊎◌, ℕ, ℤ, List, ◌++◌, Result, Ok, Err, Option, Bool, [], Some, None, true, false}
+use Rattle.pram_model.specs.Layout.{SharedEntry}
+use Rattle.text_out.specs.Out.{OutState, with_bytes}
 use Rattle.pram_check.specs.Checked.{Checked}
-use Rattle.pram_tokens.specs.declared.error.TextFault.{TextFault}
 use Rattle.superstep_code.specs.Code.{SuperstepCode}
-use Rattle.superstep_listing.specs.Text.{IsFirstBad}
 use Rattle.superstep_machine.specs.Trace.{Exchange}
-use Rattle.trace_pictures.specs.Picture.{picture}
 use Rattle.tracer.specs.Traced.{trace_text}
-use Rattle.write_rules.specs.Verdict.{Verdict, Faulted, verdict_of}
+use Rattle.trace_pictures.specs.Picture.{picture}
+use Rattle.write_rules.specs.Verdict.{verdict_of, Faulted}
 use Rattle.write_rules.specs.declared.outcome.Outcome.{Outcome}
-use Rattle.program_texts.specs.Report.{HasBreach, IsInputRefusal, IsProgramOf, IsRunOf, IsTextRefusal}
+use Rattle.program_texts.specs.Report.{IsProgramOf, IsRunOf}
 use Rattle.program_texts.specs.Shown.{shown}
 use Rattle.program_texts.specs.Status.{status_of}
 use Rattle.program_texts.specs.StoppedFields.{stop_text}
-use Rattle.program_texts.specs.declared.from_text.Refusal.{Refusal}
-use Rattle.program_texts.specs.declared.from_text.Refusal.TheVariants as refusal
 use Rattle.program_texts.specs.declared.status.Status.{Status}
-use Rattle.program_texts.specs.declared.status.Status.TheVariants as status
 use Rattle.program_texts.specs.declared.stop.Stop.{Stop}
-use Rattle.program_texts.specs.declared.stop.Stop.TheVariants as stop
 use Rattle.diagnoses.specs.declared.about.About.{About}
-use Rattle.diagnoses.specs.declared.about.About.TheVariants as about
 use Rattle.diagnoses.specs.FaultTexts.{fault_diagnosis}
 use Rattle.diagnoses.specs.Met.{who_met}
 use Rattle.diagnoses.specs.Remarks.{Remark}
@@ -30,107 +23,19 @@ use Rattle.diagnoses.specs.Stops.{HasRemark, stop_diagnosis}
 use Rattle.pramc_command.specs.declared.answer.Answer.{Answer}
 use Rattle.pramc_command.specs.declared.answer.Ended.{Ended}
 use Rattle.pramc_command.specs.declared.answer.FaultedRun.{FaultedRun}
-use Rattle.pramc_command.specs.declared.answer.Halted.{Halted}
-use Rattle.pramc_command.specs.Answered.{HasRun, HasTrace, IsAListing, IsAProgram, IsReported, IsStopped, IsTold, IsTrueStop, Tells}
-
--- ---- refusals
-
--- the text at hand has that; a text is at hand
-abbrev pub IsOfText : (List ℕ → Type 0) → About → Type 0
-IsOfText P about.Nothing = ⊥
-IsOfText P (about.Text s) = P s.bytes.items
-IsOfText P (about.Values values cells) = ⊥
-
-abbrev pub IsRefusedText : TextFault → List ℕ → Type 0
-IsRefusedText fault text = IsTextRefusal text fault ⊎ IsInputRefusal text fault
-
--- the shared declarations of some text's program, or of some listing
-abbrev pub IsSomeLayout : List SharedEntry → Type 0
-IsSomeLayout layout =
-    ((program : Checked) × IsAProgram program × (layout ≡ program.layout)) ⊎ ((code : SuperstepCode) × IsAListing code × (layout ≡ code.layout))
-
--- an input has so many values, and some shared declarations so many cells
-abbrev pub HasNumbers : (values cells : ℕ) → Type 0
-HasNumbers values cells =
-    (layout : List SharedEntry) × (input : List ℤ) × IsSomeLayout layout × (values ≡ length input) × (cells ≡ total_size layout)
-
-abbrev pub AreNumbers : About → Type 0
-AreNumbers about.Nothing = ⊥
-AreNumbers (about.Text s) = ⊥
-AreNumbers (about.Values values cells) = HasNumbers values cells
-
--- E1 to E10 are told with the text that has them, and E11 with its numbers
-abbrev pub IsKnownOf : Refusal → About → Type 0
-IsKnownOf (refusal.Text fault) a = IsOfText (IsRefusedText fault) a
-IsKnownOf (refusal.Program breach) a = IsOfText (λ text. HasBreach text breach) a
-IsKnownOf refusal.InputTooLong a = AreNumbers a
-IsKnownOf refusal.BadMap a = Unit {0}
-IsKnownOf refusal.BadWorkers a = Unit {0}
-IsKnownOf refusal.OutOfMemory a = Unit {0}
-IsKnownOf refusal.OutOfReserve a = Unit {0}
-
--- and E15 with the text of the listing
-abbrev pub IsKnown : Stop → About → Type 0
-IsKnown (stop.Refused r) a = IsKnownOf r a
-IsKnown (stop.BadListing at) a = IsOfText (λ text. IsFirstBad text at) a
-IsKnown _ a = Unit {0}
-
--- a reason that needs nothing besides its line
-abbrev pub IsKnownAlone : Stop → Type 0
-IsKnownAlone why = IsTrueStop why × IsKnown why about.Nothing
-
--- a reason with what is known besides, both true
-abbrev pub IsTrueHalt : Halted → Type 0
-IsTrueHalt h = IsTrueStop h.stop × IsKnown h.stop h.about
-
--- what the text of a listing is refused for, which the text has
-abbrev pub IsOfListing : Stop → List ℕ → Type 0
-IsOfListing (stop.Refused (refusal.Text fault)) text = IsTextRefusal text fault
-IsOfListing (stop.BadListing at) text = IsFirstBad text at
-IsOfListing (stop.Refused refusal.OutOfMemory) text = Unit {0}
-IsOfListing _ text = ⊥
-
--- What the run of a text's program is refused for. If it is the text, the text has it.
-abbrev pub IsOfRun : Refusal → List ℕ → Type 0
-IsOfRun (refusal.Text fault) text = IsTextRefusal text fault
-IsOfRun (refusal.Program breach) text = HasBreach text breach
-IsOfRun _ text = Unit {0}
-
-abbrev pub IsStopOfRun : Stop → List ℕ → Type 0
-IsStopOfRun (stop.Refused r) text = IsOfRun r text
-IsStopOfRun (stop.BadListing at) text = ⊥
-IsStopOfRun _ text = Unit {0}
-
--- so for every text of a program
-abbrev pub IsRunsStop : Checked → Stop → Type 0
-IsRunsStop program why = (text : List ℕ) → IsProgramOf text program → IsStopOfRun why text
-
--- what the run of code is refused for, which is none of its text
-abbrev pub IsOfCode : Refusal → Type 0
-IsOfCode (refusal.Text fault) = ⊥
-IsOfCode (refusal.Program breach) = ⊥
-IsOfCode _ = Unit {0}
-
-abbrev pub IsCodesStop : Stop → Type 0
-IsCodesStop (stop.Refused r) = IsOfCode r
-IsCodesStop (stop.BadListing at) = ⊥
-IsCodesStop _ = Unit {0}
+use Rattle.program_calls.specs.declared.halted.Halted.{Halted}
+use Rattle.program_calls.specs.Found.{HasRun, HasTrace, IsAListing, IsOutcomeIn}
+use Rattle.program_calls.specs.Written.{IsReported}
+use Rattle.pramc_command.specs.Answered.{IsStopped, IsTold, Tells}
+use Rattle.program_calls.specs.Known.{IsKnown, IsRunsStop}
+use Rattle.program_texts.specs.declared.status.Status.TheVariants as status
 
 -- ---- runs
-
--- a text was written whole, and the call ends with that status; or a beginning of it, and the writer failed
-abbrev pub Wrote : Status → List ℕ → OutState → OutState → Result Status Stop → Type 0
-Wrote ends text old new (Ok s) = (s ≡ ends) × (new ≡ with_bytes old text)
-Wrote ends text old new (Err why) = (why ≡ stop.WriteFailed) × StopsIn old new text
 
 -- the exchanges of a run, in words or drawn
 abbrev pub counts_text : Bool → List Exchange → List ℕ
 counts_text false exchanges = trace_text exchanges
 counts_text true exchanges = picture exchanges
-
--- the outcome of a program on an input within n statements, by each of its texts
-abbrev pub IsOutcomeIn : Checked → List ℤ → ℕ → Verdict → Type 0
-IsOutcomeIn program input n verdict = (text : List ℕ) → IsProgramOf text program → IsRunOf text input n program.layout verdict
 
 -- the text tells that outcome, behind something else or alone, or it tells the exchanges of a run that came to it
 abbrev pub TellsOutcome : List SharedEntry → Outcome → List ℕ → Type 0

@@ -5,14 +5,12 @@ ghost use Rattle.std.specs.String.{string_bytes};
 ghost use Rattle.command_words.specs.Words.{AsksForVersion, asks_to_explain as spec_asks};
 ghost use Rattle.program_texts.specs.Report.{IsProgramOf};
 ghost use Rattle.diagnoses.specs.declared.about.About.TheVariants as known;
-ghost use Rattle.pramc_command.specs.Answered.{IsAProgram};
+ghost use Rattle.program_calls.specs.Found.{IsAProgram};
 ghost use Rattle.pramc_command.specs.Explained.{Leaves, Performs, TellsRun};
 ghost use Rattle.pramc_command.specs.Version.{AnswersVersion, LeavesVersion};
 
-use crate::answer::{Answer, Ended, Halted, Loaded};
-use crate::explaining::{answer_of, halted_code, halted_run, report, report_fault};
-use crate::loading::{load_input, load_listing, load_program};
-use crate::running::{code_of, compare, execute};
+use crate::answer::{Answer, Ended};
+use crate::explaining::{answer_of, report, report_fault};
 use crate::telling::{tell_costs, tell_meaning, tell_run, tell_steps, tell_trace};
 use crate::terminal::Terminal;
 use crate::writing::{
@@ -22,6 +20,10 @@ use command_words::{Request, RunWords, Verb, asks_to_explain, read_words};
 use diagnoses::About;
 use pram_check::Program;
 use pram_syntax::Out;
+use program_calls::{
+    Halted, Loaded, code_of, compare, execute, halted_code, halted_run, load_input, load_listing,
+    load_program,
+};
 use program_texts::{Sources, Status, Stop};
 use std::alloc::Global;
 use std::sync::Wait;

@@ -10,109 +10,19 @@ ghost use Rattle.diagnoses.specs.FaultTexts.{fault_diagnosis};
 ghost use Rattle.diagnoses.specs.Met.{who_met as those_met};
 ghost use Rattle.diagnoses.specs.Remarks.{Remark};
 ghost use Rattle.diagnoses.specs.Stops.{HasRemark};
-ghost use Rattle.pramc_command.specs.Answered.{IsReported};
+ghost use Rattle.program_calls.specs.Written.{IsReported};
+ghost use Rattle.program_calls.specs.Found.{IsOutcomeIn};
 ghost use Rattle.pramc_command.specs.Explained as spec;
 
-use crate::answer::{Answer, Ended, FaultedRun, Halted, Loaded};
-use diagnoses::{About, Source, who_met, write_run_fault, write_stop_diagnosis};
+use crate::answer::{Answer, Ended, FaultedRun};
+use diagnoses::{who_met, write_run_fault, write_stop_diagnosis};
 use pram_check::Program;
 use pram_syntax::{Out, WriteFault};
 use pram_values::Kind;
-use program_texts::{Refusal, Stop, write_stop};
+use program_calls::{Halted, Loaded};
+use program_texts::write_stop;
 use std::alloc::Global;
 use write_rules::Outcome;
-
-// What is known of a refusal of a run: the text where it is of the text, and the numbers where it is of the input.
-fn about_refusal<'a>(refusal: Refusal, source: Source<'a>, values: usize, cells: u32) -> About<'a>
-    requires known { spec.IsOfRun refusal source.bytes.items }
-    requires numbers { spec.HasNumbers values cells }
-    ensures { spec.IsKnownOf refusal result }
-{
-    match refusal {
-        Refusal::Text(_) => About::Text(source),
-        Refusal::Program(_) => About::Text(source),
-        Refusal::InputTooLong => About::Values { values, cells },
-        Refusal::BadMap => About::Nothing,
-        Refusal::BadWorkers => About::Nothing,
-        Refusal::OutOfMemory => About::Nothing,
-        Refusal::OutOfReserve => About::Nothing,
-    }
-}
-
-fn about_run<'a>(stop: &Stop<'_>, source: Source<'a>, values: usize, cells: u32) -> About<'a>
-    requires known { spec.IsStopOfRun stop.now source.bytes.items }
-    requires numbers { spec.HasNumbers values cells }
-    ensures { spec.IsKnown stop.now result }
-{
-    match stop {
-        Stop::Refused(refusal) => about_refusal(*refusal, source, values, cells),
-        Stop::BadListing(_) => About::Text(source),
-        Stop::Words(_) => About::Nothing,
-        Stop::Number(_) => About::Nothing,
-        Stop::Unreadable(_) => About::Nothing,
-        Stop::NotVerified(_, _) => About::Nothing,
-        Stop::WriteFailed => About::Nothing,
-    }
-}
-
-/// Why a run of a program ends without an outcome, and what is known besides.
-pub(crate) fn halted_run<'a>(
-    stop: Stop<'a>,
-    source: Source<'a>,
-    values: usize,
-    cells: u32,
-) -> Halted<'a>
-    requires known { spec.IsStopOfRun stop source.bytes.items }
-    requires numbers { spec.HasNumbers values cells }
-    ensures same { result.stop ≡ stop.entry }
-    ensures known { spec.IsKnown result.stop result.about }
-{
-    let about = about_run(&stop, source, values, cells);
-    Halted { stop, about }
-}
-
-fn about_code_refusal<'a>(refusal: Refusal, values: usize, cells: u32) -> About<'a>
-    requires known { spec.IsOfCode refusal }
-    requires numbers { spec.HasNumbers values cells }
-    ensures { spec.IsKnownOf refusal result }
-{
-    match refusal {
-        Refusal::InputTooLong => About::Values { values, cells },
-        Refusal::Text(_) => About::Nothing,
-        Refusal::Program(_) => About::Nothing,
-        Refusal::BadMap => About::Nothing,
-        Refusal::BadWorkers => About::Nothing,
-        Refusal::OutOfMemory => About::Nothing,
-        Refusal::OutOfReserve => About::Nothing,
-    }
-}
-
-fn about_code<'a>(stop: &Stop<'_>, values: usize, cells: u32) -> About<'a>
-    requires known { spec.IsCodesStop stop.now }
-    requires numbers { spec.HasNumbers values cells }
-    ensures { spec.IsKnown stop.now result }
-{
-    match stop {
-        Stop::Refused(refusal) => about_code_refusal(*refusal, values, cells),
-        Stop::BadListing(_) => About::Nothing,
-        Stop::Words(_) => About::Nothing,
-        Stop::Number(_) => About::Nothing,
-        Stop::Unreadable(_) => About::Nothing,
-        Stop::NotVerified(_, _) => About::Nothing,
-        Stop::WriteFailed => About::Nothing,
-    }
-}
-
-/// Why a run of code ends without an outcome, and what is known besides.
-pub(crate) fn halted_code<'a>(stop: Stop<'a>, values: usize, cells: u32) -> Halted<'a>
-    requires known { spec.IsCodesStop stop }
-    requires numbers { spec.HasNumbers values cells }
-    ensures same { result.stop ≡ stop.entry }
-    ensures known { spec.IsKnown result.stop result.about }
-{
-    let about = about_code(&stop, values, cells);
-    Halted { stop, about }
-}
 
 // Those that met at the fault of a run, at a cell; the meaning is run again for that.
 fn meeting(alloc: Global, program: &Program, input: &[i64], bound: u32, kind: Kind) -> Vec<i64>
@@ -136,7 +46,7 @@ fn fault_of<'a>(
     outcome: &Outcome,
 ) -> Option<FaultedRun<'a>>
     requires program { IsProgramOf loaded.source.bytes.items loaded.program }
-    requires run { spec.IsOutcomeIn loaded.program input.now bound (verdict_of outcome.now) }
+    requires run { IsOutcomeIn loaded.program input.now bound (verdict_of outcome.now) }
     ensures some { IfSome result (λ f. spec.IsFault f outcome.now) }
     ensures layout { IfSome result (λ f. f.layout ≡ loaded.entry.program.layout) }
     ensures none { result ≡ None → status_of outcome.now ≡ status.Faulted → ⊥ }
@@ -167,7 +77,7 @@ pub(crate) fn answer_of<'a>(
     ended: Ended,
 ) -> Answer<'a>
     requires program { IsProgramOf loaded.source.bytes.items loaded.program }
-    requires run { spec.IsOutcomeIn loaded.program input.now bound (verdict_of ended.outcome) }
+    requires run { IsOutcomeIn loaded.program input.now bound (verdict_of ended.outcome) }
     ensures status { result.status ≡ ended.status }
     ensures asked { IfSome result.fault (λ _. explains ≡ true) }
     ensures some { IfSome result.fault (λ f. spec.IsFault f ended.outcome) }

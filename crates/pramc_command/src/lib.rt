@@ -4,8 +4,6 @@
 mod answer;
 mod commands;
 mod explaining;
-mod loading;
-mod running;
 mod telling;
 mod terminal;
 mod writing;

@@ -1,17 +1,18 @@
 //! Runs of a program, told on standard output.
 
 ghost use Rattle.std.specs.Prelude.{◌≡◌, ◌<◌, ◌^◌, Err, IfErr, IfOk, Ok};
-ghost use Rattle.pramc_command.specs.Answered.{IsAProgram};
+ghost use Rattle.program_calls.specs.Found.{IsAProgram};
 ghost use Rattle.program_texts.specs.Status.{status_of};
-ghost use Rattle.pramc_command.specs.Explained.{TellsRun, Wrote, counts_text};
+ghost use Rattle.pramc_command.specs.Explained.{TellsRun, counts_text};
+ghost use Rattle.program_calls.specs.Written.{Wrote};
 
 use crate::answer::Ended;
-use crate::running::{cost, mean, run, steps};
 use crate::writing::{write_costs, write_drawn, write_exchanges, write_outcome, write_told};
 use command_words::RunWords;
 use exchange_counts::Counts;
 use pram_check::Program;
 use pram_syntax::Out;
+use program_calls::{cost, mean, run, steps};
 use program_texts::{Status, Stop};
 use std::alloc::Global;
 use std::sync::Wait;

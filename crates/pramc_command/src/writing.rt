@@ -14,7 +14,7 @@ ghost use Rattle.trace_pictures.specs.Picture.{picture};
 ghost use Rattle.tracer.specs.Traced.{trace_text};
 ghost use Rattle.pramc_command.specs.Answered.{accepted_line};
 ghost use Rattle.pramc_command.specs.Costs.{costs_text};
-ghost use Rattle.pramc_command.specs.Explained.{Wrote};
+ghost use Rattle.program_calls.specs.Written.{Wrote};
 ghost use Rattle.pramc_command.specs.Steps.{told_text};
 ghost use Rattle.pramc_command.specs.Version.{version_text};
 

@@ -1,6 +1,6 @@
 use Rattle.std.proofs.Common.{ap}
 use Rattle.diagnoses.specs.FaultTexts.{fault_diagnosis}
-use Rattle.pramc_command.proofs.Reporting.{reported, reported_in_part}
+use Rattle.program_calls.proofs.Writing.{reported, reported_in_part}
 use Rattle.pramc_command.proofs.explaining.write_fault.Goals as goal
 
 pub returns-then-is_ok : goal.returns-then-is_ok

@@ -2,7 +2,8 @@ use Rattle.std.proofs.Common.{List, subst, sym}
 use Rattle.pram_model.specs.Layout.{SharedEntry}
 use Rattle.write_rules.specs.Verdict.{verdict_of}
 use Rattle.pramc_command.specs.Answered.{Costed}
-use Rattle.pramc_command.specs.Costs.{HasCost, costs_text}
+use Rattle.program_calls.specs.Found.{HasCost}
+use Rattle.pramc_command.specs.Costs.{costs_text}
 use Rattle.pramc_command.proofs.Answering.{at_the_end, told_run}
 use Rattle.pramc_command.proofs.telling.tell_costs.Goals as goal
 

@@ -4,7 +4,7 @@ use Rattle.run_steps.specs.Entries.{Entry, entry_is}
 use Rattle.step_texts.specs.StepText.{steps_text}
 use Rattle.step_texts.specs.declared.manner.Manner.TheVariants.{Plain}
 use Rattle.pramc_command.specs.Answered.{Stepped}
-use Rattle.pramc_command.specs.Steps.{HasSteps}
+use Rattle.program_calls.specs.Found.{HasSteps}
 use Rattle.pramc_command.proofs.Answering.{at_the_end, told_run}
 use Rattle.pramc_command.proofs.telling.tell_steps.Goals as goal
 

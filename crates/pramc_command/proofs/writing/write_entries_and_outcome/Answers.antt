@@ -5,7 +5,7 @@ use Rattle.program_texts.specs.Shown.{shown}
 use Rattle.run_steps.specs.Entries.{entry_is}
 use Rattle.step_texts.specs.StepText.{steps_text}
 use Rattle.step_texts.specs.declared.manner.Manner.TheVariants.{Plain}
-use Rattle.pramc_command.proofs.Costs.{room}
+use Rattle.pramc_command.proofs.Room.{room}
 use Rattle.pramc_command.proofs.writing.write_entries_and_outcome.Goals as goal
 
 pub returns-in_err-write_steps : goal.returns-in_err-write_steps

@@ -6,10 +6,13 @@ ghost use Rattle.superstep_listing.specs.Text.{IsFaultOf};
 ghost use Rattle.bsp_verify.specs.WellFormed.{IsWellFormed};
 ghost use Rattle.bsp_verify.specs.FirstFault.{IsRefusal};
 ghost use Rattle.program_texts.specs.Report.{IsProgramOf};
-ghost use Rattle.pramc_command.specs.Answered.{IsAListing, IsTrueStop, reason_word as spec_reason_word};
-ghost use Rattle.pramc_command.specs.Explained.{IsKnownAlone, IsOfListing, IsTrueHalt};
+ghost use Rattle.program_calls.specs.Found.{IsAListing};
+ghost use Rattle.program_calls.specs.Stops.{IsTrueStop};
+ghost use Rattle.program_calls.specs.Stops.{reason_word as spec_reason_word};
+ghost use Rattle.program_calls.specs.Known.{IsKnownAlone, IsOfListing, IsTrueHalt};
 
-use crate::answer::{Halted, Loaded};
+use crate::halted::Halted;
+use crate::loaded::Loaded;
 use bsp_verify::{Reason, Verified, VerifyFault, verify};
 use diagnoses::{About, Kind, Source};
 use pram_syntax::{TextFault, read_input};
@@ -35,7 +38,7 @@ fn load<'a, S: Sources>(
 }
 
 /// The program of a file.
-pub(crate) fn load_program<'a, S: Sources>(
+pub fn load_program<'a, S: Sources>(
     alloc: Global,
     sources: &mut S,
     name: &'a str,
@@ -63,7 +66,7 @@ fn source_of<'a>(kind: Kind, name: &'a str, bytes: Vec<u8>) -> Source<'a>
 }
 
 /// The values of the input's file, and none where there is no file.
-pub(crate) fn load_input<'a, S: Sources>(
+pub fn load_input<'a, S: Sources>(
     alloc: Global,
     sources: &mut S,
     name: Option<&'a str>,
@@ -122,7 +125,7 @@ fn stop_of_code<'a>(fault: VerifyFault) -> Stop<'a>
 }
 
 /// The code of a listing's file, verified.
-pub(crate) fn load_listing<'a, S: Sources>(
+pub fn load_listing<'a, S: Sources>(
     alloc: Global,
     sources: &mut S,
     name: &'a str,

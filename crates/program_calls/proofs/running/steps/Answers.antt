@@ -1,5 +1,5 @@
 use Rattle.std.proofs.Common.{Err, ap, inl, refl}
-use Rattle.pramc_command.proofs.running.steps.Goals as goal
+use Rattle.program_calls.proofs.running.steps.Goals as goal
 
 pub returns-in-Ok-clause-steps : goal.returns-in-Ok-clause-steps
 returns-in-Ok-clause-steps c =

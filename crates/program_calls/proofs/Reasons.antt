@@ -1,5 +1,5 @@
 -- What is refused is refused for a true reason.
-use Rattle.std.proofs.Common.{◌≡◌, ℕ, List, ℤ, Result, Err, Option, None, Some, inl, inr, ⊎_elim, refl, subst, sym}
+use Rattle.std.proofs.Common.{◌≡◌, ℕ, List, ℤ, Result, Err, Option, None, Some, inl, inr, ⊎_elim, subst, sym}
 use Rattle.superstep_code.specs.Code.{SuperstepCode}
 use Rattle.program_texts.specs.Report.{IsRefusedRightly}
 use Rattle.program_texts.specs.declared.from_text.Refusal.{Refusal}
@@ -8,13 +8,9 @@ use Rattle.pramc.specs.declared.options.Options.{Options}
 use Rattle.bsp_machine.specs.declared.reserve.Reserve.{Reserve}
 use Rattle.pramc.specs.Runs.{IsCodeRefused, IsRunRefused}
 use Rattle.pramc.specs.Reserved.{IsCodeRefusedWith, IsRunRefusedWith}
-use Rattle.text_out.specs.Out.{OutState}
-use Rattle.program_texts.specs.declared.stop.Stop.{Stop}
-use Rattle.program_texts.specs.declared.stop.Stop.TheVariants as stop
-use Rattle.command_words.specs.Words.{IsOfWords}
-use Rattle.diagnoses.specs.declared.about.About.TheVariants as about
-use Rattle.pramc_command.specs.Answered.{IsAListing, IsStopped, IsTrueOf}
-use Rattle.pramc_command.specs.Explained.{IsKnown, IsKnownOf, IsOfCode, IsOfRun}
+use Rattle.program_calls.specs.Found.{IsAListing}
+use Rattle.program_calls.specs.Stops.{IsTrueOf}
+use Rattle.program_calls.specs.Known.{IsOfCode, IsOfRun}
 
 -- by the definition
 pub no_meaning_is_true : (X : Type 0) (text : List ℕ) (input : List ℤ) (r : Refusal) → IsRefusedRightly {X = X} text input (Err r) →
@@ -67,16 +63,6 @@ no_reserved_code_run_is_true code input options (Some reserve) r is h = ⊎_elim
     (λ (a : IsCodeRefused code input options r). no_code_run_is_true code input options r is a)
     (λ (b : _). subst IsTrueOf (sym b.0) (inr (code, input, options, reserve, is, b.1))) h
 
--- a command line's
-pub no_words_are_true : (why : Stop) (s : OutState) → IsOfWords why → IsStopped why s s
-no_words_are_true (stop.Words text) s h = (tt, refl)
-no_words_are_true (stop.Number word) s h = (tt, refl)
-no_words_are_true (stop.Unreadable name) s h = absurd h
-no_words_are_true (stop.Refused r) s h = (subst IsTrueOf (sym h) tt, refl)
-no_words_are_true (stop.NotVerified at reason) s h = absurd h
-no_words_are_true (stop.BadListing at) s h = absurd h
-no_words_are_true stop.WriteFailed s h = absurd h
-
 -- ---- what is known besides
 
 -- by the definition
@@ -126,13 +112,3 @@ no_reserved_code_run_is_known code input options None r h = no_code_run_is_known
 no_reserved_code_run_is_known code input options (Some reserve) r h = ⊎_elim
     (λ (a : IsCodeRefused code input options r). no_code_run_is_known code input options r a)
     (λ (b : _). subst IsOfCode (sym b.0) tt) h
-
--- a command line's
-pub no_words_are_known : (why : Stop) → IsOfWords why → IsKnown why about.Nothing
-no_words_are_known (stop.Words text) h = tt
-no_words_are_known (stop.Number word) h = tt
-no_words_are_known (stop.Unreadable name) h = tt
-no_words_are_known (stop.Refused r) h = subst (λ q. IsKnownOf q about.Nothing) (sym h) tt
-no_words_are_known (stop.NotVerified at reason) h = tt
-no_words_are_known (stop.BadListing at) h = absurd h
-no_words_are_known stop.WriteFailed h = tt

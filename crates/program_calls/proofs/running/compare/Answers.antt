@@ -1,6 +1,6 @@
 use Rattle.std.proofs.Common.{◌≤◌, Err, ap, inl, length, subst, sym}
 use Rattle.pram_model.specs.Layout.{total_size}
-use Rattle.pramc_command.proofs.running.compare.Goals as goal
+use Rattle.program_calls.proofs.running.compare.Goals as goal
 
 pub returns-in-Ok-clause-compared : goal.returns-in-Ok-clause-compared
 returns-in-Ok-clause-compared c =

@@ -2,12 +2,14 @@
 
 ghost use Rattle.std.specs.Prelude.{◌≡◌, ◌<◌, IfOk, IfErr, map};
 ghost use Rattle.run_steps.specs.Entries.{entry_is};
-ghost use Rattle.pramc_command.specs.Answered.{HasOutcome, HasRun, HasTrace, IsAListing, IsAProgram, IsCompared, IsPlanned, IsTrueStop};
+ghost use Rattle.program_calls.specs.Found.{HasOutcome, HasRun, HasTrace, IsAListing, IsAProgram, IsCompared, IsPlanned};
+ghost use Rattle.program_calls.specs.Stops.{IsTrueStop};
 ghost use Rattle.write_rules.specs.Verdict.{verdict_of};
-ghost use Rattle.pramc_command.specs.Costs.{HasCost};
-ghost use Rattle.pramc_command.specs.Costs as spec;
-ghost use Rattle.pramc_command.specs.Explained.{IsCodesStop, IsOutcomeIn, IsRunsStop};
-ghost use Rattle.pramc_command.specs.Steps.{HasSteps};
+ghost use Rattle.program_calls.specs.Found.{HasCost};
+ghost use Rattle.program_calls.specs.Found as spec;
+ghost use Rattle.program_calls.specs.Known.{IsCodesStop, IsRunsStop};
+ghost use Rattle.program_calls.specs.Found.{IsOutcomeIn};
+ghost use Rattle.program_calls.specs.Found.{HasSteps};
 
 use bsp_machine::Reserve;
 use bsp_verify::Verified;
@@ -28,7 +30,7 @@ use workers::OpenGate;
 use write_rules::Outcome;
 
 /// The code of a program.
-pub(crate) fn code_of<'a>(alloc: Global, program: &Program) -> Result<Verified, Stop<'a>>
+pub fn code_of<'a>(alloc: Global, program: &Program) -> Result<Verified, Stop<'a>>
     requires program { IsAProgram program.now }
     ensures code { IfOk result IsPlanned }
     ensures refused { IfErr result IsTrueStop }
@@ -38,7 +40,7 @@ pub(crate) fn code_of<'a>(alloc: Global, program: &Program) -> Result<Verified, 
 }
 
 /// The outcome by the definition.
-pub(crate) fn mean<'a>(
+pub fn mean<'a>(
     alloc: Global,
     program: &Program,
     input: &[i64],
@@ -68,7 +70,7 @@ fn processors_of(words: CostWords) -> u32
 }
 
 /// The outcome by the definition, and what that run costs.
-pub(crate) fn cost<'a>(
+pub fn cost<'a>(
     alloc: Global,
     program: &Program,
     input: &[i64],
@@ -90,7 +92,7 @@ pub(crate) fn cost<'a>(
 }
 
 /// The outcome by the definition, and what is told of that run, statement by statement.
-pub(crate) fn steps<'a>(
+pub fn steps<'a>(
     alloc: Global,
     program: &Program,
     input: &[i64],
@@ -110,7 +112,7 @@ pub(crate) fn steps<'a>(
 }
 
 /// How the program comes out under each rule.
-pub(crate) fn compare<'a>(
+pub fn compare<'a>(
     alloc: Global,
     program: Program,
     input: &[i64],
@@ -129,7 +131,7 @@ pub(crate) fn compare<'a>(
 }
 
 /// The outcome by workers, and the exchanges.
-pub(crate) fn run<'a, R: Threads + Wait + Sync>(
+pub fn run<'a, R: Threads + Wait + Sync>(
     rt: &R,
     alloc: Global,
     program: &Program,
@@ -151,7 +153,7 @@ pub(crate) fn run<'a, R: Threads + Wait + Sync>(
 }
 
 /// What code comes to.
-pub(crate) fn execute<'a, R: Threads + Wait + Sync>(
+pub fn execute<'a, R: Threads + Wait + Sync>(
     rt: &R,
     alloc: Global,
     code: &Verified,

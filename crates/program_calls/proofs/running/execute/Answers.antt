@@ -1,5 +1,5 @@
-use Rattle.pramc_command.proofs.Reasons.{no_reserved_code_run_is_known, no_reserved_code_run_is_true}
-use Rattle.pramc_command.proofs.running.execute.Goals as goal
+use Rattle.program_calls.proofs.Reasons.{no_reserved_code_run_is_known, no_reserved_code_run_is_true}
+use Rattle.program_calls.proofs.running.execute.Goals as goal
 
 pub returns-in-Ok-clause-run : goal.returns-in-Ok-clause-run
 returns-in-Ok-clause-run g c = (c.args.input.now, c.args.options, c.in-Ok.found.1, c.in-Ok.ensures.run.run)

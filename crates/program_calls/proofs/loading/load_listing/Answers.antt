@@ -1,6 +1,6 @@
 use Rattle.std.proofs.Common.{◌∙◌, sym}
-use Rattle.pramc_command.proofs.Reporting.{listing_halts}
-use Rattle.pramc_command.proofs.loading.load_listing.Goals as goal
+use Rattle.program_calls.proofs.Listings.{listing_halts}
+use Rattle.program_calls.proofs.loading.load_listing.Goals as goal
 
 pub returns-in-Err-clause-refused : goal.returns-in-Err-clause-refused
 returns-in-Err-clause-refused g c =

@@ -1,6 +1,6 @@
 use Rattle.write_rules.specs.declared.outcome.Outcome.{Outcome}
-use Rattle.pramc_command.proofs.Reasons.{no_meaning_is_known, no_meaning_is_true}
-use Rattle.pramc_command.proofs.running.mean.Goals as goal
+use Rattle.program_calls.proofs.Reasons.{no_meaning_is_known, no_meaning_is_true}
+use Rattle.program_calls.proofs.running.mean.Goals as goal
 
 pub returns-in-Ok-clause-outcome : goal.returns-in-Ok-clause-outcome
 returns-in-Ok-clause-outcome c =

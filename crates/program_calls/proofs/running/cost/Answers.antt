@@ -1,8 +1,8 @@
 use Rattle.std.proofs.Common.{Err, ap, inl, refl}
 use Rattle.work_time.specs.Steps.{run_steps}
-use Rattle.pramc_command.specs.Costs as spec
-use Rattle.pramc_command.proofs.Costs.{costs_are}
-use Rattle.pramc_command.proofs.running.cost.Goals as goal
+use Rattle.program_calls.specs.Found as spec
+use Rattle.program_calls.proofs.Costs.{costs_are}
+use Rattle.program_calls.proofs.running.cost.Goals as goal
 
 pub returns-in-Ok-clause-cost : goal.returns-in-Ok-clause-cost
 returns-in-Ok-clause-cost c =

@@ -1,7 +1,7 @@
 use Rattle.write_rules.specs.declared.outcome.Outcome.{Outcome}
 use Rattle.exchange_counts.specs.declared.counts.Counts.{Counts}
-use Rattle.pramc_command.proofs.Reasons.{no_reserved_run_is_known, no_reserved_run_is_true}
-use Rattle.pramc_command.proofs.running.run.Goals as goal
+use Rattle.program_calls.proofs.Reasons.{no_reserved_run_is_known, no_reserved_run_is_true}
+use Rattle.program_calls.proofs.running.run.Goals as goal
 
 pub returns-in-Ok-clause-outcome : goal.returns-in-Ok-clause-outcome
 returns-in-Ok-clause-outcome g c =

@@ -1,9 +1,9 @@
 -- The costs of a run, put together from what `cost_of` says of each number.
-use Rattle.std.proofs.Common.{◌≡◌, ℕ, List, ◌+◌, ◌/◌, ◌<◌, ◌^◌, ap, arith, subst, ◌∙◌}
+use Rattle.std.proofs.Common.{◌≡◌, ℕ, List, ◌+◌, ◌/◌, ap, subst, ◌∙◌}
 use Rattle.work_time.specs.Cost as cost
 use Rattle.work_time.specs.declared.cost.Cost.{Cost}
 use Rattle.work_time.specs.declared.time_step.TimeStep.{TimeStep}
-use Rattle.pramc_command.specs.Costs.{IsCost}
+use Rattle.program_calls.specs.Found.{IsCost}
 
 pub costs_are : (ss : List TimeStep) (p q : ℕ) (c : Cost) → p ≡ q → c.time ≡ cost.time ss → c.work ≡ cost.work ss →
     c.width ≡ cost.most_processors ss → c.reads ≡ cost.reads ss → c.writes ≡ cost.writes ss → c.rounds ≡ cost.rounds p ss →
@@ -19,7 +19,3 @@ costs_are ss p q c same t w m r s x y l =
       most_rounds = y ∙ ap (λ w. w / p + c.time) w ∙ ap (λ t. cost.work ss / p + t) t;
       lines = l;
     })
-
--- a writer that may fail so often may fail as often as its texts ask
-pub room : (n : ℕ) → n < 2 ^ 62 → n < 2 ^ 63
-room n h = omega (arith, h)
