@@ -9,15 +9,18 @@ _pramc() {
         case $before in
         --input) ;;
         --map) words="identity affine:" ;;
+        --format) words="text json" ;;
         --bound | --workers | --reserve | --schedule | --from | --to) return ;;
         *)
             case ${COMP_WORDS[1]} in
-            check | plan) words="--explain --help" ;;
-            meaning | rules) words="--bound --input --explain --help" ;;
-            cost) words="--bound --input --schedule --lines --explain --help" ;;
-            steps) words="--bound --input --from --to --explain --help" ;;
-            run | exec) words="--bound --input --workers --map --reserve --explain --help" ;;
-            trace) words="--bound --input --workers --map --reserve --svg --explain --help" ;;
+            check) words="--format --explain --help" ;;
+            plan) words="--explain --help" ;;
+            meaning | rules) words="--bound --input --format --explain --help" ;;
+            cost) words="--bound --input --schedule --lines --format --explain --help" ;;
+            steps) words="--bound --input --from --to --format --explain --help" ;;
+            run) words="--bound --input --workers --map --reserve --format --explain --help" ;;
+            exec) words="--bound --input --workers --map --reserve --explain --help" ;;
+            trace) words="--bound --input --workers --map --reserve --svg --format --explain --help" ;;
             explain)
                 words="$(echo E{1..18}) P1 P2 overflow divide-by-zero out-of-range too-wide read-conflict write-conflict --help"
                 ;;

@@ -40,7 +40,8 @@ def commands():
         options = {words[option]: value for option, value in found}
         below = next((makers[it] for it in makers if f"{it}(alloc, words)" in body), {})
         makers[maker] = {**below, **options}
-    return {names[of]: makers[maker] for maker, of in re.findall(r"\.subcommand\((\w+)\(alloc, &(\w+)\)\?\)", text)}
+    found = re.findall(r"\.subcommand\((?:(\w+)\(alloc, )?(\w+)\(alloc, &(\w+)\)\?\)", text)
+    return {names[of]: {**makers.get(around, {}), **makers[maker]} for around, maker, of in found}
 
 
 def subjects():
@@ -111,6 +112,7 @@ def completions():
         yield f"options of {name}", completed("pramc", name, "-"), {f"--{it}" for it in options} | {"--help"}
     yield "subjects", completed("pramc", "explain", "") - {"--help"}, subjects()
     yield "maps", completed("pramc", "run", "--map", ""), {"identity", "affine:"}
+    yield "formats", completed("pramc", "run", "--format", ""), set(re.findall(r'Some\("(\w+)"\)', source("command_words/src/request.rt")))
 
 
 def main():

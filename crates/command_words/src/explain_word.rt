@@ -2,16 +2,11 @@
 
 ghost use Rattle.std.specs.Prelude.{◌≡◌, map};
 ghost use Rattle.std.specs.String.{string_bytes};
-ghost use Rattle.pram_model.specs.Names.{same_text};
 ghost use Rattle.command_words.specs.Words as spec;
 
-const EXPLAIN_WORD: &str = "--explain";
+use crate::same_word::is_same;
 
-fn is_same(a: &str, b: &str) -> bool
-    ensures { result ≡ same_text a.now b.now }
-{
-    a == b
-}
+const EXPLAIN_WORD: &str = "--explain";
 
 /// Whether one of the words asks that what is refused, and a fault, be explained.
 pub fn asks_to_explain(words: &[String]) -> bool

@@ -28,6 +28,10 @@ pub(crate) const TO: &str = "to";
 
 pub(crate) const SVG: &str = "svg";
 
+pub(crate) const HTML: &str = "html";
+
+pub(crate) const FORMAT: &str = "format";
+
 const EXPLAINED: &str = "explain";
 
 // What the help of a subcommand says.
@@ -136,6 +140,16 @@ fn over_file<'a>(alloc: Global, words: &Subcommand) -> Result<Command<'a>, Alloc
         .arg(explained)
 }
 
+// With the choice of how it tells what it does.
+fn in_formats<'a>(alloc: Global, command: Command<'a>) -> Result<Command<'a>, AllocError> {
+    let format = Arg::new(alloc, FORMAT)
+        .long(FORMAT)
+        .value_name("FORMAT")
+        .default_value("text")
+        .help("How it is told: text, or json for programs that read");
+    command.arg(format)
+}
+
 // A subcommand that runs what is in a file.
 fn over_run<'a>(alloc: Global, words: &Subcommand) -> Result<Command<'a>, AllocError> {
     let bound = Arg::new(alloc, BOUND)
@@ -175,7 +189,15 @@ fn over_steps<'a>(alloc: Global, words: &Subcommand) -> Result<Command<'a>, Allo
         .value_name("K")
         .default_value("4294967295")
         .help("The last statement that is told");
-    over_run(alloc, words)?.arg(from)?.arg(to)
+    let svg = Arg::new(alloc, SVG)
+        .long(SVG)
+        .action(ArgAction::SetTrue)
+        .help("Draws them all, as SVG");
+    let html = Arg::new(alloc, HTML)
+        .long(HTML)
+        .action(ArgAction::SetTrue)
+        .help("Makes a page that steps through them all");
+    over_run(alloc, words)?.arg(from)?.arg(to)?.arg(svg)?.arg(html)
 }
 
 // A subcommand that runs it by workers.
@@ -215,14 +237,14 @@ pub(crate) fn grammar<'a>(alloc: Global) -> Result<Command<'a>, AllocError> {
         .subcommand_required(true)
         .version(VERSION)
         .bin_name("pramc")?
-        .subcommand(over_file(alloc, &CHECK)?)?
+        .subcommand(in_formats(alloc, over_file(alloc, &CHECK)?)?)?
         .subcommand(over_file(alloc, &PLAN)?)?
-        .subcommand(over_run(alloc, &MEANING)?)?
-        .subcommand(over_cost(alloc, &COST)?)?
-        .subcommand(over_steps(alloc, &STEPS)?)?
-        .subcommand(over_run(alloc, &RULES)?)?
-        .subcommand(over_workers(alloc, &RUN)?)?
-        .subcommand(over_trace(alloc, &TRACE)?)?
+        .subcommand(in_formats(alloc, over_run(alloc, &MEANING)?)?)?
+        .subcommand(in_formats(alloc, over_cost(alloc, &COST)?)?)?
+        .subcommand(in_formats(alloc, over_steps(alloc, &STEPS)?)?)?
+        .subcommand(in_formats(alloc, over_run(alloc, &RULES)?)?)?
+        .subcommand(in_formats(alloc, over_workers(alloc, &RUN)?)?)?
+        .subcommand(in_formats(alloc, over_trace(alloc, &TRACE)?)?)?
         .subcommand(over_workers(alloc, &EXEC)?)?
         .subcommand(over_word(alloc, &EXPLAIN)?)
 }

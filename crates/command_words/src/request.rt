@@ -7,7 +7,8 @@ ghost use Rattle.command_words.specs.Words.{AsksForVersion, IsOfWords};
 
 use crate::cost_words::CostWords;
 use crate::grammar::{
-    BOUND, FILE, FROM, INPUT, LINES, MAP, RESERVE, SCHEDULE, SVG, TO, WORD, WORKERS, grammar,
+    BOUND, FILE, FORMAT, FROM, HTML, INPUT, LINES, MAP, RESERVE, SCHEDULE, SVG, TO, WORD, WORKERS,
+    grammar,
 };
 use crate::step_words::StepWords;
 use crate::version::asks_for_version;
@@ -51,8 +52,10 @@ pub struct RunWords<'a> {
     pub reserve: Option<Reserve>,
     pub costs: CostWords,
     pub steps: StepWords,
-    /// Whether the exchanges are drawn.
+    /// Whether exchanges, or statements, are drawn.
     pub svg: bool,
+    /// Whether a page is made that steps through the statements.
+    pub html: bool,
 }
 
 /// One call of the program.
@@ -165,12 +168,33 @@ fn run_words<'a>(words: &ArgMatches<'a>) -> Result<RunWords<'a>, Stop<'a>>
         costs,
         steps,
         svg: words.get_flag(SVG),
+        html: words.get_flag(HTML),
     })
+}
+
+// The format is one that there is, nothing is drawn or made a page in JSON, and a page isn't drawn. Whether it is JSON `asks_for_json` says.
+fn check_format<'a>(words: &ArgMatches<'a>) -> Result<(), Stop<'a>>
+    ensures { IfErr result IsOfWords }
+{
+    let json = match words.get_str(FORMAT) {
+        None | Some("text") => false,
+        Some("json") => true,
+        Some(word) => return Err(Stop::Number(word)),
+    };
+    let svg = words.get_flag(SVG);
+    if words.get_flag(HTML) && (json || svg) {
+        return Err(Stop::Number("--html"));
+    }
+    if json && svg {
+        return Err(Stop::Number("--svg"));
+    }
+    Ok(())
 }
 
 fn asked<'a>(verb: Verb, matches: &ArgMatches<'a>) -> Result<Request<'a>, Stop<'a>>
     ensures { IfErr result IsOfWords }
 {
+    check_format(matches)?;
     let words = run_words(matches)?;
     let file = matches.get_str(FILE).unwrap_or("");
     Ok(Request::Program { verb, file, words })

@@ -1,4 +1,5 @@
 pub mod Answering
 pub mod Reporting
-pub mod Reasons
-pub mod Costs
+pub mod Words
+pub mod Room
+pub mod Entries

@@ -1,155 +1,76 @@
 -- What is known besides where a call is explained: of a refusal the text that has it, of a fault the run that came to it.
-use Rattle.std.specs.Prelude.{◌≡◌, ◌⊎◌, ◌++◌, ℕ, ℤ, List, [], length, Result, Ok, Err, Option, Some, None, Bool, true, false}
-use Rattle.pram_model.specs.Layout.{SharedEntry, total_size}
-use Rattle.text_out.specs.Out.{OutState, StopsIn, Writes, with_bytes}
+use Rattle.std.specs.Prelude.{◌≡◌, ◌⊎◌, ◌||◌, ℕ, ℤ, List, ◌++◌, Result, Ok, Err, Option, Bool, [], Some, None, true, false}
+use Rattle.pram_model.specs.Layout.{SharedEntry}
+use Rattle.text_out.specs.Out.{OutState, with_bytes}
 use Rattle.pram_check.specs.Checked.{Checked}
-use Rattle.pram_tokens.specs.declared.error.TextFault.{TextFault}
 use Rattle.superstep_code.specs.Code.{SuperstepCode}
-use Rattle.superstep_listing.specs.Text.{IsFirstBad}
 use Rattle.superstep_machine.specs.Trace.{Exchange}
-use Rattle.trace_pictures.specs.Picture.{picture}
 use Rattle.tracer.specs.Traced.{trace_text}
-use Rattle.write_rules.specs.Verdict.{Verdict, Faulted, verdict_of}
+use Rattle.trace_pictures.specs.Picture.{picture}
+use Rattle.write_rules.specs.Verdict.{verdict_of, Faulted}
 use Rattle.write_rules.specs.declared.outcome.Outcome.{Outcome}
-use Rattle.program_texts.specs.Report.{HasBreach, IsInputRefusal, IsProgramOf, IsRunOf, IsTextRefusal}
+use Rattle.write_rules.specs.declared.outcome.Outcome.TheVariants as outcomes
+use Rattle.command_words.specs.Words.{asks_to_explain}
+use Rattle.program_texts.specs.Report.{IsProgramOf, IsRunOf}
 use Rattle.program_texts.specs.Shown.{shown}
 use Rattle.program_texts.specs.Status.{status_of}
 use Rattle.program_texts.specs.StoppedFields.{stop_text}
-use Rattle.program_texts.specs.declared.from_text.Refusal.{Refusal}
-use Rattle.program_texts.specs.declared.from_text.Refusal.TheVariants as refusal
 use Rattle.program_texts.specs.declared.status.Status.{Status}
-use Rattle.program_texts.specs.declared.status.Status.TheVariants as status
 use Rattle.program_texts.specs.declared.stop.Stop.{Stop}
-use Rattle.program_texts.specs.declared.stop.Stop.TheVariants as stop
 use Rattle.diagnoses.specs.declared.about.About.{About}
-use Rattle.diagnoses.specs.declared.about.About.TheVariants as about
-use Rattle.diagnoses.specs.FaultTexts.{fault_diagnosis}
+use Rattle.diagnoses.specs.FaultTexts.{fault_diagnosis, fault_sentence}
 use Rattle.diagnoses.specs.Met.{who_met}
 use Rattle.diagnoses.specs.Remarks.{Remark}
 use Rattle.diagnoses.specs.Stops.{HasRemark, stop_diagnosis}
 use Rattle.pramc_command.specs.declared.answer.Answer.{Answer}
 use Rattle.pramc_command.specs.declared.answer.Ended.{Ended}
+use Rattle.pramc_command.specs.declared.answer.FaultedCall.{FaultedCall}
+use Rattle.pramc_command.specs.declared.answer.FaultedCall.TheVariants as call
+use Rattle.pramc_command.specs.declared.answer.FaultedCode.{FaultedCode}
 use Rattle.pramc_command.specs.declared.answer.FaultedRun.{FaultedRun}
-use Rattle.pramc_command.specs.declared.answer.Halted.{Halted}
-use Rattle.pramc_command.specs.Answered.{HasRun, HasTrace, IsAListing, IsAProgram, IsReported, IsStopped, IsTold, IsTrueStop, Tells}
+use Rattle.pramc_command.specs.declared.terminal.Terminal.{Terminal}
+use Rattle.program_calls.specs.declared.halted.Halted.{Halted}
+use Rattle.program_calls.specs.Found.{HasRun, HasTrace, IsAListing, IsOutcomeIn}
+use Rattle.program_calls.specs.Written.{IsReported}
+use Rattle.pramc_command.specs.Answered.{IsStopped, IsTold, Tells}
+use Rattle.pramc_command.specs.Steps.{ShowsSteps}
+use Rattle.program_calls.specs.Known.{IsKnown, IsRunsStop}
+use Rattle.program_texts.specs.declared.status.Status.TheVariants as status
 
--- ---- refusals
+-- ---- streams
 
--- the text at hand has that; a text is at hand
-abbrev pub IsOfText : (List ℕ → Type 0) → About → Type 0
-IsOfText P about.Nothing = ⊥
-IsOfText P (about.Text s) = P s.bytes.items
-IsOfText P (about.Values values cells) = ⊥
-
-abbrev pub IsRefusedText : TextFault → List ℕ → Type 0
-IsRefusedText fault text = IsTextRefusal text fault ⊎ IsInputRefusal text fault
-
--- the shared declarations of some text's program, or of some listing
-abbrev pub IsSomeLayout : List SharedEntry → Type 0
-IsSomeLayout layout =
-    ((program : Checked) × IsAProgram program × (layout ≡ program.layout)) ⊎ ((code : SuperstepCode) × IsAListing code × (layout ≡ code.layout))
-
--- an input has so many values, and some shared declarations so many cells
-abbrev pub HasNumbers : (values cells : ℕ) → Type 0
-HasNumbers values cells =
-    (layout : List SharedEntry) × (input : List ℤ) × IsSomeLayout layout × (values ≡ length input) × (cells ≡ total_size layout)
-
-abbrev pub AreNumbers : About → Type 0
-AreNumbers about.Nothing = ⊥
-AreNumbers (about.Text s) = ⊥
-AreNumbers (about.Values values cells) = HasNumbers values cells
-
--- E1 to E10 are told with the text that has them, and E11 with its numbers
-abbrev pub IsKnownOf : Refusal → About → Type 0
-IsKnownOf (refusal.Text fault) a = IsOfText (IsRefusedText fault) a
-IsKnownOf (refusal.Program breach) a = IsOfText (λ text. HasBreach text breach) a
-IsKnownOf refusal.InputTooLong a = AreNumbers a
-IsKnownOf refusal.BadMap a = Unit {0}
-IsKnownOf refusal.BadWorkers a = Unit {0}
-IsKnownOf refusal.OutOfMemory a = Unit {0}
-IsKnownOf refusal.OutOfReserve a = Unit {0}
-
--- and E15 with the text of the listing
-abbrev pub IsKnown : Stop → About → Type 0
-IsKnown (stop.Refused r) a = IsKnownOf r a
-IsKnown (stop.BadListing at) a = IsOfText (λ text. IsFirstBad text at) a
-IsKnown _ a = Unit {0}
-
--- a reason that needs nothing besides its line
-abbrev pub IsKnownAlone : Stop → Type 0
-IsKnownAlone why = IsTrueStop why × IsKnown why about.Nothing
-
--- a reason with what is known besides, both true
-abbrev pub IsTrueHalt : Halted → Type 0
-IsTrueHalt h = IsTrueStop h.stop × IsKnown h.stop h.about
-
--- what the text of a listing is refused for, which the text has
-abbrev pub IsOfListing : Stop → List ℕ → Type 0
-IsOfListing (stop.Refused (refusal.Text fault)) text = IsTextRefusal text fault
-IsOfListing (stop.BadListing at) text = IsFirstBad text at
-IsOfListing (stop.Refused refusal.OutOfMemory) text = Unit {0}
-IsOfListing _ text = ⊥
-
--- What the run of a text's program is refused for. If it is the text, the text has it.
-abbrev pub IsOfRun : Refusal → List ℕ → Type 0
-IsOfRun (refusal.Text fault) text = IsTextRefusal text fault
-IsOfRun (refusal.Program breach) text = HasBreach text breach
-IsOfRun _ text = Unit {0}
-
-abbrev pub IsStopOfRun : Stop → List ℕ → Type 0
-IsStopOfRun (stop.Refused r) text = IsOfRun r text
-IsStopOfRun (stop.BadListing at) text = ⊥
-IsStopOfRun _ text = Unit {0}
-
--- so for every text of a program
-abbrev pub IsRunsStop : Checked → Stop → Type 0
-IsRunsStop program why = (text : List ℕ) → IsProgramOf text program → IsStopOfRun why text
-
--- what the run of code is refused for, which is none of its text
-abbrev pub IsOfCode : Refusal → Type 0
-IsOfCode (refusal.Text fault) = ⊥
-IsOfCode (refusal.Program breach) = ⊥
-IsOfCode _ = Unit {0}
-
-abbrev pub IsCodesStop : Stop → Type 0
-IsCodesStop (stop.Refused r) = IsOfCode r
-IsCodesStop (stop.BadListing at) = ⊥
-IsCodesStop _ = Unit {0}
+-- the streams of a call: what is refused, and a fault, is explained where standard error is a terminal or a word asks for it
+abbrev pub explaining : Terminal → List (List ℕ) → Terminal
+explaining on words = record on { errors = on.errors || asks_to_explain words }
 
 -- ---- runs
-
--- a text was written whole, and the call ends with that status; or a beginning of it, and the writer failed
-abbrev pub Wrote : Status → List ℕ → OutState → OutState → Result Status Stop → Type 0
-Wrote ends text old new (Ok s) = (s ≡ ends) × (new ≡ with_bytes old text)
-Wrote ends text old new (Err why) = (why ≡ stop.WriteFailed) × StopsIn old new text
 
 -- the exchanges of a run, in words or drawn
 abbrev pub counts_text : Bool → List Exchange → List ℕ
 counts_text false exchanges = trace_text exchanges
 counts_text true exchanges = picture exchanges
 
--- the outcome of a program on an input within n statements, by each of its texts
-abbrev pub IsOutcomeIn : Checked → List ℤ → ℕ → Verdict → Type 0
-IsOutcomeIn program input n verdict = (text : List ℕ) → IsProgramOf text program → IsRunOf text input n program.layout verdict
+-- the text tells the exchanges of a run that came to that outcome
+abbrev pub TellsCounts : Outcome → List ℕ → Type 0
+TellsCounts outcome text = (exchanges : List Exchange) × HasTrace outcome exchanges × (drawn : Bool) × (text ≡ counts_text drawn exchanges)
 
--- the text tells that outcome, behind something else or alone, or it tells the exchanges of a run that came to it
+-- the text tells that outcome, behind something else or alone, or it tells exchanges, or shows the statements, of a run that came to it
 abbrev pub TellsOutcome : List SharedEntry → Outcome → List ℕ → Type 0
 TellsOutcome layout outcome text =
-    ((front : List ℕ) × (text ≡ front ++ shown layout (verdict_of outcome)))
-    ⊎ ((exchanges : List Exchange) × HasTrace outcome exchanges × (drawn : Bool) × (text ≡ counts_text drawn exchanges))
+    ((front : List ℕ) × (text ≡ front ++ shown layout (verdict_of outcome))) ⊎ (TellsCounts outcome text ⊎ ShowsSteps layout outcome text)
 
 -- a program's run on an input has been told, whole
-pub record IsRunTold (program : Checked) (input : List ℤ) (n : ℕ) (old new : OutState) (e : Ended) : Type 0 where
+pub record IsRunTold (on : Terminal) (program : Checked) (input : List ℤ) (n : ℕ) (old new : OutState) (e : Ended) : Type 0 where
   pub text : List ℕ
-  pub tells : Tells e.status text
+  pub tells : Tells on e.status text
   pub written : new ≡ with_bytes old text
   pub shows : TellsOutcome program.layout e.outcome text
   pub run : IsOutcomeIn program input n (verdict_of e.outcome)
   pub ends : e.status ≡ status_of e.outcome
 
-abbrev pub TellsRun : Checked → List ℤ → ℕ → OutState → OutState → Result Ended Stop → Type 0
-TellsRun program input n old new (Ok e) = IsRunTold program input n old new e
-TellsRun program input n old new (Err why) = IsStopped why old new × IsRunsStop program why
+abbrev pub TellsRun : Terminal → Checked → List ℤ → ℕ → OutState → OutState → Result Ended Stop → Type 0
+TellsRun on program input n old new (Ok e) = IsRunTold on program input n old new e
+TellsRun on program input n old new (Err why) = IsStopped on why old new × IsRunsStop program why
 
 -- What is known of a fault: the run of the text's program on some input, within some bound, came to it, behind some output, and those that
 -- met at it are told, or none.
@@ -164,36 +85,51 @@ pub record IsFault (f : FaultedRun) (outcome : Outcome) : Type 0 where
   pub run : IsRunOf f.source.bytes.items input bound f.layout (Faulted f.fault output)
   pub met : (f.who.items ≡ who_met program input bound) ⊎ (f.who.items ≡ [])
 
+-- a fault of a program's run, with these shared declarations
+abbrev pub IsRunFault : List SharedEntry → Outcome → FaultedCall → Type 0
+IsRunFault layout outcome (call.Run f) = IsFault f outcome × (f.layout ≡ layout)
+IsRunFault layout outcome (call.Code f) = ⊥
+
 -- such a run, whose text stands on standard output
-pub record IsFaultTold (f : FaultedRun) (old new : OutState) : Type 0 where
+pub record IsFaultTold (on : Terminal) (f : FaultedRun) (old new : OutState) : Type 0 where
   pub outcome : Outcome
   pub fault : IsFault f outcome
   pub text : List ℕ
-  pub tells : Tells status.Faulted text
+  pub tells : Tells on status.Faulted text
   pub shows : TellsOutcome f.layout outcome text
   pub written : new ≡ with_bytes old text
 
--- how a listing's code comes out stands there
-pub record IsCodeTold (ends : Status) (old new : OutState) : Type 0 where
-  pub code : SuperstepCode
+-- the fault of a listing's code, and its outcome stands on standard output
+pub record IsCodeFaultTold (f : FaultedCode) (old new : OutState) : Type 0 where
   pub outcome : Outcome
-  pub is_listing : IsAListing code
-  pub run : HasRun code outcome
-  pub is : ends ≡ status_of outcome
-  pub written : new ≡ with_bytes old (shown code.layout (verdict_of outcome))
+  pub output : List ℤ
+  pub is : verdict_of outcome ≡ Faulted f.fault output
+  pub is_listing : IsAListing f.code
+  pub run : HasRun f.code outcome
+  pub written : new ≡ with_bytes old (shown f.code.layout (verdict_of outcome))
 
--- Nothing is to be explained: nothing was asked for, or the call hasn't ended with a fault of a text's program.
-abbrev pub IsQuiet : Bool → Status → OutState → OutState → Type 0
-IsQuiet explains ends old new = (explains ≡ true → ends ≡ status.Faulted → ⊥) ⊎ IsCodeTold ends old new
+-- Nothing is to be explained: nothing was asked for, or the call hasn't ended with a fault.
+abbrev pub IsQuiet : Terminal → Status → Type 0
+IsQuiet on ends = on.errors ≡ true → ends ≡ status.Faulted → ⊥
+
+-- a fault that is to be explained, which a text on standard output tells
+abbrev pub IsToldOf : Terminal → FaultedCall → (old new : OutState) → Type 0
+IsToldOf on (call.Run f) old new = IsFaultTold on f old new
+IsToldOf on (call.Code f) old new = IsCodeFaultTold f old new
 
 -- how a call has answered: with its text, and where that is to be explained, with the fault that it tells
-abbrev pub IsAnswered : Bool → OutState → OutState → Status → Option FaultedRun → Type 0
-IsAnswered explains old new ends None = IsTold ends old new × IsQuiet explains ends old new
-IsAnswered explains old new ends (Some f) = (explains ≡ true) × (ends ≡ status.Faulted) × IsFaultTold f old new
+abbrev pub IsAnswered : Terminal → OutState → OutState → Status → Option FaultedCall → Type 0
+IsAnswered on old new ends None = IsTold on ends old new × IsQuiet on ends
+IsAnswered on old new ends (Some f) = (on.errors ≡ true) × (ends ≡ status.Faulted) × IsToldOf on f old new
 
-abbrev pub Performs : Bool → OutState → OutState → Result Answer Halted → Type 0
-Performs explains old new (Ok a) = IsAnswered explains old new a.status a.fault
-Performs explains old new (Err h) = IsStopped h.stop old new × IsKnown h.stop h.about
+abbrev pub Performs : Terminal → OutState → OutState → Result Answer Halted → Type 0
+Performs on old new (Ok a) = IsAnswered on old new a.status a.fault
+Performs on old new (Err h) = IsStopped on h.stop old new × IsKnown h.stop h.about
+
+-- where it is asked for, the fault of code that has one
+abbrev pub code_fault : Bool → SuperstepCode → Outcome → Option FaultedCall
+code_fault true code (outcomes.Faulted fault output) = Some (call.Code (record { code = code; fault = fault }))
+code_fault _ code outcome = None
 
 -- ---- standard error
 
@@ -208,18 +144,23 @@ pub record IsRefusalReported (explains : Bool) (why : Stop) (a : About) (old new
   pub said : HasRemark why a remark
   pub reported : IsReported old new (refusal_text explains why a remark)
 
--- what is said of a fault stands there, as far as it takes it; and nothing where there is none to be explained
-abbrev pub IsFaultReported : Option FaultedRun → (old new : OutState) → Type 0
+-- what is said of a fault: of a program's run with the line of its text, of a listing's code what happened, since its lines aren't the
+-- program's
+abbrev pub fault_text : FaultedCall → List ℕ
+fault_text (call.Run f) = fault_diagnosis f.source f.layout f.fault f.who.items
+fault_text (call.Code f) = fault_sentence f.code.layout f.fault []
+
+-- it stands there, as far as it takes it; and nothing where there is no fault to be explained
+abbrev pub IsFaultReported : Option FaultedCall → (old new : OutState) → Type 0
 IsFaultReported None old new = new ≡ old
-IsFaultReported (Some f) old new = IsReported old new (fault_diagnosis f.source f.layout f.fault f.who.items)
+IsFaultReported (Some f) old new = IsReported old new (fault_text f)
 
 -- Both streams after a call with that exit status, which explains or doesn't. A status but that of a refusal goes with its text on standard
--- output, and with nothing on the other stream; but the fault of a text's program is explained there, if that is asked for. A refusal's line
--- goes there, and behind it what is said of it, if that is asked for.
-pub data Leaves (explains : Bool) (out out_new err err_new : OutState) : Status → Type 0 where
-  Answered : (ends : Status) → IsTold ends out out_new → IsQuiet explains ends out out_new → err_new ≡ err → Leaves explains out out_new err err_new ends
-  FaultExplained : (f : FaultedRun) → explains ≡ true → IsFaultTold f out out_new
-      → IsReported err err_new (fault_diagnosis f.source f.layout f.fault f.who.items)
-      → Leaves explains out out_new err err_new status.Faulted
-  Stopped : (why : Stop) (a : About) → IsStopped why out out_new → IsKnown why a → IsRefusalReported explains why a err err_new
-      → Leaves explains out out_new err err_new status.Refused
+-- output, and with nothing on the other stream; but a fault is explained there, if that is asked for. A refusal's line goes there, and behind
+-- it what is said of it, if that is asked for.
+pub data Leaves (on : Terminal) (out out_new err err_new : OutState) : Status → Type 0 where
+  Answered : (ends : Status) → IsTold on ends out out_new → IsQuiet on ends → err_new ≡ err → Leaves on out out_new err err_new ends
+  FaultExplained : (f : FaultedCall) → on.errors ≡ true → IsToldOf on f out out_new → IsReported err err_new (fault_text f)
+      → Leaves on out out_new err err_new status.Faulted
+  Stopped : (why : Stop) (a : About) → IsStopped on why out out_new → IsKnown why a → IsRefusalReported on.errors why a err err_new
+      → Leaves on out out_new err err_new status.Refused

@@ -6,7 +6,7 @@ use Rattle.program_texts.specs.declared.status.Status.{Status}
 use Rattle.program_texts.specs.declared.status.Status.TheVariants.{Done, Refused}
 use Rattle.program_texts.specs.declared.stop.Stop.TheVariants as stop
 use Rattle.pramc_command.specs.declared.answer.Answer.{Answer}
-use Rattle.pramc_command.specs.declared.answer.Halted.{Halted}
+use Rattle.program_calls.specs.declared.halted.Halted.{Halted}
 
 abbrev pub version_text : List ℕ
 version_text = line (codes "pramc 0.1.0")

@@ -1,20 +1,10 @@
 //! How a call comes out, before that is told on standard error.
 
-ghost use Rattle.std.specs.Prelude.{◌≡◌};
-ghost use Rattle.diagnoses.specs.declared.about.About.TheVariants.{Nothing};
-
-use diagnoses::{About, Source};
-use pram_check::Program;
+use bsp_verify::Verified;
+use diagnoses::Source;
 use pram_syntax::Layout;
-use program_texts::{Status, Stop};
+use program_texts::Status;
 use write_rules::{Fault, Outcome};
-
-/// A program, with the text that it was read from.
-#[derive(Drop)]
-pub(crate) struct Loaded<'a> {
-    pub(crate) source: Source<'a>,
-    pub(crate) program: Program,
-}
 
 /// A run that was told: the exit status, and how it came out.
 #[derive(Drop)]
@@ -33,27 +23,25 @@ pub(crate) struct FaultedRun<'a> {
     pub(crate) who: Vec<i64>,
 }
 
+/// The fault of a listing's code that is to be explained.
+#[derive(Drop)]
+pub(crate) struct FaultedCode {
+    pub(crate) code: Verified,
+    pub(crate) fault: Fault,
+}
+
+/// A fault that is to be explained.
+#[derive(Drop)]
+pub(crate) enum FaultedCall<'a> {
+    /// Of a program's run.
+    Run(FaultedRun<'a>),
+    /// Of a listing's code.
+    Code(FaultedCode),
+}
+
 /// A call that has answered: the exit status, and the fault that is to be explained.
 #[derive(Drop)]
 pub(crate) struct Answer<'a> {
     pub(crate) status: Status,
-    pub(crate) fault: Option<FaultedRun<'a>>,
-}
-
-/// Why a call ends without an outcome, and what is known besides.
-#[derive(Drop)]
-pub(crate) struct Halted<'a> {
-    pub(crate) stop: Stop<'a>,
-    pub(crate) about: About<'a>,
-}
-
-impl<'a> From<Stop<'a>> for Halted<'a> {
-    ghost from_gives = { λ stop h. (h.stop ≡ stop) × (h.about ≡ Nothing) };
-
-    fn from(stop: Stop<'a>) -> Halted<'a> {
-        Halted {
-            stop,
-            about: About::Nothing,
-        }
-    }
+    pub(crate) fault: Option<FaultedCall<'a>>,
 }

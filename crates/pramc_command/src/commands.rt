@@ -2,26 +2,27 @@
 
 ghost use Rattle.std.specs.Prelude.{◌≡◌, ◌<◌, ◌^◌, ◌||◌, IfErr, IfOk, None, Ok, Err, map};
 ghost use Rattle.std.specs.String.{string_bytes};
-ghost use Rattle.command_words.specs.Words.{AsksForVersion, asks_to_explain as spec_asks};
+ghost use Rattle.command_words.specs.Words.{AsksForVersion};
 ghost use Rattle.program_texts.specs.Report.{IsProgramOf};
 ghost use Rattle.diagnoses.specs.declared.about.About.TheVariants as known;
-ghost use Rattle.pramc_command.specs.Answered.{IsAProgram};
-ghost use Rattle.pramc_command.specs.Explained.{Leaves, Performs, TellsRun};
+ghost use Rattle.pramc_command.specs.Explained.{Leaves, Performs, TellsRun, explaining as spec_explaining};
 ghost use Rattle.pramc_command.specs.Version.{AnswersVersion, LeavesVersion};
 
-use crate::answer::{Answer, Ended, Halted, Loaded};
-use crate::explaining::{answer_of, halted_code, halted_run, report, report_fault};
-use crate::loading::{load_input, load_listing, load_program};
-use crate::running::{code_of, compare, execute};
-use crate::telling::{tell_costs, tell_meaning, tell_run, tell_steps, tell_trace};
+use crate::answer::{Answer, Ended};
+use crate::explaining::{answer_of, code_fault, report, report_fault};
+use crate::stepping::tell_steps;
+use crate::telling::{tell_costs, tell_meaning, tell_run, tell_trace};
 use crate::terminal::Terminal;
 use crate::writing::{
     write_accepted, write_outcome, write_plan, write_rules, write_subject, write_version,
 };
 use command_words::{Request, RunWords, Verb, asks_to_explain, read_words};
 use diagnoses::About;
-use pram_check::Program;
 use pram_syntax::Out;
+use program_calls::{
+    Halted, Loaded, code_of, compare, execute, halted_code, halted_run, load_input, load_listing,
+    load_program,
+};
 use program_texts::{Sources, Status, Stop};
 use std::alloc::Global;
 use std::sync::Wait;
@@ -31,8 +32,8 @@ use std::thread::Threads;
 ///
 /// `check FILE` writes `accepted cells N procs M rule R`; `plan FILE` the listing of the program's code; `meaning FILE` the outcome by
 /// the definition, `cost FILE` what that run costs and then its outcome, `steps FILE` that run statement by statement and then its
-/// outcome, and `rules FILE` how it comes out under each rule; `run FILE` that of its code, run by workers in threads, and `trace FILE`
-/// the exchanges of that run; `exec LISTING` the outcome of a listing, run so; `explain WORD` what a refusal or a fault is; `--version`,
+/// outcome, or a picture or a page of it, and `rules FILE` how it comes out under each rule; `run FILE` that of its code, run by workers in
+/// threads, and `trace FILE` the exchanges of that run, or a picture of them; `exec LISTING` the outcome of a listing, run so; `explain WORD` what a refusal or a fault is; `--version`,
 /// or `-V`, the line `pramc 0.1.0`.
 ///
 /// What is refused is written to `err`: P1 for the words, P2 for a file that can't be read, and E1 to E18. It is judged in this order:
@@ -40,7 +41,8 @@ use std::thread::Threads;
 /// (E12), and the number of the input's values (E11). With `--reserve` a run is refused besides where it comes past that (E18).
 ///
 /// With `--explain`, or where standard error is a terminal, what a reader needs follows there: the place, its line and a caret, and a
-/// sentence; and so of the fault of a program's run.
+/// sentence; and so of a fault, of a program's run with its line. Where standard output is a terminal, statements stand beside their lines
+/// of the program's text, and what changes is coloured if that is wanted.
 pub fn command<R: Threads + Wait + Sync, S: Sources, O: Out, E: Out>(
     rt: &R,
     alloc: Global,
@@ -52,41 +54,45 @@ pub fn command<R: Threads + Wait + Sync, S: Sources, O: Out, E: Out>(
 ) -> Status
     requires out { (O.Out.state out.old).failures < 2 ^ 62 }
     requires err { (E.Out.state err.old).failures < 2 ^ 62 }
-    ensures leaves { Leaves (terminal.errors || spec_asks (map string_bytes words.now))
+    ensures leaves { Leaves (spec_explaining terminal (map string_bytes words.now))
         (O.Out.state out.old) (O.Out.state out.new) (E.Out.state err.old) (E.Out.state err.new) result }
     ensures version { AsksForVersion (map string_bytes words.now) → LeavesVersion (O.Out.state out.old) (O.Out.state out.new)
         (E.Out.state err.old) (E.Out.state err.new) result }
 {
-    let explains = is_explained(terminal, words);
-    match perform(rt, alloc, words, explains, sources, out) {
+    let on = explaining(terminal, words);
+    match perform(rt, alloc, words, on, sources, out) {
         Ok(answer) => {
             report_fault(err, &answer.fault);
             answer.status
         }
         Err(halted) => {
-            report(alloc, err, &halted, explains);
+            report(alloc, err, &halted, on.errors);
             Status::Refused
         }
     }
 }
 
-// Whether what is refused, and a fault, is explained.
-fn is_explained(terminal: Terminal, words: &[String]) -> bool
-    ensures { result ≡ (terminal.errors || spec_asks (map string_bytes words.now)) }
+// The streams of the call, of which standard error has explanations where it is a terminal or a word asks for them.
+fn explaining(terminal: Terminal, words: &[String]) -> Terminal
+    ensures { result ≡ spec_explaining terminal (map string_bytes words.now) }
 {
-    terminal.errors || asks_to_explain(words)
+    Terminal {
+        errors: terminal.errors || asks_to_explain(words),
+        output: terminal.output,
+        colours: terminal.colours,
+    }
 }
 
 fn perform<'a, R: Threads + Wait + Sync, S: Sources, O: Out>(
     rt: &R,
     alloc: Global,
     words: &'a [String],
-    explains: bool,
+    on: Terminal,
     sources: &mut S,
     out: &mut O,
 ) -> Result<Answer<'a>, Halted<'a>>
     requires out { (O.Out.state out.old).failures < 2 ^ 62 }
-    ensures performs { Performs explains (O.Out.state out.old) (O.Out.state out.new) result }
+    ensures performs { Performs on (O.Out.state out.old) (O.Out.state out.new) result }
     ensures version { AsksForVersion (map string_bytes words.now) → AnswersVersion (O.Out.state out.old) (O.Out.state out.new) result }
 {
     match read_words(alloc, words) {
@@ -94,10 +100,10 @@ fn perform<'a, R: Threads + Wait + Sync, S: Sources, O: Out>(
         Ok(Request::Version) => quietly(write_version(out)),
         Ok(Request::Explanation(subject)) => quietly(write_subject(out, subject)),
         Ok(Request::Program { verb, file, words }) => {
-            on_program(rt, alloc, verb, file, words, explains, sources, out)
+            on_program(rt, alloc, verb, file, words, on, sources, out)
         }
         Ok(Request::Listing { file, words }) => {
-            on_listing(rt, alloc, file, words, explains, sources, out)
+            on_listing(rt, alloc, file, words, on, sources, out)
         }
     }
 }
@@ -126,20 +132,20 @@ fn on_program<'a, R: Threads + Wait + Sync, S: Sources, O: Out>(
     verb: Verb,
     file: &'a str,
     words: RunWords<'a>,
-    explains: bool,
+    on: Terminal,
     sources: &mut S,
     out: &mut O,
 ) -> Result<Answer<'a>, Halted<'a>>
     requires out { (O.Out.state out.old).failures < 2 ^ 62 }
-    ensures { Performs explains (O.Out.state out.old) (O.Out.state out.new) result }
+    ensures { Performs on (O.Out.state out.old) (O.Out.state out.new) result }
 {
     let loaded = load_program(alloc, sources, file)?;
     match verb {
         Verb::Check => quietly(write_accepted(out, &loaded.program)),
-        Verb::Plan => on_plan(alloc, loaded, explains, out),
-        Verb::Rules => on_rules(alloc, loaded, words, explains, sources, out),
+        Verb::Plan => on_plan(alloc, loaded, on, out),
+        Verb::Rules => on_rules(alloc, loaded, words, on, sources, out),
         Verb::Meaning | Verb::Cost | Verb::Steps | Verb::Run | Verb::Trace => {
-            on_run(rt, alloc, verb, loaded, words, explains, sources, out)
+            on_run(rt, alloc, verb, loaded, words, on, sources, out)
         }
     }
 }
@@ -148,12 +154,12 @@ fn on_program<'a, R: Threads + Wait + Sync, S: Sources, O: Out>(
 fn on_plan<'a, O: Out>(
     alloc: Global,
     loaded: Loaded<'a>,
-    explains: bool,
+    on: Terminal,
     out: &mut O,
 ) -> Result<Answer<'a>, Halted<'a>>
     requires out { (O.Out.state out.old).failures < 2 ^ 62 }
     requires program { IsProgramOf loaded.source.bytes.items loaded.program }
-    ensures { Performs explains (O.Out.state out.old) (O.Out.state out.new) result }
+    ensures { Performs on (O.Out.state out.old) (O.Out.state out.new) result }
 {
     match code_of(alloc, &loaded.program) {
         Ok(code) => quietly(write_plan(out, code.code())),
@@ -169,13 +175,13 @@ fn on_rules<'a, S: Sources, O: Out>(
     alloc: Global,
     loaded: Loaded<'a>,
     words: RunWords<'a>,
-    explains: bool,
+    on: Terminal,
     sources: &mut S,
     out: &mut O,
 ) -> Result<Answer<'a>, Halted<'a>>
     requires out { (O.Out.state out.old).failures < 2 ^ 62 }
     requires program { IsProgramOf loaded.source.bytes.items loaded.program }
-    ensures { Performs explains (O.Out.state out.old) (O.Out.state out.new) result }
+    ensures { Performs on (O.Out.state out.old) (O.Out.state out.new) result }
 {
     let input = load_input(alloc, sources, words.input)?;
     let Loaded { source, program } = loaded;
@@ -190,19 +196,21 @@ fn on_rules<'a, S: Sources, O: Out>(
 fn tell<'a, R: Threads + Wait + Sync, O: Out>(
     rt: &R,
     alloc: Global,
+    on: Terminal,
     verb: Verb,
-    program: &Program,
+    loaded: &Loaded<'_>,
     input: &[i64],
     words: RunWords<'a>,
     out: &mut O,
 ) -> Result<Ended, Stop<'a>>
     requires out { (O.Out.state out.old).failures < 2 ^ 62 }
-    requires program { IsAProgram program.now }
-    ensures told { TellsRun program.now input.now words.entry.options.bound (O.Out.state out.old) (O.Out.state out.new) result }
+    requires program { IsProgramOf loaded.now.source.bytes.items loaded.now.program }
+    ensures told { TellsRun on loaded.now.program input.now words.entry.options.bound (O.Out.state out.old) (O.Out.state out.new) result }
 {
+    let program = &loaded.program;
     match verb {
         Verb::Cost => tell_costs(alloc, program, input, words, out),
-        Verb::Steps => tell_steps(alloc, program, input, words, out),
+        Verb::Steps => tell_steps(alloc, on, loaded, input, words, out),
         Verb::Run => tell_run(rt, alloc, program, input, words, out),
         Verb::Trace => tell_trace(rt, alloc, program, input, words, out),
         Verb::Meaning | Verb::Check | Verb::Plan | Verb::Rules => {
@@ -218,19 +226,21 @@ fn on_run<'a, R: Threads + Wait + Sync, S: Sources, O: Out>(
     verb: Verb,
     loaded: Loaded<'a>,
     words: RunWords<'a>,
-    explains: bool,
+    on: Terminal,
     sources: &mut S,
     out: &mut O,
 ) -> Result<Answer<'a>, Halted<'a>>
     requires out { (O.Out.state out.old).failures < 2 ^ 62 }
     requires program { IsProgramOf loaded.source.bytes.items loaded.program }
-    ensures { Performs explains (O.Out.state out.old) (O.Out.state out.new) result }
+    ensures { Performs on (O.Out.state out.old) (O.Out.state out.new) result }
 {
     let input = load_input(alloc, sources, words.input)?;
-    match tell(rt, alloc, verb, &loaded.program, &input, words, out) {
+    match tell(rt, alloc, on, verb, &loaded, &input, words, out) {
         Ok(ended) => {
             let bound = words.options.bound;
-            Ok(answer_of(alloc, explains, loaded, &input, bound, ended))
+            Ok(answer_of(
+                alloc, on.errors, loaded, &input, bound, ended,
+            ))
         }
         Err(stop) => {
             let cells = loaded.program.layout().cells();
@@ -245,17 +255,21 @@ fn on_listing<'a, R: Threads + Wait + Sync, S: Sources, O: Out>(
     alloc: Global,
     file: &'a str,
     words: RunWords<'a>,
-    explains: bool,
+    on: Terminal,
     sources: &mut S,
     out: &mut O,
 ) -> Result<Answer<'a>, Halted<'a>>
     requires out { (O.Out.state out.old).failures < 2 ^ 62 }
-    ensures { Performs explains (O.Out.state out.old) (O.Out.state out.new) result }
+    ensures { Performs on (O.Out.state out.old) (O.Out.state out.new) result }
 {
     let code = load_listing(alloc, sources, file)?;
     let input = load_input(alloc, sources, words.input)?;
     match execute(rt, alloc, &code, &input, words.options, words.reserve) {
-        Ok((outcome, _counts)) => quietly(write_outcome(out, code.code().layout(), &outcome)),
+        Ok((outcome, _counts)) => {
+            let status = write_outcome(out, code.code().layout(), &outcome)?;
+            let fault = code_fault(on.errors, code, &outcome);
+            Ok(Answer { status, fault })
+        }
         Err(stop) => {
             let cells = code.code().layout().cells();
             Err(halted_code(stop, input.len(), cells))

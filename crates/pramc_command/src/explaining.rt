@@ -6,113 +6,23 @@ ghost use Rattle.write_rules.specs.Verdict.{verdict_of};
 ghost use Rattle.program_texts.specs.Report.{IsProgramOf};
 ghost use Rattle.program_texts.specs.Status.{status_of};
 ghost use Rattle.program_texts.specs.declared.status.Status.TheVariants as status;
-ghost use Rattle.diagnoses.specs.FaultTexts.{fault_diagnosis};
 ghost use Rattle.diagnoses.specs.Met.{who_met as those_met};
 ghost use Rattle.diagnoses.specs.Remarks.{Remark};
 ghost use Rattle.diagnoses.specs.Stops.{HasRemark};
-ghost use Rattle.pramc_command.specs.Answered.{IsReported};
+ghost use Rattle.program_calls.specs.Written.{IsReported};
+ghost use Rattle.program_calls.specs.Found.{IsOutcomeIn};
 ghost use Rattle.pramc_command.specs.Explained as spec;
 
-use crate::answer::{Answer, Ended, FaultedRun, Halted, Loaded};
-use diagnoses::{About, Source, who_met, write_run_fault, write_stop_diagnosis};
+use crate::answer::{Answer, Ended, FaultedCall, FaultedCode, FaultedRun};
+use bsp_verify::Verified;
+use diagnoses::{who_met, write_fault_sentence, write_run_fault, write_stop_diagnosis};
 use pram_check::Program;
 use pram_syntax::{Out, WriteFault};
 use pram_values::Kind;
-use program_texts::{Refusal, Stop, write_stop};
+use program_calls::{Halted, Loaded};
+use program_texts::write_stop;
 use std::alloc::Global;
 use write_rules::Outcome;
-
-// What is known of a refusal of a run: the text where it is of the text, and the numbers where it is of the input.
-fn about_refusal<'a>(refusal: Refusal, source: Source<'a>, values: usize, cells: u32) -> About<'a>
-    requires known { spec.IsOfRun refusal source.bytes.items }
-    requires numbers { spec.HasNumbers values cells }
-    ensures { spec.IsKnownOf refusal result }
-{
-    match refusal {
-        Refusal::Text(_) => About::Text(source),
-        Refusal::Program(_) => About::Text(source),
-        Refusal::InputTooLong => About::Values { values, cells },
-        Refusal::BadMap => About::Nothing,
-        Refusal::BadWorkers => About::Nothing,
-        Refusal::OutOfMemory => About::Nothing,
-        Refusal::OutOfReserve => About::Nothing,
-    }
-}
-
-fn about_run<'a>(stop: &Stop<'_>, source: Source<'a>, values: usize, cells: u32) -> About<'a>
-    requires known { spec.IsStopOfRun stop.now source.bytes.items }
-    requires numbers { spec.HasNumbers values cells }
-    ensures { spec.IsKnown stop.now result }
-{
-    match stop {
-        Stop::Refused(refusal) => about_refusal(*refusal, source, values, cells),
-        Stop::BadListing(_) => About::Text(source),
-        Stop::Words(_) => About::Nothing,
-        Stop::Number(_) => About::Nothing,
-        Stop::Unreadable(_) => About::Nothing,
-        Stop::NotVerified(_, _) => About::Nothing,
-        Stop::WriteFailed => About::Nothing,
-    }
-}
-
-/// Why a run of a program ends without an outcome, and what is known besides.
-pub(crate) fn halted_run<'a>(
-    stop: Stop<'a>,
-    source: Source<'a>,
-    values: usize,
-    cells: u32,
-) -> Halted<'a>
-    requires known { spec.IsStopOfRun stop source.bytes.items }
-    requires numbers { spec.HasNumbers values cells }
-    ensures same { result.stop ≡ stop.entry }
-    ensures known { spec.IsKnown result.stop result.about }
-{
-    let about = about_run(&stop, source, values, cells);
-    Halted { stop, about }
-}
-
-fn about_code_refusal<'a>(refusal: Refusal, values: usize, cells: u32) -> About<'a>
-    requires known { spec.IsOfCode refusal }
-    requires numbers { spec.HasNumbers values cells }
-    ensures { spec.IsKnownOf refusal result }
-{
-    match refusal {
-        Refusal::InputTooLong => About::Values { values, cells },
-        Refusal::Text(_) => About::Nothing,
-        Refusal::Program(_) => About::Nothing,
-        Refusal::BadMap => About::Nothing,
-        Refusal::BadWorkers => About::Nothing,
-        Refusal::OutOfMemory => About::Nothing,
-        Refusal::OutOfReserve => About::Nothing,
-    }
-}
-
-fn about_code<'a>(stop: &Stop<'_>, values: usize, cells: u32) -> About<'a>
-    requires known { spec.IsCodesStop stop.now }
-    requires numbers { spec.HasNumbers values cells }
-    ensures { spec.IsKnown stop.now result }
-{
-    match stop {
-        Stop::Refused(refusal) => about_code_refusal(*refusal, values, cells),
-        Stop::BadListing(_) => About::Nothing,
-        Stop::Words(_) => About::Nothing,
-        Stop::Number(_) => About::Nothing,
-        Stop::Unreadable(_) => About::Nothing,
-        Stop::NotVerified(_, _) => About::Nothing,
-        Stop::WriteFailed => About::Nothing,
-    }
-}
-
-/// Why a run of code ends without an outcome, and what is known besides.
-pub(crate) fn halted_code<'a>(stop: Stop<'a>, values: usize, cells: u32) -> Halted<'a>
-    requires known { spec.IsCodesStop stop }
-    requires numbers { spec.HasNumbers values cells }
-    ensures same { result.stop ≡ stop.entry }
-    ensures known { spec.IsKnown result.stop result.about }
-{
-    let about = about_code(&stop, values, cells);
-    Halted { stop, about }
-}
 
 // Those that met at the fault of a run, at a cell; the meaning is run again for that.
 fn meeting(alloc: Global, program: &Program, input: &[i64], bound: u32, kind: Kind) -> Vec<i64>
@@ -134,11 +44,10 @@ fn fault_of<'a>(
     input: &[i64],
     bound: u32,
     outcome: &Outcome,
-) -> Option<FaultedRun<'a>>
+) -> Option<FaultedCall<'a>>
     requires program { IsProgramOf loaded.source.bytes.items loaded.program }
-    requires run { spec.IsOutcomeIn loaded.program input.now bound (verdict_of outcome.now) }
-    ensures some { IfSome result (λ f. spec.IsFault f outcome.now) }
-    ensures layout { IfSome result (λ f. f.layout ≡ loaded.entry.program.layout) }
+    requires run { IsOutcomeIn loaded.program input.now bound (verdict_of outcome.now) }
+    ensures some { IfSome result (spec.IsRunFault loaded.entry.program.layout outcome.now) }
     ensures none { result ≡ None → status_of outcome.now ≡ status.Faulted → ⊥ }
 {
     match outcome {
@@ -147,12 +56,12 @@ fn fault_of<'a>(
         Outcome::Faulted { fault, .. } => {
             let Loaded { source, program } = loaded;
             let who = meeting(alloc, &program, input, bound, fault.kind);
-            Some(FaultedRun {
+            Some(FaultedCall::Run(FaultedRun {
                 source,
                 layout: program.into_layout(),
                 fault: *fault,
                 who,
-            })
+            }))
         }
     }
 }
@@ -167,11 +76,10 @@ pub(crate) fn answer_of<'a>(
     ended: Ended,
 ) -> Answer<'a>
     requires program { IsProgramOf loaded.source.bytes.items loaded.program }
-    requires run { spec.IsOutcomeIn loaded.program input.now bound (verdict_of ended.outcome) }
+    requires run { IsOutcomeIn loaded.program input.now bound (verdict_of ended.outcome) }
     ensures status { result.status ≡ ended.status }
     ensures asked { IfSome result.fault (λ _. explains ≡ true) }
-    ensures some { IfSome result.fault (λ f. spec.IsFault f ended.outcome) }
-    ensures layout { IfSome result.fault (λ f. f.layout ≡ loaded.entry.program.layout) }
+    ensures some { IfSome result.fault (spec.IsRunFault loaded.entry.program.layout ended.outcome) }
     ensures none { result.fault ≡ None → explains ≡ true → status_of ended.outcome ≡ status.Faulted → ⊥ }
 {
     let Ended { status, outcome } = ended;
@@ -182,6 +90,27 @@ pub(crate) fn answer_of<'a>(
         Answer {
             status,
             fault: None,
+        }
+    }
+}
+
+/// The fault of code, if it has one and that is to be explained.
+pub(crate) fn code_fault<'a>(
+    explains: bool,
+    code: Verified,
+    outcome: &Outcome,
+) -> Option<FaultedCall<'a>>
+    ensures { result ≡ spec.code_fault explains code.entry outcome.now }
+{
+    if !explains {
+        return None;
+    }
+    match outcome {
+        Outcome::Ended { .. } => None,
+        Outcome::GoesOn { .. } => None,
+        Outcome::Faulted { fault, .. } => {
+            let fault = *fault;
+            Some(FaultedCall::Code(FaultedCode { code, fault }))
         }
     }
 }
@@ -215,24 +144,33 @@ pub(crate) fn report<E: Out>(alloc: Global, err: &mut E, halted: &Halted<'_>, ex
     }
 }
 
-// Writes what is said of a fault.
-fn write_fault<E: Out>(err: &mut E, f: &FaultedRun<'_>)
+fn write_fault<E: Out>(err: &mut E, fault: &FaultedCall<'_>) -> Result<(), WriteFault>
     requires err { (E.Out.state err.old).failures < 2 ^ 62 }
-    ensures written { IsReported (E.Out.state err.old) (E.Out.state err.new)
-        (fault_diagnosis f.now.source f.now.layout f.now.fault f.now.who.items) }
+    ensures written { Writes (E.Out.state err.old) (E.Out.state err.new) (spec.fault_text fault.now) result }
 {
-    if write_run_fault(err, &f.source, &f.layout, &f.fault, &f.who).is_ok() {
+    match fault {
+        FaultedCall::Run(f) => write_run_fault(err, &f.source, &f.layout, &f.fault, &f.who),
+        FaultedCall::Code(f) => write_fault_sentence(err, f.code.code().layout(), &f.fault, &[]),
+    }
+}
+
+// Writes what is said of a fault.
+fn report_found<E: Out>(err: &mut E, fault: &FaultedCall<'_>)
+    requires err { (E.Out.state err.old).failures < 2 ^ 62 }
+    ensures written { IsReported (E.Out.state err.old) (E.Out.state err.new) (spec.fault_text fault.now) }
+{
+    if write_fault(err, fault).is_ok() {
         let _ = err.flush();
     }
 }
 
 /// Writes what is said of a fault, if there is one to be explained, to standard error. That it fails changes no status.
-pub(crate) fn report_fault<E: Out>(err: &mut E, fault: &Option<FaultedRun<'_>>)
+pub(crate) fn report_fault<E: Out>(err: &mut E, fault: &Option<FaultedCall<'_>>)
     requires err { (E.Out.state err.old).failures < 2 ^ 62 }
     ensures left { spec.IsFaultReported fault.now (E.Out.state err.old) (E.Out.state err.new) }
 {
     match fault {
         None => {}
-        Some(f) => write_fault(err, f),
+        Some(f) => report_found(err, f),
     }
 }

@@ -4,8 +4,7 @@
 mod answer;
 mod commands;
 mod explaining;
-mod loading;
-mod running;
+mod stepping;
 mod telling;
 mod terminal;
 mod writing;

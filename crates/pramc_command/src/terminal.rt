@@ -5,7 +5,7 @@
 pub struct Terminal {
     /// Whether standard error is a terminal. What is refused, and a fault, is explained there then.
     pub errors: bool,
-    /// Whether standard output is a terminal.
+    /// Whether standard output is a terminal. A run is told statement by statement beside the program's text there.
     pub output: bool,
     /// Whether colours are wanted on a terminal.
     pub colours: bool,

@@ -1,11 +1,10 @@
 //! What a call writes to standard output.
 
-ghost use Rattle.std.specs.Prelude.{◌<◌, ◌^◌, ◌++◌, map};
+ghost use Rattle.std.specs.Prelude.{◌<◌, ◌^◌, ◌++◌};
 ghost use Rattle.text_out.specs.Out.{Writes};
 ghost use Rattle.write_rules.specs.Verdict.{verdict_of};
 ghost use Rattle.program_texts.specs.Shown.{shown};
 ghost use Rattle.program_texts.specs.Status.{status_of};
-ghost use Rattle.run_entries.specs.Entries.{entry_is};
 ghost use Rattle.program_texts.specs.declared.status.Status.TheVariants.{Done};
 ghost use Rattle.explanations.specs.Explained.{explanation};
 ghost use Rattle.rule_comparison.specs.ComparisonText.{comparison_text};
@@ -14,11 +13,10 @@ ghost use Rattle.trace_pictures.specs.Picture.{picture};
 ghost use Rattle.tracer.specs.Traced.{trace_text};
 ghost use Rattle.pramc_command.specs.Answered.{accepted_line};
 ghost use Rattle.pramc_command.specs.Costs.{costs_text};
-ghost use Rattle.pramc_command.specs.Explained.{Wrote};
-ghost use Rattle.pramc_command.specs.Steps.{told_text};
+ghost use Rattle.program_calls.specs.Written.{Wrote};
 ghost use Rattle.pramc_command.specs.Version.{version_text};
 
-use command_words::{CostWords, StepWords, VERSION};
+use command_words::{CostWords, VERSION};
 use cost_texts::{write_cost, write_lines};
 use exchange_counts::Counts;
 use explanations::{Subject, write_explanation};
@@ -27,8 +25,6 @@ use pram_check::Program;
 use pram_syntax::{Layout, Out, WriteFault};
 use program_texts::{Status, Stop, finish, rule_word, show};
 use rule_comparison::{Comparison, show_comparison};
-use run_entries::Entry;
-use step_texts::{Manner, write_steps};
 use superstep_code::Code;
 use superstep_listing::write_listing;
 use trace_pictures::write_picture;
@@ -104,44 +100,6 @@ pub(crate) fn write_costs<'a, O: Out>(
         (O.Out.state out.old) (O.Out.state out.new) result }
 {
     match write_numbers_and_outcome(out, layout, outcome, cost, words) {
-        Ok(()) => {
-            let status = Status::of(outcome);
-            finish(out, status)
-        }
-        Err(WriteFault) => Err(Stop::WriteFailed),
-    }
-}
-
-// The entries that are asked for, and behind them the run's outcome.
-fn write_entries_and_outcome<O: Out>(
-    out: &mut O,
-    layout: &Layout,
-    outcome: &Outcome,
-    entries: &[Entry],
-    words: StepWords,
-) -> Result<(), WriteFault>
-    requires out { (O.Out.state out.old).failures < 2 ^ 62 }
-    ensures written { Writes (O.Out.state out.old) (O.Out.state out.new)
-        (told_text layout.now outcome.now (map entry_is entries.now) words.from words.to) result }
-{
-    let (first, last) = (words.from as usize, words.to as usize);
-    write_steps(out, layout, &Manner::Plain, entries, first, last)?;
-    show(layout, outcome, out)
-}
-
-/// Writes a run statement by statement, and behind that its outcome.
-pub(crate) fn write_told<'a, O: Out>(
-    out: &mut O,
-    layout: &Layout,
-    outcome: &Outcome,
-    entries: &[Entry],
-    words: StepWords,
-) -> Result<Status, Stop<'a>>
-    requires out { (O.Out.state out.old).failures < 2 ^ 62 }
-    ensures written { Wrote (status_of outcome.now) (told_text layout.now outcome.now (map entry_is entries.now) words.from words.to)
-        (O.Out.state out.old) (O.Out.state out.new) result }
-{
-    match write_entries_and_outcome(out, layout, outcome, entries, words) {
         Ok(()) => {
             let status = Status::of(outcome);
             finish(out, status)

@@ -1,6 +1,7 @@
 use Rattle.std.proofs.Common.{◌∙◌, ap, inl, refl, subst, sym, []}
 use Rattle.pram_model.specs.Layout.{total_size}
-use Rattle.pramc_command.specs.Answered.{IsPlanned, Planned}
+use Rattle.program_calls.specs.Found.{IsPlanned}
+use Rattle.pramc_command.specs.Answered.{Planned}
 use Rattle.pramc_command.proofs.Answering.{done_is_calm, told_quietly}
 use Rattle.pramc_command.proofs.commands.on_plan.Goals as goal
 

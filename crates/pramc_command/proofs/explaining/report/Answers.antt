@@ -1,5 +1,5 @@
 use Rattle.std.proofs.Common.{refl}
-use Rattle.pramc_command.proofs.Reporting.{reported, reported_in_part}
+use Rattle.program_calls.proofs.Writing.{reported, reported_in_part}
 use Rattle.pramc_command.proofs.explaining.report.Goals as goal
 
 pub returns-then-is_ok : goal.returns-then-is_ok

@@ -5,7 +5,7 @@ use Rattle.work_time.specs.declared.line_cost.LineCost.{LineCost}
 use Rattle.text_out.proofs.Progress.{breaks_off, closes, goes_on, starts}
 use Rattle.cost_texts.specs.CostText.{cost_text, lines_text}
 use Rattle.pramc_command.specs.Costs.{if_lines}
-use Rattle.pramc_command.proofs.Costs.{room}
+use Rattle.pramc_command.proofs.Room.{room}
 use Rattle.pramc_command.proofs.writing.write_numbers.Goals as goal
 
 pub returns-in_err-write_cost : goal.returns-in_err-write_cost

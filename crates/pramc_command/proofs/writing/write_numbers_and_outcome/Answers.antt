@@ -3,7 +3,7 @@ use Rattle.text_out.proofs.Progress.{breaks_off, closes, goes_on, starts}
 use Rattle.write_rules.specs.Verdict.{verdict_of}
 use Rattle.program_texts.specs.Shown.{shown}
 use Rattle.pramc_command.specs.Costs.{costs_text}
-use Rattle.pramc_command.proofs.Costs.{room}
+use Rattle.pramc_command.proofs.Room.{room}
 use Rattle.pramc_command.proofs.writing.write_numbers_and_outcome.Goals as goal
 
 pub returns-in_err-write_numbers : goal.returns-in_err-write_numbers

@@ -1,5 +1,5 @@
 use Rattle.std.proofs.Common.{refl}
-use Rattle.pramc_command.proofs.Answering.{wrote}
+use Rattle.program_calls.proofs.Writing.{wrote}
 use Rattle.pramc_command.proofs.writing.write_subject.Goals as goal
 
 pub returns-in-Ok : goal.returns-in-Ok

@@ -1,0 +1,109 @@
+// Calls of the program over files in memory, in words and as JSON.
+
+use command_words::asks_for_json;
+use json_command::command_in_json;
+use pram_syntax::Buffer;
+use pramc_command::{Terminal, command};
+use program_texts::{SourceFault, Sources, Status};
+use std::alloc::{AllocError, Global};
+use std::sync::Wait;
+use std::thread::Threads;
+
+// Files in memory. For the file `large` there is no memory.
+#[derive(Drop)]
+pub(crate) struct Shelf<'a> {
+    pub(crate) program: &'a [u8],
+    pub(crate) input: &'a [u8],
+}
+
+impl<'a> Sources for Shelf<'a> {
+    fn read(&mut self, alloc: Global, name: &str, _most: u32) -> Result<Vec<u8>, SourceFault> {
+        let bytes = match name {
+            "program" => self.program,
+            "input" => self.input,
+            "large" => return Err(SourceFault::OutOfMemory),
+            _ => return Err(SourceFault::Unreadable),
+        };
+        match Vec::from_slice(alloc, bytes) {
+            Ok(copy) => Ok(copy),
+            Err(_) => Err(SourceFault::OutOfMemory),
+        }
+    }
+}
+
+// What a call of the program printed.
+#[derive(Drop)]
+pub(crate) struct Said {
+    pub(crate) status: Status,
+    pub(crate) out: Buffer,
+    pub(crate) err: Buffer,
+}
+
+// No terminal.
+const SILENT: Terminal = Terminal {
+    errors: false,
+    output: false,
+    colours: false,
+};
+
+// The words, and these behind them.
+pub(crate) fn owned(
+    alloc: Global,
+    words: &[&str],
+    more: &[&str],
+) -> Result<Vec<String>, AllocError> {
+    let mut all = Vec::new(alloc);
+    for word in words {
+        all.push(String::from_str(alloc, word)?)?;
+    }
+    for word in more {
+        all.push(String::from_str(alloc, word)?)?;
+    }
+    Ok(all)
+}
+
+// Calls the program with these words over these files, as `pramc` does.
+pub(crate) fn call<R: Threads + Wait + Sync>(
+    rt: &R,
+    alloc: Global,
+    words: &[&str],
+    more: &[&str],
+    program: &[u8],
+    input: &[u8],
+) -> Result<Said, AllocError> {
+    let owned = owned(alloc, words, more)?;
+    let words = owned.as_slice();
+    let mut shelf = Shelf { program, input };
+    let mut out = Buffer::new(alloc);
+    let mut err = Buffer::new(alloc);
+    let status = if asks_for_json(words) {
+        command_in_json(rt, alloc, words, &mut shelf, &mut out, &mut err)
+    } else {
+        command(rt, alloc, words, SILENT, &mut shelf, &mut out, &mut err)
+    };
+    Ok(Said { status, out, err })
+}
+
+// Whether a call of the program prints just that.
+pub(crate) fn prints<R: Threads + Wait + Sync>(
+    rt: &R,
+    alloc: Global,
+    words: &[&str],
+    more: &[&str],
+    files: (&[u8], &[u8]),
+    expected: (&str, &str, u8),
+) -> bool {
+    match call(rt, alloc, words, more, files.0, files.1) {
+        Ok(said) => {
+            said.out.bytes() == expected.0.as_bytes()
+                && said.err.bytes() == expected.1.as_bytes()
+                && said.status.code() == expected.2
+        }
+        Err(_) => false,
+    }
+}
+
+// The three ways to ask for words, and the two to ask for JSON.
+pub(crate) const IN_WORDS: [&[&str]; 3] = [&[], &["--format", "text"], &["--format=text"]];
+
+pub(crate) const IN_JSON: [&[&str]; 2] = [&["--format", "json"], &["--format=json"]];

@@ -1,0 +1,4 @@
+pub mod Reasons
+pub mod Costs
+pub mod Writing
+pub mod Listings

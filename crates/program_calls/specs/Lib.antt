@@ -1,0 +1,4 @@
+pub mod Found
+pub mod Stops
+pub mod Known
+pub mod Written

@@ -1,0 +1,153 @@
+//! What the files of a call hold.
+
+ghost use Rattle.std.specs.Prelude.{◌≡◌, ℕ, List, IfOk, IfErr, Err};
+ghost use Rattle.superstep_code.specs.Code.{SuperstepCode};
+ghost use Rattle.superstep_listing.specs.Text.{IsFaultOf};
+ghost use Rattle.bsp_verify.specs.WellFormed.{IsWellFormed};
+ghost use Rattle.bsp_verify.specs.FirstFault.{IsRefusal};
+ghost use Rattle.program_texts.specs.Report.{IsProgramOf};
+ghost use Rattle.program_calls.specs.Found.{IsAListing};
+ghost use Rattle.program_calls.specs.Stops.{IsTrueStop};
+ghost use Rattle.program_calls.specs.Stops.{reason_word as spec_reason_word};
+ghost use Rattle.program_calls.specs.Known.{IsKnownAlone, IsOfListing, IsTrueHalt};
+
+use crate::halted::Halted;
+use crate::loaded::Loaded;
+use bsp_verify::{Reason, Verified, VerifyFault, verify};
+use diagnoses::{About, Kind, Source};
+use pram_syntax::{TextFault, read_input};
+use pram_tokens::LONGEST;
+use program_texts::{Refusal, SourceFault, Sources, Stop, read_program};
+use std::alloc::Global;
+use superstep_listing::{LONGEST as LONGEST_LISTING, ListingFault, read_listing};
+
+// The bytes of a file, up to one more than the most that its text may have.
+fn load<'a, S: Sources>(
+    alloc: Global,
+    sources: &mut S,
+    name: &'a str,
+    most: u32,
+) -> Result<Vec<u8>, Stop<'a>>
+    ensures { IfErr result IsKnownAlone }
+{
+    match sources.read(alloc, name, most) {
+        Ok(bytes) => Ok(bytes),
+        Err(SourceFault::Unreadable) => Err(Stop::Unreadable(name)),
+        Err(SourceFault::OutOfMemory) => Err(Stop::Refused(Refusal::OutOfMemory)),
+    }
+}
+
+/// The program of a file.
+pub fn load_program<'a, S: Sources>(
+    alloc: Global,
+    sources: &mut S,
+    name: &'a str,
+) -> Result<Loaded<'a>, Halted<'a>>
+    ensures program { IfOk result (λ l. IsProgramOf l.source.bytes.items l.program) }
+    ensures refused { IfErr result IsTrueHalt }
+{
+    let bytes = load(alloc, sources, name, LONGEST as u32)?;
+    match read_program(alloc, &bytes) {
+        Ok(program) => {
+            let source = source_of(Kind::Program, name, bytes);
+            Ok(Loaded { source, program })
+        }
+        Err(refusal) => Err(Halted {
+            stop: Stop::Refused(refusal),
+            about: About::Text(source_of(Kind::Program, name, bytes)),
+        }),
+    }
+}
+
+fn source_of<'a>(kind: Kind, name: &'a str, bytes: Vec<u8>) -> Source<'a>
+    ensures { result.bytes.items ≡ bytes.items }
+{
+    Source { kind, name, bytes }
+}
+
+/// The values of the input's file, and none where there is no file.
+pub fn load_input<'a, S: Sources>(
+    alloc: Global,
+    sources: &mut S,
+    name: Option<&'a str>,
+) -> Result<Vec<i64>, Halted<'a>>
+    ensures { IfErr result IsTrueHalt }
+{
+    let name = match name {
+        None => return Ok(Vec::new(alloc)),
+        Some(name) => name,
+    };
+    let bytes = load(alloc, sources, name, LONGEST as u32)?;
+    match read_input(alloc, &bytes) {
+        Ok(values) => Ok(values),
+        Err(fault) => Err(Halted {
+            stop: Stop::Refused(Refusal::of_text(fault)),
+            about: About::Text(source_of(Kind::Input, name, bytes)),
+        }),
+    }
+}
+
+// Why a text is no listing.
+fn stop_of_listing<'a>(fault: ListingFault) -> Stop<'a>
+    ensures { (text : List ℕ) → IsFaultOf {X = SuperstepCode} text (Err fault) → IsOfListing result text }
+{
+    match fault {
+        ListingFault::TextTooLong => Stop::Refused(Refusal::Text(TextFault::TextTooLong)),
+        ListingFault::BadListing(at) => Stop::BadListing(at),
+        ListingFault::OutOfMemory => Stop::Refused(Refusal::OutOfMemory),
+    }
+}
+
+// The word for what is wrong with an instruction.
+fn reason_word(reason: Reason) -> &'static str
+    ensures { result.now ≡ spec_reason_word reason }
+{
+    match reason {
+        Reason::State => "state",
+        Reason::Register => "register",
+        Reason::Entry => "entry",
+        Reason::Target => "target",
+        Reason::Mode => "mode",
+        Reason::Mask => "mask",
+        Reason::Exchange => "exchange",
+        Reason::End => "end",
+    }
+}
+
+// Why code is not run.
+fn stop_of_code<'a>(fault: VerifyFault) -> Stop<'a>
+    ensures { (code : SuperstepCode) → IsRefusal code fault → IsKnownAlone result }
+{
+    match fault {
+        VerifyFault::NotVerified { at, reason } => Stop::NotVerified(at, reason_word(reason)),
+        VerifyFault::OutOfMemory => Stop::Refused(Refusal::OutOfMemory),
+    }
+}
+
+/// The code of a listing's file, verified.
+pub fn load_listing<'a, S: Sources>(
+    alloc: Global,
+    sources: &mut S,
+    name: &'a str,
+) -> Result<Verified, Halted<'a>>
+    ensures listing { IfOk result IsAListing }
+    ensures refused { IfErr result IsTrueHalt }
+{
+    let bytes = load(alloc, sources, name, LONGEST_LISTING as u32)?;
+    let code = match read_listing(alloc, &bytes) {
+        Ok(code) => code,
+        Err(fault) => {
+            return Err(Halted {
+                stop: stop_of_listing(fault),
+                about: About::Text(source_of(Kind::Listing, name, bytes)),
+            });
+        }
+    };
+    match verify(alloc, code) {
+        Ok(verified) => Ok(verified),
+        Err((fault, _code)) => Err(Halted {
+            stop: stop_of_code(fault),
+            about: About::Nothing,
+        }),
+    }
+}
