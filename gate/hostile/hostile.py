@@ -37,6 +37,7 @@ REFUSAL = re.compile(
     rb" at [0-9]+|E10 Limit (cells|procs|bounds|reads|tokens)|E11 InputTooLong|E14 NotVerified at [0-9]+ [a-z-]+)\n"
 )
 NO_MEMORY = b"refused E16 OutOfMemory\n"
+NO_MEMORY_IN_JSON = b'{"name":"OutOfMemory","refused":"E16"}\n'
 NOT_WRITTEN = b"refused E17 WriteFailed\n"
 
 own = threading.local()
@@ -101,7 +102,7 @@ def status_of(outcome):
 def refuse_one(words, expected, refused):
     """One allocation or start is refused: the program says so, or does what it does else; in any case it gives its memory back."""
     given, left, *_ = tallied(words, **refused)
-    says_so = given == (2, b"", NO_MEMORY)
+    says_so = given == (2, b"", NO_MEMORY_IN_JSON if "json" in words else NO_MEMORY)
     # memory for the words themselves, before the program is called with them
     unread = given[:2] == (1, b"") and b"OutOfMemory" in given[2]
     if left or not (says_so or given == expected or (unread and refused.get("REFUSE", "").startswith("0:"))):
@@ -110,13 +111,13 @@ def refuse_one(words, expected, refused):
         raise Wrong(f"{words} with {refused}: {given}")
 
 
-def refusals_of(program, reserve):
+def refusals_of(program, more):
     """Each allocation of each thread and each start of one row, after the row itself. With a reserve no worker asks for memory."""
     outcome = program.with_suffix(".out").read_bytes()
-    words = ["run", program, "--input", program.with_suffix(".in"), "--workers", WORKERS, "--bound", "1000", *reserve]
-    expected = (status_of(outcome), outcome, b"")
+    words = ["run", program, "--input", program.with_suffix(".in"), "--workers", WORKERS, "--bound", "1000", *more]
+    expected = call(words) if "json" in more else (status_of(outcome), outcome, b"")
     given, left, starts, _, allocations = tallied(words)
-    asks = [count > 0 for count in allocations] == [True] + [not reserve] * WORKERS
+    asks = [count > 0 for count in allocations] == [True] + ["--reserve" not in more] * WORKERS
     if given != expected or left or starts != WORKERS or not asks:
         raise Wrong(f"{words}: {given}, {left} blocks are left, {starts} starts, allocations {allocations}")
     for thread, count in enumerate(allocations):
@@ -128,9 +129,9 @@ def refusals_of(program, reserve):
 
 def memory():
     rows = sorted((INPUTS / "rows").glob("*.pram"))
-    cases = itertools.product(rows, [[], ["--reserve", "100,100"]])
+    cases = itertools.product(rows, [[], ["--reserve", "100,100"], ["--format", "json"]])
     count = all_of(refuse_one, itertools.chain.from_iterable(itertools.starmap(refusals_of, cases)))
-    return f"{count} allocations and starts of {len(rows)} programs, with a reserve and without, are refused in turn"
+    return f"{count} allocations and starts of {len(rows)} programs, with a reserve, without, and as JSON, are refused in turn"
 
 
 # ---- texts

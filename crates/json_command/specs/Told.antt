@@ -92,8 +92,8 @@ pub record IsRefusalTold (why : Stop) (a : About) (old new : OutState) : Type 0 
   pub json : IsJson (stop_facts (text_of a) why ∷ []) line
   pub reported : IsReported old new line
 
--- Both streams after a call with that exit status. A status but that of a refusal goes with its facts on standard output, and with nothing on
--- the other stream. What is refused is told there, once; and where memory for its line was refused, that.
+-- Both streams after a call with that exit status. A status but that of a refusal goes with its facts on standard output, and with nothing
+-- on the other stream. What is refused is told there, once; and where memory for its line was refused, that.
 pub data LeavesJson (out out_new err err_new : OutState) : Status → Type 0 where
   Answered : (ends : Status) → IsTold ends out out_new → err_new ≡ err → LeavesJson out out_new err err_new ends
   Stopped : (why : Stop) (a : About) → IsStopped why out out_new → IsKnown why a → IsRefusalTold why a err err_new

@@ -41,8 +41,8 @@ fn all_are_told<R: Threads + Wait + Sync>(rt: &R, alloc: Global, rows: &[Told]) 
     true
 }
 
-// The sum of four numbers by a balanced tree: 5 + 2 and 7 + 1, then 7 + 8. Line 4 runs once, the test on line 5 three times, line 6 twice; on
-// line 7 the bounds run twice, and then two processors and one; line 9 once.
+// The sum of four numbers by a balanced tree: 5 + 2 and 7 + 1, then 7 + 8. Line 4 runs once, the test on line 5 three times, line 6 twice;
+// on line 7 the bounds run twice, and then two processors and one; line 9 once.
 const SUM: &str =
     "rule erew; procs 4;\nshared a[1..4]; var m;\nbegin\nm := 4;\nwhile m > 1 do\nm := m div 2;\nfor 1 <= i <= m pardo a[i] := a[2 * i - 1] + a[2 * i]; end\nend\nprint a[1];\nend\n";
 
@@ -87,9 +87,9 @@ fn programs_and_their_outcomes_are_told(rt: HostRuntime) {
     assert!(rt; all_are_told(&rt, rt.alloc(), &RUNS));
 }
 
-// 11 statements, of which one has two processors; each of three sums reads two cells and writes one, and one cell is printed. Each turn takes
-// an exchange that asks, one that answers, and one for its writes; the print takes two, and the close one. On two processors each statement
-// takes a round; 12 / 2 + 11 is 17.
+// 11 statements, of which one has two processors; each of three sums reads two cells and writes one, and one cell is printed. Each turn
+// takes an exchange that asks, one that answers, and one for its writes; the print takes two, and the close one. On two processors each
+// statement takes a round; 12 / 2 + 11 is 17.
 const COSTS: [Told; 2] = [
     Told {
         words: &[

@@ -1,6 +1,8 @@
 //! The program `pramc`, over the system's files and streams.
 #![tactic(auto)]
 
+use command_words::asks_for_json;
+use json_command::command_in_json;
 use pramc_command::{Terminal, command};
 use program_texts::{Stream, SystemFiles};
 use std::io::IsTerminal;
@@ -24,18 +26,15 @@ fn terminal(rt: &HostRuntime) -> Terminal {
 fn main(rt: HostRuntime) -> io::Result<ExitCode> {
     let alloc = rt.alloc();
     let words: Vec<String> = env::args(&rt)?.skip(1).collect(alloc)?;
-    let terminal = terminal(&rt);
+    let words = words.as_slice();
     let mut files = SystemFiles { system: &rt };
     let mut out = Stream::new(rt.stdout());
     let mut err = Stream::new(rt.stderr());
-    let status = command(
-        &rt,
-        alloc,
-        words.as_slice(),
-        terminal,
-        &mut files,
-        &mut out,
-        &mut err,
-    );
+    let status = if asks_for_json(words) {
+        command_in_json(&rt, alloc, words, &mut files, &mut out, &mut err)
+    } else {
+        let terminal = terminal(&rt);
+        command(&rt, alloc, words, terminal, &mut files, &mut out, &mut err)
+    };
     Ok(ExitCode::from(status.code()))
 }

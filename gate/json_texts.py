@@ -1,0 +1,247 @@
+#!/usr/bin/env python3
+"""Runs the commands over each example of examples/ in words and as JSON, reads the JSON, and compares what both say.
+
+json_texts.py PROGRAM: each object of JSON is on a line of its own and has each name once; it says what the text of the same call says, and
+the exit status is the same. So it is with a run that is cut short, with changed texts that are refused, whose lines and columns are counted
+here, and with words that are.
+"""
+import json
+import re
+import subprocess
+import sys
+import tempfile
+from concurrent.futures import ThreadPoolExecutor
+from pathlib import Path
+
+from gallery import EXAMPLES, programs
+
+PROGRAM = Path(sys.argv[1]).resolve()
+MEMORY = re.compile(r"(\w+)(?:\[(\d+)\.\.(\d+)\])? = (.+)")
+FAULT = re.compile(r"fault (\S+) (.+) line (\d+)")
+ACCEPTED = re.compile(r"accepted cells (\d+) procs (\d+) rule (\w+)")
+LINE_COST = re.compile(r"line (\d+) times (\d+) work (\d+) reads (\d+) writes (\d+)")
+STEP = re.compile(r"(\d+) line (\d+) processors (\d+)((?: \S+ -?\d+ -> -?\d+)*)")
+FAULTED_STEP = re.compile(r"(\d+) (fault .+ line \d+)(?: processors((?: -?\d+)+))?")
+CHANGE = re.compile(r" (\S+) (-?\d+) -> (-?\d+)")
+EXCHANGE = re.compile(r"(\d+) (\w+) sent ((?:\d+ )+)received ((?:\d+ )+)h (\d+)")
+REFUSED = re.compile(r"refused (E\d+) (\w+)(?: at (\d+))?(?: (\w+))?")
+
+
+def called(words):
+    done = subprocess.run([PROGRAM, *map(str, words)], capture_output=True, text=True, timeout=60)
+    return done.returncode, done.stdout, done.stderr
+
+
+def each_name_once(pairs):
+    names = [name for name, _ in pairs]
+    if len(set(names)) != len(names):
+        raise ValueError(f"a name stands twice: {names}")
+    return dict(pairs)
+
+
+def read(text):
+    """The objects of a text of JSON lines."""
+    if text and not text.endswith("\n"):
+        raise ValueError("the last line has no end")
+    return [json.loads(line, object_pairs_hook=each_name_once) for line in text.splitlines()]
+
+
+# ---- what the texts say, as the objects that say the same
+
+
+def numbers(words):
+    return [int(it) for it in words.split()]
+
+
+def fault(line):
+    kind, place, at = FAULT.fullmatch(line).groups()
+    return {"kind": kind, "place": place, "line": int(at)}
+
+
+def cells(line):
+    name, low, high, values = MEMORY.fullmatch(line).groups()
+    bounds = {"low": low, "high": high} if low else {}
+    return {"name": name, "values": values.split(), **bounds}
+
+
+def outcome(lines):
+    """An outcome, whose lines stand behind what was printed."""
+    end = next(at for at, it in enumerate(lines) if not re.fullmatch(r"-?\d+", it))
+    output = {"output": lines[:end]}
+    if lines[end] == "ended":
+        return {"outcome": "ended", "memory": [cells(it) for it in lines[end + 1 :]], **output}
+    if lines[end] == "goes on":
+        return {"outcome": "goes on", **output}
+    return {"outcome": "fault", **fault(lines[end]), **output}
+
+
+def accepted(lines):
+    found, procs, rule = ACCEPTED.fullmatch(*lines).groups()
+    return [{"accepted": True, "cells": int(found), "procs": int(procs), "rule": rule}]
+
+
+def meaning(lines):
+    return [outcome(lines)]
+
+
+def line_cost(line):
+    at, times, work, reads, writes = LINE_COST.fullmatch(line).groups()
+    return {"line": int(at), "times": int(times), "work": work, "reads": reads, "writes": writes}
+
+
+def costs(lines):
+    """Costs with `--lines` and `--schedule`: sums are strings, and other counts are numbers."""
+    said, lines = {"lines": []}, list(lines)
+    while re.match(r"[a-z]+ .*\d", lines[0]) and not lines[0].startswith("fault"):
+        line = lines.pop(0)
+        words = line.split()
+        if line.startswith("line "):
+            said["lines"].append(line_cost(line))
+        elif line.startswith("exchanges at most"):
+            said["exchanges_at_most"] = words[3]
+        elif line.startswith("rounds on"):
+            said |= {"processors": int(words[2].removesuffix(":")), "rounds": words[3]}
+        elif line.startswith("at most"):
+            said["rounds_at_most"] = words[2]
+        else:
+            said[words[0]] = int(words[1]) if words[0] in ("time", "width") else words[1]
+    return [said | outcome(lines)]
+
+
+def rules(lines):
+    def finding(line):
+        rule, said = line.split(" ", 1)
+        if said.startswith("ended "):
+            return {"rule": rule, "outcome": "ended", "end": said.split()[1]}
+        return {"rule": rule, **({"outcome": "goes on"} if said == "goes on" else {"outcome": "fault", **fault(said)})}
+
+    return [{"rules": [finding(it) for it in lines]}]
+
+
+def step(line):
+    found = STEP.fullmatch(line)
+    if found:
+        number, at, processors, changes = found.groups()
+        changed = [{"cell": cell, "before": before, "after": after} for cell, before, after in CHANGE.findall(changes)]
+        return {"step": int(number), "line": int(at), "processors": int(processors), "changes": changed}
+    number, said, met = FAULTED_STEP.fullmatch(line).groups()
+    return {"step": int(number), "met": (met or "").split(), **fault(said)}
+
+
+def steps(lines):
+    told = [it for it in lines if STEP.fullmatch(it) or FAULTED_STEP.fullmatch(it)]
+    return [step(it) for it in told] + [outcome(lines[len(told) :])]
+
+
+def exchanges(lines):
+    def one(line):
+        k, kind, sent, received, h = EXCHANGE.fullmatch(line).groups()
+        return {"exchange": int(k), "for": kind, "sent": numbers(sent), "received": numbers(received), "h": int(h)}
+
+    return [one(it) for it in lines]
+
+
+def refusal(line, text):
+    """A refusal, with the line and the column of its place in that text."""
+    number, name, at, limit = REFUSED.fullmatch(line).groups()
+    said = {"refused": number, "name": name} | ({"limit": limit} if limit else {})
+    if at:
+        front = text[: int(at)]
+        said |= {"offset": int(at), "line": front.count("\n") + 1, "column": int(at) - (front.rfind("\n") + 1) + 1}
+    return [said]
+
+
+# ---- calls
+
+
+def says_all(said, found):
+    """Whether the objects say that, an entry of a run maybe more."""
+    if len(said) != len(found):
+        return False
+    more = [{name: it.get(name) for name in one} if "step" in one else it for one, it in zip(said, found)]
+    return more == said
+
+
+WAYS = {0: "ended", 1: "fault", 3: "goes on"}
+
+
+def wrong(words, reader):
+    """What is wrong with the JSON of a call that is not refused, if anything is."""
+    status, text, refused = called(words)
+    code, out, err = called([*words, "--format", "json"])
+    try:
+        said, found = reader(text.splitlines()), read(out)
+    except (ValueError, AttributeError, StopIteration, IndexError) as error:
+        return [f"pramc {' '.join(map(str, words))}: {error}\n{text}{out}{err}"]
+    if words[0] == "trace":
+        said.append({"outcome": WAYS.get(status)})
+    if code == status and status != 2 and not err and not refused and says_all(said, found):
+        return []
+    return [f"pramc {' '.join(map(str, words))}: status {code}, not {status}\n{said}\n{found}\n{err}"]
+
+
+def wrongly_refused(words, text):
+    """The same of one that is, for what this text has."""
+    status, out, line = called(words)
+    code, found, err = called([*words, "--format", "json", "--explain"])
+    try:
+        said = refusal(line.removesuffix("\n"), text)
+        if (status, code, out, found) == (2, 2, "", "") and read(err) == said:
+            return []
+    except (ValueError, AttributeError) as error:
+        said = error
+    return [f"pramc {' '.join(map(str, words))}: status {code}, not 2: {said}\n{line}{err}"]
+
+
+def changed_texts(text):
+    """Texts that are refused: for a name, for where they end, for a limit, and for a byte."""
+    yield re.sub(r"^begin\b", "begin\n  unknown_name := 1;", text, count=1, flags=re.M)
+    yield text[: text.index("begin") + 5]
+    yield re.sub(r"procs \d+", "procs 0", text, count=1)
+    yield text.replace("begin", "begin $", 1)
+
+
+def of_example(name, text, folder):
+    file, values = EXAMPLES / f"{name}.pram", ["--input", EXAMPLES / f"{name}.in"]
+    calls = [(["check", file], accepted)]
+    for bound in ([], ["--bound", "5"]):
+        more = [file, *values, *bound]
+        calls += [(["meaning", *more], meaning), (["run", *more, "--workers", "3"], meaning), (["rules", *more], rules)]
+        calls += [(["cost", *more, "--lines", "--schedule", "3"], costs), (["steps", *more], steps)]
+        calls += [(["trace", *more, "--workers", "2"], exchanges)]
+    found = [wrong(*it) for it in calls]
+    for at, changed in enumerate(changed_texts(text)):
+        other = folder / f"{name}_{at}.pram"
+        other.write_text(changed)
+        found.append(wrongly_refused(["check", other], changed))
+    other = folder / f"{name}.in"
+    other.write_text("1\n 2 x")
+    found.append(wrongly_refused(["meaning", file, "--input", other], "1\n 2 x"))
+    found += [wrongly_refused(["run", file, "--workers", "0"], ""), wrongly_refused(["trace", file, "--map", "affine:2,0"], "")]
+    return found
+
+
+def of_words():
+    """Calls that the command line is refused for, each with what stands in its object."""
+    rows = [(["plan", "x"], "message"), (["exec", "x"], "message"), (["explain", "E6"], "message"), (["check"], "message")]
+    rows += [(["check", "nowhere"], "file"), (["cost", "x", "--schedule", "0"], "word"), (["trace", "x", "--svg"], "word")]
+    for words, name in rows:
+        code, out, err = called([*words, "--format", "json"])
+        said = read(err)
+        if code != 2 or out or len(said) != 1 or sorted(said[0]) != sorted(["refused", name]):
+            yield [f"pramc {' '.join(words)} --format json: {code} {out}{err}"]
+        else:
+            yield []
+
+
+def main():
+    with tempfile.TemporaryDirectory() as folder, ThreadPoolExecutor(4) as pool:
+        found = sum(pool.map(lambda it: of_example(*it, Path(folder)), programs()), [])
+    found += of_words()
+    for it in sum(found, []):
+        print(it)
+    print(f"json: {found.count([])} of {len(found)} calls say as JSON what they say in words")
+    sys.exit(1 if any(found) else 0)
+
+
+main()
