@@ -17,7 +17,7 @@ _pramc() {
             plan) words="--explain --help" ;;
             meaning | rules) words="--bound --input --format --explain --help" ;;
             cost) words="--bound --input --schedule --lines --format --explain --help" ;;
-            steps) words="--bound --input --from --to --format --explain --help" ;;
+            steps) words="--bound --input --from --to --svg --html --format --explain --help" ;;
             run) words="--bound --input --workers --map --reserve --format --explain --help" ;;
             exec) words="--bound --input --workers --map --reserve --explain --help" ;;
             trace) words="--bound --input --workers --map --reserve --svg --format --explain --help" ;;

@@ -199,7 +199,7 @@ const NAMES: [Row; 9] = [
     ),
 ];
 
-const RUNS: [Row; 6] = [
+const RUNS: [Row; 7] = [
     (
         RUN,
         b"rule crew; procs 1; shared s; begin end",
@@ -246,6 +246,15 @@ const RUNS: [Row; 6] = [
         b"",
         b"fault overflow all line 5\n",
         b"program:5\n  x := 9223372036854775807 + 1;\na value is outside the range from -9223372036854775808 to 9223372036854775807\n",
+        1,
+    ),
+    // The lines of a listing aren't those of its program.
+    (
+        &["exec", "program", "--explain"],
+        b"bsp 1\nrule crew\nprocs 1\nuniform 1\nprivate 0\ncode 3\n0 mark 7\n1 udiv 0 0 0 1\n2 halt\n",
+        b"",
+        b"fault divide-by-zero all line 7\n",
+        b"the divisor is 0\n",
         1,
     ),
 ];

@@ -39,7 +39,11 @@ fn a_text_is_checked(rt: HostRuntime) -> Result<(), Fail> {
 
 #[test]
 fn the_words_are_judged_before_the_files(rt: HostRuntime) -> Result<(), Fail> {
-    let rows: [(&[&str], &[u8]); 6] = [
+    let rows: [(&[&str], &[u8]); 7] = [
+        (
+            &["steps", "nowhere", "--svg", "--html"],
+            b"refused P1 --html\n",
+        ),
         (&["run", "program", "--bound", "1x"], b"refused P1 1x\n"),
         (
             &["run", "nowhere", "--bound", "4294967296"],
