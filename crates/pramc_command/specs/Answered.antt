@@ -38,7 +38,7 @@ use Rattle.pramc.specs.declared.options.Options.{Options}
 use Rattle.pramc.specs.Runs.{IsChoice, IsCodeRun, IsRunByWorkers}
 use Rattle.pramc.specs.Reserved.{IsCodePast, IsTextPast}
 use Rattle.pramc_command.specs.Costs.{HasCost, costs_text}
-use Rattle.run_steps.specs.Entries.{Entry}
+use Rattle.run_entries.specs.Entries.{Entry}
 use Rattle.pramc_command.specs.Steps.{HasSteps, told_text}
 use Rattle.pramc_command.specs.Version.{version_text}
 use Rattle.explanations.specs.Explained.{explanation}

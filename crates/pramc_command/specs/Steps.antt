@@ -3,7 +3,8 @@ use Rattle.std.specs.Prelude.{◌≡◌, ℕ, ℤ, List, ◌++◌}
 use Rattle.pram_model.specs.Layout.{SharedEntry}
 use Rattle.write_rules.specs.Verdict.{verdict_of}
 use Rattle.write_rules.specs.declared.outcome.Outcome.{Outcome}
-use Rattle.run_steps.specs.Entries.{Entry, run_entries}
+use Rattle.run_entries.specs.Entries.{Entry}
+use Rattle.run_steps.specs.Entries.{run_entries}
 use Rattle.step_texts.specs.StepText.{steps_text}
 use Rattle.step_texts.specs.declared.manner.Manner.TheVariants.{Plain}
 use Rattle.program_texts.specs.Report.{IsRunOf}

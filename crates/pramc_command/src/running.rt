@@ -1,7 +1,7 @@
 //! What programs and listings come to.
 
 ghost use Rattle.std.specs.Prelude.{◌≡◌, ◌<◌, IfOk, IfErr, map};
-ghost use Rattle.run_steps.specs.Entries.{entry_is};
+ghost use Rattle.run_entries.specs.Entries.{entry_is};
 ghost use Rattle.pramc_command.specs.Answered.{HasOutcome, HasRun, HasTrace, IsAListing, IsAProgram, IsCompared, IsPlanned, IsTrueStop};
 ghost use Rattle.write_rules.specs.Verdict.{verdict_of};
 ghost use Rattle.pramc_command.specs.Costs.{HasCost};
@@ -19,7 +19,8 @@ use pram_meaning::RunRefusal;
 use pramc::{Options, run_code, run_program};
 use program_texts::{Refusal, Stop, mean_program};
 use rule_comparison::{Comparison, compare_rules};
-use run_steps::{Entry, steps_of};
+use run_entries::Entry;
+use run_steps::steps_of;
 use std::alloc::Global;
 use std::sync::Wait;
 use std::thread::Threads;

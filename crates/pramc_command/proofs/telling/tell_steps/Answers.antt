@@ -1,6 +1,6 @@
 use Rattle.std.proofs.Common.{List, ap, map, subst, sym}
 use Rattle.pram_model.specs.Layout.{SharedEntry}
-use Rattle.run_steps.specs.Entries.{Entry, entry_is}
+use Rattle.run_entries.specs.Entries.{Entry, entry_is}
 use Rattle.step_texts.specs.StepText.{steps_text}
 use Rattle.step_texts.specs.declared.manner.Manner.TheVariants.{Plain}
 use Rattle.pramc_command.specs.Answered.{Stepped}

@@ -2,7 +2,7 @@ use Rattle.std.proofs.Common.{map, refl}
 use Rattle.text_out.proofs.Progress.{breaks_off, closes, goes_on, starts}
 use Rattle.write_rules.specs.Verdict.{verdict_of}
 use Rattle.program_texts.specs.Shown.{shown}
-use Rattle.run_steps.specs.Entries.{entry_is}
+use Rattle.run_entries.specs.Entries.{entry_is}
 use Rattle.step_texts.specs.StepText.{steps_text}
 use Rattle.step_texts.specs.declared.manner.Manner.TheVariants.{Plain}
 use Rattle.pramc_command.proofs.Costs.{room}
