@@ -66,7 +66,8 @@ marks x y a = read_part x y a.reads ++ write_part x y a.write
 -- ---- boxes
 
 abbrev pub ground_text : (x y : ℕ) → List ℕ
-ground_text x y = codes "<rect x='" ++ (decimal x ++ (codes "' y='" ++ (decimal y ++ codes "' width='60' height='18' fill='#e0e0e0'><title>")))
+ground_text x y = codes "<rect x='" ++ (decimal x ++ (codes "' y='" ++ (decimal y
+    ++ codes "' width='60' height='18' fill='#e0e0e0'><title>")))
 
 -- what stands in a box
 abbrev pub box_rest : (x y : ℕ) → Act → List ℕ

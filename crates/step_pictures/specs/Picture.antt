@@ -36,9 +36,10 @@ processors_text (Some s) = some_processors s
 -- what is what
 abbrev pub key_text : List ℕ
 key_text = codes "<rect x='12' y='48' width='60' height='18' fill='#e0e0e0'/>\n<text x='78' y='61'>acts</text>\n"
-    ++ (codes "<rect x='122' y='50' width='26' height='14' fill='#0072b2'/>\n<text x='132' y='61' fill='#ffffff'>r</text>\n<text x='154' y='61'>reads</text>\n"
-    ++ (codes "<rect x='202' y='50' width='26' height='14' fill='#e69f00'/>\n<text x='210' y='61'>w</text>\n<text x='234' y='61'>writes</text>\n"
-    ++ codes "<rect x='284' y='48' width='60' height='18' fill='none' stroke='#000000' stroke-width='3'/>\n<text x='350' y='61'>met at a fault</text>\n"))
+    ++ (codes "<rect x='122' y='50' width='26' height='14' fill='#0072b2'/>\n<text x='132' y='61' fill='#ffffff'>r</text>\n"
+    ++ (codes "<text x='154' y='61'>reads</text>\n<rect x='202' y='50' width='26' height='14' fill='#e69f00'/>\n<text x='210' y='61'>w</text>\n"
+    ++ (codes "<text x='234' y='61'>writes</text>\n<rect x='284' y='48' width='60' height='18' fill='none' stroke='#000000' stroke-width='3'/>\n"
+    ++ codes "<text x='350' y='61'>met at a fault</text>\n")))
 
 -- a processor's name in front of its row
 abbrev pub label : (row : ℕ) → ℤ → List ℕ

@@ -70,7 +70,8 @@ fn write_act<W: Out>(
 ) -> Result<(), WriteFault>
     requires counted { (W.Out.state out.old).failures < 2 ^ 63 }
     requires near { x ≤ 10000 }
-    ensures written { Writes (W.Out.state out.old) (W.Out.state out.new) (spec.act_drawn layout.now (grid_is grid) x (act_is act.now)) result }
+    ensures written { Writes (W.Out.state out.old) (W.Out.state out.new)
+        (spec.act_drawn layout.now (grid_is grid) x (act_is act.now)) result }
 {
     let row = row_of(grid.low, act.processor);
     write_act_at(out, layout, grid.rows, x, row, act)
@@ -85,7 +86,8 @@ fn write_acts<W: Out>(
 ) -> Result<(), WriteFault>
     requires counted { (W.Out.state out.old).failures < 2 ^ 63 }
     requires near { x ≤ 10000 }
-    ensures written { Writes (W.Out.state out.old) (W.Out.state out.new) (spec.acts_drawn layout.now (grid_is grid) x (map act_is acts.now)) result }
+    ensures written { Writes (W.Out.state out.old) (W.Out.state out.new)
+        (spec.acts_drawn layout.now (grid_is grid) x (map act_is acts.now)) result }
 {
     for act in acts {
         write_act(out, layout, grid, x, act)?;
@@ -176,7 +178,8 @@ fn write_conflict<W: Out>(
 ) -> Result<(), WriteFault>
     requires counted { (W.Out.state out.old).failures < 2 ^ 63 }
     requires near { x ≤ 10000 }
-    ensures written { Writes (W.Out.state out.old) (W.Out.state out.new) (spec.conflict layout.now (grid_is grid) x fault.now met.now) result }
+    ensures written { Writes (W.Out.state out.old) (W.Out.state out.new)
+        (spec.conflict layout.now (grid_is grid) x fault.now met.now) result }
 {
     write_all_met(out, grid, x, met)?;
     write_fault_line(out, layout, grid.rows, fault)
@@ -232,7 +235,8 @@ fn write_column<W: Out>(
     entry: &Entry,
 ) -> Result<(), WriteFault>
     requires counted { (W.Out.state out.old).failures < 2 ^ 63 }
-    ensures written { Writes (W.Out.state out.old) (W.Out.state out.new) (spec.column layout.now (grid_is grid) at.x at.k (entry_is entry.now)) result }
+    ensures written { Writes (W.Out.state out.old) (W.Out.state out.new)
+        (spec.column layout.now (grid_is grid) at.x at.k (entry_is entry.now)) result }
 {
     match entry {
         Entry::Ran { line, acts, .. } => write_ran(out, layout, grid, at, *line, acts),

@@ -108,9 +108,10 @@ fn write_key<W: Out>(out: &mut W) -> Result<(), WriteFault>
 {
     out.write_parts(&[
         b"<rect x='12' y='48' width='60' height='18' fill='#e0e0e0'/>\n<text x='78' y='61'>acts</text>\n",
-        b"<rect x='122' y='50' width='26' height='14' fill='#0072b2'/>\n<text x='132' y='61' fill='#ffffff'>r</text>\n<text x='154' y='61'>reads</text>\n",
-        b"<rect x='202' y='50' width='26' height='14' fill='#e69f00'/>\n<text x='210' y='61'>w</text>\n<text x='234' y='61'>writes</text>\n",
-        b"<rect x='284' y='48' width='60' height='18' fill='none' stroke='#000000' stroke-width='3'/>\n<text x='350' y='61'>met at a fault</text>\n",
+        b"<rect x='122' y='50' width='26' height='14' fill='#0072b2'/>\n<text x='132' y='61' fill='#ffffff'>r</text>\n",
+        b"<text x='154' y='61'>reads</text>\n<rect x='202' y='50' width='26' height='14' fill='#e69f00'/>\n<text x='210' y='61'>w</text>\n",
+        b"<text x='234' y='61'>writes</text>\n<rect x='284' y='48' width='60' height='18' fill='none' stroke='#000000' stroke-width='3'/>\n",
+        b"<text x='350' y='61'>met at a fault</text>\n",
     ])
 }
 
@@ -185,7 +186,8 @@ fn write_table<W: Out>(
 ) -> Result<(), WriteFault>
     requires counted { (W.Out.state out.old).failures < 2 ^ 63 }
     requires few { length entries.now ≤ 100 }
-    ensures written { Writes (W.Out.state out.old) (W.Out.state out.new) (spec.table layout.now (grid_is grid) (map entry_is entries.now)) result }
+    ensures written { Writes (W.Out.state out.old) (W.Out.state out.new)
+        (spec.table layout.now (grid_is grid) (map entry_is entries.now)) result }
 {
     write_labels(out, grid)?;
     write_columns(out, layout, grid, entries)?;

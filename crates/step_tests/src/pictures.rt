@@ -15,10 +15,13 @@ struct Row {
     table: &'static str,
 }
 
-const KEY: &str = "<rect x='12' y='48' width='60' height='18' fill='#e0e0e0'/>\n<text x='78' y='61'>acts</text>\n\
-    <rect x='122' y='50' width='26' height='14' fill='#0072b2'/>\n<text x='132' y='61' fill='#ffffff'>r</text>\n<text x='154' y='61'>reads</text>\n\
+const KEY: &str =
+    "<rect x='12' y='48' width='60' height='18' fill='#e0e0e0'/>\n<text x='78' y='61'>acts</text>\n\
+    <rect x='122' y='50' width='26' height='14' fill='#0072b2'/>\n<text x='132' y='61' fill='#ffffff'>r</text>\n\
+    <text x='154' y='61'>reads</text>\n\
     <rect x='202' y='50' width='26' height='14' fill='#e69f00'/>\n<text x='210' y='61'>w</text>\n<text x='234' y='61'>writes</text>\n\
-    <rect x='284' y='48' width='60' height='18' fill='none' stroke='#000000' stroke-width='3'/>\n<text x='350' y='61'>met at a fault</text>\n\
+    <rect x='284' y='48' width='60' height='18' fill='none' stroke='#000000' stroke-width='3'/>\n\
+    <text x='350' y='61'>met at a fault</text>\n\
     <text x='12' y='117'>outside</text>\n";
 
 // The one processor writes, and no other acts.
@@ -38,7 +41,8 @@ const TWO: Row = Row {
     front: "<svg xmlns='http://www.w3.org/2000/svg' version='1.1' width='480' height='194' font-family='sans-serif' font-size='12'>\n\
         <rect x='0' y='0' width='480' height='194' fill='#ffffff'/>\n<text x='12' y='20'>statements 2</text>\n\
         <text x='12' y='38'>processors -1 to 0</text>\n",
-    table: "<text x='12' y='137'>-1</text>\n<text x='12' y='157'>0</text>\n<text x='160' y='80'>1</text>\n<text x='160' y='96'>line 2</text>\n\
+    table: "<text x='12' y='137'>-1</text>\n<text x='12' y='157'>0</text>\n\
+        <text x='160' y='80'>1</text>\n<text x='160' y='96'>line 2</text>\n\
         <rect x='160' y='104' width='60' height='18' fill='#e0e0e0'><title>outside pardo</title></rect>\n\
         <text x='224' y='80'>2</text>\n<text x='224' y='96'>line 3</text>\n\
         <rect x='224' y='124' width='60' height='18' fill='#e0e0e0'><title>processor -1 reads s writes a[1]</title></rect>\n\
