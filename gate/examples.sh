@@ -1,6 +1,6 @@
 #!/usr/bin/env bash
-# Runs each example of examples/ and each command of docs/TUTORIAL.md, and compares what they print; draws the trace of each example, and
-# reads what the commands say of it as JSON.
+# Runs each example of examples/ and each command of docs/TUTORIAL.md, and compares what they print; draws the trace and the statements of
+# each example, and reads what the commands say of it as JSON.
 # The program may be named: the gate names the one that it proved and built. Otherwise it is bin/pramc, which is built first.
 set -eu
 top=$(cd "$(dirname "$0")/.." && pwd)
@@ -13,4 +13,5 @@ fi
 python3 "$top/gate/examples.py" "$program"
 python3 "$top/gate/tutorial.py" "$program"
 python3 "$top/gate/pictures.py" "$program"
+python3 "$top/gate/step_pictures.py" "$program"
 python3 "$top/gate/json_texts.py" "$program"

@@ -154,9 +154,16 @@ def refusal(line, text):
 # ---- calls
 
 
+def agree(found):
+    """Whether each statement has an act for each of its processors, and what all printed is the output of the outcome behind them."""
+    told = [it for it in found if "step" in it]
+    acts = all(len(it["acts"]) == it["processors"] for it in told if "processors" in it)
+    return not told or acts and [item for it in told for item in it.get("printed", [])] == found[-1]["output"]
+
+
 def says_all(said, found):
-    """Whether the objects say that, an entry of a run maybe more."""
-    if len(said) != len(found):
+    """Whether the objects say that, an entry of a run more, which agrees."""
+    if len(said) != len(found) or not agree(found):
         return False
     more = [{name: it.get(name) for name in one} if "step" in one else it for one, it in zip(said, found)]
     return more == said

@@ -130,7 +130,7 @@ const STEPS: [Told; 1] = [Told {
     text: SUM,
     input: "5 2 7 1",
     said: "5 line 7 processors 2 a[1] 5 -> 7 a[2] 2 -> 8\n6 line 5 processors 1\n15\nended\na[1..4] = 15 8 7 1\n",
-    json: "{\"changes\":[{\"after\":\"7\",\"before\":\"5\",\"cell\":\"a[1]\"},{\"after\":\"8\",\"before\":\"2\",\"cell\":\"a[2]\"}],\"line\":7,\"processors\":2,\"step\":5}\n{\"changes\":[],\"line\":5,\"processors\":1,\"step\":6}\n{\"memory\":[{\"high\":\"4\",\"low\":\"1\",\"name\":\"a\",\"values\":[\"15\",\"8\",\"7\",\"1\"]}],\"outcome\":\"ended\",\"output\":[\"15\"]}\n",
+    json: "{\"acts\":[{\"processor\":\"1\",\"reads\":[\"a[1]\",\"a[2]\"],\"write\":\"a[1]\"},{\"processor\":\"2\",\"reads\":[\"a[3]\",\"a[4]\"],\"write\":\"a[2]\"}],\"changes\":[{\"after\":\"7\",\"before\":\"5\",\"cell\":\"a[1]\"},{\"after\":\"8\",\"before\":\"2\",\"cell\":\"a[2]\"}],\"line\":7,\"printed\":[],\"processors\":2,\"step\":5,\"variables\":[]}\n{\"acts\":[{\"processor\":null,\"reads\":[],\"write\":null}],\"changes\":[],\"line\":5,\"printed\":[],\"processors\":1,\"step\":6,\"variables\":[]}\n{\"memory\":[{\"high\":\"4\",\"low\":\"1\",\"name\":\"a\",\"values\":[\"15\",\"8\",\"7\",\"1\"]}],\"outcome\":\"ended\",\"output\":[\"15\"]}\n",
     code: 0,
 }];
 
@@ -190,7 +190,7 @@ const FAULTS: [Told; 4] = [
         text: MET,
         input: "",
         said: "2 fault write-conflict s line 4 processors 1 2\nfault write-conflict s line 4\n",
-        json: "{\"kind\":\"write-conflict\",\"line\":4,\"met\":[\"1\",\"2\"],\"place\":\"s\",\"step\":2}\n{\"kind\":\"write-conflict\",\"line\":4,\"outcome\":\"fault\",\"output\":[],\"place\":\"s\"}\n",
+        json: "{\"acts\":[{\"processor\":\"1\",\"reads\":[],\"write\":\"s\"},{\"processor\":\"2\",\"reads\":[],\"write\":\"s\"}],\"kind\":\"write-conflict\",\"line\":4,\"met\":[\"1\",\"2\"],\"place\":\"s\",\"step\":2}\n{\"kind\":\"write-conflict\",\"line\":4,\"outcome\":\"fault\",\"output\":[],\"place\":\"s\"}\n",
         code: 1,
     },
     // What was printed stays printed.

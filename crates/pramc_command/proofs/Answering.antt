@@ -183,6 +183,16 @@ pub code_cut_off : (on : Terminal) (code : SuperstepCode) (o : Outcome) (lent : 
 code_cut_off on code o lent old new why same is has w = cut_off why (status_of o) (shown code.layout (verdict_of o)) old new
     (Executed code o is has) (w.0, subst (λ (l : List SharedEntry). StopsIn old new (shown l (verdict_of o))) same w.1)
 
+-- how it answers, by what was written
+pub told_listing : (on : Terminal) (code : SuperstepCode) (o : Outcome) (lent : List SharedEntry) (old new : OutState) (r : Result Status Stop)
+    (q : Result Answer Halted) → lent ≡ code.layout → IsAListing code → HasRun code o → Wrote (status_of o) (shown lent (verdict_of o)) old new r →
+    IfOk r (λ s. q ≡ Ok (record { status = s; fault = code_fault on.errors code o })) →
+    IfErr r (λ why. q ≡ Err (record { stop = why; about = Nothing })) → Performs on old new q
+told_listing on code o lent old new (Ok s) q same is has w ok err =
+    subst (Performs on old new) (sym ok) (told_code on code o lent old new s (code_fault on.errors code o) same is has w refl)
+told_listing on code o lent old new (Err why) q same is has w ok err =
+    subst (Performs on old new) (sym err) (code_cut_off on code o lent old new why same is has w)
+
 -- what is known of a fault, by the run that came to it
 pub fault_known : (f : FaultedRun) (program : Checked) (o : Outcome) (fault : Fault) (output : List ℤ) (input : List ℤ) (n : ℕ) →
     IsProgramOf f.source.bytes.items program → f.layout ≡ program.layout → IsOutcomeIn program input n (verdict_of o) →

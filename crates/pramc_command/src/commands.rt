@@ -5,7 +5,7 @@ ghost use Rattle.std.specs.String.{string_bytes};
 ghost use Rattle.command_words.specs.Words.{AsksForVersion};
 ghost use Rattle.program_texts.specs.Report.{IsProgramOf};
 ghost use Rattle.diagnoses.specs.declared.about.About.TheVariants as known;
-ghost use Rattle.pramc_command.specs.Explained.{Leaves, Performs, TellsRun, explaining as spec_explaining};
+ghost use Rattle.pramc_command.specs.Explained.{Leaves, Performs, TellsRun, code_fault as spec_code_fault, explaining as spec_explaining};
 ghost use Rattle.pramc_command.specs.Version.{AnswersVersion, LeavesVersion};
 
 use crate::answer::{Answer, Ended};
@@ -16,6 +16,7 @@ use crate::terminal::Terminal;
 use crate::writing::{
     write_accepted, write_outcome, write_plan, write_rules, write_subject, write_version,
 };
+use bsp_verify::Verified;
 use command_words::{Request, RunWords, Verb, asks_to_explain, read_words};
 use diagnoses::About;
 use pram_syntax::Out;
@@ -27,6 +28,7 @@ use program_texts::{Sources, Status, Stop};
 use std::alloc::Global;
 use std::sync::Wait;
 use std::thread::Threads;
+use write_rules::Outcome;
 
 /// Does what the words behind the program's name ask for, and answers the exit status.
 ///
@@ -249,6 +251,28 @@ fn on_run<'a, R: Threads + Wait + Sync, S: Sources, O: Out>(
     }
 }
 
+// The answer of a call that has told how a listing's code came out, with its fault if that is to be explained.
+fn of_listing<'a>(
+    explains: bool,
+    code: Verified,
+    outcome: &Outcome,
+    written: Result<Status, Stop<'a>>,
+) -> Result<Answer<'a>, Halted<'a>>
+    ensures ok { IfOk written.entry (λ s. result ≡ Ok (record { status = s; fault = spec_code_fault explains code outcome.now })) }
+    ensures err { IfErr written.entry (λ why. result ≡ Err (record { stop = why; about = known.Nothing })) }
+{
+    match written {
+        Ok(status) => {
+            let fault = code_fault(explains, code, outcome);
+            Ok(Answer { status, fault })
+        }
+        Err(stop) => Err(Halted {
+            stop,
+            about: About::Nothing,
+        }),
+    }
+}
+
 // A listing is run.
 fn on_listing<'a, R: Threads + Wait + Sync, S: Sources, O: Out>(
     rt: &R,
@@ -266,9 +290,8 @@ fn on_listing<'a, R: Threads + Wait + Sync, S: Sources, O: Out>(
     let input = load_input(alloc, sources, words.input)?;
     match execute(rt, alloc, &code, &input, words.options, words.reserve) {
         Ok((outcome, _counts)) => {
-            let status = write_outcome(out, code.code().layout(), &outcome)?;
-            let fault = code_fault(on.errors, code, &outcome);
-            Ok(Answer { status, fault })
+            let written = write_outcome(out, code.code().layout(), &outcome);
+            of_listing(on.errors, code, &outcome, written)
         }
         Err(stop) => {
             let cells = code.code().layout().cells();

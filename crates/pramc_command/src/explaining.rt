@@ -100,7 +100,7 @@ pub(crate) fn code_fault<'a>(
     code: Verified,
     outcome: &Outcome,
 ) -> Option<FaultedCall<'a>>
-    ensures { result ≡ spec.code_fault explains code.entry outcome.now }
+    ensures { result ≡ spec.code_fault explains code outcome.now }
 {
     if !explains {
         return None;

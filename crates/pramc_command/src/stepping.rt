@@ -1,6 +1,6 @@
 //! Runs of a program that are told statement by statement: in words, drawn, or as a page.
 
-ghost use Rattle.std.specs.Prelude.{◌≡◌, ◌<◌, ◌^◌, ◌++◌, IfOk, map};
+ghost use Rattle.std.specs.Prelude.{◌<◌, ◌^◌, ℕ, IfOk, map};
 ghost use Rattle.std.specs.String.{string_bytes};
 ghost use Rattle.text_out.specs.Out.{Writes};
 ghost use Rattle.program_calls.specs.Written.{Wrote};

@@ -1,11 +1,11 @@
-use Rattle.std.proofs.Common.{List, ap, inl, inr, map, refl, subst, sym}
+use Rattle.std.proofs.Common.{List, ap, inr, map, subst, sym}
 use Rattle.pram_model.specs.Layout.{SharedEntry}
 use Rattle.run_entries.specs.Entries.{entry_is}
 use Rattle.step_pictures.specs.Picture.{picture}
 use Rattle.pramc_command.specs.Answered.{ShownSteps}
 use Rattle.pramc_command.specs.Steps.{ShowsSteps}
 use Rattle.pramc_command.proofs.Answering.{told_run}
-use Rattle.pramc_command.proofs.Entries.{is_stepped}
+use Rattle.pramc_command.proofs.Entries.{is_stepped, shows_picture}
 use Rattle.pramc_command.proofs.stepping.tell_picture.Goals as goal
 
 pub returns : goal.returns
@@ -18,7 +18,7 @@ returns g c =
     let entries = map entry_is c.deref.result.now in
     let stepped = is_stepped text loaded.program c.args.input.now c.args.words.options.bound lent o _ entries c.requires.program c.layout.ensures
         found.by_text found.entries (sym (ap (map entry_is) c.deref.ensures.value)) in
-    let shows = (text, entries, inl (record { stepped = stepped; is = refl })) in
+    let shows = shows_picture text lent o entries stepped in
     record {
       told = λ on. told_run _ _ _ _ _ _ o c.write_pictured-written.result c.ended.result (ShownSteps lent o (picture lent entries) shows)
           c.write_pictured-written.ensures.written

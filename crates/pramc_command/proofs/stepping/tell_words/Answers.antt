@@ -1,7 +1,8 @@
-use Rattle.std.proofs.Common.{List, ap, map, sym}
+use Rattle.std.proofs.Common.{List, ℕ, ap, map, subst, sym}
 use Rattle.run_entries.specs.Entries.{entry_is}
 use Rattle.step_texts.specs.StepText.{steps_text}
 use Rattle.pramc_command.specs.Answered.{Stepped}
+use Rattle.pramc_command.specs.Steps.{IsManner}
 use Rattle.pramc_command.proofs.Answering.{at_the_end, told_run}
 use Rattle.pramc_command.proofs.Entries.{is_stepped}
 use Rattle.pramc_command.proofs.stepping.tell_words.Goals as goal
@@ -20,7 +21,8 @@ returns g c =
         found.by_text found.entries (sym (ap (map entry_is) c.deref.ensures.value)) in
     record {
       told = told_run _ _ _ _ _ _ o c.write_told-written.result c.ended.result
-          (Stepped text lent o entries manner words.from words.to stepped c.manner_of-manner.ensures)
+          (Stepped text lent o entries manner words.from words.to stepped
+          (subst (λ (t : List ℕ). IsManner c.args.on t manner) c.as_slice.ensures.value c.manner_of-manner.ensures))
           c.write_told-written.ensures.written (at_the_end _ lent o (steps_text lent manner words.from words.to entries) c.layout.ensures)
           found.by_text c.ended.ensures.ok c.ended.ensures.err;
     }

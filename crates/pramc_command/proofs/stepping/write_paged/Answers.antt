@@ -12,4 +12,4 @@ returns-in-Ok g c =
 pub returns-in-Err : goal.returns-in-Err
 returns-in-Err g c =
     let w = c.in-Err.ensures.written in
-    record { written = (w.0, w.1, refl, w.2) }
+    record { written = (w.0, w.1, (refl, w.2)) }
