@@ -15,7 +15,7 @@ use Rattle.step_pictures.specs.Picture.{picture}
 use Rattle.pramc_command.specs.Steps.{AreFacts, IsStepped, ShowsSteps}
 
 -- with the declarations and the entries that are lent
-pub is_stepped : (text : List ℕ) (program : Checked) (input : List ℤ) (n : ℕ) (lent : List SharedEntry) (o : Outcome) (found given : List Entry) →
+abbrev pub is_stepped : (text : List ℕ) (program : Checked) (input : List ℤ) (n : ℕ) (lent : List SharedEntry) (o : Outcome) (found given : List Entry) →
     IsProgramOf text program → lent ≡ program.layout → IsOutcomeIn program input n (verdict_of o) → found ≡ run_entries program input n →
     found ≡ given → IsStepped text lent o given
 is_stepped text program input n lent o found given is declared run told same = record {
