@@ -35,8 +35,8 @@ use write_rules::Outcome;
 /// `check FILE` writes `accepted cells N procs M rule R`; `plan FILE` the listing of the program's code; `meaning FILE` the outcome by
 /// the definition, `cost FILE` what that run costs and then its outcome, `steps FILE` that run statement by statement and then its
 /// outcome, or a picture or a page of it, and `rules FILE` how it comes out under each rule; `run FILE` that of its code, run by workers in
-/// threads, and `trace FILE` the exchanges of that run, or a picture of them; `exec LISTING` the outcome of a listing, run so; `explain WORD` what a refusal or a fault is; `--version`,
-/// or `-V`, the line `pramc 0.1.0`.
+/// threads, and `trace FILE` the exchanges of that run, or a picture of them; `exec LISTING` the outcome of a listing, run so;
+/// `explain WORD` what a refusal or a fault is; `--version`, or `-V`, the line `pramc 0.1.0`.
 ///
 /// What is refused is written to `err`: P1 for the words, P2 for a file that can't be read, and E1 to E18. It is judged in this order:
 /// the words; the file and its text (of a listing E2, E15, E14); the input's file and its text; the number of workers (E13), the map
@@ -240,9 +240,7 @@ fn on_run<'a, R: Threads + Wait + Sync, S: Sources, O: Out>(
     match tell(rt, alloc, on, verb, &loaded, &input, words, out) {
         Ok(ended) => {
             let bound = words.options.bound;
-            Ok(answer_of(
-                alloc, on.errors, loaded, &input, bound, ended,
-            ))
+            Ok(answer_of(alloc, on.errors, loaded, &input, bound, ended))
         }
         Err(stop) => {
             let cells = loaded.program.layout().cells();

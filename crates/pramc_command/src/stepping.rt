@@ -99,7 +99,14 @@ fn tell_words<'a, O: Out>(
     let program = &loaded.program;
     let (outcome, entries) = steps(alloc, program, input, words.options.bound)?;
     let manner = manner_of(on, loaded.source.bytes.as_slice());
-    let written = write_told(out, program.layout(), &outcome, &entries, &manner, words.steps);
+    let written = write_told(
+        out,
+        program.layout(),
+        &outcome,
+        &entries,
+        &manner,
+        words.steps,
+    );
     ended(written, outcome)
 }
 
@@ -160,11 +167,7 @@ fn page_facts(
 }
 
 // Writes a page of a run's facts.
-fn write_paged<'a, O: Out>(
-    out: &mut O,
-    outcome: &Outcome,
-    facts: &[u8],
-) -> Result<Status, Stop<'a>>
+fn write_paged<'a, O: Out>(out: &mut O, outcome: &Outcome, facts: &[u8]) -> Result<Status, Stop<'a>>
     requires out { (O.Out.state out.old).failures < 2 ^ 62 }
     ensures written { (kept : ℕ) × IsCut facts.now kept
         × Wrote (status_of outcome.now) (page facts.now kept) (O.Out.state out.old) (O.Out.state out.new) result }

@@ -21,7 +21,10 @@ use std::thread::Threads;
 use write_rules::Outcome;
 
 /// A run of which that was written.
-pub(crate) fn ended<'a>(written: Result<Status, Stop<'a>>, outcome: Outcome) -> Result<Ended, Stop<'a>>
+pub(crate) fn ended<'a>(
+    written: Result<Status, Stop<'a>>,
+    outcome: Outcome,
+) -> Result<Ended, Stop<'a>>
     ensures ok { IfOk written.entry (λ s. result ≡ Ok (record { status = s; outcome = outcome })) }
     ensures err { IfErr written.entry (λ why. result ≡ Err why) }
 {

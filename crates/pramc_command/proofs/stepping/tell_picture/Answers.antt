@@ -17,7 +17,7 @@ returns g c =
     let lent = c.layout.result.now in
     let entries = map entry_is c.deref.result.now in
     let stepped = is_stepped text loaded.program c.args.input.now c.args.words.options.bound lent o _ entries c.requires.program c.layout.ensures
-        found.by_text found.entries (sym (ap (map entry_is) c.deref.ensures.value)) in
+    found.by_text found.entries (sym (ap (map entry_is) c.deref.ensures.value)) in
     let shows = shows_picture text lent o entries stepped in
     record {
       told = λ on. told_run _ _ _ _ _ _ o c.write_pictured-written.result c.ended.result (ShownSteps lent o (picture lent entries) shows)

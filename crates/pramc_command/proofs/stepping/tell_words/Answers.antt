@@ -18,7 +18,7 @@ returns g c =
     let entries = map entry_is c.deref.result.now in
     let manner = c.manner_of-manner.result in
     let stepped = is_stepped text loaded.program c.args.input.now c.args.words.options.bound lent o _ entries c.requires.program c.layout.ensures
-        found.by_text found.entries (sym (ap (map entry_is) c.deref.ensures.value)) in
+    found.by_text found.entries (sym (ap (map entry_is) c.deref.ensures.value)) in
     record {
       told = told_run _ _ _ _ _ _ o c.write_told-written.result c.ended.result
           (Stepped text lent o entries manner words.from words.to stepped
