@@ -197,7 +197,11 @@ fn over_steps<'a>(alloc: Global, words: &Subcommand) -> Result<Command<'a>, Allo
         .long(HTML)
         .action(ArgAction::SetTrue)
         .help("Makes a page that steps through them all");
-    over_run(alloc, words)?.arg(from)?.arg(to)?.arg(svg)?.arg(html)
+    over_run(alloc, words)?
+        .arg(from)?
+        .arg(to)?
+        .arg(svg)?
+        .arg(html)
 }
 
 // A subcommand that runs it by workers.

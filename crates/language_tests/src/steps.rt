@@ -238,15 +238,19 @@ fn refusals_of_steps(rt: HostRuntime) {
 }
 
 // The bounds, which change nothing, and two products, of which one keeps its value.
-const SMALL: &[u8] = b"rule crew; procs 2;\nshared a[1..2];\nbegin\n  for 1 <= i <= 2 pardo\n    a[i] := a[i] * i;\n  end\nend\n";
+const SMALL: &[u8] =
+    b"rule crew; procs 2;\nshared a[1..2];\nbegin\n  for 1 <= i <= 2 pardo\n    a[i] := a[i] * i;\n  end\nend\n";
 
 // Where standard output is a terminal, a statement stands beside its line, and its changes are coloured if that is wanted; where standard
 // error alone is one, or none, it doesn't.
 #[test]
 fn on_a_terminal_statements_stand_beside_their_lines(rt: HostRuntime) -> Result<(), Fail> {
-    let plain: &[u8] = b"1 line 4 processors 1\n2 line 5 processors 2 a[2] 7 -> 14\nended\na[1..2] = 3 14\n";
-    let beside: &[u8] = b"1 line 4 processors 1  |   for 1 <= i <= 2 pardo\n2 line 5 processors 2 a[2] 7 -> 14  |     a[i] := a[i] * i;\nended\na[1..2] = 3 14\n";
-    let coloured: &[u8] = b"1 line 4 processors 1  |   for 1 <= i <= 2 pardo\n2 line 5 processors 2\x1b[36m a[2] 7 -> 14\x1b[0m  |     a[i] := a[i] * i;\nended\na[1..2] = 3 14\n";
+    let plain: &[u8] =
+        b"1 line 4 processors 1\n2 line 5 processors 2 a[2] 7 -> 14\nended\na[1..2] = 3 14\n";
+    let beside: &[u8] =
+        b"1 line 4 processors 1  |   for 1 <= i <= 2 pardo\n2 line 5 processors 2 a[2] 7 -> 14  |     a[i] := a[i] * i;\nended\na[1..2] = 3 14\n";
+    let coloured: &[u8] =
+        b"1 line 4 processors 1  |   for 1 <= i <= 2 pardo\n2 line 5 processors 2\x1b[36m a[2] 7 -> 14\x1b[0m  |     a[i] := a[i] * i;\nended\na[1..2] = 3 14\n";
     let coloured_errors = Terminal {
         errors: true,
         output: false,
