@@ -7,3 +7,4 @@ mod printer;
 mod spell;
 
 pub use print::print_tree;
+pub use spell::{binary_text, mark_text, opening_text};

@@ -19,7 +19,8 @@ pub(crate) fn rule_text(rule: Rule) -> &'static [u8]
     }
 }
 
-pub(crate) fn binary_text(op: Binary) -> &'static [u8]
+/// The word or the symbol of an operation between two operands, as a text spells it.
+pub fn binary_text(op: Binary) -> &'static [u8]
     ensures text { result.now ≡ spec.binary_text op }
 {
     match op {
@@ -39,7 +40,8 @@ pub(crate) fn binary_text(op: Binary) -> &'static [u8]
     }
 }
 
-pub(crate) fn opening_text(opening: Opening) -> &'static [u8]
+/// The word with which such a statement begins.
+pub fn opening_text(opening: Opening) -> &'static [u8]
     ensures text { result.now ≡ spec.opening_text opening }
 {
     match opening {
@@ -50,7 +52,8 @@ pub(crate) fn opening_text(opening: Opening) -> &'static [u8]
     }
 }
 
-pub(crate) fn mark_text(mark: Mark) -> &'static [u8]
+/// The word or the symbol of a mark.
+pub fn mark_text(mark: Mark) -> &'static [u8]
     ensures text { result.now ≡ spec.mark_text mark }
 {
     match mark {

@@ -7,65 +7,9 @@ ghost use Rattle.token_choices.specs.Kinds.{fixed_token};
 ghost use Rattle.token_choices.specs.Told as spec;
 
 use crate::choice::Choice;
-use pram_tokens::{Binary, Fixed, Mark, Opening};
+use pram_printer::{binary_text, mark_text, opening_text};
+use pram_tokens::Fixed;
 use text_out::{Out, WriteFault};
-
-fn binary_text(op: Binary) -> &'static [u8]
-    ensures { result.now ≡ spelled.binary_text op }
-{
-    match op {
-        Binary::Or => b"or",
-        Binary::And => b"and",
-        Binary::Equal => b"=",
-        Binary::Unequal => b"<>",
-        Binary::Less => b"<",
-        Binary::AtMost => b"<=",
-        Binary::Greater => b">",
-        Binary::AtLeast => b">=",
-        Binary::Add => b"+",
-        Binary::Subtract => b"-",
-        Binary::Multiply => b"*",
-        Binary::Divide => b"div",
-        Binary::Remainder => b"mod",
-    }
-}
-
-fn opening_text(opening: Opening) -> &'static [u8]
-    ensures { result.now ≡ spelled.opening_text opening }
-{
-    match opening {
-        Opening::Print => b"print",
-        Opening::While => b"while",
-        Opening::If => b"if",
-        Opening::For => b"for",
-    }
-}
-
-fn mark_text(mark: Mark) -> &'static [u8]
-    ensures { result.now ≡ spelled.mark_text mark }
-{
-    match mark {
-        Mark::OpenParen => b"(",
-        Mark::CloseParen => b")",
-        Mark::OpenBracket => b"[",
-        Mark::CloseBracket => b"]",
-        Mark::Becomes => b":=",
-        Mark::Semicolon => b";",
-        Mark::Range => b"..",
-        Mark::Rule => b"rule",
-        Mark::Procs => b"procs",
-        Mark::Shared => b"shared",
-        Mark::Var => b"var",
-        Mark::Begin => b"begin",
-        Mark::Do => b"do",
-        Mark::End => b"end",
-        Mark::Then => b"then",
-        Mark::Else => b"else",
-        Mark::To => b"to",
-        Mark::Pardo => b"pardo",
-        Mark::Local => b"local",
-    }
-}
 
 fn fixed_text(fixed: Fixed) -> &'static [u8]
     ensures { result.now ≡ spelled.token_text (fixed_token fixed) }
