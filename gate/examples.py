@@ -1,19 +1,24 @@
 #!/usr/bin/env python3
 """Runs each example of examples/ with its input, and compares all that it writes, and its exit status, with the files beside it.
 
-examples.py PROGRAM: by its definition, by 1, 3 and 4 workers, under each rule, from the listing of its plan, with the change that gives a
-conflict, within as many statements as its T, and one less, with which it goes on; and that as many statements are told of it, and no more.
+examples.py PROGRAM: by its definition, by 1, 3 and 4 workers, and from the listing of its plan; with each rule in the place of its own,
+where NAME.RULE.out has what it writes if that is neither what NAME.out has nor a fault alone. Those of the gallery also with the change that
+gives a conflict, within as many statements as their T, and one less, with which they go on; as many statements are told of them, and no
+more, and they cost their T and W at three sizes.
 """
+import re
 import subprocess
 import sys
 import tempfile
 from concurrent.futures import ThreadPoolExecutor
 from pathlib import Path
 
-from gallery import EXAMPLES, change, foot, programs
+from gallery import EXAMPLES, change, costs, foot, programs, sizes
+from sizes import at_size
 
 PROGRAM = Path(sys.argv[1]).resolve()
 GOES_ON = 3
+RULE = re.compile(r"^rule (\w+);", re.M)
 
 
 def wrong(words, output, status):
@@ -27,14 +32,37 @@ def wrong(words, output, status):
     return [f"pramc {' '.join(map(str, words))}: status {done.returncode}\n{done.stdout}{done.stderr}"]
 
 
+def under_each_rule(name, text, output, folder):
+    """The calls that run an example under each rule, by what NAME.rules says of it."""
+    ends = {RULE.search(text)[1]: output}
+    said = [it.split(" ", 1) for it in (EXAMPLES / f"{name}.rules").read_text().splitlines()]
+    ends.update({rule: it.read_text() for rule, _ in said if (it := EXAMPLES / f"{name}.{rule}.out").exists()})
+    same = next((ends[rule] for rule, how in said if how == "ended same" and rule in ends), None)
+    for rule, how in said:
+        program = folder / f"{name}.{rule}.pram"
+        program.write_text(RULE.sub(f"rule {rule};", text, count=1))
+        if how.startswith("fault"):
+            yield ["run", program], output if output.endswith(f"{how}\n") else f"{how}\n", 1
+        else:
+            yield ["run", program], ends.get(rule, same), 0
+
+
+def misjudged(name, text, folder):
+    """What is wrong with the costs of an example of the gallery at its three sizes."""
+    for size, steps, work in zip(sizes(text)["n"], costs(text, "T"), costs(text, "W")):
+        program, values = (folder / f"{name}_{size}.{it}" for it in ("pram", "in"))
+        for file, written in zip((program, values), at_size(name, text, size)):
+            file.write_text(written)
+        done = subprocess.run([PROGRAM, "cost", program, "--input", values], capture_output=True, text=True, timeout=60)
+        if not done.stdout.startswith(f"time {steps}\nwork {work}\n") or done.returncode:
+            yield f"pramc cost {program.name}: not time {steps}, work {work}\n{done.stdout}{done.stderr}"
+
+
 def of_the_gallery(program, text, output, folder):
-    """The calls that show the conflict and the T of an example of the gallery; its T and W are what it costs."""
+    """The calls that show the conflict and the T of an example of the gallery."""
     changed, _, _, fault = change(text)
     (folder / program.name).write_text(changed)
-    steps, work = (int(foot(text)[it].split()[-1]) for it in "TW")
-    costs = subprocess.run([PROGRAM, "cost", program, "--input", EXAMPLES / f"{program.stem}.in"], capture_output=True, text=True, timeout=60)
-    if not costs.stdout.startswith(f"time {steps}\nwork {work}\n"):
-        sys.exit(f"pramc cost {program}: not time {steps}, work {work}\n{costs.stdout}{costs.stderr}")
+    steps = costs(text, "T")[sizes(text)["n"].index(sizes(text)["here"])]
     bounds = [(["meaning", program, "--bound", str(it)], output, status) for it, status in ((steps, 0), (steps - 1, GOES_ON))]
     behind = (["steps", program, "--from", str(steps + 1)], output, 0)
     return [(["run", folder / program.name], f"{fault}\n", 1), *bounds, behind]
@@ -49,9 +77,12 @@ def tried(name, text, folder):
     plan.write_bytes(subprocess.run([PROGRAM, "plan", program], capture_output=True, timeout=60).stdout)
     calls = [(["meaning", program], output, status), (["rules", program], rules, 0), (["exec", plan], output, status)]
     calls += [(["run", program, "--workers", it], output, status) for it in "134"]
+    calls += under_each_rule(name, text, output, folder)
+    found = []
     if foot(text):
         calls += of_the_gallery(program, text, output, folder)
-    return [it for words, *expected in calls for it in wrong([*words, *values], *expected)]
+        found += misjudged(name, text, folder)
+    return found + [it for words, *expected in calls for it in wrong([*words, *values], *expected)]
 
 
 def main():

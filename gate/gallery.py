@@ -1,20 +1,22 @@
 #!/usr/bin/env python3
 """The gallery of examples/, whose programs say at their end what they are.
 
-gallery.py           compares the tables of examples/README.md with the programs
+gallery.py           compares the tables of examples/README.md with the programs, and their T and W with what the analysis comes to
 gallery.py --write   writes the tables
 """
 import re
 import sys
+from math import log2
 from pathlib import Path
 
 EXAMPLES = Path(__file__).resolve().parent.parent / "examples"
 PAGE = EXAMPLES / "README.md"
-FIELDS = ["Algorithm", "Chapter", "Source", "Rule", "T", "W", "Conflict"]
+FIELDS = ["Algorithm", "Chapter", "Source", "Rule", "Sizes", "T", "W", "Conflict"]
 FOOT = re.compile("".join(rf"# {it}: (?P<{it}>.+)\n" for it in FIELDS) + r"\Z")
+COSTS = re.compile(r"(at most )?(.+?)( (?:for|of) .+)?: (\d+), (\d+), (\d+)")
 CHANGE = re.compile(r"(.+?) becomes (.+); (fault .+)")
 TABLES = re.compile(r"(<!-- by gate/gallery.py -->\n).*?(<!-- end -->\n)", re.S)
-HEAD = "| Program | Algorithm | Source | Rule, and why | T | W | A conflict |\n|---|---|---|---|---|---|---|"
+HEAD = "| Program | Algorithm | Source | Rule, and why | Sizes | T | W | A conflict |\n|---|---|---|---|---|---|---|---|"
 
 
 def programs():
@@ -28,20 +30,56 @@ def foot(text):
     return found and found.groupdict()
 
 
+def code(text):
+    """An example of the gallery without what it says of itself."""
+    return text[: FOOT.search(text).start()]
+
+
+def sizes(text):
+    """What each letter stands for at the three sizes, and under `here` the n of the example itself."""
+    *letters, here = foot(text)["Sizes"].split("; ")
+    found = {letter: [int(it) for it in values.split(", ")] for letter, values in (it.split(" = ") for it in letters)}
+    return {**found, "here": int(here.removeprefix("here "))}
+
+
+def costs(text, what):
+    """The T or the W of an example at its three sizes."""
+    return [int(it) for it in COSTS.fullmatch(foot(text)[what]).groups()[-3:]]
+
+
+def formula(text):
+    """A formula of the analysis as one of Python, or nothing where it is an order alone."""
+    if text.startswith("O("):
+        return None
+    for old, new in (("log log n", "log2(log2(n))"), ("log n", "log2(n)"), ("^", "**")):
+        text = text.replace(old, new)
+    return re.sub(r"(?<=[\w)]) (?=[\w(])", " * ", text)
+
+
+def misjudged(name, text, what):
+    """Where the costs of an example aren't those of the analysis."""
+    bound, said, _, *_ = COSTS.fullmatch(foot(text)[what]).groups()
+    wanted = formula(said)
+    *letters, _ = sizes(text)
+    for at, cost in enumerate(costs(text, what)):
+        given = wanted and eval(wanted, {"log2": log2}, {it: sizes(text)[it][at] for it in letters})
+        if wanted and not (cost <= given if bound else cost == given):
+            yield f"examples/{name}.pram: {what} is {cost}, and {said} is {given:g}"
+
+
 def change(text):
     """The text with its conflict, the two pieces in which they differ, and the fault that it comes to."""
     old, new, fault = CHANGE.fullmatch(foot(text)["Conflict"]).groups()
-    code = text[: FOOT.search(text).start()]
-    if code.count(old) != 1:
-        sys.exit(f"examples: this stands {code.count(old)} times: {old}")
-    return code.replace(old, new), old, new, fault
+    if code(text).count(old) != 1:
+        sys.exit(f"examples: this stands {code(text).count(old)} times: {old}")
+    return code(text).replace(old, new), old, new, fault
 
 
 def row(name, text):
     """The row of an example in the table of its chapter."""
     said = {key: value.replace("JaJa", "JáJá") for key, value in foot(text).items()}
     _, old, new, fault = change(text)
-    cells = [f"[`{name}`]({name}.pram)", *(said[it] for it in ("Algorithm", "Source", "Rule", "T", "W")), f"`{old}` as `{new}`: `{fault}`"]
+    cells = [f"[`{name}`]({name}.pram)", *(said[it] for it in ("Algorithm", "Source", "Rule", "Sizes", "T", "W")), f"`{old}` as `{new}`: `{fault}`"]
     return "| " + " | ".join(cells) + " |"
 
 
@@ -60,8 +98,11 @@ def main():
     if sys.argv[1:] == ["--write"]:
         PAGE.write_text(wanted)
     else:
+        wrong = [it for name, text in programs() if foot(text) for what in "TW" for it in misjudged(name, text, what)]
         missing = [name for name, _ in programs() if f"]({name}.pram)" not in page]
-        sys.exit(f"examples/README.md: run {sys.argv[0]} --write; not there: {' '.join(missing)}" if missing or page != wanted else 0)
+        if missing or page != wanted:
+            wrong.append(f"examples/README.md: run {sys.argv[0]} --write; not there: {' '.join(missing)}")
+        sys.exit("\n".join(wrong) or 0)
 
 
 if __name__ == "__main__":
