@@ -10,7 +10,7 @@ all: bin/pramc
 bin/pramc: $(sources)
 	bash gate/build.sh
 
-# Runs every example and every command of the tutorial and compares what they print, and what the examples' code comes to.
+# Runs every example and every command of the documents and compares what they print, and what the examples' code comes to.
 examples:
 	bash gate/examples.sh
 	bash gate/plans.sh
@@ -20,7 +20,7 @@ check:
 	rt all check
 
 # The merge gate: the scripts of gate/, the plans of the examples, the callers that must not compile; then every proof from nothing, every
-# must-fail edit, every test and program; then the examples, the tutorial and hostile use, of the program that this built.
+# must-fail edit, every test and program; then the examples, the documents and hostile use, of the program that this built.
 test:
 	python3 gate/crates_diagram.py
 	python3 gate/definitions.py

@@ -1,5 +1,5 @@
 #!/usr/bin/env bash
-# Runs each example of examples/ and each command of docs/TUTORIAL.md, and compares what they print; draws the trace and the statements of
+# Runs each example of examples/ and each command of the documents, and compares what they print; draws the trace and the statements of
 # each example, and reads what the commands say of it as JSON.
 # The program may be named: the gate names the one that it proved and built. Otherwise it is bin/pramc, which is built first.
 set -eu
@@ -11,7 +11,7 @@ if [ -z "$program" ]; then
     make -C "$top" bin/pramc
 fi
 python3 "$top/gate/examples.py" "$program"
-python3 "$top/gate/tutorial.py" "$program"
+python3 "$top/gate/documents.py" "$program"
 python3 "$top/gate/pictures.py" "$program"
 python3 "$top/gate/step_pictures.py" "$program"
 python3 "$top/gate/json_texts.py" "$program"

@@ -1,5 +1,5 @@
 #!/usr/bin/env bash
-# Every proof from nothing, every wrong body, every test and program; then the examples, the tutorial and hostile use, of the program that
+# Every proof from nothing, every wrong body, every test and program; then the examples, the documents and hostile use, of the program that
 # was proved and built so. The last line is that of the proofs.
 set -eu -o pipefail
 top=$(cd "$(dirname "$0")/.." && pwd)
