@@ -3,7 +3,7 @@
 ghost use Rattle.std.specs.Prelude.{◌<◌, ◌^◌, string_bytes};
 ghost use Rattle.program_calls.specs.Written.{Wrote};
 
-use pram_syntax::{Out, WriteFault};
+use pram_syntax::Out;
 use program_texts::{Status, Stop, finish};
 
 /// Writes a text of JSON lines, whole.
@@ -15,8 +15,6 @@ pub(crate) fn write_json<'a, O: Out>(
     requires out { (O.Out.state out.old).failures < 2 ^ 62 }
     ensures written { Wrote status (string_bytes text.now) (O.Out.state out.old) (O.Out.state out.new) result }
 {
-    match out.write_all(text.as_bytes()) {
-        Ok(()) => finish(out, status),
-        Err(WriteFault) => Err(Stop::WriteFailed),
-    }
+    out.write_all(text.as_bytes())?;
+    finish(out, status)
 }

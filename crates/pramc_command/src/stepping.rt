@@ -74,13 +74,8 @@ fn write_told<'a, O: Out>(
         (spec.told_text layout.now manner.now outcome.now (map entry_is entries.now) words.from words.to)
         (O.Out.state out.old) (O.Out.state out.new) result }
 {
-    match write_entries_and_outcome(out, layout, outcome, entries, manner, words) {
-        Ok(()) => {
-            let status = Status::of(outcome);
-            finish(out, status)
-        }
-        Err(WriteFault) => Err(Stop::WriteFailed),
-    }
+    write_entries_and_outcome(out, layout, outcome, entries, manner, words)?;
+    finish(out, Status::of(outcome))
 }
 
 // In words.
@@ -121,13 +116,8 @@ fn write_pictured<'a, O: Out>(
     ensures written { Wrote (status_of outcome.now) (picture layout.now (map entry_is entries.now))
         (O.Out.state out.old) (O.Out.state out.new) result }
 {
-    match write_picture(out, layout, entries) {
-        Ok(()) => {
-            let status = Status::of(outcome);
-            finish(out, status)
-        }
-        Err(WriteFault) => Err(Stop::WriteFailed),
-    }
+    write_picture(out, layout, entries)?;
+    finish(out, Status::of(outcome))
 }
 
 // Drawn.
@@ -172,13 +162,8 @@ fn write_paged<'a, O: Out>(out: &mut O, outcome: &Outcome, facts: &[u8]) -> Resu
     ensures written { (kept : ℕ) × IsCut facts.now kept
         × Wrote (status_of outcome.now) (page facts.now kept) (O.Out.state out.old) (O.Out.state out.new) result }
 {
-    match write_page(out, facts) {
-        Ok(()) => {
-            let status = Status::of(outcome);
-            finish(out, status)
-        }
-        Err(WriteFault) => Err(Stop::WriteFailed),
-    }
+    write_page(out, facts)?;
+    finish(out, Status::of(outcome))
 }
 
 // As a page.

@@ -42,13 +42,8 @@ pub(crate) fn write_outcome<'a, O: Out>(
     ensures written { Wrote (status_of outcome.now) (shown layout.now (verdict_of outcome.now))
         (O.Out.state out.old) (O.Out.state out.new) result }
 {
-    match show(layout, outcome, out) {
-        Ok(()) => {
-            let status = Status::of(outcome);
-            finish(out, status)
-        }
-        Err(WriteFault) => Err(Stop::WriteFailed),
-    }
+    show(layout, outcome, out)?;
+    finish(out, Status::of(outcome))
 }
 
 // A run's costs, as far as they are asked for.
@@ -99,13 +94,8 @@ pub(crate) fn write_costs<'a, O: Out>(
         ++ shown layout.now (verdict_of outcome.now))
         (O.Out.state out.old) (O.Out.state out.new) result }
 {
-    match write_numbers_and_outcome(out, layout, outcome, cost, words) {
-        Ok(()) => {
-            let status = Status::of(outcome);
-            finish(out, status)
-        }
-        Err(WriteFault) => Err(Stop::WriteFailed),
-    }
+    write_numbers_and_outcome(out, layout, outcome, cost, words)?;
+    finish(out, Status::of(outcome))
 }
 
 /// Writes how a program comes out under each rule.
@@ -117,10 +107,8 @@ pub(crate) fn write_rules<'a, O: Out>(
     ensures written { Wrote Done (comparison_text comparison.now)
         (O.Out.state out.old) (O.Out.state out.new) result }
 {
-    match show_comparison(comparison, out) {
-        Ok(()) => finish(out, Status::Done),
-        Err(WriteFault) => Err(Stop::WriteFailed),
-    }
+    show_comparison(comparison, out)?;
+    finish(out, Status::Done)
 }
 
 /// Writes the exchanges of a run.
@@ -133,13 +121,8 @@ pub(crate) fn write_exchanges<'a, O: Out>(
     ensures written { Wrote (status_of outcome.now) (trace_text counts.now)
         (O.Out.state out.old) (O.Out.state out.new) result }
 {
-    match write_trace(counts, out) {
-        Ok(()) => {
-            let status = Status::of(outcome);
-            finish(out, status)
-        }
-        Err(WriteFault) => Err(Stop::WriteFailed),
-    }
+    write_trace(counts, out)?;
+    finish(out, Status::of(outcome))
 }
 
 /// Writes a picture of the exchanges of a run.
@@ -152,13 +135,8 @@ pub(crate) fn write_drawn<'a, O: Out>(
     ensures written { Wrote (status_of outcome.now) (picture counts.now)
         (O.Out.state out.old) (O.Out.state out.new) result }
 {
-    match write_picture(counts, out) {
-        Ok(()) => {
-            let status = Status::of(outcome);
-            finish(out, status)
-        }
-        Err(WriteFault) => Err(Stop::WriteFailed),
-    }
+    write_picture(counts, out)?;
+    finish(out, Status::of(outcome))
 }
 
 /// Writes the listing of a program's code.
@@ -167,10 +145,8 @@ pub(crate) fn write_plan<'a, O: Out>(out: &mut O, code: &Code) -> Result<Status,
     ensures written { Wrote Done (spelling code.now)
         (O.Out.state out.old) (O.Out.state out.new) result }
 {
-    match write_listing(code, out) {
-        Ok(()) => finish(out, Status::Done),
-        Err(WriteFault) => Err(Stop::WriteFailed),
-    }
+    write_listing(code, out)?;
+    finish(out, Status::Done)
 }
 
 /// Writes what there is to say of a subject.
@@ -179,10 +155,8 @@ pub(crate) fn write_subject<'a, O: Out>(out: &mut O, subject: Subject) -> Result
     ensures written { Wrote Done (explanation subject)
         (O.Out.state out.old) (O.Out.state out.new) result }
 {
-    match write_explanation(out, subject) {
-        Ok(()) => finish(out, Status::Done),
-        Err(WriteFault) => Err(Stop::WriteFailed),
-    }
+    write_explanation(out, subject)?;
+    finish(out, Status::Done)
 }
 
 /// Writes the version.
@@ -191,10 +165,8 @@ pub(crate) fn write_version<'a, O: Out>(out: &mut O) -> Result<Status, Stop<'a>>
     ensures written { Wrote Done version_text
         (O.Out.state out.old) (O.Out.state out.new) result }
 {
-    match write_version_line(out) {
-        Ok(()) => finish(out, Status::Done),
-        Err(WriteFault) => Err(Stop::WriteFailed),
-    }
+    write_version_line(out)?;
+    finish(out, Status::Done)
 }
 
 fn write_version_line<O: Out>(out: &mut O) -> Result<(), WriteFault>
@@ -210,10 +182,8 @@ pub(crate) fn write_accepted<'a, O: Out>(out: &mut O, program: &Program) -> Resu
     ensures written { Wrote Done (accepted_line program.now)
         (O.Out.state out.old) (O.Out.state out.new) result }
 {
-    match write_accepted_line(out, program) {
-        Ok(()) => finish(out, Status::Done),
-        Err(WriteFault) => Err(Stop::WriteFailed),
-    }
+    write_accepted_line(out, program)?;
+    finish(out, Status::Done)
 }
 
 fn write_accepted_line<O: Out>(out: &mut O, program: &Program) -> Result<(), WriteFault>

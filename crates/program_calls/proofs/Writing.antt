@@ -1,8 +1,8 @@
 -- What a call has written, by what was written and what the last flush said.
 use Rattle.std.proofs.Common.{◌≡◌, ◌∙◌, List, [], ℕ, ap, inl, inr, refl, sym, subst}
 use Rattle.std.proofs.lemmas.List.{append-nil}
-use Rattle.std.specs.Prelude.{true, false, Result, Ok, Err, IfOk, IfErr, OnErr, OnOk, is_ok}
-use Rattle.text_out.specs.Out.{OutState, Writes, with_bytes, with_failure}
+use Rattle.std.specs.Prelude.{true, false, Result, Ok, Err, IfOk, IfErr, IsErrAnd, OnErr, OnOk, is_ok}
+use Rattle.text_out.specs.Out.{OutState, StopsIn, Writes, with_bytes, with_failure}
 use Rattle.program_texts.specs.declared.status.Status.{Status}
 use Rattle.program_texts.specs.declared.stop.Stop.{Stop}
 use Rattle.program_texts.specs.declared.stop.Stop.TheVariants.{WriteFailed}
@@ -18,6 +18,12 @@ wrote ends given text old mid new (Err why) is written ok failed = (
   failed.0,
   record { front = text; rest = []; whole = sym (append-nil text); stopped = failed.1 ∙ ap with_failure written },
 )
+
+-- a beginning of it, and the writer failed
+pub cut_off : (ends : Status) (text : List ℕ) (old new : OutState) (r : Result Status Stop) → IsErrAnd r (λ why. why ≡ WriteFailed) →
+    StopsIn old new text → Wrote ends text old new r
+cut_off ends text old new (Ok s) is stops = absurd is
+cut_off ends text old new (Err why) is stops = (is, stops)
 
 -- a text was written whole, and then the stream was flushed, whatever came of it
 pub reported : {E F : Type 0} (old mid new : OutState) (given text : List ℕ) (r : Result Unit E) (flushed : Result Unit F) → given ≡ text →
