@@ -28,6 +28,8 @@ mod rows;
 #[cfg(test)]
 mod rows_check;
 #[cfg(test)]
+mod rows_check_limits;
+#[cfg(test)]
 mod rows_command;
 #[cfg(test)]
 mod rows_order;
