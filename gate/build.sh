@@ -6,6 +6,9 @@ top=$(cd "$(dirname "$0")/.." && pwd)
 log=$(mktemp)
 trap 'rm -f "$log"' EXIT
 
+if ! [ -e "$top/crates/pramc_cli/out" ]; then
+    echo "Each crate of the program is proved: that takes twenty minutes to an hour, the first five of them without a word."
+fi
 cd "$top/crates/pramc_cli"
 # `rt run` is the toolchain's way to link a program
 if ! rt run -- check ../../examples/sum.pram 2>&1 | tee "$log" | sed -un 's/^crate \([a-z_]*\): .*/proved: \1/p'; then
