@@ -6,7 +6,7 @@ use Rattle.pram_tokens.specs.declared.error.TextFault.TheVariants as fault
 use Rattle.pram_names.specs.declared.fault.Breach.{Breach}
 use Rattle.pram_syntax.specs.Program.{ProgramTree}
 use Rattle.pram_parser.specs.Text.{IsTextOf}
-use Rattle.text_places.specs.Excerpts.{excerpt}
+use Rattle.text_places.specs.Excerpts.{excerpt, line_excerpt}
 use Rattle.program_texts.specs.declared.from_text.Refusal.{Refusal}
 use Rattle.program_texts.specs.declared.from_text.Refusal.TheVariants as refusal
 use Rattle.program_texts.specs.declared.stop.Stop.{Stop}
@@ -22,12 +22,14 @@ use Rattle.diagnoses.specs.Breaches.{breach_diagnosis}
 abbrev pub of_text : TextFault → About → Remark → List ℕ
 of_text f about.Nothing r = []
 of_text f (about.Text s) r = text_diagnosis s f r
+of_text f (about.Line s line) r = []
 of_text f (about.Values values cells) r = []
 
 -- a program that is refused
 abbrev pub of_program : Breach → About → Remark → List ℕ
 of_program b about.Nothing r = []
 of_program b (about.Text s) r = breach_diagnosis s b r
+of_program b (about.Line s line) r = []
 of_program b (about.Values values cells) r = []
 
 abbrev pub too_many : (values cells : ℕ) → List ℕ
@@ -37,6 +39,7 @@ too_many values cells = codes "the input has " ++ (decimal values ++ (codes " va
 abbrev pub of_input : About → List ℕ
 of_input about.Nothing = []
 of_input (about.Text s) = []
+of_input (about.Line s line) = []
 of_input (about.Values values cells) = too_many values cells
 
 abbrev pub of_refusal : Refusal → About → Remark → List ℕ
@@ -58,6 +61,7 @@ line_fault s at = excerpt s.name.now s.bytes.items at ++ line_sentence
 abbrev pub of_listing : ℕ → About → List ℕ
 of_listing at about.Nothing = []
 of_listing at (about.Text s) = line_fault s at
+of_listing at (about.Line s line) = []
 of_listing at (about.Values values cells) = []
 
 -- what the word for the reason means
@@ -72,9 +76,19 @@ reason_sentence word =
     else (if same_text word (codes "exchange") then codes "an exchange, a reply, a read or a put may not stand there\n"
     else codes "it is the last one and goes on, or there are no instructions\n"))))))
 
+abbrev pub instruction_fault : ℕ → List ℕ → List ℕ
+instruction_fault at word = codes "instruction " ++ (decimal at ++ (codes ": " ++ reason_sentence word))
+
+-- the line that is meant, where one is known
+abbrev pub meant_line : About → List ℕ
+meant_line about.Nothing = []
+meant_line (about.Text s) = []
+meant_line (about.Line s line) = line_excerpt s.name.now s.bytes.items line
+meant_line (about.Values values cells) = []
+
 -- code that isn't well formed
-abbrev pub of_code : ℕ → List ℕ → List ℕ
-of_code at word = codes "instruction " ++ (decimal at ++ (codes ": " ++ reason_sentence word))
+abbrev pub of_code : ℕ → List ℕ → About → List ℕ
+of_code at word a = meant_line a ++ instruction_fault at word
 
 -- what is said behind the line, by what is known besides, and by what there is to say of a name or of a token
 abbrev pub stop_diagnosis : Stop → About → Remark → List ℕ
@@ -82,7 +96,7 @@ stop_diagnosis (stop.Words text) a r = []
 stop_diagnosis (stop.Number word) a r = []
 stop_diagnosis (stop.Unreadable name) a r = codes "this file can't be read\n"
 stop_diagnosis (stop.Refused refusal) a r = of_refusal refusal a r
-stop_diagnosis (stop.NotVerified at word) a r = of_code at word.now
+stop_diagnosis (stop.NotVerified at word) a r = of_code at word.now a
 stop_diagnosis (stop.BadListing at) a r = of_listing at a
 stop_diagnosis stop.WriteFailed a r = codes "standard output failed: what stands there is a beginning of the text\n"
 
@@ -90,12 +104,14 @@ stop_diagnosis stop.WriteFailed a r = codes "standard output failed: what stands
 abbrev pub IsRemarkIn : Breach → About → Remark → Type 0
 IsRemarkIn b about.Nothing r = r ≡ Nothing
 IsRemarkIn b (about.Text s) r = (tree : ProgramTree) → IsTextOf s.bytes.items tree → IsRemark s.bytes.items tree b r
+IsRemarkIn b (about.Line s line) r = r ≡ Nothing
 IsRemarkIn b (about.Values values cells) r = r ≡ Nothing
 
 -- and of a token with which no program goes on
 abbrev pub IsExpectationIn : ℕ → About → Remark → Type 0
 IsExpectationIn at about.Nothing r = r ≡ Nothing
 IsExpectationIn at (about.Text s) r = IsExpectation s.bytes.items at r
+IsExpectationIn at (about.Line s line) r = r ≡ Nothing
 IsExpectationIn at (about.Values values cells) r = r ≡ Nothing
 
 abbrev pub HasRemark : Stop → About → Remark → Type 0

@@ -9,6 +9,8 @@ pub enum About<'a> {
     Nothing,
     /// The text that is refused.
     Text(Source<'a>),
+    /// The text of a listing whose code is refused, and the line of the instruction that is meant, counted from 1.
+    Line { source: Source<'a>, line: usize },
     /// How many values an input has, and how many cells there are for them.
     Values { values: usize, cells: u32 },
 }

@@ -17,7 +17,7 @@ use pram_syntax::TextFault;
 use program_texts::{Refusal, Stop};
 use std::alloc::Global;
 use text_out::{Out, WriteFault};
-use text_places::write_excerpt;
+use text_places::{write_excerpt, write_line_excerpt};
 
 fn write_text<W: Out>(
     out: &mut W,
@@ -31,6 +31,7 @@ fn write_text<W: Out>(
     match about {
         About::Text(source) => write_text_fault(out, source, fault, remark),
         About::Nothing => out.write_all(b""),
+        About::Line { .. } => out.write_all(b""),
         About::Values { .. } => out.write_all(b""),
     }
 }
@@ -47,6 +48,7 @@ fn write_program<W: Out>(
     match about {
         About::Text(source) => write_breach(out, source, breach, remark),
         About::Nothing => out.write_all(b""),
+        About::Line { .. } => out.write_all(b""),
         About::Values { .. } => out.write_all(b""),
     }
 }
@@ -74,6 +76,7 @@ fn write_input<W: Out>(out: &mut W, about: &About<'_>) -> Result<(), WriteFault>
         About::Values { values, cells } => write_too_many(out, *values, *cells),
         About::Nothing => out.write_all(b""),
         About::Text(_) => out.write_all(b""),
+        About::Line { .. } => out.write_all(b""),
     }
 }
 
@@ -127,6 +130,7 @@ fn write_listing<W: Out>(out: &mut W, at: u32, about: &About<'_>) -> Result<(), 
     match about {
         About::Text(source) => write_line_fault(out, source, at),
         About::Nothing => out.write_all(b""),
+        About::Line { .. } => out.write_all(b""),
         About::Values { .. } => out.write_all(b""),
     }
 }
@@ -160,9 +164,9 @@ fn reason_sentence(word: &[u8]) -> &'static [u8]
     }
 }
 
-fn write_code<W: Out>(out: &mut W, at: u32, word: &[u8]) -> Result<(), WriteFault>
+fn write_instruction_fault<W: Out>(out: &mut W, at: u32, word: &[u8]) -> Result<(), WriteFault>
     requires counted { (W.Out.state out.old).failures < 2 ^ 63 }
-    ensures written { Writes (W.Out.state out.old) (W.Out.state out.new) (spec.of_code at word.now) result }
+    ensures written { Writes (W.Out.state out.old) (W.Out.state out.new) (spec.instruction_fault at word.now) result }
 {
     let mut digits = Buffer::new();
     out.write_parts(&[
@@ -171,6 +175,34 @@ fn write_code<W: Out>(out: &mut W, at: u32, word: &[u8]) -> Result<(), WriteFaul
         b": ",
         reason_sentence(word),
     ])
+}
+
+// The line that is meant, where one is known.
+fn write_line<W: Out>(out: &mut W, about: &About<'_>) -> Result<(), WriteFault>
+    requires counted { (W.Out.state out.old).failures < 2 ^ 63 }
+    ensures written { Writes (W.Out.state out.old) (W.Out.state out.new) (spec.meant_line about.now) result }
+{
+    match about {
+        About::Line { source, line } => {
+            write_line_excerpt(out, source.name.as_bytes(), source.bytes.as_slice(), *line)
+        }
+        About::Nothing => out.write_all(b""),
+        About::Text(_) => out.write_all(b""),
+        About::Values { .. } => out.write_all(b""),
+    }
+}
+
+fn write_code<W: Out>(
+    out: &mut W,
+    at: u32,
+    word: &[u8],
+    about: &About<'_>,
+) -> Result<(), WriteFault>
+    requires counted { (W.Out.state out.old).failures < 2 ^ 63 }
+    ensures written { Writes (W.Out.state out.old) (W.Out.state out.new) (spec.of_code at word.now about.now) result }
+{
+    write_line(out, about)?;
+    write_instruction_fault(out, at, word)
 }
 
 // What is said, by what there is to say of a name or of a token.
@@ -188,7 +220,7 @@ fn write_said<W: Out>(
         Stop::Number(_) => out.write_all(b""),
         Stop::Unreadable(_) => out.write_all(b"this file can't be read\n"),
         Stop::Refused(refusal) => write_refusal(out, *refusal, about, remark),
-        Stop::NotVerified(at, reason) => write_code(out, *at, reason.as_bytes()),
+        Stop::NotVerified(at, reason) => write_code(out, *at, reason.as_bytes(), about),
         Stop::BadListing(at) => write_listing(out, *at, about),
         Stop::WriteFailed => {
             out.write_all(b"standard output failed: what stands there is a beginning of the text\n")
@@ -203,6 +235,7 @@ fn remark_in(alloc: Global, breach: Breach, about: &About<'_>) -> Remark
     match about {
         About::Text(source) => remark_of(alloc, source.bytes.as_slice(), breach),
         About::Nothing => Remark::Nothing,
+        About::Line { .. } => Remark::Nothing,
         About::Values { .. } => Remark::Nothing,
     }
 }
@@ -214,6 +247,7 @@ fn expected_in(alloc: Global, at: u32, about: &About<'_>) -> Remark
     match about {
         About::Text(source) => expected_at(alloc, source.bytes.as_slice(), at),
         About::Nothing => Remark::Nothing,
+        About::Line { .. } => Remark::Nothing,
         About::Values { .. } => Remark::Nothing,
     }
 }

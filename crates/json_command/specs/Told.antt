@@ -84,6 +84,7 @@ Performs old new (Err h) = IsStopped h.stop old new × IsKnown h.stop h.about
 abbrev pub text_of : About → List ℕ
 text_of about.Nothing = []
 text_of (about.Text s) = s.bytes.items
+text_of (about.Line s line) = []
 text_of (about.Values values cells) = []
 
 -- The line of a refusal stands there, as far as it is taken: its facts, with its place in the text that was refused.

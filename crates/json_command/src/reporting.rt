@@ -20,6 +20,7 @@ fn text_of<'a>(about: &'a About<'_>) -> &'a [u8]
     match about {
         About::Nothing => b"",
         About::Text(source) => source.bytes.as_slice(),
+        About::Line { .. } => b"",
         About::Values { .. } => b"",
     }
 }

@@ -19,7 +19,7 @@ const CHECK: &[&str] = &["check", "program", "--explain"];
 const RUN: &[&str] = &["run", "program", "--input", "input", "--explain"];
 
 // A column counts the bytes of its line from 1, and a text's end has the place behind its last byte.
-const TEXTS: [Row; 12] = [
+const TEXTS: [Row; 14] = [
     (
         CHECK,
         b"rule crew; # \xc3\xa9\nprocs 1;\nbegin\nend\n",
@@ -116,7 +116,25 @@ const TEXTS: [Row; 12] = [
         b"bsp 1\nrule crew\nprocs 1\nuniform 0\nprivate 0\ncode 2\n0 reply\n1 halt\n",
         b"",
         b"",
-        b"refused E14 NotVerified at 0 exchange\ninstruction 0: an exchange, a reply, a read or a put may not stand there\n",
+        b"refused E14 NotVerified at 0 exchange\nprogram:7\n0 reply\ninstruction 0: an exchange, a reply, a read or a put may not stand there\n",
+        2,
+    ),
+    // The declarations of a listing stand before its instructions.
+    (
+        &["exec", "program", "--explain"],
+        b"bsp 1\nrule crew\nprocs 1\ncell s\narray a 1 2\nuniform 1\nprivate 0\ncode 3\n0 uset 0 5\n1 jump 9\n2 halt\n",
+        b"",
+        b"",
+        b"refused E14 NotVerified at 1 target\nprogram:10\n1 jump 9\ninstruction 1: its target is no instruction, or is neither above it nor a mark\n",
+        2,
+    ),
+    // Without instructions it is the line behind the last one that is missed.
+    (
+        &["exec", "program", "--explain"],
+        b"bsp 1\nrule crew\nprocs 1\nuniform 0\nprivate 0\ncode 0\n",
+        b"",
+        b"",
+        b"refused E14 NotVerified at 0 end\nprogram:7\n\ninstruction 0: it is the last one and goes on, or there are no instructions\n",
         2,
     ),
 ];

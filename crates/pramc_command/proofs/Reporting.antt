@@ -20,11 +20,13 @@ use Rattle.pramc_command.specs.Explained.{refusal_text}
 nothing_in : (b : Breach) (a : About) → IsRemarkIn b a Nothing
 nothing_in b about.Nothing = refl
 nothing_in b (about.Text s) = λ tree is. inr refl
+nothing_in b (about.Line s line) = refl
 nothing_in b (about.Values values cells) = refl
 
 nothing_at : (at : ℕ) (a : About) → IsExpectationIn at a Nothing
 nothing_at at about.Nothing = refl
 nothing_at at (about.Text s) = inr refl
+nothing_at at (about.Line s line) = refl
 nothing_at at (about.Values values cells) = refl
 
 nothing_of : (f : TextFault) (a : About) → HasRemark (stop.Refused (refusal.Text f)) a Nothing

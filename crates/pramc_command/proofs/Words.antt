@@ -24,6 +24,6 @@ no_words_are_known (stop.Words text) h = tt
 no_words_are_known (stop.Number word) h = tt
 no_words_are_known (stop.Unreadable name) h = tt
 no_words_are_known (stop.Refused r) h = subst (λ q. IsKnownOf q about.Nothing) (sym h) tt
-no_words_are_known (stop.NotVerified at reason) h = tt
+no_words_are_known (stop.NotVerified at reason) h = absurd h
 no_words_are_known (stop.BadListing at) h = absurd h
 no_words_are_known stop.WriteFailed h = tt

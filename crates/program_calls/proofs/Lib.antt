@@ -2,3 +2,4 @@ pub mod Reasons
 pub mod Costs
 pub mod Writing
 pub mod Listings
+pub mod Layouts

@@ -2,14 +2,15 @@
 
 ghost use Rattle.std.specs.Prelude.{◌≡◌, ℕ, List, IfOk, IfErr, Err};
 ghost use Rattle.superstep_code.specs.Code.{SuperstepCode};
-ghost use Rattle.superstep_listing.specs.Text.{IsFaultOf};
+ghost use Rattle.superstep_code.specs.Limits.{IsCode};
+ghost use Rattle.superstep_listing.specs.Text.{IsFaultOf, IsListing};
 ghost use Rattle.bsp_verify.specs.WellFormed.{IsWellFormed};
 ghost use Rattle.bsp_verify.specs.FirstFault.{IsRefusal};
 ghost use Rattle.program_texts.specs.Report.{IsProgramOf};
 ghost use Rattle.program_calls.specs.Found.{IsAListing};
 ghost use Rattle.program_calls.specs.Stops.{IsTrueStop};
 ghost use Rattle.program_calls.specs.Stops.{reason_word as spec_reason_word};
-ghost use Rattle.program_calls.specs.Known.{IsKnownAlone, IsOfListing, IsTrueHalt};
+ghost use Rattle.program_calls.specs.Known.{IsKnownAlone, IsOfListing, IsTrueHalt, line_of_instruction};
 
 use crate::halted::Halted;
 use crate::loaded::Loaded;
@@ -19,6 +20,7 @@ use pram_syntax::{TextFault, read_input};
 use pram_tokens::LONGEST;
 use program_texts::{Refusal, SourceFault, Sources, Stop, read_program};
 use std::alloc::Global;
+use superstep_code::Code;
 use superstep_listing::{LONGEST as LONGEST_LISTING, ListingFault, read_listing};
 
 // The bytes of a file, up to one more than the most that its text may have.
@@ -114,13 +116,32 @@ fn reason_word(reason: Reason) -> &'static str
     }
 }
 
-// Why code is not run.
-fn stop_of_code<'a>(fault: VerifyFault) -> Stop<'a>
-    ensures { (code : SuperstepCode) → IsRefusal code fault → IsKnownAlone result }
+// The line of a listing on which an instruction stands: six stand before the first one, and one for each declaration.
+fn line_of(code: &Code, at: u32) -> usize
+    requires { IsCode code.now }
+    ensures { result ≡ line_of_instruction code.now at }
+{
+    code.layout().len() + 7 + at as usize
+}
+
+// Why the code of a listing is not run, and the line where it is wrong.
+fn halted_listing<'a>(fault: VerifyFault, code: &Code, source: Source<'a>) -> Halted<'a>
+    requires listing { IsListing source.bytes.items code.now }
+    requires refused { IsRefusal code.now fault }
+    ensures { IsTrueHalt result }
 {
     match fault {
-        VerifyFault::NotVerified { at, reason } => Stop::NotVerified(at, reason_word(reason)),
-        VerifyFault::OutOfMemory => Stop::Refused(Refusal::OutOfMemory),
+        VerifyFault::NotVerified { at, reason } => {
+            let line = line_of(code, at);
+            Halted {
+                stop: Stop::NotVerified(at, reason_word(reason)),
+                about: About::Line { source, line },
+            }
+        }
+        VerifyFault::OutOfMemory => Halted {
+            stop: Stop::Refused(Refusal::OutOfMemory),
+            about: About::Nothing,
+        },
     }
 }
 
@@ -145,9 +166,9 @@ pub fn load_listing<'a, S: Sources>(
     };
     match verify(alloc, code) {
         Ok(verified) => Ok(verified),
-        Err((fault, _code)) => Err(Halted {
-            stop: stop_of_code(fault),
-            about: About::Nothing,
-        }),
+        Err((fault, code)) => {
+            let source = source_of(Kind::Listing, name, bytes);
+            Err(halted_listing(fault, &code, source))
+        }
     }
 }

@@ -6,6 +6,3 @@ pub returns-in-Err-clause-refused : goal.returns-in-Err-clause-refused
 returns-in-Err-clause-refused g c =
     listing_halts c.stop_of_listing.result c.source_of.result c.deref.result.now (c.deref.ensures.value ∙ sym c.source_of.ensures)
     (c.stop_of_listing.ensures c.deref.result.now c.in-Err.ensures.refused)
-
-pub returns-clause-refused : goal.returns-clause-refused
-returns-clause-refused g c = c.stop_of_code.ensures c.in-Ok.code c.in-Err-verify.ensures.refused
