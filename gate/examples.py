@@ -2,9 +2,9 @@
 """Runs each example of examples/ with its input, and compares all that it writes, and its exit status, with the files beside it.
 
 examples.py PROGRAM: by its definition, by 1, 3 and 4 workers, and from the listing of its plan; with each rule in the place of its own,
-where NAME.RULE.out has what it writes if that is neither what NAME.out has nor a fault alone. Those of the gallery also with the change that
-gives a conflict, within as many statements as their T, and one less, with which they go on; as many statements are told of them, and no
-more, and they cost their T and W at three sizes.
+where NAME.RULE.out has what it writes if that is neither what NAME.out has nor a fault alone. Those of the gallery also with the change
+that gives a conflict, within as many statements as their T, and one less, with which they go on; as many statements are told of them,
+and no more, and they cost their T and W at three sizes.
 """
 import re
 import subprocess
@@ -47,7 +47,7 @@ def under_each_rule(name, text, output, folder):
             yield ["run", program], ends.get(rule, same), 0
 
 
-def misjudged(name, text, folder):
+def miscounted(name, text, folder):
     """What is wrong with the costs of an example of the gallery at its three sizes."""
     for size, steps, work in zip(sizes(text)["n"], costs(text, "T"), costs(text, "W")):
         program, values = (folder / f"{name}_{size}.{it}" for it in ("pram", "in"))
@@ -81,7 +81,7 @@ def tried(name, text, folder):
     found = []
     if foot(text):
         calls += of_the_gallery(program, text, output, folder)
-        found += misjudged(name, text, folder)
+        found += miscounted(name, text, folder)
     return found + [it for words, *expected in calls for it in wrong([*words, *values], *expected)]
 
 

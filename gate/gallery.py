@@ -56,7 +56,7 @@ def formula(text):
     return re.sub(r"(?<=[\w)]) (?=[\w(])", " * ", text)
 
 
-def misjudged(name, text, what):
+def unlike_the_analysis(name, text, what):
     """Where the costs of an example aren't those of the analysis."""
     bound, said, _, *_ = COSTS.fullmatch(foot(text)[what]).groups()
     wanted = formula(said)
@@ -98,7 +98,7 @@ def main():
     if sys.argv[1:] == ["--write"]:
         PAGE.write_text(wanted)
     else:
-        wrong = [it for name, text in programs() if foot(text) for what in "TW" for it in misjudged(name, text, what)]
+        wrong = [it for name, text in programs() if foot(text) for what in "TW" for it in unlike_the_analysis(name, text, what)]
         missing = [name for name, _ in programs() if f"]({name}.pram)" not in page]
         if missing or page != wanted:
             wrong.append(f"examples/README.md: run {sys.argv[0]} --write; not there: {' '.join(missing)}")

@@ -57,14 +57,14 @@ def ring_rounds(n):
     return rounds
 
 
-def edges(n):
+def tree_edges(n):
     """From the parent of each vertex but the first to it, in a tree whose vertices have two children."""
     return [(it // 2, it) for it in range(2, n + 1)]
 
 
 def tour(arcs):
     """The ends of the arcs of that tree, two for each edge, and which arc stands behind each among those that leave the same vertex."""
-    ways = [way for parent, child in edges(arcs // 2 + 1) for way in ((parent, child), (child, parent))]
+    ways = [way for parent, child in tree_edges(arcs // 2 + 1) for way in ((parent, child), (child, parent))]
     leaving = {}
     for number, (vertex, _) in enumerate(ways, 1):
         leaving.setdefault(vertex, []).append(number)
@@ -72,22 +72,35 @@ def tour(arcs):
     return [end for _, end in ways] + [behind[it] for it in numbers(arcs)]
 
 
-def tree_levels(n):
-    return [it for side in zip(*edges(n)) for it in side]
-
-
-def fours(n):
-    """The ends of edges between vertices four apart, n - 4 of them, or of the path of four."""
+def spaced_edges(n):
+    """Between all vertices that are four apart, and of four vertices the path."""
     apart = 4 if n > 4 else 1
-    return [*numbers(n - apart), *range(apart + 1, n + 1)]
+    return [(it, it + apart) for it in numbers(n - apart)]
 
 
-# For each program what stands at size n in place of its numbers, and an input of that size.
-AT = {
+def by_ends(edges):
+    """Where the edges begin, and then where they end."""
+    return [it for ends in zip(*edges) for it in ends]
+
+
+def component_numbers(n):
+    """The numbers of a program for n vertices and the edges between them; the example's own graph has six."""
+    m = 6 if n == 8 else len(spaced_edges(n))
+    return {"3": log(n), "6": m, "8": n, "12": 2 * m, "95": 2 * m * n - 1, "96": 2 * m * n}
+
+
+def search_numbers(n):
+    """The same for a breadth-first search; the example's own graph has ten edges."""
+    m = 10 if n == 8 else n - 1
+    return {"procs 10": f"procs {max(n, m)}", "8": n, "10": m}
+
+
+# What stands at size n in place of a program's numbers, and an input of that size.
+NUMBERS_AND_INPUT = {
     "bitonic_sort": lambda n: ({"3": n // 2 - 1, "4": n // 2, "7": n - 1, "8": n}, falling(n)),
-    "breadth_first": lambda n: ({"procs 10": f"procs {10 if n == 8 else n}", "8": n, "10": 10 if n == 8 else n - 1}, tree_levels(n)),
+    "breadth_first": lambda n: (search_numbers(n), by_ends(tree_edges(n))),
     "collatz": lambda n: ({"6": n}, []),
-    "connected_components": lambda n: (components(n, 6 if n == 8 else len(fours(n)) // 2), fours(n)),
+    "connected_components": lambda n: (component_numbers(n), by_ends(spaced_edges(n))),
     "list_ranking": lambda n: ({"3": log(n), "8": n}, chain(n)),
     "matrix_product": lambda n: ({"0 to 1": f"0 to {n - 1}", "2": n, "3": n * n - 1, "4": n * n}, numbers(2 * n * n)),
     "matrix_product_sum": lambda n: ({"2": n, "3": n * n - 1, "4": n * n, "7": n**3 - 1, "8": n**3}, numbers(2 * n * n)),
@@ -100,15 +113,13 @@ AT = {
     "prefix_sums": lambda n: ({"8": n}, DIGITS[:n]),
     "prefix_tree": lambda n: ({"7": n - 1, "8": n, "15": 2 * n - 1}, DIGITS[:n]),
     "ring_colouring": lambda n: ({"1 to 2": f"1 to {ring_rounds(n)}", "15": n - 1, "16": n}, ring(n)),
-    "string_matching": lambda n: ({"7": n - 4, "10": n - 1, "31": 4 * n - 13, "32": 4 * n - 12}, [1 + it % 2 for it in range(n)] + [1, 2, 1, 2]),
+    "string_matching": lambda n: (
+        {"7": n - 4, "10": n - 1, "31": 4 * n - 13, "32": 4 * n - 12},
+        [*(1 + it % 2 for it in range(n)), 1, 2, 1, 2],
+    ),
     "tree_depths": lambda n: ({"3": log(n), "5": n // 2 + 1, "8": n}, tour(n)),
     "tree_sum": lambda n: ({"8": n}, numbers(n)),
 }
-
-
-def components(n, m):
-    """What stands in place of the numbers of vertices and edges."""
-    return {"3": log(n), "6": m, "8": n, "12": 2 * m, "95": 2 * m * n - 1, "96": 2 * m * n}
 
 
 def replaced(text, pieces):
@@ -120,7 +131,7 @@ def replaced(text, pieces):
 
 def at_size(name, text, n):
     """The program at size n, and its input. For the example's own size these are its own."""
-    pieces, values = AT[name](n)
+    pieces, values = NUMBERS_AND_INPUT[name](n)
     found = replaced(code(text), pieces)
     if n == sizes(text)["here"]:
         if found != code(text):
