@@ -1,5 +1,5 @@
 -- A worker at an exchange, and behind it.
-use Rattle.std.proofs.Common.{◌≡◌, ℕ, ◌<◌, ◌≤◌, List, length, Bool, true, false, Option, Some, None, refl, sym, ap, subst, ◌∙◌, arith}
+use Rattle.std.proofs.Common.{◌≡◌, ℕ, ◌+◌, ◌<◌, ◌≤◌, inl, inr, List, length, Bool, true, false, Option, Some, None, refl, sym, ap, subst, ◌∙◌, arith}
 use Rattle.std.specs.Prelude.{◌||◌, nat_lt, nat_le, vec_capacity}
 use Rattle.std.proofs.lemmas.Bool.Decides.{nat_tests}
 use Rattle.std.proofs.lemmas.List.{length-map}
@@ -22,6 +22,7 @@ use Rattle.bsp_machine.specs.declared.reserve.Reserve.{Reserve}
 use Rattle.histories.specs.Shares.{Share}
 use Rattle.bsp_machine.specs.Reserves.{is_past, own_mark}
 use Rattle.bsp_machine.specs.Workers.{share_told, IsBetween, IsStanding}
+use Rattle.bsp_machine.specs.Growing.{IsShortOfItems}
 use Rattle.bsp_machine.proofs.MarkLemmas.{never}
 
 pub no_reserve : {A : Type 0} (o : Option Reserve) (r : Reserve) → o ≡ None → o ≡ Some r → A
@@ -102,3 +103,34 @@ module _ (code : SuperstepCode) (m : Shape) (bound : ℕ) (states : ℕ → Stat
           ap length (sym (between.counted alive n low)) ∙ length-map x.counts.items share_told in
           (λ i. is_past r (output i) (many i))
           ∙ no_room r.exchanges (vec_capacity x.counts) (length x.counts.items) (nat_lt r.items (length y.steps.uniform.output.items)) room
+
+-- Where a worker comes to its next exchange, and stops there or has no room for its items, it has none for those of the state there.
+module _ (code : SuperstepCode) (m : Shape) (bound : ℕ) (states : ℕ → State) (told : ℕ → List Share) (w : ℕ) (x : CountedWorker) (y : Local)
+    (between : IsBetween code m bound states told w x) (alive : is_stopped x.local.way ≡ false)
+    (shown : is_stopped y.way ≡ false → (n : ℕ) (s : State) → most_instructions code bound < n →
+    IsShown (setting code m bound n) x.local.steps.bank.worker x.local s →
+    IsAtExchange (setting code m bound n) x.local.steps.bank.worker y s)
+    (past : is_stopped y.way ≡ true → (items : ℕ) → HasReserve items x.local.steps.uniform → ComesPast code m bound x.local items)
+    (n : ℕ) (low : most_instructions code bound < n) where
+  abbrev printed_there : ℕ → ℕ
+  printed_there v = length (ready (setting code m bound n) v (states n)).state.worker.uniform.output
+
+  here_it_is : IsShown (setting code m bound n) x.local.steps.bank.worker x.local (states n)
+  here_it_is = subst (λ v. IsShown (setting code m bound n) v x.local (states n)) (sym (between.worker alive)) (between.shown alive n low)
+
+  pub stopped_short : is_stopped y.way ≡ true → IsShortOfItems code m bound (states n) w n x
+  stopped_short e =
+      inl (subst (λ v. vec_capacity x.local.steps.uniform.output < printed_there v) (between.worker alive)
+      (past e (vec_capacity x.local.steps.uniform.output) (omega arith) n (states n) low here_it_is))
+
+  pub short_of_room : vec_capacity x.items < length x.items.items + length y.steps.uniform.output.items →
+      IsShortOfItems code m bound (states n) w n x
+  short_of_room l = go (is_stopped y.way) refl
+    where
+      go : (b : Bool) → is_stopped y.way ≡ b → IsShortOfItems code m bound (states n) w n x
+      go true e = stopped_short e
+      go false e =
+          let output : printed_there w ≡ length y.steps.uniform.output.items = ap printed_there (sym (between.worker alive))
+          ∙ ap (λ (u : UniformPart). length u.output) (shown e n (states n) low here_it_is).worker.shows.uniform in
+          let none : length x.items.items ≡ 0 = ap length (between.items alive).none in
+          inr (omega (arith, l, output, none))

@@ -4,3 +4,4 @@ pub mod Reserves
 pub mod Workers
 pub mod Opening
 pub mod Ended
+pub mod Growing

@@ -1,11 +1,11 @@
 //! A worker that counts its exchanges.
 
-ghost use Rattle.std.specs.Prelude.{◌≡◌, ◌<◌, ◌≤◌, ◌^◌, ◌||◌, ◌⊎◌, ℕ, List, ℤ, length, true, false, Some, None, vec_capacity, ◌++◌, ◌∷◌, []};
-ghost use Rattle.std.specs.Prelude.{IfOk, IfErr, OnOk, nat_le};
+ghost use Rattle.std.specs.Prelude.{◌≡◌, ◌<◌, ◌≤◌, ◌+◌, ◌^◌, ◌||◌, ◌⊎◌, ℕ, List, ℤ, length, true, false, Some, None, vec_capacity, ◌++◌, ◌∷◌, []};
+ghost use Rattle.std.specs.Prelude.{IfOk, IfErr, OnOk, OnErr, nat_le};
 ghost use Rattle.address_map.specs.Outcome.{IsWorkers};
 ghost use Rattle.superstep_code.specs.Code.{SuperstepCode};
 ghost use Rattle.superstep_machine.specs.declared.mark.HeaderMark.{HeaderMark as MarkOfHeader};
-ghost use Rattle.superstep_machine.specs.Run.{State, is_over as spec_is_over};
+ghost use Rattle.superstep_machine.specs.Run.{State, is_over as spec_is_over, opening, setting};
 ghost use Rattle.address_map.specs.Lawful.{Shape};
 ghost use Rattle.bsp_verify.specs.WellFormed.{IsWellFormed};
 ghost use Rattle.message_rows.specs.Rows.{WrittenMessage, words_in};
@@ -13,9 +13,11 @@ ghost use Rattle.worker_messages.specs.declared.way.Way.TheVariants as way_is_on
 ghost use Rattle.worker_messages.specs.Shown.{is_stopped as spec_is_stopped, way_is};
 ghost use Rattle.worker_messages.specs.Equipped.{most_words, left, left_at, IsRunnable, MayGoOn};
 ghost use Rattle.worker_messages.specs.Opened.{IsAccepted, IsRefusal};
+ghost use Rattle.worker_messages.specs.Reached.{most_instructions};
 ghost use Rattle.worker_exchange.specs.Received.{mark_heard, is_marked};
 ghost use Rattle.histories.specs.Shares.{Share};
 ghost use Rattle.bsp_machine.specs.Workers.{count_of, share_at, state_behind, HasItems, IsBetween, IsStanding, IsReady};
+ghost use Rattle.bsp_machine.specs.Growing.{IsShortOfItems, IsFull};
 ghost use Rattle.bsp_machine.specs.Reserves.{is_past as spec_is_past};
 ghost use Rattle.bsp_machine.specs.Opening.{IsFresh};
 
@@ -78,10 +80,11 @@ fn count<C: Column>(local: &Local, counts: &mut Vec<Count>, column: &C, workers:
     });
 }
 
-// Room for so many items.
+// Room for so many items. Memory is asked for where there is less.
 fn keep_room(items: &mut Vec<i64>, most: usize) -> Result<(), AllocError>
     ensures none { items.new.items ≡ items.old.items }
     ensures room { OnOk result (most ≤ vec_capacity items.new) }
+    ensures refused { OnErr result (vec_capacity items.old < length items.old.items + most) }
 {
     items.reserve(most)?;
     Ok(())
@@ -89,8 +92,8 @@ fn keep_room(items: &mut Vec<i64>, most: usize) -> Result<(), AllocError>
 
 impl CountedWorker {
     /// One of the workers of a run before the first instruction, with nothing counted and without a reserve. It takes all the memory of a
-    /// run but for that by which uniform registers, the reads that are held, the output and the counts grow. Asked for a worker below their
-    /// number; refused as the run is.
+    /// run but for that by which its output grows, with the room for its items, and its counts: nothing else asks for any on the way.
+    /// Asked for a worker below their number; refused as the run is.
     pub fn new<M: AddressMap>(
         alloc: Global,
         code: &Code,
@@ -105,6 +108,10 @@ impl CountedWorker {
         ensures accepted { IfOk result (λ x. IsAccepted code.now (M.shape map.now) workers input.now) }
         ensures fresh { IfOk result (IsFresh code.now (M.shape map.now) input.now worker) }
         ensures unreserved { IfOk result (λ x. x.reserve ≡ None) }
+        // It shows the opening state within any bound, and has counted nothing; so it can be set to work at a seat.
+        ensures opens { IfOk result (λ x. (bound : ℕ) → IsBetween code.now (M.shape map.now) bound
+            (λ n. opening (setting code.now (M.shape map.now) bound n) input.now worker) (λ n. []) worker x) }
+        ensures runs { IfOk result (λ x. spec_is_stopped x.local.way ≡ false) }
     {
         let local = Local::new(alloc, code, map, workers, worker, input)?;
         let counts = Vec::new(alloc);
@@ -195,6 +202,9 @@ impl CountedWorker {
         requires room { most_words code.now (M.shape map.now) ≤ W.room row.old }
         requires count { length self.old.counts.items < vec_capacity self.old.counts }
         requires reserve { self.old.reserve ≡ None }
+        ensures full { spec_is_stopped self.new.local.way ≡ true → (states : ℕ → State) (told : ℕ → List Share) (w n : ℕ) →
+            IsBetween code.now (M.shape map.now) bound states told w self.old → most_instructions code.now bound < n →
+            IsShortOfItems code.now (M.shape map.now) bound (states n) w n self.old }
         ensures ready { IsReady code.now (M.shape map.now) bound self.new }
         ensures at { (states : ℕ → State) (told : ℕ → List Share) (w : ℕ) →
             IsBetween code.now (M.shape map.now) bound states told w self.old →
@@ -214,8 +224,8 @@ impl CountedWorker {
     }
 
     /// Goes on up to its next exchange, and fills a row with the messages for it. Without a reserve it makes room to count that exchange,
-    /// and for the items of its output: where that is refused, the worker stops as where any memory is refused on the way. With one it takes
-    /// no memory, and stops where it comes past that.
+    /// and for the items of its output: where that is refused, the worker stops; nothing else on the way asks for memory. With a reserve it
+    /// takes none, and stops where it comes past that.
     pub fn until_exchange<R: WriteRule, M: AddressMap, W: Row>(
         &mut self,
         code: &Code,
@@ -232,6 +242,11 @@ impl CountedWorker {
         ensures at { (states : ℕ → State) (told : ℕ → List Share) (w : ℕ) →
             IsBetween code.now (M.shape map.now) bound states told w self.old →
             IsStanding code.now (M.shape map.now) bound states told w self.new (W.filled row.new) }
+        // Without a reserve it stops only where the counts or the output had to grow.
+        ensures full { self.old.reserve ≡ None → spec_is_stopped self.new.local.way ≡ true →
+            (states : ℕ → State) (told : ℕ → List Share) (w n : ℕ) →
+            IsBetween code.now (M.shape map.now) bound states told w self.old → most_instructions code.now bound < n →
+            IsFull code.now (M.shape map.now) bound (states n) w n self.old }
         ensures fewer { spec_is_stopped self.new.local.way ≡ false →
             left_at code.now bound self.new.local ≤ left code.now bound self.old.local }
         ensures reserve { self.new.reserve ≡ self.old.reserve }

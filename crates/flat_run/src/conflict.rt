@@ -150,11 +150,12 @@ fn read_conflicts(code: &Code, machine: &Machine) -> Option<Key>
     requires { IsSized code.now machine.now }
     ensures { result ≡ flat.read_conflicts code.now (flat_of machine.now) 0 (map read_is machine.now.uniform.asks.items) }
 {
+    let reads = machine.uniform.asks.as_slice();
     let mut noted = None;
-    let mut k = machine.uniform.asks.len();
+    let mut k = reads.len();
     'reads: while k > 0 {
         k -= 1;
-        let read = machine.uniform.asks[k];
+        let read = reads[k];
         noted = least(read_conflict(code, machine, k, read), noted);
     }
     noted

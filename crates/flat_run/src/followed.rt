@@ -121,6 +121,21 @@ fn follow(
     Ok(all)
 }
 
+// The same of a run that is let go.
+fn follow_to_end(
+    alloc: Global,
+    code: &Code,
+    bound: u32,
+    run: Run,
+    most: u64,
+) -> Result<Vec<Exchange>, AllocError>
+    requires { IsRun code.now bound run }
+    ensures { IfOk result (λ all. exchanges_are all.items ≡ exchanges_from code.now bound everywhere most (state_of run)) }
+{
+    let mut run = run;
+    follow(alloc, code, bound, &mut run, most)
+}
+
 /// The exchanges of any code's run on an input, for at most `bound` statements and at most
 /// (bound + 1) * N instructions, N those of the code: all of them where the code is well formed. They
 /// are those of its workers too, whatever their number and their map.
@@ -132,6 +147,6 @@ pub fn flat_exchanges(
 ) -> Result<Vec<Exchange>, AllocError>
     ensures { IfOk result (λ all. exchanges_are all.items ≡ exchanges_of code.now bound input.now) }
 {
-    let mut run = open(alloc, code, bound, input)?;
-    follow(alloc, code, bound, &mut run, enough(code, bound))
+    let run = open(alloc, code, bound, input)?;
+    follow_to_end(alloc, code, bound, run, enough(code, bound))
 }

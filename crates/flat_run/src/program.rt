@@ -37,9 +37,10 @@ pub(crate) fn open(alloc: Global, code: &Code, bound: u32, input: &[i64]) -> Res
     let cells = code.layout().cells();
     let memory = open_memory(alloc, cells, input)?;
     let held = none_held(alloc, cells)?;
+    let uniform = open_uniform(alloc)?;
     Ok(Run {
         machine: Machine {
-            uniform: open_uniform(alloc),
+            uniform,
             processors: Vec::new(alloc),
             memory,
             held,

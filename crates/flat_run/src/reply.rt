@@ -1,6 +1,6 @@
 //! A reply: each read gets the value of its cell.
 
-ghost use Rattle.std.specs.Prelude.{◌≡◌, ◌<◌, ℕ, OnOk, length, map};
+ghost use Rattle.std.specs.Prelude.{◌≡◌, ◌<◌, ◌≤◌, ◌^◌, ℕ, OnOk, length, map};
 ghost use Rattle.std.specs.List.{zip};
 ghost use Rattle.superstep_machine.specs.Answering as spec;
 ghost use Rattle.superstep_machine.specs.Parts.{Read as SpecRead};
@@ -12,7 +12,7 @@ use crate::machine::Machine;
 use crate::processor::ProcessorState;
 use std::alloc::AllocError;
 use superstep_code::Code;
-use superstep_steps::{Read, UniformState, set_number, value_at};
+use superstep_steps::{Read, UniformState, put_number, set_number, value_at};
 
 // A register after its value came; without a cell it keeps what it holds.
 fn answer(
@@ -30,23 +30,31 @@ fn answer(
     }
 }
 
+// The same of a register that has a place.
+fn answer_in_place(memory: &[i64], registers: &mut [i64], destination: u16, cell: Option<u32>)
+    requires room { 2 ^ 16 ≤ length registers.old }
+    ensures value { registers_of registers.new ≡ spec.answer (λ c. registers_of memory.now c) destination cell (registers_of registers.old) }
+    ensures count { length registers.new ≡ length registers.old }
+{
+    if let Some(cell) = cell {
+        put_number(registers, destination, value_at(memory, cell as usize));
+    }
+}
+
 // The answers to the reads of the uniform part.
-fn answer_uniform(
-    memory: &[i64],
-    registers: &mut Vec<i64>,
-    awaited: &[Read],
-) -> Result<(), AllocError>
-    ensures { OnOk result (registers_of registers.new.items
+fn answer_uniform(memory: &[i64], registers: &mut [i64], awaited: &[Read])
+    requires room { 2 ^ 16 ≤ length registers.old }
+    ensures value { registers_of registers.new
         ≡ spec.answers (λ k c. registers_of memory.now c) 0
-        (map (λ (x : SpecRead). (x.destination, x.cell)) (map read_is awaited.now)) (registers_of registers.old.items)) }
+        (map (λ (x : SpecRead). (x.destination, x.cell)) (map read_is awaited.now)) (registers_of registers.old) }
+    ensures count { length registers.new ≡ length registers.old }
 {
     let mut k = 0;
     'reads: while k < awaited.len() {
         let read = awaited[k];
-        answer(memory, registers, read.destination, read.cell)?;
+        answer_in_place(memory, registers, read.destination, read.cell);
         k += 1;
     }
-    Ok(())
 }
 
 // The answers to the reads of a processor.
@@ -94,12 +102,11 @@ fn reply_processors(
     Ok(())
 }
 
-fn reply_uniform(memory: &[i64], u: &mut UniformState) -> Result<(), AllocError>
-    ensures { OnOk result (uniform_of u.new ≡ spec.uniform_answered (λ k c. registers_of memory.now c) (uniform_of u.old)) }
+fn reply_uniform(memory: &[i64], u: &mut UniformState)
+    ensures { uniform_of u.new ≡ spec.uniform_answered (λ k c. registers_of memory.now c) (uniform_of u.old) }
 {
-    answer_uniform(memory, &mut u.registers, &u.awaited)?;
+    answer_uniform(memory, u.registers.as_mut_slice(), u.awaited.as_slice());
     u.awaited.clear();
-    Ok(())
 }
 
 /// What a reply does to the machine.
@@ -110,9 +117,9 @@ pub fn reply(code: &Code, machine: &mut Machine) -> Result<(), AllocError>
 {
     reply_processors(
         &machine.memory,
-        &machine.uniform.awaited,
+        machine.uniform.awaited.as_slice(),
         &mut machine.processors,
     )?;
-    reply_uniform(&machine.memory, &mut machine.uniform)?;
+    reply_uniform(&machine.memory, &mut machine.uniform);
     Ok(())
 }

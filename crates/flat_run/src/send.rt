@@ -13,6 +13,7 @@ use crate::machine::Machine;
 use crate::processor::ProcessorState;
 use pram_model::Rule;
 use pram_values::Kind;
+use smallvec::SmallVec;
 use std::alloc::{AllocError, Global};
 use std::mem;
 use superstep_code::Code;
@@ -50,7 +51,7 @@ fn send_uniform(alloc: Global, u: &mut UniformState)
     ensures { uniform_of u.new ≡ spec.uniform_sent (uniform_of u.old) }
 {
     u.put = None;
-    u.awaited = mem::replace(&mut u.asks, Vec::new(alloc));
+    u.awaited = mem::replace(&mut u.asks, SmallVec::new(alloc));
 }
 
 // What a processor held is on its way.

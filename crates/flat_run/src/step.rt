@@ -94,7 +94,7 @@ fn exchange_vote(code: &Code, bound: u32, run: &mut Run, destination: u16) -> Re
         (flat_of run.old.machine))) }
 {
     let stand = unless_due(run.machine.key, run.machine.uniform.count);
-    vote(code, &mut run.machine, destination)?;
+    vote(code, &mut run.machine, destination);
     run.place += 1;
     run.stand = stand;
     Ok(())

@@ -8,6 +8,7 @@ ghost use Rattle.flat_machine.specs.Flat.{cells};
 ghost use Rattle.superstep_steps.specs.Views.{registers_of};
 ghost use Rattle.flat_run.specs.RunViews.{state_of, verdict_in};
 
+use crate::machine::Machine;
 use crate::run::{Run, Stand};
 use std::alloc::{AllocError, Global};
 use superstep_code::Code;
@@ -66,31 +67,52 @@ fn values(memory: Vec<i64>, code: &Code) -> Vec<i64>
     memory
 }
 
+// The output and the memory of a machine.
+fn parted(machine: Machine) -> (Vec<(u32, i64)>, Vec<i64>)
+    ensures output { result.0 ≡ machine.uniform.output }
+    ensures memory { result.1 ≡ machine.memory }
+{
+    let Machine {
+        uniform,
+        processors: _,
+        memory,
+        held: _,
+        key: _,
+    } = machine;
+    (uniform.output, memory)
+}
+
 /// What a run comes to, where that is an outcome.
 pub fn outcome(alloc: Global, code: &Code, run: Run) -> Result<Option<Outcome>, AllocError>
     requires { total_size code.now.layout ≤ length run.machine.memory.items }
     ensures { IfOk result (λ o. verdict_in o ≡ outcome_of code.now (state_of run)) }
 {
-    match run.stand {
+    let Run {
+        machine,
+        place: _,
+        stand,
+    } = run;
+    let (output, memory) = parted(machine);
+    match stand {
         Stand::Over {
             key: Some(key),
             ended: _,
         } => Ok(Some(Outcome::Faulted {
             fault: fault_of(key),
-            output: items_below(alloc, key.count, &run.machine.uniform.output)?,
+            output: items_below(alloc, key.count, &output)?,
         })),
         Stand::Over {
             key: None,
             ended: true,
         } => Ok(Some(Outcome::Ended {
-            output: items(alloc, &run.machine.uniform.output)?,
-            memory: values(run.machine.memory, code),
+            output: items(alloc, &output)?,
+            memory: values(memory, code),
         })),
         Stand::Over {
             key: None,
             ended: false,
         } => Ok(Some(Outcome::GoesOn {
-            output: items(alloc, &run.machine.uniform.output)?,
+            output: items(alloc, &output)?,
         })),
         Stand::On | Stand::Lost => Ok(None),
     }

@@ -10,6 +10,7 @@ mod reserving;
 mod rule;
 mod uniform;
 mod uniform_fault;
+mod uniform_registers;
 mod uniform_step;
 
 pub use arithmetic::{computed, computed_on, is_of, position_of, wrong_in};
@@ -21,6 +22,7 @@ pub use reserving::reserve;
 pub use rule::{join, single, verdict_on, with_writer};
 pub use uniform::UniformState;
 pub use uniform_fault::{fault_at, missing, uniform_key, uniform_write, write_to};
+pub use uniform_registers::put_number;
 pub use uniform_step::{
     begin_statement, change_range, index_of, moment_of, open_uniform, step_uniform,
 };

@@ -18,3 +18,20 @@ pub struct Read {
     pub moment: Moment,
     pub cell: Option<u32>,
 }
+
+// What stands in a place that holds no read.
+impl Default for Read {
+    fn default() -> Read {
+        let moment = Moment {
+            count: 0,
+            line: 0,
+            position: 0,
+        };
+        Read {
+            side: Side::Uniform,
+            destination: 0,
+            moment,
+            cell: None,
+        }
+    }
+}

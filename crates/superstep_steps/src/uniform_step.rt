@@ -1,6 +1,6 @@
 //! What an instruction does to the uniform part.
 
-ghost use Rattle.std.specs.Prelude.{◌≡◌, ◌<◌, ◌+◌, ◌^◌, ◌++◌, ◌∷◌, [], true, None, OnOk, OnErr, FitsSigned};
+ghost use Rattle.std.specs.Prelude.{◌≡◌, ◌<◌, ◌≤◌, ◌+◌, ◌^◌, ◌++◌, ◌∷◌, [], true, None, OnOk, OnErr, IfOk, length, FitsSigned};
 ghost use Rattle.std.specs.Int.{w64};
 ghost use Rattle.superstep_machine.specs.Parts.{opening_part};
 ghost use Rattle.superstep_code.specs.declared.instr.Instr.TheVariants as instr_is;
@@ -11,28 +11,35 @@ ghost use Rattle.superstep_steps.specs.Views.{uniform_of, moment_is, read_is, Ha
 use crate::arithmetic::computed_on;
 use crate::range::range_width;
 use crate::read::{Moment, Read};
-use crate::registers::{register, set_result, zero_without};
+use crate::registers::{make_room, register};
 use crate::uniform::UniformState;
+use crate::uniform_registers::{put_result, put_zero_without};
 use pram_values::Kind;
+use smallvec::SmallVec;
 use std::alloc::{AllocError, Global};
 use superstep_code::{Code, Instr, Side};
 
-/// The uniform part at the beginning.
-pub fn open_uniform(alloc: Global) -> UniformState
-    ensures { uniform_of result ≡ opening_part }
+// So many registers there can be, since each has a number of 16 bits.
+const REGISTERS: usize = 65_536;
+
+/// The uniform part at the beginning, with all registers. The error comes where memory was refused.
+pub fn open_uniform(alloc: Global) -> Result<UniformState, AllocError>
+    ensures { IfOk result (λ u. uniform_of u ≡ opening_part) }
 {
-    UniformState {
+    let mut registers = Vec::new(alloc);
+    make_room(&mut registers, REGISTERS)?;
+    Ok(UniformState {
         count: 0,
         line: 0,
-        registers: Vec::new(alloc),
+        registers,
         low: 0,
         width: 0,
-        asks: Vec::new(alloc),
-        awaited: Vec::new(alloc),
+        asks: SmallVec::new(alloc),
+        awaited: SmallVec::new(alloc),
         put: None,
         output: Vec::new(alloc),
         reserved: false,
-    }
+    })
 }
 
 /// The present statement, at that position.
@@ -116,6 +123,16 @@ pub fn change_range(u: &mut UniformState, code: &Code, instr: Instr) -> Option<K
     }
 }
 
+// A read is held. Memory is asked for only from the ninth on, and the error comes where it was refused.
+fn hold(asks: &mut SmallVec<Read, 8>, read: Read) -> Result<(), AllocError>
+    ensures held { OnOk result (asks.new.items ≡ asks.old.items ++ read ∷ []) }
+    ensures refused { OnErr result (8 ≤ length asks.old.items) }
+{
+    let _at_least_eight = asks.capacity();
+    asks.push(read)?;
+    Ok(())
+}
+
 // A read of the uniform part is held.
 fn ask_uniform(
     u: &mut UniformState,
@@ -134,14 +151,14 @@ fn ask_uniform(
         .layout()
         .cell(entry as usize, register(&u.registers, subscript));
     let moment = moment_of(u, position);
-    zero_without(&mut u.registers, cell, destination)?;
-    u.asks.push(Read {
+    put_zero_without(u.registers.as_mut_slice(), cell, destination);
+    let read = Read {
         side: Side::Uniform,
         destination,
         moment,
         cell,
-    })?;
-    Ok(())
+    };
+    hold(&mut u.asks, read)
 }
 
 // A read of the processors is held.
@@ -156,13 +173,13 @@ fn ask_private(u: &mut UniformState, destination: u16, position: u32) -> Result<
     ensures refused { OnErr result (IsShort (instr_is.Ask side_is.Private destination 0 0 position) u.old) }
 {
     let moment = moment_of(u, position);
-    u.asks.push(Read {
+    let read = Read {
         side: Side::Private,
         destination,
         moment,
         cell: None,
-    })?;
-    Ok(())
+    };
+    hold(&mut u.asks, read)
 }
 
 /// An item of the output.
@@ -184,8 +201,8 @@ pub(crate) fn print(u: &mut UniformState, source: u16) -> Result<(), AllocError>
     Ok(())
 }
 
-/// What an instruction does to the uniform part. The error comes where memory was refused, which is asked for only by what wasn't taken in
-/// advance: nothing is said of the uniform part then.
+/// What an instruction does to the uniform part. The error comes where memory was refused, which only an item asks for for which the output
+/// has no room, and a read where eight are held: nothing is said of the uniform part then.
 pub fn step_uniform(u: &mut UniformState, code: &Code, instr: Instr) -> Result<(), AllocError>
     requires room { HasRoom instr u.old.count }
     ensures after { OnOk result (uniform_of u.new ≡ spec.on_uniform code.now instr (uniform_of u.old)) }
@@ -215,7 +232,7 @@ pub fn step_uniform(u: &mut UniformState, code: &Code, instr: Instr) -> Result<(
         Instr::Print { source } => print(u, source)?,
         _ => {
             let computed = computed_on(Side::Uniform, instr, &u.registers);
-            set_result(&mut u.registers, computed)?;
+            put_result(u.registers.as_mut_slice(), computed);
         }
     }
     Ok(())

@@ -1,6 +1,7 @@
 -- A worker behind a send has room still, and stands on the path of control.
 use Rattle.std.proofs.Common.{◌≡◌, ℕ, zero, suc, ◌+◌, ◌*◌, ◌<◌, ◌≤◌, List, [], ◌∷◌, length, map, drop, Option, Some, Vec, vec_capacity, ℤ}
 use Rattle.std.proofs.Common.{refl, sym, ap, subst, ◌∙◌, arith}
+use Rattle.smallvec.specs.SmallVec.{SmallVec}
 use Rattle.std.specs.Prelude.{nat_lt, slice_get}
 use Rattle.std.specs.Global.{Global}
 use Rattle.std.specs.List.{AllByRecursion, zip, range_with_len}
@@ -151,7 +152,7 @@ verified_voted code x u d formed v there width asks awaited put =
       outside = λ e. width ∙ q.outside e;
       narrow = subst (λ n. n ≤ code.procs) (sym width) q.narrow;
       masks = q.masks;
-      asks = ap (λ (v : Vec Read Global). length v.items) asks ∙ q.asks;
+      asks = ap (λ (v : SmallVec Read). length v.items) asks ∙ q.asks;
       put = ap (λ o. is_held (put_is o)) put ∙ q.put;
-      awaited = ap (λ (v : Vec Read Global). nat_lt 0 (length v.items)) awaited ∙ q.awaited;
+      awaited = ap (λ (v : SmallVec Read). nat_lt 0 (length v.items)) awaited ∙ q.awaited;
     })

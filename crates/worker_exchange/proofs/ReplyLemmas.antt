@@ -1,6 +1,7 @@
 -- What a worker shows behind a reply.
 use Rattle.std.proofs.Common.{◌≡◌, ℕ, ◌+◌, ◌^◌, ◌<◌, ◌≤◌, List, [], ◌∷◌, map, length, take, Option, Some, None, ℤ}
 use Rattle.std.proofs.Common.{refl, sym, ap, subst, ◌∙◌, arith, eqb, Vec, vec_capacity}
+use Rattle.smallvec.specs.SmallVec.{SmallVec}
 use Rattle.std.specs.Global.{Global}
 use Rattle.std.specs.Prelude.{slice_get, slice_index_or, nat_lt, if◌then◌else◌}
 use Rattle.std.specs.Int.{w64, cast_signed}
@@ -167,7 +168,7 @@ module _ (code : SuperstepCode) (x y : WorkerState) (held : List HeldAsk) (done 
   fitted_replied f =
       subst (IsFitted code) (sym done.rest)
       (let g = fitted_same code x y.uniform y.bank x.key f done.bank done.same (ap (λ (m : Masks). m.many) done.masks) done.part.width
-      (ap (λ (v : Vec HeldRead Global). length v.items) done.part.asks) in
+      (ap (λ (v : SmallVec HeldRead). length v.items) done.part.asks) in
       record {
         bank = g.bank;
         worker = g.worker;
@@ -189,7 +190,7 @@ module _ (code : SuperstepCode) (x y : WorkerState) (held : List HeldAsk) (done 
     outside = λ e. done.part.width ∙ d.outside e;
     narrow = subst (λ n. n ≤ code.procs) (sym done.part.width) d.narrow;
     masks = ap (λ (m : Masks). m.depth) done.masks ∙ d.masks;
-    asks = ap (λ (v : Vec HeldRead Global). length v.items) done.part.asks ∙ d.asks;
+    asks = ap (λ (v : SmallVec HeldRead). length v.items) done.part.asks ∙ d.asks;
     put = ap (λ o. is_held (put_is o)) done.part.put ∙ d.put;
     awaited = ap (λ (rs : List HeldRead). nat_lt 0 (length rs)) done.part.none;
   }

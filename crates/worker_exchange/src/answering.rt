@@ -4,7 +4,7 @@ ghost use Rattle.std.specs.Prelude.{◌≡◌, ◌<◌, ◌≤◌, ◌+◌, ◌^
 ghost use Rattle.std.specs.List.{AllByRecursion, zip};
 ghost use Rattle.superstep_machine.specs.Answering.{answer as spec_answer, answers, destinations};
 ghost use Rattle.superstep_machine.specs.Fitting.{IsCellBelow};
-ghost use Rattle.superstep_machine.specs.Parts.{Read as SpecRead, set_register};
+ghost use Rattle.superstep_machine.specs.Parts.{Read as SpecRead};
 ghost use Rattle.superstep_steps.specs.Views.{read_is, registers_of};
 ghost use Rattle.combining.specs.Asked.{value_for};
 ghost use Rattle.worker_bank.specs.Columns.{value_of};
@@ -17,18 +17,9 @@ ghost use Rattle.worker_exchange.specs.Answered.{Gives, IsAnsweredPart, IsAnswer
 
 use combining::Asks;
 use superstep_code::Side;
-use superstep_steps::{Read, UniformState};
+use superstep_steps::{Read, UniformState, put_number};
 use worker_bank::Bank;
 use worker_steps::WorkerState;
-
-// A register of the program gets a value. There is room for all of them.
-fn put(registers: &mut [i64], number: u16, value: i64)
-    requires { 2 ^ 16 ≤ length registers.old }
-    ensures value { registers_of registers.new ≡ set_register number value (registers_of registers.old) }
-    ensures count { length registers.new ≡ length registers.old }
-{
-    registers[number as usize] = value;
-}
 
 // Each read of the uniform part gets the value that came for its cell.
 fn answer_uniform(sent: &Asks, awaited: &[Read], registers: &mut [i64])
@@ -42,7 +33,7 @@ fn answer_uniform(sent: &Asks, awaited: &[Read], registers: &mut [i64])
     'reads: for k in 0..awaited.len() {
         let read = awaited[k];
         if let Some(cell) = read.cell {
-            put(registers, read.destination, sent.value(k as u32, cell));
+            put_number(registers, read.destination, sent.value(k as u32, cell));
         }
     }
 }
@@ -143,7 +134,6 @@ fn answer_own(
 fn answer_part(sent: &Asks, u: &mut UniformState)
     requires few { length u.old.awaited.items ≤ 8 }
     requires cells { AllByRecursion (λ r. IsCellBelow (2 ^ 20) r.cell) u.old.awaited.items }
-    requires room { 2 ^ 16 ≤ length u.old.registers.items }
     ensures { IsAnsweredPart sent.now.held u.old u.new }
 {
     answer_uniform(sent, u.awaited.as_slice(), u.registers.as_mut_slice());
@@ -154,7 +144,6 @@ fn answer_part(sent: &Asks, u: &mut UniformState)
 pub(crate) fn answer_worker(steps: &mut WorkerState, sent: &Asks, values: &mut [i64])
     requires bank { IsBank steps.old.bank }
     requires few { length steps.old.uniform.awaited.items ≤ 8 }
-    requires room { 2 ^ 16 ≤ length steps.old.uniform.registers.items }
     requires columns { AreColumns steps.old.bank.masks.most steps.old.awaited.items }
     requires reads { AllByRecursion (IsAwaited (2 ^ 20) (length steps.old.bank.columns.items) steps.old.bank.masks.many)
         steps.old.uniform.awaited.items }

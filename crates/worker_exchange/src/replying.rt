@@ -36,12 +36,11 @@ fn forget(asked: &mut [Vec<u64>])
 }
 
 /// What came in a reply: each awaited read gets the value that came for its cell, in the uniform part and in each processor that asked, and
-/// the asks of the other workers are answered. There is room for all registers.
+/// the asks of the other workers are answered.
 pub fn take_reply<M: AddressMap, C: Column>(local: &mut Local, map: &M, column: &C)
     requires column { length (C.came column.now) ≡ (M.shape map.now).parts }
     requires bank { IsBank local.old.steps.bank }
     requires columns { AreColumns local.old.steps.bank.masks.most local.old.steps.awaited.items }
-    requires room { 2 ^ 16 ≤ length local.old.steps.uniform.registers.items }
     requires values { length local.old.values.items ≡ local.old.steps.bank.masks.most }
     requires awaits { AwaitsAnswers (M.shape map.now) local.old }
     requires below { AllByRecursion (IsAskBelow (M.shape map.now).count) local.old.sent.held }

@@ -18,9 +18,8 @@ ghost use Rattle.worker_exchange.specs.Taken.{StandsStill};
 use pram_values::truth;
 use worker_messages::Local;
 
-/// What came in a vote: the register gets 1 if any worker has an active processor, else 0. There is room for all registers.
+/// What came in a vote: the register gets 1 if any worker has an active processor, else 0.
 pub fn take_vote(local: &mut Local, destination: u16, active: bool)
-    requires room { 2 ^ 16 ≤ length local.old.steps.uniform.registers.items }
     ensures shows { (t : Setting) (w : ℕ) (y : Worker) (messages : List Message) → list_any (λ (m : Message). m.active) messages ≡ active →
         ShowsWorker t w local.old y → ShowsWorker t w local.new (after_vote destination y messages) }
     ensures equipped { (code : SuperstepCode) (m : Shape) → IsEquipped code m local.old → IsEquipped code m local.new }

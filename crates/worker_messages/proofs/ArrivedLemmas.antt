@@ -1,5 +1,5 @@
 -- A worker comes to an exchange.
-use Rattle.std.proofs.Common.{◌≡◌, ℕ, ◌+◌, ◌-◌, ◌*◌, ◌^◌, ◌<◌, ◌≤◌, [], length, map, Bool, true, false, Some, refl, sym, ap, subst, ◌∙◌, arith}
+use Rattle.std.proofs.Common.{◌≡◌, ℕ, ◌+◌, ◌-◌, ◌*◌, ◌<◌, ◌≤◌, [], length, map, Bool, true, false, Some, refl, sym, ap, subst, ◌∙◌, arith}
 use Rattle.std.specs.Prelude.{slice_get, slice_index_or, if◌then◌else◌}
 use Rattle.std.proofs.lemmas.Nat.{mul-le}
 use Rattle.address_map.specs.Lawful.{Shape}
@@ -188,10 +188,10 @@ module _ (code : SuperstepCode) (m : Shape) (bound : ℕ) (is_code : IsCode code
       }) stop)
 
   pub arrived : (stop : Stop) → ArrivesAt code bound (stop_is stop) a.steps y → StandsAt code bound (stop_is stop) y → IsFitted code y →
-      IsVerifiedAt code y → y.uniform.count ≤ bound → 2 ^ 16 ≤ length y.uniform.registers.items → IsSameBank a.steps.bank y.bank →
+      IsVerifiedAt code y → y.uniform.count ≤ bound → IsSameBank a.steps.bank y.bank →
       rank code bound y ≤ rank code bound a.steps →
       HasArrived code m bound a (stopped_at stop moved)
-  arrived stop arrives stands fitted verified count registers same falls =
+  arrived stop arrives stands fitted verified count same falls =
       let e = equipped_still fitted same in
       let comes = at_next stop arrives same in
       record {
@@ -210,7 +210,6 @@ module _ (code : SuperstepCode) (m : Shape) (bound : ℕ) (is_code : IsCode code
           going = still_going stop a.way go.going;
           count = count;
           verified = λ h. verified;
-          registers = λ h. registers;
           stands = stands_at stop stands;
           goes = goes_at stop a.way (is_held (put_is y.uniform.put)) on;
           few = λ h. few_held verified;
@@ -244,7 +243,6 @@ ended code m bound a go off =
         going = go.going;
         count = go.count;
         verified = go.verified;
-        registers = λ h. absurd (off h);
         stands = λ h. absurd (off h);
         goes = closing a.way off go.going;
         few = λ h. cc;

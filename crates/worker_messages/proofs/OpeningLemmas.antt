@@ -1,16 +1,20 @@
 -- A worker before the first instruction.
-use Rattle.std.proofs.Common.{◌≡◌, ℕ, suc, ◌+◌, ◌<◌, List, [], ◌∷◌, map, length, get_or, refl, sym, ap, subst, ◌∙◌, arith, ℤ, pos, FitsSigned}
+use Rattle.std.proofs.Common.{◌≡◌, ℕ, suc, ◌+◌, ◌-◌, ◌*◌, ◌/◌, ◌^◌, ◌<◌, ◌≤◌, List, [], ◌∷◌, map, length, get_or, refl, sym, ap, subst, ◌∙◌, arith, ℤ, pos, FitsSigned}
 use Rattle.std.specs.Prelude.{slice_index_or}
 use Rattle.std.specs.List.{range_with_len}
 use Rattle.std.specs.Int.{w64}
 use Rattle.std.proofs.lemmas.List.{ext_get_or}
 use Rattle.std.proofs.lemmas.List.FromFn.{get_or-map-range_with_len, length-map-range_with_len}
+use Rattle.std.proofs.Math.Nat.{div-le_self}
+use Rattle.pram_model.specs.declared.rule.Rule.{Rule}
+use Rattle.pram_model.specs.declared.rule.Rule.TheVariants as rules_are
 use Rattle.address_map.specs.Lawful.{Shape}
 use Rattle.superstep_code.specs.Code.{SuperstepCode}
+use Rattle.superstep_code.specs.Limits.{IsCode}
 use Rattle.superstep_machine.specs.Parts.{UniformPart}
 use Rattle.superstep_machine.specs.Run as machine
 use Rattle.superstep_machine.specs.Run.{setting, opening}
-use Rattle.run_limits.specs.Within.{AreValues}
+use Rattle.run_limits.specs.Within.{AreValues, words_for_each}
 use Rattle.combining.specs.AllModules.{column}
 use Rattle.message_rows.specs.Sends.{words_of}
 use Rattle.worker_steps.specs.Met.{IsVerifiedAt}
@@ -19,7 +23,7 @@ use Rattle.worker_messages.specs.declared.way.Way.TheVariants as ways
 use Rattle.worker_messages.specs.declared.local.Local.{Local}
 use Rattle.worker_messages.specs.Reached.{most_instructions}
 use Rattle.worker_messages.specs.Shown.{way_is, cells_asked, IsShown}
-use Rattle.worker_messages.specs.Equipped.{IsEquipped, IsRunnable, MayGoOn}
+use Rattle.worker_messages.specs.Equipped.{IsEquipped, IsRunnable, MayGoOn, most_words}
 
 pub mapped_twice : {A B C : Type 0} (f : B → C) (g : A → B) (xs : List A) → map f (map g xs) ≡ map (λ x. f (g x)) xs
 mapped_twice f g [] = refl
@@ -74,3 +78,18 @@ module _ (code : SuperstepCode) (m : Shape) (input : List ℤ) (x : Local) (valu
     state = opening (setting code m bound (most_instructions code bound + 1)) input x.steps.bank.worker;
     shown = opens bound (most_instructions code bound + 1);
   }
+
+-- no message is longer than the pieces of a barrier
+pub few_words : (code : SuperstepCode) (m : Shape) → IsCode code → m.parts ≤ 32 → most_words code m ≤ 1048576
+few_words code m limits few =
+    let procs = limits.few_procs in
+    let share : (code.procs + (m.parts - 1)) / m.parts ≤ 2 ^ 14 + 31 =
+    (let d = div-le_self (code.procs + (m.parts - 1)) m.parts in omega (arith, d, procs, few)) in
+    by_rule code.rule share
+  where
+    by_rule : (rule : Rule) {n : ℕ} → n ≤ 2 ^ 14 + 31 → words_for_each rule * n ≤ 1048576
+    by_rule rules_are.Erew h = omega (arith, h)
+    by_rule rules_are.Crew h = omega (arith, h)
+    by_rule rules_are.Common h = omega (arith, h)
+    by_rule rules_are.Priority h = omega (arith, h)
+    by_rule rules_are.Sum h = omega (arith, h)

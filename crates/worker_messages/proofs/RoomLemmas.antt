@@ -1,12 +1,11 @@
 -- More room changes nothing else.
-use Rattle.std.proofs.Common.{ℕ, ◌+◌, ◌*◌, ◌<◌, ◌≤◌, ◌∙◌, List, length, map, false, true, ap, sym, subst}
+use Rattle.std.proofs.Common.{ℕ, ◌+◌, ◌*◌, ◌<◌, ◌≤◌, ◌∙◌, List, length, map, ap, sym, subst}
 use Rattle.std.specs.Prelude.{nat_lt}
 use Rattle.std.specs.List.{range_with_len}
 use Rattle.address_map.specs.Lawful.{Shape}
 use Rattle.superstep_code.specs.Code.{SuperstepCode}
 use Rattle.pram_model.specs.declared.rule.Rule.{Rule}
 use Rattle.superstep_machine.specs.Worker.{Worker}
-use Rattle.superstep_machine.specs.Stretch.{ToSend, ToReply, ToVote, ToClose, Stop}
 use Rattle.superstep_machine.specs.Setting.{Setting, processors}
 use Rattle.superstep_machine.specs.Parts.{PrivatePart}
 use Rattle.superstep_machine.specs.Run.{State, is_held}
@@ -18,12 +17,11 @@ use Rattle.worker_steps.specs.declared.worker.WorkerState.{WorkerState}
 use Rattle.worker_steps.specs.Shown.{cells_at, Shows}
 use Rattle.worker_steps.specs.Fitted.{IsFitted}
 use Rattle.worker_steps.specs.Met.{IsVerifiedAt}
-use Rattle.worker_steps.specs.Stretch.{ArrivesAt, StandsAt}
 use Rattle.worker_messages.specs.declared.local.Local.{Local}
 use Rattle.worker_messages.specs.Shown.{IsShown}
 use Rattle.worker_messages.specs.Equipped.{MayGoOn}
 
-abbrev pub roomy : WorkerState → UniformState → WorkerState
+abbrev roomy : WorkerState → UniformState → WorkerState
 roomy y u = record y { uniform = u }
 
 module _ (code : SuperstepCode) (y : WorkerState) (u : UniformState) (same : IsRoomier y.uniform u) where
@@ -31,7 +29,7 @@ module _ (code : SuperstepCode) (y : WorkerState) (u : UniformState) (same : IsR
   part_by asks awaited j =
       part_at y.bank (cells_at (length asks) y.asked.items j) (cells_at (length awaited) y.awaited.items j) j
 
-  pub still_shows : (rule : Rule) (s : Worker) → Shows rule y s → Shows rule (roomy y u) s
+  still_shows : (rule : Rule) (s : Worker) → Shows rule y s → Shows rule (roomy y u) s
   still_shows rule s q = record {
     uniform = q.uniform ∙ sym same.shown;
     own = q.own ∙ (λ i. map (part_by (sym same.asks i) (sym same.awaited i)) (range_with_len 0 y.bank.masks.many));
@@ -40,16 +38,7 @@ module _ (code : SuperstepCode) (y : WorkerState) (u : UniformState) (same : IsR
     asks = q.asks;
   }
 
-  pub still_arrives : (bound : ℕ) (stop : Stop) (a : WorkerState) → ArrivesAt code bound stop a y → ArrivesAt code bound stop a (roomy y u)
-  still_arrives bound stop a arrives t s n of less =
-      let k = arrives t s n of less in record {
-        worker = k.worker;
-        at = k.at;
-        shows = still_shows code.rule k.worker k.shows;
-        carried = k.carried;
-      }
-
-  pub still_fitted : IsFitted code y → IsFitted code (roomy y u)
+  still_fitted : IsFitted code y → IsFitted code (roomy y u)
   still_fitted f = record {
     bank = f.bank;
     worker = f.worker;
@@ -66,7 +55,7 @@ module _ (code : SuperstepCode) (y : WorkerState) (u : UniformState) (same : IsR
     held = subst (λ (reads : List Read). length y.asks.held ≤ length reads * (y.bank.masks.most + 1)) (sym same.asks) f.held;
   }
 
-  pub still_verified : IsVerifiedAt code y → IsVerifiedAt code (roomy y u)
+  still_verified : IsVerifiedAt code y → IsVerifiedAt code (roomy y u)
   still_verified v = record {
     steps = v.steps;
     point = v.point;
@@ -81,13 +70,6 @@ module _ (code : SuperstepCode) (y : WorkerState) (u : UniformState) (same : IsR
       awaited = ap (λ (reads : List Read). nat_lt 0 (length reads)) same.awaited ∙ d.awaited;
     });
   }
-
-  pub still_there : (bound : ℕ) (stop : Stop) → StandsAt code bound stop y → StandsAt code bound stop (roomy y u)
-  still_there bound ToSend h = h
-  still_there bound ToReply h = h
-  still_there bound (ToVote d) h = h
-  still_there bound (ToClose true) h = h
-  still_there bound (ToClose false) h = (same.count ∙ h.0, h.1)
 
 -- ---- a worker of a run
 

@@ -198,7 +198,6 @@ module _ (b : Local) (z : Buffers) where
     going = h.going;
     count = h.count;
     verified = h.verified;
-    registers = h.registers;
     stands = h.stands;
     goes = h.goes;
     few = h.few;

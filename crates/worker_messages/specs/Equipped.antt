@@ -1,5 +1,5 @@
 -- What a worker of a run has room for, and what it may take for granted.
-use Rattle.std.specs.Prelude.{◌≡◌, ℕ, ◌+◌, ◌-◌, ◌*◌, ◌/◌, ◌^◌, ◌<◌, ◌≤◌, List, length, map, Some, false, Vec, vec_capacity, slice_get}
+use Rattle.std.specs.Prelude.{◌≡◌, ℕ, ◌+◌, ◌-◌, ◌*◌, ◌/◌, ◌<◌, ◌≤◌, List, length, map, Some, false, Vec, vec_capacity, slice_get}
 use Rattle.std.specs.Global.{Global}
 use Rattle.std.specs.List.{AllByRecursion}
 use Rattle.address_map.specs.Lawful.{Shape}
@@ -103,14 +103,12 @@ GoesWith (ways.Ending ended) steps.Send = Unit {0}
 GoesWith (ways.Ending ended) steps.Close = Unit {0}
 GoesWith way step = ⊥
 
--- A worker at an exchange, at whose place that stands; there is room for all registers of the program, so that what the exchange brings
--- takes no memory; at a send at most eight reads are held, and a reply answers what is awaited.
+-- A worker at an exchange, at whose place that stands; at a send at most eight reads are held, and a reply answers what is awaited.
 pub record IsAtStep (code : SuperstepCode) (m : Shape) (bound : ℕ) (x : Local) : Type 0 where
   pub equipped : IsEquipped code m x
   pub going : is_over (way_is x.way) ≡ false
   pub count : x.steps.uniform.count ≤ bound
   pub verified : x.way ≡ ways.On → IsVerifiedAt code x.steps
-  pub registers : x.way ≡ ways.On → 2 ^ 16 ≤ length x.steps.uniform.registers.items
   pub stands : x.way ≡ ways.On → slice_get code.instructions x.steps.place ≡ Some (instr_of x.step)
   pub goes : GoesWith x.way x.step
   pub few : x.step ≡ steps.Send → length x.steps.uniform.asks.items ≤ 8

@@ -1,6 +1,6 @@
 //! From one exchange up to the next.
 
-ghost use Rattle.std.specs.Prelude.{◌≡◌, ◌≢◌, ◌≤◌, ◌<◌, ◌^◌, ℕ, length, true, false, Some, OnOk, OnErr};
+ghost use Rattle.std.specs.Prelude.{◌≡◌, ◌≢◌, ◌≤◌, ◌<◌, ℕ, length, true, false, Some, OnOk, OnErr};
 ghost use Rattle.address_map.specs.Lawful.{Shape};
 ghost use Rattle.superstep_machine.specs.declared.mark.HeaderMark.{HeaderMark as MarkOfHeader};
 ghost use Rattle.superstep_machine.specs.declared.mark.HeaderMark.TheVariants as mark_is;
@@ -8,7 +8,7 @@ ghost use Rattle.superstep_machine.specs.Setting.{Setting};
 ghost use Rattle.superstep_machine.specs.Run.{State, setting, message_of, is_held};
 ghost use Rattle.superstep_machine.specs.declared.key.Key.{Key as NotedKey};
 ghost use Rattle.superstep_machine.specs.HeaderWords.{FitsKey};
-ghost use Rattle.superstep_steps.specs.Views.{put_is, HasReserve, KeepsReserve, IsRoomier};
+ghost use Rattle.superstep_steps.specs.Views.{put_is, HasReserve, KeepsReserve};
 ghost use Rattle.bsp_verify.specs.WellFormed.{IsWellFormed};
 ghost use Rattle.worker_steps.specs.Fitted.{IsFitted};
 ghost use Rattle.worker_steps.specs.Met.{IsVerifiedAt};
@@ -31,23 +31,9 @@ use message_rows::{Row, fill_replies};
 use std::alloc::AllocError;
 use superstep_code::Code;
 use superstep_machine::HeaderMark;
-use superstep_steps::{Moment, UniformState, make_room};
+use superstep_steps::Moment;
 use worker_steps::Stop;
 use write_rules::WriteRule;
-
-// So many registers of the program there can be. There is room for all of them at an exchange, so that none comes without a place.
-const REGISTERS: usize = 65_536;
-
-// There is room for all registers of the program.
-fn make_registers(u: &mut UniformState) -> Result<(), AllocError>
-    ensures same { OnOk result (IsRoomier u.old u.new) }
-    ensures room { OnOk result (2 ^ 16 ≤ length u.new.registers.items) }
-    ensures reserve { OnOk result (KeepsReserve u.old u.new) }
-    ensures refused { OnErr result (length u.old.registers.items < 2 ^ 16) }
-{
-    make_room(&mut u.registers, REGISTERS)?;
-    Ok(())
-}
 
 // What the exchange is for at which a worker stops.
 fn step_at(stop: Stop, put: Option<Moment>) -> Step
@@ -90,7 +76,6 @@ impl Local {
     {
         let _instructions = code.instructions();
         let stop = self.steps.advance(code, rule, bound)?;
-        make_registers(&mut self.steps.uniform)?;
         self.step = step_at(stop, self.steps.uniform.put);
         self.way = way_at(stop, self.way);
         Ok(())
@@ -180,8 +165,8 @@ impl Local {
     }
 
     /// Goes on up to the next exchange, and fills a row with the messages for it. Says what the exchange is for. Where memory is
-    /// refused on the way, each message is a mark that says so, and the worker has stopped. It is asked of a worker that is
-    /// neither stopped nor over.
+    /// refused on the way, each message is a mark that says so, and the worker has stopped; memory is asked for only by items of output for
+    /// which there is no room. It is asked of a worker that is neither stopped nor over.
     pub fn until_exchange<R: WriteRule, M: AddressMap, W: Row>(
         &mut self,
         code: &Code,
@@ -212,7 +197,7 @@ impl Local {
         ensures worker { is_stopped self.new.way ≡ false → self.new.steps.bank.worker ≡ self.old.steps.bank.worker }
         ensures fewer { is_stopped self.new.way ≡ false → left_at code.now bound self.new ≤ left code.now bound self.old }
         ensures refused { (mark : MarkOfHeader) → self.new.way ≡ way_is_one_of.Stopped mark → mark ≡ mark_is.OutOfMemory }
-        // What was taken in advance lasts up to the last of its items.
+        // Where there is room for so many items, a worker that stops printed more, whether that room was taken in advance or not.
         ensures past { is_stopped self.new.way ≡ true → (items : ℕ) → HasReserve items self.old.steps.uniform →
             ComesPast code.now (M.shape map.now) bound self.old items }
         ensures reserve { is_stopped self.new.way ≡ false → KeepsReserve self.old.steps.uniform self.new.steps.uniform }

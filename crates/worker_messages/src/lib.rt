@@ -13,6 +13,7 @@ mod way;
 
 pub use buffers::Buffers;
 pub use local::Local;
+pub use opening::row_room;
 pub use refusal::RunRefusal;
 pub use step::Step;
 pub use way::Way;

@@ -2,6 +2,7 @@
 
 ghost use Rattle.std.specs.Prelude.{◌≡◌, ◌<◌, ◌≤◌, ◌*◌, ◌^◌, ℕ, [], length, pos, IfOk, IfErr, map as each, slice_index_or};
 ghost use Rattle.std.specs.List.{range_with_len};
+ghost use Rattle.address_map.specs.Lawful.{Shape};
 ghost use Rattle.address_map.specs.Outcome.{IsWorkers};
 ghost use Rattle.superstep_machine.specs.Run.{setting, opening};
 ghost use Rattle.bsp_verify.specs.WellFormed.{IsWellFormed};
@@ -9,7 +10,7 @@ ghost use Rattle.run_limits.specs.Within.{AreValues, words_for_each as spec_word
 ghost use Rattle.combining.specs.AllModules.{column};
 ghost use Rattle.message_rows.specs.Sends.{words_of};
 ghost use Rattle.worker_messages.specs.Shown.{IsShown};
-ghost use Rattle.worker_messages.specs.Equipped.{HaveRoom, AreBuffers, IsRunnable, MayGoOn};
+ghost use Rattle.worker_messages.specs.Equipped.{HaveRoom, AreBuffers, IsRunnable, MayGoOn, most_words};
 ghost use Rattle.worker_messages.specs.Opened.{IsMapWith, IsAccepted, IsRefusal};
 
 use crate::buffers::Buffers;
@@ -32,6 +33,17 @@ fn words_for_each(rule: Rule) -> u32
         Rule::Sum => 12,
         _ => 11,
     }
+}
+
+/// For how many words a message has room in a run of this code by so many workers: none has more.
+pub fn row_room(code: &Code, workers: u32) -> usize
+    requires { IsWorkers workers }
+    ensures value { (m : Shape) → m.parts ≡ workers → result ≡ most_words code.now m }
+    ensures few { result ≤ 2 ^ 20 }
+{
+    let _instructions = code.instructions();
+    let most = (code.procs() + (workers - 1)) / workers;
+    (words_for_each(code.rule()) * most) as usize
 }
 
 // Lists of words, one for each worker, with room for so many.
@@ -115,7 +127,7 @@ fn judge<M: AddressMap>(code: &Code, map: &M, workers: u32, input: &[i64]) -> Re
     Ok(())
 }
 
-// A worker before the first instruction. All memory is asked for here but for what registers and the output grow by.
+// A worker before the first instruction. All memory is asked for here but for what the output grows by.
 fn open<M: AddressMap>(
     alloc: Global,
     code: &Code,
@@ -154,7 +166,7 @@ fn open<M: AddressMap>(
 impl Local {
     /// One of the workers before the first instruction: the cells of its module have the input's values, and 0 behind its end. The map
     /// has a module for each worker, and a place for each cell of the code. It takes all the memory of a run but for that by
-    /// which uniform registers and the output grow. Asked for a worker below their number.
+    /// which the output grows. Asked for a worker below their number.
     pub fn new<M: AddressMap>(
         alloc: Global,
         code: &Code,

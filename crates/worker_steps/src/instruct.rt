@@ -93,8 +93,8 @@ impl WorkerState {
         }
     }
 
-    /// What an instruction that leads on to the next place does to a worker. The error comes where memory was refused, which is asked for
-    /// only by what wasn't taken in advance: nothing is said of the worker then.
+    /// What an instruction that leads on to the next place does to a worker. The error comes where memory was refused, which only an item
+    /// asks for for which the output has no room: nothing is said of the worker then.
     pub fn instruct<R: WriteRule>(
         &mut self,
         code: &Code,

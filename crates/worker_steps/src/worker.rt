@@ -43,8 +43,8 @@ fn columns(alloc: Global, most: usize) -> Result<Vec<Vec<Option<u32>>>, AllocErr
 }
 
 impl WorkerState {
-    /// One of the workers before the first instruction, with room for so many private registers and for so many processors. The error
-    /// comes where memory was refused.
+    /// One of the workers before the first instruction, with all uniform registers, and room for so many private ones and for so many
+    /// processors. The error comes where memory was refused.
     pub fn new(
         alloc: Global,
         registers: u32,
@@ -70,7 +70,7 @@ impl WorkerState {
         let written = vec![in alloc; None; count]?;
         let asks = Asks::with_room(alloc, 8 * (count + 1))?;
         let puts = Puts::with_room(alloc, count + 1)?;
-        let uniform = open_uniform(alloc);
+        let uniform = open_uniform(alloc)?;
         Ok(WorkerState {
             uniform,
             bank,

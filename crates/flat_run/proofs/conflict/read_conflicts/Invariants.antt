@@ -6,8 +6,8 @@ use Rattle.flat_run.proofs.conflict.read_conflicts.Given as goal
 
 abbrev pub invariant-reads : goal.invariant-reads
 invariant-reads l =
-    (l.k ≤ length l.machine.uniform.asks.items)
-    × (l.noted ≡ flat.read_conflicts l.code (flat_of l.machine) l.k (map read_is (drop l.k l.machine.uniform.asks.items)))
+    (l.k ≤ length l.reads)
+    × (l.noted ≡ flat.read_conflicts l.code (flat_of l.machine) l.k (map read_is (drop l.k l.reads)))
 
 abbrev pub decreases-reads : goal.decreases-reads
 decreases-reads l = l.k

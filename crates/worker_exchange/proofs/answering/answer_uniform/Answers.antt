@@ -21,7 +21,7 @@ reads-preserved c =
         answered = λ value gives.
             ap (λ rs. uniform_left value reads (k + 1) (registers_of rs)) w.registers-is
             ∙ ap (uniform_left value reads (k + 1))
-            (w.put.ensures.value
+            (w.put_number.ensures.value
             ∙ ap (λ z. set_register read.destination z (registers_of c.reads.registers))
             (to_z-of_z w64 w.value.result fits)
             ∙ came_there value c.args.sent.now.held gives k read.destination w.in-Some.cell read.cell w.value.result

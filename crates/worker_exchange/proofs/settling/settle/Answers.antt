@@ -68,7 +68,7 @@ returns g c = λ code bound n is.
     ∙ parts_are came asked (ask_part rule) (omega (arith, few, many, kept, still))
     (λ i l. c.ask_parts.ensures.each i (omega (arith, l, many, count))) in
     let key = c.key_of_reads-read_key.ensures.key code bound n (received came) (ap (λ r. ask_parts r (received came)) (sym is) ∙ sym asks) in
-    let reads = ap (λ (xs : List Read). map read_is xs) c.as_slice.ensures.value in
+    let reads = ap (λ (xs : List Read). map read_is xs) c.as_slice.ensures in
     let messages = messages_to code.rule m c.args.part Sends came in
     let noted = c.key_of_reads-read_key.result in
     subst (λ z. IsSettled t c.args.part u messages c.args.cells.now z c.least.result) (sym c.key_of_reads-read_key.ensures.same)

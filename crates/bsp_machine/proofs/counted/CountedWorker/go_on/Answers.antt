@@ -6,7 +6,7 @@ use Rattle.worker_messages.specs.Shown.{purpose_is, marked, IsShown, IsAtExchang
 use Rattle.worker_messages.specs.Told.{IsWrittenFor}
 use Rattle.bsp_machine.proofs.MarkLemmas.{going_on}
 use Rattle.bsp_machine.specs.Reserves.{own_mark}
-use Rattle.bsp_machine.proofs.CountedLemmas.{standing_refused, no_reserve}
+use Rattle.bsp_machine.proofs.CountedLemmas.{standing_refused, no_reserve, stopped_short, short_of_room}
 use Rattle.bsp_machine.proofs.counted.CountedWorker.go_on.Goals as goal
 
 pub refuse-requires-clause-workers : goal.refuse-requires-clause-workers
@@ -61,3 +61,20 @@ returns-in-Err-clause-at g c = λ states told w b.
     standing_refused c.args.code.now (g.M.AddressMap.shape c.args.map.now) c.args.bound states told w _ (g.W.Row.filled c.refuse.new.row)
     OutOfMemory e.way (sym (ap own_mark c.requires.reserve)) (λ r n some low. no_reserve c.args.self.now.reserve r c.requires.reserve some)
     e.row e.read
+
+pub returns-in-Ok-clause-full : goal.returns-in-Ok-clause-full
+returns-in-Ok-clause-full g c = λ stopped states told w n b low.
+    let e = c.until_exchange-step.ensures in
+    stopped_short c.args.code.now (g.M.AddressMap.shape c.args.map.now) c.args.bound states told w c.args.self.now c.until_exchange-step.new.self
+    b (going_on c.args.self.now.local.way c.requires.going.going) e.shown e.past n low stopped
+
+pub returns-in-Err-clause-full : goal.returns-in-Err-clause-full
+returns-in-Err-clause-full g c = λ stopped states told w n b low.
+    let e = c.until_exchange-step.ensures in
+    let y = c.until_exchange-step.new.self in
+    short_of_room c.args.code.now (g.M.AddressMap.shape c.args.map.now) c.args.bound states told w c.args.self.now y
+    b (going_on c.args.self.now.local.way c.requires.going.going) e.shown e.past n low
+    (let most = c.len-most.ensures in
+    let long = y.steps.uniform.output.ok.0 in
+    let room = c.in-Err.ensures.refused in
+    omega (arith, most, long, room))

@@ -1,5 +1,7 @@
-use Rattle.std.proofs.Common.{length, ap, arith}
+use Rattle.std.proofs.Common.{length, map, ap, arith}
 use Rattle.superstep_machine.specs.Parts.{UniformPart}
+use Rattle.bsp_machine.specs.Workers.{share_told}
+use Rattle.bsp_machine.proofs.MarkLemmas.{going_on}
 use Rattle.bsp_machine.proofs.counted.CountedWorker.new.Goals as goal
 
 pub returns-clause-fresh : goal.returns-clause-fresh
@@ -14,3 +16,19 @@ returns-clause-fresh g c =
       items = record { none = c.new-items.ensures.items; room = omega (arith, none) };
       reserved = λ r some. cc;
     }
+
+pub returns-clause-opens : goal.returns-clause-opens
+returns-clause-opens g c = λ bound.
+    let e = c.in_ok-local.ensures in
+    let none = ap (λ (u : UniformPart). length u.output) (e.shown 0 0).worker.shows.uniform in
+    record {
+      worker = λ alive. e.worker;
+      shown = λ alive n low. e.shown bound n;
+      going = λ on. e.going bound;
+      counted = λ alive n low. ap (map share_told) c.new-counts.ensures.items;
+      items = λ alive. record { none = c.new-items.ensures.items; room = omega (arith, none) };
+      reserved = λ alive r some. cc;
+    }
+
+pub returns-clause-runs : goal.returns-clause-runs
+returns-clause-runs g c = going_on c.in_ok-local.local.way (c.in_ok-local.ensures.going 0).going

@@ -1,4 +1,4 @@
-use Rattle.std.proofs.Common.{ap, sym, ◌∙◌, map}
+use Rattle.std.proofs.Common.{inl, inr, ap, sym, ◌∙◌, map, arith}
 use Rattle.superstep_machine.specs.declared.mark.HeaderMark.TheVariants.{OutOfMemory}
 use Rattle.bsp_machine.specs.Workers.{share_told}
 use Rattle.bsp_machine.specs.Reserves.{own_mark}
@@ -21,3 +21,20 @@ returns-in-Err-clause-at g c = λ states told w b.
     standing_refused c.args.code.now (g.M.AddressMap.shape c.args.map.now) c.args.bound states told w _ (g.W.Row.filled c.refuse.new.row)
     OutOfMemory e.way (sym (ap own_mark c.in-None.is)) (λ r n some low. no_reserve c.args.self.now.reserve r c.in-None.is some)
     e.row e.read
+
+pub returns-in-Some-clause-full : goal.returns-in-Some-clause-full
+returns-in-Some-clause-full g c = λ none. no_reserve c.args.self.now.reserve c.in-Some.reserve none c.in-Some.is
+
+pub returns-in-Ok-clause-full : goal.returns-in-Ok-clause-full
+returns-in-Ok-clause-full g c = λ none stopped states told w n b low. inr (c.go_on.ensures.full stopped states told w n (record {
+  worker = b.worker;
+  shown = b.shown;
+  going = b.going;
+  counted = λ h k l. ap (map share_told) c.reserve.ensures.items ∙ b.counted h k l;
+  items = λ h. record { none = (b.items h).none; room = (b.items h).room };
+  reserved = λ h r some. no_reserve c.args.self.now.reserve r c.in-None.is some;
+}) low)
+
+pub returns-in-Err-clause-full : goal.returns-in-Err-clause-full
+returns-in-Err-clause-full g c = λ none stopped states told w n b low. inl (let l = c.in-Err.ensures.full in
+    let long = c.args.self.now.counts.ok.0 in omega (arith, l, long))

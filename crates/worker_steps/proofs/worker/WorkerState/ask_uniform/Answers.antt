@@ -26,7 +26,7 @@ hold_ask-requires-clause-room c =
 pub returns-clause-done : goal.returns-clause-done
 returns-clause-done c =
     let a = c.args.self.now in
-    let e = c.len-ordinal.ensures ∙ a.uniform.asks.ok.0 in
+    let e = c.len-ordinal.ensures.value in
     let fits : FitsSigned w64 c.register.result = search rules in
     let cell = c.cell-cell.ensures
     ∙ ap (λ z. cell_of c.layout-layout.result.now c.args.entry z) (to_z-of_z w64 c.register.result fits)

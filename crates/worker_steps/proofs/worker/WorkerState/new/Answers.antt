@@ -8,10 +8,10 @@ use Rattle.worker_steps.proofs.worker.WorkerState.new.Goals as goal
 
 pub returns-clause-verified : goal.returns-clause-verified
 returns-clause-verified c = λ code.
-    let e = c.open_uniform-uniform.ensures in
-    let width : c.open_uniform-uniform.result.width ≡ 0 = ap (λ (u : UniformPart). u.width) e in
-    let asks : length c.open_uniform-uniform.result.asks.items ≡ 0 = simp length-map at (ap (λ (u : UniformPart). length u.asks) e) in
-    let awaited : length c.open_uniform-uniform.result.awaited.items ≡ 0 =
+    let e = c.in_ok-uniform.ensures in
+    let width : c.in_ok-uniform.uniform.width ≡ 0 = ap (λ (u : UniformPart). u.width) e in
+    let asks : length c.in_ok-uniform.uniform.asks.items ≡ 0 = simp length-map at (ap (λ (u : UniformPart). length u.asks) e) in
+    let awaited : length c.in_ok-uniform.uniform.awaited.items ≡ 0 =
     simp length-map at (ap (λ (u : UniformPart). length u.awaited) e) in
     record {
       steps = 0;
