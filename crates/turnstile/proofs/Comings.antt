@@ -1,6 +1,6 @@
 -- How the seats are made and taken in, and what the table is at the end.
 use Rattle.std.proofs.Common.{◌≡◌, ℕ, zero, suc, ◌+◌, ◌-◌, ◌*◌, ◌/◌, ◌%◌, ◌<◌, ◌≤◌, ◌≢◌, true, false, Option, Some, List, [], ◌∷◌, ◌++◌}
-use Rattle.std.proofs.Common.{map, length, get_or, set, replicate, sym, refl, ap, ◌∙◌, subst, ⊎_elim, length-append, le_refl, mod-lt}
+use Rattle.std.proofs.Common.{map, length, get_or, set, sym, refl, ap, ◌∙◌, subst, ⊎_elim, length-append, le_refl, mod-lt}
 use Rattle.std.proofs.Common.{div-add-mod', arith}
 use mathlib.Core.Logic.{dite}
 use mathlib.Core.Option.{none, some, some-injective, some-ne-none}

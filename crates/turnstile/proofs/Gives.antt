@@ -35,16 +35,16 @@ length-homes_with hs [] = refl
 length-homes_with hs (x ∷ xs) = length-homes_with (set hs x.0 (some x.1)) xs ∙ length-set hs x.0 (some x.1)
 
 -- each entry of c for the slot k has Q
-abbrev Each : (Option PieceState → Type 0) → ℕ → Carried → Type 0
+abbrev pub Each : (Option PieceState → Type 0) → ℕ → Carried → Type 0
 Each Q k [] = Unit {0}
 Each Q k (x ∷ xs) = (x.0 ≡ k → Q x.1) × Each Q k xs
 
 -- there is an entry for the slot k
-abbrev Names : ℕ → Carried → Type 0
+abbrev pub Names : ℕ → Carried → Type 0
 Names k [] = ⊥
 Names k (x ∷ xs) = (x.0 ≡ k) ⊎ Names k xs
 
-abbrev At : (Option PieceState → Type 0) → ℕ → Homes → Type 0
+abbrev pub At : (Option PieceState → Type 0) → ℕ → Homes → Type 0
 At Q k hs = (v : Option PieceState) × (get_elem? hs k ≡ some (some v)) × Q v
 
 stays_at : (Q : Option PieceState → Type 0) (k : ℕ) (hs : Homes) (c : Carried) → Each Q k c → At Q k hs → k < length hs →
@@ -60,7 +60,7 @@ stays_at Q k hs (x ∷ xs) each at lt = stays_at Q k (set hs x.0 (some x.1)) xs 
     (λ n. (at.0, set_else hs x.0 k (some x.1) n ∙ at.1, at.2)))
     (rw (length-set hs x.0 (some x.1)) lt)
 
-comes_at : (Q : Option PieceState → Type 0) (k : ℕ) (hs : Homes) (c : Carried) → Each Q k c → Names k c → k < length hs →
+pub comes_at : (Q : Option PieceState → Type 0) (k : ℕ) (hs : Homes) (c : Carried) → Each Q k c → Names k c → k < length hs →
     At Q k (homes_with hs c)
 comes_at Q k hs [] each named lt = absurd named
 comes_at Q k hs (x ∷ xs) each named lt = ⊎_elim
@@ -141,7 +141,7 @@ module _ (blocks : TwoBlocks) (p w s : ℕ) (lw : w < p) where
     ),
   )
 
-  row_named : (j k : ℕ) (xs ys : List PieceState) → length xs ≡ length ys → k ≤ j → j < k + length xs → Names (slot p s w j)
+  pub row_named : (j k : ℕ) (xs ys : List PieceState) → length xs ≡ length ys → k ≤ j → j < k + length xs → Names (slot p s w j)
       (loaded p w s k xs ys)
   row_named j k [] ys e lo hi = absurd (omega arith)
   row_named j k (x ∷ xs) [] e lo hi = absurd (omega arith)
@@ -149,7 +149,7 @@ module _ (blocks : TwoBlocks) (p w s : ℕ) (lw : w < p) where
       dite (ℕ_discrete k j) (λ (same : k ≡ j). inl (ap (λ (z : ℕ). slot p s w z) same))
       (λ other. inr (inr (row_named j (suc k) xs ys (omega arith) (omega arith) (omega arith))))
 
-  column_named : (j k : ℕ) (xs ys : List PieceState) → length xs ≡ length ys → k ≤ j → j < k + length xs → Names (slot p (s + 1) j w)
+  pub column_named : (j k : ℕ) (xs ys : List PieceState) → length xs ≡ length ys → k ≤ j → j < k + length xs → Names (slot p (s + 1) j w)
       (loaded p w s k xs ys)
   column_named j k [] ys e lo hi = absurd (omega arith)
   column_named j k (x ∷ xs) [] e lo hi = absurd (omega arith)

@@ -14,6 +14,7 @@ pub mod Halves
 pub mod Rosters
 pub mod Closings
 pub mod Orders
+pub mod Allowed
 pub mod Hearings
 pub mod Sayings
 pub mod Rows

@@ -15,13 +15,13 @@ use Rattle.std.proofs.lemmas.List.Elements.{All-nil, All-push}
 use Rattle.turnstile.specs.Turns.{message, weight, slot, saw, phase, taken, Homes, Sound, looked, finished}
 use Rattle.turnstile.specs.Loads.{loaded, homes_with}
 use Rattle.turnstile.specs.Interleavings.{Event, finish, look, Core, changed, piece_in, start, seen_by, if_new, after, May, run}
-use Rattle.turnstile.specs.Interleavings.{IsInterleaving, ReceivesWhatWasSent, ReceivesFromEach, HasWholeColumns}
+use Rattle.turnstile.specs.Interleavings.{IsInterleaving, StepsKeepTheRule, ReceivesWhatWasSent, ReceivesFromEach, HasWholeColumns}
 use Rattle.turnstile.proofs.Grids.{put, at_put, put_here, put_else, entry_end, entry_longer, entry_last, at_replicate}
 use Rattle.turnstile.proofs.Keeps.{found, look_keeps}
 use Rattle.turnstile.proofs.Gives.{gives_keeps}
 use Rattle.turnstile.proofs.Moves.{fresh_saw}
 
-same_put : (team : ℕ → Worker) (w : ℕ) (x : Worker) (j : ℕ) → put team w x j ≡ changed team w x j
+pub same_put : (team : ℕ → Worker) (w : ℕ) (x : Worker) (j : ℕ) → put team w x j ≡ changed team w x j
 same_put team w x j = dite (ℕ_discrete j w)
     (λ e. let b = eq-eqb j w e in ap (put team w x) e ∙ put_here team w x ∙ (rw b refl))
     (λ n. let b = ne_eqb j w n in put_else team w x j n ∙ (rw b refl))
@@ -32,7 +32,7 @@ same_team team w x = λ q j. same_put team w x j q
 abbrev pub Stands : TwoBlocks → Core → Type 0
 Stands b c = Sound b b.side c.words c.homes c.team × ((k : ℕ) → (c.team k).workers ≡ b.side) × ((k : ℕ) → (c.team k).left ≡ false)
 
-seen_all : (p i : ℕ) → i < p → get_or (replicate p true) i false ≡ true
+pub seen_all : (p i : ℕ) → i < p → get_or (replicate p true) i false ≡ true
 seen_all zero i lt = absurd (omega arith)
 seen_all (suc p) zero lt = refl
 seen_all (suc p) (suc i) lt = seen_all p i (omega arith)
@@ -132,9 +132,12 @@ module _ (blocks : TwoBlocks) (c : Core) (h : Stands blocks c) where
   steps_stand (finish w row back) may = finishes_stand w row back may
   steps_stand (look w i) may = looks_stand w i may (nat_le (phase (c.team w)) (get_or c.words i 0)) (saw (c.team w) i) refl refl
 
-stands : (b : TwoBlocks) (es : List Event) → 0 < b.side → IsInterleaving b es → Stands b (run b es)
+pub stands : (b : TwoBlocks) (es : List Event) → 0 < b.side → IsInterleaving b es → Stands b (run b es)
 stands b [] pos h = starts b pos
 stands b (e ∷ es) pos h = steps_stand b (run b es) (stands b es pos h.0) e h.1
+
+pub steps_keep_the_rule : StepsKeepTheRule
+steps_keep_the_rule b es pos h = (stands b es pos h).0
 
 pub receives_what_was_sent : ReceivesWhatWasSent
 receives_what_was_sent b es pos h j i s m lj li e = (stands b es pos h).0.told j i s m lj li e

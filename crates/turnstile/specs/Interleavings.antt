@@ -11,7 +11,7 @@ use Rattle.turnstile.specs.declared.views.Message.{Message}
 use Rattle.turnstile.specs.declared.views.Worker.{Worker}
 use Rattle.turnstile.specs.declared.views.View.{View}
 use Rattle.turnstile.specs.Blocks.{TwoBlocks}
-use Rattle.turnstile.specs.Turns.{message, message_of, blank, entry, slot, saw, phase, HasTaken, Homes, Carried, seated, looked, finished}
+use Rattle.turnstile.specs.Turns.{message, message_of, blank, entry, slot, saw, phase, HasTaken, Homes, Carried, Sound, seated, looked, finished}
 use Rattle.turnstile.specs.Turns.{looks_at, finishes}
 use Rattle.turnstile.specs.Loads.{RowPlaced, ColumnPlaced, loaded, homes_with}
 
@@ -128,6 +128,20 @@ LooksAreTheTables = (b : TwoBlocks) (s : State (Option PieceState) View) (team :
     → core_of (stepped s i n id carried v a) (changed team w v.mine) ≡ after b (core_of s team) (look w i)
 
 -- ---- the law
+
+-- the barrier's rule holds between two steps
+abbrev pub KeepsRule : TwoBlocks → Core → Type 0
+KeepsRule b c = Sound b b.side c.words c.homes c.team
+
+-- The rule holds at the start, and behind every list of steps.
+abbrev pub StepsKeepTheRule : Type 0
+StepsKeepTheRule = (b : TwoBlocks) (es : List Event) → 0 < b.side → IsInterleaving b es → KeepsRule b (run b es)
+
+-- And a Finish behind which the rule holds is one that the steps allow, whoever makes it, with whatever pieces for all workers.
+abbrev pub FinishesByTheRuleAreAllowed : Type 0
+FinishesByTheRuleAreAllowed = (b : TwoBlocks) (es : List Event) → 0 < b.side → IsInterleaving b es
+    → (w : ℕ) (row back : List PieceState) → w < b.side → length row ≡ b.side → length back ≡ b.side
+    → KeepsRule b (after b (run b es) (finish w row back)) → May b (run b es) (finish w row back)
 
 -- what j has received from i in a phase is what i has sent to j in it, so where i has not come as far j has nothing
 abbrev pub ReceivesWhatWasSent : Type 0

@@ -1,6 +1,6 @@
 // The law of the turnstile.
 ghost use Rattle.turnstile.specs.Interleavings.{FinishesAreTheTables, LooksAreTheTables, ReceivesWhatWasSent, ReceivesFromEach};
-ghost use Rattle.turnstile.specs.Interleavings.{HasWholeColumns};
+ghost use Rattle.turnstile.specs.Interleavings.{HasWholeColumns, StepsKeepTheRule, FinishesByTheRuleAreAllowed};
 
 /// What the workers have received, in whatever order they make their steps: a Finish or a Look of any worker, one at a
 /// time. The body is empty: this is a law, for proofs.
@@ -10,6 +10,12 @@ pub fn interleaving_law()
 
     // .. and so does what it may give and take by a Look.
     ensures looks { LooksAreTheTables }
+
+    // The rule of the barrier holds at the start and behind every list of steps ..
+    ensures sound { StepsKeepTheRule }
+
+    // .. and each Finish that leaves the rule is one of these steps, so that the law speaks of all that seats make.
+    ensures allowed { FinishesByTheRuleAreAllowed }
 
     // What j has received from i in a phase is what i has sent to j in it.
     ensures sent { ReceivesWhatWasSent }
