@@ -34,7 +34,7 @@ use Rattle.workers.specs.Exchanged.{rows_at, columns_at, sent_by, received_by, c
 use Rattle.workers.specs.Seating.{sent_of, received_of}
 use Rattle.workers.specs.Worked.{MarksWherePast}
 use Rattle.workers.specs.Past.{ComesPast}
-use Rattle.workers.specs.Gathered.{HasEnded, HaveEnded}
+use Rattle.workers.specs.Gathered.{HasEnded, HaveEnded, NoneHasStopped}
 use Rattle.workers.proofs.ExchangeLemmas.{seats_have_exchanged}
 use Rattle.workers.proofs.ReceivedLemmas.{received_all}
 use Rattle.workers.proofs.PastLemmas.{within, comes_past}
@@ -243,6 +243,9 @@ module _ (code : SuperstepCode) (m : Shape) (runnable : IsRunnable code m) (boun
       comes_past code m runnable bound input reserve (crossings seats) (sent_by seats) (received_by seats) exchange (marked reserve have)
       (λ n low w l. subst (HasGone (setting code m bound n) w (opening (setting code m bound n) input w) (received_by seats w)
       (sent_by seats w)) (all_stop true stopped w l) (gone n low w l))
+
+  pub none_stops : IsFirstUnstopped workers → NoneHasStopped workers
+  none_stops alive w x at = sym (stops_is w x at) ∙ all_stop false alive w (below w x at)
 
   -- ---- by which mark
 

@@ -8,3 +8,4 @@ pub mod PairLemmas
 pub mod CrewLemmas
 pub mod RunLemmas
 pub mod PastLemmas
+pub mod SizeLemmas

@@ -26,10 +26,10 @@ use Rattle.bsp_machine.proofs.ListLemmas.{there_at, get_within}
 use Rattle.workers.specs.Worked.{items_at, MarksWherePast}
 use Rattle.workers.specs.Past.{ComesPast}
 
-true_no_false : true ≡ false → ⊥
+pub true_no_false : true ≡ false → ⊥
 true_no_false h = cc
 
-below_or_past : (k n : ℕ) → (k < n) ⊎ (n ≤ k)
+pub below_or_past : (k n : ℕ) → (k < n) ⊎ (n ≤ k)
 below_or_past k zero = inr (omega arith)
 below_or_past zero (suc n) = inl (omega arith)
 below_or_past (suc k) (suc n) = ⊎_elim (λ (a : k < n). inl (omega (arith, a))) (λ (a : n ≤ k). inr (omega (arith, a))) (below_or_past k n)

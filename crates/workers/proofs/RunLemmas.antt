@@ -4,14 +4,10 @@ use Rattle.std.proofs.Common.{refl, sym, ap, ◌∙◌, subst, arith}
 use Rattle.std.specs.Prelude.{slice_get, zip}
 use Rattle.std.specs.List.{AllByRecursion}
 use Rattle.std.proofs.lemmas.List.{length-map}
-use Rattle.std.proofs.Math.Nat.{div-le_self}
-use Rattle.pram_model.specs.declared.rule.Rule.{Rule}
-use Rattle.pram_model.specs.declared.rule.Rule.TheVariants as rules_are
 use Rattle.address_map.specs.Lawful.{Shape}
 use Rattle.superstep_code.specs.Code.{SuperstepCode}
 use Rattle.superstep_code.specs.Limits.{IsCode}
 use Rattle.superstep_machine.specs.Run.{opening, setting}
-use Rattle.run_limits.specs.Within.{words_for_each}
 use Rattle.worker_messages.specs.Equipped.{most_words}
 use Rattle.turnstile.specs.Seats.{RowState, AreSeatsOf}
 use Rattle.bsp_machine.specs.declared.counted.CountedWorker.{CountedWorker}
@@ -27,21 +23,6 @@ use Rattle.workers.specs.Worked.{HasWorked}
 use Rattle.workers.specs.Crews.{Pairwise}
 use Rattle.workers.specs.Tasks.{RunState, TaskState, tasks_for, IsReady, HasPlayed, CanBegin}
 use Rattle.workers.proofs.PairLemmas.{pair_at, pairs_long, mapped_at}
-
--- no message is longer than a seat may have room for
-pub few_words : (code : SuperstepCode) (m : Shape) → IsCode code → m.parts ≤ 32 → most_words code m ≤ 1048576
-few_words code m limits few =
-    let procs = limits.few_procs in
-    let share : (code.procs + (m.parts - 1)) / m.parts ≤ 2 ^ 14 + 31 =
-    (let d = div-le_self (code.procs + (m.parts - 1)) m.parts in omega (arith, d, procs, few)) in
-    by_rule code.rule share
-  where
-    by_rule : (rule : Rule) {n : ℕ} → n ≤ 2 ^ 14 + 31 → words_for_each rule * n ≤ 1048576
-    by_rule rules_are.Erew h = omega (arith, h)
-    by_rule rules_are.Crew h = omega (arith, h)
-    by_rule rules_are.Common h = omega (arith, h)
-    by_rule rules_are.Priority h = omega (arith, h)
-    by_rule rules_are.Sum h = omega (arith, h)
 
 -- ---- two lists as one
 

@@ -1,9 +1,9 @@
 -- Workers that have played their parts of one run.
-use Rattle.std.specs.Prelude.{◌≡◌, ℕ, List, [], length, Some, true, ℤ, slice_get}
+use Rattle.std.specs.Prelude.{◌≡◌, ℕ, List, [], length, Some, true, false, ℤ, slice_get}
 use Rattle.address_map.specs.Lawful.{Shape}
 use Rattle.superstep_code.specs.Code.{SuperstepCode}
 use Rattle.superstep_machine.specs.Run.{opening, is_over, setting}
-use Rattle.worker_messages.specs.Shown.{way_is}
+use Rattle.worker_messages.specs.Shown.{way_is, is_stopped}
 use Rattle.turnstile.specs.Seats.{RowState}
 use Rattle.bsp_machine.specs.declared.counted.CountedWorker.{CountedWorker}
 use Rattle.workers.specs.Worked.{HasWorked}
@@ -28,3 +28,7 @@ pub record HaveEndedSome (code : SuperstepCode) (m : Shape) (seats : List RowSta
   pub bound : ℕ
   pub input : List ℤ
   pub ended : HaveEnded code m bound input seats workers
+
+-- no worker was stopped by a mark
+abbrev pub NoneHasStopped : List CountedWorker → Type 0
+NoneHasStopped workers = (w : ℕ) (x : CountedWorker) → slice_get workers w ≡ Some x → is_stopped x.local.way ≡ false

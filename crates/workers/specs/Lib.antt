@@ -6,3 +6,4 @@ pub mod Tasks
 pub mod Reports
 pub mod Crews
 pub mod Past
+pub mod Sizes

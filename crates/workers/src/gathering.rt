@@ -10,7 +10,7 @@ ghost use Rattle.bsp_machine.specs.declared.reserve.Reserve.{Reserve as Given};
 ghost use Rattle.bsp_machine.specs.Reserves.{HaveReserve, refusal_for};
 ghost use Rattle.bsp_machine.specs.Opening.{IsRoom};
 ghost use Rattle.bsp_machine.specs.Ended.{IsFirstStopped};
-ghost use Rattle.workers.specs.Gathered.{HaveEnded, HaveEndedSome};
+ghost use Rattle.workers.specs.Gathered.{HaveEnded, HaveEndedSome, NoneHasStopped};
 ghost use Rattle.workers.specs.Past.{ComesPast};
 
 use address_map::AddressMap;
@@ -38,6 +38,8 @@ pub fn gather<M: AddressMap>(
     requires room { IsRoom code.now (M.shape map.now) room }
     ensures given { (reserve : Option Given) → HaveReserve reserve workers.items → IfErr result (λ refusal. refusal ≡ refusal_for reserve) }
     ensures stopped { IfErr result (λ refusal. IsFirstStopped workers.items) }
+    // There is an answer only where no worker was stopped by a mark.
+    ensures unstopped { IfOk result (λ found. NoneHasStopped workers.items) }
     // With a reserve they have stopped exactly where the run comes past it.
     ensures past { IfErr result (λ refusal. (bound : ℕ) (input : List ℤ) (reserve : Given) →
         HaveEnded code.now (M.shape map.now) bound input seats.items workers.items → HaveReserve (Some reserve) workers.items →

@@ -31,7 +31,7 @@ use turnstile::{RowSeat, Turnstile};
 use worker_messages::RunRefusal;
 use write_rules::Outcome;
 
-// All workers play their parts, each in a thread of its own. All seats come back, and the workers if they began: where the start of a
+// All workers play their parts, a thread being started for each. All seats come back, and the workers if they began: where the start of a
 // thread is refused, none does.
 fn play_all<'a, R: Threads + Wait + Sync, M: AddressMap + Sync, G: Gate + Sync>(
     rt: &R,
@@ -133,10 +133,11 @@ pub fn run_with_reserve<R: Threads + Wait + Sync, M: AddressMap + Sync, G: Gate 
     run_code(rt, alloc, code, map, workers, input, bound, reserve, gate)
 }
 
-/// Runs verified code on an input by so many workers, each in a thread of its own, within a bound on statements: what the run comes to,
-/// and its exchanges with the words of each. They are those of the machine of so many workers, in whatever order the threads get on.
-/// Each worker passes the gate before each exchange. The first refusal that holds comes, before anything of the run is done;
-/// `OutOfMemory` comes where memory was refused, here, to any worker on the way, or for the start of a thread: then no worker begins.
+/// Runs verified code on an input by so many workers, within a bound on statements: what the run comes to, and its exchanges with the words
+/// of each. They are those of the machine of so many workers, in whatever order the threads get on. The first refusal that holds comes,
+/// before anything of the run is done; `OutOfMemory` comes where memory was refused, here, to any worker on the way, or for the start of a
+/// thread. What no clause says: a thread is started for each worker, each passes the gate before each exchange, and where a start is refused
+/// no worker begins.
 pub fn run_workers<R: Threads + Wait + Sync, M: AddressMap + Sync, G: Gate + Sync>(
     rt: &R,
     alloc: Global,
@@ -157,7 +158,7 @@ pub fn run_workers<R: Threads + Wait + Sync, M: AddressMap + Sync, G: Gate + Syn
 
 /// The same run by workers that take all their memory before the first exchange, for so many items of output and so many exchanges. It is
 /// refused with `OutOfReserve` exactly where the run prints more items than that, those that a fault drops counted, or has more exchanges,
-/// and nothing else speaks against it; `OutOfMemory` comes before the first exchange or not at all.
+/// and nothing else speaks against it. No clause says what had been done where `OutOfMemory` is answered.
 pub fn run_reserved<R: Threads + Wait + Sync, M: AddressMap + Sync, G: Gate + Sync>(
     rt: &R,
     alloc: Global,

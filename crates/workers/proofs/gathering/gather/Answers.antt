@@ -1,6 +1,6 @@
 use Rattle.std.proofs.Common.{Ok, Err}
 use Rattle.std.specs.Prelude.{IfOk, IfErr, Result}
-use Rattle.workers.proofs.GatherLemmas.{have_run, first_over, all_given, stays_within, past_when_stopped}
+use Rattle.workers.proofs.GatherLemmas.{have_run, first_over, all_given, stays_within, none_stops, past_when_stopped}
 use Rattle.workers.proofs.gathering.gather.Goals as goal
 
 if_ok : {A E : Type 0} (P Q : A → Type 0) → ((a : A) → P a → Q a) → (r : Result A E) → IfOk r P → IfOk r Q
@@ -69,3 +69,12 @@ returns-clause-within g c =
     (λ found alive bound input reserve ended have. stays_within c.args.code.now (g.M.AddressMap.shape c.args.map.now)
     c.requires.runnable bound input c.args.seats.items c.args.workers.items ended closed.phases closed.exchanged closed.whole reserve have
     alive) c.collect.result c.collect.ensures.unstopped
+
+pub returns-clause-unstopped : goal.returns-clause-unstopped
+returns-clause-unstopped g c =
+    let e = c.requires.ended in
+    let closed = c.close.ensures in
+    if_ok _ _
+    (λ found alive. none_stops c.args.code.now (g.M.AddressMap.shape c.args.map.now) c.requires.runnable e.bound e.input
+    c.args.seats.items c.args.workers.items e.ended closed.phases closed.exchanged closed.whole alive) c.collect.result
+    c.collect.ensures.unstopped

@@ -12,7 +12,7 @@ use Rattle.bsp_machine.specs.Opening.{AreFresh}
 use Rattle.bsp_machine.proofs.ListLemmas.{get_there}
 use Rattle.workers.specs.Gathered.{HaveEnded}
 use Rattle.workers.specs.Past.{ComesPast, IsRefusalWith, StaysWithin}
-use Rattle.workers.proofs.RunLemmas.{few_words}
+use Rattle.worker_messages.proofs.OpeningLemmas.{few_words}
 use Rattle.workers.proofs.run.run_code.Goals as goal
 
 if_ok : {A E : Type 0} (P Q : A → Type 0) → ((a : A) → P a → Q a) → (r : Result A E) → IfOk r P → IfOk r Q
