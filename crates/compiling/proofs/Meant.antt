@@ -1,13 +1,16 @@
--- Fused code of a program within bounds means what the program means.
+-- The code of a program within bounds means what the program means.
 use Rattle.std.proofs.Common.{true}
 use Rattle.superstep_code.specs.Code.{SuperstepCode}
 use Rattle.pram_check.specs.Checked.{Checked}
 use Rattle.pram_check.specs.Bounded.{IsBounded}
+use Rattle.plain_form.specs.PlainForm.{form_of}
 use Rattle.formed_code.proofs.ProgramsFormed.{forms_are_well_formed}
+use Rattle.fusing.proofs.Fused.{all_fuse}
 use Rattle.outside_runs.proofs.Followed.{statements_are_followed}
 use Rattle.compiled_meaning.specs.Supersteps.{IsFusedForm}
 use Rattle.compiled_meaning.proofs.Supersteps.{is_fused}
 use Rattle.compiling.specs.Compiled.{IsCodeOf}
 
 pub means_program : (p : Checked) (code : SuperstepCode) → IsBounded p → IsCodeOf p code → IsFusedForm p code
-means_program p code bounded fuses = is_fused statements_are_followed true p bounded (forms_are_well_formed true p bounded) code fuses
+means_program p code bounded is =
+    is_fused statements_are_followed true p bounded (forms_are_well_formed true p bounded) code (all_fuse (form_of true p) code is)

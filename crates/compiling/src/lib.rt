@@ -2,5 +2,6 @@
 #![tactic(auto)]
 
 mod compiler;
+pub mod law;
 
 pub use compiler::{compile, compile_program};

@@ -1,4 +1,4 @@
-//! What fusing changes in the runs of worked code, and what it doesn't, by the definitions alone.
+//! What fused code is, and what fusing changes in the runs of worked code, by the definitions alone.
 
 ghost use Rattle.std.specs.Prelude.{◌≡◌, [], ◌∷◌, Some, None, true, false};
 ghost use Rattle.pram_values.specs.declared.kind.Kind.TheVariants.{DivideByZero};
@@ -7,7 +7,21 @@ ghost use Rattle.write_rules.specs.Verdict.{Faulted};
 ghost use Rattle.superstep_machine.specs.Run.{Sends, Closes};
 ghost use Rattle.flat_machine.specs.ByInstructions.{everywhere, outcome_within};
 ghost use Rattle.flat_machine.specs.Exchanges.{exchanges_of};
+ghost use Rattle.fusing.specs.Fusing.{FusedCodeFuses, HasAFusedCode, HasOneFusedCode};
 ghost use Rattle.fusing.specs.Worked.{dividing, dividing_fused, writing, writing_fused};
+
+/// Well-formed code has exactly one fused code. Whether something is held at a place has one answer:
+/// each place is a successor of a lower one, which has left its state there.
+pub fn one_code_is_fused()
+    ensures one { HasOneFusedCode }
+    ensures any { HasAFusedCode }
+{}
+
+/// That code has the outcomes of the code on the workers of every map, and no other, and its
+/// exchanges but for the empty ones where it doesn't fault.
+pub fn fused_code_is_right()
+    ensures right { FusedCodeFuses }
+{}
 
 /// A fault that an empty send would have told is told at the close, and is the same.
 pub fn a_fault_is_told_later()
