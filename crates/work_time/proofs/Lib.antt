@@ -17,3 +17,4 @@ pub mod Brent
 pub mod Complete
 pub mod Rows
 pub mod RowCosts
+pub mod Timed

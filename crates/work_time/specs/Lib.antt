@@ -1,5 +1,6 @@
 pub mod Steps
 pub mod Cost
+pub mod Time
 pub mod Totals
 pub mod Spending
 pub mod Accounts

@@ -7,6 +7,7 @@ ghost use Rattle.pram_meaning.specs.Outcome.{IsOutcome};
 ghost use Rattle.exchange_bound.specs.Bound.{exchange_bound};
 ghost use Rattle.work_time.specs.Cost as spec;
 ghost use Rattle.work_time.specs.Steps.{run_steps};
+ghost use Rattle.work_time.specs.Time.{IsTimeWithin};
 
 use crate::line_cost::LineCost;
 use crate::row_costs::costs_by_line;
@@ -53,6 +54,8 @@ pub fn cost_of(
     ensures fits { IfOk result (λ r. length input.now ≤ total_size program.now.layout) }
     ensures too_long { (result ≡ Err RunRefusal.InputTooLong) ↔ (total_size program.now.layout < length input.now) }
     ensures time { IfOk result (λ r. r.1.time ≡ spec.time (run_steps program.now input.now bound)) }
+    // The time is at most the bound, and is the bound where the run goes on.
+    ensures within { IfOk result (λ r. IsTimeWithin (verdict_of r.0) r.1.time bound) }
     ensures work { IfOk result (λ r. r.1.work ≡ spec.work (run_steps program.now input.now bound)) }
     ensures width { IfOk result (λ r. r.1.width ≡ spec.most_processors (run_steps program.now input.now bound)) }
     ensures reads { IfOk result (λ r. r.1.reads ≡ spec.reads (run_steps program.now input.now bound)) }

@@ -1,10 +1,20 @@
 //! Laws of the costs of a run.
 
 ghost use Rattle.work_time.specs.Cost.{BrentsPrinciple};
+ghost use Rattle.work_time.specs.Time.{GoingOnTakesTheBound, TimeIsTheLeastBound, TimeIsWithinTheBound};
 
 /// Brent's scheduling principle: q processors need no more rounds for a run than its work divided by
 /// q, and its time.
 #[tactic(auto, using(crate::proofs::Brent::brent))]
 pub fn brents_principle()
     ensures { BrentsPrinciple }
+{}
+
+/// The time of a run is at most its bound, and is the bound where the run goes on; and a program
+/// ends within a bound exactly where its time is at most that bound.
+#[tactic(auto, using(crate::proofs::Timed::time_is_within_the_bound, crate::proofs::Timed::going_on_takes_the_bound))]
+pub fn time_keeps_to_the_bound()
+    ensures within { TimeIsWithinTheBound }
+    ensures goes_on { GoingOnTakesTheBound }
+    ensures ends { TimeIsTheLeastBound }
 {}

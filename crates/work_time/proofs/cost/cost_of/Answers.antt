@@ -1,5 +1,6 @@
 use Rattle.std.proofs.Common.{◌∙◌, ap, length}
 use Rattle.exchange_bound.specs.Events.{events_of}
+use Rattle.write_rules.specs.Verdict.{verdict_of}
 use Rattle.work_time.specs.Ledgers.{tally_is}
 use Rattle.work_time.specs.Spending.{closed}
 use Rattle.work_time.specs.Steps.{run_steps}
@@ -8,6 +9,7 @@ use Rattle.work_time.proofs.Brent.{kept_brent}
 use Rattle.work_time.proofs.RowCosts.{all_told, exchanges_told, lines_told, rows_told}
 use Rattle.work_time.proofs.Spendings.{closed_is}
 use Rattle.work_time.proofs.Sums.{reads_are, rounds_are, time_is, width_is, work_is, writes_are}
+use Rattle.work_time.proofs.Timed.{time_kept}
 use Rattle.work_time.proofs.cost.cost_of.Goals as goal
 
 pub returns-clause-time : goal.returns-clause-time
@@ -16,6 +18,14 @@ returns-clause-time c =
     let events = events_of c.args.program.now c.args.input.now c.args.bound in
     let ledger = c.in_ok-outcome.ledger in
     time_is c.args.schedule steps (tally_is ledger.all) (all_told c.args.schedule steps events ledger c.in_ok-outcome.ensures.totals)
+
+pub returns-clause-within : goal.returns-clause-within
+returns-clause-within c =
+    let steps = run_steps c.args.program.now c.args.input.now c.args.bound in
+    let events = events_of c.args.program.now c.args.input.now c.args.bound in
+    let ledger = c.in_ok-outcome.ledger in
+    time_kept c.args.program.now c.args.input.now c.args.bound (verdict_of c.in_ok-outcome.outcome) ledger.all.time c.in_ok-outcome.ensures.outcome
+    (time_is c.args.schedule steps (tally_is ledger.all) (all_told c.args.schedule steps events ledger c.in_ok-outcome.ensures.totals))
 
 pub returns-clause-work : goal.returns-clause-work
 returns-clause-work c =

@@ -1,0 +1,376 @@
+-- The time of a run is the count of its statements, so it keeps to the bound.
+use Rattle.std.proofs.Common.{◌≡◌, ◌⊎◌, inl, inr, ℕ, zero, suc, ◌+◌, ◌<◌, ◌≤◌, ℤ, pos, ◌+ℤ◌, List, [], ◌∷◌, ◌++◌, Bool, true, false, if◌then◌else◌}
+use Rattle.std.proofs.Common.{Option, Some, None, Result, Ok, Err, arith, length, nat_lt, refl, ◌∙◌, subst}
+use Rattle.std.proofs.lemmas.Bool.{cases_lt, le-ltb, lt-ltb}
+use Rattle.std.proofs.lemmas.List.{length-append}
+use Rattle.pram_model.specs.Layout.{width}
+use Rattle.pram_check.specs.Checked.{Checked}
+use Rattle.pram_names.specs.declared.body.Expression.{Expression}
+use Rattle.pram_names.specs.declared.body.Statement.{Statement, Assign, Print, While', If', For', Pardo, Row_of-Statement, end_of-Statement}
+use Rattle.pram_names.specs.declared.body.Statement.{more_of-Statement}
+use Rattle.pram_names.specs.declared.body.Step as step
+use Rattle.pram_names.specs.declared.body.Step.{Step, Row_of-Step, end_of-Step, more_of-Step}
+use Rattle.pram_names.specs.declared.body.StepTarget.{StepTarget}
+use Rattle.pram_names.specs.declared.body.StepTarget.TheVariants as inner
+use Rattle.pram_names.specs.declared.body.Target.{Target}
+use Rattle.pram_names.specs.declared.body.Target.TheVariants as target
+use Rattle.pram_values.specs.Truth.{is_nonzero}
+use Rattle.write_rules.specs.declared.fault.Fault.{Fault}
+use Rattle.write_rules.specs.Verdict.{Ended, Faulted, GoesOn, Verdict}
+use Rattle.pram_meaning.specs.Attempt.{Attempt, Effect, attempt, attempt_assign, attempt_bounds, attempt_range, attempt_step, attempt_value}
+use Rattle.pram_meaning.specs.Bounded.{Behaviour, Done, Goes, Reaches, Stops, attempted_on, counted, evaluated, for_turns, found, pardo_done}
+use Rattle.pram_meaning.specs.Bounded.{perform, perform_list, perform_list_on, perform_on, perform_row, perform_row_on, tested, tested_on}
+use Rattle.pram_meaning.specs.Bounded.{then_do, turns, turns_on, unless_none, valued}
+use Rattle.pram_meaning.specs.Computed.{body_done, verdict_at}
+use Rattle.pram_meaning.specs.Conflict.{Part}
+use Rattle.pram_meaning.specs.Meaning.{Ends}
+use Rattle.pram_meaning.specs.Outcome.{Body, IsOutcome, opening}
+use Rattle.pram_meaning.specs.Store.{State, View, numbers, printed, seen, with_team, with_uniform, without_team}
+use Rattle.pram_meaning.specs.Together.{after_write, alone, assigned, assigned_by, parts, those, together}
+use Rattle.pram_meaning.proofs.AgreeAll.{agree_list}
+use Rattle.pram_meaning.proofs.OneOutcome.{outcome_is_computed}
+use Rattle.work_time.specs.declared.time_step.TimeStep.{TimeStep}
+use Rattle.work_time.specs.Cost.{time}
+use Rattle.work_time.specs.Steps.{acting, begun, behind, by_one, by_set, effect_writes, for_turns_steps, if_any}
+use Rattle.work_time.specs.Steps.{inner_list_steps, inner_row_steps, inner_steps, list_steps, none_of, one_step, row_steps, run_steps}
+use Rattle.work_time.specs.Steps.{set_step, steps, test_step, turns_on_steps, turns_steps, value_step}
+use Rattle.work_time.specs.Time.{GoingOnTakesTheBound, IsTimeWithin, TimeIsTheLeastBound, TimeIsWithinTheBound}
+
+abbrev done : Unit {0}
+done = tt
+
+abbrev one_more : State → State
+one_more m = record m { count = m.count + 1 }
+
+-- a part of a run within n statements that takes these time steps: the state behind it has counted them
+abbrev IsTimed : {A : Type 0} → ℕ → State → List TimeStep → Behaviour A → Type 0
+IsTimed n m ss (Goes a new) = (new.count ≡ m.count + length ss) × (new.count ≤ n)
+IsTimed n m ss (Stops k out) = m.count + length ss ≤ n
+IsTimed n m ss (Reaches out) = m.count + length ss ≡ n
+
+timed_on : {B : Type 0} (n : ℕ) (m new : State) (ss ts : List TimeStep) (b : Behaviour B) → new.count ≡ m.count + length ss →
+    IsTimed n new ts b → IsTimed n m (ss ++ ts) b
+timed_on n m new ss ts (Goes a last) e t = let l = length-append ss ts in let u = t.0 in (omega (arith, l, e, u), t.1)
+timed_on n m new ss ts (Stops k out) e t = let l = length-append ss ts in omega (arith, l, e, t)
+timed_on n m new ss ts (Reaches out) e t = let l = length-append ss ts in omega (arith, l, e, t)
+
+timed_then : {A B : Type 0} (n : ℕ) (m : State) (ss : List TimeStep) (b : Behaviour A) (h : A → State → List TimeStep)
+    (g : A → State → Behaviour B) → IsTimed n m ss b →
+    ((a : A) (new : State) → b ≡ Goes a new → new.count ≤ n → IsTimed n new (h a new) (g a new)) →
+    IsTimed n m (ss ++ behind b h) (then_do b g)
+timed_then n m ss (Goes a new) h g t u = timed_on n m new ss (h a new) (g a new) t.0 (u a new refl t.1)
+timed_then n m ss (Stops k out) h g t u = let l = length-append ss [] in omega (arith, l, t)
+timed_then n m ss (Reaches out) h g t u = let l = length-append ss [] in omega (arith, l, t)
+
+timed_map : {A B : Type 0} (n : ℕ) (m : State) (ss : List TimeStep) (b : Behaviour A) (f : A → State → B) (h : A → State → State) →
+    ((a : A) (m : State) → (h a m).count ≡ m.count) → IsTimed n m ss b → IsTimed n m ss (then_do b (λ a m. Goes (f a m) (h a m)))
+timed_map n m ss (Goes a new) f h e t =
+    let c = e a new in let u = t.0 in let l = t.1 in (omega (arith, c, u), omega (arith, c, l))
+timed_map n m ss (Stops k out) f h e t = t
+timed_map n m ss (Reaches out) f h e t = t
+
+none_timed : {A : Type 0} (n : ℕ) (a : A) (m : State) → m.count ≤ n → IsTimed n m [] (Goes a m)
+none_timed n a m l = (omega arith, l)
+
+-- ---- a statement
+
+-- it counts, and what it comes to counts nothing more
+begun_timed : {A : Type 0} (n : ℕ) (m : State) (s : TimeStep) (r : State → Result A Fault) → m.count ≤ n →
+    IsTimed n m (begun n m s) (then_do (counted n m) (λ u m. valued (r m) m))
+begun_timed {A = A} n m s r l = by (cases_lt m.count n) where
+  come : (x : Result A Fault) → m.count < n → IsTimed n m (s ∷ []) (valued x (one_more m))
+  come (Ok a) h = (omega arith, omega (arith, h))
+  come (Err k) h = omega (arith, h)
+
+  by : (m.count < n) ⊎ (n ≤ m.count) → IsTimed n m (begun n m s) (then_do (counted n m) (λ u m. valued (r m) m))
+  by (inl h) = rw (lt-ltb m.count n h) (come (r (one_more m)) h)
+  by (inr h) = rw (le-ltb m.count n h) (omega (arith, h, l))
+
+-- what goes on has counted one at least
+abbrev Moves : {A : Type 0} → State → Behaviour A → Type 0
+Moves m (Goes a new) = m.count < new.count
+Moves m (Stops k out) = Unit {0}
+Moves m (Reaches out) = Unit {0}
+
+begun_moves : {A : Type 0} (n : ℕ) (m : State) (r : State → Result A Fault) → Moves m (then_do (counted n m) (λ u m. valued (r m) m))
+begun_moves {A = A} n m r = by (nat_lt m.count n) where
+  come : (x : Result A Fault) → Moves m (valued x (one_more m))
+  come (Ok a) = omega arith
+  come (Err k) = tt
+
+  by : (b : Bool) → Moves m (then_do (if b then Goes done (one_more m) else Reaches m.output) (λ u m. valued (r m) m))
+  by true = come (r (one_more m))
+  by false = tt
+
+moves_map : {A B : Type 0} (m : State) (b : Behaviour A) (f : A → B) → Moves m b → Moves m (then_do b (λ a m. Goes (f a) m))
+moves_map m (Goes a new) f h = h
+moves_map m (Stops k out) f h = tt
+moves_map m (Reaches out) f h = tt
+
+-- ---- inside pardo
+
+written_count : (c : Option ℕ) (v : ℤ) (m : State) → (after_write c v m).count ≡ m.count
+written_count None v m = refl
+written_count (Some c) v m = refl
+
+assigned_count : (x : Target) (g : Effect) (m : State) → (assigned x g m).count ≡ m.count
+assigned_count (target.Uniform x) g m = refl
+assigned_count (target.Cell a) g m = written_count g.cell g.value m
+assigned_count (target.Element a e) g m = written_count g.cell g.value m
+
+assigned_by_count : (p : Checked) (x : StepTarget) (xs : List Part) (m : State) → (assigned_by p x xs m).count ≡ m.count
+assigned_by_count p (inner.Local x) xs m = refl
+assigned_by_count p (inner.Cell a) xs m = refl
+assigned_by_count p (inner.Element a e) xs m = refl
+
+turn_on_timed : (n : ℕ) (spent : List ℕ → State → List TimeStep) (body : List ℕ → State → Done) (later : List ℕ → State → List TimeStep)
+    (others : List ℕ → State → Done) (m : State) → m.count ≤ n →
+    ((vs : List ℕ) → IsTimed n m (spent vs m) (body vs m)) →
+    ((vs : List ℕ) (new : State) → m.count ≤ new.count → new.count ≤ n → IsTimed n new (later vs new) (others vs new)) → (us : List ℕ) →
+    IsTimed n m (if_any us (spent us m ++ behind (body us m) (λ w. later us))) (unless_none us (Goes done m) (then_do (body us m) (λ w. others us)))
+turn_on_timed n spent body later others m l b r [] = none_timed n done m l
+turn_on_timed n spent body later others m l b r (u ∷ us) =
+    timed_then n m (spent (u ∷ us) m) (body (u ∷ us) m) (λ w. later (u ∷ us)) (λ w. others (u ∷ us)) (b (u ∷ us))
+    (λ w new e h. let t = (subst (IsTimed n m (spent (u ∷ us) m)) e (b (u ∷ us))).0 in r (u ∷ us) new (omega (arith, t)) h)
+
+turns_on_timed : (n k : ℕ) (head : List ℕ → State → List TimeStep) (test : List ℕ → State → Behaviour (List Part))
+    (spent : List ℕ → State → List TimeStep) (body : List ℕ → State → Done) →
+    ((vs : List ℕ) (m : State) → m.count ≤ n → IsTimed n m (head vs m) (test vs m)) → ((vs : List ℕ) (m : State) → Moves m (test vs m)) →
+    ((vs : List ℕ) (m : State) → m.count ≤ n → IsTimed n m (spent vs m) (body vs m)) → (vs : List ℕ) (m : State) → m.count ≤ n →
+    n < m.count + k → IsTimed n m (turns_on_steps k head test spent body vs m) (turns_on k test body vs m)
+turns_on_timed n zero head test spent body t v b vs m l h = absurd (omega (arith, l, h))
+turns_on_timed n (suc k) head test spent body t v b vs m l h =
+    timed_then n m (head vs m) (test vs m)
+    (λ xs m. if_any (those true xs) (spent (those true xs) m
+    ++ behind (body (those true xs) m) (λ u. turns_on_steps k head test spent body (those true xs))))
+    (λ xs m. unless_none (those true xs) (Goes done m) (then_do (body (those true xs) m) (λ u. turns_on k test body (those true xs))))
+    (t vs m l)
+    (λ xs new e g.
+    let moved = subst (Moves m) e (v vs m) in
+    turn_on_timed n spent body (turns_on_steps k head test spent body) (turns_on k test body) new g (λ us. b us new g)
+    (λ us last a c. turns_on_timed n k head test spent body t v b us last c (omega (arith, moved, a, h))) (those true xs))
+
+module _ (p : Checked) (n : ℕ) where
+  set_timed : (line : ℕ) (a : View → Attempt Effect) (vs : List ℕ) (m : State) → m.count ≤ n →
+      IsTimed n m (set_step p n line a vs m) (attempted_on p n line a vs m)
+  set_timed line a vs m l =
+      begun_timed n m (by_set line (parts p m a vs) (together p line (parts p m a vs))) (λ m. together p line (parts p m a vs)) l
+
+  test_timed : (line : ℕ) (e : Expression) (vs : List ℕ) (m : State) → m.count ≤ n →
+      IsTimed n m (test_step p n line e vs m) (tested_on p n line e vs m)
+  test_timed line e vs m l = set_timed line (λ s. attempt_value s e) vs m l
+
+  mutual
+    inner_timed : (s : Step) (vs : List ℕ) (m : State) → m.count ≤ n → IsTimed n m (inner_steps p n s vs m) (perform_on p n s vs m)
+    inner_timed (step.Assign line x e) vs m l =
+        timed_map n m (set_step p n line (λ s. attempt_step s x e) vs m) (attempted_on p n line (λ s. attempt_step s x e) vs m)
+        (λ xs m. done) (λ xs m. assigned_by p x xs m) (λ xs m. assigned_by_count p x xs m)
+        (set_timed line (λ s. attempt_step s x e) vs m l)
+    inner_timed (step.If' line e q a r b) vs m l =
+        timed_then n m (test_step p n line e vs m) (tested_on p n line e vs m)
+        (λ xs m. inner_row_steps p n a (those true xs) m
+        ++ behind (perform_row_on p n a (those true xs) m) (λ u. inner_row_steps p n b (those false xs)))
+        (λ xs m. then_do (perform_row_on p n a (those true xs) m) (λ u. perform_row_on p n b (those false xs)))
+        (test_timed line e vs m l)
+        (λ xs m i g. timed_then n m (inner_row_steps p n a (those true xs) m) (perform_row_on p n a (those true xs) m)
+        (λ u. inner_row_steps p n b (those false xs)) (λ u. perform_row_on p n b (those false xs))
+        (inner_row_timed a (those true xs) m g) (λ u m i g. inner_row_timed b (those false xs) m g))
+    inner_timed (step.While' line e q body) vs m l =
+        turns_on_timed n (n + 1) (test_step p n line e) (tested_on p n line e) (inner_row_steps p n body) (perform_row_on p n body)
+        (λ vs m g. test_timed line e vs m g)
+        (λ vs m. begun_moves n m (λ m. together p line (parts p m (λ s. attempt_value s e) vs)))
+        (λ vs m g. inner_row_timed body vs m g) vs m l (omega arith)
+
+    inner_row_timed : {k : _} (ss : Row_of-Step k) (vs : List ℕ) (m : State) → m.count ≤ n →
+        IsTimed n m (inner_row_steps p n ss vs m) (perform_row_on p n ss vs m)
+    inner_row_timed end_of-Step vs m l = none_timed n done m l
+    inner_row_timed (more_of-Step s ss) vs m l =
+        timed_then n m (inner_steps p n s vs m) (perform_on p n s vs m) (λ u. inner_row_steps p n ss vs)
+        (λ u. perform_row_on p n ss vs) (inner_timed s vs m l) (λ u m i g. inner_row_timed ss vs m g)
+
+  inner_list_timed : (ss : List Step) (vs : List ℕ) (m : State) → m.count ≤ n →
+      IsTimed n m (inner_list_steps p n ss vs m) (perform_list_on p n ss vs m)
+  inner_list_timed [] vs m l = none_timed n done m l
+  inner_list_timed (s ∷ ss) vs m l =
+      timed_then n m (inner_steps p n s vs m) (perform_on p n s vs m) (λ u. inner_list_steps p n ss vs)
+      (λ u. perform_list_on p n ss vs) (inner_timed s vs m l) (λ u m i g. inner_list_timed ss vs m g)
+
+-- ---- outside pardo
+
+either : (n : ℕ) (m : State) (z : Bool) (ss ts : List TimeStep) (a b : Done) → IsTimed n m ss a → IsTimed n m ts b →
+    IsTimed n m (if z then ss else ts) (if z then a else b)
+either n m true ss ts a b h g = h
+either n m false ss ts a b h g = g
+
+turns_timed : (n k : ℕ) (head : State → List TimeStep) (test : State → Behaviour Bool) (spent : State → List TimeStep) (body : State → Done) →
+    ((m : State) → m.count ≤ n → IsTimed n m (head m) (test m)) → ((m : State) → Moves m (test m)) →
+    ((m : State) → m.count ≤ n → IsTimed n m (spent m) (body m)) → (m : State) → m.count ≤ n → n < m.count + k →
+    IsTimed n m (turns_steps k head test spent body m) (turns k test body m)
+turns_timed n zero head test spent body t v b m l h = absurd (omega (arith, l, h))
+turns_timed n (suc k) head test spent body t v b m l h =
+    timed_then n m (head m) (test m)
+    (λ z m. if z then spent m ++ behind (body m) (λ u. turns_steps k head test spent body) else [])
+    (λ z m. if z then then_do (body m) (λ u. turns k test body) else Goes done m) (t m l)
+    (λ z new e g.
+    let moved = subst (Moves m) e (v m) in
+    either n new z (spent new ++ behind (body new) (λ u. turns_steps k head test spent body)) []
+    (then_do (body new) (λ u. turns k test body)) (Goes done new)
+    (timed_then n new (spent new) (body new) (λ u. turns_steps k head test spent body) (λ u. turns k test body) (b new g)
+    (λ u last i c.
+    let s = (subst (IsTimed n new (spent new)) i (b new g)).0 in
+    turns_timed n k head test spent body t v b last c (omega (arith, moved, s, h))))
+    (none_timed n done new g))
+
+setting_timed : (n line : ℕ) (m : State) → m.count ≤ n → IsTimed n m (begun n m (acting line 1)) (counted n m)
+setting_timed n line m l = by (cases_lt m.count n) where
+  by : (m.count < n) ⊎ (n ≤ m.count) → IsTimed n m (begun n m (acting line 1)) (counted n m)
+  by (inl h) = rw (lt-ltb m.count n h) (omega arith, omega (arith, h))
+  by (inr h) = rw (le-ltb m.count n h) (omega (arith, h, l))
+
+for_timed : (n line k x : ℕ) (a : ℤ) (spent : State → List TimeStep) (body : State → Done) →
+    ((m : State) → m.count ≤ n → IsTimed n m (spent m) (body m)) → (m : State) → m.count ≤ n →
+    IsTimed n m (for_turns_steps n line k x a spent body m) (for_turns n k x a body m)
+for_timed n line zero x a spent body b m l = none_timed n done m l
+for_timed n line (suc k) x a spent body b m l =
+    timed_then n m (begun n m (acting line 1)) (counted n m)
+    (λ u m. spent (with_uniform x a m)
+    ++ behind (body (with_uniform x a m)) (λ u. for_turns_steps n line k x (a +ℤ pos 1) spent body))
+    (λ u m. then_do (body (with_uniform x a m)) (λ u. for_turns n k x (a +ℤ pos 1) body))
+    (setting_timed n line m l)
+    (λ u m i g. set_first m
+    (spent (with_uniform x a m) ++ behind (body (with_uniform x a m)) (λ u. for_turns_steps n line k x (a +ℤ pos 1) spent body))
+    (then_do (body (with_uniform x a m)) (λ u. for_turns n k x (a +ℤ pos 1) body))
+    (timed_then n (with_uniform x a m) (spent (with_uniform x a m)) (body (with_uniform x a m))
+    (λ u. for_turns_steps n line k x (a +ℤ pos 1) spent body) (λ u. for_turns n k x (a +ℤ pos 1) body) (b (with_uniform x a m) g)
+    (λ u m i g. for_timed n line k x (a +ℤ pos 1) spent body b m g)))
+  where
+    -- the setting counts nothing
+    set_first : (m : State) (ss : List TimeStep) (c : Done) → IsTimed n (with_uniform x a m) ss c → IsTimed n m ss c
+    set_first m ss (Goes u new) t = t
+    set_first m ss (Stops k out) t = t
+    set_first m ss (Reaches out) t = t
+
+module _ (p : Checked) (n : ℕ) where
+  one_timed : {A : Type 0} (line : ℕ) (writes : A → ℕ) (a : State → Attempt A) (m : State) → m.count ≤ n →
+      IsTimed n m (one_step n line writes a m) (evaluated n line a m)
+  one_timed line writes a m l = begun_timed n m (by_one line writes (a m)) (λ m. alone line (a m)) l
+
+  tested_timed : (line : ℕ) (e : Expression) (m : State) → m.count ≤ n → IsTimed n m (value_step p n line e m) (tested p n line e m)
+  tested_timed line e m l =
+      timed_map n m (value_step p n line e m) (found p n line e m) (λ v m. is_nonzero v) (λ v m. m) (λ v m. refl)
+      (one_timed line none_of (λ m. attempt (seen p m) e []) m l)
+
+  tested_moves : (line : ℕ) (e : Expression) (m : State) → Moves m (tested p n line e m)
+  tested_moves line e m =
+      moves_map m (found p n line e m) is_nonzero (begun_moves n m (λ m. alone line (attempt (seen p m) e [])))
+
+  pardo_timed : (locals : ℕ) (body : List Step) (a : ℤ) (k : ℕ) (m : State) → m.count ≤ n →
+      IsTimed n m (inner_list_steps p n body (numbers 0 k) (with_team a k locals m)) (pardo_done p n locals body a k m)
+  pardo_timed locals body a k m l =
+      with_team_first (inner_list_steps p n body (numbers 0 k) (with_team a k locals m)) (pardo_done p n locals body a k m)
+      (timed_map n (with_team a k locals m) (inner_list_steps p n body (numbers 0 k) (with_team a k locals m))
+      (perform_list_on p n body (numbers 0 k) (with_team a k locals m)) (λ u m. done) (λ u m. without_team m) (λ u m. refl)
+      (inner_list_timed p n body (numbers 0 k) (with_team a k locals m) l))
+    where
+      with_team_first : (ss : List TimeStep) (c : Done) → IsTimed n (with_team a k locals m) ss c → IsTimed n m ss c
+      with_team_first ss (Goes u new) t = t
+      with_team_first ss (Stops k out) t = t
+      with_team_first ss (Reaches out) t = t
+
+  mutual
+    timed : (s : Statement) (m : State) → m.count ≤ n → IsTimed n m (steps p n s m) (perform p n s m)
+    timed (Assign line x e) m l =
+        timed_map n m (one_step n line effect_writes (λ m. attempt_assign (seen p m) x e) m)
+        (evaluated n line (λ m. attempt_assign (seen p m) x e) m) (λ g m. done) (λ g m. assigned x g m) (λ g m. assigned_count x g m)
+        (one_timed line effect_writes (λ m. attempt_assign (seen p m) x e) m l)
+    timed (Print line e) m l =
+        timed_map n m (value_step p n line e m) (found p n line e m) (λ v m. done) (λ v m. printed v m) (λ v m. refl)
+        (one_timed line none_of (λ m. attempt (seen p m) e []) m l)
+    timed (While' line e q body) m l =
+        turns_timed n (n + 1) (value_step p n line e) (tested p n line e) (row_steps p n body) (perform_row p n body)
+        (λ m g. tested_timed line e m g) (λ m. tested_moves line e m) (λ m g. row_timed body m g) m l (omega arith)
+    timed (If' line e q a r b) m l =
+        timed_then n m (value_step p n line e m) (tested p n line e m)
+        (λ z m. if z then row_steps p n a m else row_steps p n b m) (λ z m. if z then perform_row p n a m else perform_row p n b m)
+        (tested_timed line e m l)
+        (λ z m i g. either n m z (row_steps p n a m) (row_steps p n b m) (perform_row p n a m) (perform_row p n b m)
+        (row_timed a m g) (row_timed b m g))
+    timed (For' line x e f q body) m l =
+        timed_then n m (one_step n line none_of (λ m. attempt_bounds (seen p m) e f) m)
+        (evaluated n line (λ m. attempt_bounds (seen p m) e f) m)
+        (λ r. for_turns_steps n line (width r.0 r.1) x r.0 (row_steps p n body) (perform_row p n body))
+        (λ r. for_turns n (width r.0 r.1) x r.0 (perform_row p n body))
+        (one_timed line none_of (λ m. attempt_bounds (seen p m) e f) m l)
+        (λ r m i g. for_timed n line (width r.0 r.1) x r.0 (row_steps p n body) (perform_row p n body) (λ m g. row_timed body m g) m g)
+    timed (Pardo line e f locals body) m l =
+        timed_then n m (one_step n line none_of (λ m. attempt_range p.procs (seen p m) e f) m)
+        (evaluated n line (λ m. attempt_range p.procs (seen p m) e f) m)
+        (λ r m. inner_list_steps p n body.items (numbers 0 r.1) (with_team r.0 r.1 locals m))
+        (λ r. pardo_done p n locals body.items r.0 r.1) (one_timed line none_of (λ m. attempt_range p.procs (seen p m) e f) m l)
+        (λ r m i g. pardo_timed locals body.items r.0 r.1 m g)
+
+    row_timed : {k : _} (ss : Row_of-Statement k) (m : State) → m.count ≤ n → IsTimed n m (row_steps p n ss m) (perform_row p n ss m)
+    row_timed end_of-Statement m l = none_timed n done m l
+    row_timed (more_of-Statement s ss) m l =
+        timed_then n m (steps p n s m) (perform p n s m) (λ u. row_steps p n ss) (λ u. perform_row p n ss) (timed s m l)
+        (λ u m i g. row_timed ss m g)
+
+  list_timed : (ss : List Statement) (m : State) → m.count ≤ n → IsTimed n m (list_steps p n ss m) (perform_list p n ss m)
+  list_timed [] m l = none_timed n done m l
+  list_timed (s ∷ ss) m l =
+      timed_then n m (steps p n s m) (perform p n s m) (λ u. list_steps p n ss) (λ u. perform_list p n ss) (timed s m l)
+      (λ u m i g. list_timed ss m g)
+
+-- ---- the laws
+
+whole : (p : Checked) (input : List ℤ) (n : ℕ) → IsTimed n (opening p input) (run_steps p input n) (body_done p input n)
+whole p input n = list_timed p n p.body (opening p input) (omega arith)
+
+within : (n : ℕ) (m : State) (ss : List TimeStep) (b : Done) → m.count ≡ 0 → IsTimed n m ss b → length ss ≤ n
+within n m ss (Goes u new) z t = let e = t.0 in let l = t.1 in omega (arith, e, l)
+within n m ss (Stops k out) z t = omega (arith, t)
+within n m ss (Reaches out) z t = omega (arith, t)
+
+pub time_is_within_the_bound : TimeIsWithinTheBound
+time_is_within_the_bound p input n = within n (opening p input) (run_steps p input n) (body_done p input n) refl (whole p input n)
+
+going_on : (n : ℕ) (m : State) (ss : List TimeStep) (b : Done) (out : List ℤ) → m.count ≡ 0 → GoesOn out ≡ verdict_at b →
+    IsTimed n m ss b → length ss ≡ n
+going_on n m ss (Goes u new) out z e t = absurd (cc e)
+going_on n m ss (Stops k o) out z e t = absurd (cc e)
+going_on n m ss (Reaches o) out z e t = omega (arith, t, z)
+
+pub going_on_takes_the_bound : GoingOnTakesTheBound
+going_on_takes_the_bound p input n output is =
+    going_on n (opening p input) (run_steps p input n) (body_done p input n) output refl ((outcome_is_computed p input n (GoesOn output)).0 is)
+    (whole p input n)
+
+-- the state in which a run ends has counted its time
+ended_count : (p : Checked) (input : List ℤ) (n : ℕ) (m : State) → body_done p input n ≡ Goes done m → m.count ≡ time (run_steps p input n)
+ended_count p input n m e =
+    let t = (subst (IsTimed n (opening p input) (run_steps p input n)) e (whole p input n)).0 in omega (arith, t)
+
+pub time_is_the_least_bound : TimeIsTheLeastBound
+time_is_the_least_bound p input n output memory is k = (ahead, back) where
+  comes : (m : State) → Body p input (Ends done m) → m.count ≤ n → body_done p input n ≡ Goes done m
+  comes m b l = (agree_list p n p.body).comes (opening p input) (omega arith) (Ends done m) b l
+
+  ended : is.0.count ≡ time (run_steps p input n)
+  ended = ended_count p input n is.0 (comes is.0 is.1 is.2)
+
+  ahead : IsOutcome p input k (Ended output memory) → time (run_steps p input n) ≤ k
+  ahead o = by (cases_lt k n) where
+    by : (k < n) ⊎ (n ≤ k) → time (run_steps p input n) ≤ k
+    by (inl h) =
+        let l = o.2 in let e = ended_count p input n o.0 (comes o.0 o.1 (omega (arith, l, h))) in omega (arith, e, l)
+    by (inr h) = let w = time_is_within_the_bound p input n in omega (arith, w, h)
+
+  back : time (run_steps p input n) ≤ k → IsOutcome p input k (Ended output memory)
+  back h = (is.0, is.1, (let e = ended in omega (arith, e, h)), is.3, is.4)
+
+-- the same of a time that was counted
+pub time_kept : (p : Checked) (input : List ℤ) (n : ℕ) (v : Verdict) (t : ℕ) → IsOutcome p input n v → t ≡ time (run_steps p input n) →
+    IsTimeWithin v t n
+time_kept p input n (Ended output memory) t is e = let w = time_is_within_the_bound p input n in omega (arith, w, e)
+time_kept p input n (Faulted fault output) t is e = let w = time_is_within_the_bound p input n in omega (arith, w, e)
+time_kept p input n (GoesOn output) t is e = e ∙ going_on_takes_the_bound p input n output is

@@ -1,0 +1,28 @@
+-- The time of a run, beside the bound within which it is run.
+use Rattle.std.specs.Prelude.{◌≡◌, ◌≤◌, ◌↔◌, ℕ, List, ℤ}
+use Rattle.pram_check.specs.Checked.{Checked}
+use Rattle.write_rules.specs.Verdict.{Ended, Faulted, GoesOn, Verdict}
+use Rattle.pram_meaning.specs.Outcome.{IsOutcome}
+use Rattle.work_time.specs.Cost.{time}
+use Rattle.work_time.specs.Steps.{run_steps}
+
+-- a time within a bound: where the run goes on it is the bound
+abbrev pub IsTimeWithin : Verdict → (t bound : ℕ) → Type 0
+IsTimeWithin (Ended output memory) t bound = t ≤ bound
+IsTimeWithin (Faulted fault output) t bound = t ≤ bound
+IsTimeWithin (GoesOn output) t bound = t ≡ bound
+
+-- The time of a run is at most its bound.
+abbrev pub TimeIsWithinTheBound : Type 0
+TimeIsWithinTheBound = (p : Checked) (input : List ℤ) (n : ℕ) → time (run_steps p input n) ≤ n
+
+-- Where the run goes on, it is the bound.
+abbrev pub GoingOnTakesTheBound : Type 0
+GoingOnTakesTheBound =
+    (p : Checked) (input : List ℤ) (n : ℕ) (output : List ℤ) → IsOutcome p input n (GoesOn output) → time (run_steps p input n) ≡ n
+
+-- A program that ends does so within a bound exactly where its time is at most that bound.
+abbrev pub TimeIsTheLeastBound : Type 0
+TimeIsTheLeastBound =
+    (p : Checked) (input : List ℤ) (n : ℕ) (output memory : List ℤ) → IsOutcome p input n (Ended output memory) → (m : ℕ) →
+    IsOutcome p input m (Ended output memory) ↔ (time (run_steps p input n) ≤ m)
