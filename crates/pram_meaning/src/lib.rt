@@ -6,7 +6,7 @@
 mod access;
 mod alone;
 pub mod attempt;
-mod conflict;
+pub mod conflict;
 mod inside;
 pub mod interpreter;
 mod key;

@@ -14,7 +14,7 @@ pub record Act : Type 0 where
   pub write : Option ℕ
 
 -- A statement that ran: its line, what each of those did that executed it, the cells and the uniform variables whose value differs behind it,
--- and what it printed. Or one that faulted: its fault, what each did up to there, and the indices of those that met at its cell.
+-- and what it printed. Or one that faulted: its fault, what each did before its position, and the indices of those that met at its cell.
 pub data Entry : Type 0 where
   Ran : (line : ℕ) → List Act → (cells variables : List Change) → (printed : List ℤ) → Entry
   Faulting : Fault → List Act → (met : List ℤ) → Entry

@@ -17,8 +17,8 @@ pub enum Entry {
         variables: Vec<Change>,
         printed: Vec<i64>,
     },
-    /// It faulted: its fault; what each processor did up to there, a write that never came about
-    /// included; and at a cell the indices of the processors that read or wrote the cell.
+    /// It faulted: its fault; what each processor had read before the fault's position, and no write;
+    /// and at a cell the indices of the processors that met there.
     Faulted {
         fault: Fault,
         acts: Vec<Act>,

@@ -1,8 +1,7 @@
 -- A set's statement, by what its parts come to.
-use Rattle.std.proofs.Common.{◌≡◌, ℕ, ℤ, ◌<◌, ◌≤◌, List, [], ◌∷◌, Option, Some, None, Result, Ok, Err, Global, Vec, drop, length, map, refl, ap}
+use Rattle.std.proofs.Common.{◌≡◌, ℕ, ℤ, ◌<◌, ◌≤◌, List, [], ◌∷◌, Option, Some, None, Err, Global, Vec, drop, length, map, refl, ap}
 use Rattle.std.proofs.Common.{sym, ◌∙◌, ◌++◌, subst}
 use Rattle.std.proofs.lemmas.Bool.{le-ltb, lt-ltb}
-use Rattle.write_rules.specs.declared.fault.Fault.{Fault}
 use Rattle.pram_check.specs.Checked.{Checked}
 use Rattle.pram_names.specs.declared.body.Expression.{Expression}
 use Rattle.pram_names.specs.declared.body.StepTarget.{StepTarget}
@@ -16,14 +15,14 @@ use Rattle.pram_meaning.specs.Bounded as meaning
 use Rattle.pram_meaning.specs.declared.key.Key.{Key}
 use Rattle.pram_meaning.specs.Conflict.{Part, keys, least}
 use Rattle.pram_meaning.specs.Judging.{part_is}
-use Rattle.pram_meaning.specs.Runs.{IsValue}
 use Rattle.pram_meaning.specs.Store.{State, View}
-use Rattle.pram_meaning.specs.Together.{assigned_by, on_key, parts, together}
+use Rattle.pram_meaning.specs.Together.{assigned_by, on_key, parts}
 use Rattle.run_entries.specs.declared.change.Change.{Change}
 use Rattle.run_entries.specs.Entries.{Act, Ran}
-use Rattle.run_steps.specs.Acts.{act_of}
-use Rattle.run_steps.specs.Kept.{AtBound, Going, HaltsSet, Kept, Stopped, Tells, keep, kept, one_more}
-use Rattle.run_steps.specs.Moments.{Left, Shown, by_set, set_assign_moment, set_moment, shown, test_moment, unchanged}
+use Rattle.run_steps.specs.Acts.{act_before, act_of}
+use Rattle.run_steps.specs.Kept.{AtBound, Going, Halts, Kept, Stopped, Tells, keep, kept, one_more}
+use Rattle.run_steps.specs.Meeting.{meeting}
+use Rattle.run_steps.specs.Moments.{Left, Shown, by_set, fault_on, set_assign_moment, set_moment, shown, test_moment, unchanged}
 use Rattle.run_steps.specs.Changes.{difference}
 use Rattle.run_steps.specs.Telling.{Told, tell}
 use Rattle.run_steps.proofs.Differing.{nothing_from}
@@ -34,48 +33,47 @@ pub set_waits : (p : Checked) (n line : ℕ) (left : List Part → State → Sta
     (t : Told) → n ≤ m.count → kept t (set_moment p n line left a vs m) (attempted_on p n line a vs m) ≡ AtBound m.output t
 set_waits p n line left a vs m t h = rw (le-ltb m.count n h) refl
 
--- lawful parts are answered as they are
-lawful : (p : Checked) (line : ℕ) (xs ys : List Part) → together p line xs ≡ Ok ys → xs ≡ ys
-lawful p line xs ys e = by (least (keys p.rule xs)) e where
-  by : (k : Option Key) → on_key line k xs ≡ Ok ys → xs ≡ ys
-  by None e = cc
-  by (Some k) e = cc
+-- the parts of a statement that a set begins, and their least fault, if they have one
+abbrev parts_are : Checked → List part.Part.Part → (View → Attempt Effect) → List ℕ → State → Type 0
+parts_are p xs a vs m = map part_is xs ≡ parts p m a vs
+
+abbrev least_is : Checked → List part.Part.Part → Option Key → Type 0
+least_is p xs k = k ≡ least (keys p.rule (map part_is xs))
 
 begins : (p : Checked) (n line : ℕ) (left : List Part → State → State) (a : View → Attempt Effect) (vs : List ℕ) (m : State) (t : Told)
-    (x : Result (List Part) Fault) → m.count < n → together p line (parts p m a vs) ≡ x →
+    (xs : List part.Part.Part) (k : Option Key) → m.count < n → parts_are p xs a vs m → least_is p xs k →
     kept t (set_moment p n line left a vs m) (attempted_on p n line a vs m) ≡
-    keep (tell (by_set line left m (parts p m a vs) x) t) (valued x (one_more m))
-begins p n line left a vs m t x h e =
+    keep (tell (by_set line left m (map part_is xs) k) t) (valued (on_key line k (map part_is xs)) (one_more m))
+begins p n line left a vs m t xs k h is e =
+    let F : List Part → Option Key → Kept (List Part) = λ ys k. keep (tell (by_set line left m ys k) t) (valued (on_key line k ys) (one_more m)) in
     rw (lt-ltb m.count n h)
-    (ap (λ x. keep (tell (by_set line left m (parts p m a vs) x) t) (valued x (one_more m))) e)
+    (ap (λ ys. F ys (least (keys p.rule ys))) (sym is) ∙ ap (F (map part_is xs)) (sym e))
 
--- where the parts are lawful
+-- where they are lawful
 pub set_gives : (p : Checked) (n line : ℕ) (left : List Part → State → State) (a : View → Attempt Effect) (vs : List ℕ) (m new : State)
-    (t late : Told) (xs : List part.Part.Part) → m.count < n → together p line (parts p m a vs) ≡ Ok (map part_is xs) →
+    (t late : Told) (xs : List part.Part.Part) → m.count < n → parts_are p xs a vs m → least_is p xs None →
     late ≡ tell (Left line (map act_of (map part_is xs)) (shown (left (map part_is xs) m))) t → new ≡ one_more m →
     kept t (set_moment p n line left a vs m) (attempted_on p n line a vs m) ≡ Going (map part_is xs) new late
-set_gives p n line left a vs m new t late xs h e l s =
-    begins p n line left a vs m t (Ok (map part_is xs)) h e
-    ∙ ap (λ ys. Going (map part_is xs) (one_more m) (tell (Left line (map act_of ys) (shown (left (map part_is xs) m))) t))
-    (lawful p line (parts p m a vs) (map part_is xs) e)
+set_gives p n line left a vs m new t late xs h is e l s =
+    begins p n line left a vs m t xs None h is e
     ∙ ap (Going (map part_is xs) (one_more m)) (sym l)
     ∙ ap (λ m. Going (map part_is xs) m late) (sym s)
 
+-- how a fault of theirs halts the run
+abbrev pub HaltsSet : ℕ → List part.Part.Part → Key → Halt → Told → Told → Type 0
+HaltsSet line xs k h old new =
+    Halts (fault_on line k) (map (act_before k.at) (map part_is xs)) (meeting k (map part_is xs)) h old new
+
 -- where they fault
 pub set_fails : (p : Checked) (n line : ℕ) (left : List Part → State → State) (a : View → Attempt Effect) (vs : List ℕ) (m new : State)
-    (t late : Told) (why h : Halt) → m.count < n →
-    IsValue {A = Vec part.Part.Part Global} (λ xs. map part_is xs.items) (Err why) (together p line (parts p m a vs)) →
-    HaltsSet (parts p m a vs) why h t late → new.output ≡ m.output → Tells {A = Vec part.Part.Part Global} (λ xs. map part_is xs.items)
-    (Err h) new late (kept t (set_moment p n line left a vs m) (attempted_on p n line a vs m))
-set_fails p n line left a vs m new t late (halt.Fault k) (halt.Fault g) h e l s =
-    begins p n line left a vs m t (Err k) h e ∙ ap (Stopped k m.output) (sym l.1) ∙ ap (λ k. Stopped k m.output late) (sym l.0)
-    ∙ ap (λ o. Stopped g o late) (sym s)
-set_fails p n line left a vs m new t late (halt.Fault k) halt.Bound h e l s = absurd l
-set_fails p n line left a vs m new t late (halt.Fault k) halt.OutOfMemory h e l s = tt
-set_fails p n line left a vs m new t late halt.Bound g h e l s = absurd e
-set_fails p n line left a vs m new t late halt.OutOfMemory (halt.Fault g) h e l s = cc
-set_fails p n line left a vs m new t late halt.OutOfMemory halt.Bound h e l s = cc
-set_fails p n line left a vs m new t late halt.OutOfMemory halt.OutOfMemory h e l s = tt
+    (t late : Told) (xs : List part.Part.Part) (k : Key) (h : Halt) → m.count < n → parts_are p xs a vs m → least_is p xs (Some k) →
+    HaltsSet line xs k h t late → new.output ≡ m.output → Tells {A = Vec part.Part.Part Global} (λ xs. map part_is xs.items) (Err h) new late
+    (kept t (set_moment p n line left a vs m) (attempted_on p n line a vs m))
+set_fails p n line left a vs m new t late xs k (halt.Fault g) h is e l s =
+    begins p n line left a vs m t xs (Some k) h is e ∙ ap (Stopped (fault_on line k) m.output) (sym l.1)
+    ∙ ap (λ k. Stopped k m.output late) (sym l.0) ∙ ap (λ o. Stopped g o late) (sym s)
+set_fails p n line left a vs m new t late xs k halt.Bound h is e l s = absurd l
+set_fails p n line left a vs m new t late xs k halt.OutOfMemory h is e l s = tt
 
 -- ---- a test
 
@@ -87,24 +85,22 @@ pub test_waits : (p : Checked) (n line : ℕ) (e : Expression) (vs : List ℕ) (
 test_waits p n line e vs m t = set_waits p n line unchanged (λ s. attempt_value s e) vs m t
 
 pub test_goes : (p : Checked) (n line : ℕ) (e : Expression) (vs : List ℕ) (m mid new : State) (t half late : Told)
-    (xs : List part.Part.Part) → m.count < n → together p line (parts p m (λ s. attempt_value s e) vs) ≡ Ok (map part_is xs) →
+    (xs : List part.Part.Part) (k : Option Key) → m.count < n → parts_are p xs (λ s. attempt_value s e) vs m → least_is p xs k → k ≡ None →
     mid ≡ m → half ≡ t → late ≡ tell (Left line (map act_of (map part_is xs)) (shown mid)) half → new ≡ one_more mid →
     kept t (test_moment p n line e vs m) (tested_on p n line e vs m) ≡ Going (map part_is xs) new late
-test_goes p n line e vs m mid new t half late xs h is a b l s =
-    set_gives p n line unchanged (λ s. attempt_value s e) vs m new t late xs h is
+test_goes p n line e vs m mid new t half late xs k h is j none a b l s =
+    set_gives p n line unchanged (λ s. attempt_value s e) vs m new t late xs h is (sym none ∙ j)
     (l ∙ ap (λ m. tell (Left line (map act_of (map part_is xs)) (shown m)) half) a ∙ ap (tell (Left line (map act_of (map part_is xs)) (shown m))) b)
     (s ∙ ap one_more a)
 
-pub test_fails : (p : Checked) (n line : ℕ) (e : Expression) (vs : List ℕ) (m mid new : State) (t half late : Told) (why h : Halt) →
-    m.count < n → IsValue {A = Vec part.Part.Part Global} (λ xs. map part_is xs.items) (Err why)
-    (together p line (parts p m (λ s. attempt_value s e) vs)) → mid ≡ m → half ≡ t →
-    HaltsSet (parts p mid (λ s. attempt_value s e) vs) why h half late → new ≡ mid →
+pub test_fails : (p : Checked) (n line : ℕ) (e : Expression) (vs : List ℕ) (m mid new : State) (t half late : Told)
+    (xs : List part.Part.Part) (k : Option Key) (x : Key) (h : Halt) → m.count < n → parts_are p xs (λ s. attempt_value s e) vs m →
+    least_is p xs k → k ≡ Some x → mid ≡ m → half ≡ t → HaltsSet line xs x h half late → new ≡ mid →
     Tells {A = Vec part.Part.Part Global} (λ xs. map part_is xs.items) (Err h) new late
     (kept t (test_moment p n line e vs m) (tested_on p n line e vs m))
-test_fails p n line e vs m mid new t half late why h l is a b f s =
-    let P : State → Type 0 = λ m. HaltsSet (parts p m (λ s. attempt_value s e) vs) why h half late in
-    let Q : Told → Type 0 = λ t. HaltsSet (parts p m (λ s. attempt_value s e) vs) why h t late in
-    set_fails p n line unchanged (λ s. attempt_value s e) vs m new t late why h l is (subst Q b (subst P a f))
+test_fails p n line e vs m mid new t half late xs k x h l is j some a b f s =
+    let Q : Told → Type 0 = λ t. HaltsSet line xs x h t late in
+    set_fails p n line unchanged (λ s. attempt_value s e) vs m new t late xs x h l is (sym some ∙ j) (subst Q b f)
     (ap (λ (m : State). m.output) (s ∙ a))
 
 -- ---- an assignment
@@ -129,15 +125,15 @@ pub assign_waits : (p : Checked) (n line : ℕ) (x : StepTarget) (e : Expression
 assign_waits p n line x e vs m t h = rw (le-ltb m.count n h) refl
 
 pub assign_goes : (p : Checked) (n line : ℕ) (x : StepTarget) (e : Expression) (vs : List ℕ) (m mid new : State) (t half late : Told)
-    (xs : List part.Part.Part) → m.count < n → together p line (parts p m (λ s. attempt_step s x e) vs) ≡ Ok (map part_is xs) →
+    (xs : List part.Part.Part) (k : Option Key) → m.count < n → parts_are p xs (λ s. attempt_step s x e) vs m → least_is p xs k → k ≡ None →
     mid ≡ m → half ≡ t → late ≡ tell (Left line (map act_of (map part_is xs)) (shown (assigned_by p x (map part_is xs) mid))) half →
     new ≡ one_more (assigned_by p x (map part_is xs) mid) →
     kept t (set_assign_moment p n line x e vs m) (meaning.assign_on p n line x e vs m) ≡ Going tt new late
-assign_goes p n line x e vs m mid new t half late xs h is a b l s =
+assign_goes p n line x e vs m mid new t half late xs k h is j none a b l s =
     let acts = map act_of (map part_is xs) in
     assigned p n line x e vs m t
     ∙ ap (λ b. then_keep b (λ xs m t. Going tt (assigned_by p x xs m) t))
-    (set_gives p n line (assigned_by p x) (λ s. attempt_step s x e) vs m (one_more m) t late xs h is
+    (set_gives p n line (assigned_by p x) (λ s. attempt_step s x e) vs m (one_more m) t late xs h is (sym none ∙ j)
     (l ∙ ap (λ m. tell (Left line acts (shown (assigned_by p x (map part_is xs) m))) half) a
     ∙ ap (tell (Left line acts (shown (assigned_by p x (map part_is xs) m)))) b)
     refl)
@@ -145,18 +141,16 @@ assign_goes p n line x e vs m mid new t half late xs h is a b l s =
     (sym (s ∙ ap (λ m. one_more (assigned_by p x (map part_is xs) m)) a ∙ recounted p x (map part_is xs) m))
 
 pub assign_fails : (p : Checked) (n line : ℕ) (x : StepTarget) (e : Expression) (vs : List ℕ) (m mid new : State) (t half late : Told)
-    (why h : Halt) → m.count < n → IsValue {A = Vec part.Part.Part Global} (λ xs. map part_is xs.items) (Err why)
-    (together p line (parts p m (λ s. attempt_step s x e) vs)) → mid ≡ m → half ≡ t →
-    HaltsSet (parts p mid (λ s. attempt_step s x e) vs) why h half late → new ≡ mid →
+    (xs : List part.Part.Part) (k : Option Key) (y : Key) (h : Halt) → m.count < n → parts_are p xs (λ s. attempt_step s x e) vs m →
+    least_is p xs k → k ≡ Some y → mid ≡ m → half ≡ t → HaltsSet line xs y h half late → new ≡ mid →
     Tells {A = Unit {0}} (λ u. u) (Err h) new late (kept t (set_assign_moment p n line x e vs m) (meaning.assign_on p n line x e vs m))
-assign_fails p n line x e vs m mid new t half late why h l is a b f s =
-    let P : State → Type 0 = λ m. HaltsSet (parts p m (λ s. attempt_step s x e) vs) why h half late in
-    let Q : Told → Type 0 = λ t. HaltsSet (parts p m (λ s. attempt_step s x e) vs) why h t late in
+assign_fails p n line x e vs m mid new t half late xs k y h l is j some a b f s =
+    let Q : Told → Type 0 = λ t. HaltsSet line xs y h t late in
     rw (assigned p n line x e vs m t)
     (halts {A = Vec part.Part.Part Global} {C = Unit {0}} (λ xs. map part_is xs.items) (λ u. u) h new late
     (kept t (set_assign_moment p n line x e vs m) (attempted_on p n line (λ s. attempt_step s x e) vs m))
     (λ xs m t. Going tt (assigned_by p x xs m) t)
-    (set_fails p n line (assigned_by p x) (λ s. attempt_step s x e) vs m new t late why h l is (subst Q b (subst P a f))
+    (set_fails p n line (assigned_by p x) (λ s. attempt_step s x e) vs m new t late xs y h l is (sym some ∙ j) (subst Q b f)
     (ap (λ (m : State). m.output) (s ∙ a))))
 
 -- ---- what it leaves

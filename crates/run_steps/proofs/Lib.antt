@@ -1,11 +1,12 @@
 pub mod Differing
 pub mod Pushed
-pub mod MeetingReads
 pub mod ActLists
+pub mod ThoseMet
 pub mod Applied
 pub mod Kept
 pub mod Sound
 pub mod Replays
+pub mod Costed
 pub mod ByOne
 pub mod BySet
 pub mod Told

@@ -1,6 +1,6 @@
 -- The changes that are told of a run, applied in order, give its memory, and its items, joined, its output.
 use Rattle.std.proofs.Common.{◌≡◌, ℕ, ℤ, pos, ◌+ℤ◌, zero, suc, Bool, true, false, ◌+◌, List, [], ◌∷◌, ◌++◌, length, if◌then◌else◌, nat_lt, refl, map}
-use Rattle.std.proofs.Common.{ap, sym, ◌∙◌, subst, append_assoc, append-nil, Option, Some, None, Result, Ok, Err}
+use Rattle.std.proofs.Common.{ap, sym, ◌∙◌, subst, append_assoc, append-nil, Option, Some, None}
 use Rattle.std.proofs.lemmas.List.{length-set}
 use Rattle.pram_model.specs.Layout.{width}
 use Rattle.pram_model.specs.declared.rule.Rule.{Rule}
@@ -20,24 +20,26 @@ use Rattle.pram_values.specs.Truth.{is_nonzero}
 use Rattle.write_rules.specs.declared.fault.Fault.{Fault}
 use Rattle.write_rules.specs.Verdict.{Verdict}
 use Rattle.pram_meaning.specs.Attempt as trying
-use Rattle.pram_meaning.specs.Attempt.{Attempt, Effect, Fails, attempt, attempt_assign, attempt_bounds, attempt_range, attempt_step}
+use Rattle.pram_meaning.specs.Attempt.{Attempt, Effect, Fails, Trail, attempt, attempt_assign, attempt_bounds, attempt_range, attempt_step}
 use Rattle.pram_meaning.specs.Attempt.{attempt_value}
 use Rattle.pram_meaning.specs.Bounded.{Behaviour, Done, Goes, Reaches, Stops, assign_on, attempted_on, counted, evaluated, for_turns, found}
 use Rattle.pram_meaning.specs.Bounded.{pardo_done, perform, perform_list, perform_list_on, perform_on, perform_row, perform_row_on, tested}
 use Rattle.pram_meaning.specs.Bounded.{tested_on, then_do, turns, turns_on, unless_none, valued}
 use Rattle.pram_meaning.specs.Bounded as meaning
 use Rattle.pram_meaning.specs.Computed.{body_done, verdict_at}
-use Rattle.pram_meaning.specs.Conflict.{Part}
+use Rattle.pram_meaning.specs.declared.key.Key.{Key}
+use Rattle.pram_meaning.specs.Conflict.{Part, keys, least}
 use Rattle.pram_meaning.specs.Outcome.{IsOutcome, opening}
 use Rattle.pram_meaning.specs.Store.{State, numbers, printed, seen, with_team, with_uniform, without_team}
-use Rattle.pram_meaning.specs.Together.{after_write, alone, assigned, assigned_by, overwritten, parts, together, those}
+use Rattle.pram_meaning.specs.Together.{after_write, alone, assigned, assigned_by, on_key, overwritten, parts, together, those}
 use Rattle.pram_meaning.proofs.OneOutcome.{outcome_is_computed}
 use Rattle.run_entries.specs.Entries.{Act, Entry, Faulting}
-use Rattle.run_steps.specs.Acts.{act_of, alone_acts}
+use Rattle.run_steps.specs.Acts.{act_before, act_of, alone_acts, front}
 use Rattle.run_steps.specs.Entries.{ChangesGiveTheMemory, HasMemory, ItemsGiveTheOutput, entries_from, items_of, output_of, replay, run_entries}
 use Rattle.run_steps.specs.Kept.{one_more, setting}
-use Rattle.run_steps.specs.Moments.{Fell, Left, Moment, assign_moment, behind, bounds_moment, by_one, by_set, for_turns_moments}
-use Rattle.run_steps.specs.Moments.{goes_to, if_any, inner_list_moments, inner_moments, inner_row_moments, list_moments, meeting, moments, nowhere}
+use Rattle.run_steps.specs.Meeting.{meeting}
+use Rattle.run_steps.specs.Moments.{Fell, Left, Moment, assign_moment, behind, bounds_moment, by_one, by_set, fault_on, for_turns_moments}
+use Rattle.run_steps.specs.Moments.{goes_to, if_any, inner_list_moments, inner_moments, inner_row_moments, list_moments, moments, nowhere}
 use Rattle.run_steps.specs.Moments.{one_moment, print_moment, range_moment, row_moments, run_moments, set_assign_moment, setting_moment}
 use Rattle.run_steps.specs.Moments.{shown, test_moment, turns_moments, turns_on_moments, unchanged, value_moment}
 use Rattle.run_steps.specs.Telling.{Told, ran, tell, tell_all}
@@ -50,13 +52,17 @@ use Rattle.run_steps.proofs.Sound.{stop_sound, wait_sound}
 abbrev own : ℕ → Kind → Fault
 own line k = record { kind = k; line = line; place = All }
 
+-- what it has done before that
+abbrev reached : Trail → List Act
+reached t = alone_acts (front (length t) t) None
+
 -- one that leaves all that is shown as it is: the count may matter to it
 come_one : {A : Type 0} (line : ℕ) (m : State) (x y : Attempt A) →
     IsSound m (by_one line nowhere unchanged m x ∷ []) (valued (alone line y) (one_more m))
 come_one line m (trying.Gives r v) (trying.Gives s w) = same_sound m (one_more m) line (alone_acts r None) w refl refl
-come_one line m (Fails r k) (trying.Gives s w) = fell_sound m (one_more m) (own line k) (alone_acts r None) [] w refl
+come_one line m (Fails r k) (trying.Gives s w) = fell_sound m (one_more m) (own line k) (reached r) [] w refl
 come_one line m (trying.Gives r v) (Fails s k) = left_stop m m line (alone_acts r None) (own line k) refl refl
-come_one line m (Fails r j) (Fails s k) = stop_sound m (own line j) (own line k) (alone_acts r None) []
+come_one line m (Fails r j) (Fails s k) = stop_sound m (own line j) (own line k) (reached r) []
 
 begin_one : {A : Type 0} (line : ℕ) (a : State → Attempt A) (m : State) (b : Bool) →
     IsSound m (if b then by_one line nowhere unchanged m (a m) ∷ [] else [])
@@ -73,7 +79,7 @@ print_sound p n line e m = by (nat_lt m.count n) where
   come : (x : Attempt ℤ) → IsSound {A = Unit {0}} m (by_one line nowhere printed m x ∷ [])
       (then_do (valued (alone line x) (one_more m)) (λ v m. Goes done (printed v m)))
   come (trying.Gives r v) = left_sound m (printed v (one_more m)) line (alone_acts r None) (v ∷ []) done refl refl
-  come (Fails r k) = stop_sound m (own line k) (own line k) (alone_acts r None) []
+  come (Fails r k) = stop_sound m (own line k) (own line k) (reached r) []
 
   by : (b : Bool) → IsSound m
       (if b then by_one line nowhere printed m (attempt (seen p m) e []) ∷ [] else [])
@@ -102,7 +108,7 @@ assign_sound p n line x e m = by (nat_lt m.count n) where
   come : (y : Attempt Effect) → IsSound {A = Unit {0}} m (by_one line goes_to (assigned x) m y ∷ [])
       (then_do (valued (alone line y) (one_more m)) (λ g m. Goes done (assigned x g m)))
   come (trying.Gives r g) = assigned_sound line (alone_acts r g.cell) x g m
-  come (Fails r k) = stop_sound m (own line k) (own line k) (alone_acts r None) []
+  come (Fails r k) = stop_sound m (own line k) (own line k) (reached r) []
 
   by : (b : Bool) → IsSound m
       (if b then by_one line goes_to (assigned x) m (attempt_assign (seen p m) x e) ∷ [] else [])
@@ -123,14 +129,14 @@ tested_on_sound p n line e vs m = by (nat_lt m.count n) where
   xs : List Part
   xs = parts p m (λ s. attempt_value s e) vs
 
-  come : (r : Result (List Part) Fault) → IsSound m (by_set line unchanged m xs r ∷ []) (valued r (one_more m))
-  come (Ok ys) = same_sound m (one_more m) line (map act_of xs) ys refl refl
-  come (Err k) = stop_sound m k k (map act_of xs) (meeting k.place xs)
+  come : (k : Option Key) → IsSound m (by_set line unchanged m xs k ∷ []) (valued (on_key line k xs) (one_more m))
+  come None = same_sound m (one_more m) line (map act_of xs) xs refl refl
+  come (Some k) = stop_sound m (fault_on line k) (fault_on line k) (map (act_before k.at) xs) (meeting k xs)
 
-  by : (b : Bool) → IsSound m (if b then by_set line unchanged m xs (together p line xs) ∷ [] else [])
+  by : (b : Bool) → IsSound m (if b then by_set line unchanged m xs (least (keys p.rule xs)) ∷ [] else [])
       (then_do (if b then Goes done (one_more m) else Reaches m.output)
       (λ u m. valued (together p line (parts p m (λ s. attempt_value s e) vs)) m))
-  by true = come (together p line xs)
+  by true = come (least (keys p.rule xs))
   by false = wait_sound m
 
 assigned_by_sound : (p : Checked) (line : ℕ) (acts : List Act) (x : StepTarget) (ys : List Part) (m : State) →
@@ -147,15 +153,15 @@ assign_on_sound p n line x e vs m = by (nat_lt m.count n) where
   xs : List Part
   xs = parts p m (λ s. attempt_step s x e) vs
 
-  come : (r : Result (List Part) Fault) → IsSound {A = Unit {0}} m (by_set line (assigned_by p x) m xs r ∷ [])
-      (then_do (valued r (one_more m)) (λ xs m. Goes done (assigned_by p x xs m)))
-  come (Ok ys) = assigned_by_sound p line (map act_of xs) x ys m
-  come (Err k) = stop_sound m k k (map act_of xs) (meeting k.place xs)
+  come : (k : Option Key) → IsSound {A = Unit {0}} m (by_set line (assigned_by p x) m xs k ∷ [])
+      (then_do (valued (on_key line k xs) (one_more m)) (λ xs m. Goes done (assigned_by p x xs m)))
+  come None = assigned_by_sound p line (map act_of xs) x xs m
+  come (Some k) = stop_sound m (fault_on line k) (fault_on line k) (map (act_before k.at) xs) (meeting k xs)
 
-  by : (b : Bool) → IsSound m (if b then by_set line (assigned_by p x) m xs (together p line xs) ∷ [] else [])
+  by : (b : Bool) → IsSound m (if b then by_set line (assigned_by p x) m xs (least (keys p.rule xs)) ∷ [] else [])
       (then_do (then_do (if b then Goes done (one_more m) else Reaches m.output)
       (λ u m. valued (together p line (parts p m (λ s. attempt_step s x e) vs)) m)) (λ xs m. Goes done (assigned_by p x xs m)))
-  by true = come (together p line xs)
+  by true = come (least (keys p.rule xs))
   by false = wait_sound m
 
 turn_on_sound : (inside : List ℕ → State → List Moment) (body : List ℕ → State → Done) (rest : List ℕ → State → List Moment)

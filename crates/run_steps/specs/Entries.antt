@@ -1,9 +1,11 @@
 -- A run told statement by statement: entry k is the k-th statement that ran, counted from 1.
 use Rattle.std.specs.Prelude.{◌≡◌, ℕ, List, [], ◌∷◌, ◌++◌, ℤ, ⊤}
+use Rattle.std.specs.List.{AllByRecursion}
 use Rattle.pram_check.specs.Checked.{Checked}
+use Rattle.write_rules.specs.declared.fault.Fault.{Fault}
 use Rattle.write_rules.specs.Verdict.{Verdict, Ended, Faulted, GoesOn}
 use Rattle.pram_meaning.specs.Outcome.{IsOutcome, opening}
-use Rattle.run_entries.specs.Entries.{Entry, Ran, Faulting}
+use Rattle.run_entries.specs.Entries.{Act, Entry, Ran, Faulting}
 use Rattle.run_steps.specs.Changes.{with_changes}
 use Rattle.run_steps.specs.Moments.{Moment, Left, Fell, Shown, run_moments, shown}
 use Rattle.run_steps.specs.Telling.{ran}
@@ -54,3 +56,25 @@ output_of (GoesOn output) = output
 abbrev pub ItemsGiveTheOutput : Type 0
 ItemsGiveTheOutput =
     (p : Checked) (input : List ℤ) (n : ℕ) (v : Verdict) → IsOutcome p input n v → items_of (run_entries p input n) ≡ output_of v
+
+-- ---- the fault, at the end
+
+-- a statement that didn't fault
+abbrev pub HasRun : Entry → Type 0
+HasRun (Ran line acts changed variables items) = ⊤
+HasRun (Faulting fault acts met) = ⊥
+
+-- the last entry is this fault, and no other is a fault
+abbrev pub EndsIn : Fault → List Entry → Type 0
+EndsIn fault es = (front : List Entry) × (acts : List Act) × (met : List ℤ) × AllByRecursion HasRun front
+    × (es ≡ front ++ Faulting fault acts met ∷ [])
+
+abbrev pub HasItsFault : Verdict → List Entry → Type 0
+HasItsFault (Ended output memory) es = AllByRecursion HasRun es
+HasItsFault (Faulted fault output) es = EndsIn fault es
+HasItsFault (GoesOn output) es = AllByRecursion HasRun es
+
+-- The last entry that is told of a run is its fault, exactly where its outcome is one; no other is a fault.
+abbrev pub TheFaultIsLast : Type 0
+TheFaultIsLast =
+    (p : Checked) (input : List ℤ) (n : ℕ) (v : Verdict) → IsOutcome p input n v → HasItsFault v (run_entries p input n)

@@ -1,5 +1,5 @@
 -- What the telling interpreter keeps of a run, and what its functions answer.
-use Rattle.std.specs.Prelude.{◌≡◌, ℕ, Result, Ok, Err, None, List, [], map, ◌+◌, ℤ, ⊤}
+use Rattle.std.specs.Prelude.{◌≡◌, ℕ, Result, Ok, Err, None, List, [], length, map, ◌+◌, ℤ, ⊤}
 use Rattle.write_rules.specs.declared.fault.Fault.{Fault}
 use Rattle.pram_values.specs.declared.place.Place.TheVariants.{All}
 use Rattle.pram_meaning.specs.declared.attempt.Failure.{Failure}
@@ -12,11 +12,10 @@ use Rattle.pram_meaning.specs.Store.{State, with_uniform}
 use Rattle.pram_meaning.specs.Sets as sets
 use Rattle.pram_meaning.specs.Runs as runs
 use Rattle.pram_meaning.specs.Bounded.{Behaviour, Done, Goes, Stops, Reaches, counted, then_do}
-use Rattle.pram_meaning.specs.Conflict.{Part}
 use Rattle.run_steps.specs.declared.journal.Journal.{Journal}
 use Rattle.run_entries.specs.Entries.{Act, entry_is}
-use Rattle.run_steps.specs.Acts.{act_of, alone_acts}
-use Rattle.run_steps.specs.Moments.{Moment, Fell, meeting, shown}
+use Rattle.run_steps.specs.Acts.{alone_acts, front}
+use Rattle.run_steps.specs.Moments.{Moment, Fell, shown}
 use Rattle.run_steps.specs.Telling.{Told, tell, tell_all}
 
 -- a behaviour, and what was told up to it
@@ -69,11 +68,5 @@ Halts fault acts met halt.OutOfMemory old new = ⊤
 -- the same of an attempt of the one processor that fails behind this trail
 abbrev pub HaltsOne : ℕ → Trail → Failure → Halt → Told → Told → Type 0
 HaltsOne line t (failure.Fault k) h old new =
-    Halts (record { kind = k; line = line; place = All }) (alone_acts t None) [] h old new
+    Halts (record { kind = k; line = line; place = All }) (alone_acts (front (length t) t) None) [] h old new
 HaltsOne line t failure.OutOfMemory h old new = h ≡ halt.OutOfMemory
-
--- the same of a set whose statement has these parts
-abbrev pub HaltsSet : List Part → Halt → Halt → Told → Told → Type 0
-HaltsSet xs (halt.Fault k) h old new = Halts k (map act_of xs) (meeting k.place xs) h old new
-HaltsSet xs halt.Bound h old new = h ≡ halt.Bound
-HaltsSet xs halt.OutOfMemory h old new = h ≡ halt.OutOfMemory

@@ -1,9 +1,8 @@
 -- A run as a sequence of states: each statement that ran, with what is shown behind it, by recursion beside the bounded meaning.
 -- A run as a sequence of time units, in each of which some processors act: JáJá, An Introduction to Parallel Algorithms, chapter 1 (the
 -- work-time presentation). What counts as one statement is this project's own profile.
-use Rattle.std.specs.Prelude.{Result, Ok, Err, ℕ, zero, suc, ◌+◌, List, [], ◌∷◌, ◌++◌, Bool, true, false, ◌||◌, if◌then◌else◌, Option, Some}
-use Rattle.std.specs.Prelude.{None, ℤ, pos, ◌+ℤ◌, nat_lt, nat_eq, map}
-use Rattle.std.specs.List.{flat_map, list_any}
+use Rattle.std.specs.Prelude.{ℕ, zero, suc, ◌+◌, List, [], ◌∷◌, ◌++◌, Bool, true, false, if◌then◌else◌, Option, Some, None, ℤ, pos, ◌+ℤ◌}
+use Rattle.std.specs.Prelude.{length, map, nat_lt}
 use Rattle.pram_model.specs.Layout.{width}
 use Rattle.pram_check.specs.Checked.{Checked}
 use Rattle.pram_names.specs.declared.body.Expression.{Expression}
@@ -13,19 +12,20 @@ use Rattle.pram_names.specs.declared.body.Step as step
 use Rattle.pram_names.specs.declared.body.Step.{Step, Row_of-Step, end_of-Step, more_of-Step}
 use Rattle.pram_names.specs.declared.body.StepTarget.{StepTarget}
 use Rattle.pram_names.specs.declared.body.Target.{Target}
-use Rattle.pram_values.specs.declared.place.Place.{Place}
-use Rattle.pram_values.specs.declared.place.Place.TheVariants.{All, Cell, Processor}
+use Rattle.pram_values.specs.declared.place.Place.TheVariants.{All}
 use Rattle.write_rules.specs.declared.fault.Fault.{Fault}
 use Rattle.pram_meaning.specs.Store.{State, View, seen, with_uniform, printed, numbers, with_team}
-use Rattle.pram_meaning.specs.Attempt.{Attempt, Gives, Fails, Trail, Effect, attempt, attempt_value, attempt_assign, attempt_step}
+use Rattle.pram_meaning.specs.Attempt.{Attempt, Gives, Fails, Effect, attempt, attempt_value, attempt_assign, attempt_step}
 use Rattle.pram_meaning.specs.Attempt.{attempt_bounds, attempt_range}
-use Rattle.pram_meaning.specs.Conflict.{Part, trail_of}
-use Rattle.pram_meaning.specs.Together.{assigned, assigned_by, parts, together, those}
+use Rattle.pram_meaning.specs.declared.key.Key.{Key}
+use Rattle.pram_meaning.specs.Conflict.{Part, keys, least}
+use Rattle.pram_meaning.specs.Together.{assigned, assigned_by, parts, those}
 use Rattle.pram_meaning.specs.Outcome.{opening}
 use Rattle.pram_meaning.specs.Bounded.{Behaviour, Goes, Stops, Reaches, Done, counted, evaluated, tested, tested_on, perform}
 use Rattle.pram_meaning.specs.Bounded.{perform_row, perform_on, perform_row_on}
 use Rattle.run_entries.specs.Entries.{Act}
-use Rattle.run_steps.specs.Acts.{act_of, alone_acts}
+use Rattle.run_steps.specs.Acts.{act_before, act_of, alone_acts, front}
+use Rattle.run_steps.specs.Meeting.{meeting}
 
 -- what is shown of a state: the uniform variables, the cells, and the output
 pub record Shown : Type 0 where
@@ -37,36 +37,10 @@ abbrev pub shown : State → Shown
 shown m = record { uniforms = m.uniforms; cells = m.cells; output = m.output }
 
 -- a statement that ran: its line, what each of those did that executed it, and what is shown of the state behind it; or one that faulted:
--- its fault, what each did up to there, and the indices of the processors that met at a cell
+-- its fault, what each did before its position, and the indices of the processors that met at its cell
 pub data Moment : Type 0 where
   Left : (line : ℕ) → List Act → Shown → Moment
   Fell : Fault → List Act → (met : List ℤ) → Moment
-
--- ---- the processors that meet at a cell
-
-abbrev pub is_cell : ℕ → Option ℕ → Bool
-is_cell c None = false
-is_cell c (Some d) = nat_eq c d
-
-abbrev pub has_read : ℕ → Trail → Bool
-has_read c t = list_any (is_cell c) t
-
-abbrev pub has_written : ℕ → Attempt Effect → Bool
-has_written c (Gives t g) = is_cell c g.cell
-has_written c (Fails t k) = false
-
--- whether a processor has read or written the cell in the statement
-abbrev pub has_met : ℕ → Part → Bool
-has_met c x = has_read c (trail_of x.attempt) || has_written c x.attempt
-
-abbrev pub index_at : ℕ → Part → List ℤ
-index_at c x = if has_met c x then x.processor ∷ [] else []
-
--- the indices of those that did, in the order of the set; another fault than one at a cell is one processor's own
-abbrev pub meeting : Place → List Part → List ℤ
-meeting (Cell c) xs = flat_map (index_at c) xs
-meeting (Processor i) xs = []
-meeting All xs = []
 
 -- ---- one statement
 
@@ -85,12 +59,16 @@ goes_to g = g.cell
 -- by the one processor outside pardo, whose attempt this is
 abbrev pub by_one : {A : Type 0} → ℕ → (A → Option ℕ) → (A → State → State) → State → Attempt A → Moment
 by_one line write left m (Gives t a) = Left line (alone_acts t (write a)) (shown (left a m))
-by_one line write left m (Fails t k) = Fell (record { kind = k; line = line; place = All }) (alone_acts t None) []
+by_one line write left m (Fails t k) = Fell (record { kind = k; line = line; place = All }) (alone_acts (front (length t) t) None) []
 
--- by a set
-abbrev pub by_set : ℕ → (List Part → State → State) → State → List Part → Result (List Part) Fault → Moment
-by_set line left m xs (Ok ys) = Left line (map act_of xs) (shown (left ys m))
-by_set line left m xs (Err k) = Fell k (map act_of xs) (meeting k.place xs)
+-- a fault of a set's statement on this line
+abbrev pub fault_on : ℕ → Key → Fault
+fault_on line k = record { kind = k.kind; line = line; place = k.place }
+
+-- by a set, whose statement has this least fault, or none
+abbrev pub by_set : ℕ → (List Part → State → State) → State → List Part → Option Key → Moment
+by_set line left m xs None = Left line (map act_of xs) (shown (left xs m))
+by_set line left m xs (Some k) = Fell (fault_on line k) (map (act_before k.at) xs) (meeting k xs)
 
 -- ---- what is so of every statement
 
@@ -136,7 +114,7 @@ range_moment p n line e f = one_moment n line nowhere unchanged (λ m. attempt_r
 
 -- that of a set
 abbrev pub set_moment : Checked → ℕ → ℕ → (List Part → State → State) → (View → Attempt Effect) → List ℕ → State → List Moment
-set_moment p n line left a vs m = begun n m (by_set line left m (parts p m a vs) (together p line (parts p m a vs)))
+set_moment p n line left a vs m = begun n m (by_set line left m (parts p m a vs) (least (keys p.rule (parts p m a vs))))
 
 abbrev pub test_moment : Checked → ℕ → ℕ → Expression → List ℕ → State → List Moment
 test_moment p n line e = set_moment p n line unchanged (λ s. attempt_value s e)

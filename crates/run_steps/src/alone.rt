@@ -13,7 +13,7 @@ ghost use Rattle.run_steps.specs.Kept.{HaltsOne, Tells, kept, one_more, state_of
 ghost use Rattle.run_steps.specs.Moments.{Left, assign_moment, bounds_moment, print_moment, range_moment, shown, value_moment};
 ghost use Rattle.run_steps.specs.Telling.{tell};
 
-use crate::acts::alone_acts;
+use crate::acts::{alone_acts, front};
 use crate::journal::Journal;
 use crate::teller::Teller;
 use pram_check::{Expression, Target};
@@ -46,7 +46,8 @@ impl<'a> Teller<'a> {
     {
         match failure {
             Failure::Fault(kind) => {
-                let Ok(acts) = alone_acts(self.interpreter.alloc, trail, None) else {
+                let reached = front(trail.len(), trail);
+                let Ok(acts) = alone_acts(self.interpreter.alloc, reached, None) else {
                     return Halt::OutOfMemory;
                 };
                 let fault = Fault {

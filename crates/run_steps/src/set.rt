@@ -6,26 +6,30 @@ ghost use Rattle.pram_meaning.specs.Attempt.{attempt_step};
 ghost use Rattle.pram_meaning.specs.Bounded.{tested_on};
 ghost use Rattle.pram_meaning.specs.Bounded as meaning;
 ghost use Rattle.pram_meaning.specs.Judging.{part_is};
-ghost use Rattle.pram_meaning.specs.Runs.{IsValue};
 ghost use Rattle.pram_meaning.specs.Sets as sets;
-ghost use Rattle.pram_meaning.specs.Together.{assigned_by, part_of, parts, together};
-ghost use Rattle.run_steps.specs.Acts.{act_of};
-ghost use Rattle.run_steps.specs.Kept.{HaltsSet, Tells, kept, one_more, state_in, state_of, told_of};
-ghost use Rattle.run_steps.specs.Moments.{Left, set_assign_moment, shown, test_moment};
+ghost use Rattle.pram_meaning.specs.Conflict.{keys, least};
+ghost use Rattle.pram_meaning.specs.Together.{assigned_by, part_of, parts};
+ghost use Rattle.run_steps.specs.Acts.{act_before, act_of};
+ghost use Rattle.run_steps.specs.Kept.{Halts, Tells, kept, one_more, state_in, state_of, told_of};
+ghost use Rattle.run_steps.specs.Meeting.{meeting};
+ghost use Rattle.run_steps.specs.Moments.{Left, fault_on, set_assign_moment, shown, test_moment};
 ghost use Rattle.run_steps.specs.Telling.{tell};
 
-use crate::acts::acts_of;
+use crate::acts::{acts_before, acts_of};
 use crate::differences::changes_between;
 use crate::journal::Journal;
-use crate::meetings::meeting;
+use crate::meetings::meeting as those_met;
 use crate::teller::Teller;
 use pram_check::{Expression, StepTarget};
+use pram_meaning::Key;
 use pram_meaning::attempt::{Failure, step_assignment};
+use pram_meaning::conflict::least_key;
 use pram_meaning::part::Part;
 use pram_meaning::run::{Halt, Run};
 use pram_meaning::team::Member;
 use pram_meaning::view::View;
 use std::alloc::AllocError;
+use write_rules::Fault;
 
 impl<'a> Teller<'a> {
     // One processor's attempt at an assignment.
@@ -89,57 +93,49 @@ impl<'a> Teller<'a> {
         Some(all)
     }
 
-    // What halted a set's statement halts the run, and a fault is told, with those that met.
-    fn halt_on(
-        &self,
-        journal: &mut Journal,
-        team: &Vec<Member>,
-        active: &Vec<u32>,
-        target: &StepTarget,
-        e: &Expression,
-        why: Halt,
-    ) -> Halt
-        ensures told { HaltsSet (parts self.now.interpreter.program.now (state_in journal.old team.now.items)
-            (λ s. attempt_step s target.now e.now) active.now.items) why result (told_of journal.old) (told_of journal.new) }
-        ensures team { state_in journal.new team.now.items ≡ state_in journal.old team.now.items }
-    {
-        match why {
-            Halt::Fault(fault) => {
-                let Some(all) = self.parts_in(&journal.run, team, active, target, e) else {
-                    return Halt::OutOfMemory;
-                };
-                let Ok(acts) = acts_of(self.interpreter.alloc, &all) else {
-                    return Halt::OutOfMemory;
-                };
-                let Ok(met) = meeting(self.interpreter.alloc, fault.place, &all) else {
-                    return Halt::OutOfMemory;
-                };
-                journal.stop(fault, acts, met)
-            }
-            Halt::Bound => Halt::Bound,
-            Halt::OutOfMemory => Halt::OutOfMemory,
-        }
-    }
-
-    // What a statement of a set comes to, where it has begun: its least fault, or the parts.
+    // What a statement of a set comes to, where it has begun: its parts, and its least fault, if it has one.
     fn judge(
         &self,
         journal: &mut Journal,
         team: &Vec<Member>,
         active: &Vec<u32>,
-        line: u32,
         target: &StepTarget,
         e: &Expression,
-    ) -> Result<Vec<Part>, Halt>
-        ensures value { IsValue (λ xs. map part_is xs.items) result (together self.now.interpreter.program.now line
-            (parts self.now.interpreter.program.now (state_in journal.old team.now.items) (λ s. attempt_step s target.now e.now)
-            active.now.items)) }
+    ) -> Option<(Vec<Part>, Option<Key>)>
+        ensures parts { IfSome result (λ r. map part_is r.0.items ≡ parts self.now.interpreter.program.now
+            (state_in journal.old team.now.items) (λ s. attempt_step s target.now e.now) active.now.items) }
+        ensures least { IfSome result (λ r. r.1 ≡ least (keys self.now.interpreter.program.now.rule (map part_is r.0.items))) }
         ensures kept { state_in journal.new team.now.items ≡ state_in journal.old team.now.items }
         ensures told { told_of journal.new ≡ told_of journal.old }
         ensures count { journal.new.run.count ≡ journal.old.run.count }
     {
-        self.interpreter
-            .judge_on(&mut journal.run, team, active, line, target, e)
+        let interpreter = self.interpreter;
+        let all = self.parts_in(&journal.run, team, active, target, e)?;
+        let rule = interpreter.program.rule();
+        match least_key(interpreter.alloc, &mut journal.run.slate, rule, &all) {
+            Ok(key) => Some((all, key)),
+            Err(_) => None,
+        }
+    }
+
+    // A set's statement faults, which halts the run: what each did up to there is told, and who met.
+    fn halt_on(&self, journal: &mut Journal, line: u32, parts: &[Part], key: Key) -> Halt
+        ensures told { Halts (fault_on line key) (map (act_before key.at) (map part_is parts.now)) (meeting key (map part_is parts.now))
+            result (told_of journal.old) (told_of journal.new) }
+        ensures team { (ms : List declared.Member) → state_in journal.new ms ≡ state_in journal.old ms }
+    {
+        let Ok(acts) = acts_before(self.interpreter.alloc, key.at, parts) else {
+            return Halt::OutOfMemory;
+        };
+        let Ok(met) = those_met(self.interpreter.alloc, key, parts) else {
+            return Halt::OutOfMemory;
+        };
+        let fault = Fault {
+            kind: key.kind,
+            line,
+            place: key.place,
+        };
+        journal.stop(fault, acts, met)
     }
 
     // The store gets what the parts of an assignment leave.
@@ -201,15 +197,18 @@ impl<'a> Teller<'a> {
         if !self.may_begin(journal) {
             return Err(Halt::Bound);
         }
-        match self.judge(journal, team, active, line, target, e) {
-            Ok(parts) => {
+        let Some((parts, key)) = self.judge(journal, team, active, target, e) else {
+            return Err(Halt::OutOfMemory);
+        };
+        match key {
+            None => {
                 let settled = self.settle_cells(journal, team, line, target, &parts);
                 if settled.is_err() {
                     return Err(Halt::OutOfMemory);
                 }
                 Ok(())
             }
-            Err(why) => Err(self.halt_on(journal, team, active, target, e, why)),
+            Some(key) => Err(self.halt_on(journal, line, &parts, key)),
         }
     }
 
@@ -235,14 +234,17 @@ impl<'a> Teller<'a> {
             return Err(Halt::Bound);
         }
         let none = StepTarget::Local(0);
-        match self.judge(journal, team, active, line, &none, test) {
-            Ok(parts) => {
+        let Some((parts, key)) = self.judge(journal, team, active, &none, test) else {
+            return Err(Halt::OutOfMemory);
+        };
+        match key {
+            None => {
                 if self.pass_on(journal, line, &parts).is_err() {
                     return Err(Halt::OutOfMemory);
                 }
                 Ok(parts)
             }
-            Err(why) => Err(self.halt_on(journal, team, active, &none, test, why)),
+            Some(key) => Err(self.halt_on(journal, line, &parts, key)),
         }
     }
 }

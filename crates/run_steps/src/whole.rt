@@ -5,7 +5,9 @@ ghost use Rattle.pram_model.specs.Layout.{total_size};
 ghost use Rattle.write_rules.specs.Verdict.{verdict_of};
 ghost use Rattle.pram_meaning.specs.Outcome.{IsOutcome, opening};
 ghost use Rattle.run_entries.specs.Entries.{entry_is};
-ghost use Rattle.run_steps.specs.Entries.{HasMemory, items_of, output_of, replay, run_entries};
+ghost use Rattle.run_steps.specs.Costs.{step_of};
+ghost use Rattle.run_steps.specs.Entries.{HasItsFault, HasMemory, items_of, output_of, replay, run_entries};
+ghost use Rattle.work_time.specs.Steps.{run_steps};
 
 use crate::journal::Journal;
 use crate::teller::Teller;
@@ -20,7 +22,7 @@ use write_rules::Outcome;
 /// Runs a program on an input, for at most `bound` statements, as [`pram_meaning::reference_run`]
 /// does, and tells beside the outcome what each statement did: entry k, counted from 1, is the k-th
 /// statement that ran, with what each processor read and wrote, what it changed and what it printed.
-/// Where the run faults, the last entry is the fault. E11 where there are more
+/// Where the run faults, the last entry is the fault. Its entries are the time steps that `work_time` counts. E11 where there are more
 /// values than cells; E16 only where memory was refused.
 pub fn steps_of(
     alloc: Global,
@@ -37,6 +39,10 @@ pub fn steps_of(
         (replay (map entry_is r.1.items) (opening program.now input.now).cells)) }
     // The items that were printed, joined, are the output of the outcome.
     ensures output { IfOk result (λ r. items_of (map entry_is r.1.items) ≡ output_of (verdict_of r.0)) }
+    // The last entry is the fault exactly where the outcome is one, and no other is.
+    ensures last { IfOk result (λ r. HasItsFault (verdict_of r.0) (map entry_is r.1.items)) }
+    // They are the time steps by which the run's cost is counted, one by one.
+    ensures steps { IfOk result (λ r. map step_of (map entry_is r.1.items) ≡ run_steps program.now input.now bound) }
 {
     if input.len() > program.layout().cells() as usize {
         return Err(RunRefusal::InputTooLong);

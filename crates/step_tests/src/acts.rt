@@ -173,7 +173,7 @@ const TURNS: Row = Row {
     ],
 };
 
-// All read, and none of the writes comes about: 1 and 3 read a[2], 2 and 4 read a[1]. The cells of a are 0 and 1, and those of b 2 to 5.
+// Positions count reads and operations, from 1. 1 and 3 read a[2] at position 3, and 2 and 4 a[1], which is told. Nothing was read before it.
 const CONFLICT: Row = Row {
     text: "rule erew; procs 4; shared a[1..2]; shared b[1..4]; begin for 1 <= i <= 4 pardo b[i] := a[1 + i mod 2]; end end",
     input: &[],
@@ -183,23 +183,23 @@ const CONFLICT: Row = Row {
             acts: &[
                 Did {
                     processor: Some(1),
-                    reads: &[1],
-                    write: Some(2),
+                    reads: &[],
+                    write: None,
                 },
                 Did {
                     processor: Some(2),
-                    reads: &[0],
-                    write: Some(3),
+                    reads: &[],
+                    write: None,
                 },
                 Did {
                     processor: Some(3),
-                    reads: &[1],
-                    write: Some(4),
+                    reads: &[],
+                    write: None,
                 },
                 Did {
                     processor: Some(4),
-                    reads: &[0],
-                    write: Some(5),
+                    reads: &[],
+                    write: None,
                 },
             ],
             variables: &[],
@@ -209,7 +209,134 @@ const CONFLICT: Row = Row {
     ],
 };
 
-// Processor 2 divides by 0 behind its read of a[2], and comes to no write; a fault of its own has nobody that met.
+// Each has read its a[i] when all come to s. The cells of a are 0 and 1, and that of s is 2.
+const SECOND_READ: Row = Row {
+    text: "rule erew; procs 2; shared a[1..2]; shared s; begin for 1 <= i <= 2 pardo a[i] := a[i] + s; end end",
+    input: &[],
+    told: &[
+        BARE,
+        Told {
+            acts: &[
+                Did {
+                    processor: Some(1),
+                    reads: &[0],
+                    write: None,
+                },
+                Did {
+                    processor: Some(2),
+                    reads: &[1],
+                    write: None,
+                },
+            ],
+            variables: &[],
+            printed: &[],
+            met: &[1, 2],
+        },
+    ],
+};
+
+// 2 and 3 read a[1] at position 2. So does 4, but at position 4.
+const OTHER_POSITION: Row = Row {
+    text: "rule erew; procs 4; shared a[0..4]; shared b[1..4]; \
+        begin for 1 <= i <= 4 pardo b[i] := a[i div 2] + a[5 - i]; end end",
+    input: &[],
+    told: &[
+        BARE,
+        Told {
+            acts: &[
+                Did {
+                    processor: Some(1),
+                    reads: &[],
+                    write: None,
+                },
+                Did {
+                    processor: Some(2),
+                    reads: &[],
+                    write: None,
+                },
+                Did {
+                    processor: Some(3),
+                    reads: &[],
+                    write: None,
+                },
+                Did {
+                    processor: Some(4),
+                    reads: &[],
+                    write: None,
+                },
+            ],
+            variables: &[],
+            printed: &[],
+            met: &[2, 3],
+        },
+    ],
+};
+
+// 1 and 2 write a[1], which 3 has read. The cells of a are 0 to 2.
+const READ_AND_WRITTEN: Row = Row {
+    text: "rule crew; procs 3; shared a[1..3]; shared b[1..3]; \
+        begin for 1 <= i <= 3 pardo a[1 + 2 * (i div 3)] := a[4 - i]; end end",
+    input: &[],
+    told: &[
+        BARE,
+        Told {
+            acts: &[
+                Did {
+                    processor: Some(1),
+                    reads: &[2],
+                    write: None,
+                },
+                Did {
+                    processor: Some(2),
+                    reads: &[1],
+                    write: None,
+                },
+                Did {
+                    processor: Some(3),
+                    reads: &[0],
+                    write: None,
+                },
+            ],
+            variables: &[],
+            printed: &[],
+            met: &[1, 2],
+        },
+    ],
+};
+
+// 1 and 2 write 2^63 - 1 each to a[1], which 3 has read, and the sum is no value.
+const TOO_MUCH: Row = Row {
+    text: "rule sum; procs 3; shared a[1..3]; \
+        begin for 1 <= i <= 3 pardo a[1 + i div 3] := 9223372036854775807 - a[4 - i]; end end",
+    input: &[],
+    told: &[
+        BARE,
+        Told {
+            acts: &[
+                Did {
+                    processor: Some(1),
+                    reads: &[2],
+                    write: None,
+                },
+                Did {
+                    processor: Some(2),
+                    reads: &[1],
+                    write: None,
+                },
+                Did {
+                    processor: Some(3),
+                    reads: &[0],
+                    write: None,
+                },
+            ],
+            variables: &[],
+            printed: &[],
+            met: &[1, 2],
+        },
+    ],
+};
+
+// Processor 2 divides by 0 at position 3, behind its read of a[2]; 1 reads a[1] again only behind that. At a fault of one's own nobody met.
 const OWN: Row = Row {
     text: "rule crew; procs 2; shared a[1..2]; begin for 1 <= i <= 2 pardo a[i] := a[i] + 1 div (2 - i) + a[1]; end end",
     input: &[],
@@ -219,8 +346,8 @@ const OWN: Row = Row {
             acts: &[
                 Did {
                     processor: Some(1),
-                    reads: &[0, 0],
-                    write: Some(0),
+                    reads: &[0],
+                    write: None,
                 },
                 Did {
                     processor: Some(2),
@@ -334,6 +461,10 @@ fn each_processor_is_told_with_its_reads_and_its_write(rt: HostRuntime) {
 fn a_fault_is_told_with_what_was_done_up_to_it(rt: HostRuntime) {
     let alloc = rt.alloc();
     assert_eq!(rt; is_so(alloc, &CONFLICT), Some(true));
+    assert_eq!(rt; is_so(alloc, &SECOND_READ), Some(true));
+    assert_eq!(rt; is_so(alloc, &OTHER_POSITION), Some(true));
+    assert_eq!(rt; is_so(alloc, &READ_AND_WRITTEN), Some(true));
+    assert_eq!(rt; is_so(alloc, &TOO_MUCH), Some(true));
     assert_eq!(rt; is_so(alloc, &OWN), Some(true));
     assert_eq!(rt; is_so(alloc, &OUTSIDE), Some(true));
 }

@@ -35,7 +35,7 @@ const ONE: Row = Row {
         <rect x='192' y='106' width='26' height='14' fill='#e69f00'/>\n<text x='200' y='117'>w</text>\n</svg>\n",
 };
 
-// Processors -1 and 0 read one cell, which the rule forbids.
+// Processors -1 and 0 read one cell, which the rule forbids: they met there, and have done nothing before.
 const TWO: Row = Row {
     text: "rule erew; procs 2; shared s; shared a[1..2];\nbegin for -1 <= i <= 0 pardo\na[i + 2] := s; end end",
     front: "<svg xmlns='http://www.w3.org/2000/svg' version='1.1' width='480' height='194' font-family='sans-serif' font-size='12'>\n\
@@ -45,12 +45,8 @@ const TWO: Row = Row {
         <text x='160' y='80'>1</text>\n<text x='160' y='96'>line 2</text>\n\
         <rect x='160' y='104' width='60' height='18' fill='#e0e0e0'><title>outside pardo</title></rect>\n\
         <text x='224' y='80'>2</text>\n<text x='224' y='96'>line 3</text>\n\
-        <rect x='224' y='124' width='60' height='18' fill='#e0e0e0'><title>processor -1 reads s writes a[1]</title></rect>\n\
-        <rect x='226' y='126' width='26' height='14' fill='#0072b2'/>\n<text x='236' y='137' fill='#ffffff'>r</text>\n\
-        <rect x='256' y='126' width='26' height='14' fill='#e69f00'/>\n<text x='264' y='137'>w</text>\n\
-        <rect x='224' y='144' width='60' height='18' fill='#e0e0e0'><title>processor 0 reads s writes a[2]</title></rect>\n\
-        <rect x='226' y='146' width='26' height='14' fill='#0072b2'/>\n<text x='236' y='157' fill='#ffffff'>r</text>\n\
-        <rect x='256' y='146' width='26' height='14' fill='#e69f00'/>\n<text x='264' y='157'>w</text>\n\
+        <rect x='224' y='124' width='60' height='18' fill='#e0e0e0'><title>processor -1</title></rect>\n\
+        <rect x='224' y='144' width='60' height='18' fill='#e0e0e0'><title>processor 0</title></rect>\n\
         <rect x='224' y='124' width='60' height='18' fill='none' stroke='#000000' stroke-width='3'><title>processor -1 met</title></rect>\n\
         <rect x='224' y='144' width='60' height='18' fill='none' stroke='#000000' stroke-width='3'><title>processor 0 met</title></rect>\n\
         <text x='12' y='182'>fault read-conflict s line 3</text>\n</svg>\n",

@@ -137,7 +137,7 @@ pub(crate) fn write_number<W: Out>(out: &mut W, number: usize) -> Result<(), Wri
 
 /// Writes an entry behind its number, on a line: `5 line 9 processors 4 a[3] 4 -> 7 a[4] 0 -> 2`, or
 /// at a fault `6 fault read-conflict a[1] line 4 processors 1 3`, where at a cell the indices of the
-/// processors follow that read or wrote it. The error is that the writer failed (E17).
+/// processors follow that met there. The error is that the writer failed (E17).
 pub fn write_entry<W: Out>(
     out: &mut W,
     layout: &Layout,

@@ -4,6 +4,7 @@ use Rattle.pram_meaning.specs.declared.run.Halt.TheVariants as halt
 use Rattle.run_steps.specs.declared.journal.Journal.{Journal}
 use Rattle.run_steps.specs.Kept.{state_of, told_of}
 use Rattle.run_steps.proofs.Complete.{body_ended, body_reached, body_stopped, opens}
+use Rattle.run_steps.proofs.Costed.{told_last, told_steps}
 use Rattle.run_steps.proofs.Replays.{told_memory, told_output}
 use Rattle.run_steps.proofs.whole.steps_of.Goals as goal
 
@@ -130,3 +131,65 @@ returns-in-Err-Bound-clause-output c =
     let b = body_reached c.args.program.now c.args.input.now c.args.bound k (state_of new) (told_of new) c.run_body-done.result
     c.in-Err-Bound.field-0 o c.in-Err-Bound.is f c.run_body-done.ensures in
     told_output c.args.program.now c.args.input.now c.args.bound (GoesOn new.run.output.items) (told_of new).entries b.0 b.1
+
+pub returns-in-Ok-done-clause-last : goal.returns-in-Ok-done-clause-last
+returns-in-Ok-done-clause-last c =
+    let e = c.in-Ok.ensures in
+    let k : Journal = record { run = c.in-Ok.run'; entries = c.new-nothing.result } in
+    let new = c.run_body-done.new.journal in
+    let o = opens c.args.program.now c.args.input.now k c.new-nothing.ensures.items e.count e.output e.uniforms e.cells in
+    let b = body_ended c.args.program.now c.args.input.now c.args.bound k (state_of new) (told_of new) o c.in-Ok-done.ensures in
+    told_last c.args.program.now c.args.input.now c.args.bound (Ended new.run.output.items new.run.cells.items) (told_of new).entries b.0 b.1
+
+pub returns-in-Ok-done-clause-steps : goal.returns-in-Ok-done-clause-steps
+returns-in-Ok-done-clause-steps c =
+    let e = c.in-Ok.ensures in
+    let k : Journal = record { run = c.in-Ok.run'; entries = c.new-nothing.result } in
+    let new = c.run_body-done.new.journal in
+    let o = opens c.args.program.now c.args.input.now k c.new-nothing.ensures.items e.count e.output e.uniforms e.cells in
+    let b = body_ended c.args.program.now c.args.input.now c.args.bound k (state_of new) (told_of new) o c.in-Ok-done.ensures in
+    told_steps c.args.program.now c.args.input.now c.args.bound (told_of new).entries b.1
+
+pub returns-in-Err-Fault-clause-last : goal.returns-in-Err-Fault-clause-last
+returns-in-Err-Fault-clause-last c =
+    let e = c.in-Ok.ensures in
+    let k : Journal = record { run = c.in-Ok.run'; entries = c.new-nothing.result } in
+    let new = c.run_body-done.new.journal in
+    let o = opens c.args.program.now c.args.input.now k c.new-nothing.ensures.items e.count e.output e.uniforms e.cells in
+    let f : c.in-Err-Fault.field-0 ≡ halt.Fault c.in-Err-Fault.fault = search (rules, c.in-Err-Fault.field-0-is) in
+    let b = body_stopped c.args.program.now c.args.input.now c.args.bound k (state_of new) (told_of new) c.run_body-done.result
+    c.in-Err-Fault.field-0 c.in-Err-Fault.fault o c.in-Err-Fault.is f c.run_body-done.ensures in
+    told_last c.args.program.now c.args.input.now c.args.bound (Faulted c.in-Err-Fault.fault new.run.output.items) (told_of new).entries b.0 b.1
+
+pub returns-in-Err-Fault-clause-steps : goal.returns-in-Err-Fault-clause-steps
+returns-in-Err-Fault-clause-steps c =
+    let e = c.in-Ok.ensures in
+    let k : Journal = record { run = c.in-Ok.run'; entries = c.new-nothing.result } in
+    let new = c.run_body-done.new.journal in
+    let o = opens c.args.program.now c.args.input.now k c.new-nothing.ensures.items e.count e.output e.uniforms e.cells in
+    let f : c.in-Err-Fault.field-0 ≡ halt.Fault c.in-Err-Fault.fault = search (rules, c.in-Err-Fault.field-0-is) in
+    let b = body_stopped c.args.program.now c.args.input.now c.args.bound k (state_of new) (told_of new) c.run_body-done.result
+    c.in-Err-Fault.field-0 c.in-Err-Fault.fault o c.in-Err-Fault.is f c.run_body-done.ensures in
+    told_steps c.args.program.now c.args.input.now c.args.bound (told_of new).entries b.1
+
+pub returns-in-Err-Bound-clause-last : goal.returns-in-Err-Bound-clause-last
+returns-in-Err-Bound-clause-last c =
+    let e = c.in-Ok.ensures in
+    let k : Journal = record { run = c.in-Ok.run'; entries = c.new-nothing.result } in
+    let new = c.run_body-done.new.journal in
+    let o = opens c.args.program.now c.args.input.now k c.new-nothing.ensures.items e.count e.output e.uniforms e.cells in
+    let f : c.in-Err-Bound.field-0 ≡ halt.Bound = search (rules, c.in-Err-Bound.field-0-is) in
+    let b = body_reached c.args.program.now c.args.input.now c.args.bound k (state_of new) (told_of new) c.run_body-done.result
+    c.in-Err-Bound.field-0 o c.in-Err-Bound.is f c.run_body-done.ensures in
+    told_last c.args.program.now c.args.input.now c.args.bound (GoesOn new.run.output.items) (told_of new).entries b.0 b.1
+
+pub returns-in-Err-Bound-clause-steps : goal.returns-in-Err-Bound-clause-steps
+returns-in-Err-Bound-clause-steps c =
+    let e = c.in-Ok.ensures in
+    let k : Journal = record { run = c.in-Ok.run'; entries = c.new-nothing.result } in
+    let new = c.run_body-done.new.journal in
+    let o = opens c.args.program.now c.args.input.now k c.new-nothing.ensures.items e.count e.output e.uniforms e.cells in
+    let f : c.in-Err-Bound.field-0 ≡ halt.Bound = search (rules, c.in-Err-Bound.field-0-is) in
+    let b = body_reached c.args.program.now c.args.input.now c.args.bound k (state_of new) (told_of new) c.run_body-done.result
+    c.in-Err-Bound.field-0 o c.in-Err-Bound.is f c.run_body-done.ensures in
+    told_steps c.args.program.now c.args.input.now c.args.bound (told_of new).entries b.1
