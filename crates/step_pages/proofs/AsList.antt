@@ -1,9 +1,8 @@
 -- What stands in a page is read as the list of its facts.
-use Rattle.std.proofs.Common.{◌≡◌, ◌∙◌, ◌<◌, ◌≤◌, ◌^◌, ◌++◌, ◌∷◌, [], true, false, List, Some, ℕ, max, suc, ap, ap₂, append_assoc, append-nil, arith, codes, decimal}
-use Rattle.std.proofs.Common.{length, refl, sym}
+use Rattle.std.proofs.Common.{◌≡◌, ◌∙◌, ◌-◌, ◌<◌, ◌≤◌, ◌^◌, ◌++◌, ◌∷◌, [], true, false, List, Some, ℕ, max, suc, ap, ap₂, append_assoc, append-nil, arith, codes, decimal}
+use Rattle.std.proofs.Common.{drop, length, refl, subst, sym, take, zero}
 use Rattle.std.specs.Prelude.{option_and_then, option_map}
-use Rattle.std.proofs.lemmas.Fmt.{decimal_digit}
-use Rattle.std.proofs.lemmas.List.{drop_all, take_all}
+use Rattle.std.proofs.lemmas.List.{drop_all, length-drop, take_all}
 use Rattle.std.proofs.lemmas.List.Elements.{recursion_from_All}
 use Rattle.std.specs.List.{AllByRecursion}
 use Rattle.json.specs.Json as json
@@ -15,16 +14,17 @@ use Rattle.json.proofs.Printed.Tokens.{tokens-print}
 use Rattle.json.proofs.Printed.Trees.{ArePrintable-json_tokens, value-json_tokens}
 use Rattle.serde_json.specs.Data.{unsigned, negative, float, Data, null, boolean, number, string, array, object, Items, no_items, item, Members}
 use Rattle.serde_json.specs.Data.{no_members, member, depth, items_depth, members_depth, put}
-use Rattle.serde_json.specs.Read.{max_depth, number_of, of_items, of_json, of_members, read}
+use Rattle.serde_json.specs.Read.{max_depth, of_items, of_json, of_members, read}
 use Rattle.serde_json.specs.View.{items_of}
 use Rattle.serde_json.specs.Written.{compact_text, items_outline, items_text, members_outline, outline}
-use Rattle.serde_json.proofs.OnLiterals.{serde_json_on_literals}
+use Rattle.serde_json.proofs.Numbers.{number_of-decimal}
 use Rattle.serde_json.proofs.Texts.{print-outline}
 use Rattle.json_lines.specs.Facts.{list}
 use Rattle.json_lines.specs.Lines.{ReadsBack, json_lines}
-use Rattle.step_pages.specs.Facts.{embedded, facts_text, left_out_text, line_count}
-use Rattle.step_pages.specs.Stand.{AreTold, FactsAreRead, HasCounts, ItemsHaveCounts, MembersHaveCounts, left_out_fact}
+use Rattle.step_pages.specs.Facts.{BeginsLine, embedded, facts_text, left_out_text, line_count}
+use Rattle.step_pages.specs.Stand.{AreTold, CutFactsAreRead, FactsAreRead, HasCounts, ItemsHaveCounts, MembersHaveCounts, left_out_fact}
 use Rattle.step_pages.proofs.Embedding.{embedded-append}
+use Rattle.step_pages.proofs.LineEnds.{IsCutAt, cut_at, lines_end}
 use Rattle.step_pages.proofs.Lexed.{AreKept, decimal_kept, kept-append, tokens_embedded}
 
 -- ---- the tokens of data whose numbers are counts
@@ -103,79 +103,114 @@ read_there d h shallow =
     read_tokens d (embedded (compact_text d)) shallow (ap (λ t. tokens (embedded t)) (sym (print-outline d))
     ∙ tokens_embedded (tree.json_tokens (outline d)) (ArePrintable-json_tokens (outline d) (numbers d h)) (kept d h))
 
--- ---- the list of facts
+-- ---- the list of facts, and how many are left out
 
-abbrev with_last : List Data → List Data
-with_last ds = ds ++ left_out_fact 0 ∷ []
+abbrev with_last : ℕ → List Data → List Data
+with_last n ds = ds ++ left_out_fact n ∷ []
 
-nought : decimal 0 ≡ 48 ∷ []
-nought = decimal_digit 0 (omega arith)
-
-nought_read : number_of (48 ∷ []) ≡ Some (unsigned 0)
-unfolding serde_json_on_literals
-nought_read = refl
-
-last_given : of_json (outline (left_out_fact 0)) ≡ Some (left_out_fact 0)
-last_given =
+last_given : (n : ℕ) → n < 2 ^ 64 → of_json (outline (left_out_fact n)) ≡ Some (left_out_fact n)
+last_given n h =
     ap (λ n. option_map object (option_and_then (λ d. of_members json.no_members (put (codes "left_out") d no_members)) (option_map number n)))
-    (ap number_of nought ∙ nought_read)
+    (number_of-decimal n h)
 
-list_given : (ds : List Data) → AreTold ds → AllByRecursion ReadsBack ds → of_items (items_outline (items_of (with_last ds))) ≡ Some (items_of (with_last ds))
-list_given [] h back = ap (option_and_then (λ d. option_map (item d) (Some no_items))) last_given
-list_given (d ∷ ds) h back =
+list_given : (n : ℕ) → n < 2 ^ 64 → (ds : List Data) → AreTold ds → AllByRecursion ReadsBack ds →
+    of_items (items_outline (items_of (with_last n ds))) ≡ Some (items_of (with_last n ds))
+list_given n l [] h back = ap (option_and_then (λ d. option_map (item d) (Some no_items))) (last_given n l)
+list_given n l (d ∷ ds) h back =
     let one : of_json (outline d) ≡ Some d = sym (read_compact d h.0.0 (let s : depth d ≤ 126 = h.0.1 in omega arith)) ∙ back.0 in
-    ap₂ (λ a b. option_and_then (λ d. option_map (item d) b) a) one (list_given ds h.1 back.1)
+    ap₂ (λ a b. option_and_then (λ d. option_map (item d) b) a) one (list_given n l ds h.1 back.1)
 
-list_counts : (ds : List Data) → AreTold ds → ItemsHaveCounts (items_of (with_last ds))
-list_counts [] h = ((let z : 0 < 2 ^ 64 = omega arith in (z, tt)), tt)
-list_counts (d ∷ ds) h = (h.0.0, list_counts ds h.1)
+list_counts : (n : ℕ) → n < 2 ^ 64 → (ds : List Data) → AreTold ds → ItemsHaveCounts (items_of (with_last n ds))
+list_counts n l [] h = ((l, tt), tt)
+list_counts n l (d ∷ ds) h = (h.0.0, list_counts n l ds h.1)
 
-list_depth : (ds : List Data) → AreTold ds → items_depth (items_of (with_last ds)) ≤ 126
-list_depth [] h = omega arith
-list_depth (d ∷ ds) h =
+list_depth : (n : ℕ) (ds : List Data) → AreTold ds → items_depth (items_of (with_last n ds)) ≤ 126
+list_depth n [] h = omega arith
+list_depth n (d ∷ ds) h =
     let one : depth d ≤ 126 = h.0.1 in
-    let others : items_depth (items_of (with_last ds)) ≤ 126 = list_depth ds h.1 in
+    let others : items_depth (items_of (with_last n ds)) ≤ 126 = list_depth n ds h.1 in
     omega (arith, one, others)
 
 -- ---- its text
 
-comma_first : (ds : List Data) → items_text true (items_of (with_last ds)) ≡ 44 ∷ items_text false (items_of (with_last ds))
-comma_first [] = refl
-comma_first (d ∷ ds) = refl
+comma_first : (n : ℕ) (ds : List Data) → items_text true (items_of (with_last n ds)) ≡ 44 ∷ items_text false (items_of (with_last n ds))
+comma_first n [] = refl
+comma_first n (d ∷ ds) = refl
 
-abbrev last_text : List ℕ
-last_text = embedded (compact_text (left_out_fact 0)) ++ 93 ∷ []
+abbrev last_text : ℕ → List ℕ
+last_text n = embedded (compact_text (left_out_fact n)) ++ 93 ∷ []
 
-lines_text : (ds : List Data) → embedded (json_lines ds) ++ last_text ≡ embedded (items_text false (items_of (with_last ds)))
-lines_text [] = sym (embedded-append (compact_text (left_out_fact 0)) (93 ∷ []))
-lines_text (d ∷ ds) =
+lines_text : (n : ℕ) (ds : List Data) → embedded (json_lines ds) ++ last_text n ≡ embedded (items_text false (items_of (with_last n ds)))
+lines_text n [] = sym (embedded-append (compact_text (left_out_fact n)) (93 ∷ []))
+lines_text n (d ∷ ds) =
     let one = compact_text d in
     let more = json_lines ds in
-    ap (λ l. l ++ last_text) (embedded-append (one ++ 10 ∷ []) more ∙ ap (λ l. l ++ embedded more) (embedded-append one (10 ∷ []))
+    ap (λ l. l ++ last_text n) (embedded-append (one ++ 10 ∷ []) more ∙ ap (λ l. l ++ embedded more) (embedded-append one (10 ∷ []))
     ∙ append_assoc (embedded one) (44 ∷ []) (embedded more))
-    ∙ append_assoc (embedded one) (44 ∷ embedded more) last_text
-    ∙ ap (λ l. embedded one ++ 44 ∷ l) (lines_text ds)
-    ∙ sym (ap (λ l. embedded (one ++ l)) (comma_first ds) ∙ embedded-append one (44 ∷ items_text false (items_of (with_last ds))))
+    ∙ append_assoc (embedded one) (44 ∷ embedded more) (last_text n)
+    ∙ ap (λ l. embedded one ++ 44 ∷ l) (lines_text n ds)
+    ∙ sym (ap (λ l. embedded (one ++ l)) (comma_first n ds) ∙ embedded-append one (44 ∷ items_text false (items_of (with_last n ds))))
 
-last_by : List ℕ → List ℕ
-last_by digits = embedded (123 ∷ (quoted (codes "left_out") ++ 58 ∷ (digits ++ 125 ∷ []))) ++ 93 ∷ []
+-- the name and what stands before a number, as they are
+front_is : (r : List ℕ) → embedded (123 ∷ (quoted (codes "left_out") ++ 58 ∷ r)) ≡ codes "{\"left_out\":" ++ embedded r
+unfolding escape_byte
+front_is r = refl
 
-last_is : left_out_text 0 ≡ last_text
-unfolding escape_byte last_by
-last_is = ap (λ t. codes "{\"left_out\":" ++ (t ++ codes "}]")) nought ∙ sym (ap last_by nought)
+last_is : (n : ℕ) → n < 2 ^ 64 → left_out_text n ≡ last_text n
+last_is n h =
+    sym (ap (λ t. t ++ 93 ∷ []) (front_is (decimal n ++ 125 ∷ [])
+    ∙ ap (λ t. codes "{\"left_out\":" ++ t) (embedded-append (decimal n) (125 ∷ []) ∙ ap (λ t. t ++ 125 ∷ []) (decimal_kept n h)))
+    ∙ ap (λ t. codes "{\"left_out\":" ++ t) (append_assoc (decimal n) (125 ∷ []) (93 ∷ [])))
+
+-- a text whose facts are these, and behind which n are left out, is read as they are
+read_front : (n : ℕ) → n < 2 ^ 64 → (ds : List Data) → AreTold ds → AllByRecursion ReadsBack ds →
+    read (codes "[" ++ (embedded (json_lines ds) ++ left_out_text n)) ≡ Some (list (with_last n ds))
+read_front n l ds told back =
+    let deep : items_depth (items_of (with_last n ds)) ≤ 126 = list_depth n ds told in
+    ap (λ t. read (91 ∷ t)) (ap (λ t. embedded (json_lines ds) ++ t) (last_is n l) ∙ lines_text n ds)
+    ∙ read_there (list (with_last n ds)) (list_counts n l ds told) (omega (arith, deep))
+    ∙ ap (option_map array) (list_given n l ds told back)
 
 all_kept : (text : List ℕ) → facts_text text (length text) ≡ embedded text ++ left_out_text 0
 all_kept text =
     ap₂ (λ a b. embedded a ++ left_out_text (line_count b)) (take_all (length text) text (omega arith)) (drop_all (length text) text (omega arith))
 
-stands : (facts : List Data) (text : List ℕ) → text ≡ json_lines facts →
-    codes "[" ++ facts_text text (length text) ≡ embedded (compact_text (list (with_last facts)))
-stands facts text is =
-    ap (λ l. 91 ∷ l) (all_kept text ∙ ap₂ (λ a b. embedded a ++ b) is last_is ∙ lines_text facts)
-
 pub facts_are_read : FactsAreRead
 facts_are_read facts text told says =
-    let all = list (with_last facts) in
-    let deep : items_depth (items_of (with_last facts)) ≤ 126 = list_depth facts told in
-    ap read (stands facts text says.whole) ∙ read_there all (list_counts facts told) (omega (arith, deep))
-    ∙ ap (option_map array) (list_given facts told (recursion_from_All ReadsBack facts says.read_back))
+    ap (λ t. read (91 ∷ t)) (all_kept text ∙ ap (λ t. embedded t ++ left_out_text 0) says.whole)
+    ∙ read_front 0 (omega arith) facts told (recursion_from_All ReadsBack facts says.read_back)
+
+-- ---- where some are left out
+
+first_told : (k : ℕ) (ds : List Data) → AreTold ds → AreTold (take k ds)
+first_told zero ds h = tt
+first_told (suc k) [] h = tt
+first_told (suc k) (d ∷ ds) h = (h.0, first_told k ds h.1)
+
+rest_told : (k : ℕ) (ds : List Data) → AreTold ds → AreTold (drop k ds)
+rest_told zero ds h = h
+rest_told (suc k) [] h = tt
+rest_told (suc k) (d ∷ ds) h = rest_told k ds h.1
+
+first_read : (k : ℕ) (ds : List Data) → AllByRecursion ReadsBack ds → AllByRecursion ReadsBack (take k ds)
+first_read zero ds h = tt
+first_read (suc k) [] h = tt
+first_read (suc k) (d ∷ ds) h = (h.0, first_read k ds h.1)
+
+left_out : (facts : List Data) (kept k : ℕ) → AreTold facts → IsCutAt facts kept k → line_count (drop kept (json_lines facts)) ≡ length facts - k
+left_out facts kept k told c = ap line_count c.back ∙ lines_end (drop k facts) (rest_told k facts told) ∙ length-drop k facts
+
+pub cut_facts_are_read : CutFactsAreRead
+cut_facts_are_read facts text kept told says few cut = by text says.whole cut.has_room.whole cut.has_room.within where
+  by : (text : List ℕ) → text ≡ json_lines facts → BeginsLine text kept → kept ≤ length text →
+      (k : ℕ) × (k ≤ length facts) × (read (codes "[" ++ facts_text text kept) ≡ Some (list (take k facts ++ left_out_fact (length facts - k) ∷ [])))
+  by text e b w =
+      let c = cut_at facts kept told (subst (λ t. BeginsLine t kept) e b) (subst (λ t. kept ≤ length t) e w) in
+      let n = left_out facts kept c.0 told c.1 in (
+        c.0,
+        c.1.within,
+        ap (λ t. read (91 ∷ facts_text t kept)) e
+            ∙ ap₂ (λ a n. read (91 ∷ (embedded a ++ left_out_text n))) c.1.front n
+            ∙ read_front (length facts - c.0) (omega (arith, few)) (take c.0 facts) (first_told c.0 facts told)
+            (first_read c.0 facts (recursion_from_All ReadsBack facts says.read_back)),
+      )

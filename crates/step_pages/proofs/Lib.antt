@@ -1,3 +1,4 @@
+pub mod LineEnds
 pub mod AsList
 pub mod Cutting
 pub mod Embedding

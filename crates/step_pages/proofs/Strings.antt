@@ -18,11 +18,11 @@ record Passes (x : ℕ) : Type 0 where
   lexed : (r : List ℕ) → lex in_string (embedded (escape_byte x) ++ r) ≡ lex in_string r
 
 -- so below n
-abbrev Each : (ℕ → Type 0) → ℕ → Type 0
+abbrev pub Each : (ℕ → Type 0) → ℕ → Type 0
 Each P zero = Unit {0}
 Each P (suc n) = P n × Each P n
 
-each_sound : (P : ℕ → Type 0) (n : ℕ) → Each P n → (x : ℕ) → x < n → P x
+pub each_sound : (P : ℕ → Type 0) (n : ℕ) → Each P n → (x : ℕ) → x < n → P x
 each_sound P zero h x lt = absurd (omega arith)
 each_sound P (suc n) h x lt = go (each_sound P n h.1 x) (cases_eq x n)
   where

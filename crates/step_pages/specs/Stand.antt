@@ -1,11 +1,11 @@
 -- The facts that stand in a page, read as JSON.
-use Rattle.std.specs.Prelude.{◌≡◌, ℕ, ◌<◌, ◌≤◌, ◌^◌, List, [], ◌∷◌, ◌++◌, Some, codes, length}
+use Rattle.std.specs.Prelude.{◌≡◌, ℕ, ◌-◌, ◌<◌, ◌≤◌, ◌^◌, List, [], ◌∷◌, ◌++◌, Some, codes, length, take}
 use Rattle.serde_json.specs.Data.{Num, unsigned, negative, float, Data, null, boolean, number, string, array, object, Items, no_items, item, Members}
 use Rattle.serde_json.specs.Data.{no_members, member, depth}
 use Rattle.serde_json.specs.Read.{read}
 use Rattle.json_lines.specs.Facts.{count, list, object_of}
 use Rattle.json_lines.specs.Lines.{IsJson}
-use Rattle.step_pages.specs.Facts.{facts_text}
+use Rattle.step_pages.specs.Facts.{IsCut, facts_text}
 
 -- a count below 2^64
 abbrev pub IsCount : Num → Type 0
@@ -44,3 +44,10 @@ left_out_fact n = object_of ((codes "left_out", count n) ∷ [])
 abbrev pub FactsAreRead : Type 0
 FactsAreRead = (facts : List Data) (text : List ℕ) → AreTold facts → IsJson facts text →
     read (codes "[" ++ facts_text text (length text)) ≡ Some (list (facts ++ left_out_fact 0 ∷ []))
+
+-- Where a front of the lines stands in the page, as many as have room, it is read as the list of the first facts, and of the fact of how many
+-- are left out.
+abbrev pub CutFactsAreRead : Type 0
+CutFactsAreRead = (facts : List Data) (text : List ℕ) (kept : ℕ) → AreTold facts → IsJson facts text → length facts < 2 ^ 64 → IsCut text kept →
+    (k : ℕ) × (k ≤ length facts)
+    × (read (codes "[" ++ facts_text text kept) ≡ Some (list (take k facts ++ left_out_fact (length facts - k) ∷ [])))
