@@ -4,3 +4,4 @@ pub mod Status
 pub mod Stopped
 pub mod StoppedFields
 pub mod Held
+pub mod Files

@@ -22,6 +22,11 @@ pub record IsProgramOf (text : List ℕ) (program : Checked) : Type 0 where
   pub accepted : IsAccepted program.tree
   pub resolved : IsResolved program
 
+-- the verdict is the outcome of the program on the input, which has no more values than there are cells, within n statements
+pub record IsMeaningOf (program : Checked) (input : List ℤ) (n : ℕ) (verdict : Verdict) : Type 0 where
+  pub fits : length input ≤ total_size program.layout
+  pub outcome : IsOutcome program input n verdict
+
 -- the verdict is the outcome of the text's program on the input within n statements, and these are the program's shared declarations
 pub record IsRunOf (text : List ℕ) (input : List ℤ) (n : ℕ) (layout : List SharedEntry) (verdict : Verdict) : Type 0 where
   pub program : Checked
@@ -75,6 +80,12 @@ IsNoProgram text (Err refusal.BadMap) = ⊥
 IsNoProgram text (Err refusal.BadWorkers) = ⊥
 IsNoProgram text (Err refusal.OutOfMemory) = IsPlain text
 IsNoProgram text (Err refusal.OutOfReserve) = ⊥
+
+-- A program has no meaning on an input that has more values than there are cells; memory is asked for only where it fits.
+abbrev pub IsMeaningRefused : Checked → List ℤ → Refusal → Type 0
+IsMeaningRefused program input refusal.InputTooLong = total_size program.layout < length input
+IsMeaningRefused program input refusal.OutOfMemory = length input ≤ total_size program.layout
+IsMeaningRefused program input _ = ⊥
 
 -- Each refusal of a run says what is wrong with the text or with the input. A run by the definition has no workers, no map
 -- and no reserve.

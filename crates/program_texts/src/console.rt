@@ -103,6 +103,9 @@ pub struct SystemFiles<'a, R: Files> {
 }
 
 impl<'a, R: Files> Sources for SystemFiles<'a, R> {
+    // what the system's files hold isn't known
+    ghost holds = { λ s name bytes. Unit {0} };
+
     fn read(&mut self, alloc: Global, name: &str, most: u32) -> Result<Vec<u8>, SourceFault> {
         let file = match File::open(self.system, name) {
             Ok(file) => file,

@@ -1,8 +1,8 @@
 //! From a text to its program, and to the outcome of that by the definition.
 
-ghost use Rattle.std.specs.Prelude.{◌≡◌, ℕ, List, IfOk};
+ghost use Rattle.std.specs.Prelude.{◌≡◌, ℕ, List, IfErr, IfOk};
 ghost use Rattle.write_rules.specs.Verdict.{verdict_of};
-ghost use Rattle.program_texts.specs.Report.{IsNoProgram, IsProgramOf, IsRefusedRightly, IsRunOf, refusal_of};
+ghost use Rattle.program_texts.specs.Report.{IsMeaningOf, IsMeaningRefused, IsNoProgram, IsProgramOf, IsRefusedRightly, IsRunOf, refusal_of};
 
 use pram_check::{Breach, CheckFault, Program, check};
 use pram_meaning::{RunRefusal, reference_run};
@@ -75,6 +75,10 @@ pub fn mean_program(
     input: &[i64],
     bound: u32,
 ) -> Result<Outcome, Refusal>
+    // The verdict is the outcome of the program itself, whichever rule it is under.
+    ensures meaning { IfOk result (λ o. IsMeaningOf program.now input.now bound (verdict_of o)) }
+    ensures stopped { IfErr result (IsMeaningRefused program.now input.now) }
+    // So it is for each text that the program is of.
     ensures outcome { IfOk result (λ o. (text : List ℕ) → IsProgramOf text program.now →
         IsRunOf text input.now bound program.now.layout (verdict_of o)) }
     ensures refused { (text : List ℕ) → IsProgramOf text program.now → IsRefusedRightly text input.now result }

@@ -1,5 +1,9 @@
 //! Where the program finds its files.
 
+ghost use Rattle.std.specs.Prelude.{◌≡◌, ℕ, List, Option, None, IfOk, Err};
+ghost use Rattle.program_texts.specs.Files.{IsReadFrom, IsSame};
+ghost use Rattle.program_texts.specs.declared.sources.SourceFault.TheVariants.{Unreadable};
+
 use std::alloc::Global;
 use thiserror::Error;
 
@@ -16,6 +20,12 @@ pub enum SourceFault {
 
 /// Files by their names.
 pub trait Sources {
-    /// The bytes of a file, or its first `most + 1` where it has more than `most`.
-    fn read(&mut self, alloc: Global, name: &str, most: u32) -> Result<Vec<u8>, SourceFault>;
+    /// What a name may stand for: a file with these bytes, or none that can be read.
+    ghost holds: { Self → List ℕ → Option (List ℕ) → Type 0 };
+
+    /// The bytes of a file, or a beginning of it where it has more than `most`, which has more than `most` too.
+    fn read(&mut self, alloc: Global, name: &str, most: u32) -> Result<Vec<u8>, SourceFault>
+        ensures bytes { IfOk result (λ bytes. IsReadFrom (holds self.old name.now) most bytes.items) }
+        ensures unreadable { result ≡ Err Unreadable → holds self.old name.now None }
+        ensures same { IsSame (holds self.new) (holds self.old) };
 }
