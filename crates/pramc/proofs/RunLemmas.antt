@@ -1,5 +1,6 @@
 -- A run of compiled code is the program's.
 use Rattle.std.proofs.Common.{rules, ◌≡◌, ℕ, ◌≤◌, List, length, ℤ, subst, sym, refl, Result, Ok, Err, Option, Some, None, ◌⊎◌, inl, inr, ⊎_elim, ap, IfOk, FitsSigned, w64, slice_index_or, arith, ◌<◌, pos, suc, [], ◌∷◌}
+use Rattle.std.specs.Prelude.{IfErr}
 use Rattle.pram_model.specs.Layout.{total_size}
 use Rattle.address_map.specs.Lawful.{Shape}
 use Rattle.write_rules.specs.Verdict.{Verdict}
@@ -16,16 +17,19 @@ use Rattle.address_map.specs.declared.fault.MapFault.TheVariants as no
 use Rattle.compiled_meaning.specs.PlainForm.{IsInputFor}
 use Rattle.compiled_meaning.specs.Supersteps.{IsFusedForm}
 use Rattle.compiling.specs.Compiled.{IsCodeOf}
-use Rattle.program_texts.specs.Report.{IsProgramOf, IsRunOf}
+use Rattle.program_texts.specs.Report.{IsMeaningOf, IsProgramOf, IsRunOf}
 use Rattle.run_options.specs.Places.{IsLeastPower}
 use Rattle.run_options.specs.declared.map_choice.MapChoice.{MapChoice}
 use Rattle.run_options.specs.declared.map_choice.MapChoice.TheVariants as choose
 use Rattle.pramc.specs.declared.options.Options.{Options}
+use Rattle.worker_messages.specs.declared.refusal.RunRefusal.TheVariants as run
+use Rattle.worker_messages.specs.Opened.{IsAccepted}
+use Rattle.workers.specs.Past.{IsRefusalWith}
 use Rattle.program_texts.specs.declared.from_text.Refusal.{Refusal}
 use Rattle.program_texts.specs.declared.from_text.Refusal.TheVariants as refusals
 use Rattle.bsp_machine.specs.declared.reserve.Reserve.{Reserve}
-use Rattle.pramc.specs.Runs.{IsChoice, IsCodeRun, IsCodeRefused, IsMapOf, IsNoMap, IsRunByWorkers, IsRunRefused}
-use Rattle.pramc.specs.Reserved.{IsCodeRunWith, IsRunByWorkersWith, IsCodeRefusedWith, IsRunRefusedWith}
+use Rattle.pramc.specs.Runs.{IsChoice, IsCodeRun, IsCodeRefused, IsMapOf, IsNoMap, IsProgramRefused, IsProgramRun, IsRunRefused}
+use Rattle.pramc.specs.Reserved.{IsCodeRunWith, IsProgramRunWith, IsRunByWorkersWith, IsCodeRefusedWith, IsProgramRefusedWith, IsRunRefusedWith}
 
 -- the map of a choice has so many places
 places_of : (choice : MapChoice) (k p : ℕ) (m : Shape) → IsMapOf choice k p m → m.count ≡ k
@@ -55,14 +59,11 @@ module _ (program : Checked) (code : SuperstepCode) (means : IsFusedForm program
   outcome : IsOutcome program input options.bound verdict
   outcome = (means.form.outcomes r.shape on_map input input_fits options.bound verdict).0 r.outcome
 
-  pub is_run : (text : List ℕ) → IsProgramOf text program → IsRunOf text input options.bound program.layout verdict
-  is_run text is = record { program = program; is_program = is; declared = refl; fits = input_fits.few; outcome = outcome }
+  pub is_meaning : IsMeaningOf program input options.bound verdict
+  is_meaning = record { fits = input_fits.few; outcome = outcome }
 
-  pub is_run_by_workers : (text : List ℕ) → IsProgramOf text program → IsCodeOf program code →
-      IsRunByWorkers text input options verdict exchanges
-  is_run_by_workers text is is_code = record {
-    program = program;
-    is_program = is;
+  pub is_program_run : IsCodeOf program code → IsProgramRun program input options verdict exchanges
+  is_program_run is_code = record {
     code = code;
     is_code = is_code;
     run = r;
@@ -73,51 +74,99 @@ module _ (program : Checked) (code : SuperstepCode) (means : IsFusedForm program
 
 module _ {X : Type 0} (program : Checked) (code : SuperstepCode) (means : IsFusedForm program code) (input : List ℤ) (options : Options)
     (reserve : Option Reserve) (values : AreValues input) (verdict : X → Verdict) (exchanges : X → List Exchange) where
-  pub all_runs : {E : Type 0} (found : Result X E) → IfOk found (λ x. IsCodeRunWith code input options reserve (verdict x) (exchanges x)) →
-      IfOk found (λ x. (text : List ℕ) → IsProgramOf text program → IsRunOf text input options.bound program.layout (verdict x))
-  all_runs (Ok x) r = is_run program code means input options (verdict x) (exchanges x) values r.run
-  all_runs (Err e) r = tt
-
-  pub all_runs_by_workers : {E : Type 0} (found : Result X E) → IsCodeOf program code →
+  pub all_meanings : {E : Type 0} (found : Result X E) →
       IfOk found (λ x. IsCodeRunWith code input options reserve (verdict x) (exchanges x)) →
-      IfOk found (λ x. (text : List ℕ) → IsProgramOf text program →
-      IsRunByWorkersWith text input options reserve (verdict x) (exchanges x))
-  unfolding is_run_by_workers
-  all_runs_by_workers (Ok x) is r = λ text of. record {
-    by_workers = is_run_by_workers program code means input options (verdict x) (exchanges x) values r.run text of is;
+      IfOk found (λ x. IsMeaningOf program input options.bound (verdict x))
+  all_meanings (Ok x) r = is_meaning program code means input options (verdict x) (exchanges x) values r.run
+  all_meanings (Err e) r = tt
+
+  pub all_ran : {E : Type 0} (found : Result X E) → IsCodeOf program code →
+      IfOk found (λ x. IsCodeRunWith code input options reserve (verdict x) (exchanges x)) →
+      IfOk found (λ x. IsProgramRunWith program input options reserve (verdict x) (exchanges x))
+  unfolding is_program_run
+  all_ran (Ok x) is r = record {
+    ran = is_program_run program code means input options (verdict x) (exchanges x) values r.run is;
     within = r.within;
   }
-  all_runs_by_workers (Err e) is r = tt
+  all_ran (Err e) is r = tt
+
+-- ---- and of each text that the program is of
+
+module _ {X : Type 0} (program : Checked) (input : List ℤ) (options : Options) (reserve : Option Reserve) (verdict : X → Verdict)
+    (exchanges : X → List Exchange) where
+  pub all_runs : {E : Type 0} (found : Result X E) → IfOk found (λ x. IsMeaningOf program input options.bound (verdict x)) →
+      IfOk found (λ x. (text : List ℕ) → IsProgramOf text program → IsRunOf text input options.bound program.layout (verdict x))
+  all_runs (Ok x) m = λ text is. record { program = program; is_program = is; declared = refl; fits = m.fits; outcome = m.outcome }
+  all_runs (Err e) m = tt
+
+  pub all_runs_by_workers : {E : Type 0} (found : Result X E) →
+      IfOk found (λ x. IsProgramRunWith program input options reserve (verdict x) (exchanges x)) →
+      IfOk found (λ x. (text : List ℕ) → IsProgramOf text program →
+      IsRunByWorkersWith text input options reserve (verdict x) (exchanges x))
+  all_runs_by_workers (Ok x) r = λ text is. record {
+    by_workers = record { program = program; is_program = is; ran = r.ran };
+    within = r.within;
+  }
+  all_runs_by_workers (Err e) r = tt
 
 -- ---- why it is refused
 
-module _ (X : Type 0) (text : List ℕ) (program : Checked) (is : IsProgramOf text program) (code : SuperstepCode)
-    (layout : code.layout ≡ program.layout) (input : List ℤ) (options : Options) where
-  of_code : (r : Refusal) → IsCodeRefused code input options r → IsRunRefused {X = X} text input options (Err r)
+module _ (program : Checked) (code : SuperstepCode) (layout : code.layout ≡ program.layout) (input : List ℤ) (options : Options) where
+  of_code : (r : Refusal) → IsCodeRefused code input options r → IsProgramRefused program input options r
   of_code (refusals.Text fault) h = absurd h
   of_code (refusals.Program breach) h = absurd h
-  of_code refusals.BadWorkers h = ((program, is), h)
-  of_code refusals.BadMap h = ((program, is), h.0, h.1)
-  of_code refusals.InputTooLong h = (
-    h.0,
-    h.1,
-    record {
-      program = program;
-      is_program = is;
-      too_long = subst (λ l. total_size l < length input) layout h.2;
-    },
-  )
-  of_code refusals.OutOfMemory h = is.is_text.plain
+  of_code refusals.BadWorkers h = h
+  of_code refusals.BadMap h = h
+  of_code refusals.InputTooLong h = (h.0, h.1, subst (λ l. total_size l < length input) layout h.2)
+  of_code refusals.OutOfMemory h = tt
   of_code refusals.OutOfReserve h = absurd h
 
   pub of_code_with : (reserve : Option Reserve) → IsCodeOf program code → (r : Refusal) → IsCodeRefusedWith code input options reserve r →
-      IsRunRefusedWith {X = X} text input options reserve (Err r)
+      IsProgramRefusedWith program input options reserve r
   of_code_with None made r h = of_code r h
   of_code_with (Some reserve) made r h = ⊎_elim
       (λ (a : IsCodeRefused code input options r). inl (of_code r a))
-      (λ (b : _). inr (ap Err b.0, record { program = program; is_program = is; code = code; is_code = made; past = b.1 })) h
+      (λ (b : _). inr (b.0, record { code = code; is_code = made; past = b.1 })) h
+
+module _ (X : Type 0) (text : List ℕ) (program : Checked) (is : IsProgramOf text program) (input : List ℤ) (options : Options) where
+  of_program : (r : Refusal) → IsProgramRefused program input options r → IsRunRefused {X = X} text input options (Err r)
+  of_program (refusals.Text fault) h = absurd h
+  of_program (refusals.Program breach) h = absurd h
+  of_program refusals.BadWorkers h = ((program, is), h)
+  of_program refusals.BadMap h = ((program, is), h.0, h.1)
+  of_program refusals.InputTooLong h = (h.0, h.1, record { program = program; is_program = is; too_long = h.2 })
+  of_program refusals.OutOfMemory h = is.is_text.plain
+  of_program refusals.OutOfReserve h = absurd h
+
+  pub of_program_with : (reserve : Option Reserve) (r : Refusal) → IsProgramRefusedWith program input options reserve r →
+      IsRunRefusedWith {X = X} text input options reserve (Err r)
+  of_program_with None r h = of_program r h
+  of_program_with (Some reserve) r h = ⊎_elim
+      (λ (a : IsProgramRefused program input options r). inl (of_program r a))
+      (λ (b : _). inr (ap Err b.0, record { program = program; is_program = is; past = b.1 })) h
+
+-- ---- the same of an answer
+
+pub all_stopped : {X : Type 0} (program : Checked) (code : SuperstepCode) (means : IsFusedForm program code) (input : List ℤ)
+    (options : Options) (reserve : Option Reserve) → IsCodeOf program code → (found : Result X Refusal) →
+    IfErr found (IsCodeRefusedWith code input options reserve) → IfErr found (IsProgramRefusedWith program input options reserve)
+all_stopped program code means input options reserve made (Ok x) h = tt
+all_stopped program code means input options reserve made (Err r) h =
+    of_code_with program code means.form.layout input options reserve made r h
+
+pub all_refused : {X : Type 0} (program : Checked) (input : List ℤ) (options : Options) (reserve : Option Reserve)
+    (found : Result X Refusal) → IfErr found (IsProgramRefusedWith program input options reserve) → (text : List ℕ) →
+    IsProgramOf text program → IsRunRefusedWith text input options reserve found
+all_refused program input options None (Ok x) h text is = tt
+all_refused program input options (Some reserve) (Ok x) h text is = inl tt
+all_refused {X = X} program input options reserve (Err r) h text is = of_program_with X text program is input options reserve r h
 
 -- with a reserve it is refused for what refuses it without one
+pub program_with_any : (program : Checked) (input : List ℤ) (options : Options) (reserve : Option Reserve) (r : Refusal) →
+    IsProgramRefused program input options r → IsProgramRefusedWith program input options reserve r
+program_with_any program input options None r h = h
+program_with_any program input options (Some reserve) r h = inl h
+
 pub with_any : {X : Type 0} (text : List ℕ) (input : List ℤ) (options : Options) (reserve : Option Reserve) (result : Result X Refusal) →
     IsRunRefused text input options result → IsRunRefusedWith text input options reserve result
 with_any text input options None result h = h
@@ -127,6 +176,18 @@ pub code_with_any : (code : SuperstepCode) (input : List ℤ) (options : Options
     IsCodeRefused code input options r → IsCodeRefusedWith code input options reserve r
 code_with_any code input options None r h = h
 code_with_any code input options (Some reserve) r h = inl h
+
+-- where memory was refused to the workers nothing speaks against the run
+pub of_memory : (code : SuperstepCode) (m : Shape) (input : List ℤ) (options : Options) (reserve : Option Reserve) → IsChoice options.map →
+    IsRefusalWith code m options.workers input options.bound reserve run.OutOfMemory →
+    IsCodeRefusedWith code input options reserve refusals.OutOfMemory
+of_memory code m input options None choice h = (h.few, choice, h.short)
+of_memory code m input options (Some reserve) choice h = ⊎_elim
+    (λ (a : IsAccepted code m options.workers input). inl (a.few, choice, a.short))
+    (λ (b : _). absurd (differ b.0)) h
+  where
+    differ : run.OutOfMemory ≡ run.OutOfReserve → ⊥
+    differ e = cc
 
 -- ---- why there is no map
 

@@ -13,7 +13,7 @@ use Rattle.compiling.specs.Compiled.{IsCodeOf}
 use Rattle.bsp_machine.specs.declared.reserve.Reserve.{Reserve}
 use Rattle.workers.specs.Past.{ComesPast, StaysWithin}
 use Rattle.pramc.specs.declared.options.Options.{Options}
-use Rattle.pramc.specs.Runs.{AreLaidOut, IsCodeRun, IsCodeRefused, IsRunByWorkers, IsRunRefused}
+use Rattle.pramc.specs.Runs.{AreLaidOut, IsCodeRun, IsCodeRefused, IsProgramRun, IsProgramRefused, IsRunByWorkers, IsRunRefused}
 
 -- ---- within it
 
@@ -23,11 +23,17 @@ pub record IsCodeRunWith (code : SuperstepCode) (input : List ℤ) (options : Op
   pub run : IsCodeRun code input options verdict exchanges
   pub within : StaysWithin code run.shape options.bound input reserve
 
--- So was the code of a text's program.
+-- So was the code of a program.
+pub record IsProgramRunWith (program : Checked) (input : List ℤ) (options : Options) (reserve : Option Reserve) (verdict : Verdict)
+    (exchanges : List Exchange) : Type 0 where
+  pub ran : IsProgramRun program input options verdict exchanges
+  pub within : StaysWithin ran.code ran.run.shape options.bound input reserve
+
+-- So was that of a text's program.
 pub record IsRunByWorkersWith (text : List ℕ) (input : List ℤ) (options : Options) (reserve : Option Reserve) (verdict : Verdict)
     (exchanges : List Exchange) : Type 0 where
   pub by_workers : IsRunByWorkers text input options verdict exchanges
-  pub within : StaysWithin by_workers.code by_workers.run.shape options.bound input reserve
+  pub within : StaysWithin by_workers.ran.code by_workers.ran.run.shape options.bound input reserve
 
 -- ---- past it
 
@@ -38,13 +44,17 @@ pub record IsCodePast (code : SuperstepCode) (input : List ℤ) (options : Optio
   pub fits : length input ≤ total_size code.layout
   pub past : ComesPast code shape options.bound input reserve
 
--- So does the code of a text's program.
-pub record IsTextPast (text : List ℕ) (input : List ℤ) (options : Options) (reserve : Reserve) : Type 0 where
-  pub program : Checked
-  pub is_program : IsProgramOf text program
+-- So does the code of a program.
+pub record IsProgramPast (program : Checked) (input : List ℤ) (options : Options) (reserve : Reserve) : Type 0 where
   pub code : SuperstepCode
   pub is_code : IsCodeOf program code
   pub past : IsCodePast code input options reserve
+
+-- So does that of a text's program.
+pub record IsTextPast (text : List ℕ) (input : List ℤ) (options : Options) (reserve : Reserve) : Type 0 where
+  pub program : Checked
+  pub is_program : IsProgramOf text program
+  pub past : IsProgramPast program input options reserve
 
 -- ---- refusals
 
@@ -53,6 +63,12 @@ abbrev pub IsCodeRefusedWith : SuperstepCode → List ℤ → Options → Option
 IsCodeRefusedWith code input options None refusal = IsCodeRefused code input options refusal
 IsCodeRefusedWith code input options (Some reserve) refusal =
     IsCodeRefused code input options refusal ⊎ ((refusal ≡ OutOfReserve) × IsCodePast code input options reserve)
+
+-- So is a program.
+abbrev pub IsProgramRefusedWith : Checked → List ℤ → Options → Option Reserve → Refusal → Type 0
+IsProgramRefusedWith program input options None refusal = IsProgramRefused program input options refusal
+IsProgramRefusedWith program input options (Some reserve) refusal =
+    IsProgramRefused program input options refusal ⊎ ((refusal ≡ OutOfReserve) × IsProgramPast program input options reserve)
 
 -- So is a text.
 abbrev pub IsRunRefusedWith : {X : Type 0} → List ℕ → List ℤ → Options → Option Reserve → Result X Refusal → Type 0

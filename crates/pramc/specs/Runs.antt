@@ -52,15 +52,18 @@ pub record IsCodeRun (code : SuperstepCode) (input : List ℤ) (options : Option
   pub outcome : IsBspOutcome code shape input options.bound verdict
   pub made : AreBspExchanges code shape input options.bound verdict exchanges
 
--- The text is that of an accepted program, whose code was run so. Where the verdict is no fault there are at most as many exchanges as the
--- program's bound says.
-pub record IsRunByWorkers (text : List ℕ) (input : List ℤ) (options : Options) (verdict : Verdict) (exchanges : List Exchange) : Type 0 where
-  pub program : Checked
-  pub is_program : IsProgramOf text program
+-- So was the code of a program. Where the verdict is no fault there are at most as many exchanges as the program's bound says.
+pub record IsProgramRun (program : Checked) (input : List ℤ) (options : Options) (verdict : Verdict) (exchanges : List Exchange) : Type 0 where
   pub code : SuperstepCode
   pub is_code : IsCodeOf program code
   pub run : IsCodeRun code input options verdict exchanges
   pub few : IsFaultless verdict → length exchanges ≤ exchange_bound program input options.bound
+
+-- So was that of the accepted program of a text.
+pub record IsRunByWorkers (text : List ℕ) (input : List ℤ) (options : Options) (verdict : Verdict) (exchanges : List Exchange) : Type 0 where
+  pub program : Checked
+  pub is_program : IsProgramOf text program
+  pub ran : IsProgramRun program input options verdict exchanges
 
 -- ---- refusals
 
@@ -69,15 +72,25 @@ abbrev pub IsNoMap : Options → MapFault → Type 0
 IsNoMap options fault.BadWorkers = ¬ (IsWorkers options.workers)
 IsNoMap options fault.BadMap = IsWorkers options.workers × ¬ (IsChoice options.map)
 
--- Each refusal of code says what is wrong: first with the number of workers, then with the map, then with the input. Of want of memory
--- nothing is said.
+-- Each refusal of code says what is wrong: first with the number of workers, then with the map, then with the input. Memory is asked for
+-- only where nothing is.
 abbrev pub IsCodeRefused : SuperstepCode → List ℤ → Options → Refusal → Type 0
 IsCodeRefused code input options refusal.BadWorkers = ¬ (IsWorkers options.workers)
 IsCodeRefused code input options refusal.BadMap = IsWorkers options.workers × ¬ (IsChoice options.map)
 IsCodeRefused code input options refusal.InputTooLong =
     IsWorkers options.workers × IsChoice options.map × (total_size code.layout < length input)
-IsCodeRefused code input options refusal.OutOfMemory = Unit {0}
+IsCodeRefused code input options refusal.OutOfMemory =
+    IsWorkers options.workers × IsChoice options.map × (length input ≤ total_size code.layout)
 IsCodeRefused code input options _ = ⊥
+
+-- So does each of a program. It is compiled first, and of want of memory there nothing is said.
+abbrev pub IsProgramRefused : Checked → List ℤ → Options → Refusal → Type 0
+IsProgramRefused program input options refusal.BadWorkers = ¬ (IsWorkers options.workers)
+IsProgramRefused program input options refusal.BadMap = IsWorkers options.workers × ¬ (IsChoice options.map)
+IsProgramRefused program input options refusal.InputTooLong =
+    IsWorkers options.workers × IsChoice options.map × (total_size program.layout < length input)
+IsProgramRefused program input options refusal.OutOfMemory = Unit {0}
+IsProgramRefused program input options _ = ⊥
 
 -- the text is that of an accepted program
 abbrev pub IsAcceptedText : List ℕ → Type 0

@@ -1,11 +1,11 @@
 //! From a text to the outcome of its program, by workers.
 
-ghost use Rattle.std.specs.Prelude.{◌≡◌, ℕ, List, Some, IfOk};
+ghost use Rattle.std.specs.Prelude.{◌≡◌, ℕ, List, Some, IfOk, IfErr};
 ghost use Rattle.write_rules.specs.Verdict.{verdict_of};
 ghost use Rattle.pram_meaning.specs.Values.{AreValues};
-ghost use Rattle.program_texts.specs.Report.{IsProgramOf, IsRunOf};
+ghost use Rattle.program_texts.specs.Report.{IsMeaningOf, IsProgramOf, IsRunOf};
 ghost use Rattle.pramc.specs.Runs.{IsRunByWorkers, IsRunRefused};
-ghost use Rattle.pramc.specs.Reserved.{IsRunByWorkersWith, IsRunRefusedWith};
+ghost use Rattle.pramc.specs.Reserved.{IsProgramRefusedWith, IsProgramRunWith, IsRunByWorkersWith, IsRunRefusedWith};
 
 use crate::on_map::run_code;
 use crate::options::Options;
@@ -51,6 +51,12 @@ pub fn run_program<R: Threads + Wait + Sync, G: Gate + Sync>(
     reserve: Option<Reserve>,
     gate: &G,
 ) -> Result<(Outcome, Counts), Refusal>
+    // The verdict is the outcome of the program itself, whichever rule it is under.
+    ensures meaning { IfOk result (λ found. IsMeaningOf program.now input.now options.bound (verdict_of found.0)) }
+    // The exchanges are those of its code, as many at most as its bound says where it doesn't fault.
+    ensures run { IfOk result (λ found. IsProgramRunWith program.now input.now options reserve (verdict_of found.0) found.1) }
+    ensures stopped { IfErr result (IsProgramRefusedWith program.now input.now options reserve) }
+    // So it is for each text that the program is of.
     ensures outcome { IfOk result (λ found. (text : List ℕ) → IsProgramOf text program.now →
         IsRunOf text input.now options.bound program.now.layout (verdict_of found.0)) }
     ensures exchanges { IfOk result (λ found. (text : List ℕ) → IsProgramOf text program.now →
