@@ -1,18 +1,7 @@
-//! What the words behind the program's name ask for.
+//! The words behind the program's name, read.
 #![tactic(auto)]
 
-mod cost_words;
-mod explain_word;
-mod format_word;
 mod grammar;
-mod request;
-mod same_word;
-mod step_words;
-mod version;
+mod reading;
 
-pub use cost_words::CostWords;
-pub use explain_word::asks_to_explain;
-pub use format_word::asks_for_json;
-pub use request::{Request, RunWords, Verb, read_words};
-pub use step_words::StepWords;
-pub use version::VERSION;
+pub use reading::read_words;

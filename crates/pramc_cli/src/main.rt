@@ -1,10 +1,10 @@
 //! The program `pramc`, over the system's files and streams.
 #![tactic(auto)]
 
-use command_words::asks_for_json;
 use json_command::command_in_json;
 use pramc_command::{Terminal, command};
 use program_texts::{Stream, SystemFiles};
+use requests::asks_for_json;
 use std::io::IsTerminal;
 use std::process::ExitCode;
 use std::{env, io};

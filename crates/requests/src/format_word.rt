@@ -2,7 +2,7 @@
 
 ghost use Rattle.std.specs.Prelude.{◌≡◌, map};
 ghost use Rattle.std.specs.String.{string_bytes};
-ghost use Rattle.command_words.specs.Words as spec;
+ghost use Rattle.requests.specs.Words as spec;
 
 use crate::same_word::is_same;
 

@@ -1,8 +1,8 @@
 use Rattle.std.proofs.Common.{◌≡◌, drop, map}
 use Rattle.std.specs.Prelude.{◌||◌, ◌&&◌}
 use Rattle.std.specs.String.{string_bytes}
-use Rattle.command_words.specs.Words.{asks_for_json, begins_with_json}
-use Rattle.command_words.proofs.format_word.asks_for_json.Given as goal
+use Rattle.requests.specs.Words.{asks_for_json, begins_with_json}
+use Rattle.requests.proofs.format_word.asks_for_json.Given as goal
 
 -- what is left, behind the word before
 abbrev pub invariant-loop-word : goal.invariant-loop-word

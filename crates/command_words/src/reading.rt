@@ -1,82 +1,23 @@
-//! What a command line asks for.
+//! A command line, read.
 
 ghost use Rattle.std.specs.Prelude.{◌≡◌, ◌<◌, IfOk, IfErr, map};
 ghost use Rattle.std.specs.Option.{ForSome};
 ghost use Rattle.std.specs.String.{string_bytes};
-ghost use Rattle.command_words.specs.Words.{AsksForVersion, IsOfWords};
+ghost use Rattle.requests.specs.Words.{AsksForVersion, IsOfWords};
 
-use crate::cost_words::CostWords;
 use crate::grammar::{
     BOUND, FILE, FORMAT, FROM, HTML, INPUT, LINES, MAP, RESERVE, SCHEDULE, SVG, TO, WORD, WORKERS,
     grammar,
 };
-use crate::step_words::StepWords;
-use crate::version::asks_for_version;
 use bsp_machine::Reserve;
 use clap::ArgMatches;
 use clap::error::ErrorKind;
-use explanations::{Subject, subject_of};
+use explanations::subject_of;
 use pramc::Options;
 use program_texts::{Refusal, Stop};
+use requests::{CostWords, Request, RunWords, StepWords, Verb, asks_for_version};
 use run_options::{MapChoice, read_map, read_number, read_pair};
 use std::alloc::Global;
-
-/// What is done with the program of a file.
-#[derive(Clone, Copy, Debug, Drop, PartialEq, Eq)]
-pub enum Verb {
-    /// It is checked.
-    Check,
-    /// Its code is shown.
-    Plan,
-    /// It is run by its definition.
-    Meaning,
-    /// What its run by its definition costs is counted.
-    Cost,
-    /// Its run by its definition is told statement by statement.
-    Steps,
-    /// It is run by its definition under each of the rules.
-    Rules,
-    /// It is run by workers.
-    Run,
-    /// The exchanges of that run are shown.
-    Trace,
-}
-
-/// How something is run.
-#[derive(Clone, Copy, Debug)]
-pub struct RunWords<'a> {
-    /// The name of the file with the input's values. Without one there are none.
-    pub input: Option<&'a str>,
-    pub options: Options,
-    /// For how much workers take all their memory before the first exchange. Without one they take it on the way.
-    pub reserve: Option<Reserve>,
-    pub costs: CostWords,
-    pub steps: StepWords,
-    /// Whether exchanges, or statements, are drawn.
-    pub svg: bool,
-    /// Whether a page is made that steps through the statements.
-    pub html: bool,
-}
-
-/// One call of the program.
-#[derive(Clone, Copy, Debug)]
-pub enum Request<'a> {
-    /// For the version.
-    Version,
-    /// For what there is to say of a subject.
-    Explanation(Subject),
-    /// Over the text of a program.
-    Program {
-        verb: Verb,
-        file: &'a str,
-        words: RunWords<'a>,
-    },
-    /// A listing is run.
-    Listing {
-        file: &'a str,
-        words: RunWords<'a>,
-    },
-}
 
 // The number of an option, and 0 where the command has no such option.
 fn number_of<'a>(words: &ArgMatches<'a>, option: &str) -> Result<u32, Stop<'a>>

@@ -2,7 +2,7 @@
 
 ghost use Rattle.std.specs.Prelude.{◌≡◌, ◌↔◌, map, true};
 ghost use Rattle.std.specs.String.{string_bytes};
-ghost use Rattle.command_words.specs.Words.{AsksForVersion, IsVersionWord};
+ghost use Rattle.requests.specs.Words.{AsksForVersion, IsVersionWord};
 
 /// The version of the program.
 pub const VERSION: &str = "0.1.0";
@@ -14,7 +14,7 @@ fn is_version_word(word: &str) -> bool
 }
 
 /// Whether the words ask for the version, and for nothing else.
-pub(crate) fn asks_for_version(words: &[String]) -> bool
+pub fn asks_for_version(words: &[String]) -> bool
     ensures { (result ≡ true) ↔ AsksForVersion (map string_bytes words.now) }
 {
     match words {

@@ -1,0 +1,17 @@
+//! What a call of the program may ask for, and which words ask for the version, for explanations and for JSON.
+#![tactic(auto)]
+
+mod cost_words;
+mod explain_word;
+mod format_word;
+mod request;
+mod same_word;
+mod step_words;
+mod version;
+
+pub use cost_words::CostWords;
+pub use explain_word::asks_to_explain;
+pub use format_word::asks_for_json;
+pub use request::{Request, RunWords, Verb};
+pub use step_words::StepWords;
+pub use version::{VERSION, asks_for_version};
