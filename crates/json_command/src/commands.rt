@@ -9,11 +9,12 @@ use crate::reporting::report;
 use crate::telling::{
     tell_accepted, tell_comparison, tell_costs, tell_meaning, tell_run, tell_steps, tell_trace,
 };
-use command_words::{Request, RunWords, Verb, read_words};
+use command_words::read_words;
 use pram_check::Program;
 use pram_syntax::Out;
 use program_calls::{Halted, Loaded, compare, halted_run, load_input, load_program};
 use program_texts::{Sources, Status, Stop};
+use requests::{Request, RunWords, Verb};
 use std::alloc::Global;
 use std::sync::Wait;
 use std::thread::Threads;
@@ -22,7 +23,7 @@ use std::thread::Threads;
 const JSON: &str = "json";
 
 /// Does what the words behind the program's name ask for, tells it as JSON, and answers the exit status. Whether words ask for this says
-/// `command_words::asks_for_json`.
+/// `requests::asks_for_json`.
 ///
 /// `check`, `meaning`, `cost`, `rules` and `run` write one object; `steps` and `trace` an object a line, and on the last line how the run
 /// came out. What is refused is one object on `err`, and there nothing else is written; of what is judged first the same holds as of the

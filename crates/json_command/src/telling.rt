@@ -5,13 +5,13 @@ ghost use Rattle.program_calls.specs.Found.{IsAProgram, IsCompared};
 ghost use Rattle.json_command.specs.Told.{Tells, TellsRun};
 
 use crate::writing::write_json;
-use command_words::RunWords;
 use json_texts::{json_accepted, json_comparison, json_cost, json_outcome, json_steps};
 use json_traces::json_trace;
 use pram_check::Program;
 use pram_syntax::Out;
 use program_calls::{cost, mean, run, steps};
 use program_texts::{Status, Stop};
+use requests::RunWords;
 use rule_comparison::Comparison;
 use std::alloc::Global;
 use std::sync::Wait;

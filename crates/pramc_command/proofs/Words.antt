@@ -1,6 +1,6 @@
 -- A command line is refused for a true reason.
 use Rattle.std.proofs.Common.{refl, subst, sym}
-use Rattle.command_words.specs.Words.{IsOfWords}
+use Rattle.requests.specs.Words.{IsOfWords}
 use Rattle.text_out.specs.Out.{OutState}
 use Rattle.program_texts.specs.declared.stop.Stop.{Stop}
 use Rattle.program_texts.specs.declared.stop.Stop.TheVariants as stop

@@ -10,7 +10,7 @@ use Rattle.trace_pictures.specs.Picture.{picture}
 use Rattle.write_rules.specs.Verdict.{verdict_of, Faulted}
 use Rattle.write_rules.specs.declared.outcome.Outcome.{Outcome}
 use Rattle.write_rules.specs.declared.outcome.Outcome.TheVariants as outcomes
-use Rattle.command_words.specs.Words.{asks_to_explain}
+use Rattle.requests.specs.Words.{asks_to_explain}
 use Rattle.program_texts.specs.Report.{IsProgramOf, IsRunOf}
 use Rattle.program_texts.specs.Shown.{shown}
 use Rattle.program_texts.specs.Status.{status_of}

@@ -2,7 +2,7 @@
 
 ghost use Rattle.std.specs.Prelude.{◌≡◌, ◌<◌, ◌^◌, ◌||◌, IfErr, IfOk, None, Ok, Err, map};
 ghost use Rattle.std.specs.String.{string_bytes};
-ghost use Rattle.command_words.specs.Words.{AsksForVersion};
+ghost use Rattle.requests.specs.Words.{AsksForVersion};
 ghost use Rattle.program_texts.specs.Report.{IsProgramOf};
 ghost use Rattle.diagnoses.specs.declared.about.About.TheVariants as known;
 ghost use Rattle.pramc_command.specs.Explained.{Leaves, Performs, TellsRun, code_fault as spec_code_fault, explaining as spec_explaining};
@@ -17,7 +17,7 @@ use crate::writing::{
     write_accepted, write_outcome, write_plan, write_rules, write_subject, write_version,
 };
 use bsp_verify::Verified;
-use command_words::{Request, RunWords, Verb, asks_to_explain, read_words};
+use command_words::read_words;
 use diagnoses::About;
 use pram_syntax::Out;
 use program_calls::{
@@ -25,6 +25,7 @@ use program_calls::{
     load_program,
 };
 use program_texts::{Sources, Status, Stop};
+use requests::{Request, RunWords, Verb, asks_to_explain};
 use std::alloc::Global;
 use std::sync::Wait;
 use std::thread::Threads;

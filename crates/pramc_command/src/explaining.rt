@@ -18,22 +18,22 @@ use bsp_verify::Verified;
 use diagnoses::{who_met, write_fault_sentence, write_run_fault, write_stop_diagnosis};
 use pram_check::Program;
 use pram_syntax::{Out, WriteFault};
-use pram_values::Kind;
+use pram_values::Place;
 use program_calls::{Halted, Loaded};
 use program_texts::write_stop;
 use std::alloc::Global;
 use write_rules::Outcome;
 
 // Those that met at the fault of a run, at a cell; the meaning is run again for that.
-fn meeting(alloc: Global, program: &Program, input: &[i64], bound: u32, kind: Kind) -> Vec<i64>
+fn meeting(alloc: Global, program: &Program, input: &[i64], bound: u32, place: Place) -> Vec<i64>
     ensures { (result.items ≡ those_met program.now input.now bound) ⊎ (result.items ≡ []) }
 {
-    match kind {
-        Kind::ReadConflict | Kind::WriteConflict => match who_met(alloc, program, input, bound) {
+    match place {
+        Place::Cell(_) => match who_met(alloc, program, input, bound) {
             Some(who) => who,
             None => Vec::new(alloc),
         },
-        _ => Vec::new(alloc),
+        Place::Processor(_) | Place::All => Vec::new(alloc),
     }
 }
 
@@ -55,7 +55,7 @@ fn fault_of<'a>(
         Outcome::GoesOn { .. } => None,
         Outcome::Faulted { fault, .. } => {
             let Loaded { source, program } = loaded;
-            let who = meeting(alloc, &program, input, bound, fault.kind);
+            let who = meeting(alloc, &program, input, bound, fault.place);
             Some(FaultedCall::Run(FaultedRun {
                 source,
                 layout: program.into_layout(),

@@ -9,12 +9,12 @@ ghost use Rattle.program_calls.specs.Written.{Wrote};
 
 use crate::answer::Ended;
 use crate::writing::{write_costs, write_drawn, write_exchanges, write_outcome};
-use command_words::RunWords;
 use exchange_counts::Counts;
 use pram_check::Program;
 use pram_syntax::Out;
 use program_calls::{cost, mean, run};
 use program_texts::{Status, Stop};
+use requests::RunWords;
 use std::alloc::Global;
 use std::sync::Wait;
 use std::thread::Threads;

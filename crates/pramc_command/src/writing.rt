@@ -16,7 +16,6 @@ ghost use Rattle.pramc_command.specs.Costs.{costs_text};
 ghost use Rattle.program_calls.specs.Written.{Wrote};
 ghost use Rattle.pramc_command.specs.Version.{version_text};
 
-use command_words::{CostWords, VERSION};
 use cost_texts::{write_cost, write_lines};
 use exchange_counts::Counts;
 use explanations::{Subject, write_explanation};
@@ -24,6 +23,7 @@ use itoa::Buffer;
 use pram_check::Program;
 use pram_syntax::{Layout, Out, WriteFault};
 use program_texts::{Status, Stop, finish, rule_word, show};
+use requests::{CostWords, VERSION};
 use rule_comparison::{Comparison, show_comparison};
 use superstep_code::Code;
 use superstep_listing::write_listing;

@@ -3,3 +3,4 @@ pub mod Costs
 pub mod Writing
 pub mod Listings
 pub mod Layouts
+pub mod Files

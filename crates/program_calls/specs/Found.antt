@@ -14,7 +14,9 @@ use Rattle.work_time.specs.declared.cost.Cost.{Cost}
 use Rattle.rule_comparison.specs.Compared.{IsComparison}
 use Rattle.rule_comparison.specs.declared.comparison.Comparison.{Comparison}
 use Rattle.pramc.specs.declared.options.Options.{Options}
+use Rattle.bsp_machine.specs.declared.reserve.Reserve.{Reserve}
 use Rattle.pramc.specs.Runs.{IsCodeRun, IsRunByWorkers}
+use Rattle.pramc.specs.Reserved.{IsRunByWorkersWith}
 use Rattle.run_entries.specs.Entries.{Entry}
 use Rattle.run_steps.specs.Entries.{run_entries}
 use Rattle.exchange_bound.specs.Bound.{exchange_bound}
@@ -44,6 +46,10 @@ pub record IsCompared (c : Comparison) : Type 0 where
   pub fits : length input ≤ total_size c.layout
   pub compared : IsComparison program input bound c
 
+-- what is found of a program under all rules, on an input within n statements
+abbrev pub IsComparisonOf : Checked → List ℤ → ℕ → Comparison → Type 0
+IsComparisonOf program input n c = (c.layout ≡ program.layout) × IsComparison program input n c
+
 -- the exchanges of such a run by workers
 abbrev pub HasTrace : Outcome → List Exchange → Type 0
 HasTrace outcome exchanges =
@@ -62,6 +68,11 @@ HasRun code outcome =
 abbrev pub IsOutcomeIn : Checked → List ℤ → ℕ → Verdict → Type 0
 IsOutcomeIn program input n verdict = (text : List ℕ) → IsProgramOf text program → IsRunOf text input n program.layout verdict
 
+-- the exchanges of a program's run on an input by workers, with a reserve or without, by each of its texts
+abbrev pub IsTraceIn : Checked → List ℤ → Options → Option Reserve → Verdict → List Exchange → Type 0
+IsTraceIn program input options reserve verdict exchanges =
+    (text : List ℕ) → IsProgramOf text program → IsRunByWorkersWith text input options reserve verdict exchanges
+
 -- the numbers of a run that takes these time steps, where rounds are those on q processors
 pub record IsCost (ss : List TimeStep) (q : ℕ) (c : Cost) : Type 0 where
   pub time : c.time ≡ cost.time ss
@@ -77,6 +88,11 @@ pub record IsCost (ss : List TimeStep) (q : ℕ) (c : Cost) : Type 0 where
 abbrev pub processors_of : Option ℕ → ℕ
 processors_of None = 1
 processors_of (Some q) = q
+
+-- what a program's run on an input within n statements costs
+abbrev pub IsCostOf : Checked → List ℤ → ℕ → Option ℕ → Cost → Type 0
+IsCostOf program input n schedule c =
+    IsCost (run_steps program input n) (processors_of schedule) c × (c.most_exchanges ≡ exchange_bound program input n)
 
 -- the outcome of some text's program, with these shared declarations, on some input within some bound, and what that run costs
 pub record HasCost (layout : List SharedEntry) (outcome : Outcome) (schedule : Option ℕ) (c : Cost) : Type 0 where

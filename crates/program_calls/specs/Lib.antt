@@ -1,3 +1,4 @@
+pub mod Held
 pub mod Found
 pub mod Stops
 pub mod Known

@@ -2,6 +2,7 @@
 use Rattle.std.specs.Prelude.{◌≡◌, ◌⊎◌, ◌<◌, ℕ, ℤ, List, length, codes}
 use Rattle.pram_model.specs.Layout.{total_size}
 use Rattle.address_map.specs.Outcome.{IsWorkers}
+use Rattle.pram_check.specs.Checked.{Checked}
 use Rattle.superstep_code.specs.Code.{SuperstepCode}
 use Rattle.superstep_listing.specs.Text.{IsFirstBad}
 use Rattle.bsp_verify.specs.FirstFault.{IsFirstFault}
@@ -67,3 +68,9 @@ IsTrueStop (stop.Refused r) = IsTrueOf r
 IsTrueStop (stop.NotVerified at word) = IsUnverified at word.now
 IsTrueStop (stop.BadListing at) = (text : List ℕ) × IsFirstBad text at
 IsTrueStop _ = Unit {0}
+
+-- A run by the definition is refused where the input has more values than the program has cells, or for want of memory.
+abbrev pub IsRefusedRun : Checked → List ℤ → Stop → Type 0
+IsRefusedRun program input (stop.Refused refusal.InputTooLong) = total_size program.layout < length input
+IsRefusedRun program input (stop.Refused refusal.OutOfMemory) = Unit {0}
+IsRefusedRun program input _ = ⊥

@@ -1,13 +1,16 @@
 //! What the files of a call hold.
 
-ghost use Rattle.std.specs.Prelude.{◌≡◌, ℕ, List, IfOk, IfErr, Err};
+ghost use Rattle.std.specs.Prelude.{◌≡◌, ℕ, List, [], None, Some, IfOk, IfErr, IsSomeAnd, Err};
+ghost use Rattle.std.specs.Option.{ForSome};
 ghost use Rattle.superstep_code.specs.Code.{SuperstepCode};
 ghost use Rattle.superstep_code.specs.Limits.{IsCode};
 ghost use Rattle.superstep_listing.specs.Text.{IsFaultOf, IsListing};
 ghost use Rattle.bsp_verify.specs.WellFormed.{IsWellFormed};
 ghost use Rattle.bsp_verify.specs.FirstFault.{IsRefusal};
+ghost use Rattle.program_texts.specs.Files.{IsReadFrom, IsSame};
 ghost use Rattle.program_texts.specs.Report.{IsProgramOf};
 ghost use Rattle.program_calls.specs.Found.{IsAListing};
+ghost use Rattle.program_calls.specs.Held.{IsInputIn, IsListingIn, IsOfCodeIn, IsUnread, StopsAtInput, StopsAtListing, StopsAtProgram};
 ghost use Rattle.program_calls.specs.Stops.{IsTrueStop};
 ghost use Rattle.program_calls.specs.Stops.{reason_word as spec_reason_word};
 ghost use Rattle.program_calls.specs.Known.{IsKnownAlone, IsOfListing, IsTrueHalt, line_of_instruction};
@@ -30,7 +33,10 @@ fn load<'a, S: Sources>(
     name: &'a str,
     most: u32,
 ) -> Result<Vec<u8>, Stop<'a>>
-    ensures { IfErr result IsKnownAlone }
+    ensures bytes { IfOk result (λ bytes. IsReadFrom (S.Sources.holds sources.old name.now) most bytes.items) }
+    ensures unread { IfErr result (IsUnread (S.Sources.holds sources.old name.now) name.now) }
+    ensures alone { IfErr result IsKnownAlone }
+    ensures same { IsSame (S.Sources.holds sources.new) (S.Sources.holds sources.old) }
 {
     match sources.read(alloc, name, most) {
         Ok(bytes) => Ok(bytes),
@@ -46,7 +52,11 @@ pub fn load_program<'a, S: Sources>(
     name: &'a str,
 ) -> Result<Loaded<'a>, Halted<'a>>
     ensures program { IfOk result (λ l. IsProgramOf l.source.bytes.items l.program) }
+    // Its text is all that the file of that name holds.
+    ensures held { IfOk result (λ l. S.Sources.holds sources.old name.now (Some l.source.bytes.items)) }
     ensures refused { IfErr result IsTrueHalt }
+    ensures of_file { IfErr result (StopsAtProgram (S.Sources.holds sources.old name.now) name.now) }
+    ensures same { IsSame (S.Sources.holds sources.new) (S.Sources.holds sources.old) }
 {
     let bytes = load(alloc, sources, name, LONGEST as u32)?;
     match read_program(alloc, &bytes) {
@@ -73,7 +83,12 @@ pub fn load_input<'a, S: Sources>(
     sources: &mut S,
     name: Option<&'a str>,
 ) -> Result<Vec<i64>, Halted<'a>>
-    ensures { IfErr result IsTrueHalt }
+    // The values are those of all that the file holds.
+    ensures held { IfOk result (λ values. ForSome name.entry (λ n. IsInputIn (S.Sources.holds sources.old n.now) values.items)) }
+    ensures without { IfOk result (λ values. name.entry ≡ None → values.items ≡ []) }
+    ensures refused { IfErr result IsTrueHalt }
+    ensures of_file { IfErr result (λ h. IsSomeAnd name.entry (λ n. StopsAtInput (S.Sources.holds sources.old n.now) n.now h)) }
+    ensures same { IsSame (S.Sources.holds sources.new) (S.Sources.holds sources.old) }
 {
     let name = match name {
         None => return Ok(Vec::new(alloc)),
@@ -128,7 +143,8 @@ fn line_of(code: &Code, at: u32) -> usize
 fn halted_listing<'a>(fault: VerifyFault, code: &Code, source: Source<'a>) -> Halted<'a>
     requires listing { IsListing source.bytes.items code.now }
     requires refused { IsRefusal code.now fault }
-    ensures { IsTrueHalt result }
+    ensures halts { IsTrueHalt result }
+    ensures of_text { IsOfCodeIn source.entry.bytes.items result.stop result.about }
 {
     match fault {
         VerifyFault::NotVerified { at, reason } => {
@@ -152,7 +168,11 @@ pub fn load_listing<'a, S: Sources>(
     name: &'a str,
 ) -> Result<Verified, Halted<'a>>
     ensures listing { IfOk result IsAListing }
+    // The listing is all that the file of that name holds.
+    ensures held { IfOk result (IsListingIn (S.Sources.holds sources.old name.now)) }
     ensures refused { IfErr result IsTrueHalt }
+    ensures of_file { IfErr result (StopsAtListing (S.Sources.holds sources.old name.now) name.now) }
+    ensures same { IsSame (S.Sources.holds sources.new) (S.Sources.holds sources.old) }
 {
     let bytes = load(alloc, sources, name, LONGEST_LISTING as u32)?;
     let code = match read_listing(alloc, &bytes) {

@@ -3,7 +3,10 @@
 ghost use Rattle.std.specs.Prelude.{◌≡◌, ◌<◌, IfOk, IfErr, map};
 ghost use Rattle.run_entries.specs.Entries.{entry_is};
 ghost use Rattle.run_steps.specs.Entries.{run_entries};
+ghost use Rattle.pramc.specs.Reserved.{IsCodeRunWith};
 ghost use Rattle.program_calls.specs.Found.{HasOutcome, HasRun, HasTrace, IsAListing, IsAProgram, IsCompared, IsPlanned};
+ghost use Rattle.program_calls.specs.Found.{IsComparisonOf, IsCostOf, IsTraceIn};
+ghost use Rattle.program_calls.specs.Stops.{IsRefusedRun};
 ghost use Rattle.program_calls.specs.Stops.{IsTrueStop};
 ghost use Rattle.write_rules.specs.Verdict.{verdict_of};
 ghost use Rattle.program_calls.specs.Found.{HasCost};
@@ -14,13 +17,13 @@ ghost use Rattle.program_calls.specs.Found.{HasSteps};
 
 use bsp_machine::Reserve;
 use bsp_verify::Verified;
-use command_words::CostWords;
 use compiling::compile_program;
 use exchange_counts::Counts;
 use pram_check::Program;
 use pram_meaning::RunRefusal;
 use pramc::{Options, run_code, run_program};
 use program_texts::{Refusal, Stop, mean_program};
+use requests::CostWords;
 use rule_comparison::{Comparison, compare_rules};
 use run_entries::Entry;
 use run_steps::steps_of;
@@ -81,8 +84,10 @@ pub fn cost<'a>(
 ) -> Result<(Outcome, Cost), Stop<'a>>
     requires program { IsAProgram program.now }
     ensures cost { IfOk result (λ found. HasCost program.now.layout found.0 words.schedule found.1) }
+    ensures of_program { IfOk result (λ found. IsCostOf program.now input.now bound words.schedule found.1) }
     ensures by_text { IfOk result (λ found. IsOutcomeIn program.now input.now bound (verdict_of found.0)) }
     ensures refused { IfErr result IsTrueStop }
+    ensures why { IfErr result (IsRefusedRun program.now input.now) }
     ensures known { IfErr result (IsRunsStop program.now) }
 {
     let schedule = processors_of(words);
@@ -105,6 +110,7 @@ pub fn steps<'a>(
     ensures entries { IfOk result (λ found. map entry_is found.1.items ≡ run_entries program.now input.now bound) }
     ensures by_text { IfOk result (λ found. IsOutcomeIn program.now input.now bound (verdict_of found.0)) }
     ensures refused { IfErr result IsTrueStop }
+    ensures why { IfErr result (IsRefusedRun program.now input.now) }
     ensures known { IfErr result (IsRunsStop program.now) }
 {
     match steps_of(alloc, program, input, bound) {
@@ -123,7 +129,9 @@ pub fn compare<'a>(
 ) -> Result<Comparison, Stop<'a>>
     requires program { IsAProgram program }
     ensures compared { IfOk result IsCompared }
+    ensures of_program { IfOk result (IsComparisonOf program input.now bound) }
     ensures refused { IfErr result IsTrueStop }
+    ensures why { IfErr result (IsRefusedRun program input.now) }
     ensures known { IfErr result (IsRunsStop program) }
 {
     match compare_rules(alloc, program, input, bound) {
@@ -145,6 +153,7 @@ pub fn run<'a, R: Threads + Wait + Sync>(
     requires program { IsAProgram program.now }
     ensures outcome { IfOk result (λ found. HasOutcome program.now.layout found.0) }
     ensures trace { IfOk result (λ found. HasTrace found.0 found.1) }
+    ensures of_program { IfOk result (λ found. IsTraceIn program.now input.now options reserve (verdict_of found.0) found.1) }
     ensures by_text { IfOk result (λ found. IsOutcomeIn program.now input.now options.bound (verdict_of found.0)) }
     ensures refused { IfErr result IsTrueStop }
     ensures known { IfErr result (IsRunsStop program.now) }
@@ -166,6 +175,7 @@ pub fn execute<'a, R: Threads + Wait + Sync>(
 ) -> Result<(Outcome, Counts), Stop<'a>>
     requires listing { IsAListing code.now }
     ensures run { IfOk result (λ found. HasRun code.now found.0) }
+    ensures of_code { IfOk result (λ found. IsCodeRunWith code.now input.now options reserve (verdict_of found.0) found.1) }
     ensures refused { IfErr result IsTrueStop }
     ensures known { IfErr result IsCodesStop }
 {
