@@ -177,7 +177,7 @@ fn refusals_come_in_order(rt: HostRuntime) {
 }
 
 // The worked listing with another byte in one place.
-fn changed(alloc: Global, at: usize, byte: u8) -> Option<Vec<u8>> {
+pub(crate) fn changed(alloc: Global, at: usize, byte: u8) -> Option<Vec<u8>> {
     let mut text = Vec::from_slice(alloc, BROADCAST).ok()?;
     *text.get_mut(at)? = byte;
     Some(text)

@@ -19,6 +19,7 @@ fn affine_rows_are_placed_and_found(rt: HostRuntime) {
         assert_eq!(rt; map.cell(module, offset), Some(cell));
     }
     assert_eq!(rt; Affine::new(8, 3, 4, 3).err(), Some(MapFault::BadMap));
+    assert_eq!(rt; Affine::new(7, 3, 5, 3).err(), Some(MapFault::BadMap));
 }
 
 #[test]

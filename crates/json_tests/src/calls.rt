@@ -1,10 +1,10 @@
 // Calls of the program over files in memory, in words and as JSON.
 
-use command_words::asks_for_json;
 use json_command::command_in_json;
 use pram_syntax::Buffer;
 use pramc_command::{Terminal, command};
 use program_texts::{SourceFault, Sources, Status};
+use requests::asks_for_json;
 use std::alloc::{AllocError, Global};
 use std::sync::Wait;
 use std::thread::Threads;
@@ -17,6 +17,8 @@ pub(crate) struct Shelf<'a> {
 }
 
 impl<'a> Sources for Shelf<'a> {
+    ghost holds = { λ s name bytes. Unit {0} };
+
     fn read(&mut self, alloc: Global, name: &str, _most: u32) -> Result<Vec<u8>, SourceFault> {
         let bytes = match name {
             "program" => self.program,

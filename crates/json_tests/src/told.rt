@@ -190,7 +190,7 @@ const FAULTS: [Told; 4] = [
         text: MET,
         input: "",
         said: "2 fault write-conflict s line 4 processors 1 2\nfault write-conflict s line 4\n",
-        json: "{\"acts\":[{\"processor\":\"1\",\"reads\":[],\"write\":\"s\"},{\"processor\":\"2\",\"reads\":[],\"write\":\"s\"}],\"kind\":\"write-conflict\",\"line\":4,\"met\":[\"1\",\"2\"],\"place\":\"s\",\"step\":2}\n{\"kind\":\"write-conflict\",\"line\":4,\"outcome\":\"fault\",\"output\":[],\"place\":\"s\"}\n",
+        json: "{\"acts\":[{\"processor\":\"1\",\"reads\":[],\"write\":null},{\"processor\":\"2\",\"reads\":[],\"write\":null}],\"kind\":\"write-conflict\",\"line\":4,\"met\":[\"1\",\"2\"],\"place\":\"s\",\"step\":2}\n{\"kind\":\"write-conflict\",\"line\":4,\"outcome\":\"fault\",\"output\":[],\"place\":\"s\"}\n",
         code: 1,
     },
     // What was printed stays printed.

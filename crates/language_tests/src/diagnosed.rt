@@ -217,7 +217,7 @@ const NAMES: [Row; 9] = [
     ),
 ];
 
-const RUNS: [Row; 7] = [
+const RUNS: [Row; 8] = [
     (
         RUN,
         b"rule crew; procs 1; shared s; begin end",
@@ -264,6 +264,15 @@ const RUNS: [Row; 7] = [
         b"",
         b"fault overflow all line 5\n",
         b"program:5\n  x := 9223372036854775807 + 1;\na value is outside the range from -9223372036854775808 to 9223372036854775807\n",
+        1,
+    ),
+    // 1 and 2 write 2^63 - 1 each to a[1], which 3 has read.
+    (
+        RUN,
+        b"rule sum;\nprocs 3;\nshared a[1..3];\nbegin\n  for 1 <= i <= 3 pardo\n    a[1 + i div 3] := 9223372036854775807 - a[4 - i];\n  end\nend\n",
+        b"",
+        b"fault overflow a[1] line 6\n",
+        b"program:6\n    a[1 + i div 3] := 9223372036854775807 - a[4 - i];\na[1]: a value is outside the range from -9223372036854775808 to 9223372036854775807; processors 1 2 met there\n",
         1,
     ),
     // The lines of a listing aren't those of its program.

@@ -49,3 +49,5 @@ mod rules;
 mod steps;
 #[cfg(test)]
 mod syntax;
+#[cfg(test)]
+mod writers;

@@ -29,6 +29,8 @@ pub(crate) struct Shelf<'a> {
 }
 
 impl<'a> Sources for Shelf<'a> {
+    ghost holds = { λ s name bytes. Unit {0} };
+
     fn read(&mut self, alloc: Global, name: &str, _most: u32) -> Result<Vec<u8>, SourceFault> {
         let bytes = match name {
             "program" => self.program,

@@ -1,9 +1,8 @@
 //! Texts, each with the refusal and the offset that were worked out by hand.
 
-use crate::narrow::Narrow;
 use pram_parser::parse;
 use pram_printer::print_tree;
-use pram_syntax::{Buffer, Location, Rule, TextFault, WriteFault, read_input};
+use pram_syntax::{Buffer, Location, Rule, TextFault, read_input};
 use std::alloc::Global;
 use std::test::Fail;
 
@@ -331,27 +330,6 @@ fn a_tree_has_one_spelling(rt: HostRuntime) {
             }
             Err(fault) => assert_eq!(rt; Some(fault), None, "{text}"),
         }
-    }
-}
-
-// What a writer has taken when it fails is a beginning of the spelling.
-#[test]
-fn writers_take_less_and_fail(rt: HostRuntime) {
-    let alloc = rt.alloc();
-    let spelling = b"rule crew ;\nprocs 1 ;\nbegin\nprint ( 1 ) ;\nend\n";
-    match parse(alloc, b"rule crew;procs 01;begin print(1);end") {
-        Ok(tree) => {
-            let mut slow = Narrow::new(alloc, 3, 1000);
-            assert_eq!(rt; print_tree(&tree, &mut slow), Ok(()));
-            assert_eq!(rt; slow.bytes.as_slice(), spelling.as_slice());
-            for room in 0..spelling.len() {
-                let mut short = Narrow::new(alloc, 1000, room);
-                assert_eq!(rt; print_tree(&tree, &mut short), Err(WriteFault));
-                assert_eq!(rt; short.failures, 1);
-                assert_eq!(rt; short.bytes.as_slice(), &spelling[..room]);
-            }
-        }
-        Err(fault) => assert_eq!(rt; Some(fault), None),
     }
 }
 
