@@ -112,7 +112,7 @@ def completions():
         yield f"options of {name}", completed("pramc", name, "-"), {f"--{it}" for it in options} | {"--help"}
     yield "subjects", completed("pramc", "explain", "") - {"--help"}, subjects()
     yield "maps", completed("pramc", "run", "--map", ""), {"identity", "affine:"}
-    yield "formats", completed("pramc", "run", "--format", ""), set(re.findall(r'Some\("(\w+)"\)', source("command_words/src/request.rt")))
+    yield "formats", completed("pramc", "run", "--format", ""), set(re.findall(r'Some\("(\w+)"\)', source("command_words/src/reading.rt")))
 
 
 def main():

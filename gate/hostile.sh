@@ -1,6 +1,7 @@
 #!/usr/bin/env bash
 # Uses the program as nobody should: memory, threads and writes that are refused in turn, broken texts, and long runs by many workers.
-# It has five minutes, once the program is built. It works in a temporary folder and changes nothing here but bin/.
+# It takes two to five minutes, once the program is built, and fails where it is not done in thirty. It works in a temporary folder and
+# changes nothing here but bin/.
 # The program may be named: the gate names the one that it proved and built. Otherwise it is bin/pramc.
 set -eu
 top=$(cd "$(dirname "$0")/.." && pwd)
@@ -15,7 +16,6 @@ if [ -z "$program" ]; then
 fi
 gcc -O1 -shared -fPIC -o "$work/refuse.so" "$inputs/refuse.c" -ldl
 status=0
-timeout 300 python3 "$inputs/hostile.py" "$program" "$work/refuse.so" "$inputs" "$work" || status=$?
-# A slow machine doesn't come to the end, and what it tried was right. A call that doesn't end is told by itself.
-[ $status -ne 124 ] || { echo "hostile use: five minutes are over, and all that was tried was right"; status=0; }
+timeout 1800 python3 "$inputs/hostile.py" "$program" "$work/refuse.so" "$inputs" "$work" || status=$?
+[ $status -ne 124 ] || echo "WRONG: hostile use doesn't come to its end in thirty minutes"
 exit $status

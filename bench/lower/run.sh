@@ -4,7 +4,7 @@
 # It asserts nothing.
 set -eu -o pipefail
 . "$(dirname "$0")/../lib.sh"
-libraries="itoa thiserror" prepare lower pram_model text_out pram_tokens pram_syntax pram_parser pram_names pram_check address_map pram_values \
+libraries="itoa smallvec thiserror" prepare lower pram_model text_out pram_tokens pram_syntax pram_parser pram_names pram_check address_map pram_values \
     write_rules superstep_code superstep_machine bsp_verify flat_machine superstep_steps flat_run fusing stretches pram_meaning plain_form \
     evaluation formed_code formula_values exchange_bound statement_runs inside_runs outside_runs compiled_meaning straight_lowering lowering \
     program_texts compiling
