@@ -22,7 +22,7 @@ check:
 # The merge gate: the scripts of gate/, the plans of the examples, the callers that must not compile; then every proof from nothing, every
 # must-fail edit, every test and program; then the examples, the documents and hostile use, of the program that this built.
 test:
-	python3 gate/crates_diagram.py
+	python3 gate/crates.py
 	python3 gate/definitions.py
 	python3 gate/gallery.py
 	python3 gate/editors.py
