@@ -87,7 +87,7 @@ def unlike(path, wanted):
     """The first difference between a page and what belongs there."""
     there = path.read_text().splitlines() if path.exists() else []
     changes = [it for it in difflib.unified_diff(there, wanted.splitlines(), lineterm="", n=0) if not it.startswith(("---", "+++", "@@"))]
-    return f"{path.relative_to(TOP)}: run {sys.argv[0]} --write for {changes[0]}" if changes else None
+    return f"{path.relative_to(TOP)}: run {sys.argv[0]} --write; the first difference is {changes[0]}" if changes else None
 
 
 def main():
