@@ -22,9 +22,8 @@ FRONT_DOORS = """write_rules pram_syntax pram_check pram_meaning address_map sup
     exchange_arena turnstile workers tracer pramc""".split()
 HEAD = """# Crates
 
-What each crate is, in its own words, in the order in which a program goes through them. A name in **bold** is a front door: read it
-first in its section, and then the others in their order, each behind those that it uses. `crates/NAME/README.md` says more of most.
-`docs/ARCHITECTURE.md` says how the sections go together. This page is written by `gate/crates.py`.
+What each crate is, in its own words, in the order in which a program goes through them. Names in **bold** are front doors, to be read
+first; the others stand behind those that they use. Written by `gate/crates.py`.
 """
 
 
