@@ -24,6 +24,7 @@ check:
 test:
 	python3 gate/crates.py
 	python3 gate/definitions.py
+	python3 gate/walks.py
 	python3 gate/gallery.py
 	python3 gate/editors.py
 	bash gate/plans.sh
