@@ -27,6 +27,7 @@ test:
 	python3 gate/walks.py
 	python3 gate/gallery.py
 	python3 gate/editors.py
+	python3 gate/build_test.py
 	bash gate/plans.sh
 	set -e; for check in crates/*/refusals/check.sh; do bash $$check; done
 	bash gate/prove.sh
