@@ -5,10 +5,12 @@ build.py PROGRAM: as many crates at a time as processors and memory allow, each 
 those with the longest chain of others behind them. A library that is younger than its texts is left as it is.
 
 `rt` lets one command at a time into a crate and those below it. So each worker has a copy of the sources in bin/.build, where it gets the
-libraries below a crate by links, and the crate's own out/. That goes back when the proof has ended: what was proved stays, however this ends.
+libraries below a crate by links, and the crate's own out/. That goes back when the proof has ended: what was proved stays, however this
+ends.
 """
 import fcntl
 import os
+import re
 import shutil
 import signal
 import subprocess
@@ -41,10 +43,15 @@ class Proof:
         return "\n".join(lines[-40:])
 
 
+def listed():
+    """The lines of crates.txt, each by its crate."""
+    lines = [it.split("#")[0].strip() for it in (TOP / "crates.txt").read_text().splitlines()]
+    return {re.split(r"[\s:]", it)[0]: it for it in lines if it}
+
+
 def below(program):
     """The crates below the program, each with those that it uses and behind them."""
-    lines = [it.split("#")[0].partition(":") for it in (TOP / "crates.txt").read_text().splitlines()]
-    words = {head.split()[0]: tail.split() for head, _, tail in lines if head.strip()}
+    words = {crate: line.partition(":")[2].split() for crate, line in listed().items()}
     found = {}
 
     def add(crate):
@@ -182,8 +189,8 @@ def copied(number, crates):
         for part in PARTS:
             if (CRATES / crate / part).exists():
                 shutil.copytree(CRATES / crate / part, copy / "crates" / crate / part)
-    lines = [it for it in (TOP / "crates.txt").read_text().splitlines(True) if it.split(":")[0].split()[:1] in [[crate] for crate in crates]]
-    (copy / "crates.txt").write_text("".join(lines))
+    lines = listed()
+    (copy / "crates.txt").write_text("".join(f"{lines[it]}\n" for it in crates))
     shutil.copyfile(TOP / "HANDLES", copy / "HANDLES")
     return copy
 

@@ -30,7 +30,8 @@ if seconds[1:]:
 (here / "out/rlib/stamp").write_text("")
 note("end", here.name)
 """
-USES = {"low": "", "side": "", "middle": "low", "high": "middle low", "last": "side", "other": "side", "program": "high last other", "apart": ""}
+USES = {"low": "", "side": "", "middle": "low", "high": "middle low", "last": "side", "other": "side", "program": "high last other"}
+USES["apart"] = ""
 LONG = {"middle": 0.6, "high": 0.6}
 
 
@@ -119,11 +120,19 @@ def what_was_proved_before_the_end_stays(tree):
     assert status == 0 and [it for it, _ in begun] == ["middle", "high"], said
 
 
+TESTS = [
+    proofs_wait_for_what_they_stand_on,
+    no_more_run_than_there_are_processors,
+    what_is_proved_stays,
+    a_failed_proof_stops_it,
+    what_was_proved_before_the_end_stays,
+]
+
+
 def main():
     with tempfile.TemporaryDirectory() as folder:
         tree = Tree(Path(folder))
-        for it in (proofs_wait_for_what_they_stand_on, no_more_run_than_there_are_processors, what_is_proved_stays, a_failed_proof_stops_it,
-                   what_was_proved_before_the_end_stays):
+        for it in TESTS:
             it(tree)
             assert not (tree.top / "bin/.build").exists(), "the copies are still there"
 
