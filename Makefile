@@ -1,6 +1,6 @@
 # The crates are proved, built and tested by the toolchain's command `rt`.
 
-.PHONY: all check test examples bench refusals memory hostile unthreaded page-test clean install uninstall
+.PHONY: all check test examples bench refusals memory hostile unthreaded page-test dist dist-test clean install uninstall
 
 sources := $(shell find crates -name out -prune -o \( -name '*.rt' -o -name '*.antt' \) -print) crates.txt
 
@@ -56,6 +56,14 @@ unthreaded:
 page-test: bin/pramc
 	python3 gate/page_test.py bin/pramc
 
+# Writes an archive and a package for Debian to hand on, in bin/dist.
+dist: bin/pramc
+	bash gate/dist.sh
+
+# Unpacks, installs and uses both in an empty root, and takes them away again.
+dist-test: bin/pramc
+	bash gate/dist_test.sh
+
 clean:
 	rm -rf bin crates/*/out
 
@@ -69,9 +77,12 @@ installed = \
 	$(shared)/vim/vimfiles/ftdetect/pram.vim=editors/vim/ftdetect/pram.vim \
 	$(foreach it,$(wildcard editors/textmate/*.json),$(shared)/pramc/textmate/$(notdir $(it))=$(it))
 
+# The program that is installed.
+PROGRAM ?= bin/pramc
+
 # Puts the program, its man page, its completions and the syntax of the language for editors below PREFIX.
-install: bin/pramc
-	install -D -m 755 bin/pramc $(DESTDIR)$(PREFIX)/bin/pramc
+install: $(PROGRAM)
+	install -D -m 755 $(PROGRAM) $(DESTDIR)$(PREFIX)/bin/pramc
 	set -e; for it in $(installed); do install -D -m 644 "$${it#*=}" "$${it%%=*}"; done
 
 # Takes them away again, and the folders that are theirs alone.

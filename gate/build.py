@@ -49,8 +49,8 @@ def listed():
     return {re.split(r"[\s:]", it)[0]: it for it in lines if it}
 
 
-def below(program):
-    """The crates below the program, each with those that it uses and behind them."""
+def with_those_below(names):
+    """These crates and all below them, each with those that it uses and behind them."""
     words = {crate: line.partition(":")[2].split() for crate, line in listed().items()}
     found = {}
 
@@ -61,8 +61,8 @@ def below(program):
                 add(it)
         found[crate] = uses
 
-    add(program)
-    del found[program]
+    for it in names:
+        add(it)
     return found
 
 
@@ -94,7 +94,7 @@ def likely(crates):
     found = {crate: sum(it.read_bytes().count(b"\n") for it in texts(crate)) / 10 for crate in crates}
     for file in (FIGURES, KEPT):
         lines = [it.split() for it in file.read_text().splitlines()] if file.exists() else []
-        found.update({it[0]: float(it[1]) for it in lines if it and it[0] in found})
+        found.update({it[0]: float(it[1]) for it in lines if it and it[0] in found and it[1] != "-"})
     return found
 
 
@@ -236,7 +236,8 @@ def told(crates, seconds):
 def main():
     for it in (signal.SIGINT, signal.SIGTERM, signal.SIGHUP):
         signal.signal(it, lambda *_: sys.exit(1))
-    uses = below(sys.argv[1])
+    uses = with_those_below([sys.argv[1]])
+    del uses[sys.argv[1]]
     COPIES.mkdir(parents=True, exist_ok=True)
     alone = locked(COPIES.parent, fcntl.LOCK_EX)
     if alone is None:
@@ -264,4 +265,5 @@ def main():
     print(f"the longest chain, {sum(map(made.get, longest)):.0f} s: {told(longest, made)}")
 
 
-main()
+if __name__ == "__main__":
+    main()

@@ -1,13 +1,20 @@
 #!/usr/bin/env bash
-# Every proof from nothing, every wrong body, every test and program; then the examples, the documents and hostile use, of the program that
-# was proved and built so. The last line is that of the proofs.
+# Every proof from nothing, every wrong body, every test and program; then the examples, the documents, the packages and hostile use, of the
+# program that was proved and built so. The last line is that of the proofs; before it stands what the gate spent on each crate, which
+# nothing here depends on.
 set -eu -o pipefail
 top=$(cd "$(dirname "$0")/.." && pwd)
-log=$(mktemp)
-trap 'rm -f "$log"' EXIT
+work=$(mktemp -d)
+watch=
+trap 'rm -rf "$work"; [ -z "$watch" ] || kill -9 "$watch" 2> /dev/null || true' EXIT
 
 cd "$top"
-rt ci | tee "$log"
-bash gate/examples.sh "$top/crates/pramc_cli/out/pramc_cli"
-bash gate/hostile.sh "$top/crates/pramc_cli/out/pramc_cli"
-tail -n 1 "$log"
+python3 gate/figures.py watch $$ "$work/seen" 2> /dev/null &
+watch=$!
+rt ci | tee "$work/log"
+program=$top/crates/pramc_cli/out/pramc_cli
+bash gate/examples.sh "$program"
+bash gate/dist_test.sh "$program"
+bash gate/hostile.sh "$program"
+timeout 60 python3 gate/figures.py tell $$ "$work/seen" "$work/log" || echo "no figures of this run"
+tail -n 1 "$work/log"

@@ -1,0 +1,90 @@
+#!/usr/bin/env bash
+# dist.sh [PROGRAM [FOLDER]]: writes pramc-VERSION-x86_64-linux.tar.gz, and where dpkg-deb is there pramc_VERSION_amd64.deb, to FOLDER
+# (bin/dist). Each has the program, its man page, its completions, the syntax for editors, the examples, the documents and the licence. Of
+# one program and one state of the sources they are the same bytes: all times are that of the last commit, or SOURCE_DATE_EPOCH.
+set -eu -o pipefail
+top=$(cd "$(dirname "$0")/.." && pwd)
+program=$(realpath "${1:-$top/bin/pramc}")
+folder=${2:-$top/bin/dist}
+version=$("$program" --version | sed -n 's/^pramc //p')
+export SOURCE_DATE_EPOCH=${SOURCE_DATE_EPOCH:-$(git -C "$top" log -1 --format=%ct 2> /dev/null || stat -c %Y "$top/CHANGELOG.md")}
+work=$(mktemp -d)
+trap 'rm -rf "$work"' EXIT
+umask 022
+
+# installed FOLDER PREFIX: what `make install` puts below PREFIX, in a folder.
+installed() {
+    make -s -C "$top" install PROGRAM="$program" DESTDIR="$1" PREFIX="$2"
+}
+
+# documents FOLDER: the documents and the examples, where they find each other.
+documents() {
+    mkdir -p "$1"
+    cp "$top/README.md" "$top/CHANGELOG.md" "$1/"
+    cp -r "$top/docs" "$top/examples" "$1/"
+    chmod -R u=rwX,go=rX "$1"
+}
+
+# The C library that the program needs: the newest version among those of the functions that it takes from there.
+oldest_glibc() {
+    objdump -T "$program" | grep -o 'GLIBC_[0-9.]*' | sed 's/GLIBC_//' | sort -Vu | tail -n 1
+}
+
+# What else it needs would have to stand in the package.
+only_the_c_library() {
+    local others
+    others=$(objdump -p "$program" | sed -n 's/^ *NEEDED *//p' | grep -Ev '^(lib(c|m|pthread|dl)|ld-linux-x86-64)\.so\.[0-9]+$' || true)
+    [ -z "$others" ] || { echo "the program needs more than the C library: $others"; exit 1; }
+}
+
+archive() {
+    local name=pramc-$version-x86_64-linux same=(--sort=name --mtime="@$SOURCE_DATE_EPOCH" --owner=0 --group=0 --numeric-owner)
+    installed "$work" "/$name"
+    documents "$work/$name"
+    cp "$top/LICENSE" "$work/$name/"
+    tar -C "$work" "${same[@]}" -cf - "$name" | gzip -9n > "$folder/$name.tar.gz"
+    echo "$folder/$name.tar.gz"
+}
+
+control() {
+    cat << END
+Package: pramc
+Version: $version
+Architecture: amd64
+Maintainer: Zirqumay maintainers
+Section: devel
+Priority: optional
+Depends: libc6 (>= $1)
+Installed-Size: $(du -sk --apparent-size "$work/package/usr" | cut -f 1)
+Description: compiler and machine for programs of a parallel random access machine
+ pramc compiles programs in the work-time notation for a parallel random
+ access machine (PRAM) to superstep code, runs that on worker threads which
+ exchange messages at a barrier, and gives what the program prints, its final
+ memory, or the fault at its exact line and place.
+END
+}
+
+package() {
+    local root=$work/package file=$folder/pramc_${version}_amd64.deb
+    installed "$root" /usr
+    documents "$root/usr/share/doc/pramc"
+    cp "$top/LICENSE" "$root/usr/share/doc/pramc/copyright"
+    gzip -9n "$root/usr/share/man/man1/pramc.1"
+    mkdir "$root/DEBIAN"
+    control "$1" > "$root/DEBIAN/control"
+    (cd "$root" && find usr -type f -print0 | sort -z | xargs -0 md5sum) > "$root/DEBIAN/md5sums"
+    dpkg-deb -Zgzip --build --root-owner-group "$root" "$file" > /dev/null
+    echo "$file"
+}
+
+mkdir -p "$folder"
+folder=$(realpath "$folder")
+only_the_c_library
+glibc=$(oldest_glibc)
+archive
+if command -v dpkg-deb > /dev/null; then
+    package "$glibc"
+else
+    echo "no package for Debian: dpkg-deb is not there"
+fi
+echo "pramc $version runs with glibc $glibc and later"
