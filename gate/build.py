@@ -90,8 +90,8 @@ def to_prove(uses):
 
 
 def likely(crates):
-    """The seconds that each crate is likely to take: those of its last proof here, or in the gate, or else a tenth for each line."""
-    found = {crate: sum(it.read_bytes().count(b"\n") for it in texts(crate)) / 10 for crate in crates}
+    """The seconds that each crate is likely to take: those of its last proof here, or in the gate, or else some by its lines of code."""
+    found = {crate: 10 + sum(it.read_bytes().count(b"\n") for it in texts(crate) if it.suffix == ".rt") / 8 for crate in crates}
     for file in (FIGURES, KEPT):
         lines = [it.split() for it in file.read_text().splitlines()] if file.exists() else []
         found.update({it[0]: float(it[1]) for it in lines if it and it[0] in found and it[1] != "-"})

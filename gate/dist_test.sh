@@ -1,7 +1,7 @@
 #!/usr/bin/env bash
-# dist_test.sh [PROGRAM]: makes the archive and the package of the program (bin/pramc) twice, which gives the same bytes; unpacks the one and
-# installs the other in an empty root, runs the first example, reads the man page and completes a command there, and takes the package away
-# again, with which nothing of it is left. All is in a temporary folder.
+# dist_test.sh [PROGRAM]: makes the archive and the package of the program (bin/pramc) twice, which gives the same bytes; unpacks the one
+# and installs the other in an empty root, runs the first example, reads the man page and completes a command there, and takes the package
+# away again, with which nothing of it is left. All is in a temporary folder.
 set -eu -o pipefail
 top=$(cd "$(dirname "$0")/.." && pwd)
 program=$(realpath "${1:-$top/bin/pramc}")
@@ -21,12 +21,13 @@ used() {
     MANPAGER=cat MANWIDTH=80 man -l "$share"/man/man1/pramc.1* > "$work/manual" 2> "$work/warnings" || fail "the man page can't be read"
     [ ! -s "$work/warnings" ] || fail "the man page: $(cat "$work/warnings")"
     grep -q '^NAME' "$work/manual" && grep -q 'pramc rules' "$work/manual" || fail "the man page lacks its parts"
-    [ "$(completed "$share/bash-completion/completions/pramc")" = rules ] || fail "the completion of ru is not rules"
+    [ "$(completed "$share/bash-completion/completions/pramc")" = rules ] || fail "the completion of rul is not rules"
 }
 
 # What bash completes `pramc rul` to, by the file.
 completed() {
-    bash -c 'compopt() { :; }; . "$1"; complete -p pramc > /dev/null; COMP_WORDS=(pramc rul); COMP_CWORD=1; _pramc; echo "${COMPREPLY[@]}"' "" "$1"
+    bash -c 'compopt() { :; }; . "$1"; complete -p pramc > /dev/null
+        COMP_WORDS=(pramc rul); COMP_CWORD=1; _pramc; echo "${COMPREPLY[@]}"' "" "$1"
 }
 
 # The C library and its loader in the root, so that the program can be run in it; a record of the library, on which the package depends.

@@ -4,8 +4,8 @@
 figures.py watch PID SEEN     notes until it is killed, twice a second, the processor time of all processes below PID in the file SEEN
 figures.py tell PID SEEN LOG  prints what they come to, by what `rt ci` said in the file LOG, and writes it to bin/gate-times.txt
 
-A process is of the crate that its command line or its folder names. What it takes behind its last note is lost, half a second at most; PID's
-own count of all that it waited for has that too. A figure is of this run where all of its kind was done in it, else the one of
+A process is of the crate that its command line or its folder names. What it takes behind its last note is lost, half a second at most; the
+count that PID has of all that it waited for has that too. A figure is of this run where all of its kind was done in it, else the one of
 bench/gate-times.txt, beside which the others are told.
 """
 import json
@@ -111,13 +111,14 @@ def grown(now, before):
     for crate in sorted(new, key=lambda it: old[it] - new[it]):
         if new[crate] >= old[crate] + 3:
             yield f"{crate} {minutes(new[crate] - old[crate])} to {minutes(new[crate])}"
-    for crate, kind in sorted(now.keys() - before.keys()):
-        yield f"{crate} {minutes(now[crate, kind])} for its {kind}, which had no figure"
+    new = [now[it] for it in now.keys() - before.keys()]
+    if new:
+        yield f"{minutes(sum(new))} of {len(new)} figures that are not in bench/gate-times.txt"
 
 
 def tell(top, file, log):
     seconds, before = spent(file), kept(FIGURES)
-    now = {it: seconds.get(it[0], {}).get(it[1], 0) for it in done(Path(log).read_text())}
+    now = {(crate, kind): seconds[crate][kind] for crate, kind in done(Path(log).read_text()) if crate in seconds and seconds[crate][kind]}
     crates = with_those_below(listed())
     after = {it: value for it, value in (before | now).items() if it[0] in crates}
     rows = {crate: [f"{after[crate, it]:.0f}" if (crate, it) in after else "-" for it in KINDS] for crate in crates}
@@ -140,4 +141,5 @@ def main():
         tell(*sys.argv[2:])
 
 
-main()
+if __name__ == "__main__":
+    main()
