@@ -75,7 +75,7 @@ def tallied(words, **refused):
     given = call(words, TALLY=tally, **refused)
     if not tally.exists():
         raise Wrong(f"{words} with {refused}: {given}")
-    left, starts, writes, *allocations = map(int, tally.read_text().split())
+    left, starts, writes, _, *allocations = map(int, tally.read_text().split())
     return given, left, starts, writes, allocations
 
 

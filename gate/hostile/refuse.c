@@ -3,7 +3,8 @@
      REFUSE_START=N    the Nth start of a thread
      REFUSE_WRITE=N    the Nth write to standard output; with EMPTY it takes no byte and doesn't fail
      NARROW=1          each write to standard output takes one byte
-   With TALLY=FILE it writes at the end: the blocks that are left, the starts, the writes, and the allocations of each thread. */
+   With TALLY=FILE it writes at the end: the blocks that are left, the starts, the writes, the caller's allocations behind the last start,
+   and the allocations of each thread. */
 #define _GNU_SOURCE
 #include <dlfcn.h>
 #include <errno.h>
@@ -21,7 +22,7 @@ enum { THREADS = 64, SLOTS = 1 << 16 };
 #define NEXT(name) ((__typeof__(&name))dlsym(RTLD_NEXT, #name))
 
 static __thread int me __attribute__((tls_model("initial-exec")));
-static long allocations[THREADS], starts, writes;
+static long allocations[THREADS], starts, writes, at_last_start;
 static long refused_thread = -1, refused_allocation, refused_start, refused_write;
 static int narrow, empty;
 
@@ -70,7 +71,7 @@ __attribute__((destructor)) static void tell(void) {
     int file = name == NULL ? -1 : open(name, O_CREAT | O_TRUNC | O_WRONLY, 0600);
     if (file < 0)
         return;
-    dprintf(file, "%ld %ld %ld", (long)held, starts, writes);
+    dprintf(file, "%ld %ld %ld %ld", (long)held, starts, writes, allocations[0] - at_last_start);
     for (int thread = 0; thread <= starts && thread < THREADS; ++thread)
         dprintf(file, " %ld", allocations[thread]);
     dprintf(file, "\n");
@@ -131,6 +132,7 @@ static void *play(void *number) {
 }
 
 int pthread_create(pthread_t *thread, const pthread_attr_t *how, void *(*run)(void *), void *with) {
+    at_last_start = allocations[0];
     if (++starts == refused_start)
         return EAGAIN;
     if (starts >= THREADS)

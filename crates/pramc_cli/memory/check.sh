@@ -15,7 +15,7 @@ echo 9 8 > "$work/input"
 call() {
     status=0
     env "$1" TALLY="$work/tally" LD_PRELOAD="$work/refuse.so" "$top/bin/pramc" "${@:2}" > "$work/out" 2> "$work/err" || status=$?
-    read -r left starts _ allocations < "$work/tally"
+    read -r left starts _ _ allocations < "$work/tally"
     if [ "$left" -ne 0 ]; then
         echo "WRONG: $2 with $1 keeps $left blocks"
         exit 1
