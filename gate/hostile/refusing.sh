@@ -46,7 +46,7 @@ each() {
     for number in $(seq 1 "$all_starts"); do
         refuse "REFUSE_START=$number" "refused 0" "$@"
     done
-    echo "as it must be: $*: $all allocations and $all_starts starts are refused in turn, and nothing is kept"
+    echo "as it must be: ${*:-the run}: $all allocations and $all_starts starts are refused in turn, and nothing is kept"
 }
 
 # asks PASSES COUNT WORD..: the run passes the gate so often; behind the starts each of its four workers asks for memory COUNT times, and
