@@ -9,7 +9,7 @@ use Rattle.program_texts.specs.declared.stop.Stop.TheVariants as stop
 use Rattle.diagnoses.specs.declared.about.About.{About}
 use Rattle.diagnoses.specs.declared.about.About.TheVariants as about
 use Rattle.program_calls.specs.Held.{IsAtFile, IsOfCodeIn}
-use Rattle.program_calls.specs.Known.{IsOfListing}
+use Rattle.program_calls.specs.Listings.{IsOfListing}
 
 pub read_whole : (holds : Option (List ℕ) → Type 0) (most : ℕ) (bytes : List ℕ) → length bytes ≤ most → IsReadFrom holds most bytes →
     holds (Some bytes)

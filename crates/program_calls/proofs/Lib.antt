@@ -1,6 +1,7 @@
-pub mod Reasons
 pub mod Costs
 pub mod Writing
-pub mod Listings
 pub mod Layouts
 pub mod Files
+pub mod Same
+pub mod Refusals
+pub mod Comparisons

@@ -1,14 +1,12 @@
 -- What a call has written, by what was written and what the last flush said.
-use Rattle.std.proofs.Common.{◌≡◌, ◌∙◌, List, [], ℕ, ap, inl, inr, refl, sym, subst}
+use Rattle.std.proofs.Common.{◌≡◌, ◌∙◌, List, [], ℕ, ap, inl, inr, sym, subst}
 use Rattle.std.proofs.lemmas.List.{append-nil}
 use Rattle.std.specs.Prelude.{true, false, Result, Ok, Err, IfOk, IfErr, IsErrAnd, OnErr, OnOk, is_ok}
 use Rattle.text_out.specs.Out.{OutState, StopsIn, Writes, with_bytes, with_failure}
 use Rattle.program_texts.specs.declared.status.Status.{Status}
 use Rattle.program_texts.specs.declared.stop.Stop.{Stop}
 use Rattle.program_texts.specs.declared.stop.Stop.TheVariants.{WriteFailed}
-use Rattle.program_texts.specs.declared.stop.Stop.TheVariants as stop
-use Rattle.program_calls.specs.Stops.{IsTrueStop}
-use Rattle.program_calls.specs.Written.{IsReported, IsStoppedIn, Wrote}
+use Rattle.program_calls.specs.Written.{IsReported, Wrote, WroteSome}
 
 -- all of the text, and what the last flush said
 pub wrote : (ends given : Status) (text : List ℕ) (old mid new : OutState) (r : Result Status Stop) → given ≡ ends → mid ≡ with_bytes old text →
@@ -39,12 +37,8 @@ pub reported_in_part : {E : Type 0} (old new : OutState) (given text : List ℕ)
 reported_in_part old new given text (Ok u) is w part = cc
 reported_in_part old new given text (Err e) is w part = subst (IsReported old new) is (inr w)
 
--- a true reason, with nothing written
-pub stopped_in_nothing : (Goes : Status → List ℕ → Type 0) (why : Stop) (s : OutState) → IsTrueStop why → IsStoppedIn Goes why s s
-stopped_in_nothing Goes (stop.Words text) s h = (h, refl)
-stopped_in_nothing Goes (stop.Number word) s h = (h, refl)
-stopped_in_nothing Goes (stop.Unreadable name) s h = (h, refl)
-stopped_in_nothing Goes (stop.Refused r) s h = (h, refl)
-stopped_in_nothing Goes (stop.NotVerified at reason) s h = (h, refl)
-stopped_in_nothing Goes (stop.BadListing at) s h = (h, refl)
-stopped_in_nothing Goes stop.WriteFailed s h = absurd h
+-- a text that was written is one of its kind
+pub wrote_some : (ends : Status) (Needs : Type 0) (Is : List ℕ → Type 0) (text : List ℕ) (old new : OutState) (r : Result Status Stop) → Is text →
+    Wrote ends text old new r → WroteSome ends Needs Is old new r
+wrote_some ends Needs Is text old new (Ok s) is w = (w.0, (text, is, w.1))
+wrote_some ends Needs Is text old new (Err why) is w = inl (w.0, (text, is, w.1))

@@ -15,7 +15,7 @@ use Rattle.program_texts.specs.declared.stop.Stop.TheVariants as stop
 use Rattle.diagnoses.specs.declared.about.About.{About}
 use Rattle.diagnoses.specs.declared.about.About.TheVariants as about
 use Rattle.program_calls.specs.declared.halted.Halted.{Halted}
-use Rattle.program_calls.specs.Known.{IsOfListing, IsUnverifiedText}
+use Rattle.program_calls.specs.Listings.{IsOfListing, IsUnverifiedText}
 
 -- the file holds an input of these values
 abbrev pub IsInputIn : (Option (List ℕ) → Type 0) → List ℤ → Type 0

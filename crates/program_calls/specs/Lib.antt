@@ -1,5 +1,5 @@
+pub mod Listings
 pub mod Held
 pub mod Found
-pub mod Stops
-pub mod Known
+pub mod Refused
 pub mod Written

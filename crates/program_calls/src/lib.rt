@@ -1,12 +1,14 @@
-//! What the calls of the program load, and what it comes to: programs, inputs and listings by the names of their files, and their runs.
+//! What a call of the program finds in its files, and of their programs' runs, before anything is written of it.
 #![tactic(auto)]
 
+mod finding;
+mod found;
 mod halted;
 mod loaded;
 mod loading;
 mod running;
 
-pub use halted::{Halted, halted_code, halted_run};
+pub use finding::find;
+pub use found::{Facts, Found, FoundCode, FoundRun};
+pub use halted::Halted;
 pub use loaded::Loaded;
-pub use loading::{load_input, load_listing, load_program};
-pub use running::{code_of, compare, cost, execute, mean, run, steps};

@@ -9,11 +9,9 @@ ghost use Rattle.bsp_verify.specs.WellFormed.{IsWellFormed};
 ghost use Rattle.bsp_verify.specs.FirstFault.{IsRefusal};
 ghost use Rattle.program_texts.specs.Files.{IsReadFrom, IsSame};
 ghost use Rattle.program_texts.specs.Report.{IsProgramOf};
-ghost use Rattle.program_calls.specs.Found.{IsAListing};
 ghost use Rattle.program_calls.specs.Held.{IsInputIn, IsListingIn, IsOfCodeIn, IsUnread, StopsAtInput, StopsAtListing, StopsAtProgram};
-ghost use Rattle.program_calls.specs.Stops.{IsTrueStop};
-ghost use Rattle.program_calls.specs.Stops.{reason_word as spec_reason_word};
-ghost use Rattle.program_calls.specs.Known.{IsKnownAlone, IsOfListing, IsTrueHalt, line_of_instruction};
+ghost use Rattle.program_calls.specs.Listings.{IsOfListing, line_of_instruction};
+ghost use Rattle.program_calls.specs.Listings.{reason_word as spec_reason_word};
 
 use crate::halted::Halted;
 use crate::loaded::Loaded;
@@ -35,7 +33,6 @@ fn load<'a, S: Sources>(
 ) -> Result<Vec<u8>, Stop<'a>>
     ensures bytes { IfOk result (λ bytes. IsReadFrom (S.Sources.holds sources.old name.now) most bytes.items) }
     ensures unread { IfErr result (IsUnread (S.Sources.holds sources.old name.now) name.now) }
-    ensures alone { IfErr result IsKnownAlone }
     ensures same { IsSame (S.Sources.holds sources.new) (S.Sources.holds sources.old) }
 {
     match sources.read(alloc, name, most) {
@@ -46,7 +43,7 @@ fn load<'a, S: Sources>(
 }
 
 /// The program of a file.
-pub fn load_program<'a, S: Sources>(
+pub(crate) fn load_program<'a, S: Sources>(
     alloc: Global,
     sources: &mut S,
     name: &'a str,
@@ -54,7 +51,6 @@ pub fn load_program<'a, S: Sources>(
     ensures program { IfOk result (λ l. IsProgramOf l.source.bytes.items l.program) }
     // Its text is all that the file of that name holds.
     ensures held { IfOk result (λ l. S.Sources.holds sources.old name.now (Some l.source.bytes.items)) }
-    ensures refused { IfErr result IsTrueHalt }
     ensures of_file { IfErr result (StopsAtProgram (S.Sources.holds sources.old name.now) name.now) }
     ensures same { IsSame (S.Sources.holds sources.new) (S.Sources.holds sources.old) }
 {
@@ -78,7 +74,7 @@ fn source_of<'a>(kind: Kind, name: &'a str, bytes: Vec<u8>) -> Source<'a>
 }
 
 /// The values of the input's file, and none where there is no file.
-pub fn load_input<'a, S: Sources>(
+pub(crate) fn load_input<'a, S: Sources>(
     alloc: Global,
     sources: &mut S,
     name: Option<&'a str>,
@@ -86,7 +82,6 @@ pub fn load_input<'a, S: Sources>(
     // The values are those of all that the file holds.
     ensures held { IfOk result (λ values. ForSome name.entry (λ n. IsInputIn (S.Sources.holds sources.old n.now) values.items)) }
     ensures without { IfOk result (λ values. name.entry ≡ None → values.items ≡ []) }
-    ensures refused { IfErr result IsTrueHalt }
     ensures of_file { IfErr result (λ h. IsSomeAnd name.entry (λ n. StopsAtInput (S.Sources.holds sources.old n.now) n.now h)) }
     ensures same { IsSame (S.Sources.holds sources.new) (S.Sources.holds sources.old) }
 {
@@ -143,7 +138,6 @@ fn line_of(code: &Code, at: u32) -> usize
 fn halted_listing<'a>(fault: VerifyFault, code: &Code, source: Source<'a>) -> Halted<'a>
     requires listing { IsListing source.bytes.items code.now }
     requires refused { IsRefusal code.now fault }
-    ensures halts { IsTrueHalt result }
     ensures of_text { IsOfCodeIn source.entry.bytes.items result.stop result.about }
 {
     match fault {
@@ -162,15 +156,14 @@ fn halted_listing<'a>(fault: VerifyFault, code: &Code, source: Source<'a>) -> Ha
 }
 
 /// The code of a listing's file, verified.
-pub fn load_listing<'a, S: Sources>(
+pub(crate) fn load_listing<'a, S: Sources>(
     alloc: Global,
     sources: &mut S,
     name: &'a str,
 ) -> Result<Verified, Halted<'a>>
-    ensures listing { IfOk result IsAListing }
+    ensures verified { IfOk result IsWellFormed }
     // The listing is all that the file of that name holds.
     ensures held { IfOk result (IsListingIn (S.Sources.holds sources.old name.now)) }
-    ensures refused { IfErr result IsTrueHalt }
     ensures of_file { IfErr result (StopsAtListing (S.Sources.holds sources.old name.now) name.now) }
     ensures same { IsSame (S.Sources.holds sources.new) (S.Sources.holds sources.old) }
 {
