@@ -1,5 +1,4 @@
-pub mod Answering
 pub mod Reporting
-pub mod Words
 pub mod Room
-pub mod Entries
+pub mod StepsWritten
+pub mod Alone

@@ -1,5 +1,5 @@
 pub mod Costs
 pub mod Steps
-pub mod Version
-pub mod Answered
+pub mod Texts
 pub mod Explained
+pub mod Left

@@ -1,13 +1,11 @@
--- A run that is told statement by statement, and what is written of it.
-use Rattle.std.specs.Prelude.{◌≡◌, ◌⊎◌, ℕ, ℤ, List, [], ◌∷◌, ◌++◌, true, false, length}
+-- A run that is told statement by statement.
+use Rattle.std.specs.Prelude.{◌≡◌, ℕ, ℤ, List, [], ◌∷◌, ◌++◌, true, false, length}
 use Rattle.pram_model.specs.Layout.{SharedEntry}
 use Rattle.pram_check.specs.Checked.{Checked}
 use Rattle.write_rules.specs.Verdict.{verdict_of}
 use Rattle.write_rules.specs.declared.outcome.Outcome.{Outcome}
-use Rattle.program_texts.specs.Report.{IsProgramOf, IsRunOf}
 use Rattle.program_texts.specs.Shown.{shown}
 use Rattle.run_entries.specs.Entries.{Entry}
-use Rattle.run_steps.specs.Entries.{run_entries}
 use Rattle.step_texts.specs.StepText.{steps_text}
 use Rattle.step_texts.specs.declared.manner.Manner.{Manner}
 use Rattle.step_texts.specs.declared.manner.Manner.TheVariants.{OnTerminal, Plain}
@@ -16,18 +14,7 @@ use Rattle.json_texts.specs.StepFacts.{steps_facts}
 use Rattle.step_pages.specs.Facts.{IsCut}
 use Rattle.step_pages.specs.Opening.{opening_facts}
 use Rattle.step_pages.specs.Page.{page}
-use Rattle.step_pictures.specs.Picture.{picture}
 use Rattle.pramc_command.specs.declared.terminal.Terminal.{Terminal}
-
--- the outcome of a text's program, with these shared declarations, on some input within some bound, and what is told of the statements of
--- that run
-pub record IsStepped (text : List ℕ) (layout : List SharedEntry) (outcome : Outcome) (entries : List Entry) : Type 0 where
-  pub program : Checked
-  pub is_program : IsProgramOf text program
-  pub input : List ℤ
-  pub bound : ℕ
-  pub run : IsRunOf text input bound layout (verdict_of outcome)
-  pub told : entries ≡ run_entries program input bound
 
 -- ---- in words
 
@@ -50,23 +37,10 @@ pub record AreFacts (text : List ℕ) (program : Checked) (input : List ℤ) (ou
   pub tells : IsJson (steps_facts program.layout (verdict_of outcome) entries 1 (length entries)) lines
   pub joined : facts ≡ opening ++ lines
 
--- a page of such a run
-pub record IsPage (text : List ℕ) (layout : List SharedEntry) (outcome : Outcome) (entries : List Entry) (shows : List ℕ) : Type 0 where
-  pub stepped : IsStepped text layout outcome entries
+-- a page of such facts
+pub record IsPage (text : List ℕ) (program : Checked) (input : List ℤ) (outcome : Outcome) (entries : List Entry) (shows : List ℕ) : Type 0 where
   pub facts : List ℕ
-  pub are : AreFacts text stepped.program stepped.input outcome entries facts
+  pub are : AreFacts text program input outcome entries facts
   pub kept : ℕ
   pub cut : IsCut facts kept
   pub is : shows ≡ page facts kept
-
--- ---- drawn
-
--- a picture of such a run
-pub record IsDrawn (text : List ℕ) (layout : List SharedEntry) (outcome : Outcome) (entries : List Entry) (shows : List ℕ) : Type 0 where
-  pub stepped : IsStepped text layout outcome entries
-  pub is : shows ≡ picture layout entries
-
--- the text is a picture, or a page, of some text's run
-abbrev pub ShowsSteps : List SharedEntry → Outcome → List ℕ → Type 0
-ShowsSteps layout outcome shows =
-    (text : List ℕ) × (entries : List Entry) × (IsDrawn text layout outcome entries shows ⊎ IsPage text layout outcome entries shows)

@@ -1,13 +1,12 @@
-//! The program `pramc`, but for the system's files and streams.
+//! What a call found is told in words, in pictures and as pages, but for the system's files and streams.
 #![tactic(auto)]
 
-mod answer;
-mod commands;
+mod answering;
 mod explaining;
 mod stepping;
 mod telling;
 mod terminal;
 mod writing;
 
-pub use commands::command;
+pub use answering::answer;
 pub use terminal::Terminal;

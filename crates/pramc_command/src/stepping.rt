@@ -1,26 +1,23 @@
 //! Runs of a program that are told statement by statement: in words, drawn, or as a page.
 
-ghost use Rattle.std.specs.Prelude.{◌<◌, ◌^◌, ℕ, IfOk, map};
+ghost use Rattle.std.specs.Prelude.{◌<◌, ◌^◌, ℕ, IfOk, List, map};
 ghost use Rattle.std.specs.String.{string_bytes};
 ghost use Rattle.text_out.specs.Out.{Writes};
-ghost use Rattle.program_calls.specs.Written.{Wrote};
-ghost use Rattle.program_texts.specs.Report.{IsProgramOf};
+ghost use Rattle.program_calls.specs.Written.{Wrote, WroteSome};
 ghost use Rattle.program_texts.specs.Status.{status_of};
 ghost use Rattle.run_entries.specs.Entries.{entry_is};
 ghost use Rattle.step_pages.specs.Facts.{IsCut};
 ghost use Rattle.step_pages.specs.Page.{page};
 ghost use Rattle.step_pictures.specs.Picture.{picture};
-ghost use Rattle.pramc_command.specs.Explained.{TellsRun};
 ghost use Rattle.pramc_command.specs.Steps as spec;
+ghost use Rattle.pramc_command.specs.Texts as texts;
 
-use crate::answer::Ended;
-use crate::telling::ended;
 use crate::terminal::Terminal;
 use json_texts::json_steps;
 use pram_syntax::{Layout, Out, WriteFault};
-use program_calls::{Loaded, steps};
+use program_calls::FoundRun;
 use program_texts::{Status, Stop, finish, show};
-use requests::{RunWords, StepWords};
+use requests::StepWords;
 use run_entries::Entry;
 use std::alloc::{AllocError, Global};
 use step_pages::{opening_line, write_page};
@@ -79,30 +76,19 @@ fn write_told<'a, O: Out>(
 }
 
 // In words.
-fn tell_words<'a, O: Out>(
-    alloc: Global,
+fn write_in_words<'a, O: Out>(
     on: Terminal,
-    loaded: &Loaded<'_>,
-    input: &[i64],
-    words: RunWords<'a>,
+    run: &FoundRun<'_>,
+    entries: &[Entry],
     out: &mut O,
-) -> Result<Ended, Stop<'a>>
+) -> Result<Status, Stop<'a>>
     requires out { (O.Out.state out.old).failures < 2 ^ 62 }
-    requires program { IsProgramOf loaded.now.source.bytes.items loaded.now.program }
-    ensures told { TellsRun on loaded.now.program input.now words.entry.options.bound (O.Out.state out.old) (O.Out.state out.new) result }
+    ensures written { (text : List ℕ) × texts.IsInWords on run.now (map entry_is entries.now) text
+        × Wrote (status_of run.now.outcome) text (O.Out.state out.old) (O.Out.state out.new) result }
 {
-    let program = &loaded.program;
-    let (outcome, entries) = steps(alloc, program, input, words.options.bound)?;
-    let manner = manner_of(on, loaded.source.bytes.as_slice());
-    let written = write_told(
-        out,
-        program.layout(),
-        &outcome,
-        &entries,
-        &manner,
-        words.steps,
-    );
-    ended(written, outcome)
+    let layout = run.loaded.program.layout();
+    let manner = manner_of(on, run.loaded.source.bytes.as_slice());
+    write_told(out, layout, &run.outcome, entries, &manner, run.words.steps)
 }
 
 // Writes a picture of a run's statements.
@@ -120,38 +106,16 @@ fn write_pictured<'a, O: Out>(
     finish(out, Status::of(outcome))
 }
 
-// Drawn.
-fn tell_picture<'a, O: Out>(
-    alloc: Global,
-    loaded: &Loaded<'_>,
-    input: &[i64],
-    words: RunWords<'a>,
-    out: &mut O,
-) -> Result<Ended, Stop<'a>>
-    requires out { (O.Out.state out.old).failures < 2 ^ 62 }
-    requires program { IsProgramOf loaded.now.source.bytes.items loaded.now.program }
-    ensures told { (streams : Terminal) → TellsRun streams loaded.now.program input.now words.entry.options.bound (O.Out.state out.old) (O.Out.state out.new) result }
-{
-    let program = &loaded.program;
-    let (outcome, entries) = steps(alloc, program, input, words.options.bound)?;
-    let written = write_pictured(out, program.layout(), &outcome, &entries);
-    ended(written, outcome)
-}
-
 // The facts of a run, for its page: what is known before the first statement, all entries, and the outcome.
-fn page_facts(
-    alloc: Global,
-    loaded: &Loaded<'_>,
-    input: &[i64],
-    outcome: &Outcome,
-    entries: &[Entry],
-) -> Result<String, AllocError>
-    ensures facts { IfOk result (λ facts. spec.AreFacts loaded.now.source.bytes.items loaded.now.program input.now outcome.now
-        (map entry_is entries.now) (string_bytes facts)) }
+fn page_facts(alloc: Global, run: &FoundRun<'_>, entries: &[Entry]) -> Result<String, AllocError>
+    ensures facts { IfOk result (λ facts. spec.AreFacts run.now.loaded.source.bytes.items run.now.loaded.program run.now.input.items
+        run.now.outcome (map entry_is entries.now) (string_bytes facts)) }
 {
-    let program = &loaded.program;
-    let mut facts = opening_line(alloc, loaded.source.bytes.as_slice(), program.tree(), input)?;
-    let lines = json_steps(alloc, program.layout(), outcome, entries, 1, entries.len())?;
+    let program = &run.loaded.program;
+    let text = run.loaded.source.bytes.as_slice();
+    let mut facts = opening_line(alloc, text, program.tree(), &run.input)?;
+    let last = entries.len();
+    let lines = json_steps(alloc, program.layout(), &run.outcome, entries, 1, last)?;
     facts.push_str(&lines)?;
     Ok(facts)
 }
@@ -167,41 +131,38 @@ fn write_paged<'a, O: Out>(out: &mut O, outcome: &Outcome, facts: &[u8]) -> Resu
 }
 
 // As a page.
-fn tell_page<'a, O: Out>(
+fn write_as_page<'a, O: Out>(
     alloc: Global,
-    loaded: &Loaded<'_>,
-    input: &[i64],
-    words: RunWords<'a>,
+    run: &FoundRun<'_>,
+    entries: &[Entry],
     out: &mut O,
-) -> Result<Ended, Stop<'a>>
+) -> Result<Status, Stop<'a>>
     requires out { (O.Out.state out.old).failures < 2 ^ 62 }
-    requires program { IsProgramOf loaded.now.source.bytes.items loaded.now.program }
-    ensures told { (streams : Terminal) → TellsRun streams loaded.now.program input.now words.entry.options.bound (O.Out.state out.old) (O.Out.state out.new) result }
+    ensures written { WroteSome (status_of run.now.outcome) (Unit {0}) (spec.IsPage run.now.loaded.source.bytes.items
+        run.now.loaded.program run.now.input.items run.now.outcome (map entry_is entries.now)) (O.Out.state out.old) (O.Out.state out.new) result }
 {
-    let (outcome, entries) = steps(alloc, &loaded.program, input, words.options.bound)?;
-    let facts = page_facts(alloc, loaded, input, &outcome, &entries)?;
-    let written = write_paged(out, &outcome, facts.as_bytes());
-    ended(written, outcome)
+    let facts = page_facts(alloc, run, entries)?;
+    write_paged(out, &run.outcome, facts.as_bytes())
 }
 
-/// The run of a program statement by statement: drawn, as a page, or in words and then its outcome.
-pub(crate) fn tell_steps<'a, O: Out>(
+/// A run of a program statement by statement: drawn, as a page, or in words and then its outcome.
+pub(crate) fn write_steps_of<'a, O: Out>(
     alloc: Global,
     on: Terminal,
-    loaded: &Loaded<'_>,
-    input: &[i64],
-    words: RunWords<'a>,
+    run: &FoundRun<'_>,
+    entries: &[Entry],
     out: &mut O,
-) -> Result<Ended, Stop<'a>>
+) -> Result<Status, Stop<'a>>
     requires out { (O.Out.state out.old).failures < 2 ^ 62 }
-    requires program { IsProgramOf loaded.now.source.bytes.items loaded.now.program }
-    ensures told { TellsRun on loaded.now.program input.now words.entry.options.bound (O.Out.state out.old) (O.Out.state out.new) result }
+    ensures written { WroteSome (status_of run.now.outcome) (texts.IsAPage run.now.words.svg run.now.words.html)
+        (texts.AreStepsText run.now.words.svg run.now.words.html on run.now (map entry_is entries.now))
+        (O.Out.state out.old) (O.Out.state out.new) result }
 {
-    if words.svg {
-        tell_picture(alloc, loaded, input, words, out)
-    } else if words.html {
-        tell_page(alloc, loaded, input, words, out)
+    if run.words.svg {
+        write_pictured(out, run.loaded.program.layout(), &run.outcome, entries)
+    } else if run.words.html {
+        write_as_page(alloc, run, entries, out)
     } else {
-        tell_words(alloc, on, loaded, input, words, out)
+        write_in_words(on, run, entries, out)
     }
 }

@@ -1,90 +1,23 @@
-//! Runs of a program, told on standard output.
+//! What was found, told on standard output.
 
-ghost use Rattle.std.specs.Prelude.{◌≡◌, ◌<◌, ◌^◌, Err, IfErr, IfOk, Ok};
-ghost use Rattle.program_calls.specs.Found.{IsAProgram};
+ghost use Rattle.std.specs.Prelude.{◌<◌, ◌^◌};
 ghost use Rattle.program_texts.specs.Status.{status_of};
-ghost use Rattle.pramc_command.specs.Explained.{TellsRun, counts_text};
-ghost use Rattle.pramc_command.specs.declared.terminal.Terminal.{Terminal};
-ghost use Rattle.program_calls.specs.Written.{Wrote};
+ghost use Rattle.program_calls.specs.Found.{status_of_found};
+ghost use Rattle.program_calls.specs.Written.{Wrote, WroteSome};
+ghost use Rattle.pramc_command.specs.Texts as spec;
 
-use crate::answer::Ended;
-use crate::writing::{write_costs, write_drawn, write_exchanges, write_outcome};
+use crate::stepping::write_steps_of;
+use crate::terminal::Terminal;
+use crate::writing::{
+    write_accepted, write_costs, write_drawn, write_exchanges, write_outcome, write_plan,
+    write_rules, write_subject, write_version,
+};
 use exchange_counts::Counts;
-use pram_check::Program;
 use pram_syntax::Out;
-use program_calls::{cost, mean, run};
+use program_calls::{Facts, Found, FoundRun};
 use program_texts::{Status, Stop};
-use requests::RunWords;
 use std::alloc::Global;
-use std::sync::Wait;
-use std::thread::Threads;
 use write_rules::Outcome;
-
-/// A run of which that was written.
-pub(crate) fn ended<'a>(
-    written: Result<Status, Stop<'a>>,
-    outcome: Outcome,
-) -> Result<Ended, Stop<'a>>
-    ensures ok { IfOk written.entry (λ s. result ≡ Ok (record { status = s; outcome = outcome })) }
-    ensures err { IfErr written.entry (λ why. result ≡ Err why) }
-{
-    match written {
-        Ok(status) => Ok(Ended { status, outcome }),
-        Err(stop) => Err(stop),
-    }
-}
-
-/// The outcome of a program by its definition.
-pub(crate) fn tell_meaning<'a, O: Out>(
-    alloc: Global,
-    program: &Program,
-    input: &[i64],
-    bound: u32,
-    out: &mut O,
-) -> Result<Ended, Stop<'a>>
-    requires out { (O.Out.state out.old).failures < 2 ^ 62 }
-    requires program { IsAProgram program.now }
-    ensures told { (on : Terminal) → TellsRun on program.now input.now bound (O.Out.state out.old) (O.Out.state out.new) result }
-{
-    let outcome = mean(alloc, program, input, bound)?;
-    let written = write_outcome(out, program.layout(), &outcome);
-    ended(written, outcome)
-}
-
-/// What the run of a program costs, and its outcome.
-pub(crate) fn tell_costs<'a, O: Out>(
-    alloc: Global,
-    program: &Program,
-    input: &[i64],
-    words: RunWords<'a>,
-    out: &mut O,
-) -> Result<Ended, Stop<'a>>
-    requires out { (O.Out.state out.old).failures < 2 ^ 62 }
-    requires program { IsAProgram program.now }
-    ensures told { (on : Terminal) → TellsRun on program.now input.now words.entry.options.bound (O.Out.state out.old) (O.Out.state out.new) result }
-{
-    let (outcome, cost) = cost(alloc, program, input, words.options.bound, words.costs)?;
-    let written = write_costs(out, program.layout(), &outcome, &cost, words.costs);
-    ended(written, outcome)
-}
-
-/// The outcome of a program by workers.
-pub(crate) fn tell_run<'a, R: Threads + Wait + Sync, O: Out>(
-    rt: &R,
-    alloc: Global,
-    program: &Program,
-    input: &[i64],
-    words: RunWords<'a>,
-    out: &mut O,
-) -> Result<Ended, Stop<'a>>
-    requires out { (O.Out.state out.old).failures < 2 ^ 62 }
-    requires program { IsAProgram program.now }
-    ensures told { (on : Terminal) → TellsRun on program.now input.now words.entry.options.bound (O.Out.state out.old) (O.Out.state out.new) result }
-{
-    let (outcome, _counts) = run(rt, alloc, program, input, words.options, words.reserve)?;
-    let written = write_outcome(out, program.layout(), &outcome);
-    ended(written, outcome)
-}
 
 // The exchanges of a run, in words or drawn.
 fn write_counts<'a, O: Out>(
@@ -94,7 +27,7 @@ fn write_counts<'a, O: Out>(
     svg: bool,
 ) -> Result<Status, Stop<'a>>
     requires out { (O.Out.state out.old).failures < 2 ^ 62 }
-    ensures written { Wrote (status_of outcome.now) (counts_text svg counts.now) (O.Out.state out.old) (O.Out.state out.new) result }
+    ensures written { Wrote (status_of outcome.now) (spec.counts_text svg counts.now) (O.Out.state out.old) (O.Out.state out.new) result }
 {
     if svg {
         write_drawn(out, outcome, counts)
@@ -103,20 +36,44 @@ fn write_counts<'a, O: Out>(
     }
 }
 
-/// The exchanges of that run.
-pub(crate) fn tell_trace<'a, R: Threads + Wait + Sync, O: Out>(
-    rt: &R,
+// A run of a program.
+fn write_run<'a, O: Out>(
     alloc: Global,
-    program: &Program,
-    input: &[i64],
-    words: RunWords<'a>,
+    on: Terminal,
+    run: &FoundRun<'_>,
     out: &mut O,
-) -> Result<Ended, Stop<'a>>
+) -> Result<Status, Stop<'a>>
     requires out { (O.Out.state out.old).failures < 2 ^ 62 }
-    requires program { IsAProgram program.now }
-    ensures told { (on : Terminal) → TellsRun on program.now input.now words.entry.options.bound (O.Out.state out.old) (O.Out.state out.new) result }
+    ensures written { WroteSome (status_of run.now.outcome) (spec.IsPaged run.now run.now.facts) (spec.IsRunText on run.now run.now.facts)
+        (O.Out.state out.old) (O.Out.state out.new) result }
 {
-    let (outcome, counts) = run(rt, alloc, program, input, words.options, words.reserve)?;
-    let written = write_counts(out, &outcome, &counts, words.svg);
-    ended(written, outcome)
+    let layout = run.loaded.program.layout();
+    match &run.facts {
+        Facts::Nothing => write_outcome(out, layout, &run.outcome),
+        Facts::Cost(cost) => write_costs(out, layout, &run.outcome, cost, run.words.costs),
+        Facts::Exchanges(counts) => write_counts(out, &run.outcome, counts, run.words.svg),
+        Facts::Steps(entries) => write_steps_of(alloc, on, run, entries, out),
+    }
+}
+
+/// Writes what was found, and nothing where memory for it was refused.
+pub(crate) fn write_found<'a, O: Out>(
+    alloc: Global,
+    on: Terminal,
+    found: &Found<'_>,
+    out: &mut O,
+) -> Result<Status, Stop<'a>>
+    requires out { (O.Out.state out.old).failures < 2 ^ 62 }
+    ensures written { WroteSome (status_of_found found.now) (spec.NeedsMemory found.now) (spec.IsTextOf on found.now)
+        (O.Out.state out.old) (O.Out.state out.new) result }
+{
+    match found {
+        Found::Version => write_version(out),
+        Found::Explanation(subject) => write_subject(out, *subject),
+        Found::Accepted(loaded) => write_accepted(out, &loaded.program),
+        Found::Planned(code) => write_plan(out, code.code()),
+        Found::Compared(comparison) => write_rules(out, comparison),
+        Found::Run(run) => write_run(alloc, on, run, out),
+        Found::Executed(run) => write_outcome(out, run.code.code().layout(), &run.outcome),
+    }
 }

@@ -11,10 +11,9 @@ ghost use Rattle.rule_comparison.specs.ComparisonText.{comparison_text};
 ghost use Rattle.superstep_listing.specs.Listing.{spelling};
 ghost use Rattle.trace_pictures.specs.Picture.{picture};
 ghost use Rattle.tracer.specs.Traced.{trace_text};
-ghost use Rattle.pramc_command.specs.Answered.{accepted_line};
 ghost use Rattle.pramc_command.specs.Costs.{costs_text};
 ghost use Rattle.program_calls.specs.Written.{Wrote};
-ghost use Rattle.pramc_command.specs.Version.{version_text};
+ghost use Rattle.pramc_command.specs.Texts.{accepted_line, version_text};
 
 use cost_texts::{write_cost, write_lines};
 use exchange_counts::Counts;
