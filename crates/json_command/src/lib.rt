@@ -1,9 +1,9 @@
-//! The calls of the program that tell their facts as JSON, but for the system's files and streams.
+//! What a call found is told as JSON, but for the system's files and streams.
 #![tactic(auto)]
 
-mod commands;
+mod answering;
 mod reporting;
 mod telling;
 mod writing;
 
-pub use commands::command_in_json;
+pub use answering::answer_in_json;

@@ -1,11 +1,8 @@
 //! What is written to standard error.
 
-ghost use Rattle.std.specs.Prelude.{◌≡◌, ◌⊎◌, ◌<◌, ◌^◌};
-ghost use Rattle.diagnoses.specs.declared.about.About.TheVariants.{Nothing};
-ghost use Rattle.program_texts.specs.declared.from_text.Refusal.TheVariants.{OutOfMemory};
-ghost use Rattle.program_texts.specs.declared.stop.Stop.TheVariants.{Refused};
+ghost use Rattle.std.specs.Prelude.{◌≡◌, ◌<◌, ◌^◌};
 ghost use Rattle.program_calls.specs.Written.{IsReported};
-ghost use Rattle.json_command.specs.Told as spec;
+ghost use Rattle.json_command.specs.Left as spec;
 
 use diagnoses::About;
 use json_texts::{json_stop, out_of_memory_line};
@@ -37,8 +34,7 @@ fn write_line<E: Out>(err: &mut E, line: &[u8])
 /// Writes what is refused to standard error, or that memory for this was refused. That it fails changes no status.
 pub(crate) fn report<E: Out>(alloc: Global, err: &mut E, halted: &Halted<'_>)
     requires err { (E.Out.state err.old).failures < 2 ^ 62 }
-    ensures told { spec.IsRefusalTold halted.now.stop halted.now.about (E.Out.state err.old) (E.Out.state err.new)
-        ⊎ spec.IsRefusalTold (Refused OutOfMemory) Nothing (E.Out.state err.old) (E.Out.state err.new) }
+    ensures told { spec.IsRefusalSaid halted.now.stop halted.now.about (E.Out.state err.old) (E.Out.state err.new) }
 {
     match json_stop(alloc, text_of(&halted.about), &halted.stop) {
         Ok(line) => write_line(err, line.as_bytes()),

@@ -1,135 +1,83 @@
-//! Programs and their runs, each told by its command on standard output.
+//! What was found, told on standard output.
 
-ghost use Rattle.std.specs.Prelude.{◌<◌, ◌^◌};
-ghost use Rattle.program_calls.specs.Found.{IsAProgram, IsCompared};
-ghost use Rattle.json_command.specs.Told.{Tells, TellsRun};
+ghost use Rattle.std.specs.Prelude.{◌≡◌, ◌<◌, ◌^◌, IfOk, IfErr};
+ghost use Rattle.std.specs.String.{string_bytes};
+ghost use Rattle.json_lines.specs.Lines.{IsJson};
+ghost use Rattle.program_calls.specs.Found.{status_of_found};
+ghost use Rattle.json_command.specs.Facts as spec;
 
 use crate::writing::write_json;
 use json_texts::{json_accepted, json_comparison, json_cost, json_outcome, json_steps};
 use json_traces::json_trace;
-use pram_check::Program;
 use pram_syntax::Out;
-use program_calls::{cost, mean, run, steps};
+use program_calls::{Facts, Found, FoundRun};
 use program_texts::{Status, Stop};
-use requests::RunWords;
-use rule_comparison::Comparison;
-use std::alloc::Global;
-use std::sync::Wait;
-use std::thread::Threads;
+use std::alloc::{AllocError, Global};
 
-/// That a program is accepted.
-pub(crate) fn tell_accepted<'a, O: Out>(
-    alloc: Global,
-    program: &Program,
-    out: &mut O,
-) -> Result<Status, Stop<'a>>
-    requires out { (O.Out.state out.old).failures < 2 ^ 62 }
-    requires program { IsAProgram program.now }
-    ensures told { Tells (O.Out.state out.old) (O.Out.state out.new) result }
+/// The word that a call is refused for which isn't told as JSON.
+const JSON: &str = "json";
+
+// A run of a program.
+fn run_text(alloc: Global, run: &FoundRun<'_>) -> Result<String, AllocError>
+    ensures told { IfOk result (λ text. IsJson (spec.run_facts run.now run.now.facts) (string_bytes text)) }
 {
-    let text = json_accepted(alloc, program)?;
-    write_json(out, &text, Status::Done)
+    let layout = run.loaded.program.layout();
+    let outcome = &run.outcome;
+    let words = &run.words;
+    match &run.facts {
+        Facts::Nothing => json_outcome(alloc, layout, outcome),
+        Facts::Exchanges(counts) => json_trace(alloc, counts, outcome),
+        Facts::Cost(cost) => {
+            let (schedule, lines) = (words.costs.schedule, words.costs.lines);
+            json_cost(alloc, layout, outcome, cost, schedule, lines)
+        }
+        Facts::Steps(entries) => {
+            let (first, last) = (words.steps.from as usize, words.steps.to as usize);
+            json_steps(alloc, layout, outcome, entries, first, last)
+        }
+    }
 }
 
-/// How a program comes out under each rule.
-pub(crate) fn tell_comparison<'a, O: Out>(
-    alloc: Global,
-    comparison: &Comparison,
-    out: &mut O,
-) -> Result<Status, Stop<'a>>
-    requires out { (O.Out.state out.old).failures < 2 ^ 62 }
-    requires compared { IsCompared comparison.now }
-    ensures told { Tells (O.Out.state out.old) (O.Out.state out.new) result }
+// The lines of what was found.
+fn text_of<'a>(alloc: Global, found: &Found<'_>) -> Result<String, Stop<'a>>
+    ensures told { IfOk result (λ text. spec.IsJsonOf found.now (string_bytes text)) }
+    ensures unmade { IfErr result (spec.IsUnmade found.now) }
 {
-    let text = json_comparison(alloc, comparison)?;
-    write_json(out, &text, Status::Done)
+    match found {
+        Found::Accepted(loaded) => Ok(json_accepted(alloc, &loaded.program)?),
+        Found::Compared(comparison) => Ok(json_comparison(alloc, comparison)?),
+        Found::Run(run) => Ok(run_text(alloc, run)?),
+        Found::Version => Err(Stop::Number(JSON)),
+        Found::Explanation(_) => Err(Stop::Number(JSON)),
+        Found::Planned(_) => Err(Stop::Number(JSON)),
+        Found::Executed(_) => Err(Stop::Number(JSON)),
+    }
 }
 
-/// The outcome of a program by its definition.
-pub(crate) fn tell_meaning<'a, O: Out>(
-    alloc: Global,
-    program: &Program,
-    input: &[i64],
-    bound: u32,
-    out: &mut O,
-) -> Result<Status, Stop<'a>>
-    requires out { (O.Out.state out.old).failures < 2 ^ 62 }
-    requires program { IsAProgram program.now }
-    ensures told { TellsRun program.now (O.Out.state out.old) (O.Out.state out.new) result }
+// The exit status that goes with what was found.
+fn status_of(found: &Found<'_>) -> Status
+    ensures { result ≡ status_of_found found.now }
 {
-    let outcome = mean(alloc, program, input, bound)?;
-    let text = json_outcome(alloc, program.layout(), &outcome)?;
-    write_json(out, &text, Status::of(&outcome))
+    match found {
+        Found::Run(run) => Status::of(&run.outcome),
+        Found::Executed(run) => Status::of(&run.outcome),
+        Found::Version => Status::Done,
+        Found::Explanation(_) => Status::Done,
+        Found::Accepted(_) => Status::Done,
+        Found::Planned(_) => Status::Done,
+        Found::Compared(_) => Status::Done,
+    }
 }
 
-/// What the run of a program costs, and its outcome.
-pub(crate) fn tell_costs<'a, O: Out>(
+/// Writes what was found as lines of JSON, and nothing where memory for them was refused or it isn't told so.
+pub(crate) fn write_found<'a, O: Out>(
     alloc: Global,
-    program: &Program,
-    input: &[i64],
-    words: RunWords<'a>,
+    found: &Found<'_>,
     out: &mut O,
 ) -> Result<Status, Stop<'a>>
     requires out { (O.Out.state out.old).failures < 2 ^ 62 }
-    requires program { IsAProgram program.now }
-    ensures told { TellsRun program.now (O.Out.state out.old) (O.Out.state out.new) result }
+    ensures written { spec.WritesFound found.now (O.Out.state out.old) (O.Out.state out.new) result }
 {
-    let (outcome, cost) = cost(alloc, program, input, words.options.bound, words.costs)?;
-    let (schedule, lines) = (words.costs.schedule, words.costs.lines);
-    let text = json_cost(alloc, program.layout(), &outcome, &cost, schedule, lines)?;
-    write_json(out, &text, Status::of(&outcome))
-}
-
-/// The run of a program statement by statement, and its outcome.
-pub(crate) fn tell_steps<'a, O: Out>(
-    alloc: Global,
-    program: &Program,
-    input: &[i64],
-    words: RunWords<'a>,
-    out: &mut O,
-) -> Result<Status, Stop<'a>>
-    requires out { (O.Out.state out.old).failures < 2 ^ 62 }
-    requires program { IsAProgram program.now }
-    ensures told { TellsRun program.now (O.Out.state out.old) (O.Out.state out.new) result }
-{
-    let (outcome, entries) = steps(alloc, program, input, words.options.bound)?;
-    let (first, last) = (words.steps.from as usize, words.steps.to as usize);
-    let text = json_steps(alloc, program.layout(), &outcome, &entries, first, last)?;
-    write_json(out, &text, Status::of(&outcome))
-}
-
-/// The outcome of a program by workers.
-pub(crate) fn tell_run<'a, R: Threads + Wait + Sync, O: Out>(
-    rt: &R,
-    alloc: Global,
-    program: &Program,
-    input: &[i64],
-    words: RunWords<'a>,
-    out: &mut O,
-) -> Result<Status, Stop<'a>>
-    requires out { (O.Out.state out.old).failures < 2 ^ 62 }
-    requires program { IsAProgram program.now }
-    ensures told { TellsRun program.now (O.Out.state out.old) (O.Out.state out.new) result }
-{
-    let (outcome, _counts) = run(rt, alloc, program, input, words.options, words.reserve)?;
-    let text = json_outcome(alloc, program.layout(), &outcome)?;
-    write_json(out, &text, Status::of(&outcome))
-}
-
-/// The exchanges of that run, and how it came out.
-pub(crate) fn tell_trace<'a, R: Threads + Wait + Sync, O: Out>(
-    rt: &R,
-    alloc: Global,
-    program: &Program,
-    input: &[i64],
-    words: RunWords<'a>,
-    out: &mut O,
-) -> Result<Status, Stop<'a>>
-    requires out { (O.Out.state out.old).failures < 2 ^ 62 }
-    requires program { IsAProgram program.now }
-    ensures told { TellsRun program.now (O.Out.state out.old) (O.Out.state out.new) result }
-{
-    let (outcome, counts) = run(rt, alloc, program, input, words.options, words.reserve)?;
-    let text = json_trace(alloc, &counts, &outcome)?;
-    write_json(out, &text, Status::of(&outcome))
+    let text = text_of(alloc, found)?;
+    write_json(out, &text, status_of(found))
 }
