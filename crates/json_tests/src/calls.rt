@@ -1,10 +1,9 @@
 // Calls of the program over files in memory, in words and as JSON.
 
-use json_command::command_in_json;
+use command_line::command;
 use pram_syntax::Buffer;
-use pramc_command::{Terminal, command};
+use pramc_command::Terminal;
 use program_texts::{SourceFault, Sources, Status};
-use requests::asks_for_json;
 use std::alloc::{AllocError, Global};
 use std::sync::Wait;
 use std::thread::Threads;
@@ -42,7 +41,7 @@ pub(crate) struct Said {
 }
 
 // No terminal.
-const SILENT: Terminal = Terminal {
+pub(crate) const SILENT: Terminal = Terminal {
     errors: false,
     output: false,
     colours: false,
@@ -78,11 +77,7 @@ pub(crate) fn call<R: Threads + Wait + Sync>(
     let mut shelf = Shelf { program, input };
     let mut out = Buffer::new(alloc);
     let mut err = Buffer::new(alloc);
-    let status = if asks_for_json(words) {
-        command_in_json(rt, alloc, words, &mut shelf, &mut out, &mut err)
-    } else {
-        command(rt, alloc, words, SILENT, &mut shelf, &mut out, &mut err)
-    };
+    let status = command(rt, alloc, words, SILENT, &mut shelf, &mut out, &mut err);
     Ok(Said { status, out, err })
 }
 

@@ -1,7 +1,7 @@
 // Lines of JSON that a stream doesn't take whole.
 
-use crate::calls::{Shelf, call, owned};
-use json_command::command_in_json;
+use crate::calls::{SILENT, Shelf, call, owned};
+use command_line::command;
 use pram_syntax::{Buffer, Out, OutFailed};
 use program_texts::Status;
 use std::test::Fail;
@@ -47,7 +47,15 @@ fn facts_that_are_cut_off_are_told(rt: HostRuntime) -> Result<(), Fail> {
             let mut out = Full { room, failures: 0 };
             let mut err = Buffer::new(rt.alloc());
             let words = words.as_slice();
-            let status = command_in_json(&rt, rt.alloc(), words, &mut shelf, &mut out, &mut err);
+            let status = command(
+                &rt,
+                rt.alloc(),
+                words,
+                SILENT,
+                &mut shelf,
+                &mut out,
+                &mut err,
+            );
             let line: &[u8] = if room == size {
                 b""
             } else {

@@ -3,8 +3,9 @@
 use crate::by_workers::is_run;
 use crate::compiled::is_compiled;
 use crate::read_back::is_read_back;
+use command_line::command;
 use pram_syntax::Buffer;
-use pramc_command::{Terminal, command};
+use pramc_command::Terminal;
 use program_texts::{SourceFault, Sources, Status};
 use std::alloc::{AllocError, Global};
 use std::sync::Wait;

@@ -1,10 +1,9 @@
 //! The program `pramc`, over the system's files and streams.
 #![tactic(auto)]
 
-use json_command::command_in_json;
-use pramc_command::{Terminal, command};
+use command_line::command;
+use pramc_command::Terminal;
 use program_texts::{Stream, SystemFiles};
-use requests::asks_for_json;
 use std::io::IsTerminal;
 use std::process::ExitCode;
 use std::{env, io};
@@ -27,14 +26,10 @@ fn main(rt: HostRuntime) -> io::Result<ExitCode> {
     let alloc = rt.alloc();
     let words: Vec<String> = env::args(&rt)?.skip(1).collect(alloc)?;
     let words = words.as_slice();
+    let terminal = terminal(&rt);
     let mut files = SystemFiles { system: &rt };
     let mut out = Stream::new(rt.stdout());
     let mut err = Stream::new(rt.stderr());
-    let status = if asks_for_json(words) {
-        command_in_json(&rt, alloc, words, &mut files, &mut out, &mut err)
-    } else {
-        let terminal = terminal(&rt);
-        command(&rt, alloc, words, terminal, &mut files, &mut out, &mut err)
-    };
+    let status = command(&rt, alloc, words, terminal, &mut files, &mut out, &mut err);
     Ok(ExitCode::from(status.code()))
 }

@@ -1,0 +1,29 @@
+-- What the program leaves on its streams.
+use Rattle.std.specs.Prelude.{◌≡◌, ◌||◌, ℕ, List, Option, Bool, true, false, Result, Ok, IfErr}
+use Rattle.text_out.specs.Out.{OutState}
+use Rattle.program_texts.specs.declared.status.Status.{Status}
+use Rattle.program_texts.specs.declared.stop.Stop.{Stop}
+use Rattle.requests.specs.Words.{AsksForVersion, IsOfWords, asks_for_json, asks_to_explain}
+use Rattle.requests.specs.declared.request.Request.{Request}
+use Rattle.requests.specs.declared.request.Request.TheVariants as request
+use Rattle.pramc_command.specs.Left.{Leaves}
+use Rattle.pramc_command.specs.declared.terminal.Terminal.{Terminal}
+use Rattle.json_command.specs.Left.{LeavesJson}
+
+-- the streams of a call: what is refused, and a fault, is explained where standard error is a terminal or a word asks for it
+abbrev pub explaining : Terminal → List (List ℕ) → Terminal
+explaining on words = record on { errors = on.errors || asks_to_explain words }
+
+-- What the words ask for, by their parser, of which no more is known: the version where they ask for that alone, and of a refusal that it is
+-- of the words.
+abbrev pub IsAsked : List (List ℕ) → Result Request Stop → Type 0
+IsAsked words asked = (AsksForVersion words → asked ≡ Ok request.Version) × IfErr asked IsOfWords
+
+-- what is left, in JSON or in words
+abbrev pub LeavesIn : Bool → (List ℕ → Option (List ℕ) → Type 0) → Terminal → Result Request Stop → (out out_new err err_new : OutState) → Status → Type 0
+LeavesIn true holds on asked out out_new err err_new ends = LeavesJson holds asked out out_new err err_new ends
+LeavesIn false holds on asked out out_new err err_new ends = Leaves holds on asked out out_new err err_new ends
+
+abbrev pub LeavesAs : (List ℕ → Option (List ℕ) → Type 0) → Terminal → List (List ℕ) → (out out_new err err_new : OutState) → Status → Type 0
+LeavesAs holds on words out out_new err err_new ends = (asked : Result Request Stop) × IsAsked words asked
+    × LeavesIn (asks_for_json words) holds (explaining on words) asked out out_new err err_new ends

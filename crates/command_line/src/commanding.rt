@@ -1,0 +1,55 @@
+//! The program `pramc`, but for the system's files and streams.
+
+ghost use Rattle.std.specs.Prelude.{◌≡◌, ◌<◌, ◌^◌, map};
+ghost use Rattle.std.specs.String.{string_bytes};
+ghost use Rattle.command_line.specs.Command as spec;
+
+use command_words::read_words;
+use json_command::answer_in_json;
+use pram_syntax::Out;
+use pramc_command::{Terminal, answer};
+use program_texts::{Sources, Status};
+use requests::{asks_for_json, asks_to_explain};
+use std::alloc::Global;
+use std::sync::Wait;
+use std::thread::Threads;
+
+// The streams of the call, of which standard error has explanations where it is a terminal or a word asks for them.
+fn explaining(terminal: Terminal, words: &[String]) -> Terminal
+    ensures { result ≡ spec.explaining terminal (map string_bytes words.now) }
+{
+    Terminal {
+        errors: terminal.errors || asks_to_explain(words),
+        output: terminal.output,
+        colours: terminal.colours,
+    }
+}
+
+/// Does what the words behind the program's name ask for, in words or as JSON, and answers the exit status.
+///
+/// What the words ask for is said by [`read_words`](command_words::read_words), and whether in JSON by
+/// [`asks_for_json`](requests::asks_for_json); what is done then by [`answer`](pramc_command::answer) and
+/// [`answer_in_json`](json_command::answer_in_json). In words a refusal and a fault are explained where standard error is a terminal or one
+/// of the words is `--explain`.
+pub fn command<R: Threads + Wait + Sync, S: Sources, O: Out, E: Out>(
+    rt: &R,
+    alloc: Global,
+    words: &[String],
+    terminal: Terminal,
+    sources: &mut S,
+    out: &mut O,
+    err: &mut E,
+) -> Status
+    requires out { (O.Out.state out.old).failures < 2 ^ 62 }
+    requires err { (E.Out.state err.old).failures < 2 ^ 62 }
+    ensures leaves { spec.LeavesAs (S.Sources.holds sources.old) terminal (map string_bytes words.now)
+        (O.Out.state out.old) (O.Out.state out.new) (E.Out.state err.old) (E.Out.state err.new) result }
+{
+    let asked = read_words(alloc, words);
+    if asks_for_json(words) {
+        answer_in_json(rt, alloc, asked, sources, out, err)
+    } else {
+        let on = explaining(terminal, words);
+        answer(rt, alloc, asked, on, sources, out, err)
+    }
+}
