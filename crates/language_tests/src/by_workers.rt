@@ -1,7 +1,6 @@
-// The same rows by workers: however many, and by two maps.
+// Runs by workers: why a text is not run, and traces that are cut off.
 
 use crate::narrow::Narrow;
-use crate::rows::{Row, prints};
 use pram_syntax::WriteFault;
 use pramc::{Options, run_text};
 use program_texts::Refusal;
@@ -11,66 +10,6 @@ use std::sync::Wait;
 use std::thread::Threads;
 use tracer::write_trace;
 use workers::OpenGate;
-
-const WORKERS: [&str; 5] = ["1", "2", "3", "4", "32"];
-
-const MAPS: [&str; 2] = ["identity", "affine:5,3"];
-
-// Whether `run` prints what the row says, by that map.
-fn by_map<R: Threads + Wait + Sync>(
-    rt: &R,
-    alloc: Global,
-    row: &Row,
-    workers: &'static str,
-    map: &'static str,
-) -> bool {
-    let words = [
-        "run",
-        "program",
-        "--bound",
-        row.bound,
-        "--input",
-        "input",
-        "--workers",
-        workers,
-        "--map",
-        map,
-    ];
-    let expected = (row.out.as_bytes(), row.err.as_bytes(), row.code);
-    prints(
-        rt,
-        alloc,
-        &words,
-        row.text.as_bytes(),
-        row.input.as_bytes(),
-        expected,
-    )
-}
-
-// Whether so many workers print it, by each map.
-fn by_each_map<R: Threads + Wait + Sync>(
-    rt: &R,
-    alloc: Global,
-    row: &Row,
-    workers: &'static str,
-) -> bool {
-    for map in MAPS {
-        if !by_map(rt, alloc, row, workers, map) {
-            return false;
-        }
-    }
-    true
-}
-
-// Whether every number of workers prints what the row says.
-pub(crate) fn is_run<R: Threads + Wait + Sync>(rt: &R, alloc: Global, row: &Row) -> bool {
-    for workers in WORKERS {
-        if !by_each_map(rt, alloc, row, workers) {
-            return false;
-        }
-    }
-    true
-}
 
 // Why a text is not run.
 fn refusal_of<R: Threads + Wait + Sync>(

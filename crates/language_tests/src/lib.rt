@@ -22,8 +22,6 @@ mod pictures;
 #[cfg(test)]
 mod plans;
 #[cfg(test)]
-mod read_back;
-#[cfg(test)]
 mod rows;
 #[cfg(test)]
 mod rows_check;
@@ -32,15 +30,9 @@ mod rows_check_limits;
 #[cfg(test)]
 mod rows_command;
 #[cfg(test)]
-mod rows_order;
-#[cfg(test)]
-mod rows_parallel;
-#[cfg(test)]
 mod rows_reserve;
 #[cfg(test)]
 mod rows_stop;
-#[cfg(test)]
-mod rows_uniform;
 #[cfg(test)]
 mod rows_workers;
 #[cfg(test)]

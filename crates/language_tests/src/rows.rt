@@ -1,8 +1,5 @@
 // How a row of the tests is tried: what the program prints for it, and its exit status.
 
-use crate::by_workers::is_run;
-use crate::compiled::is_compiled;
-use crate::read_back::is_read_back;
 use command_line::command;
 use pram_syntax::Buffer;
 use pramc_command::Terminal;
@@ -10,17 +7,6 @@ use program_texts::{SourceFault, Sources, Status};
 use std::alloc::{AllocError, Global};
 use std::sync::Wait;
 use std::thread::Threads;
-
-// A program with its input and bound, and what is written to standard output and standard error.
-#[derive(Drop)]
-pub(crate) struct Row {
-    pub(crate) text: &'static str,
-    pub(crate) input: &'static str,
-    pub(crate) bound: &'static str,
-    pub(crate) out: &'static str,
-    pub(crate) err: &'static str,
-    pub(crate) code: u8,
-}
 
 // Files in memory.
 #[derive(Drop)]
@@ -111,20 +97,6 @@ pub(crate) fn prints<R: Threads + Wait + Sync>(
     }
 }
 
-// Whether both `meaning` and `run` print what the row says.
-pub(crate) fn holds<R: Threads + Wait + Sync>(rt: &R, alloc: Global, row: &Row) -> bool {
-    let expected = (row.out.as_bytes(), row.err.as_bytes(), row.code);
-    let program = row.text.as_bytes();
-    let input = row.input.as_bytes();
-    for verb in ["meaning", "run"] {
-        let words = [verb, "program", "--bound", row.bound, "--input", "input"];
-        if !prints(rt, alloc, &words, program, input, expected) {
-            return false;
-        }
-    }
-    true
-}
-
 // Whether `check` prints that line for a text. An accepted text's goes to standard output; any other is refused by `plan` in the
 // same words.
 pub(crate) fn checked<R: Threads + Wait + Sync>(
@@ -146,19 +118,6 @@ pub(crate) fn checked<R: Threads + Wait + Sync>(
     let refused: (&[u8], &[u8], u8) = (b"", line.as_bytes(), 2);
     prints(rt, alloc, &["check", "program"], text, b"", refused)
         && prints(rt, alloc, &["plan", "program"], text, b"", refused)
-}
-
-// Whether every row holds, by the interpreter, by the code that its program is lowered to, and by workers; its text is read back too.
-pub(crate) fn all_hold<R: Threads + Wait + Sync>(rt: &R, alloc: Global, rows: &[Row]) -> bool {
-    for row in rows {
-        if !holds(rt, alloc, row) || !is_compiled(alloc, row) || !is_run(rt, alloc, row) {
-            return false;
-        }
-        if !is_read_back(alloc, row) {
-            return false;
-        }
-    }
-    true
 }
 
 // Whether `check` prints for each text the line beside it.
