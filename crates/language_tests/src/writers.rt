@@ -33,9 +33,9 @@ fn a_tree_is_written_to_narrow_writers(rt: HostRuntime) {
 // A text with its input and bound, and what is shown of its outcome.
 const SHOWN: [(&[u8], &[i64], &[u8]); 3] = [
     (
-        b"rule crew;procs 1;shared s;shared a[-1..1];begin print s;print -s;end",
+        b"rule crew;procs 1;shared s;shared a[0..2];begin print s;print -s;end",
         &[-7, 1, 2, 3],
-        b"-7\n7\nended\ns = -7\na[-1..1] = 1 2 3\n",
+        b"-7\n7\nended\ns = -7\na[0..2] = 1 2 3\n",
     ),
     (
         b"rule crew;procs 2;shared a[0..1];begin print 5;\nfor 1<=i<=2 pardo a[1]:=i;end end",
