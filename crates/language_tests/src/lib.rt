@@ -24,10 +24,6 @@ mod plans;
 #[cfg(test)]
 mod rows;
 #[cfg(test)]
-mod rows_check;
-#[cfg(test)]
-mod rows_check_limits;
-#[cfg(test)]
 mod rows_command;
 #[cfg(test)]
 mod rows_reserve;
