@@ -4,6 +4,8 @@
 #[cfg(test)]
 mod asking;
 #[cfg(test)]
+mod caller;
+#[cfg(test)]
 mod in_step;
 #[cfg(test)]
 mod listing;

@@ -35,13 +35,13 @@ code 13
 12 halt
 ";
 
-const TRACE: &[u8] = b"1 send sent 1 1 received 2 0 h 2
+pub(crate) const TRACE: &[u8] = b"1 send sent 1 1 received 2 0 h 2
 2 reply sent 2 0 received 1 1 h 2
 3 send sent 6 6 received 6 6 h 6
 4 close sent 0 0 received 0 0 h 0
 ";
 
-fn verified(alloc: Global) -> Option<Verified> {
+pub(crate) fn verified(alloc: Global) -> Option<Verified> {
     let code = read_listing(alloc, BROADCAST).ok()?;
     verify(alloc, code).ok()
 }

@@ -29,4 +29,4 @@ refuses() {
 
 refuses on_one_thread asking::cells_are_asked_for_in_every_statement in_step::workers_are_in_step meeting::workers_of_a_text_meet \
     meeting::workers_of_code_meet
-refuses beside_empty_rows asking::cells_are_asked_for_in_every_statement
+refuses beside_empty_rows asking::cells_are_asked_for_in_every_statement caller::workers_of_a_caller_come_to_the_worked_run
