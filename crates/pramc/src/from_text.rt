@@ -129,7 +129,7 @@ pub fn run_text<R: Threads + Wait + Sync, G: Gate + Sync>(
 
 /// The same by workers that take all their memory before the first exchange, for so many items of output and so many exchanges. It is
 /// refused besides for E18, where nothing else speaks against it and the program's code on these workers prints more items than that, those that
-/// a fault drops counted, or has more exchanges: exactly then. E16 comes before the first exchange or not at all.
+/// a fault drops counted, or has more exchanges: exactly then. That E16 comes before the first exchange is tested, and no clause says it.
 pub fn run_text_reserved<R: Threads + Wait + Sync, G: Gate + Sync>(
     rt: &R,
     alloc: Global,
