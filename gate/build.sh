@@ -6,8 +6,8 @@ top=$(cd "$(dirname "$0")/.." && pwd)
 log=$(mktemp)
 trap 'rm -f "$log"' EXIT
 
-python3 "$top/gate/build.py" pramc_cli
-cd "$top/crates/pramc_cli"
+python3 "$top/gate/build.py" command_main
+cd "$top/crates/command_main"
 # `rt run` is the toolchain's way to link a program
 SECONDS=0
 if ! rt run -- check ../../examples/sum.pram > "$log" 2>&1; then
@@ -16,4 +16,4 @@ if ! rt run -- check ../../examples/sum.pram > "$log" 2>&1; then
 fi
 echo "$SECONDS s for the program itself"
 mkdir -p "$top/bin"
-cp out/pramc_cli "$top/bin/pramc"
+cp out/command_main "$top/bin/pramc"

@@ -12,7 +12,7 @@ cd "$top"
 python3 gate/figures.py watch $$ "$work/seen" 2> /dev/null &
 watch=$!
 rt ci | tee "$work/log"
-program=$top/crates/pramc_cli/out/pramc_cli
+program=$top/crates/command_main/out/command_main
 bash gate/examples.sh "$program"
 bash gate/dist_test.sh "$program"
 bash gate/hostile.sh "$program"

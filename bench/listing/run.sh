@@ -3,5 +3,5 @@
 # beside a plain pass over the bytes, and asserts nothing.
 set -eu
 . "$(dirname "$0")/../lib.sh"
-libraries=itoa prepare listing pram_model text_out pram_values write_rules address_map superstep_code superstep_listing superstep_machine bsp_verify
+libraries=itoa prepare listing pram_model text_out pram_values write_rules address_map superstep_instructions superstep_listing superstep_machine bsp_verify
 figures

@@ -3,5 +3,5 @@
 # asserts nothing.
 set -eu
 . "$(dirname "$0")/../lib.sh"
-prepare parse pram_model text_out pram_tokens pram_syntax pram_parser pram_printer
+prepare parse pram_model text_out pram_tokens pram_trees pram_parser pram_printer
 figures

@@ -8,7 +8,7 @@ use Rattle.std.proofs.lemmas.List.{length-map, get_or_default}
 use Rattle.std.proofs.lemmas.List.FromFn.{get_or-map-range_with_len}
 use Rattle.pram_values.specs.Total.{total}
 use Rattle.address_map.specs.Lawful.{Shape}
-use Rattle.superstep_code.specs.Code.{SuperstepCode}
+use Rattle.superstep_instructions.specs.Code.{SuperstepCode}
 use Rattle.superstep_machine.specs.HeaderWords.{read_header}
 use Rattle.superstep_machine.specs.WordReading.{read_message}
 use Rattle.superstep_machine.specs.Setting.{Setting, workers}
@@ -27,8 +27,8 @@ use Rattle.worker_exchange.specs.Received.{mark_heard, is_marked}
 use Rattle.bsp_machine.specs.declared.counted.CountedWorker.{CountedWorker}
 use Rattle.bsp_machine.specs.declared.sheet.Sheet.{Sheet}
 use Rattle.bsp_machine.specs.Sheets.{messages_in, no_words, picked}
-use Rattle.histories.specs.Shares.{Share, share_of}
-use Rattle.bsp_machine.specs.declared.reserve.Reserve.{Reserve}
+use Rattle.worker_histories.specs.Shares.{Share, share_of}
+use Rattle.run_options.specs.declared.reserve.Reserve.{Reserve}
 use Rattle.bsp_machine.specs.Reserves.{own_mark, IsMark, AreMarked, HaveReserve}
 use Rattle.bsp_machine.specs.Workers.{shares, share_at, state_behind, IsBetween, IsBehind, IsAt, HasCome, AreAt}
 use Rattle.bsp_machine.proofs.ListLemmas.{map_by, map_at, there_at, get_within, range_more, get_is, one_there}

@@ -4,22 +4,22 @@ use Rattle.std.specs.Prelude.{◌||◌, nat_lt, nat_le, vec_capacity}
 use Rattle.std.proofs.lemmas.Bool.Decides.{nat_tests}
 use Rattle.std.proofs.lemmas.List.{length-map}
 use Rattle.address_map.specs.Lawful.{Shape}
-use Rattle.superstep_code.specs.Code.{SuperstepCode}
+use Rattle.superstep_instructions.specs.Code.{SuperstepCode}
 use Rattle.superstep_machine.specs.declared.mark.HeaderMark.{HeaderMark}
 use Rattle.superstep_machine.specs.Setting.{Setting}
 use Rattle.superstep_machine.specs.Parts.{UniformPart}
 use Rattle.superstep_machine.specs.Run.{State, setting, message_of, ready}
-use Rattle.superstep_steps.specs.Views.{HasReserve}
+use Rattle.instruction_steps.specs.Views.{HasReserve}
 use Rattle.message_rows.specs.Rows.{WrittenMessage, IsRow, written, message_at}
 use Rattle.worker_messages.specs.declared.way.Way.TheVariants.{Stopped}
 use Rattle.worker_messages.specs.declared.local.Local.{Local}
 use Rattle.worker_messages.specs.Reached.{most_instructions}
 use Rattle.worker_messages.specs.Shown.{purpose_is, marked, is_stopped, IsShown, IsAtExchange}
 use Rattle.worker_messages.specs.Arrived.{ComesPast}
-use Rattle.worker_messages.specs.Told.{IsWrittenFor}
+use Rattle.worker_messages.specs.MessagesWritten.{IsWrittenFor}
 use Rattle.bsp_machine.specs.declared.counted.CountedWorker.{CountedWorker}
-use Rattle.bsp_machine.specs.declared.reserve.Reserve.{Reserve}
-use Rattle.histories.specs.Shares.{Share}
+use Rattle.run_options.specs.declared.reserve.Reserve.{Reserve}
+use Rattle.worker_histories.specs.Shares.{Share}
 use Rattle.bsp_machine.specs.Reserves.{is_past, own_mark}
 use Rattle.bsp_machine.specs.Workers.{share_told, IsBetween, IsStanding}
 use Rattle.bsp_machine.specs.Growing.{IsShortOfItems}

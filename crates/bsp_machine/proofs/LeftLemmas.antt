@@ -5,7 +5,7 @@ use Rattle.std.proofs.Common.{arith, ⊎_elim}
 use Rattle.std.specs.Prelude.{slice_get}
 use Rattle.std.proofs.Math.Nat.{eq-or-lt_of_le}
 use Rattle.address_map.specs.Lawful.{Shape}
-use Rattle.superstep_code.specs.Code.{SuperstepCode}
+use Rattle.superstep_instructions.specs.Code.{SuperstepCode}
 use Rattle.superstep_machine.specs.Run.{is_over, setting}
 use Rattle.bsp_verify.specs.Runs.{worker_after}
 use Rattle.flat_machine.specs.Flatness.{IsMapFor}

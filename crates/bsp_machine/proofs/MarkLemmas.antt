@@ -18,7 +18,7 @@ use Rattle.worker_messages.specs.declared.way.Way.TheVariants as ways
 use Rattle.worker_messages.specs.Shown.{way_is, is_stopped, marked}
 use Rattle.worker_exchange.specs.Received.{mark_heard, is_marked}
 use Rattle.bsp_machine.specs.declared.counted.CountedWorker.{CountedWorker}
-use Rattle.bsp_machine.specs.declared.reserve.Reserve.{Reserve}
+use Rattle.run_options.specs.declared.reserve.Reserve.{Reserve}
 use Rattle.bsp_machine.specs.Reserves.{own_mark, IsMark, AreMarked, IsGiven, refusal_by, refusal_for}
 
 -- ---- one worker

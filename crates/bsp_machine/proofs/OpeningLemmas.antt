@@ -3,9 +3,9 @@ use Rattle.std.proofs.Common.{◌≡◌, ℕ, ◌+◌, List, [], ◌∷◌, ◌+
 use Rattle.std.specs.Prelude.{slice_get}
 use Rattle.std.proofs.lemmas.List.{length-append}
 use Rattle.address_map.specs.Lawful.{Shape}
-use Rattle.superstep_code.specs.Code.{SuperstepCode}
+use Rattle.superstep_instructions.specs.Code.{SuperstepCode}
 use Rattle.bsp_machine.specs.declared.counted.CountedWorker.{CountedWorker}
-use Rattle.bsp_machine.specs.declared.reserve.Reserve.{Reserve}
+use Rattle.run_options.specs.declared.reserve.Reserve.{Reserve}
 use Rattle.bsp_machine.specs.Reserves.{HaveReserve, AreGiven}
 use Rattle.bsp_machine.specs.Workers.{share_told}
 use Rattle.bsp_machine.specs.Opening.{IsFresh, AreFresh}

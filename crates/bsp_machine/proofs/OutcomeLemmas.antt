@@ -10,7 +10,7 @@ use Rattle.pram_model.specs.Layout.{total_size}
 use Rattle.address_map.specs.Lawful.{Shape}
 use Rattle.write_rules.specs.declared.outcome.Outcome.{Outcome}
 use Rattle.write_rules.specs.Verdict.{Verdict}
-use Rattle.superstep_code.specs.Code.{SuperstepCode}
+use Rattle.superstep_instructions.specs.Code.{SuperstepCode}
 use Rattle.superstep_machine.specs.Setting.{Setting, module_cells}
 use Rattle.superstep_machine.specs.Run.{State, bsp, setting, opening, is_over, no_state, state_of}
 use Rattle.superstep_machine.specs.Run.{cell_in, verdict_by, outcome_of, outcome_by}
@@ -27,14 +27,14 @@ use Rattle.worker_messages.specs.Reached.{most_instructions}
 use Rattle.worker_messages.specs.Shown.{way_is, is_stopped, purpose_is, IsShown}
 use Rattle.exchange_counts.specs.declared.count.Count.{Count}
 use Rattle.exchange_counts.specs.Columns.{column_of, entry_of, nothing, AreColumns}
-use Rattle.exchange_counts.specs.Told.{exchange_told, exchanges_told}
+use Rattle.exchange_counts.specs.CountedExchanges.{exchange_told, exchanges_told}
 use Rattle.bsp_machine.specs.declared.counted.CountedWorker.{CountedWorker}
-use Rattle.histories.specs.Shares.{Share, share_of}
+use Rattle.worker_histories.specs.Shares.{Share, share_of}
 use Rattle.bsp_machine.specs.Workers.{share_told}
 use Rattle.bsp_machine.specs.Ended.{AreRunning, AreWide, cells_of, value_of, memory_of, verdict_in, counts_of}
 use Rattle.bsp_machine.proofs.ListLemmas.{there_at, get_within, map_by}
-use Rattle.histories.proofs.Joining.{run_ends}
-use Rattle.histories.proofs.Parts.{exchanges_are}
+use Rattle.worker_histories.proofs.Joining.{run_ends}
+use Rattle.worker_histories.proofs.Parts.{exchanges_are}
 
 -- who has an outcome hasn't stopped
 pub told_alive : (way : Way) (output : List (ℕ × ℤ)) (memory : List ℤ) (v : Verdict) → Some v ≡ verdict_by (way_is way) output memory →

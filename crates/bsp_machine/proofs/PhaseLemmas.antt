@@ -7,7 +7,7 @@ use Rattle.superstep_machine.specs.Machine.{column}
 use Rattle.superstep_machine.specs.Run.{State, Ready, bsp, opening, after, ready, mark_now, message_with, message_of}
 use Rattle.bsp_verify.specs.Runs.{worker_after}
 use Rattle.superstep_machine.proofs.Refused.{for_clear}
-use Rattle.histories.proofs.Joining.{phase_more}
+use Rattle.worker_histories.proofs.Joining.{phase_more}
 
 module _ (t : Setting) where
   -- the mark of a message is the one of the stretch before

@@ -1,7 +1,7 @@
 -- The row of a worker that stands at an exchange.
 use Rattle.std.proofs.Common.{◌≡◌, ℕ, ◌<◌, List, [], true, false, Option, None, Some, refl, sym, ap, subst, ◌∙◌, inl, inr}
 use Rattle.address_map.specs.Lawful.{Shape}
-use Rattle.superstep_code.specs.Code.{SuperstepCode}
+use Rattle.superstep_instructions.specs.Code.{SuperstepCode}
 use Rattle.superstep_machine.specs.HeaderWords.{read_header}
 use Rattle.superstep_machine.specs.Words.{Message}
 use Rattle.superstep_machine.specs.WordReading.{read_message}
@@ -13,9 +13,9 @@ use Rattle.worker_messages.specs.declared.way.Way.TheVariants as ways
 use Rattle.worker_messages.specs.Reached.{most_instructions}
 use Rattle.worker_messages.specs.Shown.{purpose_is, is_stopped, marked}
 use Rattle.worker_exchange.specs.Received.{is_marked}
-use Rattle.histories.specs.Shares.{Share}
+use Rattle.worker_histories.specs.Shares.{Share}
 use Rattle.bsp_machine.specs.declared.counted.CountedWorker.{CountedWorker}
-use Rattle.bsp_machine.specs.declared.reserve.Reserve.{Reserve}
+use Rattle.run_options.specs.declared.reserve.Reserve.{Reserve}
 use Rattle.bsp_machine.specs.Reserves.{own_mark, IsMark}
 use Rattle.bsp_machine.specs.Workers.{IsStanding}
 use Rattle.bsp_machine.proofs.PhaseLemmas.{mark_sent}

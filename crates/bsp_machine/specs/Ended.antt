@@ -3,7 +3,7 @@ use Rattle.std.specs.Prelude.{◌≡◌, ℕ, ◌<◌, List, [], ◌∷◌, map,
 use Rattle.std.specs.List.{range_with_len}
 use Rattle.pram_model.specs.Layout.{total_size}
 use Rattle.address_map.specs.Lawful.{Shape}
-use Rattle.superstep_code.specs.Code.{SuperstepCode}
+use Rattle.superstep_instructions.specs.Code.{SuperstepCode}
 use Rattle.superstep_machine.specs.Setting.{workers}
 use Rattle.superstep_machine.specs.Run.{bsp, opening, is_over, setting}
 use Rattle.write_rules.specs.declared.outcome.Outcome.{Outcome}
@@ -12,7 +12,7 @@ use Rattle.worker_messages.specs.Reached.{most_instructions}
 use Rattle.worker_messages.specs.Shown.{way_is, is_stopped}
 use Rattle.worker_messages.specs.Equipped.{most_words, left, IsRunnable}
 use Rattle.exchange_counts.specs.declared.count.Count.{Count}
-use Rattle.histories.specs.Histories.{GoesOn}
+use Rattle.worker_histories.specs.Histories.{GoesOn}
 use Rattle.bsp_machine.specs.declared.counted.CountedWorker.{CountedWorker}
 use Rattle.bsp_machine.specs.Workers.{AreBehind, AreTogether, AreSheets}
 use Rattle.bsp_machine.specs.declared.sheet.Sheet.{Sheet}

@@ -1,7 +1,7 @@
 -- What a worker without a reserve may ask for memory for on the way.
 use Rattle.std.specs.Prelude.{ℕ, ◌<◌, ◌≤◌, ◌⊎◌, length, vec_capacity}
 use Rattle.address_map.specs.Lawful.{Shape}
-use Rattle.superstep_code.specs.Code.{SuperstepCode}
+use Rattle.superstep_instructions.specs.Code.{SuperstepCode}
 use Rattle.superstep_machine.specs.Run.{State, ready, setting}
 use Rattle.bsp_machine.specs.declared.counted.CountedWorker.{CountedWorker}
 

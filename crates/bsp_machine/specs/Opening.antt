@@ -2,7 +2,7 @@
 use Rattle.std.specs.Prelude.{◌≡◌, ℕ, ◌≤◌, List, [], Some, ℤ, slice_get, vec_capacity}
 use Rattle.pram_model.specs.Layout.{total_size}
 use Rattle.address_map.specs.Lawful.{Shape}
-use Rattle.superstep_code.specs.Code.{SuperstepCode}
+use Rattle.superstep_instructions.specs.Code.{SuperstepCode}
 use Rattle.superstep_machine.specs.Run.{opening, setting}
 use Rattle.worker_messages.specs.Shown.{IsShown}
 use Rattle.worker_messages.specs.Equipped.{MayGoOn}

@@ -2,7 +2,7 @@
 use Rattle.std.specs.Prelude.{◌≡◌, ℕ, ◌<◌, ◌≤◌, List, [], map, length, Some, false, ℤ, vec_capacity, slice_get}
 use Rattle.std.specs.List.{range_with_len}
 use Rattle.address_map.specs.Lawful.{Shape}
-use Rattle.superstep_code.specs.Code.{SuperstepCode}
+use Rattle.superstep_instructions.specs.Code.{SuperstepCode}
 use Rattle.superstep_machine.specs.declared.mark.HeaderMark.{HeaderMark}
 use Rattle.superstep_machine.specs.Setting.{Setting}
 use Rattle.superstep_machine.specs.Machine.{column}
@@ -16,12 +16,12 @@ use Rattle.worker_messages.specs.declared.local.Local.{Local}
 use Rattle.worker_messages.specs.Reached.{most_instructions}
 use Rattle.worker_messages.specs.Shown.{way_is, purpose_is, is_stopped, marked, IsShown, IsAtExchange}
 use Rattle.worker_messages.specs.Equipped.{MayGoOn, IsAtStep}
-use Rattle.worker_messages.specs.Told.{IsWrittenFor}
+use Rattle.worker_messages.specs.MessagesWritten.{IsWrittenFor}
 use Rattle.worker_exchange.specs.Received.{messages_to}
 use Rattle.exchange_counts.specs.declared.count.Count.{Count}
-use Rattle.histories.specs.Shares.{Share, share_of}
+use Rattle.worker_histories.specs.Shares.{Share, share_of}
 use Rattle.bsp_machine.specs.declared.counted.CountedWorker.{CountedWorker}
-use Rattle.bsp_machine.specs.declared.reserve.Reserve.{Reserve}
+use Rattle.run_options.specs.declared.reserve.Reserve.{Reserve}
 use Rattle.bsp_machine.specs.declared.sheet.Sheet.{Sheet}
 use Rattle.bsp_machine.specs.Reserves.{is_past, own_mark, IsReserved}
 use Rattle.bsp_machine.specs.Sheets.{messages_in, IsSheet}

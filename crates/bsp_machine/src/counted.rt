@@ -3,7 +3,7 @@
 ghost use Rattle.std.specs.Prelude.{◌≡◌, ◌<◌, ◌≤◌, ◌+◌, ◌^◌, ◌||◌, ◌⊎◌, ℕ, List, ℤ, length, true, false, Some, None, vec_capacity, ◌++◌, ◌∷◌, []};
 ghost use Rattle.std.specs.Prelude.{IfOk, IfErr, OnOk, OnErr, nat_le};
 ghost use Rattle.address_map.specs.Outcome.{IsWorkers};
-ghost use Rattle.superstep_code.specs.Code.{SuperstepCode};
+ghost use Rattle.superstep_instructions.specs.Code.{SuperstepCode};
 ghost use Rattle.superstep_machine.specs.declared.mark.HeaderMark.{HeaderMark as MarkOfHeader};
 ghost use Rattle.superstep_machine.specs.Run.{State, is_over as spec_is_over, opening, setting};
 ghost use Rattle.address_map.specs.Lawful.{Shape};
@@ -15,18 +15,18 @@ ghost use Rattle.worker_messages.specs.Equipped.{most_words, left, left_at, IsRu
 ghost use Rattle.worker_messages.specs.Opened.{IsAccepted, IsRefusal};
 ghost use Rattle.worker_messages.specs.Reached.{most_instructions};
 ghost use Rattle.worker_exchange.specs.Received.{mark_heard, is_marked};
-ghost use Rattle.histories.specs.Shares.{Share};
+ghost use Rattle.worker_histories.specs.Shares.{Share};
 ghost use Rattle.bsp_machine.specs.Workers.{count_of, share_at, state_behind, HasItems, IsBetween, IsStanding, IsReady};
 ghost use Rattle.bsp_machine.specs.Growing.{IsShortOfItems, IsFull};
 ghost use Rattle.bsp_machine.specs.Reserves.{is_past as spec_is_past};
 ghost use Rattle.bsp_machine.specs.Opening.{IsFresh};
 
-use crate::reserve::Reserve;
 use address_map::AddressMap;
 use exchange_counts::Count;
 use message_rows::{Column, Row};
+use run_options::Reserve;
 use std::alloc::{AllocError, Global};
-use superstep_code::Code;
+use superstep_instructions::Code;
 use superstep_machine::HeaderMark;
 use worker_exchange::{is_over, is_stopped, receive};
 use worker_messages::{Local, RunRefusal};

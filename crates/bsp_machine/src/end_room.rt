@@ -6,7 +6,7 @@ ghost use Rattle.bsp_machine.specs.Opening.{IsRoom};
 
 use exchange_counts::Count;
 use std::alloc::{AllocError, Global};
-use superstep_code::Code;
+use superstep_instructions::Code;
 
 /// Room for what a run comes to, taken before it: for the values of all cells, and for what each worker counts. So its end takes no
 /// memory. The room for the output grows in each worker, exchange by exchange; `items` is where that of worker 0 goes.

@@ -13,7 +13,6 @@ mod phase;
 mod phases;
 mod picked;
 mod plain;
-mod reserve;
 mod sheet;
 
 pub use collecting::collect;
@@ -21,4 +20,3 @@ pub use counted::CountedWorker;
 pub use end_room::EndRoom;
 pub use opening::open_all;
 pub use plain::run_plain;
-pub use reserve::Reserve;

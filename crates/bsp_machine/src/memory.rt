@@ -6,7 +6,7 @@ ghost use Rattle.bsp_machine.specs.Ended.{AreWide, memory_of};
 
 use crate::counted::CountedWorker;
 use address_map::AddressMap;
-use superstep_code::Code;
+use superstep_instructions::Code;
 
 /// Takes in the values of all cells of the layout, by number: each from the module that has it. There is room for them.
 pub(crate) fn take_memory<M: AddressMap>(

@@ -12,7 +12,7 @@ use crate::counted::CountedWorker;
 use crate::sheet::Sheet;
 use address_map::AddressMap;
 use std::alloc::{AllocError, Global};
-use superstep_code::Code;
+use superstep_instructions::Code;
 use worker_messages::RunRefusal;
 
 // One worker more.

@@ -10,7 +10,7 @@ ghost use Rattle.bsp_machine.specs.Ended.{AreWide, memory_of, verdict_in};
 use crate::counted::CountedWorker;
 use crate::memory::take_memory;
 use address_map::AddressMap;
-use superstep_code::Code;
+use superstep_instructions::Code;
 use superstep_machine::Key;
 use worker_messages::Way;
 use write_rules::{Fault, Outcome};

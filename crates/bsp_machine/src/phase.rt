@@ -6,7 +6,7 @@ ghost use Rattle.worker_messages.specs.Shown.{is_stopped, way_is};
 ghost use Rattle.worker_messages.specs.Equipped.{most_words, left, left_at, IsRunnable};
 ghost use Rattle.bsp_machine.specs.declared.counted.CountedWorker.{CountedWorker as Counted};
 ghost use Rattle.bsp_machine.specs.Workers.{AreBehind, AreAt, AreReady, MayAllGoOn, AreTogether, AreSheets};
-ghost use Rattle.bsp_machine.specs.declared.reserve.Reserve.{Reserve as Given};
+ghost use Rattle.run_options.specs.declared.reserve.Reserve.{Reserve as Given};
 ghost use Rattle.bsp_machine.specs.Reserves.{HaveReserve, AreGiven};
 ghost use Rattle.bsp_machine.specs.Ended.{left_first};
 
@@ -14,7 +14,7 @@ use crate::counted::CountedWorker;
 use crate::picked::Picked;
 use crate::sheet::Sheet;
 use address_map::AddressMap;
-use superstep_code::Code;
+use superstep_instructions::Code;
 use write_rules::WriteRule;
 
 // Each worker goes to its next exchange, and fills its row.

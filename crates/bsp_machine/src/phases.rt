@@ -3,7 +3,7 @@
 ghost use Rattle.std.specs.Prelude.{◌≡◌, List, ℤ, length, Option};
 ghost use Rattle.worker_messages.specs.Equipped.{most_words, IsRunnable};
 ghost use Rattle.bsp_machine.specs.Workers.{AreSheets};
-ghost use Rattle.bsp_machine.specs.declared.reserve.Reserve.{Reserve as Given};
+ghost use Rattle.run_options.specs.declared.reserve.Reserve.{Reserve as Given};
 ghost use Rattle.bsp_machine.specs.Reserves.{AreGiven};
 ghost use Rattle.bsp_machine.specs.Ended.{AreOnWay, AreRunning, IsFirstOver};
 
@@ -11,7 +11,7 @@ use crate::counted::CountedWorker;
 use crate::phase::phase;
 use crate::sheet::Sheet;
 use address_map::AddressMap;
-use superstep_code::Code;
+use superstep_instructions::Code;
 use worker_exchange::is_over;
 use write_rules::{RuleBody, WriteRule};
 
@@ -51,7 +51,7 @@ pub(crate) struct Phases<'a, M> {
 
 impl<'a, M: AddressMap> RuleBody for Phases<'a, M> {
     ghost use Rattle.std.specs.Prelude.{◌≡◌, List, ℤ, length, Option};
-    ghost use Rattle.bsp_machine.specs.declared.reserve.Reserve.{Reserve as Given};
+    ghost use Rattle.run_options.specs.declared.reserve.Reserve.{Reserve as Given};
     ghost use Rattle.bsp_machine.specs.Reserves.{AreGiven};
     ghost use Rattle.bsp_machine.specs.Ended.{AreRunning, IsFirstOver, CanRun};
 

@@ -7,7 +7,7 @@ ghost use Rattle.superstep_machine.specs.Trace.{AreBspExchanges};
 ghost use Rattle.bsp_verify.specs.WellFormed.{IsWellFormed};
 ghost use Rattle.worker_messages.specs.Equipped.{IsRunnable};
 ghost use Rattle.worker_messages.specs.Opened.{IsAccepted, IsRefusal};
-ghost use Rattle.bsp_machine.specs.declared.reserve.Reserve.{Reserve as Given};
+ghost use Rattle.run_options.specs.declared.reserve.Reserve.{Reserve as Given};
 ghost use Rattle.bsp_machine.specs.Reserves.{AreGiven};
 ghost use Rattle.bsp_machine.specs.Opening.{AreOpened};
 ghost use Rattle.bsp_machine.specs.Ended.{AreRunning, IsFirstOver};
@@ -21,7 +21,7 @@ use address_map::AddressMap;
 use bsp_verify::Verified;
 use exchange_counts::Counts;
 use std::alloc::{AllocError, Global};
-use superstep_code::Code;
+use superstep_instructions::Code;
 use worker_messages::RunRefusal;
 use write_rules::{Outcome, under};
 

@@ -6,9 +6,9 @@ use Rattle.std.proofs.lemmas.Bool.{cases_lt}
 use Rattle.std.proofs.lemmas.Bool.Decides.{nat_tests}
 use Rattle.std.proofs.lemmas.List.{append_assoc, append-nil, length-append, take-append-le}
 use Rattle.std.proofs.Math.Seq.{take-append-add}
-use Rattle.superstep_code.specs.declared.instr.Instr.{Instr}
-use Rattle.superstep_code.specs.declared.instr.Instr.TheVariants.{Jump, JumpIfZero, Halt}
-use Rattle.superstep_code.specs.Code.{SuperstepCode}
+use Rattle.superstep_instructions.specs.declared.instr.Instr.{Instr}
+use Rattle.superstep_instructions.specs.declared.instr.Instr.TheVariants.{Jump, JumpIfZero, Halt}
+use Rattle.superstep_instructions.specs.Code.{SuperstepCode}
 use Rattle.bsp_verify.specs.declared.state.State.{State}
 use Rattle.bsp_verify.specs.States.{opening, after}
 use Rattle.bsp_verify.specs.Control.{Leads, goes_on, IsReached}

@@ -1,10 +1,10 @@
 -- Worked code out of stretches.
 use Rattle.std.proofs.Common.{◌≡◌, ◌<◌, ◌++◌, length, false, Some, pos, refl, ap, subst, arith, inl, inr}
 use Rattle.std.specs.Prelude.{slice_get}
-use Rattle.superstep_code.specs.declared.instr.Arithmetic.TheVariants.{Subtract}
-use Rattle.superstep_code.specs.declared.instr.Side.TheVariants.{Uniform}
-use Rattle.superstep_code.specs.declared.instr.Instr.{Instr}
-use Rattle.superstep_code.specs.declared.instr.Instr.TheVariants.{Mark, Set, Calculate, Print, Jump, JumpIfZero, Halt}
+use Rattle.superstep_instructions.specs.declared.instr.Arithmetic.TheVariants.{Subtract}
+use Rattle.superstep_instructions.specs.declared.instr.Side.TheVariants.{Uniform}
+use Rattle.superstep_instructions.specs.declared.instr.Instr.{Instr}
+use Rattle.superstep_instructions.specs.declared.instr.Instr.TheVariants.{Mark, Set, Calculate, Print, Jump, JumpIfZero, Halt}
 use Rattle.bsp_verify.specs.States.{opening}
 use Rattle.bsp_verify.specs.Control.{goes_on, IsReached}
 use Rattle.bsp_verify.specs.WellFormed.{IsWellFormed}

@@ -1,8 +1,8 @@
 -- Where instructions lead.
 use Rattle.std.specs.Prelude.{◌≡◌, ℕ, ◌+◌, ◌<◌, Bool, true, false, Some, slice_get, ◌⊎◌}
-use Rattle.superstep_code.specs.declared.instr.Instr.{Instr}
-use Rattle.superstep_code.specs.declared.instr.Instr.TheVariants.{Jump, JumpIfZero, Halt}
-use Rattle.superstep_code.specs.Code.{SuperstepCode}
+use Rattle.superstep_instructions.specs.declared.instr.Instr.{Instr}
+use Rattle.superstep_instructions.specs.declared.instr.Instr.TheVariants.{Jump, JumpIfZero, Halt}
+use Rattle.superstep_instructions.specs.Code.{SuperstepCode}
 
 -- an instruction at a place has t as a successor
 abbrev pub Leads : Instr → ℕ → ℕ → Type 0

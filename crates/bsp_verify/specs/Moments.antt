@@ -1,9 +1,9 @@
 -- Runs of well-formed code at each instruction: the state of the place describes the worker.
 use Rattle.std.specs.Prelude.{◌≡◌, ℕ, zero, suc, ◌≤◌, List, length, Bool, true, false, Option, Some, None, ℤ, nat_lt, slice_get}
 use Rattle.std.specs.List.{AllByRecursion}
-use Rattle.superstep_code.specs.declared.instr.Side.{Side}
-use Rattle.superstep_code.specs.declared.instr.Side.TheVariants.{Uniform, Private}
-use Rattle.superstep_code.specs.declared.instr.Instr.{Instr}
+use Rattle.superstep_instructions.specs.declared.instr.Side.{Side}
+use Rattle.superstep_instructions.specs.declared.instr.Side.TheVariants.{Uniform, Private}
+use Rattle.superstep_instructions.specs.declared.instr.Instr.{Instr}
 use Rattle.superstep_machine.specs.Setting.{Setting, processors}
 use Rattle.superstep_machine.specs.Parts.{Read, UniformPart, PrivatePart}
 use Rattle.superstep_machine.specs.Worker.{Worker, after_instr}

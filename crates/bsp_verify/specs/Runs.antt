@@ -1,6 +1,6 @@
 -- Runs of well-formed code by the machine's definition: what is held and awaited where a worker comes to an exchange.
 use Rattle.std.specs.Prelude.{◌≡◌, ℕ, ◌+◌, ◌*◌, ◌≤◌, List, [], length, None, ℤ}
-use Rattle.superstep_code.specs.Code.{SuperstepCode}
+use Rattle.superstep_instructions.specs.Code.{SuperstepCode}
 use Rattle.superstep_machine.specs.Setting.{Setting, workers}
 use Rattle.superstep_machine.specs.Parts.{UniformPart}
 use Rattle.superstep_machine.specs.Worker.{Worker}

@@ -1,7 +1,7 @@
 -- The state of a place: what holds each time that a run comes there.
 use Rattle.std.specs.Prelude.{◌+◌, ◌-◌, true, false, nat_lt}
-use Rattle.superstep_code.specs.declared.instr.Instr.{Instr}
-use Rattle.superstep_code.specs.declared.instr.Instr.TheVariants.{Enter, Leave, Mask, Unmask, Ask, Put, Send, Reply}
+use Rattle.superstep_instructions.specs.declared.instr.Instr.{Instr}
+use Rattle.superstep_instructions.specs.declared.instr.Instr.TheVariants.{Enter, Leave, Mask, Unmask, Ask, Put, Send, Reply}
 use Rattle.bsp_verify.specs.declared.state.State.{State}
 
 -- in which a run begins

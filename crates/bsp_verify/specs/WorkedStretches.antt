@@ -1,11 +1,11 @@
 -- Worked code of three stretches: two registers are set, a loop counts one of them down, and it is printed.
 use Rattle.std.specs.Prelude.{List, [], ◌∷◌, ◌++◌, pos}
 use Rattle.pram_model.specs.declared.rule.Rule.TheVariants.{Crew}
-use Rattle.superstep_code.specs.declared.instr.Arithmetic.TheVariants.{Subtract}
-use Rattle.superstep_code.specs.declared.instr.Side.TheVariants.{Uniform}
-use Rattle.superstep_code.specs.declared.instr.Instr.{Instr}
-use Rattle.superstep_code.specs.declared.instr.Instr.TheVariants.{Mark, Set, Calculate, Print, Jump, JumpIfZero, Halt}
-use Rattle.superstep_code.specs.Code.{SuperstepCode}
+use Rattle.superstep_instructions.specs.declared.instr.Arithmetic.TheVariants.{Subtract}
+use Rattle.superstep_instructions.specs.declared.instr.Side.TheVariants.{Uniform}
+use Rattle.superstep_instructions.specs.declared.instr.Instr.{Instr}
+use Rattle.superstep_instructions.specs.declared.instr.Instr.TheVariants.{Mark, Set, Calculate, Print, Jump, JumpIfZero, Halt}
+use Rattle.superstep_instructions.specs.Code.{SuperstepCode}
 
 abbrev pub settings : List Instr
 settings = Set Uniform 0 (pos 3) ∷ Set Uniform 1 (pos 1) ∷ []

@@ -6,7 +6,7 @@ ghost use Rattle.bsp_verify.specs.States.{after};
 
 use crate::fault::Reason;
 use crate::state::State;
-use superstep_code::{Code, Instr, Side};
+use superstep_instructions::{Code, Instr, Side};
 
 /// Whether there is that register.
 fn is_register(code: &Code, side: Side, register: u16) -> bool

@@ -3,7 +3,6 @@
 
 mod fault;
 mod judge;
-pub mod law;
 mod paths_law;
 mod runs_law;
 mod state;
@@ -11,6 +10,7 @@ mod stretches_law;
 mod table;
 mod verified;
 mod verifier;
+pub mod verifier_laws;
 
 pub use fault::{Reason, VerifyFault};
 pub use state::State;

@@ -5,7 +5,7 @@ ghost use Rattle.bsp_verify.specs.Control.{Leads};
 ghost use Rattle.bsp_verify.specs.Table.{Adds, Clashes};
 
 use crate::state::State;
-use superstep_code::Instr;
+use superstep_instructions::Instr;
 
 /// Gives a place a state: false where it has another.
 fn give(table: &mut [Option<State>], to: usize, state: State) -> bool

@@ -4,7 +4,7 @@ ghost use Rattle.std.specs.Prelude.{◌≡◌};
 ghost use Rattle.bsp_verify.specs.WellFormed.{IsWellFormed};
 
 use std::marker::Model;
-use superstep_code::Code;
+use superstep_instructions::Code;
 
 /// Well-formed code.
 #[derive(Drop)]
@@ -13,7 +13,7 @@ pub struct Verified {
 }
 
 impl Model for Verified {
-    ghost use Rattle.superstep_code.specs.Code.{SuperstepCode};
+    ghost use Rattle.superstep_instructions.specs.Code.{SuperstepCode};
     ghost use Rattle.bsp_verify.specs.WellFormed.{IsWellFormed};
 
     ghost Value = { SuperstepCode };

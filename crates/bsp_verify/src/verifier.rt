@@ -11,7 +11,7 @@ use crate::state::State;
 use crate::table::pass_on;
 use crate::verified::Verified;
 use std::alloc::{AllocError, Global};
-use superstep_code::Code;
+use superstep_instructions::Code;
 
 /// Judges one instruction, and gives its successors their state.
 fn judge(code: &Code, table: &mut [Option<State>], at: u32) -> Option<Reason>

@@ -7,7 +7,7 @@ use bsp_machine::run_plain;
 use bsp_verify::{Verified, verify};
 use flat_run::flat_run;
 use std::alloc::Global;
-use superstep_listing::read_listing;
+use superstep_code::read_listing;
 use text_out::Buffer;
 use tracer::write_trace;
 use worker_messages::RunRefusal;

@@ -8,7 +8,7 @@ use crate::codes::{
 use flat_run::flat_run;
 use pram_values::{Kind, Place};
 use std::alloc::Global;
-use superstep_listing::read_listing;
+use superstep_code::read_listing;
 use write_rules::{Fault, Outcome};
 
 fn run(alloc: Global, text: &[u8], input: &[i64], bound: u32) -> Option<Outcome> {

@@ -3,7 +3,7 @@
 use bsp_verify::verify;
 use fusing::fuse;
 use std::alloc::Global;
-use superstep_listing::{read_listing, write_listing};
+use superstep_code::{read_listing, write_listing};
 use text_out::Buffer;
 
 // The listing of the fused code.

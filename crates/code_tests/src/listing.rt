@@ -3,8 +3,7 @@
 use crate::codes::BROADCAST;
 use pram_model::Rule;
 use std::alloc::Global;
-use superstep_code::{Instr, Side, Truth};
-use superstep_listing::{ListingFault, read_listing, write_listing};
+use superstep_code::{Instr, ListingFault, Side, Truth, read_listing, write_listing};
 use text_out::Buffer;
 
 // Each word of the format, with its greatest operands once.

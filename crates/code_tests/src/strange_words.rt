@@ -11,8 +11,7 @@ use address_map::{AddressMap, Identity};
 use bsp_machine::CountedWorker;
 use bsp_verify::verify;
 use std::alloc::Global;
-use superstep_code::Code;
-use superstep_listing::read_listing;
+use superstep_code::{Code, read_listing};
 use write_rules::{RuleBody, WriteRule, under};
 
 // Worker 0 of two goes through an exchange, at which that comes to it.

@@ -3,7 +3,7 @@
 use address_map::MapFault;
 use bsp_verify::{Reason, VerifyFault};
 use std::test::Fail;
-use superstep_listing::ListingFault;
+use superstep_code::ListingFault;
 
 const MAPS: [(MapFault, &str); 2] = [
     (MapFault::BadMap, "E12 BadMap"),

@@ -3,7 +3,7 @@
 use crate::codes::BROADCAST;
 use bsp_verify::{Reason, VerifyFault, verify};
 use std::alloc::Global;
-use superstep_listing::read_listing;
+use superstep_code::read_listing;
 
 fn read_and_verify(alloc: Global, text: &[u8]) -> Option<Result<(), VerifyFault>> {
     let code = read_listing(alloc, text).ok()?;

@@ -3,12 +3,12 @@ use Rattle.std.specs.Prelude.{◌≡◌, ◌||◌, ℕ, List, Option, Bool, true
 use Rattle.text_out.specs.Out.{OutState}
 use Rattle.program_texts.specs.declared.status.Status.{Status}
 use Rattle.program_texts.specs.declared.stop.Stop.{Stop}
-use Rattle.requests.specs.Words.{AsksForVersion, IsOfWords, asks_for_json, asks_to_explain}
-use Rattle.requests.specs.declared.request.Request.{Request}
-use Rattle.requests.specs.declared.request.Request.TheVariants as request
-use Rattle.pramc_command.specs.Left.{Leaves}
-use Rattle.pramc_command.specs.declared.terminal.Terminal.{Terminal}
-use Rattle.json_command.specs.Left.{LeavesJson}
+use Rattle.command_requests.specs.Words.{AsksForVersion, IsOfWords, asks_for_json, asks_to_explain}
+use Rattle.command_requests.specs.declared.request.Request.{Request}
+use Rattle.command_requests.specs.declared.request.Request.TheVariants as request
+use Rattle.command_text.specs.Left.{Leaves}
+use Rattle.command_text.specs.declared.terminal.Terminal.{Terminal}
+use Rattle.command_json.specs.Left.{LeavesJson}
 
 -- the streams of a call: what is refused, and a fault, is explained where standard error is a terminal or a word asks for it
 abbrev pub explaining : Terminal → List (List ℕ) → Terminal

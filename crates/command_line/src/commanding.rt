@@ -4,15 +4,15 @@ ghost use Rattle.std.specs.Prelude.{◌≡◌, ◌<◌, ◌^◌, map};
 ghost use Rattle.std.specs.String.{string_bytes};
 ghost use Rattle.command_line.specs.Command as spec;
 
+use command_json::answer_in_json;
+use command_requests::{asks_for_json, asks_to_explain};
+use command_text::{Terminal, answer};
 use command_words::read_words;
-use json_command::answer_in_json;
-use pram_syntax::Out;
-use pramc_command::{Terminal, answer};
 use program_texts::{Sources, Status};
-use requests::{asks_for_json, asks_to_explain};
 use std::alloc::Global;
 use std::sync::Wait;
 use std::thread::Threads;
+use text_out::Out;
 
 // The streams of the call, of which standard error has explanations where it is a terminal or a word asks for them.
 fn explaining(terminal: Terminal, words: &[String]) -> Terminal
@@ -28,8 +28,8 @@ fn explaining(terminal: Terminal, words: &[String]) -> Terminal
 /// Does what the words behind the program's name ask for, in words or as JSON, and answers the exit status.
 ///
 /// What the words ask for is said by [`read_words`](command_words::read_words), and whether in JSON by
-/// [`asks_for_json`](requests::asks_for_json); what is done then by [`answer`](pramc_command::answer) and
-/// [`answer_in_json`](json_command::answer_in_json). In words a refusal and a fault are explained where standard error is a terminal or one
+/// [`asks_for_json`](command_requests::asks_for_json); what is done then by [`answer`](command_text::answer) and
+/// [`answer_in_json`](command_json::answer_in_json). In words a refusal and a fault are explained where standard error is a terminal or one
 /// of the words is `--explain`.
 pub fn command<R: Threads + Wait + Sync, S: Sources, O: Out, E: Out>(
     rt: &R,

@@ -1,7 +1,7 @@
 //! The words that the program takes, and its help.
 
 use clap::{Arg, ArgAction, Command};
-use requests::VERSION;
+use command_requests::VERSION;
 use std::alloc::{AllocError, Global};
 
 pub(crate) const FILE: &str = "FILE";

@@ -3,20 +3,18 @@
 ghost use Rattle.std.specs.Prelude.{◌≡◌, ◌<◌, IfOk, IfErr, map};
 ghost use Rattle.std.specs.Option.{ForSome};
 ghost use Rattle.std.specs.String.{string_bytes};
-ghost use Rattle.requests.specs.Words.{AsksForVersion, IsOfWords};
+ghost use Rattle.command_requests.specs.Words.{AsksForVersion, IsOfWords};
 
 use crate::grammar::{
     BOUND, FILE, FORMAT, FROM, HTML, INPUT, LINES, MAP, RESERVE, SCHEDULE, SVG, TO, WORD, WORKERS,
     grammar,
 };
-use bsp_machine::Reserve;
 use clap::ArgMatches;
 use clap::error::ErrorKind;
+use command_requests::{CostWords, Request, RunWords, StepWords, Verb, asks_for_version};
 use explanations::subject_of;
-use pramc::Options;
 use program_texts::{Refusal, Stop};
-use requests::{CostWords, Request, RunWords, StepWords, Verb, asks_for_version};
-use run_options::{MapChoice, read_map, read_number, read_pair};
+use run_options::{MapChoice, Options, Reserve, read_map, read_number, read_pair};
 use std::alloc::Global;
 
 // The number of an option, and 0 where the command has no such option.

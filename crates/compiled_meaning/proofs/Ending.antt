@@ -5,16 +5,16 @@ use Rattle.std.proofs.lemmas.List.{ext_get_or}
 use Rattle.std.proofs.lemmas.List.FromFn.{get_or-map-range_with_len, length-map-range_with_len}
 use Rattle.pram_model.specs.Layout.{total_size}
 use Rattle.write_rules.specs.Verdict.{Verdict, Ended}
-use Rattle.superstep_code.specs.declared.instr.Instr.TheVariants.{Halt}
+use Rattle.superstep_instructions.specs.declared.instr.Instr.TheVariants.{Halt}
 use Rattle.superstep_machine.specs.Run.{items, is_held}
 use Rattle.pram_check.specs.Checked.{Checked}
 use Rattle.pram_meaning.specs.Store.{State}
 use Rattle.flat_machine.specs.Flat.{Flat, cells}
-use Rattle.stretches.specs.Along.{Run, IsAt}
-use Rattle.stretches.specs.Applied.{applied, IsBare}
-use Rattle.stretches.specs.Folds.{MayHold}
-use Rattle.stretches.specs.Closes.{ComesOut, close_cost}
-use Rattle.stretches.proofs.Closes.{halts_end}
+use Rattle.flat_stretches.specs.Along.{Run, IsAt}
+use Rattle.flat_stretches.specs.Applied.{applied, IsBare}
+use Rattle.flat_stretches.specs.Folds.{MayHold}
+use Rattle.flat_stretches.specs.Closes.{ComesOut, close_cost}
+use Rattle.flat_stretches.proofs.Closes.{halts_end}
 use Rattle.exchange_bound.specs.Bound.{one_if}
 use Rattle.statement_runs.specs.Between.{IsRunOf}
 use Rattle.outside_runs.specs.Without.{IsWithout}

@@ -3,7 +3,7 @@ use Rattle.std.proofs.Common.{◌≡◌, ℕ, zero, suc, ◌+◌, ◌-◌, ◌�
 use Rattle.std.proofs.Common.{subst, arith, slice_get, Some}
 use Rattle.std.proofs.lemmas.List.{length-replicate, length-append}
 use Rattle.pram_model.specs.Layout.{total_size}
-use Rattle.superstep_code.specs.declared.instr.Instr.{Instr}
+use Rattle.superstep_instructions.specs.declared.instr.Instr.{Instr}
 use Rattle.pram_check.specs.Checked.{Checked}
 use Rattle.pram_meaning.specs.Outcome as meaning
 use Rattle.pram_meaning.specs.Values.{HasValues}
@@ -11,12 +11,12 @@ use Rattle.pram_meaning.proofs.SoundValues.{all_append, zeros_are}
 use Rattle.pram_meaning.specs.Values.{IsValue}
 use Rattle.flat_machine.specs.Flat as flat
 use Rattle.flat_machine.specs.Flat.{Flat}
-use Rattle.stretches.specs.Along.{Run}
-use Rattle.stretches.specs.Folds.{Stand}
-use Rattle.stretches.proofs.Along.{runs_begin}
-use Rattle.stretches.proofs.Applied.{bare_is_applied}
-use Rattle.stretches.proofs.Statements.{runs_begin_at_rest}
-use Rattle.formula_values.specs.Outside.{ShowsOutside}
+use Rattle.flat_stretches.specs.Along.{Run}
+use Rattle.flat_stretches.specs.Folds.{Stand}
+use Rattle.flat_stretches.proofs.Along.{runs_begin}
+use Rattle.flat_stretches.proofs.Applied.{bare_is_applied}
+use Rattle.flat_stretches.proofs.Statements.{runs_begin_at_rest}
+use Rattle.compiled_formulas.specs.Outside.{ShowsOutside}
 use Rattle.statement_runs.specs.Between.{HasSizes}
 use Rattle.outside_runs.specs.Without.{IsWithout}
 use Rattle.compiled_meaning.specs.PlainForm.{IsInputFor}

@@ -1,7 +1,7 @@
 -- The code of a program has the program's outcomes.
 use Rattle.std.proofs.Common.{◌≡◌, ◌↔◌, ℕ, ◌+◌, ◌≤◌, List, [], ◌∷◌, length, Bool, false, ℤ, refl, sym, subst, ◌∙◌, ap, arith}
-use Rattle.superstep_code.specs.declared.instr.Instr.{Instr}
-use Rattle.superstep_code.specs.declared.instr.Instr.TheVariants.{Halt}
+use Rattle.superstep_instructions.specs.declared.instr.Instr.{Instr}
+use Rattle.superstep_instructions.specs.declared.instr.Instr.TheVariants.{Halt}
 use Rattle.write_rules.specs.Verdict.{Verdict, Ended, GoesOn}
 use Rattle.address_map.specs.Lawful.{Shape}
 use Rattle.superstep_machine.specs.Run.{IsBspOutcome}
@@ -22,10 +22,10 @@ use Rattle.flat_machine.specs.Verdicts.{ends_statement}
 use Rattle.flat_machine.proofs.Laws.{workers_are_flat}
 use Rattle.flat_machine.proofs.Outcomes.{one_outcome}
 use Rattle.fusing.specs.Fusing.{IsFaultless}
-use Rattle.stretches.specs.Along.{Run, IsAt}
-use Rattle.stretches.specs.Tells.{ends}
-use Rattle.stretches.specs.Closes.{ComesOut}
-use Rattle.stretches.proofs.Joins.{stands_split}
+use Rattle.flat_stretches.specs.Along.{Run, IsAt}
+use Rattle.flat_stretches.specs.Tells.{ends}
+use Rattle.flat_stretches.specs.Closes.{ComesOut}
+use Rattle.flat_stretches.proofs.Joins.{stands_split}
 use Rattle.plain_form.specs.PlainForm.{form_of}
 use Rattle.plain_form.specs.Registers.{behind_variables}
 use Rattle.plain_form.specs.Outside.{statements_code, statements_left}

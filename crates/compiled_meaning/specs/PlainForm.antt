@@ -3,7 +3,7 @@ use Rattle.std.specs.Prelude.{◌≡◌, ◌↔◌, ℕ, ◌≤◌, List, length
 use Rattle.pram_model.specs.Layout.{total_size}
 use Rattle.write_rules.specs.Verdict.{Verdict}
 use Rattle.address_map.specs.Lawful.{Shape}
-use Rattle.superstep_code.specs.Code.{SuperstepCode}
+use Rattle.superstep_instructions.specs.Code.{SuperstepCode}
 use Rattle.superstep_machine.specs.Run.{IsBspOutcome}
 use Rattle.flat_machine.specs.Flatness.{IsMapFor}
 use Rattle.flat_machine.specs.Exchanges.{exchanges_of, but_empty}

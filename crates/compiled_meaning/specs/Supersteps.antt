@@ -2,7 +2,7 @@
 use Rattle.std.specs.Prelude.{ℕ, ◌≤◌, List, length, Bool, ℤ}
 use Rattle.write_rules.specs.Verdict.{Verdict}
 use Rattle.address_map.specs.Lawful.{Shape}
-use Rattle.superstep_code.specs.Code.{SuperstepCode}
+use Rattle.superstep_instructions.specs.Code.{SuperstepCode}
 use Rattle.superstep_machine.specs.Trace.{Exchange, AreBspExchanges}
 use Rattle.flat_machine.specs.Flatness.{IsMapFor}
 use Rattle.fusing.specs.Fusing.{Fuses, IsFaultless}

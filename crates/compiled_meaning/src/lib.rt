@@ -1,4 +1,4 @@
 //! That compiled code means what its program means.
 #![tactic(auto)]
 
-pub mod law;
+pub mod compiled_laws;

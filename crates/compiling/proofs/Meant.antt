@@ -1,10 +1,10 @@
 -- The code of a program within bounds means what the program means.
 use Rattle.std.proofs.Common.{true}
-use Rattle.superstep_code.specs.Code.{SuperstepCode}
+use Rattle.superstep_instructions.specs.Code.{SuperstepCode}
 use Rattle.pram_check.specs.Checked.{Checked}
 use Rattle.pram_check.specs.Bounded.{IsBounded}
 use Rattle.plain_form.specs.PlainForm.{form_of}
-use Rattle.formed_code.proofs.ProgramsFormed.{forms_are_well_formed}
+use Rattle.verified_form.proofs.ProgramsFormed.{forms_are_well_formed}
 use Rattle.fusing.proofs.Fused.{all_fuse}
 use Rattle.outside_runs.proofs.Followed.{statements_are_followed}
 use Rattle.compiled_meaning.specs.Supersteps.{IsFusedForm}

@@ -1,6 +1,6 @@
 -- What a program, and a text, is compiled to.
 use Rattle.std.specs.Prelude.{◌≡◌, ℕ, List, true}
-use Rattle.superstep_code.specs.Code.{SuperstepCode}
+use Rattle.superstep_instructions.specs.Code.{SuperstepCode}
 use Rattle.pram_check.specs.Checked.{Checked}
 use Rattle.pram_check.specs.Bounded.{IsBounded}
 use Rattle.plain_form.specs.PlainForm.{form_of}

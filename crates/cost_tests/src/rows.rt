@@ -2,8 +2,7 @@
 
 use cost_texts::{write_cost, write_lines};
 use pram_check::check;
-use pram_parser::parse;
-use pram_syntax::Buffer;
+use pram_syntax::{Buffer, parse};
 use std::alloc::Global;
 use work_time::cost_of;
 

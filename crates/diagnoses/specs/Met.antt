@@ -1,8 +1,8 @@
 -- Who met at the cell at which a run faults.
 use Rattle.std.specs.Prelude.{ℕ, ℤ, List, [], ◌∷◌}
 use Rattle.pram_check.specs.Checked.{Checked}
-use Rattle.run_entries.specs.Entries.{Entry, Ran, Faulting}
-use Rattle.run_steps.specs.Entries.{run_entries}
+use Rattle.step_entries.specs.Entries.{Entry, Ran, Faulting}
+use Rattle.step_journal.specs.Entries.{run_entries}
 
 -- those that met at the first fault that is told
 abbrev pub met_in : List Entry → List ℤ

@@ -6,7 +6,7 @@ use Rattle.pram_names.specs.declared.fault.Cause.TheVariants as cause
 use Rattle.pram_names.specs.declared.fault.Spot.{Spot}
 use Rattle.pram_names.specs.declared.fault.Spot.TheVariants as spot
 use Rattle.pram_names.specs.declared.fault.Breach.{Breach}
-use Rattle.pram_syntax.specs.Program.{ProgramTree}
+use Rattle.pram_trees.specs.Program.{ProgramTree}
 use Rattle.scope_names.specs.InScope.{Known, names_at}
 use Rattle.scope_names.specs.Nearness.{named, nearest}
 use Rattle.scope_names.specs.declared.known.Sort.{Sort}

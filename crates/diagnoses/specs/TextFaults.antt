@@ -5,7 +5,7 @@ use Rattle.pram_tokens.specs.declared.error.TextFault.{TextFault}
 use Rattle.pram_tokens.specs.declared.error.TextFault.TheVariants as fault
 use Rattle.text_places.specs.Excerpts.{excerpt}
 use Rattle.token_choices.specs.declared.choice.Choice.{Choice}
-use Rattle.token_choices.specs.Told.{choices_text}
+use Rattle.token_choices.specs.ChoiceTexts.{choices_text}
 use Rattle.diagnoses.specs.declared.source.Kind.{Kind}
 use Rattle.diagnoses.specs.declared.source.Kind.TheVariants as kind
 use Rattle.diagnoses.specs.declared.source.Source.{Source}

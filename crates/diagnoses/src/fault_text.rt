@@ -6,7 +6,7 @@ ghost use Rattle.diagnoses.specs.FaultTexts as spec;
 
 use crate::source::Source;
 use itoa::Buffer;
-use pram_syntax::Layout;
+use pram_trees::Layout;
 use pram_values::{Kind, Place};
 use program_texts::{write_cell, write_values};
 use text_out::{Out, WriteFault};

@@ -1,13 +1,13 @@
 //! Who met at a fault.
 
 ghost use Rattle.std.specs.Prelude.{◌≡◌, IfSome, IfOk, map};
-ghost use Rattle.run_entries.specs.Entries.{entry_is};
+ghost use Rattle.step_entries.specs.Entries.{entry_is};
 ghost use Rattle.diagnoses.specs.Met as spec;
 
 use pram_check::Program;
-use run_entries::Entry;
-use run_steps::steps_of;
 use std::alloc::{AllocError, Global};
+use step_entries::Entry;
+use step_journal::steps_of;
 
 // Those that met at the first fault that is told.
 fn met_in(alloc: Global, entries: &[Entry]) -> Result<Vec<i64>, AllocError>

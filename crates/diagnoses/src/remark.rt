@@ -2,7 +2,7 @@
 
 ghost use Rattle.std.specs.Prelude.{◌≡◌, List, ℕ, IfOk, Err, map};
 ghost use Rattle.std.specs.Option.{option_map};
-ghost use Rattle.pram_syntax.specs.Program.{ProgramTree};
+ghost use Rattle.pram_trees.specs.Program.{ProgramTree};
 ghost use Rattle.pram_parser.specs.Text.{IsTextOf};
 ghost use Rattle.scope_names.specs.InScope.{known_is};
 ghost use Rattle.scope_names.specs.InScope as scope;
@@ -11,8 +11,8 @@ ghost use Rattle.diagnoses.specs.Remarks as spec;
 use crate::places::{front, token_at};
 use pram_check::{Breach, Cause, Spot};
 use pram_parser::parse;
-use pram_syntax::Tree;
 use pram_tokens::LONGEST;
+use pram_trees::Tree;
 use scope_names::{Known, Sort, find, names_at, nearest};
 use std::alloc::{AllocError, Global};
 use token_choices::{Choice, choices_behind};

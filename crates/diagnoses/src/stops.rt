@@ -13,7 +13,7 @@ use crate::source::Source;
 use crate::text_faults::write_text_fault;
 use itoa::Buffer;
 use pram_check::Breach;
-use pram_syntax::TextFault;
+use pram_trees::TextFault;
 use program_texts::{Refusal, Stop};
 use std::alloc::Global;
 use text_out::{Out, WriteFault};

@@ -9,7 +9,7 @@ use crate::places::{byte_at, token_at, write_quoted};
 use crate::remark::Remark;
 use crate::source::{Kind, Source};
 use itoa::Buffer;
-use pram_syntax::TextFault;
+use pram_trees::TextFault;
 use text_out::{Out, WriteFault};
 use text_places::write_excerpt;
 use token_choices::{Choice, write_choices};

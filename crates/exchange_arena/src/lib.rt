@@ -3,10 +3,10 @@
 
 mod block;
 mod deed;
-mod law;
 mod piece;
+mod piece_laws;
 mod run;
 
 pub use block::{Block, MAX_SIDE};
-pub use law::pieces_stand_in_order;
 pub use piece::{Header, MAX_ROOM, Piece};
+pub use piece_laws::pieces_stand_in_order;

@@ -1,4 +1,4 @@
 //! How many exchanges a program's run takes, at most, as a definition.
 #![tactic(auto)]
 
-pub mod law;
+pub mod bound_laws;

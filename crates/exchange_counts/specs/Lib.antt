@@ -1,3 +1,3 @@
 pub mod Columns
-pub mod Told
+pub mod CountedExchanges
 pub mod CountsFields

@@ -4,7 +4,7 @@ ghost use Rattle.std.specs.Prelude.{◌≡◌, ◌≤◌, ◌<◌, ℕ, length, 
 ghost use Rattle.superstep_machine.specs.Trace.{relation_of};
 ghost use Rattle.worker_messages.specs.Shown.{purpose_is};
 ghost use Rattle.exchange_counts.specs.Columns.{columns_of, AreColumns};
-ghost use Rattle.exchange_counts.specs.Told.{exchanges_told, exchange_at};
+ghost use Rattle.exchange_counts.specs.CountedExchanges.{exchanges_told, exchange_at};
 
 use crate::count::Count;
 use std::marker::Model;

@@ -2,8 +2,8 @@
 #![tactic(auto)]
 
 mod count;
+pub mod count_laws;
 mod counts;
-pub mod law;
 
 pub use count::Count;
 pub use counts::Counts;

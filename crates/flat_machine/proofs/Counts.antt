@@ -10,11 +10,11 @@ use Rattle.pram_values.specs.declared.place.Place.TheVariants.{Processor}
 use Rattle.pram_values.specs.Value.{Value}
 use Rattle.pram_values.specs.Total.{total}
 use Rattle.write_rules.specs.Rule.{shares_reads}
-use Rattle.superstep_code.specs.declared.instr.Side.TheVariants.{Uniform, Private}
-use Rattle.superstep_code.specs.declared.instr.Instr.{Instr}
-use Rattle.superstep_code.specs.declared.instr.Instr.TheVariants.{Mark, Ask, Put, Print}
+use Rattle.superstep_instructions.specs.declared.instr.Side.TheVariants.{Uniform, Private}
+use Rattle.superstep_instructions.specs.declared.instr.Instr.{Instr}
+use Rattle.superstep_instructions.specs.declared.instr.Instr.TheVariants.{Mark, Ask, Put, Print}
 use Rattle.superstep_machine.specs.declared.key.Key.{Key}
-use Rattle.superstep_code.specs.Code.{SuperstepCode}
+use Rattle.superstep_instructions.specs.Code.{SuperstepCode}
 use Rattle.superstep_machine.specs.Keys.{is_first, least}
 use Rattle.superstep_machine.specs.Parts.{Moment, Read, UniformPart, PrivatePart}
 use Rattle.superstep_machine.specs.Results.{position_of}

@@ -9,11 +9,11 @@ use Rattle.pram_values.specs.Total.{IsMonoid, total}
 use Rattle.pram_values.proofs.Totals.{total_same, total_map, total_within, neutral_right, total_both, total_joined, total_at, total_parts}
 use Rattle.pram_values.proofs.Totals.{total_again}
 use Rattle.write_rules.specs.declared.entry.Entry.{Entry}
-use Rattle.superstep_code.specs.declared.instr.Side.TheVariants.{Uniform, Private}
-use Rattle.superstep_code.specs.declared.instr.Instr.{Instr}
-use Rattle.superstep_code.specs.declared.instr.Instr.TheVariants.{Enter, Leave, Ask}
+use Rattle.superstep_instructions.specs.declared.instr.Side.TheVariants.{Uniform, Private}
+use Rattle.superstep_instructions.specs.declared.instr.Instr.{Instr}
+use Rattle.superstep_instructions.specs.declared.instr.Instr.TheVariants.{Enter, Leave, Ask}
 use Rattle.superstep_machine.specs.declared.key.Key.{Key}
-use Rattle.superstep_code.specs.Code.{SuperstepCode}
+use Rattle.superstep_instructions.specs.Code.{SuperstepCode}
 use Rattle.superstep_machine.specs.Keys.{least}
 use Rattle.superstep_machine.specs.Setting.{Setting, workers, processors}
 use Rattle.superstep_machine.specs.Parts.{Read, UniformPart, PrivatePart, fresh}

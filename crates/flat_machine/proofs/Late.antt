@@ -9,11 +9,11 @@ use Rattle.pram_values.specs.Truth.{is_nonzero}
 use Rattle.pram_values.proofs.Totals.{neutral_right, total_none}
 use Rattle.write_rules.specs.Rule.{shares_reads}
 use Rattle.write_rules.specs.Verdict.{Verdict, Faulted}
-use Rattle.superstep_code.specs.declared.instr.Side.TheVariants.{Uniform, Private}
-use Rattle.superstep_code.specs.declared.instr.Instr.{Instr}
-use Rattle.superstep_code.specs.declared.instr.Instr.TheVariants.{Mark, Ask, Put, Print, Send, Reply, Vote, Jump, JumpIfZero, Halt}
+use Rattle.superstep_instructions.specs.declared.instr.Side.TheVariants.{Uniform, Private}
+use Rattle.superstep_instructions.specs.declared.instr.Instr.{Instr}
+use Rattle.superstep_instructions.specs.declared.instr.Instr.TheVariants.{Mark, Ask, Put, Print, Send, Reply, Vote, Jump, JumpIfZero, Halt}
 use Rattle.superstep_machine.specs.declared.key.Key.{Key}
-use Rattle.superstep_code.specs.Code.{SuperstepCode}
+use Rattle.superstep_instructions.specs.Code.{SuperstepCode}
 use Rattle.superstep_machine.specs.Keys.{least}
 use Rattle.superstep_machine.specs.Parts.{Moment}
 use Rattle.superstep_machine.specs.Run.{Sends, Way, On, Past, is_held, due, unless, decided, items_below, fault_of}

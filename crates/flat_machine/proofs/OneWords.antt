@@ -9,8 +9,8 @@ use Rattle.pram_values.proofs.Totals.{total_within}
 use Rattle.write_rules.specs.Verdict.{Verdict}
 use Rattle.superstep_machine.specs.declared.mark.HeaderMark.{HeaderMark}
 use Rattle.superstep_machine.specs.declared.mark.HeaderMark.TheVariants.{Clear, OutOfMemory, OutOfReserve}
-use Rattle.superstep_code.specs.declared.instr.Instr.{Instr}
-use Rattle.superstep_code.specs.declared.instr.Instr.TheVariants.{Mark, Send, Reply, Vote, Jump, JumpIfZero, Halt}
+use Rattle.superstep_instructions.specs.declared.instr.Instr.{Instr}
+use Rattle.superstep_instructions.specs.declared.instr.Instr.TheVariants.{Mark, Send, Reply, Vote, Jump, JumpIfZero, Halt}
 use Rattle.superstep_machine.specs.Setting.{Setting, workers}
 use Rattle.superstep_machine.specs.Words.{Message, words}
 use Rattle.superstep_machine.specs.Worker.{Worker, after_instr}

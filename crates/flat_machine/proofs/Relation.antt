@@ -4,7 +4,7 @@ use Rattle.std.specs.Prelude.{slice_index_or}
 use Rattle.std.specs.List.{filter, list_any, range_with_len}
 use Rattle.pram_model.specs.Layout.{total_size}
 use Rattle.pram_values.specs.Total.{total}
-use Rattle.superstep_code.specs.Code.{SuperstepCode}
+use Rattle.superstep_instructions.specs.Code.{SuperstepCode}
 use Rattle.superstep_machine.specs.Keys.{least}
 use Rattle.superstep_machine.specs.Setting.{Setting, workers, processors, module_cells}
 use Rattle.superstep_machine.specs.Parts.{Read}

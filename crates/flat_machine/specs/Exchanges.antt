@@ -1,7 +1,7 @@
 -- The exchanges of a flat run, each with what it is for, and whether anything was held there.
 use Rattle.std.specs.Prelude.{ℕ, zero, suc, ◌+◌, ◌*◌, List, [], ◌∷◌, ◌++◌, length, Bool, true, false, not, ◌&&◌, ◌||◌, ℤ, if◌then◌else◌}
 use Rattle.std.specs.Prelude.{slice_get}
-use Rattle.superstep_code.specs.Code.{SuperstepCode}
+use Rattle.superstep_instructions.specs.Code.{SuperstepCode}
 use Rattle.superstep_machine.specs.Parts.{Read, UniformPart}
 use Rattle.superstep_machine.specs.Run.{Purpose, Sends, Replies, Votes, Closes, Way, On, is_held}
 use Rattle.superstep_machine.specs.Sending.{uniform_sent}

@@ -10,9 +10,9 @@ use Rattle.pram_values.specs.Total.{total}
 use Rattle.pram_values.specs.Truth.{truth}
 use Rattle.write_rules.specs.declared.entry.Entry.{Entry}
 use Rattle.write_rules.specs.Rule.{shares_reads}
-use Rattle.superstep_code.specs.declared.instr.Instr.{Instr}
+use Rattle.superstep_instructions.specs.declared.instr.Instr.{Instr}
 use Rattle.superstep_machine.specs.declared.key.Key.{Key}
-use Rattle.superstep_code.specs.Code.{SuperstepCode}
+use Rattle.superstep_instructions.specs.Code.{SuperstepCode}
 use Rattle.superstep_machine.specs.Keys.{least}
 use Rattle.superstep_machine.specs.Setting.{combining}
 use Rattle.superstep_machine.specs.Parts.{set_register, Read, UniformPart, PrivatePart, opening_part, fresh}

@@ -3,7 +3,7 @@ use Rattle.std.specs.Prelude.{◌≡◌, ℕ, ◌≤◌, map, ℤ, List, Some}
 use Rattle.pram_model.specs.Layout.{total_size}
 use Rattle.write_rules.specs.Verdict.{Verdict}
 use Rattle.address_map.specs.Lawful.{Shape, IsLawful}
-use Rattle.superstep_code.specs.Code.{SuperstepCode}
+use Rattle.superstep_instructions.specs.Code.{SuperstepCode}
 use Rattle.superstep_machine.specs.Setting.{Setting}
 use Rattle.superstep_machine.specs.Run.{IsBspOutcome}
 use Rattle.superstep_machine.specs.Run as workers

@@ -2,7 +2,7 @@
 use Rattle.std.specs.Prelude.{◌≡◌, ℕ, List, map, Some, ℤ}
 use Rattle.write_rules.specs.Verdict.{Verdict}
 use Rattle.address_map.specs.Lawful.{Shape}
-use Rattle.superstep_code.specs.Code.{SuperstepCode}
+use Rattle.superstep_instructions.specs.Code.{SuperstepCode}
 use Rattle.superstep_machine.specs.Run.{Purpose}
 use Rattle.superstep_machine.specs.Trace.{AreBspExchanges}
 use Rattle.superstep_machine.specs.Trace as workers

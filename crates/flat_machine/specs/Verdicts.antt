@@ -2,10 +2,10 @@
 use Rattle.std.specs.Prelude.{◌≡◌, ℕ, ◌+◌, ◌*◌, ◌<◌, ◌≤◌, List, length, Bool, true, false, Option, Some, ℤ, slice_get}
 use Rattle.write_rules.specs.Verdict.{Verdict, Faulted}
 use Rattle.address_map.specs.Lawful.{Shape}
-use Rattle.superstep_code.specs.declared.instr.Instr.{Instr}
-use Rattle.superstep_code.specs.declared.instr.Instr.TheVariants.{Mark, Halt}
+use Rattle.superstep_instructions.specs.declared.instr.Instr.{Instr}
+use Rattle.superstep_instructions.specs.declared.instr.Instr.TheVariants.{Mark, Halt}
 use Rattle.superstep_machine.specs.declared.key.Key.{Key}
-use Rattle.superstep_code.specs.Code.{SuperstepCode}
+use Rattle.superstep_instructions.specs.Code.{SuperstepCode}
 use Rattle.superstep_machine.specs.Keys.{least}
 use Rattle.superstep_machine.specs.Run.{IsBspOutcome, On, fault_of, items_below}
 use Rattle.bsp_verify.specs.WellFormed.{IsWellFormed}

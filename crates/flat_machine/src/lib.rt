@@ -2,6 +2,6 @@
 #![tactic(auto)]
 
 mod control_law;
+pub mod flat_laws;
 mod flatness_law;
-pub mod law;
 mod verdict_law;

@@ -9,11 +9,11 @@ use Rattle.write_rules.specs.declared.entry.Entry.{Entry}
 use Rattle.superstep_machine.specs.Parts.{Registers, Read}
 use Rattle.superstep_machine.specs.Sending.{verdict_on, settled}
 use Rattle.superstep_machine.specs.Answering.{answer, answers, destinations}
-use Rattle.superstep_steps.specs.declared.read.Read.{Read as HeldRead}
-use Rattle.superstep_steps.specs.Views.{registers_of, read_is}
+use Rattle.instruction_steps.specs.declared.read.Read.{Read as HeldRead}
+use Rattle.instruction_steps.specs.Views.{registers_of, read_is}
 use Rattle.flat_run.specs.Views.{held_of}
 use Rattle.flat_run.proofs.ListLemmas.{split_at, drop_all, at_or_before, below_or_past}
-use Rattle.superstep_steps.proofs.RegisterLemmas.{set_is}
+use Rattle.instruction_steps.proofs.RegisterLemmas.{set_is}
 
 -- ---- a send
 

@@ -3,13 +3,13 @@ use Rattle.std.proofs.Common.{◌≡◌, ℕ, zero, suc, ◌+◌, ◌<◌, ◌�
 use Rattle.std.proofs.Common.{ap, ◌∙◌, arith, slice_index_or}
 use Rattle.pram_values.specs.declared.kind.Kind.TheVariants.{ReadConflict}
 use Rattle.superstep_machine.specs.declared.key.Key.{Key}
-use Rattle.superstep_code.specs.Code.{SuperstepCode}
+use Rattle.superstep_instructions.specs.Code.{SuperstepCode}
 use Rattle.superstep_machine.specs.Keys.{least}
 use Rattle.superstep_machine.specs.Parts.{Read}
 use Rattle.superstep_machine.specs.Sending.{conflict_at, is_private, is_several}
-use Rattle.superstep_steps.specs.declared.read.Read.{Read as HeldRead}
+use Rattle.instruction_steps.specs.declared.read.Read.{Read as HeldRead}
 use Rattle.flat_machine.specs.Flat.{Flat, askers, read_conflict, read_conflicts}
-use Rattle.superstep_steps.specs.Views.{read_is}
+use Rattle.instruction_steps.specs.Views.{read_is}
 use Rattle.flat_run.proofs.ListLemmas.{split_at}
 
 -- the conflict of read k at a cell

@@ -5,7 +5,7 @@ use Rattle.std.specs.Prelude.{nat_lt}
 use Rattle.std.proofs.lemmas.List.{append_assoc, append-nil}
 use Rattle.std.specs.List.{filter, range_with_len}
 use Rattle.superstep_machine.specs.Run.{items, items_below}
-use Rattle.superstep_steps.specs.Views.{registers_of}
+use Rattle.instruction_steps.specs.Views.{registers_of}
 use Rattle.flat_run.proofs.ListLemmas.{split_at, drop_all}
 
 shifted : (y : ℤ) (ys : List ℤ) (n k : ℕ) → map (registers_of (y ∷ ys)) (range_with_len (suc k) n) ≡ map (registers_of ys)

@@ -8,8 +8,8 @@ use Rattle.pram_values.specs.Truth.{truth}
 use Rattle.pram_values.proofs.Totals.{total_within, total_same}
 use Rattle.write_rules.specs.declared.entry.Entry.{Entry}
 use Rattle.write_rules.specs.Rule.{shares_reads}
-use Rattle.superstep_code.specs.declared.instr.Instr.{Instr}
-use Rattle.superstep_code.specs.Code.{SuperstepCode}
+use Rattle.superstep_instructions.specs.declared.instr.Instr.{Instr}
+use Rattle.superstep_instructions.specs.Code.{SuperstepCode}
 use Rattle.superstep_machine.specs.Keys.{least}
 use Rattle.superstep_machine.specs.Parts.{Read, UniformPart, PrivatePart, set_register, fresh}
 use Rattle.superstep_machine.specs.Steps.{on_uniform, on_own, uniform_key, own_key, uniform_write, own_write, index_of, is_active, is_put}

@@ -1,9 +1,9 @@
 -- What the exchanges of a run stand for.
 use Rattle.std.specs.Prelude.{ℕ, List, [], map, if◌then◌else◌, true, false}
 use Rattle.std.proofs.Common.{eqb}
-use Rattle.superstep_code.specs.declared.instr.Instr.{Instr}
-use Rattle.superstep_code.specs.declared.instr.Instr.TheVariants as instr
-use Rattle.superstep_code.specs.Code.{SuperstepCode}
+use Rattle.superstep_instructions.specs.declared.instr.Instr.{Instr}
+use Rattle.superstep_instructions.specs.declared.instr.Instr.TheVariants as instr
+use Rattle.superstep_instructions.specs.Code.{SuperstepCode}
 use Rattle.superstep_machine.specs.Run as machine
 use Rattle.superstep_machine.specs.Parts.{UniformPart}
 use Rattle.superstep_machine.specs.Stretch.{ToSend, ToReply, ToVote, ToClose}

@@ -1,10 +1,10 @@
 -- What a run of the plain program stands for.
 use Rattle.std.specs.Prelude.{◌≡◌, ℕ, ◌+◌, ◌≤◌, ◌<◌, ◌^◌, Bool, true, false, Option, Some, None}
-use Rattle.superstep_code.specs.declared.instr.Instr.{Instr}
-use Rattle.superstep_code.specs.declared.instr.Instr.TheVariants.{Mark}
+use Rattle.superstep_instructions.specs.declared.instr.Instr.{Instr}
+use Rattle.superstep_instructions.specs.declared.instr.Instr.TheVariants.{Mark}
 use Rattle.write_rules.specs.declared.outcome.Outcome.{Outcome}
 use Rattle.write_rules.specs.Verdict.{Verdict, verdict_of}
-use Rattle.superstep_code.specs.Code.{SuperstepCode}
+use Rattle.superstep_instructions.specs.Code.{SuperstepCode}
 use Rattle.superstep_machine.specs.Run.{Way, On, Past, Lost}
 use Rattle.flat_run.specs.declared.run.Stand.{Stand}
 use Rattle.flat_run.specs.declared.run.Stand.TheVariants as stand

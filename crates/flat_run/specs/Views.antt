@@ -2,11 +2,11 @@
 use Rattle.std.specs.Prelude.{◌≡◌, ℕ, ◌<◌, ◌≤◌, List, map, length, reverse, Option, None, slice_index_or}
 use Rattle.pram_model.specs.Layout.{total_size}
 use Rattle.write_rules.specs.declared.entry.Entry.{Entry}
-use Rattle.superstep_code.specs.Code.{SuperstepCode}
+use Rattle.superstep_instructions.specs.Code.{SuperstepCode}
 use Rattle.superstep_machine.specs.Parts.{PrivatePart, fresh}
 use Rattle.flat_run.specs.declared.processor.ProcessorState.{ProcessorState}
 use Rattle.flat_run.specs.declared.machine.Machine.{Machine}
-use Rattle.superstep_steps.specs.Views.{registers_of, uniform_of}
+use Rattle.instruction_steps.specs.Views.{registers_of, uniform_of}
 use Rattle.flat_machine.specs.Flat.{Flat}
 
 -- the last mask is kept at the end

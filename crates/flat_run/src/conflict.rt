@@ -8,16 +8,16 @@ ghost use Rattle.pram_values.specs.declared.kind.Kind.TheVariants as kind_is;
 ghost use Rattle.write_rules.specs.Rule.{shares_reads as spec_shares_reads};
 ghost use Rattle.superstep_machine.specs.Sending as spec;
 ghost use Rattle.flat_machine.specs.Flat as flat;
-ghost use Rattle.superstep_steps.specs.Views.{moment_is, put_is, read_is};
+ghost use Rattle.instruction_steps.specs.Views.{moment_is, put_is, read_is};
 ghost use Rattle.flat_run.specs.Views.{part_of, own_of, held_of, flat_of, IsSized};
 
 use crate::machine::Machine;
 use crate::processor::ProcessorState;
+use instruction_steps::{Moment, Read, verdict_on};
 use pram_model::Rule;
 use pram_values::{Kind, Place};
-use superstep_code::{Code, Side};
+use superstep_instructions::{Code, Side};
 use superstep_machine::{Key, least};
-use superstep_steps::{Moment, Read, verdict_on};
 
 // A fault of several processors at a cell.
 fn conflict_at(at: Moment, cell: u32, kind: Kind) -> Key

@@ -9,18 +9,18 @@ ghost use Rattle.superstep_machine.specs.Parts.{fresh as spec_fresh};
 ghost use Rattle.superstep_machine.specs.Sending.{join as spec_join};
 ghost use Rattle.superstep_machine.specs.Steps as spec;
 ghost use Rattle.flat_machine.specs.Flat.{single_to, after_instr, noted as spec_noted, written as spec_written};
-ghost use Rattle.superstep_steps.specs.Views.{uniform_of, HasRoom};
+ghost use Rattle.instruction_steps.specs.Views.{uniform_of, HasRoom};
 ghost use Rattle.flat_run.specs.Views.{own_of, held_of, flat_of, IsSized, AreSame};
 
 use crate::machine::Machine;
 use crate::processor::{ProcessorState, fresh, step_own};
 use crate::processor_fault::{own_key, own_write};
-use std::alloc::{AllocError, Global};
-use superstep_code::{Code, Instr};
-use superstep_machine::{Key, least};
-use superstep_steps::{
+use instruction_steps::{
     UniformState, index_of, step_uniform, uniform_key, uniform_write, with_writer,
 };
+use std::alloc::{AllocError, Global};
+use superstep_instructions::{Code, Instr};
+use superstep_machine::{Key, least};
 use write_rules::{Entry, RuleBody, WriteRule, under};
 
 // The least key that is noted on the processors.

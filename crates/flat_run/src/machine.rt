@@ -1,8 +1,8 @@
 //! The flat machine.
 
 use crate::processor::ProcessorState;
+use instruction_steps::UniformState;
 use superstep_machine::Key;
-use superstep_steps::UniformState;
 use write_rules::Entry;
 
 /// The flat machine: the uniform part, the processors of the range, the value of each cell, what

@@ -4,15 +4,15 @@ ghost use Rattle.std.specs.Prelude.{◌≡◌, ◌<◌, ◌++◌, ◌∷◌, [],
 ghost use Rattle.pram_values.specs.Truth.{is_nonzero};
 ghost use Rattle.superstep_machine.specs.Parts.{fresh as spec_fresh};
 ghost use Rattle.superstep_machine.specs.Steps as spec;
-ghost use Rattle.superstep_steps.specs.Views.{uniform_of};
+ghost use Rattle.instruction_steps.specs.Views.{uniform_of};
 ghost use Rattle.flat_run.specs.Views.{part_of};
 
-use pram_values::is_true;
-use std::alloc::{AllocError, Global};
-use superstep_code::{Code, Instr, Side};
-use superstep_steps::{
+use instruction_steps::{
     UniformState, computed_on, index_of, register, set_number, set_result, zero_without,
 };
+use pram_values::is_true;
+use std::alloc::{AllocError, Global};
+use superstep_instructions::{Code, Instr, Side};
 
 /// The part of one processor: its registers; for each mask, the last one at the end, whether it is
 /// active under it; and for each read of the uniform part's lists the cell that it asks for, if it

@@ -2,17 +2,17 @@
 
 ghost use Rattle.std.specs.Prelude.{◌≡◌, ◌<◌};
 ghost use Rattle.superstep_machine.specs.Steps as spec;
-ghost use Rattle.superstep_steps.specs.Views.{uniform_of};
+ghost use Rattle.instruction_steps.specs.Views.{uniform_of};
 ghost use Rattle.flat_run.specs.Views.{part_of};
 
 use crate::processor::{ProcessorState, cell_for, is_active};
-use pram_values::{Kind, Place};
-use superstep_code::{Code, Instr, Side};
-use superstep_machine::Key;
-use superstep_steps::{
+use instruction_steps::{
     UniformState, computed_on, fault_at, index_of, missing, position_of, register, write_to,
     wrong_in,
 };
+use pram_values::{Kind, Place};
+use superstep_instructions::{Code, Instr, Side};
+use superstep_machine::Key;
 
 // What is wrong in an instruction on a processor that is active.
 fn wrong_own(code: &Code, instr: Instr, x: &ProcessorState) -> Option<Kind>

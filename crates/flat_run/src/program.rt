@@ -3,10 +3,10 @@
 ghost use Rattle.std.specs.Prelude.{◌≡◌, ◌+◌, ◌*◌, ◌≤◌, Some, IfOk, OnOk, length};
 ghost use Rattle.bsp_verify.specs.WellFormed.{IsWellFormed};
 ghost use Rattle.write_rules.specs.Verdict.{Verdict};
-ghost use Rattle.superstep_code.specs.Limits.{most_instructions};
+ghost use Rattle.superstep_instructions.specs.Limits.{most_instructions};
 ghost use Rattle.flat_machine.specs.ByExchanges.{opening};
 ghost use Rattle.flat_machine.specs.ByInstructions.{outcome_within, everywhere, steps, IsFlatOutcome};
-ghost use Rattle.superstep_steps.specs.Views.{registers_of};
+ghost use Rattle.instruction_steps.specs.Views.{registers_of};
 ghost use Rattle.flat_run.specs.RunViews.{state_of, is_going, verdict_in, IsRun, AreSameStates};
 
 use crate::instruct::none_held;
@@ -14,9 +14,9 @@ use crate::machine::Machine;
 use crate::run::{Run, Stand};
 use crate::step::step;
 use crate::verdict::outcome;
+use instruction_steps::{make_room, open_uniform};
 use std::alloc::{AllocError, Global};
-use superstep_code::Code;
-use superstep_steps::{make_room, open_uniform};
+use superstep_instructions::Code;
 use write_rules::Outcome;
 
 // The memory at the beginning: the first cells have the values of the input, and the others 0.

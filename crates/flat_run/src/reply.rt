@@ -5,14 +5,14 @@ ghost use Rattle.std.specs.List.{zip};
 ghost use Rattle.superstep_machine.specs.Answering as spec;
 ghost use Rattle.superstep_machine.specs.Parts.{Read as SpecRead};
 ghost use Rattle.flat_machine.specs.Flat as flat;
-ghost use Rattle.superstep_steps.specs.Views.{registers_of, read_is, uniform_of};
+ghost use Rattle.instruction_steps.specs.Views.{registers_of, read_is, uniform_of};
 ghost use Rattle.flat_run.specs.Views.{part_of, own_of, flat_of, IsSized, AreSame};
 
 use crate::machine::Machine;
 use crate::processor::ProcessorState;
+use instruction_steps::{Read, UniformState, put_number, set_number, value_at};
 use std::alloc::AllocError;
-use superstep_code::Code;
-use superstep_steps::{Read, UniformState, put_number, set_number, value_at};
+use superstep_instructions::Code;
 
 // A register after its value came; without a cell it keeps what it holds.
 fn answer(

@@ -4,21 +4,21 @@ ghost use Rattle.std.specs.Prelude.{◌≡◌, ◌≤◌, ◌<◌, ℕ, OnOk, Fi
 ghost use Rattle.std.specs.Int.{w64};
 ghost use Rattle.superstep_machine.specs.Sending as spec;
 ghost use Rattle.flat_machine.specs.Flat as flat;
-ghost use Rattle.superstep_steps.specs.Views.{registers_of, uniform_of};
+ghost use Rattle.instruction_steps.specs.Views.{registers_of, uniform_of};
 ghost use Rattle.flat_run.specs.Views.{part_of, own_of, held_of, flat_of, IsSized, AreSame};
 
 use crate::conflict::conflicts;
 use crate::instruct::none_held;
 use crate::machine::Machine;
 use crate::processor::ProcessorState;
+use instruction_steps::{UniformState, value_at, verdict_on};
 use pram_model::Rule;
 use pram_values::Kind;
 use smallvec::SmallVec;
 use std::alloc::{AllocError, Global};
 use std::mem;
-use superstep_code::Code;
+use superstep_instructions::Code;
 use superstep_machine::least;
-use superstep_steps::{UniformState, value_at, verdict_on};
 use write_rules::Entry;
 
 // A cell that nobody writes keeps its value, and so does one in conflict.

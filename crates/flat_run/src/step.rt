@@ -1,11 +1,11 @@
 //! One instruction of a run.
 
 ghost use Rattle.std.specs.Prelude.{◌≡◌, ◌<◌, ◌+◌, ◌^◌, Some, OnOk};
-ghost use Rattle.superstep_code.specs.declared.instr.Instr.TheVariants as instr_is;
+ghost use Rattle.superstep_instructions.specs.declared.instr.Instr.TheVariants as instr_is;
 ghost use Rattle.superstep_machine.specs.Run as spec;
 ghost use Rattle.flat_machine.specs.ByInstructions.{instructed, exchanged, closed, going, everywhere};
 ghost use Rattle.flat_machine.specs.Flat.{after_instr};
-ghost use Rattle.superstep_steps.specs.Views.{put_is};
+ghost use Rattle.instruction_steps.specs.Views.{put_is};
 ghost use Rattle.flat_run.specs.Views.{flat_of};
 ghost use Rattle.flat_run.specs.RunViews.{way_is, state_of, led, IsRun, IsCounted, AreSameStates};
 
@@ -15,11 +15,11 @@ use crate::reply::reply;
 use crate::run::{Run, Stand};
 use crate::send::send;
 use crate::vote::vote;
+use instruction_steps::{Moment, register};
 use pram_values::is_true;
 use std::alloc::{AllocError, Global};
-use superstep_code::{Code, Instr};
+use superstep_instructions::{Code, Instr};
 use superstep_machine::Key;
-use superstep_steps::{Moment, register};
 
 // Whether a put is held.
 fn is_held(put: Option<Moment>) -> bool

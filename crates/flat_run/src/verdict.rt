@@ -5,13 +5,13 @@ ghost use Rattle.pram_model.specs.Layout.{total_size};
 ghost use Rattle.superstep_machine.specs.Run as spec;
 ghost use Rattle.flat_machine.specs.ByExchanges.{outcome_of};
 ghost use Rattle.flat_machine.specs.Flat.{cells};
-ghost use Rattle.superstep_steps.specs.Views.{registers_of};
+ghost use Rattle.instruction_steps.specs.Views.{registers_of};
 ghost use Rattle.flat_run.specs.RunViews.{state_of, verdict_in};
 
 use crate::machine::Machine;
 use crate::run::{Run, Stand};
 use std::alloc::{AllocError, Global};
-use superstep_code::Code;
+use superstep_instructions::Code;
 use superstep_machine::Key;
 use write_rules::{Fault, Outcome};
 

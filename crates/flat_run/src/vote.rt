@@ -8,9 +8,9 @@ ghost use Rattle.flat_run.specs.Views.{own_of, flat_of, IsSized, AreSame};
 
 use crate::machine::Machine;
 use crate::processor::{ProcessorState, is_active};
+use instruction_steps::put_number;
 use pram_values::truth;
-use superstep_code::Code;
-use superstep_steps::put_number;
+use superstep_instructions::Code;
 
 fn any_active(processors: &[ProcessorState]) -> bool
     ensures { result ≡ list_any (λ v. spec.is_active (own_of processors.now v)) (range_with_len 0 (length processors.now)) }

@@ -3,7 +3,7 @@
 
 mod empty;
 mod fuse_sends;
-pub mod law;
+pub mod fusing_laws;
 mod renumber;
 
 pub use fuse_sends::fuse;

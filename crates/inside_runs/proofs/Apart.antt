@@ -14,9 +14,9 @@ use Rattle.pram_check.specs.Checked.{Checked}
 use Rattle.pram_meaning.specs.Conflict.{write_to}
 use Rattle.pram_meaning.specs.Store.{State, member_of}
 use Rattle.flat_machine.specs.Flat.{Flat}
-use Rattle.evaluation.specs.Terms.{Task}
-use Rattle.evaluation.specs.Rows.{Row, row_of, rows, AreApart}
-use Rattle.evaluation.specs.Noted.{writes_at}
+use Rattle.statement_evaluation.specs.Terms.{Task}
+use Rattle.statement_evaluation.specs.Rows.{Row, row_of, rows, AreApart}
+use Rattle.statement_evaluation.specs.Noted.{writes_at}
 
 -- ---- different indices
 

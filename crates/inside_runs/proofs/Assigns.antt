@@ -5,8 +5,8 @@ use Rattle.std.proofs.Common.{append-nil, length-append}
 use Rattle.std.specs.Prelude.{if◌then◌else◌, nat_lt}
 use Rattle.std.proofs.lemmas.Bool.Decides.{nat_tests}
 use Rattle.write_rules.specs.declared.fault.Fault.{Fault}
-use Rattle.superstep_code.specs.declared.instr.Side.TheVariants.{Private}
-use Rattle.superstep_code.specs.declared.instr.Instr.TheVariants.{Mark, Copy}
+use Rattle.superstep_instructions.specs.declared.instr.Side.TheVariants.{Private}
+use Rattle.superstep_instructions.specs.declared.instr.Instr.TheVariants.{Mark, Copy}
 use Rattle.superstep_machine.specs.Keys.{least}
 use Rattle.pram_names.specs.declared.body.Expression.{Expression}
 use Rattle.pram_names.specs.declared.body.Step as step
@@ -23,31 +23,31 @@ use Rattle.pram_meaning.specs.Together.{assigned_by, parts, together}
 use Rattle.pram_meaning.specs.Values.{ComesToValues, HasValues, IsValue}
 use Rattle.pram_meaning.proofs.ValuesKept.{steps_keep_values}
 use Rattle.flat_machine.specs.Flat.{Flat}
-use Rattle.stretches.specs.Along.{Run}
-use Rattle.stretches.specs.Folds.{Stand}
-use Rattle.stretches.specs.Frames.{Frame, present}
-use Rattle.stretches.specs.Tells.{IsCalm}
-use Rattle.stretches.proofs.Joins.{stands_split}
-use Rattle.stretches.proofs.Tells.{notes_nothing}
-use Rattle.evaluation.specs.Terms.{Gets, Writes, term_of, inner_assignment}
-use Rattle.evaluation.specs.Whole.{value}
-use Rattle.evaluation.specs.Rows.{cut_parts}
-use Rattle.evaluation.proofs.Attempts.{assignment_parts}
-use Rattle.evaluation.proofs.Effects.{locals_are_values}
+use Rattle.flat_stretches.specs.Along.{Run}
+use Rattle.flat_stretches.specs.Folds.{Stand}
+use Rattle.flat_stretches.specs.Frames.{Frame, present}
+use Rattle.flat_stretches.specs.Tells.{IsCalm}
+use Rattle.flat_stretches.proofs.Joins.{stands_split}
+use Rattle.flat_stretches.proofs.Tells.{notes_nothing}
+use Rattle.statement_evaluation.specs.Terms.{Gets, Writes, term_of, inner_assignment}
+use Rattle.statement_evaluation.specs.Whole.{value}
+use Rattle.statement_evaluation.specs.Rows.{cut_parts}
+use Rattle.statement_evaluation.proofs.Attempts.{assignment_parts}
+use Rattle.statement_evaluation.proofs.Effects.{locals_are_values}
 use Rattle.plain_form.specs.Inside as inside
 use Rattle.plain_form.specs.Formulas.{Formula, Zero, Pair, formula_of, nesting}
 use Rattle.plain_form.specs.Registers.{local, behind_locals}
 use Rattle.plain_form.specs.Shapes as shapes
 use Rattle.plain_form.specs.Shapes.{flush, gets, has_reads, still, waits, writes}
-use Rattle.formed_code.specs.Straight.{getting, writing}
-use Rattle.formed_code.proofs.Fine.{straight_parts_are_fine}
-use Rattle.formed_code.proofs.Straight.{marks_come_first}
-use Rattle.formula_values.specs.Environments.{IsNamed}
-use Rattle.formula_values.specs.Headings.{heading_of}
-use Rattle.formula_values.specs.Tasks.{IsSingle}
-use Rattle.formula_values.specs.Terms.{term}
-use Rattle.formula_values.proofs.Tasks.{expressions_are_single}
-use Rattle.formula_values.proofs.Terms.{expressions_are_terms, expressions_are_named}
+use Rattle.verified_form.specs.Straight.{getting, writing}
+use Rattle.verified_form.proofs.Fine.{straight_parts_are_fine}
+use Rattle.verified_form.proofs.Straight.{marks_come_first}
+use Rattle.compiled_formulas.specs.Environments.{IsNamed}
+use Rattle.compiled_formulas.specs.Headings.{heading_of}
+use Rattle.compiled_formulas.specs.Tasks.{IsSingle}
+use Rattle.compiled_formulas.specs.Terms.{term}
+use Rattle.compiled_formulas.proofs.Tasks.{expressions_are_single}
+use Rattle.compiled_formulas.proofs.Terms.{expressions_are_terms, expressions_are_named}
 use Rattle.exchange_bound.specs.Bound.{one_if}
 use Rattle.exchange_bound.specs.Events.{Event, Runs, begun, levels, step_events}
 use Rattle.exchange_bound.specs.Spent as events

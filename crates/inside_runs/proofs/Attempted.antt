@@ -5,8 +5,8 @@ use Rattle.std.specs.Prelude.{nat_lt, if◌then◌else◌}
 use Rattle.std.proofs.lemmas.Bool.Decides.{nat_tests}
 use Rattle.write_rules.specs.declared.fault.Fault.{Fault}
 use Rattle.write_rules.specs.Verdict.{GoesOn}
-use Rattle.superstep_code.specs.declared.instr.Instr.{Instr}
-use Rattle.superstep_code.specs.declared.instr.Instr.TheVariants.{Mark}
+use Rattle.superstep_instructions.specs.declared.instr.Instr.{Instr}
+use Rattle.superstep_instructions.specs.declared.instr.Instr.TheVariants.{Mark}
 use Rattle.superstep_machine.specs.declared.key.Key.{Key}
 use Rattle.pram_check.specs.Checked.{Checked}
 use Rattle.pram_meaning.specs.Attempt.{Attempt, Effect}
@@ -16,20 +16,20 @@ use Rattle.pram_meaning.specs.Store.{State, View}
 use Rattle.pram_meaning.specs.Together.{parts, together}
 use Rattle.bsp_verify.specs.WellFormed.{IsWellFormed}
 use Rattle.flat_machine.specs.Flat.{Flat}
-use Rattle.stretches.specs.Applied.{applied, AsksNone}
-use Rattle.stretches.specs.Along.{Run}
-use Rattle.stretches.specs.Folds.{Stand, IsFine}
-use Rattle.stretches.specs.Tells.{IsCalm}
-use Rattle.stretches.specs.Notes.{notes}
-use Rattle.evaluation.specs.Terms.{Task}
-use Rattle.evaluation.specs.Rows.{Row, rows, cut_parts, AreApart}
-use Rattle.evaluation.specs.Noted as evaluation
-use Rattle.evaluation.specs.Noted.{Heading, noted}
-use Rattle.evaluation.specs.Effects.{AreFine}
-use Rattle.evaluation.specs.Told.{unless_told}
-use Rattle.evaluation.proofs.Columns.{together_is_noted}
-use Rattle.evaluation.proofs.Effects.{both_none}
-use Rattle.formula_values.specs.Headings.{heading_of}
+use Rattle.flat_stretches.specs.Applied.{applied, AsksNone}
+use Rattle.flat_stretches.specs.Along.{Run}
+use Rattle.flat_stretches.specs.Folds.{Stand, IsFine}
+use Rattle.flat_stretches.specs.Tells.{IsCalm}
+use Rattle.flat_stretches.specs.Notes.{notes}
+use Rattle.statement_evaluation.specs.Terms.{Task}
+use Rattle.statement_evaluation.specs.Rows.{Row, rows, cut_parts, AreApart}
+use Rattle.statement_evaluation.specs.Noted as evaluation
+use Rattle.statement_evaluation.specs.Noted.{Heading, noted}
+use Rattle.statement_evaluation.specs.Effects.{AreFine}
+use Rattle.statement_evaluation.specs.LeastFaults.{unless_told}
+use Rattle.statement_evaluation.proofs.Columns.{together_is_noted}
+use Rattle.statement_evaluation.proofs.Effects.{both_none}
+use Rattle.compiled_formulas.specs.Headings.{heading_of}
 use Rattle.exchange_bound.specs.Events as events
 use Rattle.exchange_bound.specs.Events.{Event, behind}
 use Rattle.exchange_bound.specs.Bound.{one_if}

@@ -1,8 +1,8 @@
 -- An `if` inside pardo is followed, if its parts are.
 use Rattle.std.proofs.Common.{◌≡◌, ℕ, ◌+◌, ◌*◌, ◌<◌, ◌≤◌, List, [], ◌∷◌, ◌++◌, length, Bool, true, false, not, refl, sym, ◌∙◌, subst, arith}
 use Rattle.std.proofs.Common.{length-append}
-use Rattle.superstep_code.specs.declared.instr.Instr.{Instr}
-use Rattle.superstep_code.specs.declared.instr.Instr.TheVariants.{Mark, Unmask}
+use Rattle.superstep_instructions.specs.declared.instr.Instr.{Instr}
+use Rattle.superstep_instructions.specs.declared.instr.Instr.TheVariants.{Mark, Unmask}
 use Rattle.pram_names.specs.declared.body.Expression.{Expression}
 use Rattle.pram_check.specs.Checked.{Checked}
 use Rattle.pram_check.specs.Bounded as bounded
@@ -11,16 +11,16 @@ use Rattle.pram_meaning.specs.Bounded.{Done, then_do, tested_on}
 use Rattle.pram_meaning.specs.Store.{State}
 use Rattle.pram_meaning.specs.Together.{those}
 use Rattle.flat_machine.specs.Flat.{Flat, after_instr}
-use Rattle.stretches.specs.Applied.{applied}
-use Rattle.stretches.specs.Along.{Run, IsAt}
-use Rattle.stretches.specs.Folds.{Stand}
-use Rattle.stretches.specs.Frames.{Frame, present, narrowed}
-use Rattle.stretches.specs.Tells.{IsCalm}
-use Rattle.stretches.proofs.Frames.{unmasks_widen}
+use Rattle.flat_stretches.specs.Applied.{applied}
+use Rattle.flat_stretches.specs.Along.{Run, IsAt}
+use Rattle.flat_stretches.specs.Folds.{Stand}
+use Rattle.flat_stretches.specs.Frames.{Frame, present, narrowed}
+use Rattle.flat_stretches.specs.Tells.{IsCalm}
+use Rattle.flat_stretches.proofs.Frames.{unmasks_widen}
 use Rattle.plain_form.specs.Formulas.{formula_of}
 use Rattle.plain_form.specs.Registers.{behind_locals}
 use Rattle.plain_form.specs.Shapes.{still}
-use Rattle.formed_code.specs.Straight.{masking}
+use Rattle.verified_form.specs.Straight.{masking}
 use Rattle.exchange_bound.specs.Events.{Event, Runs, behind, begun, levels}
 use Rattle.exchange_bound.specs.Spent as events
 use Rattle.statement_runs.specs.Between.{IsRunOf}

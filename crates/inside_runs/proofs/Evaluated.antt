@@ -3,8 +3,8 @@ use Rattle.std.proofs.Common.{◌≡◌, ℕ, ◌<◌, ◌≤◌, List, ◌++◌
 use Rattle.std.specs.Prelude.{not}
 use Rattle.std.specs.List.{filter, range_with_len}
 use Rattle.pram_values.specs.Truth.{is_nonzero}
-use Rattle.superstep_code.specs.declared.instr.Side.TheVariants.{Private}
-use Rattle.superstep_code.specs.declared.instr.Instr.{Instr}
+use Rattle.superstep_instructions.specs.declared.instr.Side.TheVariants.{Private}
+use Rattle.superstep_instructions.specs.declared.instr.Instr.{Instr}
 use Rattle.superstep_machine.specs.Keys.{least}
 use Rattle.superstep_machine.specs.Steps.{under}
 use Rattle.pram_names.specs.declared.body.Expression.{Expression}
@@ -14,25 +14,25 @@ use Rattle.pram_check.specs.Bounded.{names_of, with_locals}
 use Rattle.pram_meaning.specs.Store.{State, seen_by}
 use Rattle.flat_machine.specs.Flat.{Flat}
 use Rattle.flat_machine.proofs.Late.{none_least}
-use Rattle.stretches.specs.Along.{Run}
-use Rattle.stretches.specs.Folds.{acts_at_once}
-use Rattle.stretches.specs.Frames.{Frame, StandsIn, present, is_true}
-use Rattle.stretches.specs.Leaving.{IsLeft}
-use Rattle.stretches.specs.Notes.{notes}
-use Rattle.evaluation.specs.Terms.{Task, Gets, term_of}
-use Rattle.evaluation.specs.Whole.{value}
-use Rattle.evaluation.specs.Rows.{rows, AreApart}
-use Rattle.evaluation.specs.Noted.{noted}
+use Rattle.flat_stretches.specs.Along.{Run}
+use Rattle.flat_stretches.specs.Folds.{acts_at_once}
+use Rattle.flat_stretches.specs.Frames.{Frame, StandsIn, present, is_true}
+use Rattle.flat_stretches.specs.Leaving.{IsLeft}
+use Rattle.flat_stretches.specs.Notes.{notes}
+use Rattle.statement_evaluation.specs.Terms.{Task, Gets, term_of}
+use Rattle.statement_evaluation.specs.Whole.{value}
+use Rattle.statement_evaluation.specs.Rows.{rows, AreApart}
+use Rattle.statement_evaluation.specs.Noted.{noted}
 use Rattle.plain_form.specs.Formulas.{Formula, formula_of}
 use Rattle.plain_form.specs.Groups.{evaluated, value_at}
 use Rattle.plain_form.specs.Registers.{behind_locals}
-use Rattle.formed_code.specs.Straight.{evaluation}
-use Rattle.formula_values.specs.Environments.{IsNamed}
-use Rattle.formula_values.specs.Headings.{heading_of}
-use Rattle.formula_values.specs.Inside.{ShowsInside, MayEvaluateInside, IsEvaluatedInside, active_ones}
-use Rattle.formula_values.proofs.Inside.{formulas_are_evaluated_inside}
-use Rattle.formula_values.proofs.Tasks.{expressions_are_single, values_are_tasks}
-use Rattle.formula_values.proofs.Terms.{expressions_are_terms, expressions_are_named}
+use Rattle.verified_form.specs.Straight.{evaluation}
+use Rattle.compiled_formulas.specs.Environments.{IsNamed}
+use Rattle.compiled_formulas.specs.Headings.{heading_of}
+use Rattle.compiled_formulas.specs.Inside.{ShowsInside, MayEvaluateInside, IsEvaluatedInside, active_ones}
+use Rattle.compiled_formulas.proofs.Inside.{formulas_are_evaluated_inside}
+use Rattle.compiled_formulas.proofs.Tasks.{expressions_are_single, values_are_tasks}
+use Rattle.compiled_formulas.proofs.Terms.{expressions_are_terms, expressions_are_named}
 use Rattle.statement_runs.specs.Begins.{begun, done}
 use Rattle.statement_runs.specs.Between.{IsRunOf}
 use Rattle.statement_runs.proofs.Marked.{begun_is, begun_bare, evaluation_acts_with, evaluation_notes_with}

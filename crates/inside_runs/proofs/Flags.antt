@@ -3,9 +3,9 @@ use Rattle.std.proofs.Common.{◌≡◌, ℕ, ◌+◌, ◌*◌, ◌<◌, ◌≤�
 use Rattle.std.proofs.Common.{arith}
 use Rattle.std.specs.List.{filter}
 use Rattle.pram_values.specs.Truth.{truth, is_nonzero}
-use Rattle.superstep_code.specs.declared.instr.Side.TheVariants.{Private}
-use Rattle.superstep_code.specs.declared.instr.Instr.{Instr}
-use Rattle.superstep_code.specs.declared.instr.Instr.TheVariants.{Mark, Copy, Unmask, Mask, Vote}
+use Rattle.superstep_instructions.specs.declared.instr.Side.TheVariants.{Private}
+use Rattle.superstep_instructions.specs.declared.instr.Instr.{Instr}
+use Rattle.superstep_instructions.specs.declared.instr.Instr.TheVariants.{Mark, Copy, Unmask, Mask, Vote}
 use Rattle.superstep_machine.specs.Keys.{least}
 use Rattle.superstep_machine.specs.Parts.{Registers}
 use Rattle.superstep_machine.specs.Steps.{is_active}
@@ -19,26 +19,26 @@ use Rattle.pram_meaning.specs.Conflict.{Part}
 use Rattle.pram_meaning.specs.Store.{State}
 use Rattle.pram_meaning.specs.Together.{those}
 use Rattle.flat_machine.specs.Flat.{Flat, after_instr, after_vote, any_active}
-use Rattle.stretches.specs.Along.{Run}
-use Rattle.stretches.specs.Folds.{Stand}
-use Rattle.stretches.specs.Frames.{Frame, StandsIn, present, is_true, is_some, held_in, Keeps, looping, turned, HasTurned}
-use Rattle.stretches.specs.Notes.{notes}
-use Rattle.stretches.specs.Tells.{IsCalm}
-use Rattle.stretches.proofs.Below.{set_below}
-use Rattle.stretches.proofs.Frames.{votes_say}
-use Rattle.stretches.proofs.Loops.{loops_turn}
-use Rattle.stretches.proofs.Tells.{notes_nothing}
-use Rattle.evaluation.specs.Terms.{Gets, term_of}
-use Rattle.evaluation.specs.Rows.{rows, cut_parts}
-use Rattle.evaluation.specs.Effects.{AreFine}
-use Rattle.evaluation.proofs.Attempts.{test_parts}
-use Rattle.evaluation.proofs.Effects.{tests_are_values}
+use Rattle.flat_stretches.specs.Along.{Run}
+use Rattle.flat_stretches.specs.Folds.{Stand}
+use Rattle.flat_stretches.specs.Frames.{Frame, StandsIn, present, is_true, is_some, held_in, Keeps, looping, turned, HasTurned}
+use Rattle.flat_stretches.specs.Notes.{notes}
+use Rattle.flat_stretches.specs.Tells.{IsCalm}
+use Rattle.flat_stretches.proofs.Below.{set_below}
+use Rattle.flat_stretches.proofs.Frames.{votes_say}
+use Rattle.flat_stretches.proofs.Loops.{loops_turn}
+use Rattle.flat_stretches.proofs.Tells.{notes_nothing}
+use Rattle.statement_evaluation.specs.Terms.{Gets, term_of}
+use Rattle.statement_evaluation.specs.Rows.{rows, cut_parts}
+use Rattle.statement_evaluation.specs.Effects.{AreFine}
+use Rattle.statement_evaluation.proofs.Attempts.{test_parts}
+use Rattle.statement_evaluation.proofs.Effects.{tests_are_values}
 use Rattle.plain_form.specs.Formulas.{Formula, formula_of}
 use Rattle.plain_form.specs.Registers.{behind_variables, behind_locals}
-use Rattle.formed_code.specs.Straight.{flagging}
-use Rattle.formed_code.proofs.Fine.{straight_parts_are_fine}
-use Rattle.formula_values.specs.Headings.{heading_of}
-use Rattle.formula_values.specs.Inside.{ShowsInside}
+use Rattle.verified_form.specs.Straight.{flagging}
+use Rattle.verified_form.proofs.Fine.{straight_parts_are_fine}
+use Rattle.compiled_formulas.specs.Headings.{heading_of}
+use Rattle.compiled_formulas.specs.Inside.{ShowsInside}
 use Rattle.exchange_bound.specs.Bound.{one_if}
 use Rattle.exchange_bound.specs.Events.{Event, behind, begun, levels}
 use Rattle.statement_runs.specs.Begins.{done}

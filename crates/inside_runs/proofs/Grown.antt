@@ -2,7 +2,7 @@
 use Rattle.std.proofs.Common.{ℕ, zero, suc, ◌+◌, ◌≤◌, List, [], ◌∷◌, Bool, true, false, Result, Ok, Err, arith}
 use Rattle.std.specs.Prelude.{if◌then◌else◌, nat_lt}
 use Rattle.write_rules.specs.declared.fault.Fault.{Fault}
-use Rattle.stretches.specs.Along.{Run}
+use Rattle.flat_stretches.specs.Along.{Run}
 use Rattle.exchange_bound.specs.Events.{Event}
 use Rattle.statement_runs.specs.Follows.{Follows}
 use Rattle.pram_names.specs.declared.body.Step as step

@@ -8,9 +8,9 @@ use Rattle.std.proofs.lemmas.Bool.{ne_eqb}
 use Rattle.std.proofs.lemmas.Bool.Decides.{eqb_tells}
 use Rattle.std.proofs.lemmas.Grind.{get_or-set_at}
 use Rattle.std.proofs.lemmas.List.{get_or-set_other}
-use Rattle.superstep_code.specs.declared.instr.Side.TheVariants.{Private}
-use Rattle.superstep_code.specs.declared.instr.Instr.{Instr}
-use Rattle.superstep_code.specs.declared.instr.Instr.TheVariants.{Copy}
+use Rattle.superstep_instructions.specs.declared.instr.Side.TheVariants.{Private}
+use Rattle.superstep_instructions.specs.declared.instr.Instr.{Instr}
+use Rattle.superstep_instructions.specs.declared.instr.Instr.TheVariants.{Copy}
 use Rattle.superstep_machine.specs.Parts.{Registers, PrivatePart, set_register}
 use Rattle.superstep_machine.specs.Steps.{under, is_active}
 use Rattle.superstep_machine.proofs.Numbers.{with_itself}
@@ -21,16 +21,16 @@ use Rattle.pram_check.specs.Bounded.{Names, names_of, with_locals}
 use Rattle.pram_meaning.specs.Store.{State, Member, View, member_of, seen_by}
 use Rattle.pram_meaning.specs.Values.{HasValues}
 use Rattle.flat_machine.specs.Flat.{Flat, after_instr}
-use Rattle.stretches.specs.Along.{Run}
-use Rattle.stretches.specs.Frames.{Frame, StandsIn, present}
-use Rattle.stretches.proofs.Below.{set_below}
-use Rattle.evaluation.specs.Terms.{term_of}
-use Rattle.evaluation.specs.Whole.{value}
+use Rattle.flat_stretches.specs.Along.{Run}
+use Rattle.flat_stretches.specs.Frames.{Frame, StandsIn, present}
+use Rattle.flat_stretches.proofs.Below.{set_below}
+use Rattle.statement_evaluation.specs.Terms.{term_of}
+use Rattle.statement_evaluation.specs.Whole.{value}
 use Rattle.plain_form.specs.Formulas.{Formula, formula_of}
 use Rattle.plain_form.specs.Registers.{zero_register, index, local, behind_locals}
-use Rattle.formed_code.specs.Straight.{getting}
-use Rattle.formula_values.specs.Environments.{Shows}
-use Rattle.formula_values.specs.Inside.{ShowsInside}
+use Rattle.verified_form.specs.Straight.{getting}
+use Rattle.compiled_formulas.specs.Environments.{Shows}
+use Rattle.compiled_formulas.specs.Inside.{ShowsInside}
 use Rattle.statement_runs.specs.Begins.{done}
 use Rattle.statement_runs.specs.Between.{IsRunOf}
 use Rattle.inside_runs.specs.Within.{IsWithin}

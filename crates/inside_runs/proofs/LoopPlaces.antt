@@ -1,15 +1,15 @@
 -- Where the parts of a loop stand: its test, the jump out of it, the body, the send behind that, the jump back, and the end.
 use Rattle.std.proofs.Common.{◌≡◌, ℕ, ◌+◌, List, [], ◌∷◌, ◌++◌, length, Bool, subst, arith}
 use Rattle.std.proofs.Common.{length-append}
-use Rattle.superstep_code.specs.declared.instr.Instr.{Instr}
-use Rattle.superstep_code.specs.declared.instr.Instr.TheVariants.{Mark, Unmask, Jump, JumpIfZero}
-use Rattle.stretches.specs.Along.{Run, IsAt}
-use Rattle.stretches.specs.Folds.{Stand}
-use Rattle.stretches.specs.Tells.{IsCalm}
-use Rattle.stretches.proofs.Joins.{stands_split}
+use Rattle.superstep_instructions.specs.declared.instr.Instr.{Instr}
+use Rattle.superstep_instructions.specs.declared.instr.Instr.TheVariants.{Mark, Unmask, Jump, JumpIfZero}
+use Rattle.flat_stretches.specs.Along.{Run, IsAt}
+use Rattle.flat_stretches.specs.Folds.{Stand}
+use Rattle.flat_stretches.specs.Tells.{IsCalm}
+use Rattle.flat_stretches.proofs.Joins.{stands_split}
 use Rattle.plain_form.specs.Shapes.{flush, sent, looped}
-use Rattle.formed_code.specs.Calm.{BeginsCalm}
-use Rattle.formed_code.proofs.Calm.{statements_begin_calm, parts_end_calm, loops_are_calm}
+use Rattle.verified_form.specs.Calm.{BeginsCalm}
+use Rattle.verified_form.proofs.Calm.{statements_begin_calm, parts_end_calm, loops_are_calm}
 
 -- Behind its test and behind its body faults are told.
 pub record LoopStands (t : Run) (head : ℕ) (test : List Instr) (vote : ℕ) (part : List Instr) (left : Bool) : Type 0 where

@@ -1,25 +1,25 @@
 -- From place to place inside pardo: instructions on masks, sends of what is held, and the opening of a loop.
 use Rattle.std.proofs.Common.{◌≡◌, ℕ, ◌+◌, ◌<◌, ◌≤◌, [], ◌∷◌, length, Bool, true, false, pos, refl, sym, ap, ◌∙◌, subst, arith}
 use Rattle.std.proofs.Common.{length-append}
-use Rattle.superstep_code.specs.declared.instr.Side.TheVariants.{Private}
-use Rattle.superstep_code.specs.declared.instr.Instr.{Instr}
-use Rattle.superstep_code.specs.declared.instr.Instr.TheVariants.{Set, Mask, Flip, Unmask}
+use Rattle.superstep_instructions.specs.declared.instr.Side.TheVariants.{Private}
+use Rattle.superstep_instructions.specs.declared.instr.Instr.{Instr}
+use Rattle.superstep_instructions.specs.declared.instr.Instr.TheVariants.{Set, Mask, Flip, Unmask}
 use Rattle.superstep_machine.specs.Parts.{Registers}
 use Rattle.superstep_machine.specs.Steps.{is_active, is_put}
 use Rattle.pram_check.specs.Checked.{Checked}
 use Rattle.pram_meaning.specs.Store.{State}
 use Rattle.flat_machine.specs.Flat.{Flat, after_instr}
-use Rattle.stretches.specs.Applied.{applied}
-use Rattle.stretches.specs.Along.{Run, IsAt, works}
-use Rattle.stretches.specs.Folds.{Stand}
-use Rattle.stretches.specs.Frames.{Frame, StandsIn, present, held_in, Keeps, looping, opened}
-use Rattle.stretches.specs.Tells.{is_quiet}
-use Rattle.stretches.proofs.Applied.{instructions_apply}
-use Rattle.stretches.proofs.Joins.{stands_split}
-use Rattle.stretches.proofs.Loops.{loops_open}
+use Rattle.flat_stretches.specs.Applied.{applied}
+use Rattle.flat_stretches.specs.Along.{Run, IsAt, works}
+use Rattle.flat_stretches.specs.Folds.{Stand}
+use Rattle.flat_stretches.specs.Frames.{Frame, StandsIn, present, held_in, Keeps, looping, opened}
+use Rattle.flat_stretches.specs.Tells.{is_quiet}
+use Rattle.flat_stretches.proofs.Applied.{instructions_apply}
+use Rattle.flat_stretches.proofs.Joins.{stands_split}
+use Rattle.flat_stretches.proofs.Loops.{loops_open}
 use Rattle.plain_form.specs.Registers.{behind_locals}
 use Rattle.plain_form.specs.Shapes.{flush, flagged}
-use Rattle.formula_values.specs.Inside.{ShowsInside}
+use Rattle.compiled_formulas.specs.Inside.{ShowsInside}
 use Rattle.exchange_bound.specs.Bound.{one_if}
 use Rattle.statement_runs.proofs.Places.{between_at, work_between, flushed}
 use Rattle.inside_runs.specs.Within.{IsWithin}

@@ -1,16 +1,16 @@
 -- Parts of a body: each followed by the run, and two of them one behind the other.
 use Rattle.std.proofs.Common.{◌≡◌, ℕ, ◌+◌, List, [], ◌++◌, length, Bool, refl, sym, subst, arith}
 use Rattle.std.proofs.Common.{length-append}
-use Rattle.superstep_code.specs.declared.instr.Instr.{Instr}
+use Rattle.superstep_instructions.specs.declared.instr.Instr.{Instr}
 use Rattle.pram_check.specs.Checked.{Checked}
 use Rattle.pram_meaning.specs.Bounded.{Behaviour, Done, Goes, Stops, Reaches, then_do}
 use Rattle.pram_meaning.specs.Store.{State}
 use Rattle.flat_machine.specs.Flat.{Flat}
-use Rattle.stretches.specs.Applied.{applied}
-use Rattle.stretches.specs.Along.{Run}
-use Rattle.stretches.specs.Frames.{Frame, StandsIn}
+use Rattle.flat_stretches.specs.Applied.{applied}
+use Rattle.flat_stretches.specs.Along.{Run}
+use Rattle.flat_stretches.specs.Frames.{Frame, StandsIn}
 use Rattle.plain_form.specs.Registers.{behind_locals}
-use Rattle.formula_values.specs.Inside.{ShowsInside}
+use Rattle.compiled_formulas.specs.Inside.{ShowsInside}
 use Rattle.exchange_bound.specs.Events.{Event, behind}
 use Rattle.exchange_bound.specs.Spent as events
 use Rattle.statement_runs.specs.Between.{IsBetween}

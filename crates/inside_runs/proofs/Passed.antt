@@ -1,21 +1,21 @@
 -- Behind a statement that has passed: the run is within the frame that its stretch leaves.
 use Rattle.std.proofs.Common.{◌≡◌, ℕ, ◌+◌, ◌<◌, ◌≤◌, List, length, Bool, sym, ap, ◌∙◌, subst, arith}
 use Rattle.std.specs.List.{AllByRecursion}
-use Rattle.superstep_code.specs.declared.instr.Instr.{Instr}
-use Rattle.superstep_code.specs.declared.instr.Instr.TheVariants.{Mark}
+use Rattle.superstep_instructions.specs.declared.instr.Instr.{Instr}
+use Rattle.superstep_instructions.specs.declared.instr.Instr.TheVariants.{Mark}
 use Rattle.superstep_machine.specs.Run.{items}
 use Rattle.pram_check.specs.Checked.{Checked}
 use Rattle.pram_meaning.specs.Store.{State, Member}
 use Rattle.pram_meaning.specs.Values.{HasValues}
 use Rattle.flat_machine.specs.Flat.{Flat, after_instr}
 use Rattle.flat_machine.specs.ByInstructions.{going}
-use Rattle.stretches.specs.Along.{Run, Comes}
-use Rattle.stretches.specs.Folds.{costs}
-use Rattle.stretches.specs.Frames.{Frame, StandsIn}
-use Rattle.stretches.proofs.Along.{more_may_be_spent}
-use Rattle.stretches.proofs.Statements.{marks_hold}
+use Rattle.flat_stretches.specs.Along.{Run, Comes}
+use Rattle.flat_stretches.specs.Folds.{costs}
+use Rattle.flat_stretches.specs.Frames.{Frame, StandsIn}
+use Rattle.flat_stretches.proofs.Along.{more_may_be_spent}
+use Rattle.flat_stretches.proofs.Statements.{marks_hold}
 use Rattle.plain_form.specs.Registers.{behind_locals}
-use Rattle.formula_values.specs.Inside.{ShowsInside}
+use Rattle.compiled_formulas.specs.Inside.{ShowsInside}
 use Rattle.statement_runs.specs.Begins.{done, HasPassed}
 use Rattle.statement_runs.specs.Between.{HasSizes}
 use Rattle.statement_runs.specs.Costs.{Costs}

@@ -4,9 +4,9 @@ use Rattle.std.specs.Prelude.{◌&&◌}
 use Rattle.std.specs.List.{filter, range_with_len}
 use Rattle.superstep_machine.specs.Steps.{under, is_active}
 use Rattle.flat_machine.specs.Flat.{Flat}
-use Rattle.stretches.specs.Frames.{Frame, StandsIn, present}
-use Rattle.stretches.proofs.Sets.{filter_same, filter_twice}
-use Rattle.formula_values.specs.Inside.{active_ones}
+use Rattle.flat_stretches.specs.Frames.{Frame, StandsIn, present}
+use Rattle.flat_stretches.proofs.Sets.{filter_same, filter_twice}
+use Rattle.compiled_formulas.specs.Inside.{active_ones}
 
 -- two tests that agree on a range
 filter_within : (p q : ℕ → Bool) (n k : ℕ) → ((v : ℕ) → v < k + n → p v ≡ q v) →

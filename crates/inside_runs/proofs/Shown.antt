@@ -1,18 +1,18 @@
 -- What a state shows of a program inside pardo stays where variables, locals and cells do.
 use Rattle.std.proofs.Common.{◌≡◌, ℕ, ◌<◌, ◌≤◌, ℤ, pos, ◌+ℤ◌, None, Some, refl, sym, ap, ◌∙◌, subst, arith}
-use Rattle.superstep_code.specs.declared.instr.Side.TheVariants.{Uniform, Private}
-use Rattle.superstep_code.specs.declared.instr.Instr.TheVariants.{Mask, Flip, Unmask}
-use Rattle.superstep_code.specs.Code.{SuperstepCode}
+use Rattle.superstep_instructions.specs.declared.instr.Side.TheVariants.{Uniform, Private}
+use Rattle.superstep_instructions.specs.declared.instr.Instr.TheVariants.{Mask, Flip, Unmask}
+use Rattle.superstep_instructions.specs.Code.{SuperstepCode}
 use Rattle.superstep_machine.specs.Parts.{Registers}
 use Rattle.pram_check.specs.Checked.{Checked}
 use Rattle.pram_check.specs.Bounded.{Names, names_of, with_locals}
 use Rattle.pram_meaning.specs.Store.{State, View, seen, seen_by}
 use Rattle.flat_machine.specs.Flat.{Flat, after_instr}
-use Rattle.stretches.specs.Applied.{applied, IsBare, AsksNone}
+use Rattle.flat_stretches.specs.Applied.{applied, IsBare, AsksNone}
 use Rattle.plain_form.specs.Registers.{variable, behind_variables, behind_locals}
-use Rattle.formula_values.specs.Environments.{IsFree, Shows}
-use Rattle.formula_values.specs.Inside.{ShowsInside}
-use Rattle.formula_values.proofs.Shown.{still_shows}
+use Rattle.compiled_formulas.specs.Environments.{IsFree, Shows}
+use Rattle.compiled_formulas.specs.Inside.{ShowsInside}
+use Rattle.compiled_formulas.proofs.Shown.{still_shows}
 use Rattle.statement_runs.specs.Begins.{begun}
 use Rattle.statement_runs.proofs.Marked.{begun_is}
 

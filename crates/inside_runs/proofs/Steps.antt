@@ -1,8 +1,8 @@
 -- All statements inside pardo are followed: rows of them by recursion, and the list of a body.
 use Rattle.std.proofs.Common.{◌≡◌, ℕ, ◌+◌, ◌≤◌, List, [], ◌∷◌, ◌++◌, length, Bool, false, not, refl, subst, arith}
 use Rattle.std.proofs.Common.{length-append}
-use Rattle.superstep_code.specs.declared.instr.Instr.{Instr}
-use Rattle.superstep_code.specs.declared.instr.Instr.TheVariants.{Mark, Flip, Unmask}
+use Rattle.superstep_instructions.specs.declared.instr.Instr.{Instr}
+use Rattle.superstep_instructions.specs.declared.instr.Instr.TheVariants.{Mark, Flip, Unmask}
 use Rattle.pram_names.specs.declared.body.Step as step
 use Rattle.pram_names.specs.declared.body.Step.{Step, Row_of-Step, end_of-Step, more_of-Step}
 use Rattle.pram_check.specs.Checked.{Checked}
@@ -10,20 +10,20 @@ use Rattle.pram_check.specs.Bounded.{IsStep, ArePartSteps, AreSteps, names_of, w
 use Rattle.pram_meaning.specs.Bounded.{tested_on, perform_on, perform_row_on, perform_list_on, turns_on}
 use Rattle.pram_meaning.specs.Store.{State}
 use Rattle.flat_machine.specs.Flat.{Flat, after_instr}
-use Rattle.stretches.specs.Applied.{applied}
-use Rattle.stretches.specs.Along.{Run, IsAt}
-use Rattle.stretches.specs.Folds.{Stand}
-use Rattle.stretches.specs.Frames as frames
-use Rattle.stretches.specs.Frames.{present, narrowed, looping}
-use Rattle.stretches.specs.Tells.{IsCalm}
-use Rattle.stretches.proofs.Frames.{flips_turn}
-use Rattle.stretches.proofs.Joins.{stands_split}
+use Rattle.flat_stretches.specs.Applied.{applied}
+use Rattle.flat_stretches.specs.Along.{Run, IsAt}
+use Rattle.flat_stretches.specs.Folds.{Stand}
+use Rattle.flat_stretches.specs.Frames as frames
+use Rattle.flat_stretches.specs.Frames.{present, narrowed, looping}
+use Rattle.flat_stretches.specs.Tells.{IsCalm}
+use Rattle.flat_stretches.proofs.Frames.{flips_turn}
+use Rattle.flat_stretches.proofs.Joins.{stands_split}
 use Rattle.plain_form.specs.Formulas.{formula_of}
 use Rattle.plain_form.specs.Inside.{Frame, step_code, part_code, steps_code, step_left, part_left, steps_left, has_part}
 use Rattle.plain_form.specs.Registers.{behind_variables, behind_locals}
 use Rattle.plain_form.specs.Shapes.{still, sent, flipped, flagged, looped}
-use Rattle.formed_code.specs.Straight.{masking, flagging}
-use Rattle.formed_code.proofs.Calm.{statements_begin_calm, masks_are_calm, exits_are_calm}
+use Rattle.verified_form.specs.Straight.{masking, flagging}
+use Rattle.verified_form.proofs.Calm.{statements_begin_calm, masks_are_calm, exits_are_calm}
 use Rattle.exchange_bound.specs.Bound.{one_if}
 use Rattle.exchange_bound.specs.Events.{Runs, Cut, Votes, begun, levels, turns_on_events, step_events, step_row_events, steps_events}
 use Rattle.exchange_bound.specs.Spent as events

@@ -1,8 +1,8 @@
 -- The test of an `if` inside pardo: behind it those of the set are active whose value is true.
 use Rattle.std.proofs.Common.{◌≡◌, ℕ, ◌+◌, ◌*◌, ◌≤◌, List, [], ◌∷◌, ◌++◌, length, Bool, true, false, None, refl, sym, ap, ◌∙◌, subst, arith}
 use Rattle.std.specs.Prelude.{not}
-use Rattle.superstep_code.specs.declared.instr.Instr.{Instr}
-use Rattle.superstep_code.specs.declared.instr.Instr.TheVariants.{Mark, Mask}
+use Rattle.superstep_instructions.specs.declared.instr.Instr.{Instr}
+use Rattle.superstep_instructions.specs.declared.instr.Instr.TheVariants.{Mark, Mask}
 use Rattle.superstep_machine.specs.Keys.{least}
 use Rattle.pram_names.specs.declared.body.Expression.{Expression}
 use Rattle.pram_check.specs.Checked.{Checked}
@@ -14,24 +14,24 @@ use Rattle.pram_meaning.specs.Conflict.{Part}
 use Rattle.pram_meaning.specs.Store.{State}
 use Rattle.pram_meaning.specs.Together.{those}
 use Rattle.flat_machine.specs.Flat.{Flat, after_instr}
-use Rattle.stretches.specs.Along.{Run}
-use Rattle.stretches.specs.Folds.{Stand}
-use Rattle.stretches.specs.Frames.{Frame, StandsIn, present, is_true, narrowed}
-use Rattle.stretches.specs.Tells.{IsCalm}
-use Rattle.stretches.proofs.Frames.{masks_narrow, sets_narrow}
-use Rattle.stretches.proofs.Tells.{notes_nothing}
-use Rattle.evaluation.specs.Terms.{Gets, term_of}
-use Rattle.evaluation.specs.Rows.{rows, cut_parts}
-use Rattle.evaluation.specs.Effects.{AreFine}
-use Rattle.evaluation.proofs.Attempts.{test_parts}
-use Rattle.evaluation.proofs.Effects.{tests_are_values}
+use Rattle.flat_stretches.specs.Along.{Run}
+use Rattle.flat_stretches.specs.Folds.{Stand}
+use Rattle.flat_stretches.specs.Frames.{Frame, StandsIn, present, is_true, narrowed}
+use Rattle.flat_stretches.specs.Tells.{IsCalm}
+use Rattle.flat_stretches.proofs.Frames.{masks_narrow, sets_narrow}
+use Rattle.flat_stretches.proofs.Tells.{notes_nothing}
+use Rattle.statement_evaluation.specs.Terms.{Gets, term_of}
+use Rattle.statement_evaluation.specs.Rows.{rows, cut_parts}
+use Rattle.statement_evaluation.specs.Effects.{AreFine}
+use Rattle.statement_evaluation.proofs.Attempts.{test_parts}
+use Rattle.statement_evaluation.proofs.Effects.{tests_are_values}
 use Rattle.plain_form.specs.Formulas.{Formula, formula_of}
 use Rattle.plain_form.specs.Registers.{behind_locals}
 use Rattle.plain_form.specs.Shapes.{still}
-use Rattle.formed_code.specs.Straight.{masking}
-use Rattle.formed_code.proofs.Fine.{straight_parts_are_fine}
-use Rattle.formula_values.specs.Headings.{heading_of}
-use Rattle.formula_values.specs.Inside.{ShowsInside}
+use Rattle.verified_form.specs.Straight.{masking}
+use Rattle.verified_form.proofs.Fine.{straight_parts_are_fine}
+use Rattle.compiled_formulas.specs.Headings.{heading_of}
+use Rattle.compiled_formulas.specs.Inside.{ShowsInside}
 use Rattle.exchange_bound.specs.Events.{Event, Runs, behind, begun, levels}
 use Rattle.statement_runs.specs.Begins.{done}
 use Rattle.statement_runs.specs.Between.{IsRunOf}

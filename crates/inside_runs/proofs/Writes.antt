@@ -7,9 +7,9 @@ use Rattle.std.proofs.lemmas.List.{get_or_past}
 use Rattle.pram_model.specs.Layout.{cell_of, total_size}
 use Rattle.pram_model.proofs.Cells.{cell_below}
 use Rattle.write_rules.specs.Combining.{AreWriters}
-use Rattle.superstep_code.specs.declared.instr.Side.TheVariants.{Private}
-use Rattle.superstep_code.specs.declared.instr.Instr.{Instr}
-use Rattle.superstep_code.specs.declared.instr.Instr.TheVariants.{Put}
+use Rattle.superstep_instructions.specs.declared.instr.Side.TheVariants.{Private}
+use Rattle.superstep_instructions.specs.declared.instr.Instr.{Instr}
+use Rattle.superstep_instructions.specs.declared.instr.Instr.TheVariants.{Put}
 use Rattle.superstep_machine.specs.Sending.{settled}
 use Rattle.pram_check.specs.Checked.{Checked}
 use Rattle.pram_check.specs.Bounded.{names_of, with_locals}
@@ -18,31 +18,31 @@ use Rattle.pram_meaning.specs.Store.{State, member_of, seen_by}
 use Rattle.pram_meaning.specs.Together.{overwritten}
 use Rattle.pram_meaning.specs.Values.{HasValues, IsValue}
 use Rattle.flat_machine.specs.Flat.{Flat}
-use Rattle.stretches.specs.Applied.{IsBare}
-use Rattle.stretches.specs.Along.{Run}
-use Rattle.stretches.specs.Folds.{acts_at_once}
-use Rattle.stretches.specs.Frames.{Frame, StandsIn, present}
-use Rattle.stretches.specs.Notes.{notes}
-use Rattle.stretches.proofs.Folds.{bare_at_once}
-use Rattle.stretches.proofs.Joins.{acts_at_once_join}
-use Rattle.stretches.proofs.Notes.{notes_join}
-use Rattle.evaluation.specs.Terms.{Task, Writes}
-use Rattle.evaluation.specs.Whole.{value}
-use Rattle.evaluation.specs.Rows.{rows, cut_parts}
-use Rattle.evaluation.specs.Noted.{noted, verdict, writes_at}
-use Rattle.evaluation.specs.Effects.{AreFine}
-use Rattle.evaluation.proofs.Effects.{cells_are_settled, no_cell_is_lost}
+use Rattle.flat_stretches.specs.Applied.{IsBare}
+use Rattle.flat_stretches.specs.Along.{Run}
+use Rattle.flat_stretches.specs.Folds.{acts_at_once}
+use Rattle.flat_stretches.specs.Frames.{Frame, StandsIn, present}
+use Rattle.flat_stretches.specs.Notes.{notes}
+use Rattle.flat_stretches.proofs.Folds.{bare_at_once}
+use Rattle.flat_stretches.proofs.Joins.{acts_at_once_join}
+use Rattle.flat_stretches.proofs.Notes.{notes_join}
+use Rattle.statement_evaluation.specs.Terms.{Task, Writes}
+use Rattle.statement_evaluation.specs.Whole.{value}
+use Rattle.statement_evaluation.specs.Rows.{rows, cut_parts}
+use Rattle.statement_evaluation.specs.Noted.{noted, verdict, writes_at}
+use Rattle.statement_evaluation.specs.Effects.{AreFine}
+use Rattle.statement_evaluation.proofs.Effects.{cells_are_settled, no_cell_is_lost}
 use Rattle.plain_form.specs.Formulas.{Formula, Pair, positions}
 use Rattle.plain_form.specs.Groups.{evaluated, first_at, second_at}
 use Rattle.plain_form.specs.Registers.{behind_locals}
-use Rattle.formed_code.specs.Straight.{writing}
-use Rattle.formula_values.specs.Environments.{IsNamed}
-use Rattle.formula_values.specs.Headings.{heading_of}
-use Rattle.formula_values.specs.Inside.{ShowsInside}
-use Rattle.formula_values.specs.Tasks.{IsSingle}
-use Rattle.formula_values.specs.Terms.{term}
-use Rattle.formula_values.specs.Writes.{write_code, write_rows, IsWrittenInside}
-use Rattle.formula_values.proofs.WritesInside.{writes_are_tasks}
+use Rattle.verified_form.specs.Straight.{writing}
+use Rattle.compiled_formulas.specs.Environments.{IsNamed}
+use Rattle.compiled_formulas.specs.Headings.{heading_of}
+use Rattle.compiled_formulas.specs.Inside.{ShowsInside}
+use Rattle.compiled_formulas.specs.Tasks.{IsSingle}
+use Rattle.compiled_formulas.specs.Terms.{term}
+use Rattle.compiled_formulas.specs.Writes.{write_code, write_rows, IsWrittenInside}
+use Rattle.compiled_formulas.proofs.WritesInside.{writes_are_tasks}
 use Rattle.statement_runs.specs.Begins.{done}
 use Rattle.statement_runs.specs.Between.{IsRunOf}
 use Rattle.statement_runs.proofs.Valued.{value_fits}

@@ -6,11 +6,11 @@ use Rattle.pram_check.specs.Bounded.{AreSteps, names_of, with_locals}
 use Rattle.pram_meaning.specs.Store.{State}
 use Rattle.pram_meaning.specs.Bounded.{perform_list_on}
 use Rattle.flat_machine.specs.Flat.{Flat}
-use Rattle.stretches.specs.Along.{Run}
-use Rattle.stretches.specs.Folds.{Stand}
-use Rattle.stretches.specs.Tells.{IsCalm}
-use Rattle.stretches.specs.Frames as frames
-use Rattle.stretches.specs.Frames.{present}
+use Rattle.flat_stretches.specs.Along.{Run}
+use Rattle.flat_stretches.specs.Folds.{Stand}
+use Rattle.flat_stretches.specs.Tells.{IsCalm}
+use Rattle.flat_stretches.specs.Frames as frames
+use Rattle.flat_stretches.specs.Frames.{present}
 use Rattle.plain_form.specs.Registers.{behind_variables, behind_locals}
 use Rattle.plain_form.specs.Inside.{Frame, steps_code, steps_left}
 use Rattle.exchange_bound.specs.Events.{steps_events}

@@ -5,11 +5,11 @@ use Rattle.pram_check.specs.Checked.{Checked}
 use Rattle.pram_meaning.specs.Store.{State, Member}
 use Rattle.pram_meaning.specs.Values.{HasValues}
 use Rattle.flat_machine.specs.Flat.{Flat}
-use Rattle.stretches.specs.Applied.{applied}
-use Rattle.stretches.specs.Along.{Run}
-use Rattle.stretches.specs.Frames.{Frame, StandsIn}
+use Rattle.flat_stretches.specs.Applied.{applied}
+use Rattle.flat_stretches.specs.Along.{Run}
+use Rattle.flat_stretches.specs.Frames.{Frame, StandsIn}
 use Rattle.plain_form.specs.Registers.{behind_locals}
-use Rattle.formula_values.specs.Inside.{ShowsInside}
+use Rattle.compiled_formulas.specs.Inside.{ShowsInside}
 use Rattle.statement_runs.specs.Between.{IsBetween, HasSizes}
 
 -- The registers of processors from `base` on are free; those between the locals and `base` are the flags of open loops.

@@ -1,4 +1,4 @@
 //! Statements inside pardo on the machine.
 #![tactic(auto)]
 
-pub mod law;
+pub mod inside_laws;

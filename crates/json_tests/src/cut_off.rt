@@ -1,9 +1,8 @@
 // Lines of JSON that a stream doesn't take whole.
 
 use crate::calls::{SILENT, Shelf, call, owned};
-use command_line::command;
 use pram_syntax::{Buffer, Out, OutFailed};
-use program_texts::Status;
+use pramc::{Status, command};
 use std::test::Fail;
 
 const SMALL: &[u8] = b"rule crew; procs 1;\nshared s;\nbegin\nprint s;\nend\n";

@@ -1,7 +1,7 @@
 // Which words ask for JSON.
 
 use crate::calls::owned;
-use requests::asks_for_json;
+use command_requests::asks_for_json;
 use std::test::Fail;
 
 #[test]

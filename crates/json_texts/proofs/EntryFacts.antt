@@ -2,8 +2,8 @@
 use Rattle.std.proofs.Common.{◌≡◌, ◌∙◌, ◌<◌, ◌+◌, ◌++◌, List, ℕ, ap, drop, get_or, length, map, sym}
 use Rattle.std.proofs.lemmas.List.{drop_more}
 use Rattle.pram_model.specs.Layout.{SharedEntry}
-use Rattle.run_entries.specs.declared.entry as rust
-use Rattle.run_entries.specs.Entries.{entry_is}
+use Rattle.step_entries.specs.declared.entry as rust
+use Rattle.step_entries.specs.Entries.{entry_is}
 use Rattle.json_texts.specs.StepFacts.{step_within, steps_from}
 
 -- the entry at i, and those behind it

@@ -25,8 +25,8 @@ use Rattle.rule_comparison.specs.Compared.{finding_of, rules}
 use Rattle.rule_comparison.specs.declared.comparison.Comparison.{Comparison}
 use Rattle.rule_comparison.specs.declared.finding.Finding.{Finding}
 use Rattle.rule_comparison.specs.declared.finding.Finding.TheVariants as finding
-use Rattle.run_entries.specs.declared.change.Change.{Change}
-use Rattle.run_entries.specs.Entries.{Act, Entry, Faulting, Ran}
+use Rattle.step_entries.specs.declared.change.Change.{Change}
+use Rattle.step_entries.specs.Entries.{Act, Entry, Faulting, Ran}
 use Rattle.json_texts.specs.AcceptedFacts.{accepted_facts, accepted_fields}
 use Rattle.json_texts.specs.CostFacts.{bound_fields, cost_facts, cost_fields, line_facts, line_fields, round_fields}
 use Rattle.json_texts.specs.OutcomeFacts.{bounds_fields, entry_facts, fault_fields, memory_facts, outcome_facts, outcome_fields}

@@ -4,7 +4,7 @@ use Rattle.serde_json.specs.Data.{Data, null}
 use Rattle.json_lines.specs.Facts.{letters, list, object_of, value}
 use Rattle.pram_model.specs.Layout.{SharedEntry}
 use Rattle.program_texts.specs.Shown.{cell_text}
-use Rattle.run_entries.specs.Entries.{Act}
+use Rattle.step_entries.specs.Entries.{Act}
 
 -- the index of a processor, and null of the one outside pardo
 abbrev pub processor_fact : Option ℤ → Data

@@ -4,8 +4,8 @@ use Rattle.serde_json.specs.Data.{Data}
 use Rattle.json_lines.specs.Facts.{Field, count, letters, list, object_of, value, values}
 use Rattle.pram_model.specs.Layout.{SharedEntry}
 use Rattle.program_texts.specs.Shown.{cell_text}
-use Rattle.run_entries.specs.declared.change.Change.{Change}
-use Rattle.run_entries.specs.Entries.{Entry, Faulting, Ran}
+use Rattle.step_entries.specs.declared.change.Change.{Change}
+use Rattle.step_entries.specs.Entries.{Entry, Faulting, Ran}
 use Rattle.write_rules.specs.Verdict.{Verdict}
 use Rattle.json_texts.specs.ActFacts.{act_facts}
 use Rattle.json_texts.specs.OutcomeFacts.{fault_fields, outcome_facts}

@@ -10,7 +10,7 @@ ghost use Rattle.json_texts.specs.CostFacts as spec;
 
 use crate::outcome::put_outcome;
 use json_lines::{Object, Value, line_of};
-use pram_syntax::Layout;
+use pram_trees::Layout;
 use std::alloc::{AllocError, Global};
 use work_time::{Cost, LineCost};
 use write_rules::Outcome;

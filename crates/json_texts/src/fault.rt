@@ -9,10 +9,11 @@ ghost use Rattle.json_texts.specs.OutcomeFacts as spec;
 
 use itoa::Buffer as Digits;
 use json_lines::Object;
-use pram_syntax::{Buffer, Layout, Out, WriteFault};
+use pram_trees::Layout;
 use pram_values::{Kind, Place};
 use program_texts::write_cell;
 use std::alloc::{AllocError, Global};
+use text_out::{Buffer, Out, WriteFault};
 use write_rules::Fault;
 
 fn kind_word(kind: Kind) -> &'static str

@@ -7,7 +7,7 @@ ghost use Rattle.json_lines.specs.Shown.{shown};
 ghost use Rattle.json_texts.specs.OutcomeFacts as spec;
 
 use json_lines::{Object, Value};
-use pram_syntax::Layout;
+use pram_trees::Layout;
 use std::alloc::{AllocError, Global};
 
 // The bounds of an array.

@@ -11,7 +11,7 @@ ghost use Rattle.json_texts.specs.OutcomeFacts as spec;
 use crate::fault::put_fault;
 use crate::memory::memory_of;
 use json_lines::{Object, Value, line_of};
-use pram_syntax::Layout;
+use pram_trees::Layout;
 use std::alloc::{AllocError, Global};
 use write_rules::{Fault, Outcome};
 

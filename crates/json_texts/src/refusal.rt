@@ -9,7 +9,7 @@ ghost use Rattle.json_texts.specs.RefusalFacts as spec;
 
 use json_lines::{Object, line_of};
 use pram_check::{Breach, Cause, Limit, Spot};
-use pram_syntax::TextFault;
+use pram_trees::TextFault;
 use program_texts::{Refusal, Stop};
 use std::alloc::{AllocError, Global};
 use text_places::place_of;

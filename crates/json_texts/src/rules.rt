@@ -11,7 +11,7 @@ ghost use Rattle.json_texts.specs.RuleFacts as spec;
 use crate::fault::put_fault;
 use crate::rule::rule_name;
 use json_lines::{Object, Value, line_of};
-use pram_syntax::{Layout, Rule};
+use pram_trees::{Layout, Rule};
 use rule_comparison::{Comparison, Finding};
 use std::alloc::{AllocError, Global};
 

@@ -5,8 +5,8 @@ ghost use Rattle.serde_json.specs.View.{view};
 ghost use Rattle.json_lines.specs.Facts.{with_fields};
 ghost use Rattle.json_lines.specs.Lines.{Adds, IsJson};
 ghost use Rattle.json_lines.specs.Shown.{shown};
-ghost use Rattle.run_entries.specs.Entries.{act_is, entry_is};
-ghost use Rattle.run_entries.specs.Entries as entry;
+ghost use Rattle.step_entries.specs.Entries.{act_is, entry_is};
+ghost use Rattle.step_entries.specs.Entries as entry;
 ghost use Rattle.write_rules.specs.Verdict.{verdict_of};
 ghost use Rattle.json_texts.specs.OutcomeFacts.{outcome_facts};
 ghost use Rattle.json_texts.specs.StepFacts as spec;
@@ -15,9 +15,9 @@ use crate::acts::acts_facts;
 use crate::fault::{cell_text, put_fault};
 use crate::outcome::outcome_value;
 use json_lines::{Object, Value, push_line};
-use pram_syntax::Layout;
-use run_entries::{Act, Change, Entry};
+use pram_trees::Layout;
 use std::alloc::{AllocError, Global};
+use step_entries::{Act, Change, Entry};
 use write_rules::{Fault, Outcome};
 
 // A cell's value before and behind.

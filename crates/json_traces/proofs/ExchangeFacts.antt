@@ -5,7 +5,7 @@ use Rattle.json_lines.specs.Small.{IsReadable}
 use Rattle.json_lines.proofs.Small.{small_count, small_counts, small_object, small_word, smaller}
 use Rattle.superstep_machine.specs.Trace.{Exchange, relation_of}
 use Rattle.write_rules.specs.Verdict.{Verdict}
-use Rattle.exchange_counts.specs.Told.{exchange_at, no_exchange}
+use Rattle.exchange_counts.specs.CountedExchanges.{exchange_at, no_exchange}
 use Rattle.json_traces.specs.TraceFacts.{exchange_facts, exchange_fields, exchanges_from, purpose_word, way, way_facts}
 
 -- the exchange at i, and those behind it

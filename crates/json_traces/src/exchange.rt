@@ -3,7 +3,7 @@
 ghost use Rattle.std.specs.Prelude.{◌≡◌, ◌≤◌, ◌<◌, IfOk, length};
 ghost use Rattle.serde_json.specs.View.{view};
 ghost use Rattle.worker_messages.specs.Shown.{purpose_is};
-ghost use Rattle.exchange_counts.specs.Told.{exchange_at};
+ghost use Rattle.exchange_counts.specs.CountedExchanges.{exchange_at};
 ghost use Rattle.json_traces.specs.TraceFacts as spec;
 
 use exchange_counts::{Counts, Step};

@@ -4,7 +4,7 @@ ghost use Rattle.std.specs.Prelude.{◌≡◌, ◌≤◌, ◌∷◌, [], IfOk, O
 ghost use Rattle.serde_json.specs.View.{view};
 ghost use Rattle.json_lines.specs.Lines.{Adds, IsJson};
 ghost use Rattle.write_rules.specs.Verdict.{verdict_of};
-ghost use Rattle.exchange_counts.specs.Told.{exchange_at};
+ghost use Rattle.exchange_counts.specs.CountedExchanges.{exchange_at};
 ghost use Rattle.json_traces.specs.TraceFacts as spec;
 
 use crate::exchange::exchange_facts;

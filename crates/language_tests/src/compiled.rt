@@ -1,7 +1,7 @@
 // What rows are made of: programs, and numbers.
 
 use pram_check::{Program, check};
-use pram_parser::parse;
+use pram_syntax::parse;
 use std::alloc::Global;
 
 pub(crate) fn accepted(alloc: Global, text: &[u8]) -> Option<Program> {

@@ -1,7 +1,7 @@
 // What is said behind a refusal and behind a fault, with `--explain` or on a terminal.
 
 use crate::rows::{SILENT, call_on, prints};
-use pramc_command::Terminal;
+use pramc::Terminal;
 use std::test::Fail;
 
 // A command line, a program, an input, and what that comes to: both streams and the exit status.

@@ -2,15 +2,12 @@
 // each vote, one for each write that goes alone, and one for the close.
 
 use crate::compiled::number;
-use compiling::compile;
 use flat_run::flat_exchanges;
 use pram_syntax::read_input;
-use pramc::{Options, run_text};
-use run_options::MapChoice;
+use pramc::{MapChoice, OpenGate, Options, compile, run_text};
 use std::alloc::Global;
 use std::sync::Wait;
 use std::thread::Threads;
-use workers::OpenGate;
 
 // A text, its input and its bound, and how many exchanges its run has.
 type Count = (&'static str, &'static str, &'static str, usize);

@@ -2,7 +2,7 @@
 
 use crate::rows::{call, prints};
 use pram_syntax::Buffer;
-use program_texts::Status;
+use pramc::Status;
 use std::alloc::Global;
 use std::str::from_utf8;
 use std::sync::Wait;

@@ -1,9 +1,7 @@
 // How a row of the tests is tried: what the program prints for it, and its exit status.
 
-use command_line::command;
 use pram_syntax::Buffer;
-use pramc_command::Terminal;
-use program_texts::{SourceFault, Sources, Status};
+use pramc::{SourceFault, Sources, Status, Terminal, command};
 use std::alloc::{AllocError, Global};
 use std::sync::Wait;
 use std::thread::Threads;

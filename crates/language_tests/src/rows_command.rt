@@ -1,9 +1,8 @@
 // What the program prints for its command line, its files and its writers.
 
 use crate::rows::{SILENT, Shelf, call, prints};
-use command_line::command;
 use pram_syntax::{Buffer, Out, OutFailed};
-use program_texts::Status;
+use pramc::{Status, command};
 use std::test::Fail;
 
 const SUM: &[u8] =

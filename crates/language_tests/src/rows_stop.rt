@@ -2,7 +2,7 @@
 
 use pram_check::{Breach, Cause, CheckFault, Limit, Spot};
 use pram_syntax::{Buffer, OutFailed, TextFault, WriteFault};
-use program_texts::{Refusal, Stop, write_stop};
+use pramc::{Refusal, Stop, write_stop};
 use std::alloc::{AllocError, Global};
 use std::test::Fail;
 

@@ -1,7 +1,7 @@
 // What programs do statement by statement: what `steps` prints for them.
 
 use crate::rows::{SILENT, call_on, prints};
-use pramc_command::Terminal;
+use pramc::Terminal;
 use std::alloc::Global;
 use std::sync::Wait;
 use std::test::Fail;

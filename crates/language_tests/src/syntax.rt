@@ -1,8 +1,6 @@
 //! Texts, each with the refusal and the offset that were worked out by hand.
 
-use pram_parser::parse;
-use pram_printer::print_tree;
-use pram_syntax::{Buffer, Location, Rule, TextFault, read_input};
+use pram_syntax::{Buffer, Location, Rule, TextFault, parse, print_tree, read_input};
 use std::alloc::Global;
 use std::test::Fail;
 

@@ -1,9 +1,7 @@
 // What is written to writers that take little at a time, and to those that fail: what they have taken then is a beginning of the text.
 
 use crate::narrow::Narrow;
-use pram_parser::parse;
-use pram_printer::print_tree;
-use pram_syntax::WriteFault;
+use pram_syntax::{WriteFault, parse, print_tree};
 use program_texts::{Report, meaning_of_text, show};
 use std::alloc::Global;
 

@@ -2,8 +2,8 @@
 use Rattle.std.proofs.Common.{◌≡◌, ℕ, ◌+◌, Bool, false, List, [], ◌∷◌, ◌++◌, length, ap, ◌∙◌, sym, refl, append_assoc, length-append}
 use Rattle.std.proofs.Common.{length-set, arith, set, Result, Ok, Err, OnOk, nat_eq}
 use Rattle.std.proofs.Math.Seq.{set-append_seam}
-use Rattle.superstep_code.specs.declared.instr.Instr.{Instr}
-use Rattle.superstep_code.specs.declared.instr.Instr.TheVariants.{Jump, JumpIfZero, Halt}
+use Rattle.superstep_instructions.specs.declared.instr.Instr.{Instr}
+use Rattle.superstep_instructions.specs.declared.instr.Instr.TheVariants.{Jump, JumpIfZero, Halt}
 use Rattle.plain_form.specs.Shapes.{flush, sent, looped, turned, chosen}
 use Rattle.pram_names.specs.declared.body.Statement.{Statement}
 use Rattle.lowering.specs.Parts.{are_some}

@@ -1,7 +1,7 @@
 -- How long code is.
 use Rattle.std.proofs.Common.{◌≡◌, ℕ, ◌+◌, ◌≤◌, Bool, List, [], ◌∷◌, length, ◌∙◌, sym, length-append, arith}
-use Rattle.superstep_code.specs.declared.instr.Instr.{Instr}
-use Rattle.superstep_code.specs.declared.instr.Instr.TheVariants.{Jump, JumpIfZero}
+use Rattle.superstep_instructions.specs.declared.instr.Instr.{Instr}
+use Rattle.superstep_instructions.specs.declared.instr.Instr.TheVariants.{Jump, JumpIfZero}
 use Rattle.pram_names.specs.declared.body.Statement.{Statement}
 use Rattle.lowering.specs.Blocks.{part, joined}
 use Rattle.straight_lowering.specs.Written.{Written, wrote, patched}

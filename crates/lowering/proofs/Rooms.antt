@@ -3,7 +3,7 @@ use Rattle.std.proofs.Common.{◌≡◌, ℕ, ◌+◌, ◌*◌, ◌<◌, ◌≤�
 use Rattle.std.specs.Prelude.{MatchOption, slice_get}
 use Rattle.std.proofs.lemmas.Option.{slice_get_within}
 use Rattle.pram_model.specs.Layout.{SharedEntry}
-use Rattle.superstep_code.specs.declared.instr.Instr.TheVariants.{Halt}
+use Rattle.superstep_instructions.specs.declared.instr.Instr.TheVariants.{Halt}
 use Rattle.pram_names.specs.declared.body.Expression as body
 use Rattle.pram_names.specs.declared.body.Expression.{Expression, Element', Prefix', Chain', Row_of-Link, end_of-Link, more_of-Link}
 use Rattle.pram_names.specs.declared.body.Target.{Target}
@@ -24,7 +24,7 @@ use Rattle.plain_form.specs.Formulas.{Formula, Zero, Between, Pair, formula_of, 
 use Rattle.plain_form.specs.Outside.{statements_code}
 use Rattle.plain_form.proofs.TextWords.{code_fits}
 use Rattle.plain_form.proofs.KeptReads.{reads_of}
-use Rattle.formed_code.proofs.SmallSteps.{positions_of, local_count}
+use Rattle.verified_form.proofs.SmallSteps.{positions_of, local_count}
 use Rattle.straight_lowering.specs.Room.{height, HasShortNames, IsRoomFor, IsAssignRoom, IsInnerAssignRoom}
 use Rattle.lowering.specs.Room.{StepHasRoom, PartHasRoom, StepsHaveRoom, StatementHasRoom, BlockHasRoom, StatementsHaveRoom}
 

@@ -1,8 +1,8 @@
 -- The statements inside a statement outside pardo have room, and places, where it has.
 use Rattle.std.proofs.Common.{◌≡◌, ℕ, zero, suc, ◌+◌, ◌<◌, ◌≤◌, ◌^◌, Bool, true, false, List, [], ◌∷◌, length, take, get_or, ap, sym}
 use Rattle.std.proofs.Common.{refl, subst, length-append, arith, Global, Vec}
-use Rattle.superstep_code.specs.declared.instr.Side.TheVariants.{Uniform}
-use Rattle.superstep_code.specs.declared.instr.Instr.TheVariants.{Halt}
+use Rattle.superstep_instructions.specs.declared.instr.Side.TheVariants.{Uniform}
+use Rattle.superstep_instructions.specs.declared.instr.Instr.TheVariants.{Halt}
 use Rattle.pram_names.specs.declared.body.Expression.{Expression}
 use Rattle.pram_names.specs.declared.body.Statement as statement
 use Rattle.pram_names.specs.declared.body.Statement.{Statement, Row_of-Statement, end_of-Statement, more_of-Statement, items-the_row-Statement}

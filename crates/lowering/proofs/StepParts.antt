@@ -2,7 +2,7 @@
 use Rattle.std.proofs.Common.{◌≡◌, ℕ, ◌+◌, Bool, true, false, List, [], ◌∷◌, ◌++◌, length, take, get_or, ◌<◌, ap, ◌∙◌, sym, refl}
 use Rattle.std.proofs.Common.{append_assoc, length-append, arith, Global, Vec}
 use Rattle.std.proofs.lemmas.List.{append-nil, take_more}
-use Rattle.superstep_code.specs.declared.instr.Instr.TheVariants.{Unmask}
+use Rattle.superstep_instructions.specs.declared.instr.Instr.TheVariants.{Unmask}
 use Rattle.pram_names.specs.declared.body.Expression.{Expression}
 use Rattle.pram_names.specs.declared.body.Step as step
 use Rattle.pram_names.specs.declared.body.Step.{Step, Row_of-Step, end_of-Step, more_of-Step, items-the_row-Step}

@@ -1,7 +1,7 @@
 -- The statements inside a statement inside pardo have room, and places, where it has.
 use Rattle.std.proofs.Common.{◌≡◌, ℕ, zero, suc, ◌+◌, ◌<◌, ◌≤◌, ◌^◌, Bool, false, List, [], ◌∷◌, length, take, get_or, ap, sym, refl}
 use Rattle.std.proofs.Common.{subst, length-append, arith, Global, Vec}
-use Rattle.superstep_code.specs.declared.instr.Instr.TheVariants.{Unmask}
+use Rattle.superstep_instructions.specs.declared.instr.Instr.TheVariants.{Unmask}
 use Rattle.pram_names.specs.declared.body.Expression.{Expression}
 use Rattle.pram_names.specs.declared.body.Step as step
 use Rattle.pram_names.specs.declared.body.Step.{Step, Row_of-Step, end_of-Step, more_of-Step, items-the_row-Step}

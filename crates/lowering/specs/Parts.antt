@@ -1,7 +1,7 @@
 -- The code of statements with parts, whose parts are lists.
 use Rattle.std.specs.Prelude.{ℕ, ◌+◌, Bool, true, false, List, [], ◌∷◌, ◌++◌, length}
-use Rattle.superstep_code.specs.declared.instr.Instr.{Instr}
-use Rattle.superstep_code.specs.declared.instr.Instr.TheVariants.{Unmask}
+use Rattle.superstep_instructions.specs.declared.instr.Instr.{Instr}
+use Rattle.superstep_instructions.specs.declared.instr.Instr.TheVariants.{Unmask}
 use Rattle.pram_names.specs.declared.body.Step.{Step}
 use Rattle.plain_form.specs.Formulas.{Formula}
 use Rattle.plain_form.specs.Shapes as shapes

@@ -2,10 +2,10 @@
 
 ghost use Rattle.std.specs.Prelude.{◌≡◌, ◌≤◌, ◌∷◌, [], max};
 ghost use Rattle.std.specs.List.{AllByRecursion};
-ghost use Rattle.superstep_code.specs.Limits.{IsInstr, most_registers};
+ghost use Rattle.superstep_instructions.specs.Limits.{IsInstr, most_registers};
 ghost use Rattle.plain_form.specs.Registers as spec;
 
-use superstep_code::{Instr, Side};
+use superstep_instructions::{Instr, Side};
 
 // One more than a register, if it is of that side.
 fn behind(side: Side, on: Side, register: u16) -> u32

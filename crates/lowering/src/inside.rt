@@ -13,7 +13,7 @@ ghost use Rattle.straight_lowering.specs.Written.{wrote};
 use pram_check::{Expression, Step};
 use std::alloc::AllocError;
 use straight_lowering::{Emitter, flagged, flags, masked, next_register, step_assign};
-use superstep_code::Instr;
+use superstep_instructions::Instr;
 
 /// A statement inside pardo, with all that it holds. Votes go to the uniform register `vote`, and
 /// the private registers from `base` on are free.

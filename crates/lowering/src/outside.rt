@@ -9,7 +9,7 @@ ghost use Rattle.plain_form.specs.Registers as registers;
 ghost use Rattle.plain_form.specs.Shapes as shapes;
 ghost use Rattle.lowering.specs.Blocks as blocks;
 ghost use Rattle.lowering.specs.Room.{StepsHaveRoom, StatementHasRoom, StatementsHaveRoom};
-ghost use Rattle.superstep_code.specs.declared.instr.Side.TheVariants as Side;
+ghost use Rattle.superstep_instructions.specs.declared.instr.Side.TheVariants as Side;
 ghost use Rattle.straight_lowering.specs.Room.{IsRoomFor};
 ghost use Rattle.straight_lowering.specs.Written.{wrote};
 
@@ -19,7 +19,7 @@ use std::alloc::AllocError;
 use straight_lowering::{
     Emitter, Turns, assign, bounds, entered, local, parted, print, setting, tested, turns_from,
 };
-use superstep_code::Instr;
+use superstep_instructions::Instr;
 
 // A pardo.
 fn pardo(

@@ -13,7 +13,7 @@ use pram_check::Program;
 use pram_model::Layout;
 use std::alloc::{AllocError, Global};
 use straight_lowering::{Emitter, variable};
-use superstep_code::{Code, Instr, Side};
+use superstep_instructions::{Code, Instr, Side};
 
 // The instructions of a program.
 fn instructions(alloc: Global, program: &Program) -> Result<Vec<Instr>, AllocError>

@@ -5,12 +5,12 @@ use Rattle.pram_model.specs.declared.rule.Rule.TheVariants.{Crew}
 use Rattle.pram_model.specs.Layout.{SharedEntry}
 use Rattle.address_map.specs.Lawful.{Shape, spread}
 use Rattle.address_map.specs.Permutation.{same}
-use Rattle.superstep_code.specs.declared.instr.Side.TheVariants.{Uniform, Private}
-use Rattle.superstep_code.specs.declared.instr.Instr.TheVariants.{Mark, Set, Index, Enter, Leave, Ask, Put, Send, Reply, Halt}
+use Rattle.superstep_instructions.specs.declared.instr.Side.TheVariants.{Uniform, Private}
+use Rattle.superstep_instructions.specs.declared.instr.Instr.TheVariants.{Mark, Set, Index, Enter, Leave, Ask, Put, Send, Reply, Halt}
 use Rattle.write_rules.specs.Verdict.{Verdict}
 use Rattle.superstep_machine.specs.declared.mark.HeaderMark.{HeaderMark}
 use Rattle.superstep_machine.specs.declared.mark.HeaderMark.TheVariants.{Clear}
-use Rattle.superstep_code.specs.Code.{SuperstepCode}
+use Rattle.superstep_instructions.specs.Code.{SuperstepCode}
 use Rattle.superstep_machine.specs.Machine.{run}
 use Rattle.superstep_machine.specs.Run.{bsp, opening, setting}
 

@@ -2,13 +2,13 @@
 use Rattle.std.specs.Prelude.{ℕ, List, [], ◌∷◌, pos, codes}
 use Rattle.pram_model.specs.declared.rule.Rule.TheVariants.{Crew}
 use Rattle.pram_model.specs.Layout.{SharedEntry}
-use Rattle.superstep_code.specs.declared.instr.Arithmetic.TheVariants.{Divide}
-use Rattle.superstep_code.specs.declared.instr.Truth.TheVariants.{Equal}
-use Rattle.superstep_code.specs.declared.instr.Side.TheVariants.{Uniform, Private}
-use Rattle.superstep_code.specs.declared.instr.Instr.{Instr}
-use Rattle.superstep_code.specs.declared.instr.Instr.TheVariants.{Mark, Set, Calculate, Decide, Enter, Leave, Mask, Unmask, Ask, Put, Send}
-use Rattle.superstep_code.specs.declared.instr.Instr.TheVariants.{Reply, Vote, Print, Halt}
-use Rattle.superstep_code.specs.Code.{SuperstepCode}
+use Rattle.superstep_instructions.specs.declared.instr.Arithmetic.TheVariants.{Divide}
+use Rattle.superstep_instructions.specs.declared.instr.Truth.TheVariants.{Equal}
+use Rattle.superstep_instructions.specs.declared.instr.Side.TheVariants.{Uniform, Private}
+use Rattle.superstep_instructions.specs.declared.instr.Instr.{Instr}
+use Rattle.superstep_instructions.specs.declared.instr.Instr.TheVariants.{Mark, Set, Calculate, Decide, Enter, Leave, Mask, Unmask, Ask, Put, Send}
+use Rattle.superstep_instructions.specs.declared.instr.Instr.TheVariants.{Reply, Vote, Print, Halt}
+use Rattle.superstep_instructions.specs.Code.{SuperstepCode}
 use Rattle.machine_examples.specs.Examples.{cell, array}
 
 -- code for at most so many processors, with three registers on each side

@@ -1,13 +1,13 @@
 -- Code with loops, masks, sums and votes.
 use Rattle.std.specs.Prelude.{[], ◌∷◌, pos, codes}
 use Rattle.pram_model.specs.declared.rule.Rule.TheVariants.{Erew, Crew, Sum}
-use Rattle.superstep_code.specs.declared.instr.Arithmetic.TheVariants.{Add, Subtract, Multiply}
-use Rattle.superstep_code.specs.declared.instr.Truth.TheVariants.{Less}
-use Rattle.superstep_code.specs.declared.instr.Side.TheVariants.{Uniform, Private}
-use Rattle.superstep_code.specs.declared.instr.Instr.TheVariants.{Mark, Set, Copy, Calculate, Decide, CopyUniform, Index, Enter, Leave}
-use Rattle.superstep_code.specs.declared.instr.Instr.TheVariants.{Mask, Flip, Unmask, Ask, Put, Send, Reply, Vote, Print, Jump, JumpIfZero}
-use Rattle.superstep_code.specs.declared.instr.Instr.TheVariants.{Halt}
-use Rattle.superstep_code.specs.Code.{SuperstepCode}
+use Rattle.superstep_instructions.specs.declared.instr.Arithmetic.TheVariants.{Add, Subtract, Multiply}
+use Rattle.superstep_instructions.specs.declared.instr.Truth.TheVariants.{Less}
+use Rattle.superstep_instructions.specs.declared.instr.Side.TheVariants.{Uniform, Private}
+use Rattle.superstep_instructions.specs.declared.instr.Instr.TheVariants.{Mark, Set, Copy, Calculate, Decide, CopyUniform, Index, Enter, Leave}
+use Rattle.superstep_instructions.specs.declared.instr.Instr.TheVariants.{Mask, Flip, Unmask, Ask, Put, Send, Reply, Vote, Print, Jump, JumpIfZero}
+use Rattle.superstep_instructions.specs.declared.instr.Instr.TheVariants.{Halt}
+use Rattle.superstep_instructions.specs.Code.{SuperstepCode}
 use Rattle.machine_examples.specs.Examples.{cell, array}
 
 -- Three turns, in each of which every processor adds its index to a register of its own and that register to its cell.

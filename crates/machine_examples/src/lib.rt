@@ -1,6 +1,6 @@
 //! What the definition of the machine gives for worked codes.
 #![tactic(auto)]
 
-pub mod law;
+pub mod example_laws;
 mod machine_law;
 mod worked_law;

@@ -1,11 +1,11 @@
 -- Instructions behind a state of the program that set free registers alone, and sends of nothing: it is still that state.
 use Rattle.std.proofs.Common.{◌≡◌, ◌≢◌, ℕ, ◌+◌, ◌<◌, ◌≤◌, List, ◌++◌, Bool, None, ℤ, refl, ap, ◌∙◌, arith}
-use Rattle.superstep_code.specs.declared.instr.Arithmetic.{Arithmetic}
-use Rattle.superstep_code.specs.declared.instr.Side.TheVariants.{Uniform}
-use Rattle.superstep_code.specs.declared.instr.Truth.{Truth}
-use Rattle.superstep_code.specs.declared.instr.Instr.{Instr}
-use Rattle.superstep_code.specs.declared.instr.Instr.TheVariants.{Copy, Decide, Calculate}
-use Rattle.superstep_code.specs.Code.{SuperstepCode}
+use Rattle.superstep_instructions.specs.declared.instr.Arithmetic.{Arithmetic}
+use Rattle.superstep_instructions.specs.declared.instr.Side.TheVariants.{Uniform}
+use Rattle.superstep_instructions.specs.declared.instr.Truth.{Truth}
+use Rattle.superstep_instructions.specs.declared.instr.Instr.{Instr}
+use Rattle.superstep_instructions.specs.declared.instr.Instr.TheVariants.{Copy, Decide, Calculate}
+use Rattle.superstep_instructions.specs.Code.{SuperstepCode}
 use Rattle.superstep_machine.specs.Keys.{least}
 use Rattle.superstep_machine.specs.Run.{items}
 use Rattle.superstep_machine.specs.Parts.{Registers, set_register}
@@ -16,14 +16,14 @@ use Rattle.pram_values.specs.Truth.{truth}
 use Rattle.pram_check.specs.Checked.{Checked}
 use Rattle.pram_meaning.specs.Store.{State}
 use Rattle.flat_machine.specs.Flat.{Flat, after_instr}
-use Rattle.stretches.specs.Folds.{acts_at_once}
-use Rattle.stretches.specs.Notes.{note, notes}
-use Rattle.stretches.proofs.Joins.{acts_at_once_join}
-use Rattle.stretches.proofs.Notes.{notes_join}
+use Rattle.flat_stretches.specs.Folds.{acts_at_once}
+use Rattle.flat_stretches.specs.Notes.{note, notes}
+use Rattle.flat_stretches.proofs.Joins.{acts_at_once_join}
+use Rattle.flat_stretches.proofs.Notes.{notes_join}
 use Rattle.plain_form.specs.Registers.{behind_variables}
 use Rattle.plain_form.specs.Shapes.{flush}
-use Rattle.formula_values.proofs.Operations.{set_here, set_there}
-use Rattle.formula_values.specs.Outside.{ShowsOutside}
+use Rattle.compiled_formulas.proofs.Operations.{set_here, set_there}
+use Rattle.compiled_formulas.specs.Outside.{ShowsOutside}
 use Rattle.statement_runs.proofs.Marked.{send_stays, send_notes}
 use Rattle.outside_runs.proofs.Evaluated.{Leaves}
 use Rattle.statement_runs.proofs.Marked.{unmoved}

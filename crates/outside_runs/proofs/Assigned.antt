@@ -1,8 +1,8 @@
 -- Assignments outside pardo: the run is led along them.
 use Rattle.std.proofs.Common.{◌≡◌, ℕ, ◌+◌, ◌≤◌, List, [], ◌∷◌, ◌++◌, length, max, Bool, true, false, refl, sym, ap, ◌∙◌, subst, arith}
-use Rattle.superstep_code.specs.declared.instr.Side.TheVariants.{Uniform}
-use Rattle.superstep_code.specs.declared.instr.Instr.{Instr}
-use Rattle.superstep_code.specs.declared.instr.Instr.TheVariants.{Mark}
+use Rattle.superstep_instructions.specs.declared.instr.Side.TheVariants.{Uniform}
+use Rattle.superstep_instructions.specs.declared.instr.Instr.{Instr}
+use Rattle.superstep_instructions.specs.declared.instr.Instr.TheVariants.{Mark}
 use Rattle.pram_names.specs.declared.body.Expression.{Expression}
 use Rattle.pram_names.specs.declared.body.Statement.{Assign}
 use Rattle.pram_names.specs.declared.body.Target.{Target}
@@ -13,24 +13,24 @@ use Rattle.pram_meaning.specs.Attempt.{attempt_assign}
 use Rattle.pram_meaning.specs.Store.{State, seen}
 use Rattle.pram_meaning.specs.Together.{after_write}
 use Rattle.pram_meaning.specs.Bounded.{Goes, then_do, evaluated, assign, perform}
-use Rattle.stretches.specs.Along.{Run}
-use Rattle.stretches.specs.Folds.{Stand}
-use Rattle.stretches.specs.Tells.{IsCalm}
-use Rattle.evaluation.specs.Terms.{Writes, term_of}
-use Rattle.evaluation.specs.Whole.{whole, cut}
-use Rattle.evaluation.proofs.Attempts.{whole_assignments}
+use Rattle.flat_stretches.specs.Along.{Run}
+use Rattle.flat_stretches.specs.Folds.{Stand}
+use Rattle.flat_stretches.specs.Tells.{IsCalm}
+use Rattle.statement_evaluation.specs.Terms.{Writes, term_of}
+use Rattle.statement_evaluation.specs.Whole.{whole, cut}
+use Rattle.statement_evaluation.proofs.Attempts.{whole_assignments}
 use Rattle.plain_form.specs.Formulas.{Formula, Zero, Pair, formula_of, nesting}
 use Rattle.plain_form.specs.Outside.{code, left}
 use Rattle.plain_form.specs.Registers.{behind_variables}
 use Rattle.plain_form.specs.Shapes as shapes
 use Rattle.plain_form.specs.Shapes.{flush, sent, still, waits, chosen, looped, turned}
-use Rattle.formed_code.specs.Straight.{writing}
-use Rattle.formed_code.proofs.Straight.{marks_come_first}
-use Rattle.formula_values.specs.Environments as environments
-use Rattle.formula_values.specs.Tasks.{IsSingle}
-use Rattle.formula_values.specs.Terms.{term}
-use Rattle.formula_values.proofs.Tasks.{expressions_are_single}
-use Rattle.formula_values.proofs.Terms.{expressions_are_terms, expressions_are_named}
+use Rattle.verified_form.specs.Straight.{writing}
+use Rattle.verified_form.proofs.Straight.{marks_come_first}
+use Rattle.compiled_formulas.specs.Environments as environments
+use Rattle.compiled_formulas.specs.Tasks.{IsSingle}
+use Rattle.compiled_formulas.specs.Terms.{term}
+use Rattle.compiled_formulas.proofs.Tasks.{expressions_are_single}
+use Rattle.compiled_formulas.proofs.Terms.{expressions_are_terms, expressions_are_named}
 use Rattle.exchange_bound.specs.Events as events
 use Rattle.exchange_bound.specs.Events.{Event, Runs, Cut, behind, row_events, list_events, turns_events, for_events}
 use Rattle.statement_runs.specs.Between.{IsRunOf}

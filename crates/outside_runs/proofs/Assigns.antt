@@ -1,8 +1,8 @@
 -- An assignment to a variable, a print, and the value of a test: the run follows them.
 use Rattle.std.proofs.Common.{◌≡◌, ℕ, ◌+◌, ◌*◌, ◌<◌, ◌≤◌, List, [], ◌∷◌, length, Bool, false, ℤ, refl, sym, subst, arith}
-use Rattle.superstep_code.specs.declared.instr.Side.TheVariants.{Uniform}
-use Rattle.superstep_code.specs.declared.instr.Instr.{Instr}
-use Rattle.superstep_code.specs.declared.instr.Instr.TheVariants.{Mark, Copy, Print}
+use Rattle.superstep_instructions.specs.declared.instr.Side.TheVariants.{Uniform}
+use Rattle.superstep_instructions.specs.declared.instr.Instr.{Instr}
+use Rattle.superstep_instructions.specs.declared.instr.Instr.TheVariants.{Mark, Copy, Print}
 use Rattle.pram_names.specs.declared.body.Expression.{Expression}
 use Rattle.pram_names.specs.declared.body.Target.TheVariants as target
 use Rattle.pram_check.specs.Checked.{Checked}
@@ -14,18 +14,18 @@ use Rattle.pram_meaning.specs.Bounded.{evaluated, found, assign, print}
 use Rattle.pram_meaning.specs.Together.{assigned}
 use Rattle.pram_meaning.specs.Values.{IsValue}
 use Rattle.flat_machine.specs.Flat.{Flat, after_instr}
-use Rattle.stretches.specs.Along.{Run}
-use Rattle.stretches.specs.Folds.{Stand}
-use Rattle.stretches.specs.Tells.{IsCalm}
-use Rattle.evaluation.specs.Terms.{term_of, assignment}
-use Rattle.evaluation.specs.Whole.{value, steps, whole}
-use Rattle.evaluation.proofs.Attempts.{whole_expressions, whole_assignments}
+use Rattle.flat_stretches.specs.Along.{Run}
+use Rattle.flat_stretches.specs.Folds.{Stand}
+use Rattle.flat_stretches.specs.Tells.{IsCalm}
+use Rattle.statement_evaluation.specs.Terms.{term_of, assignment}
+use Rattle.statement_evaluation.specs.Whole.{value, steps, whole}
+use Rattle.statement_evaluation.proofs.Attempts.{whole_expressions, whole_assignments}
 use Rattle.plain_form.specs.Registers.{variable, behind_variables}
 use Rattle.plain_form.specs.Formulas.{Formula, formula_of, nesting}
 use Rattle.plain_form.specs.Groups.{value_at}
 use Rattle.plain_form.specs.Shapes.{still}
-use Rattle.formed_code.specs.Straight.{getting, printing}
-use Rattle.formed_code.proofs.Fine.{straight_parts_are_fine}
+use Rattle.verified_form.specs.Straight.{getting, printing}
+use Rattle.verified_form.proofs.Fine.{straight_parts_are_fine}
 use Rattle.exchange_bound.specs.Events as events
 use Rattle.exchange_bound.specs.Events.{Event, Runs}
 use Rattle.statement_runs.specs.Between.{IsRunOf}

@@ -4,10 +4,10 @@ use Rattle.std.proofs.Common.{refl, sym, ap, ◌∙◌, subst, arith, append_ass
 use Rattle.pram_values.specs.Truth.{truth}
 use Rattle.pram_values.specs.Value.{checked}
 use Rattle.pram_values.specs.declared.place.Place.TheVariants.{All}
-use Rattle.superstep_code.specs.declared.instr.Side.TheVariants.{Uniform}
-use Rattle.superstep_code.specs.declared.instr.Truth.TheVariants as comparison
-use Rattle.superstep_code.specs.declared.instr.Instr.{Instr}
-use Rattle.superstep_code.specs.declared.instr.Instr.TheVariants.{Mark, Copy, Decide}
+use Rattle.superstep_instructions.specs.declared.instr.Side.TheVariants.{Uniform}
+use Rattle.superstep_instructions.specs.declared.instr.Truth.TheVariants as comparison
+use Rattle.superstep_instructions.specs.declared.instr.Instr.{Instr}
+use Rattle.superstep_instructions.specs.declared.instr.Instr.TheVariants.{Mark, Copy, Decide}
 use Rattle.superstep_machine.specs.Keys.{least}
 use Rattle.pram_names.specs.declared.body.Expression.{Expression}
 use Rattle.pram_check.specs.Checked.{Checked}
@@ -17,29 +17,29 @@ use Rattle.pram_meaning.specs.Attempt.{attempt_bounds}
 use Rattle.pram_meaning.specs.Store.{State, View, seen, with_uniform}
 use Rattle.pram_meaning.specs.Bounded.{Done, Goes, Stops, Reaches, then_do, counted, valued, evaluated}
 use Rattle.pram_meaning.specs.Values.{IsValue}
-use Rattle.evaluation.specs.Told.{unless_told}
+use Rattle.statement_evaluation.specs.LeastFaults.{unless_told}
 use Rattle.flat_machine.specs.Flat.{Flat}
 use Rattle.flat_machine.proofs.Late.{none_least}
-use Rattle.stretches.specs.Along.{Run}
-use Rattle.stretches.specs.Folds.{Stand, acts_at_once}
-use Rattle.stretches.specs.Notes.{notes}
-use Rattle.stretches.specs.Tells.{IsCalm}
-use Rattle.evaluation.specs.Noted.{notes_behind}
-use Rattle.evaluation.specs.Terms.{term_of}
-use Rattle.evaluation.specs.Whole.{value, steps, whole_bounds}
-use Rattle.evaluation.proofs.Attempts.{whole_bounds_of}
+use Rattle.flat_stretches.specs.Along.{Run}
+use Rattle.flat_stretches.specs.Folds.{Stand, acts_at_once}
+use Rattle.flat_stretches.specs.Notes.{notes}
+use Rattle.flat_stretches.specs.Tells.{IsCalm}
+use Rattle.statement_evaluation.specs.Noted.{notes_behind}
+use Rattle.statement_evaluation.specs.Terms.{term_of}
+use Rattle.statement_evaluation.specs.Whole.{value, steps, whole_bounds}
+use Rattle.statement_evaluation.proofs.Attempts.{whole_bounds_of}
 use Rattle.plain_form.specs.Registers.{behind_variables, behind_turns, turn, high, more}
 use Rattle.plain_form.specs.Formulas.{Formula, Zero, Pair, formula_of, nesting, reads}
 use Rattle.plain_form.specs.Groups as groups
 use Rattle.plain_form.specs.Groups.{first_at, second_at, stack}
 use Rattle.plain_form.specs.Shapes.{flush, still}
-use Rattle.formed_code.specs.Straight.{evaluation, bounding, stepping}
-use Rattle.formed_code.proofs.Fine.{straight_parts_are_fine}
-use Rattle.formula_values.specs.Environments.{IsNamed}
-use Rattle.formula_values.specs.Headings.{heading_of}
-use Rattle.formula_values.specs.Terms.{steps_in}
-use Rattle.formula_values.proofs.Outside.{pairs_are_evaluated_outside}
-use Rattle.formula_values.proofs.Terms.{expressions_are_terms, steps_are_steps, expressions_are_named}
+use Rattle.verified_form.specs.Straight.{evaluation, bounding, stepping}
+use Rattle.verified_form.proofs.Fine.{straight_parts_are_fine}
+use Rattle.compiled_formulas.specs.Environments.{IsNamed}
+use Rattle.compiled_formulas.specs.Headings.{heading_of}
+use Rattle.compiled_formulas.specs.Terms.{steps_in}
+use Rattle.compiled_formulas.proofs.Outside.{pairs_are_evaluated_outside}
+use Rattle.compiled_formulas.proofs.Terms.{expressions_are_terms, steps_are_steps, expressions_are_named}
 use Rattle.exchange_bound.specs.Events as events
 use Rattle.exchange_bound.specs.Events.{Event, Runs, Cut}
 use Rattle.exchange_bound.specs.Bound.{one_if}

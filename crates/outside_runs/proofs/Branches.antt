@@ -2,9 +2,9 @@
 use Rattle.std.proofs.Common.{◌≡◌, ℕ, ◌+◌, ◌≤◌, List, [], ◌∷◌, ◌++◌, length, Bool, true, false, subst, arith}
 use Rattle.std.proofs.Common.{length-append}
 use Rattle.std.specs.Prelude.{if◌then◌else◌}
-use Rattle.superstep_code.specs.declared.instr.Side.TheVariants.{Uniform}
-use Rattle.superstep_code.specs.declared.instr.Instr.{Instr}
-use Rattle.superstep_code.specs.declared.instr.Instr.TheVariants.{Mark, Jump}
+use Rattle.superstep_instructions.specs.declared.instr.Side.TheVariants.{Uniform}
+use Rattle.superstep_instructions.specs.declared.instr.Instr.{Instr}
+use Rattle.superstep_instructions.specs.declared.instr.Instr.TheVariants.{Mark, Jump}
 use Rattle.pram_names.specs.declared.body.Expression.{Expression}
 use Rattle.pram_values.specs.Truth.{is_nonzero}
 use Rattle.pram_check.specs.Checked.{Checked}
@@ -12,17 +12,17 @@ use Rattle.pram_check.specs.Bounded.{IsNamed, names_of}
 use Rattle.pram_meaning.specs.Store.{State}
 use Rattle.pram_meaning.specs.Bounded.{Done, Goes, then_do, tested}
 use Rattle.flat_machine.specs.Flat.{Flat}
-use Rattle.stretches.specs.Along.{Run}
-use Rattle.stretches.specs.Folds.{Stand}
-use Rattle.stretches.specs.Tells.{IsCalm}
-use Rattle.stretches.proofs.Joins.{stands_split}
+use Rattle.flat_stretches.specs.Along.{Run}
+use Rattle.flat_stretches.specs.Folds.{Stand}
+use Rattle.flat_stretches.specs.Tells.{IsCalm}
+use Rattle.flat_stretches.proofs.Joins.{stands_split}
 use Rattle.plain_form.specs.Formulas.{formula_of, nesting}
 use Rattle.plain_form.specs.Groups.{value_at}
 use Rattle.plain_form.specs.Registers.{behind_variables}
 use Rattle.plain_form.specs.Shapes.{flush, sent, chosen}
-use Rattle.formed_code.specs.Calm.{BeginsCalm}
-use Rattle.formed_code.specs.Straight.{testing}
-use Rattle.formed_code.proofs.Calm.{statements_begin_calm, parts_end_calm, branches_are_calm}
+use Rattle.verified_form.specs.Calm.{BeginsCalm}
+use Rattle.verified_form.specs.Straight.{testing}
+use Rattle.verified_form.proofs.Calm.{statements_begin_calm, parts_end_calm, branches_are_calm}
 use Rattle.exchange_bound.specs.Events as events
 use Rattle.exchange_bound.specs.Events.{Event, Runs, Cut, behind, row_events, list_events, turns_events, for_events}
 use Rattle.statement_runs.specs.Between.{IsRunOf}

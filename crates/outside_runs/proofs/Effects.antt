@@ -3,9 +3,9 @@ use Rattle.std.proofs.Common.{◌≡◌, ◌≢◌, ℕ, ◌<◌, ◌≤◌, [],
 use Rattle.std.proofs.Common.{arith, eqb, get_or}
 use Rattle.std.specs.Prelude.{slice_index_or, slice_set}
 use Rattle.std.proofs.lemmas.List.{get_or-set_same, get_or-set_other, map-append}
-use Rattle.superstep_code.specs.declared.instr.Side.TheVariants.{Uniform}
-use Rattle.superstep_code.specs.declared.instr.Instr.TheVariants.{Copy, Print}
-use Rattle.superstep_code.specs.Code.{SuperstepCode}
+use Rattle.superstep_instructions.specs.declared.instr.Side.TheVariants.{Uniform}
+use Rattle.superstep_instructions.specs.declared.instr.Instr.TheVariants.{Copy, Print}
+use Rattle.superstep_instructions.specs.Code.{SuperstepCode}
 use Rattle.superstep_machine.specs.Parts.{set_register}
 use Rattle.superstep_machine.specs.Steps.{is_active}
 use Rattle.superstep_machine.proofs.Numbers.{same_number, with_itself}
@@ -13,9 +13,9 @@ use Rattle.pram_check.specs.Checked.{Checked}
 use Rattle.pram_meaning.specs.Store.{State, with_uniform, printed}
 use Rattle.flat_machine.specs.Flat.{Flat, after_instr}
 use Rattle.flat_machine.proofs.Late.{none_least}
-use Rattle.stretches.specs.Notes.{note, notes}
+use Rattle.flat_stretches.specs.Notes.{note, notes}
 use Rattle.plain_form.specs.Registers.{variable, behind_variables}
-use Rattle.formula_values.proofs.Operations.{set_here, set_there}
+use Rattle.compiled_formulas.proofs.Operations.{set_here, set_there}
 use Rattle.statement_runs.specs.Between.{HasSizes}
 use Rattle.outside_runs.proofs.Evaluated.{Leaves}
 use Rattle.statement_runs.proofs.Marked.{unmoved}

@@ -8,9 +8,9 @@ use Rattle.std.proofs.lemmas.List.{length-replicate, get_or-replicate}
 use Rattle.pram_model.specs.Layout.{width}
 use Rattle.pram_values.specs.declared.kind.Kind.TheVariants.{TooWide}
 use Rattle.pram_values.specs.declared.place.Place.TheVariants.{All}
-use Rattle.superstep_code.specs.declared.instr.Instr.TheVariants as instr
-use Rattle.superstep_code.specs.declared.instr.Instr.TheVariants.{Enter}
-use Rattle.superstep_code.specs.Code.{SuperstepCode}
+use Rattle.superstep_instructions.specs.declared.instr.Instr.TheVariants as instr
+use Rattle.superstep_instructions.specs.declared.instr.Instr.TheVariants.{Enter}
+use Rattle.superstep_instructions.specs.Code.{SuperstepCode}
 use Rattle.superstep_machine.specs.Keys.{least}
 use Rattle.superstep_machine.specs.Parts.{zeros}
 use Rattle.superstep_machine.specs.Results.{range_width, or_empty, kind_of}
@@ -21,14 +21,14 @@ use Rattle.pram_meaning.specs.Values.{IsMember, IsValue, HasValues}
 use Rattle.pram_meaning.proofs.SoundValues.{AreNumbers, numbers_first, numbers_rest, width_values, zeros_are}
 use Rattle.flat_machine.specs.Flat.{Flat, after_instr}
 use Rattle.flat_machine.proofs.Late.{none_least}
-use Rattle.stretches.specs.Frames.{everybody, StandsIn}
-use Rattle.stretches.specs.Notes.{note, notes}
-use Rattle.evaluation.specs.Noted.{note_key}
+use Rattle.flat_stretches.specs.Frames.{everybody, StandsIn}
+use Rattle.flat_stretches.specs.Notes.{note, notes}
+use Rattle.statement_evaluation.specs.Noted.{note_key}
 use Rattle.plain_form.specs.Registers.{index, behind_locals}
-use Rattle.formula_values.specs.Headings.{heading_of}
-use Rattle.formula_values.specs.Inside.{ShowsInside}
-use Rattle.formula_values.proofs.Operations.{set_there}
-use Rattle.formula_values.proofs.UniformSteps.{fault_is}
+use Rattle.compiled_formulas.specs.Headings.{heading_of}
+use Rattle.compiled_formulas.specs.Inside.{ShowsInside}
+use Rattle.compiled_formulas.proofs.Operations.{set_there}
+use Rattle.compiled_formulas.proofs.UniformSteps.{fault_is}
 use Rattle.outside_runs.proofs.Evaluated.{Leaves}
 use Rattle.outside_runs.proofs.UniformWork.{nothing_either, noted_alone}
 

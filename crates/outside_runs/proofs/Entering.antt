@@ -1,10 +1,10 @@
 -- The beginning of a pardo: the run follows it, and stands inside with all its processors active.
 use Rattle.std.proofs.Common.{◌≡◌, ℕ, ◌+◌, ◌*◌, ◌<◌, ◌≤◌, List, [], ◌∷◌, length, Bool, false, ℤ, refl, sym, ap, ◌∙◌, subst, arith}
 use Rattle.pram_values.specs.declared.place.Place.TheVariants.{All}
-use Rattle.superstep_code.specs.declared.instr.Side.TheVariants.{Uniform}
-use Rattle.superstep_code.specs.declared.instr.Instr.{Instr}
-use Rattle.superstep_code.specs.declared.instr.Instr.TheVariants as instr
-use Rattle.superstep_code.specs.declared.instr.Instr.TheVariants.{Mark, Enter}
+use Rattle.superstep_instructions.specs.declared.instr.Side.TheVariants.{Uniform}
+use Rattle.superstep_instructions.specs.declared.instr.Instr.{Instr}
+use Rattle.superstep_instructions.specs.declared.instr.Instr.TheVariants as instr
+use Rattle.superstep_instructions.specs.declared.instr.Instr.TheVariants.{Mark, Enter}
 use Rattle.superstep_machine.specs.Keys.{least}
 use Rattle.superstep_machine.specs.Results.{range_width, or_empty, kind_of}
 use Rattle.superstep_machine.specs.Run.{items}
@@ -16,29 +16,29 @@ use Rattle.pram_meaning.specs.Attempt.{attempt_range}
 use Rattle.pram_meaning.specs.Store.{State, View, seen, with_team}
 use Rattle.pram_meaning.specs.Bounded.{evaluated}
 use Rattle.flat_machine.specs.Flat.{Flat, after_instr}
-use Rattle.stretches.specs.Along.{Run}
-use Rattle.stretches.specs.Folds.{Stand, acts_at_once, costs}
-use Rattle.stretches.specs.Frames.{everybody, StandsIn}
-use Rattle.stretches.specs.Notes.{notes}
-use Rattle.stretches.specs.Tells.{IsCalm}
-use Rattle.stretches.proofs.Statements.{marks_hold}
-use Rattle.evaluation.specs.Noted.{note_key, notes_behind}
-use Rattle.evaluation.specs.Terms.{term_of}
-use Rattle.evaluation.specs.Whole.{testing, value, steps, whole_range}
-use Rattle.evaluation.proofs.Attempts.{whole_ranges}
+use Rattle.flat_stretches.specs.Along.{Run}
+use Rattle.flat_stretches.specs.Folds.{Stand, acts_at_once, costs}
+use Rattle.flat_stretches.specs.Frames.{everybody, StandsIn}
+use Rattle.flat_stretches.specs.Notes.{notes}
+use Rattle.flat_stretches.specs.Tells.{IsCalm}
+use Rattle.flat_stretches.proofs.Statements.{marks_hold}
+use Rattle.statement_evaluation.specs.Noted.{note_key, notes_behind}
+use Rattle.statement_evaluation.specs.Terms.{term_of}
+use Rattle.statement_evaluation.specs.Whole.{testing, value, steps, whole_range}
+use Rattle.statement_evaluation.proofs.Attempts.{whole_ranges}
 use Rattle.plain_form.specs.Registers.{behind_variables, behind_locals, index}
 use Rattle.plain_form.specs.Formulas.{Formula, Pair, formula_of, nesting, positions}
 use Rattle.plain_form.specs.Groups as groups
 use Rattle.plain_form.specs.Groups.{first_at, second_at}
 use Rattle.plain_form.specs.Shapes.{still}
-use Rattle.formed_code.specs.Straight.{entering}
-use Rattle.formed_code.proofs.Fine.{straight_parts_are_fine}
-use Rattle.formula_values.specs.Environments.{IsNamed}
-use Rattle.formula_values.specs.Headings.{heading_of}
-use Rattle.formula_values.specs.Inside.{ShowsInside}
-use Rattle.formula_values.specs.Terms.{steps_in}
-use Rattle.formula_values.proofs.Outside.{pairs_are_evaluated_outside}
-use Rattle.formula_values.proofs.Terms.{expressions_are_terms, steps_are_steps, expressions_are_named}
+use Rattle.verified_form.specs.Straight.{entering}
+use Rattle.verified_form.proofs.Fine.{straight_parts_are_fine}
+use Rattle.compiled_formulas.specs.Environments.{IsNamed}
+use Rattle.compiled_formulas.specs.Headings.{heading_of}
+use Rattle.compiled_formulas.specs.Inside.{ShowsInside}
+use Rattle.compiled_formulas.specs.Terms.{steps_in}
+use Rattle.compiled_formulas.proofs.Outside.{pairs_are_evaluated_outside}
+use Rattle.compiled_formulas.proofs.Terms.{expressions_are_terms, steps_are_steps, expressions_are_named}
 use Rattle.exchange_bound.specs.Events as events
 use Rattle.exchange_bound.specs.Events.{Event, Runs}
 use Rattle.statement_runs.specs.Between.{IsBetween, IsRunOf}

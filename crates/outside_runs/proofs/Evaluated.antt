@@ -1,27 +1,27 @@
 -- What a statement outside pardo evaluates behind its mark: the state there, and what it notes.
 use Rattle.std.proofs.Common.{◌≡◌, ℕ, ◌+◌, ◌<◌, ◌≤◌, List, ◌++◌, Bool, ap, ◌∙◌, arith}
 use Rattle.pram_values.specs.declared.place.Place.TheVariants.{All}
-use Rattle.superstep_code.specs.declared.instr.Side.TheVariants.{Uniform}
-use Rattle.superstep_code.specs.declared.instr.Instr.{Instr}
+use Rattle.superstep_instructions.specs.declared.instr.Side.TheVariants.{Uniform}
+use Rattle.superstep_instructions.specs.declared.instr.Instr.{Instr}
 use Rattle.superstep_machine.specs.Keys.{least}
 use Rattle.superstep_machine.specs.Run.{items}
 use Rattle.pram_check.specs.Checked.{Checked}
 use Rattle.pram_check.specs.Bounded.{names_of}
 use Rattle.pram_meaning.specs.Store.{State, seen}
 use Rattle.flat_machine.specs.Flat.{Flat}
-use Rattle.stretches.specs.Along.{Run}
-use Rattle.stretches.specs.Folds.{acts_at_once}
-use Rattle.stretches.specs.Notes.{notes}
-use Rattle.evaluation.specs.Noted.{notes_behind}
+use Rattle.flat_stretches.specs.Along.{Run}
+use Rattle.flat_stretches.specs.Folds.{acts_at_once}
+use Rattle.flat_stretches.specs.Notes.{notes}
+use Rattle.statement_evaluation.specs.Noted.{notes_behind}
 use Rattle.plain_form.specs.Registers.{behind_variables}
 use Rattle.plain_form.specs.Formulas.{Formula}
 use Rattle.plain_form.specs.Groups.{evaluated}
-use Rattle.formed_code.specs.Straight.{evaluation}
-use Rattle.formula_values.specs.Terms.{steps_in}
-use Rattle.formula_values.specs.Environments.{IsNamed}
-use Rattle.formula_values.specs.Headings.{heading_of}
-use Rattle.formula_values.specs.Outside.{ShowsOutside, IsEvaluatedOutside, MayEvaluateOutside}
-use Rattle.formula_values.proofs.Outside.{formulas_are_evaluated_outside}
+use Rattle.verified_form.specs.Straight.{evaluation}
+use Rattle.compiled_formulas.specs.Terms.{steps_in}
+use Rattle.compiled_formulas.specs.Environments.{IsNamed}
+use Rattle.compiled_formulas.specs.Headings.{heading_of}
+use Rattle.compiled_formulas.specs.Outside.{ShowsOutside, IsEvaluatedOutside, MayEvaluateOutside}
+use Rattle.compiled_formulas.proofs.Outside.{formulas_are_evaluated_outside}
 use Rattle.statement_runs.specs.Between.{IsRunOf}
 use Rattle.statement_runs.specs.Begins.{begun}
 use Rattle.statement_runs.proofs.Marked.{begun_bare, begun_rests, evaluation_acts_with, evaluation_notes_with}

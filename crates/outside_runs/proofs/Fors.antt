@@ -5,20 +5,20 @@ use Rattle.std.specs.Prelude.{if◌then◌else◌}
 use Rattle.pram_model.specs.Layout.{width}
 use Rattle.pram_values.specs.Truth.{is_nonzero, truth}
 use Rattle.pram_values.specs.Value.{checked}
-use Rattle.superstep_code.specs.declared.instr.Instr.{Instr}
-use Rattle.superstep_code.specs.declared.instr.Instr.TheVariants.{Mark, Jump, JumpIfZero}
+use Rattle.superstep_instructions.specs.declared.instr.Instr.{Instr}
+use Rattle.superstep_instructions.specs.declared.instr.Instr.TheVariants.{Mark, Jump, JumpIfZero}
 use Rattle.pram_check.specs.Checked.{Checked}
 use Rattle.pram_meaning.specs.Store.{State, with_uniform}
 use Rattle.pram_meaning.specs.Bounded.{Done, then_do, counted, for_turns}
 use Rattle.pram_meaning.specs.Values.{IsValue}
 use Rattle.flat_machine.specs.Flat.{Flat}
-use Rattle.stretches.specs.Along.{Run, IsAt}
-use Rattle.stretches.specs.Folds.{Stand}
-use Rattle.stretches.specs.Tells.{IsCalm}
-use Rattle.stretches.proofs.Joins.{stands_split}
+use Rattle.flat_stretches.specs.Along.{Run, IsAt}
+use Rattle.flat_stretches.specs.Folds.{Stand}
+use Rattle.flat_stretches.specs.Tells.{IsCalm}
+use Rattle.flat_stretches.proofs.Joins.{stands_split}
 use Rattle.plain_form.specs.Registers.{behind_variables, behind_turns, turn, high, more}
 use Rattle.plain_form.specs.Shapes.{turned}
-use Rattle.formed_code.specs.Straight.{stepping}
+use Rattle.verified_form.specs.Straight.{stepping}
 use Rattle.exchange_bound.specs.Events as events
 use Rattle.exchange_bound.specs.Events.{Event, Runs, Cut, behind, for_events}
 use Rattle.statement_runs.specs.Between.{IsRunOf}

@@ -1,17 +1,17 @@
 -- A part of a program led by its code: the run goes along it, and along one part behind another.
 use Rattle.std.proofs.Common.{◌≡◌, ℕ, ◌+◌, List, [], ◌++◌, length, Bool, refl, subst, arith}
 use Rattle.std.proofs.Common.{length-append}
-use Rattle.superstep_code.specs.declared.instr.Instr.{Instr}
+use Rattle.superstep_instructions.specs.declared.instr.Instr.{Instr}
 use Rattle.pram_check.specs.Checked.{Checked}
 use Rattle.pram_meaning.specs.Store.{State}
 use Rattle.pram_meaning.specs.Bounded.{Done, Goes, then_do}
 use Rattle.flat_machine.specs.Flat.{Flat}
-use Rattle.stretches.specs.Along.{Run}
-use Rattle.stretches.specs.Folds.{Stand}
-use Rattle.stretches.specs.Tells.{IsCalm}
-use Rattle.stretches.proofs.Joins.{stands_split}
+use Rattle.flat_stretches.specs.Along.{Run}
+use Rattle.flat_stretches.specs.Folds.{Stand}
+use Rattle.flat_stretches.specs.Tells.{IsCalm}
+use Rattle.flat_stretches.proofs.Joins.{stands_split}
 use Rattle.plain_form.specs.Outside.{left}
-use Rattle.formed_code.specs.Calm.{BeginsCalm}
+use Rattle.verified_form.specs.Calm.{BeginsCalm}
 use Rattle.exchange_bound.specs.Events.{Event, behind}
 use Rattle.outside_runs.specs.Without.{IsWithout}
 use Rattle.outside_runs.proofs.Leads.{Leads, leads_then, leads_as}

@@ -2,26 +2,26 @@
 use Rattle.std.proofs.Common.{◌≡◌, ℕ, ◌+◌, ◌<◌, ◌≤◌, List, [], ◌∷◌, ◌++◌, length, Bool, false, refl, subst, arith}
 use Rattle.std.proofs.Common.{length-append}
 use Rattle.pram_model.specs.Layout.{width}
-use Rattle.superstep_code.specs.declared.instr.Side.TheVariants.{Uniform}
-use Rattle.superstep_code.specs.declared.instr.Instr.{Instr}
-use Rattle.superstep_code.specs.declared.instr.Instr.TheVariants.{Mark, Jump, JumpIfZero}
+use Rattle.superstep_instructions.specs.declared.instr.Side.TheVariants.{Uniform}
+use Rattle.superstep_instructions.specs.declared.instr.Instr.{Instr}
+use Rattle.superstep_instructions.specs.declared.instr.Instr.TheVariants.{Mark, Jump, JumpIfZero}
 use Rattle.pram_names.specs.declared.body.Expression.{Expression}
 use Rattle.pram_check.specs.Checked.{Checked}
 use Rattle.pram_check.specs.Bounded.{IsNamed, names_of}
 use Rattle.pram_meaning.specs.Attempt.{attempt_bounds}
 use Rattle.pram_meaning.specs.Store.{State, seen}
 use Rattle.pram_meaning.specs.Bounded.{Done, evaluated, tested, turns, for_turns, for_all}
-use Rattle.stretches.specs.Along.{Run}
-use Rattle.stretches.specs.Tells.{IsCalm}
-use Rattle.stretches.proofs.Joins.{stands_split, stands_join}
+use Rattle.flat_stretches.specs.Along.{Run}
+use Rattle.flat_stretches.specs.Tells.{IsCalm}
+use Rattle.flat_stretches.proofs.Joins.{stands_split, stands_join}
 use Rattle.plain_form.specs.Formulas.{Pair, formula_of, nesting}
 use Rattle.plain_form.specs.Groups.{value_at}
 use Rattle.plain_form.specs.Registers.{behind_variables, behind_turns, more}
 use Rattle.plain_form.specs.Shapes as shapes
 use Rattle.plain_form.specs.Shapes.{flush, sent, still, waits, chosen, looped, turned}
-use Rattle.formed_code.specs.Calm.{BeginsCalm}
-use Rattle.formed_code.specs.Straight.{evaluation, bounding, stepping}
-use Rattle.formed_code.proofs.Calm.{statements_begin_calm, parts_end_calm, loops_are_calm, turns_are_calm}
+use Rattle.verified_form.specs.Calm.{BeginsCalm}
+use Rattle.verified_form.specs.Straight.{evaluation, bounding, stepping}
+use Rattle.verified_form.proofs.Calm.{statements_begin_calm, parts_end_calm, loops_are_calm, turns_are_calm}
 use Rattle.exchange_bound.specs.Events as events
 use Rattle.exchange_bound.specs.Events.{Event, Runs, Cut, behind, row_events, list_events, turns_events, for_events}
 use Rattle.exchange_bound.specs.Bound.{one_if}

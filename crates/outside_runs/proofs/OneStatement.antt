@@ -4,8 +4,8 @@ use Rattle.std.specs.Prelude.{nat_lt, if◌then◌else◌, Result}
 use Rattle.std.proofs.lemmas.Bool.{ltb-true}
 use Rattle.write_rules.specs.declared.fault.Fault.{Fault}
 use Rattle.write_rules.specs.Verdict.{GoesOn}
-use Rattle.superstep_code.specs.declared.instr.Instr.{Instr}
-use Rattle.superstep_code.specs.declared.instr.Instr.TheVariants.{Mark}
+use Rattle.superstep_instructions.specs.declared.instr.Instr.{Instr}
+use Rattle.superstep_instructions.specs.declared.instr.Instr.TheVariants.{Mark}
 use Rattle.superstep_machine.specs.declared.key.Key.{Key}
 use Rattle.pram_values.specs.declared.place.Place.TheVariants.{All}
 use Rattle.pram_meaning.specs.Attempt.{Attempt}
@@ -14,16 +14,16 @@ use Rattle.pram_meaning.specs.Bounded.{Behaviour, Done, Goes, Reaches, then_do, 
 use Rattle.pram_meaning.specs.Together.{alone}
 use Rattle.bsp_verify.specs.WellFormed.{IsWellFormed}
 use Rattle.flat_machine.specs.Flat.{Flat}
-use Rattle.stretches.specs.Applied.{applied, AsksNone}
-use Rattle.stretches.specs.Along.{Run}
-use Rattle.stretches.specs.Closes.{ComesOut}
-use Rattle.stretches.specs.Folds.{Stand, IsFine}
-use Rattle.stretches.specs.Notes.{notes}
-use Rattle.stretches.specs.Tells.{IsCalm}
-use Rattle.evaluation.specs.Noted.{notes_behind}
-use Rattle.evaluation.specs.Told.{unless_told}
-use Rattle.evaluation.specs.Whole.{Whole, cut}
-use Rattle.evaluation.proofs.Cuts.{alone_is_noted}
+use Rattle.flat_stretches.specs.Applied.{applied, AsksNone}
+use Rattle.flat_stretches.specs.Along.{Run}
+use Rattle.flat_stretches.specs.Closes.{ComesOut}
+use Rattle.flat_stretches.specs.Folds.{Stand, IsFine}
+use Rattle.flat_stretches.specs.Notes.{notes}
+use Rattle.flat_stretches.specs.Tells.{IsCalm}
+use Rattle.statement_evaluation.specs.Noted.{notes_behind}
+use Rattle.statement_evaluation.specs.LeastFaults.{unless_told}
+use Rattle.statement_evaluation.specs.Whole.{Whole, cut}
+use Rattle.statement_evaluation.proofs.Cuts.{alone_is_noted}
 use Rattle.exchange_bound.specs.Events as events
 use Rattle.exchange_bound.specs.Events.{Event}
 use Rattle.exchange_bound.specs.Bound.{one_if}
@@ -33,7 +33,7 @@ use Rattle.statement_runs.specs.Begins.{begun, done, HasPassed, PassesOrFaults, 
 use Rattle.statement_runs.proofs.Begins.{statements_go_on}
 use Rattle.inside_runs.proofs.Attempted.{one_more}
 use Rattle.outside_runs.proofs.Leads.{Leads}
-use Rattle.formula_values.specs.Headings.{heading_of}
+use Rattle.compiled_formulas.specs.Headings.{heading_of}
 
 -- as `counted` has it, by whether the bound allows it
 abbrev if_counted : Bool → State → Done

@@ -3,11 +3,11 @@ use Rattle.std.proofs.Common.{◌≡◌, ◌+◌, List, [], ◌∷◌, ◌++◌,
 use Rattle.pram_values.specs.declared.place.Place.TheVariants.{All}
 use Rattle.superstep_machine.specs.Keys.{least}
 use Rattle.pram_meaning.specs.Store.{View}
-use Rattle.evaluation.specs.Noted.{Heading, note_key, notes_behind}
-use Rattle.evaluation.specs.Whole.{Step}
+use Rattle.statement_evaluation.specs.Noted.{Heading, note_key, notes_behind}
+use Rattle.statement_evaluation.specs.Whole.{Step}
 use Rattle.plain_form.specs.Formulas.{Formula, Pair, positions}
-use Rattle.formula_values.specs.Terms.{steps_in}
-use Rattle.formula_values.proofs.StepNotes.{length_steps, with_last}
+use Rattle.compiled_formulas.specs.Terms.{steps_in}
+use Rattle.compiled_formulas.proofs.StepNotes.{length_steps, with_last}
 
 pub pair_then_test : (h : Heading) (s : View) (d e : Formula) (first second : List Step) (x : Step) → steps_in s d ≡ first →
     steps_in s e ≡ second →

@@ -2,8 +2,8 @@
 use Rattle.std.proofs.Common.{◌≡◌, ℕ, zero, suc, ◌+◌, ◌≤◌, List, [], ◌∷◌, ◌++◌, length, Bool, false, ℤ, refl, sym, ap, ◌∙◌, subst, arith}
 use Rattle.std.proofs.Common.{length-append}
 use Rattle.std.specs.List.{range_with_len}
-use Rattle.superstep_code.specs.declared.instr.Instr.{Instr}
-use Rattle.superstep_code.specs.declared.instr.Instr.TheVariants.{Mark, Leave}
+use Rattle.superstep_instructions.specs.declared.instr.Instr.{Instr}
+use Rattle.superstep_instructions.specs.declared.instr.Instr.TheVariants.{Mark, Leave}
 use Rattle.pram_names.specs.declared.body.Expression.{Expression}
 use Rattle.pram_names.specs.declared.body.Step.{Step}
 use Rattle.pram_check.specs.Checked.{Checked}
@@ -13,22 +13,22 @@ use Rattle.pram_meaning.specs.Attempt.{attempt_range}
 use Rattle.pram_meaning.specs.Bounded.{Done, Goes, Stops, Reaches, evaluated, pardo, pardo_done, perform_list_on}
 use Rattle.pram_meaning.specs.Store.{State, numbers, seen, with_team, without_team}
 use Rattle.flat_machine.specs.Flat.{Flat, after_instr}
-use Rattle.stretches.specs.Along.{Run, IsAt}
-use Rattle.stretches.specs.Folds.{Stand}
-use Rattle.stretches.specs.Frames as frames
-use Rattle.stretches.specs.Frames.{everybody, present}
-use Rattle.stretches.specs.Tells.{IsCalm}
-use Rattle.stretches.proofs.Applied.{instructions_apply}
-use Rattle.stretches.proofs.Frames.{everybody_is_present}
-use Rattle.stretches.proofs.Joins.{stands_split}
+use Rattle.flat_stretches.specs.Along.{Run, IsAt}
+use Rattle.flat_stretches.specs.Folds.{Stand}
+use Rattle.flat_stretches.specs.Frames as frames
+use Rattle.flat_stretches.specs.Frames.{everybody, present}
+use Rattle.flat_stretches.specs.Tells.{IsCalm}
+use Rattle.flat_stretches.proofs.Applied.{instructions_apply}
+use Rattle.flat_stretches.proofs.Frames.{everybody_is_present}
+use Rattle.flat_stretches.proofs.Joins.{stands_split}
 use Rattle.plain_form.specs.Formulas.{Pair, formula_of, nesting}
 use Rattle.plain_form.specs.Inside as inner
 use Rattle.plain_form.specs.Inside.{steps_code, steps_left}
 use Rattle.plain_form.specs.Registers.{behind_variables, behind_locals}
 use Rattle.plain_form.specs.Shapes.{still}
-use Rattle.formed_code.specs.Straight.{entering}
-use Rattle.formed_code.proofs.Calm.{statements_begin_calm, ranges_are_calm}
-use Rattle.formula_values.specs.Outside.{ShowsOutside}
+use Rattle.verified_form.specs.Straight.{entering}
+use Rattle.verified_form.proofs.Calm.{statements_begin_calm, ranges_are_calm}
+use Rattle.compiled_formulas.specs.Outside.{ShowsOutside}
 use Rattle.exchange_bound.specs.Events as events
 use Rattle.exchange_bound.specs.Events.{Event, Runs, behind, steps_events}
 use Rattle.statement_runs.specs.Between.{IsRunOf}

@@ -1,8 +1,8 @@
 -- A statement with one expression, behind its mark and its code: the value, and what is noted.
 use Rattle.std.proofs.Common.{◌≡◌, ℕ, ◌≤◌, List, ◌++◌, Bool, None, ℤ, ap, ◌∙◌, arith}
 use Rattle.pram_values.specs.declared.place.Place.TheVariants.{All}
-use Rattle.superstep_code.specs.declared.instr.Side.TheVariants.{Uniform}
-use Rattle.superstep_code.specs.declared.instr.Instr.{Instr}
+use Rattle.superstep_instructions.specs.declared.instr.Side.TheVariants.{Uniform}
+use Rattle.superstep_instructions.specs.declared.instr.Instr.{Instr}
 use Rattle.superstep_machine.specs.Keys.{least}
 use Rattle.pram_names.specs.declared.body.Expression.{Expression}
 use Rattle.pram_check.specs.Checked.{Checked}
@@ -12,19 +12,19 @@ use Rattle.pram_meaning.specs.Store.{State, seen}
 use Rattle.pram_meaning.specs.Values.{IsValue}
 use Rattle.flat_machine.proofs.Late.{none_least}
 use Rattle.flat_machine.specs.Flat.{Flat}
-use Rattle.stretches.specs.Along.{Run}
-use Rattle.stretches.specs.Folds.{acts_at_once}
-use Rattle.stretches.specs.Notes.{notes}
-use Rattle.evaluation.specs.Noted.{notes_behind}
-use Rattle.evaluation.specs.Terms.{term_of}
-use Rattle.evaluation.specs.Whole.{value, steps}
+use Rattle.flat_stretches.specs.Along.{Run}
+use Rattle.flat_stretches.specs.Folds.{acts_at_once}
+use Rattle.flat_stretches.specs.Notes.{notes}
+use Rattle.statement_evaluation.specs.Noted.{notes_behind}
+use Rattle.statement_evaluation.specs.Terms.{term_of}
+use Rattle.statement_evaluation.specs.Whole.{value, steps}
 use Rattle.plain_form.specs.Registers.{behind_variables}
 use Rattle.plain_form.specs.Formulas.{Formula, formula_of}
 use Rattle.plain_form.specs.Groups.{evaluated, value_at}
-use Rattle.formed_code.specs.Straight.{evaluation}
-use Rattle.formula_values.specs.Headings.{heading_of}
-use Rattle.formula_values.specs.Environments.{IsNamed}
-use Rattle.formula_values.proofs.Terms.{expressions_are_terms, steps_are_steps, expressions_are_named}
+use Rattle.verified_form.specs.Straight.{evaluation}
+use Rattle.compiled_formulas.specs.Headings.{heading_of}
+use Rattle.compiled_formulas.specs.Environments.{IsNamed}
+use Rattle.compiled_formulas.proofs.Terms.{expressions_are_terms, steps_are_steps, expressions_are_named}
 use Rattle.statement_runs.specs.Between.{IsRunOf}
 use Rattle.statement_runs.specs.Begins.{begun}
 use Rattle.statement_runs.proofs.Valued.{value_is}

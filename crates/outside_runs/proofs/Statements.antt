@@ -7,13 +7,13 @@ use Rattle.pram_names.specs.declared.body.Statement.{more_of-Statement}
 use Rattle.pram_check.specs.Checked.{Checked}
 use Rattle.pram_check.specs.Bounded.{IsNamed, IsStatement, ArePartStatements, AreStatements, names_of}
 use Rattle.pram_meaning.specs.Bounded.{then_do, tested, perform, perform_row, perform_list}
-use Rattle.stretches.specs.Along.{Run}
+use Rattle.flat_stretches.specs.Along.{Run}
 use Rattle.plain_form.specs.Formulas.{formula_of, nesting}
 use Rattle.plain_form.specs.Outside.{code, part_code, has_part, left, part_left, statements_code, statements_left}
 use Rattle.plain_form.specs.Registers.{behind_variables, behind_turns}
 use Rattle.plain_form.specs.Shapes as shapes
 use Rattle.plain_form.specs.Shapes.{flush, sent, still, waits, chosen, looped, turned}
-use Rattle.formed_code.proofs.Calm.{statements_begin_calm}
+use Rattle.verified_form.proofs.Calm.{statements_begin_calm}
 use Rattle.exchange_bound.specs.Events as events
 use Rattle.exchange_bound.specs.Events.{Event, Runs, Cut, behind, row_events, list_events, turns_events, for_events}
 use Rattle.statement_runs.specs.Between.{IsRunOf}

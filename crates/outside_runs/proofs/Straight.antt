@@ -1,17 +1,17 @@
 -- A straight part of a statement outside pardo: what it may be begun from, and the run behind it.
 use Rattle.std.proofs.Common.{◌≡◌, ℕ, ◌+◌, ◌<◌, ◌≤◌, List, ◌∷◌, length, Bool, sym, ap, ◌∙◌, subst, arith}
-use Rattle.superstep_code.specs.declared.instr.Instr.{Instr}
-use Rattle.superstep_code.specs.declared.instr.Instr.TheVariants.{Mark}
+use Rattle.superstep_instructions.specs.declared.instr.Instr.{Instr}
+use Rattle.superstep_instructions.specs.declared.instr.Instr.TheVariants.{Mark}
 use Rattle.superstep_machine.specs.Run.{items}
 use Rattle.pram_check.specs.Checked.{Checked}
 use Rattle.pram_meaning.specs.Store.{State}
 use Rattle.pram_meaning.specs.Values.{HasValues}
 use Rattle.flat_machine.specs.Flat.{Flat, after_instr}
-use Rattle.stretches.specs.Along.{Run}
-use Rattle.stretches.specs.Folds.{Stand, costs, IsFine}
-use Rattle.stretches.specs.Tells.{IsCalm}
-use Rattle.stretches.proofs.Statements.{marks_hold}
-use Rattle.formula_values.specs.Outside.{ShowsOutside}
+use Rattle.flat_stretches.specs.Along.{Run}
+use Rattle.flat_stretches.specs.Folds.{Stand, costs, IsFine}
+use Rattle.flat_stretches.specs.Tells.{IsCalm}
+use Rattle.flat_stretches.proofs.Statements.{marks_hold}
+use Rattle.compiled_formulas.specs.Outside.{ShowsOutside}
 use Rattle.statement_runs.specs.Between.{IsBetween, IsRunOf, HasSizes}
 use Rattle.statement_runs.specs.Begins.{done, HasPassed}
 use Rattle.statement_runs.specs.Costs.{Costs}

@@ -2,9 +2,9 @@
 use Rattle.std.proofs.Common.{◌≡◌, ℕ, ◌+◌, ◌*◌, ◌≤◌, List, [], ◌∷◌, ◌++◌, length, Bool, false, None, ℤ, refl, sym, ap, ◌∙◌, subst, arith}
 use Rattle.std.proofs.Common.{append-nil}
 use Rattle.pram_values.specs.Truth.{is_nonzero}
-use Rattle.superstep_code.specs.declared.instr.Side.TheVariants.{Uniform}
-use Rattle.superstep_code.specs.declared.instr.Instr.{Instr}
-use Rattle.superstep_code.specs.declared.instr.Instr.TheVariants.{Mark}
+use Rattle.superstep_instructions.specs.declared.instr.Side.TheVariants.{Uniform}
+use Rattle.superstep_instructions.specs.declared.instr.Instr.{Instr}
+use Rattle.superstep_instructions.specs.declared.instr.Instr.TheVariants.{Mark}
 use Rattle.pram_names.specs.declared.body.Expression.{Expression}
 use Rattle.pram_check.specs.Checked.{Checked}
 use Rattle.pram_check.specs.Bounded as bounded
@@ -13,19 +13,19 @@ use Rattle.pram_meaning.specs.Attempt.{attempt}
 use Rattle.pram_meaning.specs.Store.{State, seen}
 use Rattle.pram_meaning.specs.Bounded.{found, tested}
 use Rattle.flat_machine.specs.Flat.{Flat}
-use Rattle.stretches.specs.Along.{Run}
-use Rattle.stretches.specs.Folds.{Stand, acts_at_once, IsFine}
-use Rattle.stretches.specs.Notes.{notes}
-use Rattle.stretches.specs.Tells.{IsCalm}
-use Rattle.evaluation.specs.Terms.{term_of}
-use Rattle.evaluation.specs.Whole.{value, steps}
-use Rattle.evaluation.proofs.Attempts.{whole_expressions}
+use Rattle.flat_stretches.specs.Along.{Run}
+use Rattle.flat_stretches.specs.Folds.{Stand, acts_at_once, IsFine}
+use Rattle.flat_stretches.specs.Notes.{notes}
+use Rattle.flat_stretches.specs.Tells.{IsCalm}
+use Rattle.statement_evaluation.specs.Terms.{term_of}
+use Rattle.statement_evaluation.specs.Whole.{value, steps}
+use Rattle.statement_evaluation.proofs.Attempts.{whole_expressions}
 use Rattle.plain_form.specs.Registers.{behind_variables}
 use Rattle.plain_form.specs.Formulas.{Formula, formula_of, nesting}
 use Rattle.plain_form.specs.Groups.{value_at}
 use Rattle.plain_form.specs.Shapes.{flush, still}
-use Rattle.formed_code.specs.Straight.{evaluation, testing}
-use Rattle.formed_code.proofs.Fine.{straight_parts_are_fine}
+use Rattle.verified_form.specs.Straight.{evaluation, testing}
+use Rattle.verified_form.proofs.Fine.{straight_parts_are_fine}
 use Rattle.exchange_bound.specs.Events as events
 use Rattle.exchange_bound.specs.Events.{Event, Runs, Cut}
 use Rattle.exchange_bound.specs.Bound.{one_if}

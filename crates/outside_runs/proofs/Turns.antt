@@ -3,12 +3,12 @@ use Rattle.std.proofs.Common.{◌≡◌, ◌≢◌, ℕ, ◌<◌, ◌≤◌, Lis
 use Rattle.std.proofs.Common.{subst, arith}
 use Rattle.pram_values.specs.Truth.{truth, is_nonzero}
 use Rattle.pram_values.specs.Value.{checked}
-use Rattle.superstep_code.specs.declared.instr.Side.TheVariants.{Uniform}
-use Rattle.superstep_code.specs.declared.instr.Arithmetic.TheVariants as arithmetic
-use Rattle.superstep_code.specs.declared.instr.Truth.TheVariants as comparison
-use Rattle.superstep_code.specs.declared.instr.Instr.{Instr}
-use Rattle.superstep_code.specs.declared.instr.Instr.TheVariants.{Copy, Decide, Calculate}
-use Rattle.superstep_code.specs.Code.{SuperstepCode}
+use Rattle.superstep_instructions.specs.declared.instr.Side.TheVariants.{Uniform}
+use Rattle.superstep_instructions.specs.declared.instr.Arithmetic.TheVariants as arithmetic
+use Rattle.superstep_instructions.specs.declared.instr.Truth.TheVariants as comparison
+use Rattle.superstep_instructions.specs.declared.instr.Instr.{Instr}
+use Rattle.superstep_instructions.specs.declared.instr.Instr.TheVariants.{Copy, Decide, Calculate}
+use Rattle.superstep_instructions.specs.Code.{SuperstepCode}
 use Rattle.superstep_machine.specs.Keys.{least}
 use Rattle.superstep_machine.specs.Results.{or_zero, kind_of}
 use Rattle.pram_check.specs.Bounded.{names_of}
@@ -16,13 +16,13 @@ use Rattle.pram_check.specs.Checked.{Checked}
 use Rattle.pram_meaning.specs.Store.{State, with_uniform}
 use Rattle.flat_machine.specs.Flat.{Flat, after_instr}
 use Rattle.flat_machine.proofs.Late.{none_least}
-use Rattle.stretches.specs.Folds.{acts_at_once}
-use Rattle.stretches.specs.Notes.{note, notes}
+use Rattle.flat_stretches.specs.Folds.{acts_at_once}
+use Rattle.flat_stretches.specs.Notes.{note, notes}
 use Rattle.plain_form.specs.Registers.{variable, behind_variables, turn, high, more}
 use Rattle.plain_form.specs.Formulas.{Formula, Zero, Number, Variable, Index, Local, Read, Before, Between, Pair}
 use Rattle.plain_form.specs.Regions.{place}
 use Rattle.plain_form.specs.Shapes.{flush}
-use Rattle.formula_values.specs.Environments.{IsNamed}
+use Rattle.compiled_formulas.specs.Environments.{IsNamed}
 use Rattle.statement_runs.specs.Between.{HasSizes}
 use Rattle.outside_runs.proofs.Evaluated.{Leaves}
 use Rattle.outside_runs.proofs.Effects.{got_leaves}

@@ -2,8 +2,8 @@
 use Rattle.std.proofs.Common.{◌≡◌, ℕ, Bool, true, false, Option, None, refl, ap, ◌∙◌}
 use Rattle.std.specs.Prelude.{if◌then◌else◌}
 use Rattle.pram_values.proofs.Totals.{total_none}
-use Rattle.superstep_code.specs.declared.instr.Instr.{Instr}
-use Rattle.superstep_code.specs.Code.{SuperstepCode}
+use Rattle.superstep_instructions.specs.declared.instr.Instr.{Instr}
+use Rattle.superstep_instructions.specs.Code.{SuperstepCode}
 use Rattle.superstep_machine.specs.declared.key.Key.{Key}
 use Rattle.superstep_machine.specs.Keys.{least}
 use Rattle.superstep_machine.specs.Parts.{PrivatePart}
@@ -11,7 +11,7 @@ use Rattle.superstep_machine.specs.Steps.{uniform_key, own_key}
 use Rattle.superstep_machine.proofs.KeyOrder.{keys_are_monoid}
 use Rattle.flat_machine.specs.Flat.{Flat, range, noted}
 use Rattle.flat_machine.proofs.Late.{none_least}
-use Rattle.stretches.specs.Applied.{AsksNone}
+use Rattle.flat_stretches.specs.Applied.{AsksNone}
 
 pub nothing_either : (b : Bool) → (let none : Option Key = None in if b then none else None) ≡ None
 nothing_either true = refl

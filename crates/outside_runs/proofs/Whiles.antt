@@ -2,9 +2,9 @@
 use Rattle.std.proofs.Common.{◌≡◌, ℕ, zero, suc, ◌+◌, ◌<◌, ◌≤◌, List, [], ◌∷◌, ◌++◌, length, Bool, true, false, refl, subst, arith}
 use Rattle.std.proofs.Common.{length-append}
 use Rattle.std.specs.Prelude.{if◌then◌else◌}
-use Rattle.superstep_code.specs.declared.instr.Side.TheVariants.{Uniform}
-use Rattle.superstep_code.specs.declared.instr.Instr.{Instr}
-use Rattle.superstep_code.specs.declared.instr.Instr.TheVariants.{Mark, Jump, JumpIfZero}
+use Rattle.superstep_instructions.specs.declared.instr.Side.TheVariants.{Uniform}
+use Rattle.superstep_instructions.specs.declared.instr.Instr.{Instr}
+use Rattle.superstep_instructions.specs.declared.instr.Instr.TheVariants.{Mark, Jump, JumpIfZero}
 use Rattle.pram_names.specs.declared.body.Expression.{Expression}
 use Rattle.pram_check.specs.Checked.{Checked}
 use Rattle.pram_check.specs.Bounded as bounded
@@ -12,15 +12,15 @@ use Rattle.pram_check.specs.Bounded.{names_of}
 use Rattle.pram_meaning.specs.Store.{State}
 use Rattle.pram_meaning.specs.Bounded.{Done, Goes, then_do, tested, turns}
 use Rattle.flat_machine.specs.Flat.{Flat}
-use Rattle.stretches.specs.Along.{Run, IsAt}
-use Rattle.stretches.specs.Folds.{Stand}
-use Rattle.stretches.specs.Tells.{IsCalm}
-use Rattle.stretches.proofs.Joins.{stands_split}
+use Rattle.flat_stretches.specs.Along.{Run, IsAt}
+use Rattle.flat_stretches.specs.Folds.{Stand}
+use Rattle.flat_stretches.specs.Tells.{IsCalm}
+use Rattle.flat_stretches.proofs.Joins.{stands_split}
 use Rattle.plain_form.specs.Registers.{behind_variables}
 use Rattle.plain_form.specs.Formulas.{formula_of, nesting}
 use Rattle.plain_form.specs.Groups.{value_at}
 use Rattle.plain_form.specs.Shapes.{flush, sent, looped}
-use Rattle.formed_code.specs.Straight.{evaluation}
+use Rattle.verified_form.specs.Straight.{evaluation}
 use Rattle.exchange_bound.specs.Events as events
 use Rattle.exchange_bound.specs.Events.{Event, Runs, Cut, behind, turns_events}
 use Rattle.exchange_bound.specs.Bound.{one_if}

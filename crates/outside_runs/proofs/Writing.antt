@@ -5,9 +5,9 @@ use Rattle.std.specs.Prelude.{FitsSigned}
 use Rattle.std.specs.Int.{w64}
 use Rattle.pram_model.specs.Layout.{cell_of, total_size}
 use Rattle.pram_values.specs.declared.place.Place.TheVariants.{All}
-use Rattle.superstep_code.specs.declared.instr.Side.TheVariants.{Uniform}
-use Rattle.superstep_code.specs.declared.instr.Instr.{Instr}
-use Rattle.superstep_code.specs.declared.instr.Instr.TheVariants.{Mark, Put}
+use Rattle.superstep_instructions.specs.declared.instr.Side.TheVariants.{Uniform}
+use Rattle.superstep_instructions.specs.declared.instr.Instr.{Instr}
+use Rattle.superstep_instructions.specs.declared.instr.Instr.TheVariants.{Mark, Put}
 use Rattle.superstep_machine.specs.Keys.{least}
 use Rattle.superstep_machine.specs.Results.{missing}
 use Rattle.pram_names.specs.declared.body.Expression.{Expression}
@@ -20,31 +20,31 @@ use Rattle.pram_meaning.specs.Bounded.{Goes, then_do, evaluated}
 use Rattle.pram_meaning.specs.Together.{after_write}
 use Rattle.pram_meaning.specs.Values.{IsValue}
 use Rattle.flat_machine.specs.Flat.{Flat}
-use Rattle.stretches.specs.Applied.{wrote}
-use Rattle.stretches.specs.Along.{Run}
-use Rattle.stretches.specs.Folds.{Stand, acts_at_once}
-use Rattle.stretches.specs.Notes.{notes}
-use Rattle.stretches.specs.Tells.{IsCalm}
-use Rattle.stretches.proofs.Joins.{stands_split}
-use Rattle.evaluation.specs.Noted.{note_key, notes_behind}
-use Rattle.evaluation.specs.Terms.{Writes, term_of}
-use Rattle.evaluation.specs.Whole.{testing, value, steps, whole, cut}
-use Rattle.evaluation.proofs.Sums.{IsBelow}
-use Rattle.evaluation.proofs.Tasks.{write_below}
+use Rattle.flat_stretches.specs.Applied.{wrote}
+use Rattle.flat_stretches.specs.Along.{Run}
+use Rattle.flat_stretches.specs.Folds.{Stand, acts_at_once}
+use Rattle.flat_stretches.specs.Notes.{notes}
+use Rattle.flat_stretches.specs.Tells.{IsCalm}
+use Rattle.flat_stretches.proofs.Joins.{stands_split}
+use Rattle.statement_evaluation.specs.Noted.{note_key, notes_behind}
+use Rattle.statement_evaluation.specs.Terms.{Writes, term_of}
+use Rattle.statement_evaluation.specs.Whole.{testing, value, steps, whole, cut}
+use Rattle.statement_evaluation.proofs.Sums.{IsBelow}
+use Rattle.statement_evaluation.proofs.Tasks.{write_below}
 use Rattle.plain_form.specs.Registers.{behind_variables}
 use Rattle.plain_form.specs.Formulas.{Formula, Pair, formula_of, nesting, positions}
 use Rattle.plain_form.specs.Groups as groups
 use Rattle.plain_form.specs.Groups.{first_at, second_at}
 use Rattle.plain_form.specs.Shapes.{flush, has_reads, still, waits}
-use Rattle.formed_code.specs.Straight.{writing}
-use Rattle.formed_code.proofs.Fine.{straight_parts_are_fine}
-use Rattle.formula_values.specs.Environments.{IsNamed}
-use Rattle.formula_values.specs.Headings.{heading_of}
-use Rattle.formula_values.specs.Tasks.{IsSingle}
-use Rattle.formula_values.specs.Terms.{term, steps_in}
-use Rattle.formula_values.proofs.Outside.{pairs_are_evaluated_outside}
-use Rattle.formula_values.proofs.Tasks.{single_steps}
-use Rattle.formula_values.proofs.Terms.{expressions_are_terms, steps_are_steps, expressions_are_named}
+use Rattle.verified_form.specs.Straight.{writing}
+use Rattle.verified_form.proofs.Fine.{straight_parts_are_fine}
+use Rattle.compiled_formulas.specs.Environments.{IsNamed}
+use Rattle.compiled_formulas.specs.Headings.{heading_of}
+use Rattle.compiled_formulas.specs.Tasks.{IsSingle}
+use Rattle.compiled_formulas.specs.Terms.{term, steps_in}
+use Rattle.compiled_formulas.proofs.Outside.{pairs_are_evaluated_outside}
+use Rattle.compiled_formulas.proofs.Tasks.{single_steps}
+use Rattle.compiled_formulas.proofs.Terms.{expressions_are_terms, steps_are_steps, expressions_are_named}
 use Rattle.exchange_bound.specs.Events as events
 use Rattle.exchange_bound.specs.Events.{Event, Runs}
 use Rattle.exchange_bound.specs.Bound.{one_if}

@@ -11,10 +11,10 @@ use Rattle.pram_values.specs.Value.{Value}
 use Rattle.pram_values.proofs.Totals.{total_none, neutral_right}
 use Rattle.write_rules.specs.declared.write.Write.{Write}
 use Rattle.write_rules.specs.Combining.{AreWriters}
-use Rattle.superstep_code.specs.declared.instr.Side.TheVariants.{Uniform}
-use Rattle.superstep_code.specs.declared.instr.Instr.{Instr}
-use Rattle.superstep_code.specs.declared.instr.Instr.TheVariants.{Put}
-use Rattle.superstep_code.specs.Code.{SuperstepCode}
+use Rattle.superstep_instructions.specs.declared.instr.Side.TheVariants.{Uniform}
+use Rattle.superstep_instructions.specs.declared.instr.Instr.{Instr}
+use Rattle.superstep_instructions.specs.declared.instr.Instr.TheVariants.{Put}
+use Rattle.superstep_instructions.specs.Code.{SuperstepCode}
 use Rattle.superstep_machine.specs.Keys.{least}
 use Rattle.superstep_machine.specs.Results.{missing}
 use Rattle.superstep_machine.specs.Sending.{join, verdict_on, settled, put_conflict}
@@ -28,14 +28,14 @@ use Rattle.pram_meaning.specs.Store.{State}
 use Rattle.pram_meaning.specs.Together.{after_write}
 use Rattle.flat_machine.specs.Flat.{Flat, range, cells, noted, single_to, written}
 use Rattle.flat_machine.proofs.Late.{none_least}
-use Rattle.stretches.specs.Applied.{wrote, write_conflict}
-use Rattle.stretches.specs.Notes.{note, notes}
-use Rattle.evaluation.specs.Noted.{note_key}
-use Rattle.evaluation.specs.Rows.{Row}
-use Rattle.evaluation.proofs.Effects.{entries_are_the_rule, one_writer}
-use Rattle.evaluation.proofs.Sums.{IsBelow}
-use Rattle.formula_values.specs.Headings.{heading_of}
-use Rattle.formula_values.proofs.UniformSteps.{fault_is}
+use Rattle.flat_stretches.specs.Applied.{wrote, write_conflict}
+use Rattle.flat_stretches.specs.Notes.{note, notes}
+use Rattle.statement_evaluation.specs.Noted.{note_key}
+use Rattle.statement_evaluation.specs.Rows.{Row}
+use Rattle.statement_evaluation.proofs.Effects.{entries_are_the_rule, one_writer}
+use Rattle.statement_evaluation.proofs.Sums.{IsBelow}
+use Rattle.compiled_formulas.specs.Headings.{heading_of}
+use Rattle.compiled_formulas.proofs.UniformSteps.{fault_is}
 use Rattle.statement_runs.specs.Between.{HasSizes}
 use Rattle.outside_runs.proofs.Evaluated.{Leaves}
 use Rattle.outside_runs.proofs.Values.{write_count}

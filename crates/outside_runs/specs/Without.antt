@@ -4,9 +4,9 @@ use Rattle.pram_check.specs.Checked.{Checked}
 use Rattle.pram_meaning.specs.Store.{State}
 use Rattle.pram_meaning.specs.Values.{HasValues}
 use Rattle.flat_machine.specs.Flat.{Flat}
-use Rattle.stretches.specs.Applied.{applied}
-use Rattle.stretches.specs.Along.{Run}
-use Rattle.formula_values.specs.Outside.{ShowsOutside}
+use Rattle.flat_stretches.specs.Applied.{applied}
+use Rattle.flat_stretches.specs.Along.{Run}
+use Rattle.compiled_formulas.specs.Outside.{ShowsOutside}
 use Rattle.statement_runs.specs.Between.{IsBetween, HasSizes}
 
 -- the registers and the memory show it, seen with the held write applied; and each of its values has 64 bits

@@ -1,4 +1,4 @@
 //! Statements outside pardo on the machine.
 #![tactic(auto)]
 
-pub mod law;
+pub mod outside_laws;

@@ -2,13 +2,13 @@
 use Rattle.std.proofs.Common.{◌≡◌, ℕ, zero, suc, ◌+◌, ◌*◌, ◌<◌, ◌≤◌, Bool, true, false, nat_eq, [], ◌∷◌, ◌++◌, length, refl, ap, ◌∙◌}
 use Rattle.std.proofs.Common.{arith, length-append}
 use Rattle.std.proofs.lemmas.Bool.Decides.{nat_tests}
-use Rattle.superstep_code.specs.declared.instr.Side.{Side}
-use Rattle.superstep_code.specs.declared.instr.Side.TheVariants as side
-use Rattle.superstep_code.specs.declared.instr.Instr.TheVariants.{Ask, Send, Reply}
+use Rattle.superstep_instructions.specs.declared.instr.Side.{Side}
+use Rattle.superstep_instructions.specs.declared.instr.Side.TheVariants as side
+use Rattle.superstep_instructions.specs.declared.instr.Instr.TheVariants.{Ask, Send, Reply}
 use Rattle.pram_tokens.specs.declared.token.Binary.{Binary}
 use Rattle.pram_tokens.specs.declared.token.Binary.TheVariants as binary
-use Rattle.pram_syntax.specs.declared.tree.Prefix.{Prefix}
-use Rattle.pram_syntax.specs.declared.tree.Prefix.TheVariants as prefix
+use Rattle.pram_trees.specs.declared.tree.Prefix.{Prefix}
+use Rattle.pram_trees.specs.declared.tree.Prefix.TheVariants as prefix
 use Rattle.pram_names.specs.declared.body.Expression as body
 use Rattle.pram_names.specs.declared.body.Expression.{Expression, Element', Prefix', Chain', Row_of-Link, end_of-Link, more_of-Link}
 use Rattle.pram_check.specs.Bounded.{nodes, link_nodes}

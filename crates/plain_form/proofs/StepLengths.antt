@@ -1,9 +1,9 @@
 -- How long the code of statements inside pardo is.
 use Rattle.std.proofs.Common.{◌≡◌, ℕ, ◌+◌, ◌*◌, ◌≤◌, Bool, true, false, List, [], ◌∷◌, ◌++◌, length, arith, length-append, pos}
-use Rattle.superstep_code.specs.declared.instr.Side.{Side}
-use Rattle.superstep_code.specs.declared.instr.Side.TheVariants.{Private}
-use Rattle.superstep_code.specs.declared.instr.Instr.{Instr}
-use Rattle.superstep_code.specs.declared.instr.Instr.TheVariants.{Copy, Put, Set, Mask, Unmask, Vote, Jump, JumpIfZero}
+use Rattle.superstep_instructions.specs.declared.instr.Side.{Side}
+use Rattle.superstep_instructions.specs.declared.instr.Side.TheVariants.{Private}
+use Rattle.superstep_instructions.specs.declared.instr.Instr.{Instr}
+use Rattle.superstep_instructions.specs.declared.instr.Instr.TheVariants.{Copy, Put, Set, Mask, Unmask, Vote, Jump, JumpIfZero}
 use Rattle.pram_names.specs.declared.body.Expression as body
 use Rattle.pram_names.specs.declared.body.Expression.{Expression, Element', Prefix', Chain'}
 use Rattle.pram_names.specs.declared.body.StepTarget.{StepTarget}

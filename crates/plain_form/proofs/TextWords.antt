@@ -8,14 +8,14 @@ use Rattle.pram_tokens.specs.declared.token.Binary.{Binary}
 use Rattle.pram_tokens.specs.declared.token.Binary.TheVariants as op
 use Rattle.pram_tokens.specs.declared.token.Location.{Location}
 use Rattle.pram_tokens.specs.declared.token.Name.{Name}
-use Rattle.pram_syntax.specs.declared.tree.Expr.{Expr}
-use Rattle.pram_syntax.specs.declared.tree.Stmt.{Stmt}
-use Rattle.pram_syntax.specs.declared.tree.Stmt.TheVariants as st
-use Rattle.pram_syntax.specs.Grammar.{tokens, step_tokens}
-use Rattle.pram_syntax.specs.Blocks.{statement_tokens, block_tokens, else_tokens, local_tokens}
-use Rattle.pram_syntax.specs.Program.{program_tokens, declarations_tokens}
-use Rattle.pram_syntax.proofs.ExprTokens.{tokens-Number, tokens-Name, tokens-Element, tokens-Paren, tokens-Prefix, tokens-Chain}
-use Rattle.pram_syntax.proofs.StmtTokens.{spell_print, spell_while, spell_if_then, spell_if_else, spell_for, spell_pardo}
+use Rattle.pram_trees.specs.declared.tree.Expr.{Expr}
+use Rattle.pram_trees.specs.declared.tree.Stmt.{Stmt}
+use Rattle.pram_trees.specs.declared.tree.Stmt.TheVariants as st
+use Rattle.pram_trees.specs.Grammar.{tokens, step_tokens}
+use Rattle.pram_trees.specs.Blocks.{statement_tokens, block_tokens, else_tokens, local_tokens}
+use Rattle.pram_trees.specs.Program.{program_tokens, declarations_tokens}
+use Rattle.pram_trees.proofs.ExprTokens.{tokens-Number, tokens-Name, tokens-Element, tokens-Paren, tokens-Prefix, tokens-Chain}
+use Rattle.pram_trees.proofs.StmtTokens.{spell_print, spell_while, spell_if_then, spell_if_else, spell_for, spell_pardo}
 use Rattle.pram_names.specs.declared.body.Expression.{Expression, Row_of-Link, end_of-Link, more_of-Link, items-the_row-Link}
 use Rattle.pram_names.specs.declared.body.Expression.{items_hidden-the_row-Link-0}
 use Rattle.pram_names.specs.declared.body.Expression.TheBlock.{hidden-the_row-Link-0}

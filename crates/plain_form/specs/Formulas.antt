@@ -1,7 +1,7 @@
 -- What a statement evaluates, as its code is made from it: one node an operation, where an expression has a chain of operands.
 use Rattle.std.specs.Prelude.{ℕ, ◌+◌, max, ℤ}
 use Rattle.pram_tokens.specs.declared.token.Binary.{Binary}
-use Rattle.pram_syntax.specs.declared.tree.Prefix.{Prefix}
+use Rattle.pram_trees.specs.declared.tree.Prefix.{Prefix}
 use Rattle.pram_names.specs.declared.body.Expression as body
 use Rattle.pram_names.specs.declared.body.Expression.{Expression, Element', Prefix', Chain', Row_of-Link, end_of-Link, more_of-Link}
 

@@ -1,7 +1,7 @@
 -- The code of statements inside pardo. Their registers: `vote` is uniform, the private ones from `base` on are free.
 use Rattle.std.specs.Prelude.{ℕ, ◌+◌, Bool, true, false, List, [], ◌∷◌, ◌++◌, length}
-use Rattle.superstep_code.specs.declared.instr.Side.TheVariants.{Private}
-use Rattle.superstep_code.specs.declared.instr.Instr.{Instr}
+use Rattle.superstep_instructions.specs.declared.instr.Side.TheVariants.{Private}
+use Rattle.superstep_instructions.specs.declared.instr.Instr.{Instr}
 use Rattle.pram_names.specs.declared.body.StepTarget.{StepTarget}
 use Rattle.pram_names.specs.declared.body.StepTarget.TheVariants as inner
 use Rattle.pram_names.specs.declared.body.Step as step

@@ -1,9 +1,9 @@
 -- The code of a program.
 use Rattle.std.specs.Prelude.{Bool, false, List, [], ◌∷◌, ◌++◌}
-use Rattle.superstep_code.specs.declared.instr.Side.TheVariants.{Uniform, Private}
-use Rattle.superstep_code.specs.declared.instr.Instr.{Instr}
-use Rattle.superstep_code.specs.declared.instr.Instr.TheVariants.{Halt}
-use Rattle.superstep_code.specs.Code.{SuperstepCode}
+use Rattle.superstep_instructions.specs.declared.instr.Side.TheVariants.{Uniform, Private}
+use Rattle.superstep_instructions.specs.declared.instr.Instr.{Instr}
+use Rattle.superstep_instructions.specs.declared.instr.Instr.TheVariants.{Halt}
+use Rattle.superstep_instructions.specs.Code.{SuperstepCode}
 use Rattle.pram_check.specs.Checked.{Checked}
 use Rattle.plain_form.specs.Registers.{behind_variables, registers}
 use Rattle.plain_form.specs.Outside.{statements_code}

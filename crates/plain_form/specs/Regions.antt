@@ -4,14 +4,14 @@ use Rattle.std.specs.Prelude.{ℕ, ◌+◌, List, [], ◌∷◌, ◌++◌}
 use Rattle.pram_tokens.specs.declared.token.Binary.{Binary}
 use Rattle.pram_tokens.specs.declared.token.Binary.TheVariants.{Or, And, Equal, Unequal, Less, AtMost, Greater, AtLeast, Add, Subtract}
 use Rattle.pram_tokens.specs.declared.token.Binary.TheVariants.{Multiply, Divide, Remainder}
-use Rattle.pram_syntax.specs.declared.tree.Prefix.{Prefix}
-use Rattle.pram_syntax.specs.declared.tree.Prefix.TheVariants as before
-use Rattle.superstep_code.specs.declared.instr.Side.{Side}
-use Rattle.superstep_code.specs.declared.instr.Side.TheVariants.{Uniform, Private}
-use Rattle.superstep_code.specs.declared.instr.Arithmetic.TheVariants as arithmetic
-use Rattle.superstep_code.specs.declared.instr.Truth.TheVariants as truth
-use Rattle.superstep_code.specs.declared.instr.Instr.{Instr}
-use Rattle.superstep_code.specs.declared.instr.Instr.TheVariants.{Set, Negate, Calculate, Decide, Not, CopyUniform}
+use Rattle.pram_trees.specs.declared.tree.Prefix.{Prefix}
+use Rattle.pram_trees.specs.declared.tree.Prefix.TheVariants as before
+use Rattle.superstep_instructions.specs.declared.instr.Side.{Side}
+use Rattle.superstep_instructions.specs.declared.instr.Side.TheVariants.{Uniform, Private}
+use Rattle.superstep_instructions.specs.declared.instr.Arithmetic.TheVariants as arithmetic
+use Rattle.superstep_instructions.specs.declared.instr.Truth.TheVariants as truth
+use Rattle.superstep_instructions.specs.declared.instr.Instr.{Instr}
+use Rattle.superstep_instructions.specs.declared.instr.Instr.TheVariants.{Set, Negate, Calculate, Decide, Not, CopyUniform}
 use Rattle.plain_form.specs.Registers.{zero_register, variable, index, local}
 use Rattle.plain_form.specs.Formulas.{Formula, Zero, Number, Variable, Index, Local, Read, Before, Between, Pair, reads, positions}
 

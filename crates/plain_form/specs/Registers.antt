@@ -1,10 +1,10 @@
 -- Which register holds what.
 use Rattle.std.specs.Prelude.{ℕ, ◌+◌, max, List, [], ◌∷◌, ◌++◌}
-use Rattle.superstep_code.specs.declared.instr.Side.{Side}
-use Rattle.superstep_code.specs.declared.instr.Side.TheVariants.{Uniform, Private}
-use Rattle.superstep_code.specs.declared.instr.Instr.{Instr}
-use Rattle.superstep_code.specs.declared.instr.Instr.TheVariants.{Set, Copy, Negate, Calculate, Decide, Not, CopyUniform, Index}
-use Rattle.superstep_code.specs.declared.instr.Instr.TheVariants.{Enter, Mask, Ask, Put, Vote, Print, JumpIfZero}
+use Rattle.superstep_instructions.specs.declared.instr.Side.{Side}
+use Rattle.superstep_instructions.specs.declared.instr.Side.TheVariants.{Uniform, Private}
+use Rattle.superstep_instructions.specs.declared.instr.Instr.{Instr}
+use Rattle.superstep_instructions.specs.declared.instr.Instr.TheVariants.{Set, Copy, Negate, Calculate, Decide, Not, CopyUniform, Index}
+use Rattle.superstep_instructions.specs.declared.instr.Instr.TheVariants.{Enter, Mask, Ask, Put, Vote, Print, JumpIfZero}
 
 -- register 0 of either side is never written, so it stays 0
 abbrev pub zero_register : ℕ

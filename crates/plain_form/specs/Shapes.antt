@@ -1,13 +1,13 @@
 -- The code of a statement from the code of its parts. A write is held up to the next send: `held` says whether one is. With `keep` a
 -- send that sends nothing stands behind each mark where no write is held.
 use Rattle.std.specs.Prelude.{ℕ, zero, suc, ◌+◌, Bool, true, false, not, ◌&&◌, List, [], ◌∷◌, ◌++◌, length, pos}
-use Rattle.superstep_code.specs.declared.instr.Side.{Side}
-use Rattle.superstep_code.specs.declared.instr.Side.TheVariants.{Uniform, Private}
-use Rattle.superstep_code.specs.declared.instr.Arithmetic.TheVariants as arithmetic
-use Rattle.superstep_code.specs.declared.instr.Truth.TheVariants as truth
-use Rattle.superstep_code.specs.declared.instr.Instr.{Instr}
-use Rattle.superstep_code.specs.declared.instr.Instr.TheVariants.{Mark, Set, Copy, Calculate, Decide, Index, Enter, Leave, Mask}
-use Rattle.superstep_code.specs.declared.instr.Instr.TheVariants.{Flip, Unmask, Put, Send, Vote, Print, Jump, JumpIfZero}
+use Rattle.superstep_instructions.specs.declared.instr.Side.{Side}
+use Rattle.superstep_instructions.specs.declared.instr.Side.TheVariants.{Uniform, Private}
+use Rattle.superstep_instructions.specs.declared.instr.Arithmetic.TheVariants as arithmetic
+use Rattle.superstep_instructions.specs.declared.instr.Truth.TheVariants as truth
+use Rattle.superstep_instructions.specs.declared.instr.Instr.{Instr}
+use Rattle.superstep_instructions.specs.declared.instr.Instr.TheVariants.{Mark, Set, Copy, Calculate, Decide, Index, Enter, Leave, Mask}
+use Rattle.superstep_instructions.specs.declared.instr.Instr.TheVariants.{Flip, Unmask, Put, Send, Vote, Print, Jump, JumpIfZero}
 use Rattle.plain_form.specs.Registers.{variable, turn, high, more, behind_turns, index}
 use Rattle.plain_form.specs.Formulas.{Formula, Pair, nesting, positions}
 use Rattle.plain_form.specs.Groups.{only, evaluated, value_at, first_at, second_at}

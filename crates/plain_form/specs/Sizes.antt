@@ -4,9 +4,9 @@ use Rattle.pram_names.specs.declared.body.Step as step
 use Rattle.pram_names.specs.declared.body.Step.{Step, Row_of-Step, end_of-Step, more_of-Step}
 use Rattle.pram_names.specs.declared.body.Statement.{Statement, Assign, Print, While', If', For', Pardo, Row_of-Statement, end_of-Statement}
 use Rattle.pram_names.specs.declared.body.Statement.{more_of-Statement}
-use Rattle.pram_syntax.specs.Program.{program_tokens}
+use Rattle.pram_trees.specs.Program.{program_tokens}
 use Rattle.pram_names.specs.Breaches.{most_tokens}
-use Rattle.superstep_code.specs.Limits.{most_instructions}
+use Rattle.superstep_instructions.specs.Limits.{most_instructions}
 use Rattle.pram_check.specs.Bounded.{nodes, inner_target_nodes, target_nodes}
 use Rattle.pram_check.specs.Checked.{Checked, IsResolved}
 use Rattle.plain_form.specs.PlainForm.{instructions_of}

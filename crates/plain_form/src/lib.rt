@@ -1,4 +1,4 @@
 //! The code of a program, as a definition.
 #![tactic(auto)]
 
-pub mod law;
+pub mod form_laws;

@@ -7,12 +7,12 @@ use Rattle.std.proofs.lemmas.Bool.Decides.{nat_tests}
 use Rattle.std.proofs.lemmas.Int.{ints}
 use Rattle.pram_tokens.specs.declared.token.Mark.TheVariants as mark
 use Rattle.pram_tokens.specs.declared.token.Token.TheVariants as token
-use Rattle.pram_syntax.specs.declared.tree.Declaration.{Declaration}
-use Rattle.pram_syntax.specs.declared.tree.Declaration.TheVariants as declare
-use Rattle.pram_syntax.specs.Blocks.{block_tokens}
+use Rattle.pram_trees.specs.declared.tree.Declaration.{Declaration}
+use Rattle.pram_trees.specs.declared.tree.Declaration.TheVariants as declare
+use Rattle.pram_trees.specs.Blocks.{block_tokens}
 use Rattle.pram_model.specs.Declarations.{IsEntry, IsNew, AreDifferent, names_of, IsLayout}
 use Rattle.pram_model.specs.Layout.{SharedEntry, size, total_size, most_cells}
-use Rattle.pram_syntax.specs.Program.{IsTree, limit, declarations_tokens, program_tokens}
+use Rattle.pram_trees.specs.Program.{IsTree, limit, declarations_tokens, program_tokens}
 use Rattle.pram_model.specs.Names.{same_text}
 use Rattle.pram_tokens.specs.Tokens.{AreReal, IsNumber}
 use Rattle.pram_tokens.proofs.Real.{front_real}

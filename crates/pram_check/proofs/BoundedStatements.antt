@@ -11,14 +11,14 @@ use Rattle.pram_tokens.specs.declared.token.Name.{Name}
 use Rattle.pram_tokens.specs.declared.token.Mark.TheVariants as mark
 use Rattle.pram_tokens.specs.declared.token.Opening.TheVariants as opening
 use Rattle.pram_tokens.specs.declared.token.Token.TheVariants as token
-use Rattle.pram_syntax.specs.declared.tree.Expr.{Expr}
-use Rattle.pram_syntax.specs.declared.tree.Stmt.{Stmt}
-use Rattle.pram_syntax.specs.declared.tree.Stmt.TheVariants as st
-use Rattle.pram_syntax.specs.Grammar.{tokens}
-use Rattle.pram_syntax.specs.Blocks.{statement_tokens, block_tokens, else_tokens, local_tokens}
+use Rattle.pram_trees.specs.declared.tree.Expr.{Expr}
+use Rattle.pram_trees.specs.declared.tree.Stmt.{Stmt}
+use Rattle.pram_trees.specs.declared.tree.Stmt.TheVariants as st
+use Rattle.pram_trees.specs.Grammar.{tokens}
+use Rattle.pram_trees.specs.Blocks.{statement_tokens, block_tokens, else_tokens, local_tokens}
 use Rattle.pram_tokens.specs.Tokens.{AreReal}
 use Rattle.pram_tokens.proofs.Real.{front_real}
-use Rattle.pram_syntax.proofs.StmtTokens.{spell_print, spell_for, spell_pardo}
+use Rattle.pram_trees.proofs.StmtTokens.{spell_print, spell_for, spell_pardo}
 use Rattle.pram_names.specs.declared.body.Expression.{Expression}
 use Rattle.pram_names.specs.declared.body.Statement.{Statement, Row_of-Statement, end_of-Statement, items-the_row-Statement}
 use Rattle.pram_names.specs.declared.body.Statement.{items_hidden-the_row-Statement-0, more_of-Statement}

@@ -10,14 +10,14 @@ use Rattle.pram_tokens.specs.declared.token.Mark.TheVariants as mark
 use Rattle.pram_tokens.specs.declared.token.Opening.TheVariants as opening
 use Rattle.pram_tokens.specs.declared.token.Token.{Token}
 use Rattle.pram_tokens.specs.declared.token.Token.TheVariants as token
-use Rattle.pram_syntax.specs.declared.tree.Expr.{Expr}
-use Rattle.pram_syntax.specs.declared.tree.Stmt.{Stmt}
-use Rattle.pram_syntax.specs.declared.tree.Stmt.TheVariants as st
-use Rattle.pram_syntax.specs.Grammar.{tokens}
-use Rattle.pram_syntax.specs.Blocks.{statement_tokens, block_tokens, else_tokens}
+use Rattle.pram_trees.specs.declared.tree.Expr.{Expr}
+use Rattle.pram_trees.specs.declared.tree.Stmt.{Stmt}
+use Rattle.pram_trees.specs.declared.tree.Stmt.TheVariants as st
+use Rattle.pram_trees.specs.Grammar.{tokens}
+use Rattle.pram_trees.specs.Blocks.{statement_tokens, block_tokens, else_tokens}
 use Rattle.pram_tokens.specs.Tokens.{AreReal}
 use Rattle.pram_tokens.proofs.Real.{front_real}
-use Rattle.pram_syntax.proofs.StmtTokens.{spell_assign, spell_assign_element, spell_while, spell_if_then, spell_if_else}
+use Rattle.pram_trees.proofs.StmtTokens.{spell_assign, spell_assign_element, spell_while, spell_if_then, spell_if_else}
 use Rattle.pram_names.specs.declared.body.Expression.{Expression}
 use Rattle.pram_names.specs.declared.body.Step.{Step, Row_of-Step, end_of-Step, items-the_row-Step, items_hidden-the_row-Step-0}
 use Rattle.pram_names.specs.declared.body.Step.{more_of-Step}

@@ -2,12 +2,12 @@
 use Rattle.std.proofs.Common.{◌≡◌, ℕ, List, [], ◌∷◌, ◌++◌, map, subst, sym, ap, ◌∙◌, refl, append_assoc}
 use Rattle.pram_tokens.specs.declared.token.Binary.{Binary}
 use Rattle.pram_tokens.specs.declared.token.Token.{Token}
-use Rattle.pram_syntax.specs.declared.tree.Expr.{Expr, roll-Expr, map-Expr}
-use Rattle.pram_syntax.specs.declared.tree.Expr.TheOpen.{Expr-F}
-use Rattle.pram_syntax.specs.declared.tree.Expr.TheFolds.{ind-Expr, fold-roll-Expr}
-use Rattle.pram_syntax.specs.Grammar.{tokens, node_tokens, joined, prefix_token}
-use Rattle.pram_syntax.specs.declared.tree.Prefix.{Prefix}
-use Rattle.pram_syntax.specs.declared.tree.Prefix.TheVariants as prefix
+use Rattle.pram_trees.specs.declared.tree.Expr.{Expr, roll-Expr, map-Expr}
+use Rattle.pram_trees.specs.declared.tree.Expr.TheOpen.{Expr-F}
+use Rattle.pram_trees.specs.declared.tree.Expr.TheFolds.{ind-Expr, fold-roll-Expr}
+use Rattle.pram_trees.specs.Grammar.{tokens, node_tokens, joined, prefix_token}
+use Rattle.pram_trees.specs.declared.tree.Prefix.{Prefix}
+use Rattle.pram_trees.specs.declared.tree.Prefix.TheVariants as prefix
 use Rattle.pram_names.specs.Breaches.{Use, uses, node_uses, joined_uses}
 use Rattle.pram_tokens.specs.InOrder.{place_of, places}
 use Rattle.pram_check.proofs.Sublists.{Sub, none, keep, sub_append, sub_behind, sub_front}

@@ -8,12 +8,12 @@ use Rattle.std.proofs.lemmas.List.Elements.{All-cons}
 use Rattle.pram_tokens.specs.declared.token.Mark.TheVariants as mark
 use Rattle.pram_tokens.specs.declared.token.Numeral.{Numeral}
 use Rattle.pram_tokens.specs.declared.token.Token.TheVariants as token
-use Rattle.pram_syntax.specs.declared.tree.Declaration.{Declaration}
-use Rattle.pram_syntax.specs.declared.tree.Declaration.TheVariants as declare
-use Rattle.pram_syntax.specs.declared.tree.Stmt.{Stmt}
-use Rattle.pram_syntax.specs.Blocks.{block_tokens}
+use Rattle.pram_trees.specs.declared.tree.Declaration.{Declaration}
+use Rattle.pram_trees.specs.declared.tree.Declaration.TheVariants as declare
+use Rattle.pram_trees.specs.declared.tree.Stmt.{Stmt}
+use Rattle.pram_trees.specs.Blocks.{block_tokens}
 use Rattle.pram_model.specs.Layout.{size}
-use Rattle.pram_syntax.specs.Program.{ProgramTree, program_tokens, declarations_tokens, rule_token}
+use Rattle.pram_trees.specs.Program.{ProgramTree, program_tokens, declarations_tokens, rule_token}
 use Rattle.pram_names.specs.declared.fault.Breach.{Breach}
 use Rattle.pram_names.specs.declared.fault.Cause.TheVariants.{Limit}
 use Rattle.pram_names.specs.declared.fault.Limit.TheVariants as limit

@@ -8,12 +8,12 @@ use Rattle.pram_tokens.specs.declared.token.Opening.{Opening}
 use Rattle.pram_tokens.specs.declared.token.Opening.TheVariants as opening
 use Rattle.pram_tokens.specs.declared.token.Token.{Token}
 use Rattle.pram_tokens.specs.declared.token.Token.TheVariants as token
-use Rattle.pram_syntax.specs.declared.tree.Expr.{Expr}
-use Rattle.pram_syntax.specs.declared.tree.Stmt.{Stmt, roll-Stmt, map-Stmt}
-use Rattle.pram_syntax.specs.declared.tree.Stmt.TheOpen.{Stmt-F}
-use Rattle.pram_syntax.specs.declared.tree.Stmt.TheFolds.{ind-Stmt, fold-roll-Stmt}
-use Rattle.pram_syntax.specs.Grammar.{tokens}
-use Rattle.pram_syntax.specs.Blocks.{statement_tokens, statement_step, joined_all, local_tokens}
+use Rattle.pram_trees.specs.declared.tree.Expr.{Expr}
+use Rattle.pram_trees.specs.declared.tree.Stmt.{Stmt, roll-Stmt, map-Stmt}
+use Rattle.pram_trees.specs.declared.tree.Stmt.TheOpen.{Stmt-F}
+use Rattle.pram_trees.specs.declared.tree.Stmt.TheFolds.{ind-Stmt, fold-roll-Stmt}
+use Rattle.pram_trees.specs.Grammar.{tokens}
+use Rattle.pram_trees.specs.Blocks.{statement_tokens, statement_step, joined_all, local_tokens}
 use Rattle.pram_names.specs.declared.fault.Breach.{Breach}
 use Rattle.pram_names.specs.declared.fault.Cause.{Cause}
 use Rattle.pram_names.specs.declared.fault.Cause.TheVariants.{WrongKind}

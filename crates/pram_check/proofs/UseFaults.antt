@@ -2,8 +2,8 @@
 use Rattle.std.proofs.Common.{ℕ, ◌+◌, List, [], ◌∷◌, ◌++◌, arith}
 use Rattle.std.specs.Prelude.{if◌then◌else◌}
 use Rattle.pram_tokens.specs.declared.token.Token.{Token}
-use Rattle.pram_syntax.specs.declared.tree.Expr.{Expr}
-use Rattle.pram_syntax.specs.Grammar.{tokens}
+use Rattle.pram_trees.specs.declared.tree.Expr.{Expr}
+use Rattle.pram_trees.specs.Grammar.{tokens}
 use Rattle.pram_names.specs.Scope.{Scope, meaning_of}
 use Rattle.pram_names.specs.Breaches.{Use, uses, use_breaches, use_cause, ninth, or_else, is_read, at}
 use Rattle.pram_check.specs.Faults.{use_faults, use_causes, all_at}

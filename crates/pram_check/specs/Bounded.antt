@@ -2,7 +2,7 @@
 use Rattle.std.specs.Prelude.{◌≡◌, ℕ, ◌+◌, ◌≤◌, ◌<◌, max, List, [], ◌∷◌, length, Option, Some, None, ℤ, slice_get, MatchOption}
 use Rattle.pram_model.specs.Declarations.{IsLayout}
 use Rattle.pram_model.specs.Layout.{SharedEntry}
-use Rattle.pram_syntax.specs.Program.{limit, program_tokens}
+use Rattle.pram_trees.specs.Program.{limit, program_tokens}
 use Rattle.pram_tokens.specs.Tokens.{IsNumber}
 use Rattle.pram_names.specs.declared.body.Expression.{Expression, Number, Uniform, Index, Local, Cell, Element', Prefix', Chain'}
 use Rattle.pram_names.specs.declared.body.Expression.{Row_of-Link, end_of-Link, more_of-Link}

@@ -2,7 +2,7 @@
 use Rattle.std.specs.Prelude.{◌≡◌, ℕ, List, pos}
 use Rattle.pram_model.specs.declared.rule.Rule.{Rule}
 use Rattle.pram_model.specs.Layout.{SharedEntry}
-use Rattle.pram_syntax.specs.Program.{ProgramTree}
+use Rattle.pram_trees.specs.Program.{ProgramTree}
 use Rattle.pram_names.specs.declared.body.Statement.{Statement}
 use Rattle.pram_names.specs.Scope.{globals, shared_entries, uniform_count}
 use Rattle.pram_names.specs.Resolved.{SayStatements}

@@ -5,13 +5,13 @@ use Rattle.std.specs.Prelude.{nat_le, int_lt, List, [], ◌∷◌, ◌++◌, map
 use Rattle.std.specs.List.{list_any, All, Contains}
 use Rattle.pram_tokens.specs.declared.token.Location.{Location}
 use Rattle.pram_tokens.specs.declared.token.Name.{Name}
-use Rattle.pram_syntax.specs.declared.tree.Declaration.{Declaration}
-use Rattle.pram_syntax.specs.declared.tree.Declaration.TheVariants as declare
-use Rattle.pram_syntax.specs.declared.tree.Stmt.{Stmt}
-use Rattle.pram_syntax.specs.declared.tree.Stmt.TheOpen.{Stmt-F}
-use Rattle.pram_syntax.specs.declared.tree.Stmt.TheFolds.{fold-Stmt}
+use Rattle.pram_trees.specs.declared.tree.Declaration.{Declaration}
+use Rattle.pram_trees.specs.declared.tree.Declaration.TheVariants as declare
+use Rattle.pram_trees.specs.declared.tree.Stmt.{Stmt}
+use Rattle.pram_trees.specs.declared.tree.Stmt.TheOpen.{Stmt-F}
+use Rattle.pram_trees.specs.declared.tree.Stmt.TheFolds.{fold-Stmt}
 use Rattle.pram_model.specs.Layout.{size, most_cells}
-use Rattle.pram_syntax.specs.Program.{ProgramTree, program_tokens}
+use Rattle.pram_trees.specs.Program.{ProgramTree, program_tokens}
 use Rattle.pram_names.specs.declared.scope.Meaning.{Meaning}
 use Rattle.pram_names.specs.declared.scope.Meaning.TheVariants.{Uniform, Cell, Array, Index, Local}
 use Rattle.pram_names.specs.declared.fault.Cause.{Cause}

@@ -1,6 +1,6 @@
 -- A checked program under another rule of concurrent access.
 use Rattle.pram_model.specs.declared.rule.Rule.{Rule}
-use Rattle.pram_syntax.specs.OtherRule.{tree_under}
+use Rattle.pram_trees.specs.OtherRule.{tree_under}
 use Rattle.pram_check.specs.Checked.{Checked}
 
 -- the same program but for the rule, in its tree too

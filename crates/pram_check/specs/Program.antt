@@ -1,6 +1,6 @@
 -- What `check` answers.
 use Rattle.std.specs.Prelude.{◌≡◌, pos}
-use Rattle.pram_syntax.specs.Program.{ProgramTree}
+use Rattle.pram_trees.specs.Program.{ProgramTree}
 use Rattle.pram_check.specs.declared.resolve.Parts.{Parts}
 use Rattle.pram_names.specs.Scope.{globals, shared_entries, uniform_count}
 use Rattle.pram_names.specs.Resolved.{SayStatements}

@@ -9,7 +9,7 @@ ghost use Rattle.pram_names.specs.Breaches.{declaration_breaches};
 ghost use Rattle.pram_names.specs.Walk.{Judges};
 
 use pram_names::{Cause, CheckFault, Limit, Meaning, Scope, breach, new_name};
-use pram_syntax::{Declaration, Layout, Name, Numeral};
+use pram_trees::{Declaration, Layout, Name, Numeral};
 use std::alloc::Global;
 
 const MOST_CELLS: u32 = 1_048_576;

@@ -1,8 +1,8 @@
 //! Accepted programs: names, kinds and limits.
 #![tactic(auto)]
 
+pub mod breach_laws;
 mod declarations;
-pub mod law;
 mod program;
 mod resolve;
 mod statement;

@@ -9,7 +9,7 @@ ghost use Rattle.pram_check.specs.OtherRule.{under};
 
 use crate::resolve::{Parts, resolve};
 use pram_names::{CheckFault, Statement};
-use pram_syntax::{Layout, Rule, Tree};
+use pram_trees::{Layout, Rule, Tree};
 use std::alloc::Global;
 use std::marker::Model;
 
@@ -25,7 +25,7 @@ impl Model for Program {
     ghost use Rattle.pram_check.specs.Checked.{Checked, IsResolved, checked};
     ghost use Rattle.pram_check.specs.Faults.{IsAccepted};
     ghost use Rattle.pram_names.specs.contracts.body.Statement as statement;
-    ghost use Rattle.pram_syntax.specs.contracts.tree.Stmt as stmt;
+    ghost use Rattle.pram_trees.specs.contracts.tree.Stmt as stmt;
 
     ghost Value = { Checked };
 

@@ -7,7 +7,7 @@ ghost use Rattle.pram_names.specs.Walk.{Judges};
 use crate::declarations::declare_all;
 use crate::statement::statements;
 use pram_names::{CheckFault, Scope, Statement, check_tokens, procs_of};
-use pram_syntax::{Layout, Tree};
+use pram_trees::{Layout, Tree};
 use std::alloc::Global;
 
 /// What a tree says, beside its rule.

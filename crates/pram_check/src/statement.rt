@@ -11,7 +11,7 @@ use pram_names::{
     Cause, CheckFault, Expression, Meaning, Scope, Statement, Target, breach, declare_locals,
     element_target, new_name, pardo_range, target, value, values, variable,
 };
-use pram_syntax::{Expr, Location, Name, Stmt};
+use pram_trees::{Expr, Location, Name, Stmt};
 use std::alloc::Global;
 
 // An assignment without subscript.

@@ -8,7 +8,7 @@ ghost use Rattle.pram_names.specs.Walk.{Judges};
 use pram_names::{
     Cause, CheckFault, Scope, Step, StepTarget, breach, element_target, inner_target, value, values,
 };
-use pram_syntax::{Expr, Name, Stmt};
+use pram_trees::{Expr, Name, Stmt};
 use std::alloc::Global;
 
 // An assignment without subscript.

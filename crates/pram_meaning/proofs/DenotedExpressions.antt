@@ -6,11 +6,11 @@ use Rattle.pram_model.specs.Layout.{cell_of}
 use Rattle.pram_tokens.specs.declared.token.Binary.{Binary}
 use Rattle.pram_tokens.specs.declared.token.Name.{Name}
 use Rattle.pram_tokens.specs.declared.token.Numeral.{Numeral}
-use Rattle.pram_syntax.specs.declared.tree.Prefix.{Prefix}
-use Rattle.pram_syntax.specs.declared.tree.Expr.{Expr}
-use Rattle.pram_syntax.specs.declared.tree.Expr.TheVariants as e
-use Rattle.pram_syntax.specs.declared.tree.Expr.TheOpen.{Expr-F}
-use Rattle.pram_syntax.specs.declared.tree.Expr.TheFolds.{fold-Expr, fold-roll-Expr}
+use Rattle.pram_trees.specs.declared.tree.Prefix.{Prefix}
+use Rattle.pram_trees.specs.declared.tree.Expr.{Expr}
+use Rattle.pram_trees.specs.declared.tree.Expr.TheVariants as e
+use Rattle.pram_trees.specs.declared.tree.Expr.TheOpen.{Expr-F}
+use Rattle.pram_trees.specs.declared.tree.Expr.TheFolds.{fold-Expr, fold-roll-Expr}
 use Rattle.pram_values.specs.declared.kind.Kind.TheVariants.{OutOfRange}
 use Rattle.pram_names.specs.declared.body.Expression.{Expression}
 use Rattle.pram_names.specs.declared.body.Link.{Link}

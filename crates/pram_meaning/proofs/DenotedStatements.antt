@@ -5,11 +5,11 @@ use mathlib.Core.List.{map}
 use Rattle.pram_model.specs.Layout.{cell_of, width}
 use Rattle.pram_tokens.specs.declared.token.Location.{Location}
 use Rattle.pram_tokens.specs.declared.token.Name.{Name}
-use Rattle.pram_syntax.specs.declared.tree.Expr.{Expr}
-use Rattle.pram_syntax.specs.declared.tree.Stmt.{Stmt}
-use Rattle.pram_syntax.specs.declared.tree.Stmt.TheVariants as s
-use Rattle.pram_syntax.specs.declared.tree.Stmt.TheOpen.{Stmt-F}
-use Rattle.pram_syntax.specs.declared.tree.Stmt.TheFolds.{fold-Stmt, fold-roll-Stmt}
+use Rattle.pram_trees.specs.declared.tree.Expr.{Expr}
+use Rattle.pram_trees.specs.declared.tree.Stmt.{Stmt}
+use Rattle.pram_trees.specs.declared.tree.Stmt.TheVariants as s
+use Rattle.pram_trees.specs.declared.tree.Stmt.TheOpen.{Stmt-F}
+use Rattle.pram_trees.specs.declared.tree.Stmt.TheFolds.{fold-Stmt, fold-roll-Stmt}
 use Rattle.pram_values.specs.Truth.{is_nonzero}
 use Rattle.pram_check.specs.Checked.{Checked}
 use Rattle.pram_names.specs.declared.body.Expression.{Expression}

@@ -1,6 +1,6 @@
 -- What a program comes to depends on its tree alone.
 use Rattle.std.proofs.Common.{◌≡◌, ℕ, List, ℤ, pos, ap, sym, ◌∙◌, subst}
-use Rattle.pram_syntax.specs.Program.{ProgramTree}
+use Rattle.pram_trees.specs.Program.{ProgramTree}
 use Rattle.pram_check.specs.Checked.{Checked, IsResolved}
 use Rattle.pram_names.specs.Resolved.{SayStatements}
 use Rattle.pram_names.specs.Scope.{globals, shared_entries, uniform_count}

@@ -9,8 +9,8 @@ use Rattle.pram_model.specs.declared.rule.Rule.TheVariants.{Erew, Crew, Common, 
 use Rattle.pram_tokens.specs.declared.token.Binary.{Binary}
 use Rattle.pram_tokens.specs.declared.token.Binary.TheVariants.{Or, And, Equal, Unequal, Less, AtMost, Greater, AtLeast, Add, Subtract}
 use Rattle.pram_tokens.specs.declared.token.Binary.TheVariants.{Multiply, Divide, Remainder}
-use Rattle.pram_syntax.specs.declared.tree.Prefix.{Prefix}
-use Rattle.pram_syntax.specs.declared.tree.Prefix.TheVariants.{Negate, Not}
+use Rattle.pram_trees.specs.declared.tree.Prefix.{Prefix}
+use Rattle.pram_trees.specs.declared.tree.Prefix.TheVariants.{Negate, Not}
 use Rattle.pram_model.specs.Layout.{width}
 use Rattle.pram_tokens.specs.Tokens.{IsNumber}
 use Rattle.pram_values.specs.Division.{IsRemainderFor, floor_quotient, floor_remainder, quotient, remainder_of}

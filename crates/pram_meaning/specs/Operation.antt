@@ -3,8 +3,8 @@ use Rattle.std.specs.Prelude.{Ok, not, ◌&&◌, ◌||◌, ℤ, ◌+ℤ◌, ◌-
 use Rattle.pram_tokens.specs.declared.token.Binary.{Binary}
 use Rattle.pram_tokens.specs.declared.token.Binary.TheVariants.{Or, And, Equal, Unequal, Less, AtMost, Greater, AtLeast, Add, Subtract}
 use Rattle.pram_tokens.specs.declared.token.Binary.TheVariants.{Multiply, Divide, Remainder}
-use Rattle.pram_syntax.specs.declared.tree.Prefix.{Prefix}
-use Rattle.pram_syntax.specs.declared.tree.Prefix.TheVariants.{Negate, Not}
+use Rattle.pram_trees.specs.declared.tree.Prefix.{Prefix}
+use Rattle.pram_trees.specs.declared.tree.Prefix.TheVariants.{Negate, Not}
 use Rattle.pram_values.specs.Value.{Value, checked}
 use Rattle.pram_values.specs.Truth.{truth, is_nonzero, is_equal}
 use Rattle.pram_values.specs.Division.{quotient, remainder_of}

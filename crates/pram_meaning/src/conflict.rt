@@ -11,7 +11,7 @@ use crate::access::{Judged, collect_reads, last_position};
 use crate::key::Key;
 use crate::part::Part;
 use crate::slate::Slate;
-use pram_syntax::Rule;
+use pram_trees::Rule;
 use pram_values::{Kind, Place};
 use std::alloc::{AllocError, Global};
 

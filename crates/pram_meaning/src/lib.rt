@@ -10,7 +10,7 @@ pub mod conflict;
 mod inside;
 pub mod interpreter;
 mod key;
-pub mod law;
+pub mod meaning_laws;
 pub mod numbers;
 mod operation;
 mod outside;

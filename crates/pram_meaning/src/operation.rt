@@ -3,7 +3,7 @@
 ghost use Rattle.std.specs.Prelude.{◌≡◌};
 ghost use Rattle.pram_meaning.specs.Operation.{operate, operate_before};
 
-use pram_syntax::{Binary, Prefix};
+use pram_trees::{Binary, Prefix};
 use pram_values::{
     Kind, add, at_most, both, divide, either, equal, less, multiply, negate, negation, remainder,
     subtract, unequal,

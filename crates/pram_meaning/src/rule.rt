@@ -3,7 +3,7 @@
 ghost use Rattle.std.specs.Prelude.{◌≡◌};
 ghost use Rattle.write_rules.specs.Rule.{written};
 
-use pram_syntax::Rule;
+use pram_trees::Rule;
 use pram_values::Kind;
 use write_rules::{RuleBody, Write, WriteRule, under};
 

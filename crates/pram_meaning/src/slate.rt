@@ -9,7 +9,7 @@ ghost use Rattle.pram_meaning.specs.Slates.{kept, groups_of, IsPlace, IsMarked, 
 use crate::access::{Access, Judged, collect_writes};
 use crate::part::Part;
 use crate::rule::value_after;
-use pram_syntax::Rule;
+use pram_trees::Rule;
 use pram_values::Kind;
 use std::alloc::{AllocError, Global};
 use write_rules::Write;

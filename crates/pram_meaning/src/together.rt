@@ -19,7 +19,7 @@ use crate::slate::Slate;
 use crate::team::{Member, set_locals, value_in};
 use crate::view::View;
 use pram_check::{Expression, StepTarget};
-use pram_syntax::Rule;
+use pram_trees::Rule;
 use pram_values::is_true;
 use std::alloc::{AllocError, Global};
 use write_rules::Fault;

@@ -2,7 +2,7 @@
 
 ghost use Rattle.std.specs.Prelude.{◌≡◌, slice_index_or, pos};
 
-use pram_syntax::Layout;
+use pram_trees::Layout;
 
 /// What one processor sees before a statement.
 #[derive(Clone, Copy)]

@@ -4,11 +4,11 @@ use mathlib.Core.List.{map}
 use Rattle.pram_tokens.specs.declared.token.Binary.{Binary}
 use Rattle.pram_tokens.specs.declared.token.Name.{Name}
 use Rattle.pram_tokens.specs.declared.token.Numeral.{Numeral}
-use Rattle.pram_syntax.specs.declared.tree.Prefix.{Prefix}
-use Rattle.pram_syntax.specs.declared.tree.Expr.{Expr}
-use Rattle.pram_syntax.specs.declared.tree.Expr.TheVariants as e
-use Rattle.pram_syntax.specs.declared.tree.Expr.TheOpen.{Expr-F}
-use Rattle.pram_syntax.specs.declared.tree.Expr.TheFolds.{fold-roll-Expr}
+use Rattle.pram_trees.specs.declared.tree.Prefix.{Prefix}
+use Rattle.pram_trees.specs.declared.tree.Expr.{Expr}
+use Rattle.pram_trees.specs.declared.tree.Expr.TheVariants as e
+use Rattle.pram_trees.specs.declared.tree.Expr.TheOpen.{Expr-F}
+use Rattle.pram_trees.specs.declared.tree.Expr.TheFolds.{fold-roll-Expr}
 use Rattle.pram_names.specs.Breaches.{Use, plain, subscripted, uses, node_uses, step_uses, joined_uses}
 
 pub uses-Number : (n : Numeral) → uses (e.Number n) ≡ []

@@ -7,11 +7,11 @@ use Rattle.pram_tokens.specs.declared.token.Location.{Location}
 use Rattle.pram_tokens.specs.declared.token.Name.{Name}
 use Rattle.pram_tokens.specs.declared.token.Numeral.{Numeral}
 use Rattle.pram_tokens.specs.declared.token.Binary.{Binary}
-use Rattle.pram_syntax.specs.declared.tree.Prefix.{Prefix}
-use Rattle.pram_syntax.specs.declared.tree.Expr.{Expr}
-use Rattle.pram_syntax.specs.declared.tree.Expr.TheVariants as e
-use Rattle.pram_syntax.specs.declared.tree.Stmt.{Stmt}
-use Rattle.pram_syntax.specs.declared.tree.Stmt.TheVariants as s
+use Rattle.pram_trees.specs.declared.tree.Prefix.{Prefix}
+use Rattle.pram_trees.specs.declared.tree.Expr.{Expr}
+use Rattle.pram_trees.specs.declared.tree.Expr.TheVariants as e
+use Rattle.pram_trees.specs.declared.tree.Stmt.{Stmt}
+use Rattle.pram_trees.specs.declared.tree.Stmt.TheVariants as s
 use Rattle.pram_names.specs.declared.body.Expression.{Expression}
 use Rattle.pram_names.specs.declared.body.Expression as value
 use Rattle.pram_names.specs.declared.body.Link.{Link}

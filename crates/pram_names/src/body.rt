@@ -1,7 +1,7 @@
 //! The body of a checked program: names are numbers here, and statements outside and inside pardo
 //! are of two types.
 
-use pram_syntax::{Binary, Prefix};
+use pram_trees::{Binary, Prefix};
 
 /// An expression. A uniform variable, a local or a shared declaration goes by its number, counted
 /// from 0 in the order of declaration. Parentheses are gone: they change no value.

@@ -6,7 +6,7 @@ ghost use Rattle.pram_names.specs.Walk.{Judges};
 
 use crate::fault::{Breach, Cause, CheckFault, Limit, Spot};
 use crate::resolving::breach;
-use pram_syntax::Numeral;
+use pram_trees::Numeral;
 
 const MOST_PROCS: i64 = 16_384;
 

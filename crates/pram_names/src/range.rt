@@ -10,7 +10,7 @@ use crate::body::Expression;
 use crate::fault::{Cause, CheckFault};
 use crate::resolving::{breach, expression};
 use crate::scope::{Meaning, Scope};
-use pram_syntax::{Expr, Name};
+use pram_trees::{Expr, Name};
 use std::alloc::Global;
 
 /// A new name differs from all names in scope.

@@ -10,7 +10,7 @@ ghost use Rattle.pram_names.specs.Walk.{Judges, JudgesUses};
 use crate::body::{Expression, Link};
 use crate::fault::{Breach, Cause, CheckFault, Limit, Spot};
 use crate::scope::{Meaning, Scope};
-use pram_syntax::{Binary, Expr, Location, Name, Numeral};
+use pram_trees::{Binary, Expr, Location, Name, Numeral};
 use std::alloc::Global;
 
 const MOST_READS: u32 = 8;

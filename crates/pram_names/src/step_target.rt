@@ -10,7 +10,7 @@ use crate::body::StepTarget;
 use crate::fault::{Cause, CheckFault};
 use crate::resolving::breach;
 use crate::scope::{Meaning, Scope};
-use pram_syntax::Name;
+use pram_trees::Name;
 
 /// What is assigned without subscript.
 pub fn inner_target(scope: &Scope, x: &Name) -> Result<StepTarget, CheckFault>

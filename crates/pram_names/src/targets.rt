@@ -11,7 +11,7 @@ use crate::body::Target;
 use crate::fault::{Cause, CheckFault};
 use crate::resolving::breach;
 use crate::scope::{Meaning, Scope};
-use pram_syntax::Name;
+use pram_trees::Name;
 
 /// Whether a uniform variable is the variable of one of the loops.
 pub fn is_loop(loops: &[usize], k: usize) -> bool

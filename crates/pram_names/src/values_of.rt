@@ -9,7 +9,7 @@ use crate::body::Expression;
 use crate::fault::CheckFault;
 use crate::resolving::expression;
 use crate::scope::Scope;
-use pram_syntax::Expr;
+use pram_trees::Expr;
 use std::alloc::Global;
 
 /// The one expression of a statement.

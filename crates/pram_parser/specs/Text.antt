@@ -2,13 +2,13 @@
 use Rattle.std.specs.Prelude.{◌≡◌, ℕ, ◌<◌, List, length, Result, Ok, Err}
 use Rattle.pram_tokens.specs.declared.error.LexError.{LexError}
 use Rattle.pram_tokens.specs.declared.error.LexError.TheVariants as lex
-use Rattle.pram_syntax.specs.declared.parse_error.ParseError.{ParseError}
-use Rattle.pram_syntax.specs.declared.parse_error.ParseError.TheVariants as parse
+use Rattle.pram_trees.specs.declared.parse_error.ParseError.{ParseError}
+use Rattle.pram_trees.specs.declared.parse_error.ParseError.TheVariants as parse
 use Rattle.pram_tokens.specs.declared.error.TextFault.{TextFault}
 use Rattle.pram_tokens.specs.declared.error.TextFault.TheVariants.{NotAscii, TextTooLong, BadToken, Syntax, TooDeep, OutOfMemory}
 use Rattle.pram_tokens.specs.declared.token.Token.{Token}
-use Rattle.pram_syntax.specs.Faults.{IsDepthFault, IsSyntaxFault}
-use Rattle.pram_syntax.specs.Program.{ProgramTree, IsTree, limit, program_tokens}
+use Rattle.pram_trees.specs.Faults.{IsDepthFault, IsSyntaxFault}
+use Rattle.pram_trees.specs.Program.{ProgramTree, IsTree, limit, program_tokens}
 use Rattle.pram_tokens.specs.InOrder.{offset_of}
 use Rattle.pram_tokens.specs.Plain.{IsFirstBad, IsFirstOther, IsPlain}
 use Rattle.pram_tokens.specs.Scanning.{cut, cut_of, longest}

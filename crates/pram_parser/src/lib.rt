@@ -1,7 +1,7 @@
 //! From the bytes of a text to its tree.
 #![tactic(auto)]
 
-pub mod law;
+pub mod parsing_laws;
 mod text;
 
 pub use text::parse;

@@ -2,12 +2,12 @@
 
 ghost use Rattle.std.specs.Prelude.{◌≡◌, ◌<◌, ◌↔◌, Err, length, IfOk};
 ghost use Rattle.pram_tokens.specs.declared.error.TextFault.TheVariants.{TextTooLong};
-ghost use Rattle.pram_syntax.specs.Program.{ProgramTree};
+ghost use Rattle.pram_trees.specs.Program.{ProgramTree};
 ghost use Rattle.pram_tokens.specs.Scanning.{longest};
 ghost use Rattle.pram_parser.specs.Text as spec;
 
-use pram_syntax::{ParseError, Tree, parse_tokens};
 use pram_tokens::{LONGEST, LexError, TextFault, first_other, offset_of, tokenize};
+use pram_trees::{ParseError, Tree, parse_tokens};
 use std::alloc::Global;
 
 /// What a refusal of the tokens says of the text that they were cut from.

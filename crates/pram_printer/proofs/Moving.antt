@@ -10,19 +10,19 @@ use Rattle.pram_tokens.specs.declared.token.Numeral.{Numeral}
 use Rattle.pram_tokens.specs.declared.token.Opening.{Opening}
 use Rattle.pram_tokens.specs.declared.token.Token.{Token}
 use Rattle.pram_tokens.specs.declared.token.Token.TheVariants as token
-use Rattle.pram_syntax.specs.declared.tree.Prefix.{Prefix}
-use Rattle.pram_syntax.specs.declared.tree.Prefix.TheVariants as prefix
-use Rattle.pram_syntax.specs.declared.level.Level.{Level}
-use Rattle.pram_syntax.specs.declared.level.Level.TheVariants as level
-use Rattle.pram_syntax.specs.declared.tree.Expr.{Expr}
-use Rattle.pram_syntax.specs.declared.tree.Expr.TheVariants as e
-use Rattle.pram_syntax.specs.declared.tree.Expr.TheOpen.{Expr-F}
-use Rattle.pram_syntax.specs.declared.tree.Expr.TheFolds.{fold-roll-Expr}
-use Rattle.pram_syntax.specs.Grammar.{tokens, step_tokens, chain, prefix_token, AreSteps, IsShort, Chained, chained, Compared, compared}
-use Rattle.pram_syntax.specs.Grammar.{IsAtom, number, name, element, paren, IsUnary, minus, atom, IsTerm, IsSum, IsComparison, IsNegation}
-use Rattle.pram_syntax.specs.Grammar.{not, comparison, IsConjunction, IsAt, Fits, Further}
+use Rattle.pram_trees.specs.declared.tree.Prefix.{Prefix}
+use Rattle.pram_trees.specs.declared.tree.Prefix.TheVariants as prefix
+use Rattle.pram_trees.specs.declared.level.Level.{Level}
+use Rattle.pram_trees.specs.declared.level.Level.TheVariants as level
+use Rattle.pram_trees.specs.declared.tree.Expr.{Expr}
+use Rattle.pram_trees.specs.declared.tree.Expr.TheVariants as e
+use Rattle.pram_trees.specs.declared.tree.Expr.TheOpen.{Expr-F}
+use Rattle.pram_trees.specs.declared.tree.Expr.TheFolds.{fold-roll-Expr}
+use Rattle.pram_trees.specs.Grammar.{tokens, step_tokens, chain, prefix_token, AreSteps, IsShort, Chained, chained, Compared, compared}
+use Rattle.pram_trees.specs.Grammar.{IsAtom, number, name, element, paren, IsUnary, minus, atom, IsTerm, IsSum, IsComparison, IsNegation}
+use Rattle.pram_trees.specs.Grammar.{not, comparison, IsConjunction, IsAt, Fits, Further}
 use Rattle.pram_printer.specs.Places.{bare_expr, bare_name, bare_node, bare_number, start}
-use Rattle.pram_syntax.proofs.ExprTokens.{tokens-Number, tokens-Name, tokens-Element, tokens-Paren, tokens-Prefix, tokens-chain}
+use Rattle.pram_trees.proofs.ExprTokens.{tokens-Number, tokens-Name, tokens-Element, tokens-Paren, tokens-Prefix, tokens-chain}
 
 -- a token at the start of a text
 abbrev pub bare : Token → Token

@@ -14,19 +14,19 @@ use Rattle.pram_tokens.specs.declared.token.Binary.TheVariants as op
 use Rattle.pram_tokens.specs.declared.token.Opening.{Opening}
 use Rattle.pram_tokens.specs.declared.token.Opening.TheVariants as opening
 use Rattle.pram_tokens.specs.declared.token.Location.{Location}
-use Rattle.pram_syntax.specs.declared.tree.Stmt.{Stmt}
-use Rattle.pram_syntax.specs.declared.tree.Stmt.TheVariants as s
-use Rattle.pram_syntax.specs.Blocks.{statement_tokens, block_tokens, else_tokens, local_tokens}
-use Rattle.pram_syntax.specs.declared.tree.Prefix.{Prefix}
-use Rattle.pram_syntax.specs.declared.tree.Expr.{Expr}
-use Rattle.pram_syntax.specs.declared.tree.Expr.TheVariants as e
-use Rattle.pram_syntax.specs.Grammar.{tokens, step_tokens, prefix_token}
+use Rattle.pram_trees.specs.declared.tree.Stmt.{Stmt}
+use Rattle.pram_trees.specs.declared.tree.Stmt.TheVariants as s
+use Rattle.pram_trees.specs.Blocks.{statement_tokens, block_tokens, else_tokens, local_tokens}
+use Rattle.pram_trees.specs.declared.tree.Prefix.{Prefix}
+use Rattle.pram_trees.specs.declared.tree.Expr.{Expr}
+use Rattle.pram_trees.specs.declared.tree.Expr.TheVariants as e
+use Rattle.pram_trees.specs.Grammar.{tokens, step_tokens, prefix_token}
 use Rattle.text_out.specs.Printing.{Printing, Prints, PrintsBy, printing}
-use Rattle.pram_syntax.specs.Program.{ProgramTree, declarations_tokens, header_tokens, program_tokens}
+use Rattle.pram_trees.specs.Program.{ProgramTree, declarations_tokens, header_tokens, program_tokens}
 use Rattle.pram_printer.specs.Spelling.{opening_text, spelled, spelling}
-use Rattle.pram_syntax.proofs.ExprTokens.{tokens-Number, tokens-Name, tokens-Element, tokens-Paren, tokens-Prefix, tokens-Chain}
-use Rattle.pram_syntax.proofs.StmtTokens.{spell_assign, spell_assign_element, spell_print, spell_while, spell_if_then, spell_if_else}
-use Rattle.pram_syntax.proofs.StmtTokens.{spell_for, spell_pardo}
+use Rattle.pram_trees.proofs.ExprTokens.{tokens-Number, tokens-Name, tokens-Element, tokens-Paren, tokens-Prefix, tokens-Chain}
+use Rattle.pram_trees.proofs.StmtTokens.{spell_assign, spell_assign_element, spell_print, spell_while, spell_if_then, spell_if_else}
+use Rattle.pram_trees.proofs.StmtTokens.{spell_for, spell_pardo}
 
 pub spelling-append : (a b : List Token) → spelling (a ++ b) ≡ spelling a ++ spelling b
 spelling-append [] b = refl

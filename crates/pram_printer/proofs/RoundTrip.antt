@@ -25,7 +25,7 @@ use Rattle.pram_tokens.specs.declared.words.Fixed.{Fixed}
 use Rattle.pram_tokens.specs.Lexemes.{is_blank, keyword, largest, lexeme_at, lookup, number_lexeme, operator_words, program_words}
 use Rattle.pram_tokens.specs.Lexemes.{statement_words, value_after, word_lexeme}
 use Rattle.pram_printer.specs.Places.{IsReadBack, start}
-use Rattle.pram_syntax.specs.Program.{IsTree, ProgramTree, limit, program_tokens}
+use Rattle.pram_trees.specs.Program.{IsTree, ProgramTree, limit, program_tokens}
 use Rattle.pram_tokens.specs.Scanning.{cut, line_after, longest, next_line, place, scan, with_front}
 use Rattle.pram_printer.specs.Spelling.{binary_text, mark_end, mark_text, opening_text, spelled, spelling, token_end, token_text}
 use Rattle.pram_tokens.specs.Plain.{IsAsciiTo}

@@ -9,25 +9,25 @@ use Rattle.pram_tokens.specs.declared.token.Name.{Name}
 use Rattle.pram_tokens.specs.declared.token.Opening.TheVariants as opening
 use Rattle.pram_tokens.specs.declared.token.Token.{Token}
 use Rattle.pram_tokens.specs.declared.token.Token.TheVariants as token
-use Rattle.pram_syntax.specs.declared.level.Level.TheVariants as level
-use Rattle.pram_syntax.specs.declared.tree.Declaration.{Declaration}
-use Rattle.pram_syntax.specs.declared.tree.Declaration.TheVariants as d
-use Rattle.pram_syntax.specs.declared.tree.Expr.{Expr}
-use Rattle.pram_syntax.specs.declared.tree.Stmt.{Stmt}
-use Rattle.pram_syntax.specs.declared.tree.Stmt.TheVariants as s
-use Rattle.pram_syntax.specs.declared.tree.Stmt.TheOpen.{Stmt-F}
-use Rattle.pram_syntax.specs.declared.tree.Stmt.TheFolds.{fold-roll-Stmt}
-use Rattle.pram_syntax.specs.Blocks.{statement_tokens, block_tokens, local_tokens, IsStatement, assign, assign_element, print, while}
-use Rattle.pram_syntax.specs.Blocks.{if_then, if_else, for_to, pardo, AreStatements, IsFurtherBlock, IsBlock}
-use Rattle.pram_syntax.specs.Grammar.{tokens, Fits, Further}
+use Rattle.pram_trees.specs.declared.level.Level.TheVariants as level
+use Rattle.pram_trees.specs.declared.tree.Declaration.{Declaration}
+use Rattle.pram_trees.specs.declared.tree.Declaration.TheVariants as d
+use Rattle.pram_trees.specs.declared.tree.Expr.{Expr}
+use Rattle.pram_trees.specs.declared.tree.Stmt.{Stmt}
+use Rattle.pram_trees.specs.declared.tree.Stmt.TheVariants as s
+use Rattle.pram_trees.specs.declared.tree.Stmt.TheOpen.{Stmt-F}
+use Rattle.pram_trees.specs.declared.tree.Stmt.TheFolds.{fold-roll-Stmt}
+use Rattle.pram_trees.specs.Blocks.{statement_tokens, block_tokens, local_tokens, IsStatement, assign, assign_element, print, while}
+use Rattle.pram_trees.specs.Blocks.{if_then, if_else, for_to, pardo, AreStatements, IsFurtherBlock, IsBlock}
+use Rattle.pram_trees.specs.Grammar.{tokens, Fits, Further}
 use Rattle.pram_printer.specs.Places.{bare_expr, bare_name, bare_number, bare_statement, bare_step, bare_declaration, start}
 use Rattle.pram_printer.specs.Places.{without_locations}
 use Rattle.pram_model.specs.Rules.{rule_word}
-use Rattle.pram_syntax.specs.Program.{ProgramTree, declaration_tokens, declarations_tokens, program_tokens, tree_of}
+use Rattle.pram_trees.specs.Program.{ProgramTree, declaration_tokens, declarations_tokens, program_tokens, tree_of}
 use Rattle.pram_printer.proofs.Moving.{Like, Moves, fits_moves, further_moves, fixed_binary, fixed_mark, like_as, like_fixed, like_name}
 use Rattle.pram_printer.proofs.Moving.{like_none, like_number, like_opening, like_part}
-use Rattle.pram_syntax.proofs.StmtTokens.{spell_assign, spell_assign_element, spell_print, spell_while, spell_if_then, spell_if_else}
-use Rattle.pram_syntax.proofs.StmtTokens.{spell_for, spell_pardo}
+use Rattle.pram_trees.proofs.StmtTokens.{spell_assign, spell_assign_element, spell_print, spell_while, spell_if_then, spell_if_else}
+use Rattle.pram_trees.proofs.StmtTokens.{spell_for, spell_pardo}
 
 -- Each form of statement at the start of a text.
 

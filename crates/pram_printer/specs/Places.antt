@@ -3,17 +3,17 @@ use Rattle.std.specs.Prelude.{◌≡◌, ◌≤◌, map, length}
 use Rattle.pram_tokens.specs.declared.token.Location.{Location}
 use Rattle.pram_tokens.specs.declared.token.Name.{Name}
 use Rattle.pram_tokens.specs.declared.token.Numeral.{Numeral}
-use Rattle.pram_syntax.specs.declared.tree.Declaration.{Declaration}
-use Rattle.pram_syntax.specs.declared.tree.Declaration.TheVariants as d
-use Rattle.pram_syntax.specs.declared.tree.Expr.{Expr}
-use Rattle.pram_syntax.specs.declared.tree.Expr.TheVariants as e
-use Rattle.pram_syntax.specs.declared.tree.Expr.TheOpen.{Expr-F}
-use Rattle.pram_syntax.specs.declared.tree.Expr.TheFolds.{fold-Expr}
-use Rattle.pram_syntax.specs.declared.tree.Stmt.{Stmt}
-use Rattle.pram_syntax.specs.declared.tree.Stmt.TheVariants as s
-use Rattle.pram_syntax.specs.declared.tree.Stmt.TheOpen.{Stmt-F}
-use Rattle.pram_syntax.specs.declared.tree.Stmt.TheFolds.{fold-Stmt}
-use Rattle.pram_syntax.specs.Program.{ProgramTree, IsTree, limit, program_tokens}
+use Rattle.pram_trees.specs.declared.tree.Declaration.{Declaration}
+use Rattle.pram_trees.specs.declared.tree.Declaration.TheVariants as d
+use Rattle.pram_trees.specs.declared.tree.Expr.{Expr}
+use Rattle.pram_trees.specs.declared.tree.Expr.TheVariants as e
+use Rattle.pram_trees.specs.declared.tree.Expr.TheOpen.{Expr-F}
+use Rattle.pram_trees.specs.declared.tree.Expr.TheFolds.{fold-Expr}
+use Rattle.pram_trees.specs.declared.tree.Stmt.{Stmt}
+use Rattle.pram_trees.specs.declared.tree.Stmt.TheVariants as s
+use Rattle.pram_trees.specs.declared.tree.Stmt.TheOpen.{Stmt-F}
+use Rattle.pram_trees.specs.declared.tree.Stmt.TheFolds.{fold-Stmt}
+use Rattle.pram_trees.specs.Program.{ProgramTree, IsTree, limit, program_tokens}
 use Rattle.pram_tokens.specs.Scanning.{longest}
 use Rattle.pram_printer.specs.Spelling.{spelling}
 use Rattle.pram_parser.specs.Text.{IsTextOf}

@@ -1,9 +1,9 @@
 //! The canonical spelling of a program's tree.
 #![tactic(auto)]
 
-pub mod law;
 mod print;
 mod printer;
+pub mod printing_laws;
 mod spell;
 
 pub use print::print_tree;

@@ -1,18 +1,18 @@
 //! The printer of trees.
 
 ghost use Rattle.std.specs.Prelude.{◌≡◌, ◌++◌, ◌<◌, ◌^◌, []};
-ghost use Rattle.pram_syntax.specs.Blocks.{block_tokens, local_tokens, statement_tokens};
-ghost use Rattle.pram_syntax.specs.Grammar.{step_tokens, tokens};
+ghost use Rattle.pram_trees.specs.Blocks.{block_tokens, local_tokens, statement_tokens};
+ghost use Rattle.pram_trees.specs.Grammar.{step_tokens, tokens};
 ghost use Rattle.text_out.specs.Out.{Writes};
 ghost use Rattle.pram_printer.specs.Places.{PrintingReadsBack};
 ghost use Rattle.text_out.specs.Printing.{Prints, printing};
-ghost use Rattle.pram_syntax.specs.Program.{declaration_tokens, declarations_tokens, header_tokens, program_tokens};
+ghost use Rattle.pram_trees.specs.Program.{declaration_tokens, declarations_tokens, header_tokens, program_tokens};
 ghost use Rattle.pram_printer.specs.Spelling.{spelled, spelling};
 
 use crate::printer::Printer;
 use crate::spell::rule_text;
-use pram_syntax::{Declaration, Expr, Stmt, Tree};
 use pram_tokens::{Binary, Mark, Name, Opening, Token};
+use pram_trees::{Declaration, Expr, Stmt, Tree};
 use text_out::{Out, WriteFault};
 
 impl<'a, W: Out> Printer<'a, W> {

@@ -1,14 +1,14 @@
 //! A printer of tokens that stops at the first failure of its writer.
 
 ghost use Rattle.std.specs.Prelude.{◌≡◌, ◌++◌, ◌∷◌, []};
-ghost use Rattle.pram_syntax.specs.Grammar.{prefix_token};
+ghost use Rattle.pram_trees.specs.Grammar.{prefix_token};
 ghost use Rattle.text_out.specs.Printing.{MayFail, Prints, printing};
 ghost use Rattle.pram_printer.specs.Spelling.{opening_text, spelled};
 
 use crate::spell::{binary_text, mark_end, mark_text, opening_text};
 use itoa::Buffer;
-use pram_syntax::Prefix;
 use pram_tokens::{Binary, Mark, Name, Numeral, Opening, Token};
+use pram_trees::Prefix;
 use text_out::Out;
 
 /// Prints until its writer fails, and then nothing more.

@@ -1,22 +1,9 @@
-//! The concrete syntax of PRAM programs.
+//! The language of programs, by its front door: from the bytes of a text to its tree, the tree spelled again, and input texts read.
 #![tactic(auto)]
 
-mod front;
-mod level;
-mod parse_decl;
-mod parse_error;
-mod parse_expr;
-mod parse_for;
-mod parse_stmt;
-mod parser;
-mod tree;
-
-pub use level::Level;
-pub use parse_error::ParseError;
-pub use parser::parse_tokens;
 pub use pram_model::{Layout, Range, Rule};
-pub use pram_tokens::{
-    Binary, LexError, Location, Mark, Name, Numeral, Opening, TextFault, Token, read_input,
-};
+pub use pram_parser::parse;
+pub use pram_printer::print_tree;
+pub use pram_tokens::{Location, Name, Numeral, TextFault, read_input};
+pub use pram_trees::{Declaration, Expr, Prefix, Stmt, Tree};
 pub use text_out::{Buffer, Out, OutFailed, WriteFault};
-pub use tree::{Declaration, Expr, Prefix, Stmt, Tree};

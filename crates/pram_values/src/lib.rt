@@ -4,10 +4,10 @@
 mod arithmetic;
 mod division;
 mod kind;
-pub mod law;
 mod place;
 mod total;
 mod truths;
+pub mod value_laws;
 
 pub use arithmetic::{add, multiply, negate, subtract};
 pub use division::{divide, remainder};

@@ -1,3 +1,12 @@
-pub mod Runs
-pub mod Headline
-pub mod Reserved
+pub use Rattle.program_runs.specs.Runs
+pub use Rattle.program_runs.specs.Headline
+pub use Rattle.program_runs.specs.Reserved
+pub use Rattle.compiling.specs.Compiled
+pub use Rattle.program_texts.specs.Report
+pub use Rattle.program_texts.specs.Shown
+pub use Rattle.program_texts.specs.Status
+pub use Rattle.program_texts.specs.Stopped
+pub use Rattle.program_texts.specs.StoppedFields
+pub use Rattle.program_texts.specs.Held
+pub use Rattle.program_texts.specs.Files
+pub use Rattle.command_line.specs.Command

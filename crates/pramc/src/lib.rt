@@ -1,11 +1,15 @@
-//! From the text of a PRAM program to its outcome: compiled, and run by workers in threads.
+//! Programs by the front door: compiled, run by workers in threads, shown, and the whole program `pramc` but for the system's files and
+//! streams.
 #![tactic(auto)]
 
-mod from_text;
-pub mod law;
-mod on_map;
-mod options;
-
-pub use from_text::{Report, run_program, run_text, run_text_reserved};
-pub use on_map::run_code;
-pub use options::Options;
+pub use command_line::command;
+pub use command_text::Terminal;
+pub use compiling::{compile, compile_program};
+pub use exchange_counts::{Count, Counts};
+pub use program_runs::{Report, run_code, run_program, run_text, run_text_reserved};
+pub use program_texts::{
+    Refusal, SourceFault, Sources, Status, Stop, mean_program, meaning_of_text, read_program, show,
+    write_stop,
+};
+pub use run_options::{MapChoice, Options, Reserve};
+pub use workers::{Gate, OpenGate};

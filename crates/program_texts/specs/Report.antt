@@ -4,7 +4,7 @@ use Rattle.pram_tokens.specs.declared.error.TextFault.{TextFault}
 use Rattle.pram_tokens.specs.declared.error.TextFault.TheVariants.{OutOfMemory}
 use Rattle.pram_tokens.specs.Input.{IsInputFault}
 use Rattle.pram_model.specs.Layout.{SharedEntry, total_size}
-use Rattle.pram_syntax.specs.Program.{ProgramTree}
+use Rattle.pram_trees.specs.Program.{ProgramTree}
 use Rattle.pram_tokens.specs.Plain.{IsPlain}
 use Rattle.pram_parser.specs.Text.{IsTextOf, IsFaultOf}
 use Rattle.pram_names.specs.declared.fault.Breach.{Breach}

@@ -5,10 +5,10 @@ ghost use Rattle.text_out.specs.Out.{OutState, with_failure};
 ghost use Rattle.program_texts.specs.Held.{held_at};
 
 use crate::sources::{SourceFault, Sources};
-use pram_syntax::{Out, OutFailed};
 use std::alloc::Global;
 use std::fs::{File, Files};
 use std::io::{ErrorKind, Print, Read};
+use text_out::{Out, OutFailed};
 
 /// A stream of the system, to which bytes go by up to 4,096 at a time. What it took is with the
 /// system after a flush; what the system did with it isn't known.

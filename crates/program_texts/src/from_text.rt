@@ -7,7 +7,7 @@ ghost use Rattle.program_texts.specs.Report.{IsMeaningOf, IsMeaningRefused, IsNo
 use pram_check::{Breach, CheckFault, Program, check};
 use pram_meaning::{RunRefusal, reference_run};
 use pram_parser::parse;
-use pram_syntax::{Layout, TextFault};
+use pram_trees::{Layout, TextFault};
 use std::alloc::Global;
 use write_rules::Outcome;
 

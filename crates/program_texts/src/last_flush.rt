@@ -6,7 +6,7 @@ ghost use Rattle.program_texts.specs.declared.stop.Stop.TheVariants.{WriteFailed
 
 use crate::status::Status;
 use crate::stop::Stop;
-use pram_syntax::{Out, OutFailed};
+use text_out::{Out, OutFailed};
 
 /// Has the writer give on what it still holds, and answers the status; or the writer failed (E17).
 pub fn finish<'a, O: Out>(out: &mut O, status: Status) -> Result<Status, Stop<'a>>

@@ -4,13 +4,13 @@
 mod console;
 mod from_text;
 mod last_flush;
-pub mod law;
 mod outcome_text;
 mod rule_text;
 mod show_parts;
 mod sources;
 mod status;
 mod stop;
+pub mod text_laws;
 
 pub use console::{Stream, SystemFiles};
 pub use from_text::{Refusal, Report, mean_program, meaning_of_text, read_program};

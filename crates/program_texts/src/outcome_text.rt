@@ -8,8 +8,9 @@ ghost use Rattle.program_texts.specs.Shown as shown;
 
 use crate::show_parts::{write_cell, write_items, write_memory};
 use itoa::Buffer;
-use pram_syntax::{Layout, Out, WriteFault};
+use pram_trees::Layout;
 use pram_values::{Kind, Place};
+use text_out::{Out, WriteFault};
 use write_rules::{Fault, Outcome};
 
 /// Writes the text of an outcome: each output item in decimal on a line, and then how the run came

@@ -3,7 +3,7 @@
 ghost use Rattle.std.specs.Prelude.{◌≡◌};
 ghost use Rattle.pram_model.specs.Rules as spec;
 
-use pram_syntax::Rule;
+use pram_trees::Rule;
 
 /// The word for a rule in the text of a program, as `erew`.
 pub fn rule_word(rule: Rule) -> &'static [u8]

@@ -7,7 +7,8 @@ ghost use Rattle.text_out.specs.Out.{Writes};
 ghost use Rattle.program_texts.specs.Shown as shown;
 
 use itoa::Buffer;
-use pram_syntax::{Layout, Out, WriteFault};
+use pram_trees::Layout;
+use text_out::{Out, WriteFault};
 
 // A number in decimal.
 pub(crate) fn decimal<'a>(digits: &'a mut Buffer, number: &i64) -> &'a [u8]

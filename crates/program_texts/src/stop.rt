@@ -10,9 +10,10 @@ ghost use Rattle.program_texts.specs.declared.from_text.Refusal.TheVariants.{Out
 use crate::from_text::Refusal;
 use itoa::Buffer;
 use pram_check::{Breach, Cause, Limit, Spot};
-use pram_syntax::{Out, TextFault, WriteFault};
+use pram_trees::TextFault;
 use std::alloc::AllocError;
 use std::fmt;
+use text_out::{Out, WriteFault};
 use thiserror::Error;
 
 /// Why a call of the program comes to no end of its own. Its text is what `write_stop` writes, but

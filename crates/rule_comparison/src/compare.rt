@@ -11,7 +11,7 @@ use crate::comparison::Comparison;
 use crate::first_end::FirstEnd;
 use pram_check::Program;
 use pram_meaning::{RunRefusal, reference_run};
-use pram_syntax::Rule;
+use pram_trees::Rule;
 use std::alloc::Global;
 use write_rules::Outcome;
 

@@ -4,7 +4,7 @@ ghost use Rattle.std.specs.Prelude.{◌≡◌};
 ghost use Rattle.rule_comparison.specs.Compared.{finding_of};
 
 use crate::finding::Finding;
-use pram_syntax::{Layout, Rule};
+use pram_trees::{Layout, Rule};
 
 /// How a program comes out under each of the five rules, and the shared declarations by which its cells are named.
 #[derive(Drop)]

@@ -3,9 +3,9 @@
 
 mod compare;
 mod comparison;
+pub mod comparison_laws;
 mod finding;
 mod first_end;
-pub mod law;
 mod show;
 
 pub use compare::compare_rules;

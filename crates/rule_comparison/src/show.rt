@@ -7,8 +7,9 @@ ghost use Rattle.rule_comparison.specs.ComparisonText.{comparison_text, finding_
 
 use crate::comparison::Comparison;
 use crate::finding::Finding;
-use pram_syntax::{Layout, Out, Rule, WriteFault};
+use pram_trees::{Layout, Rule};
 use program_texts::{rule_word, write_fault};
+use text_out::{Out, WriteFault};
 
 /// The rules, in the order in which they are compared.
 const RULES: [Rule; 5] = [

@@ -5,7 +5,7 @@ use bsp_verify::{Verified, verify};
 use std::alloc::Global;
 use std::sync::Wait;
 use std::thread::Threads;
-use superstep_listing::read_listing;
+use superstep_code::read_listing;
 use text_out::Buffer;
 use tracer::write_trace;
 use worker_messages::RunRefusal;

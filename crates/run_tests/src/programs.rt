@@ -1,9 +1,7 @@
 //! Programs that are run, and their code.
 
 use bsp_verify::Verified;
-use compiling::compile;
-use pramc::Options;
-use run_options::MapChoice;
+use pramc::{MapChoice, Options, compile};
 use std::alloc::Global;
 
 pub(crate) const TREE_SUM: &[u8] =

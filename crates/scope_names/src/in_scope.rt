@@ -5,7 +5,7 @@ ghost use Rattle.std.specs.List.{flat_map};
 ghost use Rattle.scope_names.specs.InScope as spec;
 
 use crate::known::{Known, Sort, as_declared, declared_name, declared_sort};
-use pram_syntax::{Declaration, Location, Name, Stmt, Tree};
+use pram_trees::{Declaration, Location, Name, Stmt, Tree};
 use std::alloc::{AllocError, Global};
 
 // Puts a declaration's name behind the others, if it stands before the place.

@@ -3,7 +3,7 @@
 ghost use Rattle.std.specs.Prelude.{◌≡◌};
 ghost use Rattle.scope_names.specs.InScope as spec;
 
-use pram_syntax::{Declaration, Name};
+use pram_trees::{Declaration, Name};
 
 /// As what a name is declared.
 #[derive(Clone, Copy, Debug, PartialEq, Eq)]

@@ -4,8 +4,8 @@ use Rattle.std.proofs.Common.{subst, arith}
 use Rattle.std.specs.Prelude.{nat_lt, if◌then◌else◌}
 use Rattle.std.proofs.lemmas.Bool.Decides.{nat_tests}
 use Rattle.write_rules.specs.Verdict.{Faulted, GoesOn}
-use Rattle.superstep_code.specs.declared.instr.Instr.{Instr}
-use Rattle.superstep_code.specs.declared.instr.Instr.TheVariants.{Mark}
+use Rattle.superstep_instructions.specs.declared.instr.Instr.{Instr}
+use Rattle.superstep_instructions.specs.declared.instr.Instr.TheVariants.{Mark}
 use Rattle.superstep_machine.specs.declared.key.Key.{Key}
 use Rattle.superstep_machine.specs.Keys.{least}
 use Rattle.superstep_machine.specs.Run.{is_held, fault_of}
@@ -16,18 +16,18 @@ use Rattle.flat_machine.specs.ByInstructions.{IsFlatOutcome}
 use Rattle.flat_machine.specs.Verdicts.{told}
 use Rattle.flat_machine.proofs.Late.{none_least}
 use Rattle.flat_machine.proofs.AnyTime.{none_noted}
-use Rattle.stretches.specs.Applied.{applied}
-use Rattle.stretches.specs.Along.{Run}
-use Rattle.stretches.specs.Closes.{close_cost, ComesOut}
-use Rattle.stretches.specs.Folds.{Stand, acts, acts_at_once, IsFine, MayHold}
-use Rattle.stretches.specs.Notes.{notes}
-use Rattle.stretches.specs.Statements.{HasBegun, finished}
-use Rattle.stretches.specs.Tells.{IsCalm}
-use Rattle.stretches.proofs.Applied.{instructions_apply}
-use Rattle.stretches.proofs.Closes.{bounds_end}
-use Rattle.stretches.proofs.Notes.{folds_tell_notes}
-use Rattle.stretches.proofs.Statements.{marks_begin, marks_hold, statements_finish, statements_fault}
-use Rattle.stretches.proofs.Tells.{calm_places_tell}
+use Rattle.flat_stretches.specs.Applied.{applied}
+use Rattle.flat_stretches.specs.Along.{Run}
+use Rattle.flat_stretches.specs.Closes.{close_cost, ComesOut}
+use Rattle.flat_stretches.specs.Folds.{Stand, acts, acts_at_once, IsFine, MayHold}
+use Rattle.flat_stretches.specs.Notes.{notes}
+use Rattle.flat_stretches.specs.Statements.{HasBegun, finished}
+use Rattle.flat_stretches.specs.Tells.{IsCalm}
+use Rattle.flat_stretches.proofs.Applied.{instructions_apply}
+use Rattle.flat_stretches.proofs.Closes.{bounds_end}
+use Rattle.flat_stretches.proofs.Notes.{folds_tell_notes}
+use Rattle.flat_stretches.proofs.Statements.{marks_begin, marks_hold, statements_finish, statements_fault}
+use Rattle.flat_stretches.proofs.Tells.{calm_places_tell}
 use Rattle.exchange_bound.specs.Bound.{one_if}
 use Rattle.statement_runs.specs.Between.{IsBetween}
 use Rattle.statement_runs.proofs.Joined.{comes_out_sooner}

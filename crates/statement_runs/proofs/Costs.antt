@@ -1,23 +1,23 @@
 -- How many exchanges the straight parts of statements take: two for each level of their reads, and what is sent by itself.
 use Rattle.std.proofs.Common.{◌≡◌, ℕ, zero, suc, ◌+◌, ◌*◌, ◌≤◌, List, [], ◌∷◌, ◌++◌, Bool, true, false, not, ◌&&◌, refl, arith, pos}
 use Rattle.std.specs.List.{AllByRecursion}
-use Rattle.superstep_code.specs.declared.instr.Side.{Side}
-use Rattle.superstep_code.specs.declared.instr.Side.TheVariants.{Uniform, Private}
-use Rattle.superstep_code.specs.declared.instr.Arithmetic.TheVariants as arithmetic
-use Rattle.superstep_code.specs.declared.instr.Truth.TheVariants as truth
-use Rattle.superstep_code.specs.declared.instr.Instr.{Instr}
-use Rattle.superstep_code.specs.declared.instr.Instr.TheVariants.{Set, Copy, Negate, Calculate, Decide, Not, CopyUniform, Index, Enter}
-use Rattle.superstep_code.specs.declared.instr.Instr.TheVariants.{Mask, Unmask, Ask, Put, Send, Reply, Vote, Print}
-use Rattle.stretches.specs.Folds.{acts, exchange_count}
-use Rattle.stretches.proofs.Folds.{costs_are_counted, nothing_costs_nothing}
-use Rattle.stretches.proofs.Joins.{costs_join, counts_join}
+use Rattle.superstep_instructions.specs.declared.instr.Side.{Side}
+use Rattle.superstep_instructions.specs.declared.instr.Side.TheVariants.{Uniform, Private}
+use Rattle.superstep_instructions.specs.declared.instr.Arithmetic.TheVariants as arithmetic
+use Rattle.superstep_instructions.specs.declared.instr.Truth.TheVariants as truth
+use Rattle.superstep_instructions.specs.declared.instr.Instr.{Instr}
+use Rattle.superstep_instructions.specs.declared.instr.Instr.TheVariants.{Set, Copy, Negate, Calculate, Decide, Not, CopyUniform, Index, Enter}
+use Rattle.superstep_instructions.specs.declared.instr.Instr.TheVariants.{Mask, Unmask, Ask, Put, Send, Reply, Vote, Print}
+use Rattle.flat_stretches.specs.Folds.{acts, exchange_count}
+use Rattle.flat_stretches.proofs.Folds.{costs_are_counted, nothing_costs_nothing}
+use Rattle.flat_stretches.proofs.Joins.{costs_join, counts_join}
 use Rattle.plain_form.specs.Registers.{variable, turn, high, more, behind_turns, index}
 use Rattle.plain_form.specs.Formulas.{Formula, Pair, positions, nesting}
 use Rattle.plain_form.specs.Regions.{region}
 use Rattle.plain_form.specs.Groups.{only, asks, groups, stack, evaluated, value_at, first_at, second_at}
 use Rattle.plain_form.specs.Shapes.{flush, still}
-use Rattle.formed_code.specs.Straight.{evaluation}
-use Rattle.formed_code.proofs.Straight.{Sets, region_sets, asks_set}
+use Rattle.verified_form.specs.Straight.{evaluation}
+use Rattle.verified_form.proofs.Straight.{Sets, region_sets, asks_set}
 use Rattle.exchange_bound.specs.Bound.{one_if}
 use Rattle.statement_runs.specs.Costs.{Costs, StraightPartsCost}
 

@@ -4,8 +4,8 @@ use Rattle.std.proofs.Common.{append-nil}
 use Rattle.write_rules.specs.Verdict.{Verdict, GoesOn}
 use Rattle.pram_meaning.specs.Store.{State}
 use Rattle.pram_meaning.specs.Bounded.{Done, Goes, Stops, Reaches, then_do}
-use Rattle.stretches.specs.Along.{Run}
-use Rattle.stretches.specs.Closes.{ComesOut}
+use Rattle.flat_stretches.specs.Along.{Run}
+use Rattle.flat_stretches.specs.Closes.{ComesOut}
 use Rattle.exchange_bound.specs.Events.{Event, behind}
 use Rattle.exchange_bound.specs.Bound.{one_if}
 use Rattle.exchange_bound.specs.Spent.{spent, held_behind}

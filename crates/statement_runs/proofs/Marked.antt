@@ -1,25 +1,25 @@
 -- The state behind a mark, and what a statement evaluates there: an empty send does nothing and notes nothing.
 use Rattle.std.proofs.Common.{◌≡◌, ℕ, ◌+◌, List, [], ◌∷◌, ◌++◌, Bool, true, false, not, ◌&&◌, None, refl, sym, ap, ◌∙◌, subst}
 use Rattle.std.specs.Prelude.{if◌then◌else◌}
-use Rattle.superstep_code.specs.declared.instr.Side.{Side}
-use Rattle.superstep_code.specs.declared.instr.Instr.{Instr}
-use Rattle.superstep_code.specs.declared.instr.Instr.TheVariants.{Send}
-use Rattle.superstep_code.specs.Code.{SuperstepCode}
+use Rattle.superstep_instructions.specs.declared.instr.Side.{Side}
+use Rattle.superstep_instructions.specs.declared.instr.Instr.{Instr}
+use Rattle.superstep_instructions.specs.declared.instr.Instr.TheVariants.{Send}
+use Rattle.superstep_instructions.specs.Code.{SuperstepCode}
 use Rattle.superstep_machine.specs.Keys.{least}
 use Rattle.superstep_machine.specs.Parts.{PrivatePart}
 use Rattle.superstep_machine.specs.Run.{is_held}
 use Rattle.superstep_machine.specs.Steps.{is_active}
 use Rattle.flat_machine.specs.Flat.{Flat, conflicts}
 use Rattle.flat_machine.proofs.Late.{none_least, none_owed, read_keys, no_read_keys}
-use Rattle.stretches.specs.Applied.{applied, IsBare, AsksNone}
-use Rattle.stretches.specs.Folds.{acts_at_once}
-use Rattle.stretches.specs.Notes.{notes}
-use Rattle.stretches.proofs.Applied.{empty_sends_are_nothing}
-use Rattle.stretches.proofs.Joins.{acts_at_once_join}
-use Rattle.stretches.proofs.Notes.{notes_join}
+use Rattle.flat_stretches.specs.Applied.{applied, IsBare, AsksNone}
+use Rattle.flat_stretches.specs.Folds.{acts_at_once}
+use Rattle.flat_stretches.specs.Notes.{notes}
+use Rattle.flat_stretches.proofs.Applied.{empty_sends_are_nothing}
+use Rattle.flat_stretches.proofs.Joins.{acts_at_once_join}
+use Rattle.flat_stretches.proofs.Notes.{notes_join}
 use Rattle.plain_form.specs.Formulas.{Formula}
 use Rattle.plain_form.specs.Groups.{only, evaluated}
-use Rattle.formed_code.specs.Straight.{evaluation}
+use Rattle.verified_form.specs.Straight.{evaluation}
 use Rattle.statement_runs.specs.Begins.{begun}
 
 pub unmoved : (b : Bool) (x : PrivatePart) → (if b then x else x) ≡ x

@@ -2,8 +2,8 @@
 use Rattle.std.proofs.Common.{◌≡◌, ℕ, ◌+◌, ◌≤◌, [], ◌∷◌, length, Bool, true, false, not, ◌&&◌, refl, sym, ap, ◌∙◌, subst, arith}
 use Rattle.std.specs.Prelude.{if◌then◌else◌}
 use Rattle.pram_values.specs.Truth.{is_nonzero}
-use Rattle.superstep_code.specs.declared.instr.Instr.{Instr}
-use Rattle.superstep_code.specs.declared.instr.Instr.TheVariants.{Send, Jump, JumpIfZero}
+use Rattle.superstep_instructions.specs.declared.instr.Instr.{Instr}
+use Rattle.superstep_instructions.specs.declared.instr.Instr.TheVariants.{Send, Jump, JumpIfZero}
 use Rattle.superstep_machine.specs.Keys.{least}
 use Rattle.superstep_machine.specs.Run.{Sends, items}
 use Rattle.superstep_machine.specs.Steps.{is_put}
@@ -12,14 +12,14 @@ use Rattle.flat_machine.specs.Flat.{Flat, after_instr, after_send}
 use Rattle.flat_machine.specs.ByInstructions.{going}
 use Rattle.flat_machine.specs.Verdicts.{told}
 use Rattle.flat_machine.proofs.Late.{none_least, told_noted}
-use Rattle.stretches.specs.Applied.{applied, AsksNone}
-use Rattle.stretches.specs.Along.{Run, Comes, IsAt, IsOf, works}
-use Rattle.stretches.specs.Folds.{Stand}
-use Rattle.stretches.specs.Tells.{is_quiet}
-use Rattle.stretches.proofs.Along.{nothing_decides, work_goes_on, sends_go_on, jumps_go_on, forks_go_on, more_may_be_spent}
-use Rattle.stretches.proofs.Applied.{told_by, put_stays, held_stays, sends_of_writes_apply, bare_is_applied}
-use Rattle.stretches.proofs.Folds.{costs_are_counted}
-use Rattle.stretches.proofs.Tells.{notes_nothing}
+use Rattle.flat_stretches.specs.Applied.{applied, AsksNone}
+use Rattle.flat_stretches.specs.Along.{Run, Comes, IsAt, IsOf, works}
+use Rattle.flat_stretches.specs.Folds.{Stand}
+use Rattle.flat_stretches.specs.Tells.{is_quiet}
+use Rattle.flat_stretches.proofs.Along.{nothing_decides, work_goes_on, sends_go_on, jumps_go_on, forks_go_on, more_may_be_spent}
+use Rattle.flat_stretches.proofs.Applied.{told_by, put_stays, held_stays, sends_of_writes_apply, bare_is_applied}
+use Rattle.flat_stretches.proofs.Folds.{costs_are_counted}
+use Rattle.flat_stretches.proofs.Tells.{notes_nothing}
 use Rattle.plain_form.specs.Shapes.{flush}
 use Rattle.exchange_bound.specs.Bound.{one_if}
 use Rattle.statement_runs.specs.Between.{IsBetween}

@@ -13,8 +13,8 @@ use Rattle.pram_meaning.specs.Store.{View}
 use Rattle.pram_meaning.specs.Values.{IsValue}
 use Rattle.pram_meaning.proofs.SoundValues.{IsSound, zero_is, number_is, value_at, operate_sound, before_sound}
 use Rattle.pram_meaning.proofs.ValuesOfAttempts.{SeesValues}
-use Rattle.evaluation.specs.Terms.{Term, Between, term_of, chained}
-use Rattle.evaluation.specs.Whole.{value, fetched}
+use Rattle.statement_evaluation.specs.Terms.{Term, Between, term_of, chained}
+use Rattle.statement_evaluation.specs.Whole.{value, fetched}
 
 -- a value of 64 bits, as std says it
 pub value_fits : (z : ℤ) → IsValue z → FitsSigned w64 z

@@ -1,9 +1,9 @@
 -- One statement of a program on the machine: its mark, and the stretch behind it.
 use Rattle.std.specs.Prelude.{◌≡◌, ℕ, ◌+◌, List, [], ◌∷◌, length, Bool, true, false, Option, Some, None, nat_lt}
 use Rattle.write_rules.specs.Verdict.{Faulted, GoesOn}
-use Rattle.superstep_code.specs.declared.instr.Instr.{Instr}
-use Rattle.superstep_code.specs.declared.instr.Instr.TheVariants.{Mark}
-use Rattle.superstep_code.specs.Code.{SuperstepCode}
+use Rattle.superstep_instructions.specs.declared.instr.Instr.{Instr}
+use Rattle.superstep_instructions.specs.declared.instr.Instr.TheVariants.{Mark}
+use Rattle.superstep_instructions.specs.Code.{SuperstepCode}
 use Rattle.superstep_machine.specs.declared.key.Key.{Key}
 use Rattle.superstep_machine.specs.Run.{fault_of}
 use Rattle.pram_meaning.specs.Store.{State}
@@ -11,12 +11,12 @@ use Rattle.bsp_verify.specs.WellFormed.{IsWellFormed}
 use Rattle.flat_machine.specs.Flat.{Flat, after_instr}
 use Rattle.flat_machine.specs.ByInstructions.{going, IsFlatOutcome}
 use Rattle.flat_machine.specs.Verdicts.{told}
-use Rattle.stretches.specs.Applied.{applied, AsksNone}
-use Rattle.stretches.specs.Along.{Run, Comes}
-use Rattle.stretches.specs.Folds.{Stand, acts_at_once, costs, IsFine, MayHold}
-use Rattle.stretches.specs.Tells.{IsCalm}
-use Rattle.stretches.specs.Closes.{ComesOut}
-use Rattle.stretches.specs.Notes.{notes}
+use Rattle.flat_stretches.specs.Applied.{applied, AsksNone}
+use Rattle.flat_stretches.specs.Along.{Run, Comes}
+use Rattle.flat_stretches.specs.Folds.{Stand, acts_at_once, costs, IsFine, MayHold}
+use Rattle.flat_stretches.specs.Tells.{IsCalm}
+use Rattle.flat_stretches.specs.Closes.{ComesOut}
+use Rattle.flat_stretches.specs.Notes.{notes}
 use Rattle.exchange_bound.specs.Bound.{one_if}
 use Rattle.statement_runs.specs.Between.{IsBetween}
 

@@ -8,8 +8,8 @@ use Rattle.bsp_verify.specs.WellFormed.{IsWellFormed}
 use Rattle.flat_machine.specs.Flat.{Flat}
 use Rattle.flat_machine.specs.ByInstructions.{going}
 use Rattle.flat_machine.specs.Verdicts.{told}
-use Rattle.stretches.specs.Along.{Run, Comes}
-use Rattle.stretches.specs.Folds.{MayHold}
+use Rattle.flat_stretches.specs.Along.{Run, Comes}
+use Rattle.flat_stretches.specs.Folds.{MayHold}
 
 -- a run of well-formed code with the program's rule, its number of processors and its layout
 pub record IsRunOf (p : Checked) (t : Run) : Type 0 where

@@ -1,14 +1,14 @@
 -- How many exchanges the straight parts of statements take, at most.
 use Rattle.std.specs.Prelude.{◌≡◌, ℕ, ◌+◌, ◌*◌, ◌≤◌, List, [], Bool, false}
-use Rattle.superstep_code.specs.declared.instr.Side.{Side}
-use Rattle.superstep_code.specs.declared.instr.Instr.{Instr}
-use Rattle.superstep_code.specs.Code.{SuperstepCode}
+use Rattle.superstep_instructions.specs.declared.instr.Side.{Side}
+use Rattle.superstep_instructions.specs.declared.instr.Instr.{Instr}
+use Rattle.superstep_instructions.specs.Code.{SuperstepCode}
 use Rattle.flat_machine.specs.Flat.{Flat}
-use Rattle.stretches.specs.Folds.{costs, MayHold}
+use Rattle.flat_stretches.specs.Folds.{costs, MayHold}
 use Rattle.plain_form.specs.Formulas.{Formula, Pair, nesting}
 use Rattle.plain_form.specs.Shapes as shapes
 use Rattle.plain_form.specs.Shapes.{still}
-use Rattle.formed_code.specs.Straight.{evaluation, getting, writing, printing, testing, bounding, stepping, entering, masking, flagging}
+use Rattle.verified_form.specs.Straight.{evaluation, getting, writing, printing, testing, bounding, stepping, entering, masking, flagging}
 use Rattle.exchange_bound.specs.Bound.{one_if}
 
 -- from each state that holds no read, and no write unless one may be

@@ -4,8 +4,8 @@ use Rattle.write_rules.specs.Verdict.{Faulted, GoesOn}
 use Rattle.pram_meaning.specs.Store.{State}
 use Rattle.pram_meaning.specs.Bounded.{Done, Goes, Stops, Reaches}
 use Rattle.flat_machine.specs.ByInstructions.{IsFlatOutcome}
-use Rattle.stretches.specs.Along.{Run}
-use Rattle.stretches.specs.Closes.{ComesOut}
+use Rattle.flat_stretches.specs.Along.{Run}
+use Rattle.flat_stretches.specs.Closes.{ComesOut}
 use Rattle.exchange_bound.specs.Events.{Event}
 use Rattle.exchange_bound.specs.Bound.{one_if}
 use Rattle.exchange_bound.specs.Spent.{spent, held_behind}

@@ -1,4 +1,4 @@
 //! One statement of a program on the machine.
 #![tactic(auto)]
 
-pub mod law;
+pub mod statement_laws;

@@ -5,9 +5,9 @@ use Rattle.std.specs.Prelude.{ℤ, codes}
 use Rattle.serde_json.specs.Data.{Data}
 use Rattle.json_lines.specs.Small.{IsReadable}
 use Rattle.json_lines.proofs.Small.{AreSmall, small_letters, small_list, small_object, small_value, small_values, small_word, smaller}
-use Rattle.pram_syntax.specs.declared.tree.Declaration.{Declaration}
-use Rattle.pram_syntax.specs.declared.tree.Declaration.TheVariants as declare
-use Rattle.pram_syntax.specs.Program.{ProgramTree}
+use Rattle.pram_trees.specs.declared.tree.Declaration.{Declaration}
+use Rattle.pram_trees.specs.declared.tree.Declaration.TheVariants as declare
+use Rattle.pram_trees.specs.Program.{ProgramTree}
 use Rattle.step_pages.specs.Opening.{cells_of, opening_facts, opening_fields, variables_of}
 
 small-append : (n : ℕ) (a b : List Data) → AreSmall n a → AreSmall n b → AreSmall n (a ++ b)

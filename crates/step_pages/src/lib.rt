@@ -11,4 +11,4 @@ mod script;
 pub use opening::opening_line;
 pub use page::write_page;
 
-pub mod law;
+pub mod page_laws;

@@ -10,7 +10,7 @@ ghost use Rattle.pram_model.specs.Rules.{rule_word};
 ghost use Rattle.step_pages.specs.Opening as spec;
 
 use json_lines::{Object, Value, line_of};
-use pram_syntax::{Declaration, Name, Numeral, Rule, Tree};
+use pram_trees::{Declaration, Name, Numeral, Rule, Tree};
 use std::alloc::{AllocError, Global};
 
 fn rule_name(rule: Rule) -> &'static str

@@ -2,9 +2,9 @@
 use Rattle.std.proofs.Common.{◌≡◌, ◌∙◌, ◌<◌, ◌+◌, ◌-◌, ◌+ℤ◌, ◌++◌, List, ℕ, suc, ℤ, pos, ap, arith, drop, get_or, length, map, sym}
 use Rattle.std.proofs.lemmas.List.{drop_more}
 use Rattle.pram_model.specs.Layout.{SharedEntry}
-use Rattle.run_entries.specs.declared.act as act
-use Rattle.run_entries.specs.declared.entry as entry
-use Rattle.run_entries.specs.Entries.{act_is, entry_is}
+use Rattle.step_entries.specs.declared.act as act
+use Rattle.step_entries.specs.declared.entry as entry
+use Rattle.step_entries.specs.Entries.{act_is, entry_is}
 use Rattle.text_out.specs.Out.{OutState, with_bytes}
 use Rattle.text_out.proofs.Progress.{Progress, goes_on}
 use Rattle.step_pictures.specs.Columns.{act_drawn, acts_drawn, all_met, column, columns_from, met_drawn}

@@ -1,9 +1,9 @@
 -- The indices of those that act, one by one.
 use Rattle.std.proofs.Common.{◌≡◌, ℕ, ◌+◌, ◌<◌, ◌≤◌, List, ◌∷◌, Option, None, drop, get_or, length, map, refl, ap, sym, ◌∙◌}
 use Rattle.std.proofs.lemmas.List.{drop_more, drop_all}
-use Rattle.run_entries.specs.declared.act as act
-use Rattle.run_entries.specs.declared.entry as entry
-use Rattle.run_entries.specs.Entries.{act_is, entry_is}
+use Rattle.step_entries.specs.declared.act as act
+use Rattle.step_entries.specs.declared.entry as entry
+use Rattle.step_entries.specs.Entries.{act_is, entry_is}
 use Rattle.step_pictures.specs.declared.grid.Span.{Span}
 use Rattle.step_pictures.specs.Measures.{acts_in, span_of, spans, with_acts, with_index}
 

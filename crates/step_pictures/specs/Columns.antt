@@ -3,7 +3,7 @@ use Rattle.std.specs.Prelude.{ℕ, ◌+◌, nat_le, if◌then◌else◌, List, [
 use Rattle.pram_model.specs.Layout.{SharedEntry}
 use Rattle.write_rules.specs.declared.fault.Fault.{Fault}
 use Rattle.program_texts.specs.Shown.{fault_text}
-use Rattle.run_entries.specs.Entries.{Act, Entry, Ran, Faulting}
+use Rattle.step_entries.specs.Entries.{Act, Entry, Ran, Faulting}
 use Rattle.step_pictures.specs.Marks.{box, outline}
 use Rattle.step_pictures.specs.Measures.{Grid, bottom, column_left, row_of, row_top}
 

@@ -2,7 +2,7 @@
 use Rattle.std.specs.Prelude.{ℕ, ◌+◌, ◌*◌, min, max, List, Option, Some, None, ℤ, pos, int_lt, if◌then◌else◌, take}
 use Rattle.std.specs.List.{fold}
 use Rattle.pram_model.specs.Layout.{width}
-use Rattle.run_entries.specs.Entries.{Act, Entry, Ran, Faulting}
+use Rattle.step_entries.specs.Entries.{Act, Entry, Ran, Faulting}
 use Rattle.step_pictures.specs.declared.grid as rust
 use Rattle.step_pictures.specs.declared.grid.Span.{Span}
 

@@ -3,7 +3,7 @@ use Rattle.std.specs.Prelude.{ℕ, zero, suc, ◌+◌, nat_lt, if◌then◌else�
 use Rattle.std.specs.Prelude.{decimal}
 use Rattle.std.specs.Fmt.{signed_decimal}
 use Rattle.pram_model.specs.Layout.{SharedEntry, width}
-use Rattle.run_entries.specs.Entries.{Entry}
+use Rattle.step_entries.specs.Entries.{Entry}
 use Rattle.step_pictures.specs.declared.grid.Span.{Span}
 use Rattle.step_pictures.specs.Columns.{columns_from}
 use Rattle.step_pictures.specs.Measures.{Grid, drawn, grid_of, picture_height, picture_width, row_top, rows_of, span_of}

@@ -2,7 +2,7 @@
 
 ghost use Rattle.std.specs.Prelude.{◌≡◌, ◌≤◌, ◌<◌, ◌+◌, ◌^◌, Some, length, map};
 ghost use Rattle.text_out.specs.Out.{Writes};
-ghost use Rattle.run_entries.specs.Entries.{act_is, entry_is};
+ghost use Rattle.step_entries.specs.Entries.{act_is, entry_is};
 ghost use Rattle.step_pictures.specs.Columns as spec;
 ghost use Rattle.step_pictures.specs.Measures as measures;
 ghost use Rattle.step_pictures.specs.Measures.{grid_is};
@@ -11,9 +11,9 @@ use crate::grid::Grid;
 use crate::marks::{Corner, write_box, write_outline};
 use crate::measure::{bottom, column_left, row_of, row_top};
 use itoa::Buffer;
-use pram_syntax::Layout;
+use pram_trees::Layout;
 use program_texts::write_fault_text;
-use run_entries::{Act, Entry};
+use step_entries::{Act, Entry};
 use text_out::{Out, WriteFault};
 use write_rules::Fault;
 

@@ -2,13 +2,13 @@
 
 ghost use Rattle.std.specs.Prelude.{◌≡◌, ◌≤◌, ◌<◌, ◌^◌};
 ghost use Rattle.text_out.specs.Out.{Writes};
-ghost use Rattle.run_entries.specs.Entries.{act_is};
+ghost use Rattle.step_entries.specs.Entries.{act_is};
 ghost use Rattle.step_pictures.specs.Marks as spec;
 
 use itoa::Buffer;
-use pram_syntax::Layout;
+use pram_trees::Layout;
 use program_texts::write_cell;
-use run_entries::Act;
+use step_entries::Act;
 use text_out::{Out, WriteFault};
 
 // Which processor it is.

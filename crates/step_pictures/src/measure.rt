@@ -2,12 +2,12 @@
 
 ghost use Rattle.std.specs.Prelude.{◌≡◌, ◌≤◌, length, map};
 ghost use Rattle.pram_model.specs.Layout.{width};
-ghost use Rattle.run_entries.specs.Entries.{act_is, entry_is};
+ghost use Rattle.step_entries.specs.Entries.{act_is, entry_is};
 ghost use Rattle.step_pictures.specs.Measures as spec;
 ghost use Rattle.step_pictures.specs.Measures.{grid_is};
 
 use crate::grid::{Grid, Span};
-use run_entries::{Act, Entry};
+use step_entries::{Act, Entry};
 
 // No more entries are drawn.
 const MOST_ENTRIES: usize = 100;

@@ -2,7 +2,7 @@
 
 ghost use Rattle.std.specs.Prelude.{◌≡◌, ◌≤◌, ◌<◌, ◌+◌, ◌+ℤ◌, ◌^◌, pos, length, map};
 ghost use Rattle.text_out.specs.Out.{Writes};
-ghost use Rattle.run_entries.specs.Entries.{entry_is};
+ghost use Rattle.step_entries.specs.Entries.{entry_is};
 ghost use Rattle.step_pictures.specs.Measures.{grid_is};
 ghost use Rattle.step_pictures.specs.Measures as measures;
 ghost use Rattle.step_pictures.specs.Picture as spec;
@@ -11,8 +11,8 @@ use crate::columns::write_columns;
 use crate::grid::{Grid, Span};
 use crate::measure::{drawn, grid_of, picture_height, picture_width, row_top, span_of, width_of};
 use itoa::Buffer;
-use pram_syntax::Layout;
-use run_entries::Entry;
+use pram_trees::Layout;
+use step_entries::Entry;
 use text_out::{Out, WriteFault};
 
 // The opening of a picture of that size.

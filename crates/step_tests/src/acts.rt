@@ -1,10 +1,10 @@
 // What is told of each processor: its reads, its write, and what a statement changes and prints. Each is worked by hand.
 
 use pram_check::check;
-use pram_parser::parse;
-use run_entries::{Act, Change, Entry};
-use run_steps::steps_of;
+use pram_syntax::parse;
 use std::alloc::Global;
+use step_entries::{Act, Change, Entry};
+use step_journal::steps_of;
 
 // What one processor did; of the one outside pardo no index is told.
 #[derive(Clone, Copy)]

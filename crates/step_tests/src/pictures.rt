@@ -1,10 +1,9 @@
 // Pictures of runs, worked by hand from what is told of them.
 
 use pram_check::check;
-use pram_parser::parse;
-use pram_syntax::Buffer;
-use run_steps::steps_of;
+use pram_syntax::{Buffer, parse};
 use std::alloc::Global;
+use step_journal::steps_of;
 use step_pictures::write_picture;
 
 // A program, and the picture of its run behind what is what.

@@ -1,10 +1,9 @@
 // What is written of runs, statement by statement. Each line is worked by hand from the statements of the program.
 
 use pram_check::check;
-use pram_parser::parse;
-use pram_syntax::Buffer;
-use run_steps::steps_of;
+use pram_syntax::{Buffer, parse};
 use std::alloc::Global;
+use step_journal::steps_of;
 use step_texts::{Manner, write_steps};
 
 // A program, its input and bound, the first and the last entry that are asked for, and what is written.

@@ -2,15 +2,15 @@
 use Rattle.std.proofs.Common.{◌≡◌, ◌∙◌, ◌<◌, ◌+◌, ◌++◌, ◌∷◌, [], List, ℕ, ℤ, ap, arith, codes, drop, get_or, length, map, refl, sym}
 use Rattle.std.proofs.lemmas.List.{drop_more}
 use Rattle.pram_model.specs.Layout.{SharedEntry}
-use Rattle.run_entries.specs.declared.change.Change.{Change}
-use Rattle.run_entries.specs.declared.entry as rust
-use Rattle.run_entries.specs.Entries.{entry_is}
+use Rattle.step_entries.specs.declared.change.Change.{Change}
+use Rattle.step_entries.specs.declared.entry as rust
+use Rattle.step_entries.specs.Entries.{entry_is}
 use Rattle.text_out.specs.Out.{OutState, with_bytes}
 use Rattle.text_out.proofs.Progress.{Progress, goes_on}
 use Rattle.program_texts.specs.Shown.{spaced}
 use Rattle.step_texts.specs.declared.manner.Manner.{Manner}
 use Rattle.step_texts.specs.StepText.{line_within, lines_from}
-use Rattle.step_texts.specs.Told.{change_text, changes_text, meeting_text}
+use Rattle.step_texts.specs.ChangeTexts.{change_text, changes_text, meeting_text}
 
 -- the change at i, and those behind it
 pub changes_at : (layout : List SharedEntry) (ds : List Change) (i : ℕ) (d : Change) → i < length ds → d ≡ get_or ds i d →

@@ -1,3 +1,3 @@
-pub mod Told
+pub mod ChangeTexts
 pub mod OnTerminal
 pub mod StepText

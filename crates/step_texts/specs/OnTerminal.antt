@@ -1,10 +1,10 @@
 -- How entries are written for a reader on a terminal.
 use Rattle.std.specs.Prelude.{ℕ, List, [], ◌∷◌, ◌++◌, Bool, true, false, codes, length}
 use Rattle.pram_model.specs.Layout.{SharedEntry}
-use Rattle.run_entries.specs.declared.change.Change.{Change}
-use Rattle.run_entries.specs.Entries.{Entry, Faulting, Ran}
+use Rattle.step_entries.specs.declared.change.Change.{Change}
+use Rattle.step_entries.specs.Entries.{Entry, Faulting, Ran}
 use Rattle.text_places.specs.Excerpts.{shown_line}
-use Rattle.step_texts.specs.Told.{changes_text, faulting_text, head_text, number_text}
+use Rattle.step_texts.specs.ChangeTexts.{changes_text, faulting_text, head_text, number_text}
 
 -- changes in cyan, by the control sequences of ECMA-48
 abbrev pub in_colour : List SharedEntry → List Change → List ℕ

@@ -2,11 +2,11 @@
 use Rattle.std.specs.Prelude.{ℕ, ◌+◌, nat_le, ◌&&◌, if◌then◌else◌, List, [], ◌∷◌, ◌++◌}
 use Rattle.pram_model.specs.Layout.{SharedEntry}
 use Rattle.program_texts.specs.Shown.{line}
-use Rattle.run_entries.specs.Entries.{Entry}
+use Rattle.step_entries.specs.Entries.{Entry}
 use Rattle.step_texts.specs.declared.manner.Manner.{Manner}
 use Rattle.step_texts.specs.declared.manner.Manner.TheVariants.{OnTerminal, Plain}
 use Rattle.step_texts.specs.OnTerminal as terminal
-use Rattle.step_texts.specs.Told.{entry_text}
+use Rattle.step_texts.specs.ChangeTexts.{entry_text}
 
 -- the line of an entry
 abbrev pub entry_line : List SharedEntry → Manner → ℕ → Entry → List ℕ

@@ -3,16 +3,16 @@
 ghost use Rattle.std.specs.Prelude.{◌<◌, ◌+◌, ◌-◌, ◌^◌, map};
 ghost use Rattle.text_out.specs.Out.{Writes};
 ghost use Rattle.program_texts.specs.Shown.{line};
-ghost use Rattle.run_entries.specs.Entries.{entry_is};
+ghost use Rattle.step_entries.specs.Entries.{entry_is};
 ghost use Rattle.step_texts.specs.StepText.{entry_line, line_within, steps_text};
-ghost use Rattle.step_texts.specs.Told as spec;
+ghost use Rattle.step_texts.specs.ChangeTexts as spec;
 
 use crate::manner::Manner;
 use crate::terminal::write_on_terminal;
 use itoa::Buffer;
-use pram_syntax::Layout;
+use pram_trees::Layout;
 use program_texts::{write_cell, write_fault_text, write_values};
-use run_entries::{Change, Entry};
+use step_entries::{Change, Entry};
 use text_out::{Out, WriteFault};
 use write_rules::Fault;
 

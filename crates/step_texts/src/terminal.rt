@@ -2,12 +2,12 @@
 
 ghost use Rattle.std.specs.Prelude.{◌≡◌, ◌<◌, ◌^◌};
 ghost use Rattle.text_out.specs.Out.{Writes};
-ghost use Rattle.run_entries.specs.Entries.{entry_is};
+ghost use Rattle.step_entries.specs.Entries.{entry_is};
 ghost use Rattle.step_texts.specs.OnTerminal as spec;
 
 use crate::step_text::{write_changes, write_faulting, write_head, write_number};
-use pram_syntax::Layout;
-use run_entries::{Change, Entry};
+use pram_trees::Layout;
+use step_entries::{Change, Entry};
 use text_out::{Out, WriteFault};
 use text_places::write_line;
 use write_rules::Fault;

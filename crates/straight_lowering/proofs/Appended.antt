@@ -1,8 +1,8 @@
 -- Code behind code.
 use Rattle.std.proofs.Common.{◌≡◌, ℕ, ◌+◌, max, List, ◌++◌, Bool, ap, ◌∙◌, append_assoc, arith}
 use Rattle.pram_tokens.specs.declared.token.Binary.{Binary}
-use Rattle.superstep_code.specs.declared.instr.Side.{Side}
-use Rattle.superstep_code.specs.declared.instr.Instr.{Instr}
+use Rattle.superstep_instructions.specs.declared.instr.Side.{Side}
+use Rattle.superstep_instructions.specs.declared.instr.Instr.{Instr}
 use Rattle.plain_form.specs.Formulas.{Formula, Between, reads, positions, nesting}
 use Rattle.plain_form.specs.Regions.{place, region, between_code}
 use Rattle.plain_form.specs.Groups.{asks}

@@ -1,8 +1,8 @@
 -- What the walk over the reads of a level finds.
 use Rattle.std.specs.Prelude.{ℕ, ◌+◌, nat_eq, List, [], ◌∷◌}
-use Rattle.superstep_code.specs.declared.instr.Side.{Side}
-use Rattle.superstep_code.specs.declared.instr.Instr.{Instr}
-use Rattle.superstep_code.specs.declared.instr.Instr.TheVariants.{Ask}
+use Rattle.superstep_instructions.specs.declared.instr.Side.{Side}
+use Rattle.superstep_instructions.specs.declared.instr.Instr.{Instr}
+use Rattle.superstep_instructions.specs.declared.instr.Instr.TheVariants.{Ask}
 use Rattle.plain_form.specs.Formulas.{Formula, nesting}
 use Rattle.plain_form.specs.Registers.{zero_register}
 use Rattle.plain_form.specs.Groups.{only}

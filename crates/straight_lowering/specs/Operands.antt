@@ -1,8 +1,8 @@
 -- What a statement evaluates.
 use Rattle.std.specs.Prelude.{ℕ, ◌+◌, Bool, true, ◌&&◌, not, List, [], ◌∷◌, ◌++◌}
-use Rattle.superstep_code.specs.declared.instr.Side.{Side}
-use Rattle.superstep_code.specs.declared.instr.Instr.{Instr}
-use Rattle.superstep_code.specs.declared.instr.Instr.TheVariants.{Put}
+use Rattle.superstep_instructions.specs.declared.instr.Side.{Side}
+use Rattle.superstep_instructions.specs.declared.instr.Instr.{Instr}
+use Rattle.superstep_instructions.specs.declared.instr.Instr.TheVariants.{Put}
 use Rattle.plain_form.specs.Formulas.{Formula, Zero, Pair, formula_of, reads, positions}
 use Rattle.plain_form.specs.Regions.{place}
 use Rattle.plain_form.specs.Shapes.{any_level, flush, still, waits, counted}

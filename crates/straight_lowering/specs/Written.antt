@@ -1,6 +1,6 @@
 -- Code that grows.
 use Rattle.std.specs.Prelude.{ℕ, Bool, List, ◌++◌, slice_set}
-use Rattle.superstep_code.specs.declared.instr.Instr.{Instr}
+use Rattle.superstep_instructions.specs.declared.instr.Instr.{Instr}
 
 -- the instructions so far, and whether a write is held behind them
 pub record Written : Type 0 where

@@ -15,7 +15,7 @@ use crate::region::{local, variable};
 use crate::values::{Operands, count, depth};
 use pram_check::{Expression, StepTarget, Target};
 use std::alloc::AllocError;
-use superstep_code::{Instr, Side};
+use superstep_instructions::{Instr, Side};
 
 // A value for a variable or a local.
 fn get(

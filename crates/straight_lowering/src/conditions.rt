@@ -7,13 +7,13 @@ ghost use Rattle.plain_form.specs.Shapes as shapes;
 ghost use Rattle.straight_lowering.specs.Room.{IsRoomFor};
 ghost use Rattle.straight_lowering.specs.Straight as straight;
 ghost use Rattle.straight_lowering.specs.Written.{wrote};
-ghost use Rattle.superstep_code.specs.declared.instr.Side.TheVariants as Side;
+ghost use Rattle.superstep_instructions.specs.declared.instr.Side.TheVariants as Side;
 
 use crate::emitter::Emitter;
 use crate::values::{Operands, count};
 use pram_check::Expression;
 use std::alloc::AllocError;
-use superstep_code::{Instr, Side};
+use superstep_instructions::{Instr, Side};
 
 /// The test of an `if` or a `while`: the register with its value.
 pub fn tested(out: &mut Emitter, line: u32, test: &Expression, free: u16) -> Result<u16, AllocError>

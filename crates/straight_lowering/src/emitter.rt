@@ -1,13 +1,13 @@
 //! Code that grows.
 
 ghost use Rattle.std.specs.Prelude.{◌≡◌, ◌<◌, ◌+◌, ◌^◌, ◌∷◌, [], IfOk, OnOk, length, true, false};
-ghost use Rattle.superstep_code.specs.declared.instr.Instr.TheVariants.{Send, Reply, Halt};
+ghost use Rattle.superstep_instructions.specs.declared.instr.Instr.TheVariants.{Send, Reply, Halt};
 ghost use Rattle.plain_form.specs.Shapes as shapes;
 ghost use Rattle.straight_lowering.specs.Written.{added, wrote, patched};
 
 use std::alloc::{AllocError, Global};
 use std::marker::Model;
-use superstep_code::Instr;
+use superstep_instructions::Instr;
 
 /// The instructions so far, and whether a write is held behind them.
 #[derive(Drop)]

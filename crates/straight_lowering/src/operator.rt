@@ -4,12 +4,12 @@ ghost use Rattle.std.specs.Prelude.{◌≡◌, OnOk};
 ghost use Rattle.plain_form.specs.Regions.{before_code, between_code};
 ghost use Rattle.straight_lowering.specs.Written.{added};
 ghost use Rattle.straight_lowering.specs.Operators as spec;
-ghost use Rattle.superstep_code.specs.declared.instr.Instr.TheVariants as Instr;
+ghost use Rattle.superstep_instructions.specs.declared.instr.Instr.TheVariants as Instr;
 
 use crate::emitter::Emitter;
-use pram_syntax::{Binary, Prefix};
+use pram_trees::{Binary, Prefix};
 use std::alloc::AllocError;
-use superstep_code::{Arithmetic, Instr, Side, Truth};
+use superstep_instructions::{Arithmetic, Instr, Side, Truth};
 
 /// What an operation works on: the registers of a side, and its position.
 #[derive(Clone, Copy)]

@@ -15,7 +15,7 @@ use crate::region::{INDEX, variable};
 use crate::values::{Operands, count};
 use pram_check::Expression;
 use std::alloc::AllocError;
-use superstep_code::{Arithmetic, Instr, Side, Truth};
+use superstep_instructions::{Arithmetic, Instr, Side, Truth};
 
 /// The uniform registers of an open `for`.
 #[derive(Clone, Copy)]

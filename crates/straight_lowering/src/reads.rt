@@ -1,7 +1,7 @@
 //! The reads of an expression, level by level.
 
 ghost use Rattle.std.specs.Prelude.{◌≡◌, ◌∷◌, [], IfOk, OnOk, max, ◌+◌, ◌<◌, ◌^◌};
-ghost use Rattle.superstep_code.specs.declared.instr.Instr.TheVariants.{Ask};
+ghost use Rattle.superstep_instructions.specs.declared.instr.Instr.TheVariants.{Ask};
 ghost use Rattle.plain_form.specs.Formulas as formulas;
 ghost use Rattle.plain_form.specs.Formulas.{formula_of};
 ghost use Rattle.plain_form.specs.Groups as groups;
@@ -14,7 +14,7 @@ use crate::emitter::{Emitter, short};
 use crate::region::region;
 use pram_check::Expression;
 use std::alloc::AllocError;
-use superstep_code::{Instr, Side};
+use superstep_instructions::{Instr, Side};
 
 /// The register that stays 0.
 pub(crate) const ZERO: u16 = 0;

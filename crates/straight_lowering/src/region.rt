@@ -13,7 +13,7 @@ use crate::emitter::{Emitter, short};
 use crate::operator::{Operation, before};
 use pram_check::Expression;
 use std::alloc::AllocError;
-use superstep_code::{Instr, Side};
+use superstep_instructions::{Instr, Side};
 
 pub(crate) const INDEX: u16 = 1;
 

@@ -16,7 +16,7 @@ use crate::reads::{ZERO, asks, greater, nesting};
 use crate::region::region;
 use pram_check::Expression;
 use std::alloc::AllocError;
-use superstep_code::Side;
+use superstep_instructions::Side;
 
 /// What a statement evaluates.
 #[derive(Clone, Copy)]

@@ -1,3 +1,9 @@
-pub mod Code
-pub mod Limits
-pub mod CodeFields
+pub use Rattle.superstep_instructions.specs.Code
+pub use Rattle.superstep_instructions.specs.CodeFields
+pub use Rattle.superstep_instructions.specs.Limits
+pub use Rattle.superstep_listing.specs.Listing
+pub use Rattle.superstep_listing.specs.Text
+pub use Rattle.superstep_listing.specs.Reading
+pub use Rattle.superstep_listing.specs.Decoding
+pub use Rattle.superstep_listing.specs.Names
+pub use Rattle.superstep_listing.specs.Cutting

@@ -5,17 +5,17 @@ use Rattle.std.proofs.lemmas.Bool.Decides.{nat_tests}
 use Rattle.std.proofs.lemmas.Int.{ints}
 use Rattle.std.specs.List.{AllByRecursion}
 use Rattle.std.specs.Prelude.{pos, Some, ◌&&◌, nat_lt}
-use Rattle.superstep_code.specs.declared.instr.Arithmetic.TheVariants as arithmetic
-use Rattle.superstep_code.specs.declared.instr.Instr.{Instr}
-use Rattle.superstep_code.specs.declared.instr.Instr.TheVariants.{Mark, Set, Copy, Negate, Calculate, Decide, Not, CopyUniform, Index}
-use Rattle.superstep_code.specs.declared.instr.Instr.TheVariants.{Enter, Leave, Mask, Flip, Unmask, Ask, Put, Send, Reply, Vote, Print}
-use Rattle.superstep_code.specs.declared.instr.Instr.TheVariants.{Jump, JumpIfZero, Halt}
-use Rattle.superstep_code.specs.declared.instr.Side.TheVariants.{Uniform, Private}
-use Rattle.superstep_code.specs.declared.instr.Truth.TheVariants as truth
-use Rattle.superstep_code.specs.Code.{Operand, Short, Long, Wide, operands_of}
+use Rattle.superstep_instructions.specs.declared.instr.Arithmetic.TheVariants as arithmetic
+use Rattle.superstep_instructions.specs.declared.instr.Instr.{Instr}
+use Rattle.superstep_instructions.specs.declared.instr.Instr.TheVariants.{Mark, Set, Copy, Negate, Calculate, Decide, Not, CopyUniform, Index}
+use Rattle.superstep_instructions.specs.declared.instr.Instr.TheVariants.{Enter, Leave, Mask, Flip, Unmask, Ask, Put, Send, Reply, Vote, Print}
+use Rattle.superstep_instructions.specs.declared.instr.Instr.TheVariants.{Jump, JumpIfZero, Halt}
+use Rattle.superstep_instructions.specs.declared.instr.Side.TheVariants.{Uniform, Private}
+use Rattle.superstep_instructions.specs.declared.instr.Truth.TheVariants as truth
+use Rattle.superstep_instructions.specs.Code.{Operand, Short, Long, Wide, operands_of}
 use Rattle.superstep_listing.specs.Cutting.{Lacks, spaced}
 use Rattle.superstep_listing.specs.Decoding.{candidate_of, fit_to, template_of}
-use Rattle.superstep_code.specs.Limits.{Fits, IsInstr}
+use Rattle.superstep_instructions.specs.Limits.{Fits, IsInstr}
 use Rattle.superstep_listing.specs.Listing.{number_of, numbers_of, side_of, stem_of}
 use Rattle.superstep_listing.proofs.Cuts.{Follows, one_cut}
 use Rattle.superstep_listing.proofs.Spaces.{AllFit, follows_spaced}

@@ -2,7 +2,7 @@
 use Rattle.std.proofs.Common.{◌≡◌, ℕ, List, [], ◌∷◌, ◌++◌, refl, sym, ap, ◌+◌, ◌≤◌, arith, subst}
 use Rattle.std.specs.List.{AllByRecursion}
 use Rattle.pram_model.specs.Layout.{SharedEntry, most_cells, size, total_size}
-use Rattle.superstep_code.specs.Limits.{AreDifferent, IsEntry, IsLayout, IsNew, names_of}
+use Rattle.superstep_instructions.specs.Limits.{AreDifferent, IsEntry, IsLayout, IsNew, names_of}
 
 -- A list of different texts with one more behind it.
 

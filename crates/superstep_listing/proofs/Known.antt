@@ -4,7 +4,7 @@ use Rattle.std.specs.List.{list_any}
 use Rattle.std.specs.Prelude.{◌||◌}
 use Rattle.std.specs.Str.{bytes_eq}
 use Rattle.pram_model.specs.Layout.{SharedEntry}
-use Rattle.superstep_code.specs.Limits.{IsNew, names_of}
+use Rattle.superstep_instructions.specs.Limits.{IsNew, names_of}
 use Rattle.superstep_listing.specs.Names.{AreKnown}
 use Rattle.superstep_listing.proofs.Entries.{names-more}
 use lib.Pointwise.{bytes_decides}

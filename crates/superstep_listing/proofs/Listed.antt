@@ -5,10 +5,10 @@ use Rattle.std.proofs.lemmas.List.{append-nil}
 use Rattle.std.specs.List.{AllByRecursion}
 use Rattle.std.specs.Prelude.{codes}
 use Rattle.pram_model.specs.Layout.{SharedEntry}
-use Rattle.superstep_code.specs.declared.instr.Instr.{Instr}
-use Rattle.superstep_code.specs.Code.{SuperstepCode}
+use Rattle.superstep_instructions.specs.declared.instr.Instr.{Instr}
+use Rattle.superstep_instructions.specs.Code.{SuperstepCode}
 use Rattle.superstep_listing.specs.Cutting.{Lacks}
-use Rattle.superstep_code.specs.Limits.{IsCode, IsEntry, IsInstr}
+use Rattle.superstep_instructions.specs.Limits.{IsCode, IsEntry, IsInstr}
 use Rattle.superstep_listing.specs.Listing.{ended, entry_line, field_words, instr_lines, instr_words, line, lines_of, rule_line, spelling}
 use Rattle.superstep_listing.specs.Reading.{AreCode, CannotBe, IsStuck}
 use Rattle.superstep_listing.specs.Text.{IsFirstBad, IsListing, longest}

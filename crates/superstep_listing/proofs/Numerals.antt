@@ -7,8 +7,8 @@ use Rattle.std.specs.Fmt.{signed_decimal}
 use Rattle.std.specs.Prelude.{ℤ, pos, negsuc, Result, Ok}
 use Rattle.std.specs.Str.{IsAscii, IsUtf8}
 use Rattle.std.specs.Str.Parse.{ParsesSigned}
-use Rattle.superstep_code.specs.Code.{Wide}
-use Rattle.superstep_code.specs.Limits.{Fits}
+use Rattle.superstep_instructions.specs.Code.{Wide}
+use Rattle.superstep_instructions.specs.Limits.{Fits}
 use Rattle.std.proofs.Math.Facts.{to_z-of_z}
 use Rattle.std.proofs.Common.{Bool, true, false, [], not, int_eq}
 use Rattle.std.specs.Cmp.Rules.{signed_items}

@@ -9,9 +9,9 @@ use Rattle.pram_model.specs.declared.rule.Rule.{Rule}
 use Rattle.pram_model.specs.declared.rule.Rule.TheVariants as rule
 use Rattle.pram_model.specs.Layout.{SharedEntry}
 use Rattle.pram_model.specs.Names.{IsName}
-use Rattle.superstep_code.specs.declared.instr.Instr.{Instr}
+use Rattle.superstep_instructions.specs.declared.instr.Instr.{Instr}
 use Rattle.superstep_listing.specs.Cutting.{Lacks, spaced}
-use Rattle.superstep_code.specs.Limits.{AreBounds, IsEntry, IsInstr}
+use Rattle.superstep_instructions.specs.Limits.{AreBounds, IsEntry, IsInstr}
 use Rattle.superstep_listing.specs.Listing.{entry_line, entry_words, field_words, instr_words, line, numbers_of, rule_line, side_of}
 use Rattle.superstep_listing.specs.Listing.{stem_of}
 use Rattle.superstep_listing.proofs.Cuts.{lacks-append}

@@ -10,8 +10,8 @@ use Rattle.pram_model.specs.Rules.{rule_word}
 use Rattle.std.specs.Fmt.{decimal, signed_decimal}
 use Rattle.text_out.specs.Printing.{Printing, Prints}
 use Rattle.text_out.proofs.Printed.{PrintedTo, printed_as, printed_more, prints_nothing, prints_then}
-use Rattle.superstep_code.specs.declared.instr.Instr.{Instr}
-use Rattle.superstep_code.specs.Code.{SuperstepCode}
+use Rattle.superstep_instructions.specs.declared.instr.Instr.{Instr}
+use Rattle.superstep_instructions.specs.Code.{SuperstepCode}
 use Rattle.superstep_listing.specs.Listing.{line, field_words, instr_words, numbers_of, side_of, stem_of, ended, entry_line, entry_words}
 use Rattle.superstep_listing.specs.Listing.{head_lines, instr_lines, size_lines, spelling}
 use Rattle.superstep_listing.specs.Cutting.{spaced}

@@ -7,9 +7,9 @@ use Rattle.std.specs.Fmt.{decimal, signed_decimal}
 use Rattle.std.specs.List.{AllByRecursion}
 use Rattle.std.specs.Prelude.{ℤ, pos, negsuc, Option, Some, None}
 use Rattle.std.specs.Borrow.{Bor}
-use Rattle.superstep_code.specs.Code.{Wide}
+use Rattle.superstep_instructions.specs.Code.{Wide}
 use Rattle.superstep_listing.specs.Cutting.{Lacks, behind_word, spaced}
-use Rattle.superstep_code.specs.Limits.{Fits}
+use Rattle.superstep_instructions.specs.Limits.{Fits}
 use Rattle.superstep_listing.proofs.Cuts.{Follows, lacks-append, one_cut}
 use Rattle.superstep_listing.proofs.Numerals.{one_number, small}
 

@@ -8,9 +8,9 @@ use Rattle.std.proofs.Common.{Bool, true, false}
 use Rattle.std.specs.Prelude.{codes, ◌==◌}
 use Rattle.superstep_listing.specs.declared.error.ReadError.{ReadError}
 use Rattle.superstep_listing.specs.declared.error.ReadError.TheVariants as read
-use Rattle.superstep_code.specs.declared.instr.Instr.{Instr}
-use Rattle.superstep_code.specs.declared.instr.Instr.TheVariants.{Halt}
-use Rattle.superstep_code.specs.Limits.{IsInstr, most_instructions, most_registers}
+use Rattle.superstep_instructions.specs.declared.instr.Instr.{Instr}
+use Rattle.superstep_instructions.specs.declared.instr.Instr.TheVariants.{Halt}
+use Rattle.superstep_instructions.specs.Limits.{IsInstr, most_instructions, most_registers}
 use Rattle.superstep_listing.specs.Listing.{ended, field_words, instr_lines, instr_words, line, size_lines}
 use Rattle.superstep_listing.specs.Reading.{AreInstrs, AreRest, CannotBe, IsReadError, IsStuck}
 use Rattle.superstep_listing.proofs.Decoded.{lacks_visible}

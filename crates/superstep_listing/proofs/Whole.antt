@@ -6,8 +6,8 @@ use Rattle.std.specs.Prelude.{codes, ℤ, Option, Some, None}
 use Rattle.pram_model.specs.declared.rule.Rule.{Rule}
 use Rattle.pram_model.specs.declared.rule.Rule.TheVariants as rule
 use Rattle.pram_model.specs.Layout.{SharedEntry, total_size}
-use Rattle.superstep_code.specs.Code.{SuperstepCode}
-use Rattle.superstep_code.specs.Limits.{AreDifferent, IsCode, IsEntry, IsLayout, IsNew, most_procs, names_of}
+use Rattle.superstep_instructions.specs.Code.{SuperstepCode}
+use Rattle.superstep_instructions.specs.Limits.{AreDifferent, IsCode, IsEntry, IsLayout, IsNew, most_procs, names_of}
 use Rattle.superstep_listing.specs.Listing.{ended, entry_line, entry_words, field_words, head_lines, instr_lines, line, lines_of, rule_line}
 use Rattle.superstep_listing.specs.Listing.{size_lines}
 use Rattle.superstep_listing.specs.Reading.{AreCode, AreRest, CannotBe, IsStuck}

@@ -5,17 +5,17 @@ use Rattle.std.specs.List.{flat_map, join_with_byte}
 use Rattle.pram_model.specs.declared.rule.Rule.{Rule}
 use Rattle.pram_model.specs.Layout.{SharedEntry}
 use Rattle.pram_model.specs.Rules.{rule_word}
-use Rattle.superstep_code.specs.declared.instr.Arithmetic.{Arithmetic}
-use Rattle.superstep_code.specs.declared.instr.Arithmetic.TheVariants as arithmetic
-use Rattle.superstep_code.specs.declared.instr.Instr.{Instr}
-use Rattle.superstep_code.specs.declared.instr.Instr.TheVariants.{Mark, Set, Copy, Negate, Calculate, Decide, Not, CopyUniform, Index}
-use Rattle.superstep_code.specs.declared.instr.Instr.TheVariants.{Enter, Leave, Mask, Flip, Unmask, Ask, Put, Send, Reply, Vote, Print}
-use Rattle.superstep_code.specs.declared.instr.Instr.TheVariants.{Jump, JumpIfZero, Halt}
-use Rattle.superstep_code.specs.declared.instr.Side.{Side}
-use Rattle.superstep_code.specs.declared.instr.Side.TheVariants.{Uniform, Private}
-use Rattle.superstep_code.specs.declared.instr.Truth.{Truth}
-use Rattle.superstep_code.specs.declared.instr.Truth.TheVariants as truth
-use Rattle.superstep_code.specs.Code.{SuperstepCode, Operand, Short, Long, Wide, operands_of}
+use Rattle.superstep_instructions.specs.declared.instr.Arithmetic.{Arithmetic}
+use Rattle.superstep_instructions.specs.declared.instr.Arithmetic.TheVariants as arithmetic
+use Rattle.superstep_instructions.specs.declared.instr.Instr.{Instr}
+use Rattle.superstep_instructions.specs.declared.instr.Instr.TheVariants.{Mark, Set, Copy, Negate, Calculate, Decide, Not, CopyUniform, Index}
+use Rattle.superstep_instructions.specs.declared.instr.Instr.TheVariants.{Enter, Leave, Mask, Flip, Unmask, Ask, Put, Send, Reply, Vote, Print}
+use Rattle.superstep_instructions.specs.declared.instr.Instr.TheVariants.{Jump, JumpIfZero, Halt}
+use Rattle.superstep_instructions.specs.declared.instr.Side.{Side}
+use Rattle.superstep_instructions.specs.declared.instr.Side.TheVariants.{Uniform, Private}
+use Rattle.superstep_instructions.specs.declared.instr.Truth.{Truth}
+use Rattle.superstep_instructions.specs.declared.instr.Truth.TheVariants as truth
+use Rattle.superstep_instructions.specs.Code.{SuperstepCode, Operand, Short, Long, Wide, operands_of}
 
 abbrev pub side_word : Side → List ℕ
 side_word Uniform = codes "u"

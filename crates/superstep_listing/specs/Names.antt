@@ -6,7 +6,7 @@ use Rattle.std.specs.Prelude.{◌≡◌}
 use Rattle.std.specs.List.{list_any}
 use Rattle.std.specs.Str.{bytes_eq}
 use Rattle.pram_model.specs.Layout.{SharedEntry}
-use Rattle.superstep_code.specs.Limits.{AreBounds, names_of}
+use Rattle.superstep_instructions.specs.Limits.{AreBounds, names_of}
 use Rattle.pram_model.specs.Names.{are_words, begins_with_letter, is_keyword}
 
 abbrev pub is_name : List ℕ → Bool

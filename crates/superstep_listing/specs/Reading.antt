@@ -3,9 +3,9 @@ use Rattle.std.specs.Prelude.{◌≡◌, ℕ, ◌≤◌, List, [], ◌∷◌, �
 use Rattle.std.specs.List.{AllByRecursion}
 use Rattle.superstep_listing.specs.declared.error.ReadError.{ReadError}
 use Rattle.superstep_listing.specs.declared.error.ReadError.TheVariants as read
-use Rattle.superstep_code.specs.declared.instr.Instr.{Instr}
-use Rattle.superstep_code.specs.Code.{SuperstepCode}
-use Rattle.superstep_code.specs.Limits.{IsCode, IsInstr, most_instructions, most_registers}
+use Rattle.superstep_instructions.specs.declared.instr.Instr.{Instr}
+use Rattle.superstep_instructions.specs.Code.{SuperstepCode}
+use Rattle.superstep_instructions.specs.Limits.{IsCode, IsInstr, most_instructions, most_registers}
 use Rattle.superstep_listing.specs.Listing.{ended, instr_lines, lines_of, size_lines}
 
 -- A text that begins with none of these lines, or isn't empty where there is none.

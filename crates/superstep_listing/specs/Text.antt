@@ -2,8 +2,8 @@
 use Rattle.std.specs.Prelude.{◌≡◌, ℕ, ◌≤◌, ◌<◌, List, [], ◌∷◌, ◌++◌, length, Result, Ok, Err}
 use Rattle.superstep_listing.specs.declared.error.ListingFault.{ListingFault}
 use Rattle.superstep_listing.specs.declared.error.ListingFault.TheVariants.{TextTooLong, BadListing, OutOfMemory}
-use Rattle.superstep_code.specs.Code.{SuperstepCode}
-use Rattle.superstep_code.specs.Limits.{IsCode}
+use Rattle.superstep_instructions.specs.Code.{SuperstepCode}
+use Rattle.superstep_instructions.specs.Limits.{IsCode}
 use Rattle.superstep_listing.specs.Listing.{ended, lines_of, spelling}
 
 -- the greatest length of a listing

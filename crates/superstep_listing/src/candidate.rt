@@ -1,16 +1,16 @@
 //! From the word and the numbers of an instruction to the instruction.
 
 ghost use Rattle.std.specs.Prelude.{◌≡◌, ◌++◌, MatchOption, List, ℕ};
-ghost use Rattle.superstep_code.specs.declared.instr.Instr.{Instr};
+ghost use Rattle.superstep_instructions.specs.declared.instr.Instr.{Instr};
 ghost use Rattle.superstep_listing.specs.Cutting.{spaced};
 ghost use Rattle.superstep_listing.specs.Decoding as decoding;
-ghost use Rattle.superstep_code.specs.Limits.{IsInstr};
+ghost use Rattle.superstep_instructions.specs.Limits.{IsInstr};
 ghost use Rattle.superstep_listing.specs.Listing as spec;
 
 use crate::operands::{first_word, numbers_behind};
 use crate::spell::numbers;
 use crate::template::template;
-use superstep_code::Instr;
+use superstep_instructions::Instr;
 
 /// The number of operand k, and 0 where it is missing.
 fn wide_at(numbers: &[i64], k: usize) -> i64

@@ -4,7 +4,7 @@ ghost use Rattle.std.specs.Prelude.{◌≡◌, ◌++◌, ◌∷◌, codes, ℕ, 
 ghost use Rattle.std.specs.Fmt.{signed_decimal};
 ghost use Rattle.pram_model.specs.Layout.{SharedEntry};
 ghost use Rattle.pram_model.specs.Names.{IsName};
-ghost use Rattle.superstep_code.specs.Limits.{AreBounds, IsEntry};
+ghost use Rattle.superstep_instructions.specs.Limits.{AreBounds, IsEntry};
 ghost use Rattle.superstep_listing.specs.Listing as spec;
 ghost use Rattle.superstep_listing.specs.Names as names;
 

@@ -1,14 +1,14 @@
 //! The lines of instructions.
 
 ghost use Rattle.std.specs.Prelude.{◌≡◌, MatchOption};
-ghost use Rattle.superstep_code.specs.declared.instr.Instr.{Instr};
-ghost use Rattle.superstep_code.specs.Limits.{IsInstr};
+ghost use Rattle.superstep_instructions.specs.declared.instr.Instr.{Instr};
+ghost use Rattle.superstep_instructions.specs.Limits.{IsInstr};
 ghost use Rattle.superstep_listing.specs.Listing as spec;
 
 use crate::candidate::body_of;
 use crate::cut::cut;
 use crate::numeral::number;
-use superstep_code::Instr;
+use superstep_instructions::Instr;
 
 /// The instruction of the line of that number.
 pub(crate) fn instr_of(bytes: &[u8], place: u32) -> Option<Instr>

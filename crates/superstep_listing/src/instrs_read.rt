@@ -2,14 +2,14 @@
 
 ghost use Rattle.std.specs.Prelude.{◌≡◌, ◌≤◌, ◌++◌, length, IfOk, IfErr};
 ghost use Rattle.std.specs.List.{AllByRecursion};
-ghost use Rattle.superstep_code.specs.Limits.{IsInstr, most_instructions, most_registers};
+ghost use Rattle.superstep_instructions.specs.Limits.{IsInstr, most_instructions, most_registers};
 ghost use Rattle.superstep_listing.specs.Listing.{ended, instr_lines, size_lines};
 ghost use Rattle.superstep_listing.specs.Reading.{AreInstrs, AreRest, IsReadError};
 
 use crate::error::ReadError;
 use crate::lines::{next_field, next_instr};
 use std::alloc::Global;
-use superstep_code::Instr;
+use superstep_instructions::Instr;
 
 /// No code has more registers of a side, or more instructions.
 const MOST: u32 = 65_536;

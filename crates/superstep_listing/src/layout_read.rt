@@ -4,7 +4,7 @@ ghost use Rattle.std.specs.Prelude.{◌≡◌, ◌≤◌, ◌+◌, ◌++◌, ◌
 ghost use Rattle.std.specs.HashSet.{contains_by};
 ghost use Rattle.std.specs.Str.{bytes_eq};
 ghost use Rattle.pram_model.specs.Layout.{SharedEntry, most_cells, size, total_size};
-ghost use Rattle.superstep_code.specs.Limits.{AreBounds, IsEntry, IsLayout};
+ghost use Rattle.superstep_instructions.specs.Limits.{AreBounds, IsEntry, IsLayout};
 ghost use Rattle.superstep_listing.specs.Names.{AreKnown};
 ghost use Rattle.superstep_listing.specs.Listing.{ended, entry_line};
 

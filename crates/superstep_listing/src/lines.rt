@@ -3,9 +3,9 @@
 ghost use Rattle.std.specs.Prelude.{◌≡◌, ◌≤◌, ◌++◌, ◌∷◌, codes, ℕ, List, MatchBool, MatchOption};
 ghost use Rattle.pram_model.specs.declared.rule.Rule.{Rule};
 ghost use Rattle.pram_model.specs.Layout.{SharedEntry};
-ghost use Rattle.superstep_code.specs.declared.instr.Instr.{Instr};
+ghost use Rattle.superstep_instructions.specs.declared.instr.Instr.{Instr};
 ghost use Rattle.superstep_listing.specs.Cutting.{Lacks};
-ghost use Rattle.superstep_code.specs.Limits.{IsEntry, IsInstr};
+ghost use Rattle.superstep_instructions.specs.Limits.{IsEntry, IsInstr};
 ghost use Rattle.superstep_listing.specs.Listing as spec;
 
 use crate::cut::cut;
@@ -14,7 +14,7 @@ use crate::instr_line::instr_of;
 use crate::numeral::field;
 use crate::rule_line::rule_of;
 use pram_model::Rule;
-use superstep_code::Instr;
+use superstep_instructions::Instr;
 
 fn is_version(bytes: &[u8]) -> bool
     ensures value { MatchBool result (bytes.now ≡ codes "bsp 1") (bytes.now ≡ codes "bsp 1" → ⊥) }

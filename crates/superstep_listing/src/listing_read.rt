@@ -2,8 +2,8 @@
 
 ghost use Rattle.std.specs.Prelude.{◌≡◌, ◌≤◌, ◌<◌, ◌↔◌, Err, length, IfOk, IfErr};
 ghost use Rattle.superstep_listing.specs.declared.error.ListingFault.TheVariants.{TextTooLong};
-ghost use Rattle.superstep_code.specs.Code.{SuperstepCode};
-ghost use Rattle.superstep_code.specs.Limits.{IsCode};
+ghost use Rattle.superstep_instructions.specs.Code.{SuperstepCode};
+ghost use Rattle.superstep_instructions.specs.Limits.{IsCode};
 ghost use Rattle.superstep_listing.specs.Listing.{spelling};
 ghost use Rattle.superstep_listing.specs.Reading.{AreCode, IsReadError};
 ghost use Rattle.superstep_listing.specs.Text as spec;
@@ -13,7 +13,7 @@ use crate::instrs_read::rest_of;
 use crate::layout_read::layout_of;
 use crate::lines::{next_field, next_rule, next_version};
 use std::alloc::Global;
-use superstep_code::Code;
+use superstep_instructions::Code;
 
 /// The greatest length of a listing, in bytes.
 pub const LONGEST: usize = 8_388_608;

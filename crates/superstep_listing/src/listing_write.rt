@@ -6,7 +6,7 @@ ghost use Rattle.superstep_listing.specs.Listing.{spelling};
 ghost use Rattle.superstep_listing.specs.Text.{IsListing, longest};
 
 use crate::printer::Printer;
-use superstep_code::Code;
+use superstep_instructions::Code;
 use text_out::{Out, WriteFault};
 
 /// Writes the listing of code, the one text that `read_listing` reads as this code: each line is

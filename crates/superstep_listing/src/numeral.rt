@@ -2,9 +2,9 @@
 
 ghost use Rattle.std.specs.Prelude.{◌≡◌, ◌≤◌, ℕ, ℤ, MatchOption};
 ghost use Rattle.std.specs.Fmt.{signed_decimal};
-ghost use Rattle.superstep_code.specs.Code.{Wide};
+ghost use Rattle.superstep_instructions.specs.Code.{Wide};
 ghost use Rattle.superstep_listing.specs.Cutting.{Lacks};
-ghost use Rattle.superstep_code.specs.Limits.{Fits};
+ghost use Rattle.superstep_instructions.specs.Limits.{Fits};
 ghost use Rattle.superstep_listing.specs.Listing as spec;
 
 use crate::cut::cut;

@@ -2,9 +2,9 @@
 
 ghost use Rattle.std.specs.Prelude.{◌≡◌, ◌≤◌, ◌++◌, ℤ, List, length, MatchOption};
 ghost use Rattle.std.specs.List.{AllByRecursion};
-ghost use Rattle.superstep_code.specs.Code.{Wide};
+ghost use Rattle.superstep_instructions.specs.Code.{Wide};
 ghost use Rattle.superstep_listing.specs.Cutting.{Lacks, behind_word, spaced};
-ghost use Rattle.superstep_code.specs.Limits.{Fits};
+ghost use Rattle.superstep_instructions.specs.Limits.{Fits};
 
 use crate::cut::cut;
 use crate::numeral::number;

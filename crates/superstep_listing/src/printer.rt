@@ -4,7 +4,7 @@ ghost use Rattle.std.specs.Prelude.{◌≡◌, ◌<◌, ◌++◌, ◌∷◌, [],
 ghost use Rattle.std.specs.Fmt.{signed_decimal};
 ghost use Rattle.std.specs.List.{flat_map};
 ghost use Rattle.text_out.specs.Printing.{MayFail, Prints, printing};
-ghost use Rattle.superstep_code.specs.Limits.{most_instructions};
+ghost use Rattle.superstep_instructions.specs.Limits.{most_instructions};
 ghost use Rattle.superstep_listing.specs.Listing.{ended, entry_line, entry_words, field_words, head_lines, instr_lines, instr_words, line};
 ghost use Rattle.superstep_listing.specs.Listing.{spelling};
 ghost use Rattle.superstep_listing.specs.Cutting.{spaced};
@@ -12,7 +12,7 @@ ghost use Rattle.superstep_listing.specs.Cutting.{spaced};
 use crate::spell::{letter, numbers, rule_text, stem};
 use itoa::Buffer;
 use pram_model::{Layout, Rule};
-use superstep_code::{Code, Instr};
+use superstep_instructions::{Code, Instr};
 use text_out::Out;
 
 /// Prints until its writer fails, and then nothing more.

@@ -5,7 +5,7 @@ ghost use Rattle.pram_model.specs.Rules.{rule_word};
 ghost use Rattle.superstep_listing.specs.Listing as spec;
 
 use pram_model::Rule;
-use superstep_code::{Arithmetic, Instr, Side, Truth};
+use superstep_instructions::{Arithmetic, Instr, Side, Truth};
 
 /// The word of a rule.
 pub(crate) fn rule_text(rule: Rule) -> &'static [u8]

@@ -5,7 +5,7 @@ ghost use Rattle.superstep_listing.specs.Decoding as decoding;
 ghost use Rattle.superstep_listing.specs.Listing as spec;
 ghost use Rattle.superstep_listing.specs.Listing.{side_of, stem_of};
 
-use superstep_code::{Arithmetic, Instr, Side, Truth};
+use superstep_instructions::{Arithmetic, Instr, Side, Truth};
 
 /// The instruction of a word, with all operands 0.
 pub(crate) fn template(word: &[u8]) -> Option<Instr>

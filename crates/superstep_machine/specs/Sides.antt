@@ -1,8 +1,8 @@
 -- Of which side the reads are that a worker holds.
 use Rattle.std.specs.Prelude.{◌≡◌, ℕ, ◌+◌, List, [], ◌∷◌, true, Option, None}
 use Rattle.std.specs.List.{AllByRecursion}
-use Rattle.superstep_code.specs.declared.instr.Side.{Side}
-use Rattle.superstep_code.specs.declared.instr.Side.TheVariants.{Uniform, Private}
+use Rattle.superstep_instructions.specs.declared.instr.Side.{Side}
+use Rattle.superstep_instructions.specs.declared.instr.Side.TheVariants.{Uniform, Private}
 use Rattle.superstep_machine.specs.Parts.{Read, PrivatePart}
 use Rattle.superstep_machine.specs.Sending.{cell_at, is_private}
 

@@ -4,7 +4,7 @@ use Rattle.std.specs.List.{range_with_len}
 use Rattle.pram_values.specs.Total.{total}
 use Rattle.address_map.specs.Lawful.{Shape}
 use Rattle.write_rules.specs.Verdict.{Verdict}
-use Rattle.superstep_code.specs.Code.{SuperstepCode}
+use Rattle.superstep_instructions.specs.Code.{SuperstepCode}
 use Rattle.superstep_machine.specs.Setting.{Setting, workers}
 use Rattle.superstep_machine.specs.Words.{words}
 use Rattle.superstep_machine.specs.Machine.{phase}

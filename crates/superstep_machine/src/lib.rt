@@ -5,7 +5,7 @@ mod collected_law;
 mod header;
 mod header_law;
 mod key;
-pub mod law;
+pub mod machine_laws;
 mod mark;
 mod mark_law;
 mod words_law;

@@ -10,11 +10,11 @@ use Rattle.pram_tokens.specs.declared.token.Numeral.{Numeral}
 use Rattle.pram_tokens.specs.declared.token.Opening.{Opening}
 use Rattle.pram_tokens.specs.declared.token.Token.{Token}
 use Rattle.pram_tokens.specs.declared.token.Token.TheVariants as token
-use Rattle.pram_syntax.specs.declared.level.Level.{Level}
-use Rattle.pram_syntax.specs.declared.level.Level.TheVariants as level
-use Rattle.pram_syntax.specs.Machine.{Accepted, SyntaxAt, TooDeepAt, may_end, on_move, step, verdict}
-use Rattle.pram_syntax.specs.Symbols.{Stack, Operand, Rest, Subscript, Want, WantRule, WantName, WantNumber, WantAtMost, Declarations}
-use Rattle.pram_syntax.specs.Symbols.{AfterShared, Statements, AfterName, ForHead, ForName, Else, Locals, Move, Next, Refused, TooDeep, enter}
+use Rattle.pram_trees.specs.declared.level.Level.{Level}
+use Rattle.pram_trees.specs.declared.level.Level.TheVariants as level
+use Rattle.pram_trees.specs.Machine.{Accepted, SyntaxAt, TooDeepAt, may_end, on_move, step, verdict}
+use Rattle.pram_trees.specs.Symbols.{Stack, Operand, Rest, Subscript, Want, WantRule, WantName, WantNumber, WantAtMost, Declarations}
+use Rattle.pram_trees.specs.Symbols.{AfterShared, Statements, AfterName, ForHead, ForName, Else, Locals, Move, Next, Refused, TooDeep, enter}
 
 -- two names of which both are rules' words or neither is, two numbers, or one word at two places
 pub data Alike : Token → Token → Type 0 where

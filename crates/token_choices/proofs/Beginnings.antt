@@ -6,8 +6,8 @@ use Rattle.pram_tokens.specs.declared.token.Token.{Token}
 use Rattle.pram_tokens.specs.declared.words.Fixed.TheVariants as fixed
 use Rattle.pram_tokens.specs.Tokens.{AreReal, IsReal}
 use Rattle.pram_tokens.proofs.Real.{append_real}
-use Rattle.pram_syntax.specs.Faults.{Ends, IsDepthFault, IsSyntaxFault}
-use Rattle.pram_syntax.specs.Program.{Begins, IsProgram, IsTree, ProgramTree, limit, program_tokens}
+use Rattle.pram_trees.specs.Faults.{Ends, IsDepthFault, IsSyntaxFault}
+use Rattle.pram_trees.specs.Program.{Begins, IsProgram, IsTree, ProgramTree, limit, program_tokens}
 use Rattle.token_choices.specs.Choices.{CouldStand, Decides, OnlyRules}
 use Rattle.token_choices.specs.Kinds.{sample}
 use Rattle.token_choices.specs.declared.choice.Choice.{Choice}

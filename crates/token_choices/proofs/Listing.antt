@@ -4,7 +4,7 @@ use Rattle.std.proofs.lemmas.List.{drop_more}
 use Rattle.text_out.specs.Out.{OutState, with_bytes}
 use Rattle.text_out.proofs.Progress.{Progress, goes_on}
 use Rattle.token_choices.specs.declared.choice.Choice.{Choice}
-use Rattle.token_choices.specs.Told.{among, listed}
+use Rattle.token_choices.specs.ChoiceTexts.{among, listed}
 
 -- the kind at i, and those behind it
 pub listed_at : (ks : List Choice) (i others : ℕ) (d : Choice) → i < length ks → others + (i + 1) ≡ length ks →

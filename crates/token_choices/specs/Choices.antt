@@ -5,7 +5,7 @@ use Rattle.pram_tokens.specs.declared.error.LexError.TheVariants.{OutOfMemory, B
 use Rattle.pram_tokens.specs.declared.token.Token.{Token}
 use Rattle.pram_tokens.specs.Tokens.{IsReal}
 use Rattle.pram_tokens.specs.Scanning.{Cut, cut_of}
-use Rattle.pram_syntax.specs.Program.{Begins, limit}
+use Rattle.pram_trees.specs.Program.{Begins, limit}
 use Rattle.token_choices.specs.declared.choice.Choice.{Choice}
 use Rattle.token_choices.specs.declared.choice.Choice.TheVariants as choice
 use Rattle.token_choices.specs.Kinds.{IsOf, all_choices, sample}

@@ -1,3 +1,3 @@
 pub mod Kinds
 pub mod Choices
-pub mod Told
+pub mod ChoiceTexts

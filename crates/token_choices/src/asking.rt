@@ -3,13 +3,13 @@
 ghost use Rattle.std.specs.Prelude.{◌≡◌, ◌≤◌, IfOk, OnOk, length};
 ghost use Rattle.pram_tokens.specs.Tokens.{AreReal};
 ghost use Rattle.pram_tokens.specs.Scanning.{longest};
-ghost use Rattle.pram_syntax.specs.Program.{Begins, limit};
+ghost use Rattle.pram_trees.specs.Program.{Begins, limit};
 ghost use Rattle.token_choices.specs.Choices as spec;
 ghost use Rattle.token_choices.specs.Kinds.{sample as sample_of};
 
 use crate::choice::{Choice, all_choices, sample};
-use pram_syntax::{ParseError, parse_tokens};
 use pram_tokens::{LexError, Token, tokenize};
+use pram_trees::{ParseError, parse_tokens};
 use std::alloc::{AllocError, Global};
 
 // Whether some program begins with these tokens.

@@ -3,7 +3,7 @@
 
 mod asking;
 mod choice;
-pub mod law;
+pub mod sample_laws;
 mod writing;
 
 pub use asking::choices_behind;

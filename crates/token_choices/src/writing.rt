@@ -4,7 +4,7 @@ ghost use Rattle.std.specs.Prelude.{◌≡◌, ◌<◌, ◌^◌};
 ghost use Rattle.text_out.specs.Out.{Writes};
 ghost use Rattle.pram_printer.specs.Spelling as spelled;
 ghost use Rattle.token_choices.specs.Kinds.{fixed_token};
-ghost use Rattle.token_choices.specs.Told as spec;
+ghost use Rattle.token_choices.specs.ChoiceTexts as spec;
 
 use crate::choice::Choice;
 use pram_printer::{binary_text, mark_text, opening_text};

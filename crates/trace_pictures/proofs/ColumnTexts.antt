@@ -3,7 +3,7 @@ use Rattle.std.proofs.Common.{◌≡◌, ℕ, zero, suc, ◌+◌, ◌-◌, ◌<�
 use Rattle.std.proofs.Common.{sym, ◌∙◌, arith}
 use Rattle.std.proofs.lemmas.List.{drop_all, drop_more, get_or-take, length-take}
 use Rattle.superstep_machine.specs.Trace.{Exchange, relation_of}
-use Rattle.exchange_counts.specs.Told.{exchange_at, no_exchange}
+use Rattle.exchange_counts.specs.CountedExchanges.{exchange_at, no_exchange}
 use Rattle.trace_pictures.specs.Picture.{column, columns_from, drawn, most_words, workers_of}
 
 -- an exchange that is drawn is that of the run

@@ -4,7 +4,7 @@ ghost use Rattle.std.specs.Prelude.{◌≡◌, ◌≤◌, ◌<◌, ◌+◌, ◌-
 ghost use Rattle.superstep_machine.specs.Trace.{relation_of};
 ghost use Rattle.text_out.specs.Out.{Writes};
 ghost use Rattle.worker_messages.specs.Shown.{purpose_is};
-ghost use Rattle.exchange_counts.specs.Told.{exchange_at};
+ghost use Rattle.exchange_counts.specs.CountedExchanges.{exchange_at};
 ghost use Rattle.trace_pictures.specs.Picture as spec;
 
 use crate::bars::{Scale, write_received_bars, write_sent_bars};

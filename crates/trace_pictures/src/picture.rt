@@ -3,7 +3,7 @@
 ghost use Rattle.std.specs.Prelude.{◌≡◌, ◌≤◌, ◌<◌, ◌^◌, length};
 ghost use Rattle.text_out.specs.Out.{Writes};
 ghost use Rattle.superstep_machine.specs.Trace.{relation_of};
-ghost use Rattle.exchange_counts.specs.Told.{exchange_at};
+ghost use Rattle.exchange_counts.specs.CountedExchanges.{exchange_at};
 ghost use Rattle.trace_pictures.specs.Picture as spec;
 
 use crate::columns::{Measure, column_width, write_column};

@@ -5,7 +5,7 @@ use Rattle.std.specs.Prelude.{decimal}
 use Rattle.std.specs.Fmt.{digits}
 use Rattle.std.proofs.lemmas.List.{append-nil, drop_more}
 use Rattle.superstep_machine.specs.Trace.{Exchange, relation_of}
-use Rattle.exchange_counts.specs.Told.{exchange_at, no_exchange}
+use Rattle.exchange_counts.specs.CountedExchanges.{exchange_at, no_exchange}
 use Rattle.superstep_machine.specs.Run.{Sends, Replies, Votes, Closes}
 use Rattle.tracer.specs.Traced.{spaced, exchange_text, lines_from, trace_text}
 

@@ -3,7 +3,7 @@
 ghost use Rattle.std.specs.Prelude.{◌≡◌, ◌≤◌, ◌<◌, ◌^◌, length};
 ghost use Rattle.text_out.specs.Out.{Writes};
 ghost use Rattle.worker_messages.specs.Shown.{purpose_is};
-ghost use Rattle.exchange_counts.specs.Told.{exchange_at};
+ghost use Rattle.exchange_counts.specs.CountedExchanges.{exchange_at};
 ghost use Rattle.tracer.specs.Traced.{kind_text, spaced, exchange_text};
 
 use exchange_counts::{Counts, Step};

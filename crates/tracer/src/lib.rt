@@ -2,8 +2,8 @@
 #![tactic(auto)]
 
 mod exchange_line;
-pub mod law;
 mod trace;
+pub mod trace_laws;
 
 pub use exchange_counts::{Count, Counts, Step};
 pub use exchange_line::kind_word;

@@ -4,7 +4,7 @@
 mod barrier;
 mod blocks;
 mod closing;
-mod law;
+mod crossing_laws;
 mod letter;
 mod opening;
 mod plays;
@@ -16,8 +16,8 @@ mod views;
 mod work;
 
 pub use barrier::Turnstile;
+pub use crossing_laws::interleaving_law;
 pub use exchange_arena::{Header, MAX_ROOM, MAX_SIDE};
-pub use law::interleaving_law;
 pub use seats::{ColumnSeat, RowSeat};
 pub use start::line::StartLine;
 pub use start::runners::Runner;

@@ -24,10 +24,10 @@ use Rattle.work_time.specs.Kept.{Going, Kept, Tells, kept, noted}
 use Rattle.work_time.specs.Steps.{effect_writes, for_steps, for_turns_steps, inner_list_steps, list_steps, none_of, one_step}
 use Rattle.work_time.specs.Steps.{row_steps, turns_steps, value_step}
 use Rattle.work_time.specs.Accounts.{Accounts}
-use Rattle.work_time.specs.Told.{bounds, choice, range, told, told_all, told_assign, told_bounds, told_choice, told_closed, told_for}
-use Rattle.work_time.specs.Told.{told_pardo, told_print, told_range, told_team, told_turns, turn}
+use Rattle.work_time.specs.CountedParts.{bounds, choice, range, told, told_all, told_assign, told_bounds, told_choice, told_closed, told_for}
+use Rattle.work_time.specs.CountedParts.{told_pardo, told_print, told_range, told_team, told_turns, turn}
 use Rattle.work_time.proofs.Kept.{halts, kept_map, noted_then, then_keep}
-use Rattle.work_time.proofs.Told.{block_events, block_steps}
+use Rattle.work_time.proofs.CountedPartLemmas.{block_events, block_steps}
 
 -- ---- a test, an assignment, a print
 

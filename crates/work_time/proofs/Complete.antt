@@ -13,7 +13,7 @@ use Rattle.pram_meaning.proofs.OneOutcome.{outcome_is}
 use Rattle.work_time.specs.declared.counter.Counter.{Counter}
 use Rattle.work_time.specs.Counted.{counted}
 use Rattle.work_time.specs.Kept.{AtBound, Going, Kept, Stopped, Tells, keep, state_of, counts_of}
-use Rattle.work_time.specs.Told.{told_list}
+use Rattle.work_time.specs.CountedParts.{told_list}
 use Rattle.work_time.specs.Accounts.{Accounts, opened}
 
 -- how a run opens

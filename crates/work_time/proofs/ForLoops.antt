@@ -10,8 +10,8 @@ use Rattle.pram_meaning.proofs.ForLoops.{width_more, width_none}
 use Rattle.work_time.specs.Kept.{Going, Tells}
 use Rattle.work_time.specs.Accounts.{Accounts}
 use Rattle.work_time.proofs.Kept.{halts, then_keep}
-use Rattle.work_time.specs.Told.{told_closed, told_for, told_setting}
-use Rattle.work_time.proofs.Told.{for_turns_are}
+use Rattle.work_time.specs.CountedParts.{told_closed, told_for, told_setting}
+use Rattle.work_time.proofs.CountedPartLemmas.{for_turns_are}
 
 -- what is left gives what the whole gives
 pub record InFor (w : Checked) (q n line x : ℕ) (body : List Statement) (first last : ℤ) (start : State) (from : Accounts) (value end : ℤ)

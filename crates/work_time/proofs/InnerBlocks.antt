@@ -26,9 +26,9 @@ use Rattle.exchange_bound.specs.Events as event
 use Rattle.work_time.specs.Kept.{Going, Kept, Tells, noted}
 use Rattle.work_time.specs.Steps.{behind, inner_list_steps, inner_row_steps, test_step, turns_on_steps}
 use Rattle.work_time.specs.Accounts.{Accounts, met_all}
-use Rattle.work_time.specs.Told.{inner_choice, inner_turn, told_assign_on, told_choice_on, told_list_on, told_on, told_team, told_turns_on}
+use Rattle.work_time.specs.CountedParts.{inner_choice, inner_turn, told_assign_on, told_choice_on, told_list_on, told_on, told_team, told_turns_on}
 use Rattle.work_time.proofs.Kept.{halts, kept_map, noted_then, then_keep}
-use Rattle.work_time.proofs.Told.{block_events_on, block_steps_on, list_on_is}
+use Rattle.work_time.proofs.CountedPartLemmas.{block_events_on, block_steps_on, list_on_is}
 
 -- ---- blocks
 

@@ -14,8 +14,8 @@ use Rattle.pram_meaning.specs.Together.{those}
 use Rattle.work_time.specs.Kept.{AtBound, Going, Kept, Tells}
 use Rattle.work_time.specs.Accounts.{Accounts}
 use Rattle.work_time.proofs.Kept.{halts, then_keep}
-use Rattle.work_time.specs.Told.{told_list_on, told_test_on, told_turns_on}
-use Rattle.work_time.proofs.Told.{turn_told_on, turns_on_are}
+use Rattle.work_time.specs.CountedParts.{told_list_on, told_test_on, told_turns_on}
+use Rattle.work_time.proofs.CountedPartLemmas.{turn_told_on, turns_on_are}
 
 -- the members that are left are few, and a bound on the turns is no smaller than the statements left
 pub record InTurns (w : Checked) (q n line : ℕ) (e : Expression) (body : List Step) (vs : List ℕ) (start : State) (from : Accounts)

@@ -3,7 +3,7 @@ pub mod Kept
 pub mod ByOne
 pub mod PartSums
 pub mod BySet
-pub mod Told
+pub mod CountedPartLemmas
 pub mod Closings
 pub mod Spendings
 pub mod Chains

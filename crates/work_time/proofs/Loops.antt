@@ -14,8 +14,8 @@ use Rattle.work_time.specs.Steps.{acting, begun}
 use Rattle.pram_meaning.specs.Bounded.{counted}
 use Rattle.work_time.specs.Accounts.{Accounts, entered}
 use Rattle.work_time.proofs.Kept.{halts, then_keep}
-use Rattle.work_time.specs.Told.{told, told_list, told_test, told_turns}
-use Rattle.work_time.proofs.Told.{list_is, turn_told, turns_are}
+use Rattle.work_time.specs.CountedParts.{told, told_list, told_test, told_turns}
+use Rattle.work_time.proofs.CountedPartLemmas.{list_is, turn_told, turns_are}
 
 -- ---- a block: what is left of it gives what the whole gives
 

@@ -6,6 +6,6 @@ pub mod Spending
 pub mod Accounts
 pub mod Ledgers
 pub mod Kept
-pub mod Told
+pub mod CountedParts
 pub mod Counted
 pub mod RowCosts

@@ -4,7 +4,7 @@ ghost use Rattle.std.specs.Prelude.{◌≡◌, ◌≤◌, ◌<◌, ◌+◌, ◌-
 ghost use Rattle.std.specs.Int.{w64};
 ghost use Rattle.pram_meaning.specs.Judging.{part_is};
 ghost use Rattle.work_time.specs.Kept.{Tells, state_in, state_of, counts_of};
-ghost use Rattle.work_time.specs.Told.{told_assign_on, told_choice_on, told_list_on, told_on, told_team, told_test_on, told_turns_on};
+ghost use Rattle.work_time.specs.CountedParts.{told_assign_on, told_choice_on, told_list_on, told_on, told_team, told_test_on, told_turns_on};
 
 use crate::counter::Counter;
 use crate::meter::Meter;

@@ -5,12 +5,12 @@
 mod alone;
 mod beginning;
 mod cost;
+pub mod cost_laws;
 mod counter;
 mod counting;
 mod entering;
 mod exchanges;
 mod inside;
-pub mod law;
 mod ledger;
 mod levels;
 mod line_cost;

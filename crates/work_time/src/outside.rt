@@ -9,8 +9,8 @@ ghost use Rattle.pram_meaning.specs.Attempt.{attempt_assign};
 ghost use Rattle.pram_meaning.specs.Store.{seen, with_uniform};
 ghost use Rattle.work_time.specs.Kept.{Tells, kept, state_of, counts_of};
 ghost use Rattle.work_time.specs.Steps.{acting, begun, effect_writes, one_step, value_step};
-ghost use Rattle.work_time.specs.Told.{told, told_all, told_assign, told_bounds, told_choice, told_closed, told_for, told_list};
-ghost use Rattle.work_time.specs.Told.{told_pardo, told_print, told_range, told_setting, told_test, told_turns};
+ghost use Rattle.work_time.specs.CountedParts.{told, told_all, told_assign, told_bounds, told_choice, told_closed, told_for, told_list};
+ghost use Rattle.work_time.specs.CountedParts.{told_pardo, told_print, told_range, told_setting, told_test, told_turns};
 
 use crate::counter::Counter;
 use crate::meter::Meter;

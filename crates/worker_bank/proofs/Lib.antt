@@ -6,6 +6,6 @@ pub mod MaskLemmas
 pub mod BankLemmas
 pub mod ListedLemmas
 pub mod OperateLemmas
-pub mod ToldLemmas
+pub mod InstructionReportLemmas
 pub mod NumberLemmas
 pub mod NamingLemmas

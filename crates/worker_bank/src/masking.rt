@@ -1,8 +1,8 @@
 //! What the instructions on masks and ranges do to a worker's processors.
 
 ghost use Rattle.std.specs.Prelude.{◌≡◌, ◌<◌, ◌≤◌, ◌+◌, [], ℕ, length, true, slice_index_or};
-ghost use Rattle.superstep_code.specs.Code.{SuperstepCode};
-ghost use Rattle.superstep_code.specs.declared.instr.Instr.TheVariants as instr_is;
+ghost use Rattle.superstep_instructions.specs.Code.{SuperstepCode};
+ghost use Rattle.superstep_instructions.specs.declared.instr.Instr.TheVariants as instr_is;
 ghost use Rattle.superstep_machine.specs.Parts.{UniformPart, fresh};
 ghost use Rattle.worker_bank.specs.Bank.{part_at, IsAfter, IsBank, IsSameBank};
 

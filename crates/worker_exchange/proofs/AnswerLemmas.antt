@@ -6,12 +6,12 @@ use Rattle.std.specs.Global.{Global}
 use Rattle.std.specs.List.{AllByRecursion, zip}
 use Rattle.std.proofs.lemmas.List.{drop_all, get_or-set_same, get_or-set_other}
 use Rattle.std.proofs.lemmas.Bool.{cases_eq}
-use Rattle.superstep_code.specs.declared.instr.Side.TheVariants.{Uniform}
+use Rattle.superstep_instructions.specs.declared.instr.Side.TheVariants.{Uniform}
 use Rattle.superstep_machine.specs.Parts.{Registers, Read, set_register}
 use Rattle.superstep_machine.specs.Answering.{answer, answers, destinations}
 use Rattle.superstep_machine.specs.Fitting.{IsCellBelow}
-use Rattle.superstep_steps.specs.declared.read.Read.{Read as HeldRead}
-use Rattle.superstep_steps.specs.Views.{read_is}
+use Rattle.instruction_steps.specs.declared.read.Read.{Read as HeldRead}
+use Rattle.instruction_steps.specs.Views.{read_is}
 use Rattle.combining.specs.Asked.{HeldAsk, value_for}
 use Rattle.worker_bank.specs.Columns.{value_of}
 use Rattle.worker_bank.specs.Cells.{cell_in}

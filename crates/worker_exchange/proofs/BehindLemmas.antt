@@ -11,7 +11,7 @@ use Rattle.superstep_machine.specs.Words.{Message}
 use Rattle.superstep_machine.specs.Worker.{Worker}
 use Rattle.superstep_machine.specs.Stretch.{ToSend, ToReply, ToVote, ToClose, Arrival, Nowhere, At}
 use Rattle.superstep_machine.specs.Run as machine
-use Rattle.run_limits.specs.Within.{AreValues}
+use Rattle.machine_limits.specs.Within.{AreValues}
 use Rattle.message_rows.specs.Rows.{WrittenMessage}
 use Rattle.worker_messages.specs.declared.local.Local.{Local}
 use Rattle.worker_messages.specs.Shown.{way_is, purpose_is, place_behind, ShowsWorker, IsShown, IsAtExchange}

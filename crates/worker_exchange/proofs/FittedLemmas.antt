@@ -8,16 +8,16 @@ use Rattle.std.specs.List.{AllByRecursion, zip, range_with_len}
 use Rattle.std.proofs.lemmas.List.{length-map}
 use Rattle.std.proofs.lemmas.List.FromFn.{length-map-range_with_len}
 use Rattle.address_map.specs.Lawful.{Shape}
-use Rattle.superstep_code.specs.declared.instr.Instr.TheVariants.{Send, Vote}
-use Rattle.superstep_code.specs.Code.{SuperstepCode}
+use Rattle.superstep_instructions.specs.declared.instr.Instr.TheVariants.{Send, Vote}
+use Rattle.superstep_instructions.specs.Code.{SuperstepCode}
 use Rattle.superstep_machine.specs.declared.key.Key.{Key}
 use Rattle.superstep_machine.specs.Setting.{Setting, processors}
 use Rattle.superstep_machine.specs.Parts.{UniformPart}
 use Rattle.superstep_machine.specs.Words.{Message}
 use Rattle.superstep_machine.specs.Run.{no_worker, is_held}
-use Rattle.superstep_steps.specs.declared.read.Read.{Read}
-use Rattle.superstep_steps.specs.declared.uniform.UniformState.{UniformState}
-use Rattle.superstep_steps.specs.Views.{put_is}
+use Rattle.instruction_steps.specs.declared.read.Read.{Read}
+use Rattle.instruction_steps.specs.declared.uniform.UniformState.{UniformState}
+use Rattle.instruction_steps.specs.Views.{put_is}
 use Rattle.bsp_verify.specs.declared.state.State.{State}
 use Rattle.bsp_verify.specs.States.{after}
 use Rattle.bsp_verify.specs.WellFormed.{IsWellFormed}

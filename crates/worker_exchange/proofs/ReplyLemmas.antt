@@ -10,8 +10,8 @@ use Rattle.std.proofs.lemmas.Int.{to_z-of_z}
 use Rattle.std.proofs.lemmas.List.{length-map}
 use Rattle.pram_model.specs.declared.rule.Rule.{Rule}
 use Rattle.address_map.specs.Lawful.{Shape, IsLawful}
-use Rattle.superstep_code.specs.declared.instr.Instr.TheVariants.{Reply}
-use Rattle.superstep_code.specs.Code.{SuperstepCode}
+use Rattle.superstep_instructions.specs.declared.instr.Instr.TheVariants.{Reply}
+use Rattle.superstep_instructions.specs.Code.{SuperstepCode}
 use Rattle.superstep_machine.specs.declared.header.MessageHeader.{MessageHeader}
 use Rattle.superstep_machine.specs.Setting.{Setting}
 use Rattle.superstep_machine.specs.Parts.{PrivatePart}
@@ -21,8 +21,8 @@ use Rattle.superstep_machine.specs.Answering.{value_came, uniform_answered, own_
 use Rattle.superstep_machine.specs.Fitting.{IsCellBelow}
 use Rattle.superstep_machine.specs.Run.{Replies, is_held}
 use Rattle.superstep_machine.proofs.Refused.{map_within}
-use Rattle.superstep_steps.specs.declared.read.Read.{Read as HeldRead}
-use Rattle.superstep_steps.specs.Views.{uniform_of, put_is}
+use Rattle.instruction_steps.specs.declared.read.Read.{Read as HeldRead}
+use Rattle.instruction_steps.specs.Views.{uniform_of, put_is}
 use Rattle.bsp_verify.specs.declared.state.State.{State}
 use Rattle.bsp_verify.specs.States.{after}
 use Rattle.bsp_verify.specs.WellFormed.{IsWellFormed}

@@ -13,7 +13,7 @@ use Rattle.superstep_machine.specs.WordReading.{ask_part}
 use Rattle.superstep_machine.specs.Worker.{Worker}
 use Rattle.superstep_machine.specs.Sending.{asks_held, conflicts, uniform_sent, own_sent, after_send}
 use Rattle.superstep_machine.specs.Run.{Sends}
-use Rattle.superstep_steps.specs.Views.{uniform_of}
+use Rattle.instruction_steps.specs.Views.{uniform_of}
 use Rattle.worker_bank.specs.Bank.{part_at}
 use Rattle.combining.specs.AllModules.{column}
 use Rattle.combining.specs.Adding.{unanswered}

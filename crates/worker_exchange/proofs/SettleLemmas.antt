@@ -4,7 +4,7 @@ use Rattle.std.proofs.lemmas.List.{drop_more}
 use Rattle.std.specs.Prelude.{if◌then◌else◌, ◌&&◌}
 use Rattle.pram_values.specs.Total.{total}
 use Rattle.pram_values.specs.declared.kind.Kind.TheVariants.{ReadConflict}
-use Rattle.superstep_code.specs.declared.instr.Side.TheVariants.{Uniform}
+use Rattle.superstep_instructions.specs.declared.instr.Side.TheVariants.{Uniform}
 use Rattle.superstep_machine.specs.declared.key.Key.{Key}
 use Rattle.superstep_machine.specs.Keys.{least}
 use Rattle.superstep_machine.specs.Parts.{Read}
@@ -29,8 +29,8 @@ use Rattle.message_rows.specs.Rows.{WrittenMessage, message_at}
 use Rattle.worker_exchange.specs.Received.{received}
 use Rattle.worker_exchange.specs.Parts.{part_at}
 use Rattle.worker_exchange.specs.Settled.{key_of_put, IsSettled}
-use Rattle.superstep_steps.specs.declared.read.Read.{Read as HeldRead}
-use Rattle.superstep_steps.specs.Views.{read_is}
+use Rattle.instruction_steps.specs.declared.read.Read.{Read as HeldRead}
+use Rattle.instruction_steps.specs.Views.{read_is}
 
 -- the program's own reads are in no conflict
 pub uniform_silent : (column : List Message) (cells : List ℕ) (k : ℕ) (read : Read) → read.side ≡ Uniform →

@@ -4,7 +4,7 @@ use Rattle.std.specs.Prelude.{slice_get}
 use Rattle.std.specs.Option.{is_some}
 use Rattle.std.proofs.lemmas.Option.{slice_get_within}
 use Rattle.address_map.specs.Lawful.{Shape}
-use Rattle.superstep_code.specs.Code.{SuperstepCode}
+use Rattle.superstep_instructions.specs.Code.{SuperstepCode}
 use Rattle.superstep_machine.specs.declared.key.Key.{Key}
 use Rattle.superstep_machine.specs.declared.mark.HeaderMark.TheVariants.{Clear}
 use Rattle.superstep_machine.specs.Setting.{Setting}
@@ -12,8 +12,8 @@ use Rattle.superstep_machine.specs.Parts.{UniformPart}
 use Rattle.superstep_machine.specs.Worker.{Worker}
 use Rattle.superstep_machine.specs.Run as machine
 use Rattle.superstep_machine.specs.Run.{setting}
-use Rattle.superstep_steps.specs.declared.read.Moment.{Moment}
-use Rattle.superstep_steps.specs.Views.{put_is, uniform_of}
+use Rattle.instruction_steps.specs.declared.read.Moment.{Moment}
+use Rattle.instruction_steps.specs.Views.{put_is, uniform_of}
 use Rattle.bsp_verify.specs.Control.{Leads}
 use Rattle.bsp_verify.specs.Judging.{is_mark}
 use Rattle.bsp_verify.specs.WellFormed.{IsWellFormed}

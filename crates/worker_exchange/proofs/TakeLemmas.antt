@@ -2,7 +2,7 @@
 use Rattle.std.proofs.Common.{◌≡◌, ◌<◌, map, vec_capacity, refl, sym, ap, ◌∙◌}
 use Rattle.std.specs.List.{AllByRecursion}
 use Rattle.std.proofs.lemmas.List.{length-map}
-use Rattle.superstep_code.specs.Limits.{IsCode}
+use Rattle.superstep_instructions.specs.Limits.{IsCode}
 use Rattle.superstep_machine.specs.Setting.{Setting, workers}
 use Rattle.superstep_machine.specs.Sending.{asks_held}
 use Rattle.superstep_machine.specs.Run as machine
@@ -14,7 +14,7 @@ use Rattle.worker_messages.specs.Shown.{purpose_is, IsAtExchange}
 use Rattle.worker_messages.specs.Equipped.{IsRunnable, IsEquipped}
 use Rattle.worker_messages.proofs.ReachedLemmas.{IsPathed, ready_pathed}
 use Rattle.worker_messages.proofs.WrittenLemmas.{asks_are}
-use Rattle.worker_messages.proofs.ToldLemmas.{held_can}
+use Rattle.worker_messages.proofs.MessagesWrittenLemmas.{held_can}
 
 module _ (t : Setting) (code : IsCode t.code) (run : IsRunnable t.code t.map) (x : Local)
     (below : x.steps.bank.worker < workers t) (s : machine.State) (at : IsAtExchange t x.steps.bank.worker x s)

@@ -2,8 +2,8 @@
 use Rattle.std.specs.Prelude.{◌≡◌, ℕ, ◌<◌, ◌^◌, List, [], length, map, ℤ}
 use Rattle.std.specs.List.{zip}
 use Rattle.superstep_machine.specs.Answering.{answers, destinations, uniform_answered}
-use Rattle.superstep_steps.specs.declared.uniform.UniformState.{UniformState}
-use Rattle.superstep_steps.specs.Views.{read_is, uniform_of, KeepsReserve}
+use Rattle.instruction_steps.specs.declared.uniform.UniformState.{UniformState}
+use Rattle.instruction_steps.specs.Views.{read_is, uniform_of, KeepsReserve}
 use Rattle.combining.specs.Asked.{HeldAsk, value_for}
 use Rattle.worker_bank.specs.Bank.{registers_at, IsBank, IsSameBank}
 use Rattle.worker_steps.specs.declared.worker.WorkerState.{WorkerState}

@@ -1,7 +1,7 @@
 -- A worker behind an exchange.
 use Rattle.std.specs.Prelude.{◌≡◌, ℕ, ◌<◌, List, Bool, true, false}
 use Rattle.address_map.specs.Lawful.{Shape}
-use Rattle.superstep_code.specs.Code.{SuperstepCode}
+use Rattle.superstep_instructions.specs.Code.{SuperstepCode}
 use Rattle.superstep_machine.specs.Run.{State, setting, ready, after, after_exchange, is_over}
 use Rattle.message_rows.specs.Rows.{WrittenMessage}
 use Rattle.worker_messages.specs.declared.local.Local.{Local}

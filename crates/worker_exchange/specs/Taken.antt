@@ -3,8 +3,8 @@ use Rattle.std.specs.Prelude.{◌≡◌, [], Option, None}
 use Rattle.superstep_machine.specs.declared.key.Key.{Key}
 use Rattle.superstep_machine.specs.Keys.{least}
 use Rattle.superstep_machine.specs.Sending.{uniform_sent}
-use Rattle.superstep_steps.specs.declared.uniform.UniformState.{UniformState}
-use Rattle.superstep_steps.specs.Views.{uniform_of, KeepsReserve}
+use Rattle.instruction_steps.specs.declared.uniform.UniformState.{UniformState}
+use Rattle.instruction_steps.specs.Views.{uniform_of, KeepsReserve}
 use Rattle.worker_steps.specs.declared.worker.WorkerState.{WorkerState}
 use Rattle.worker_messages.specs.declared.local.Local.{Local}
 

@@ -5,7 +5,7 @@ ghost use Rattle.std.specs.List.{AllByRecursion, zip};
 ghost use Rattle.superstep_machine.specs.Answering.{answer as spec_answer, answers, destinations};
 ghost use Rattle.superstep_machine.specs.Fitting.{IsCellBelow};
 ghost use Rattle.superstep_machine.specs.Parts.{Read as SpecRead};
-ghost use Rattle.superstep_steps.specs.Views.{read_is, registers_of};
+ghost use Rattle.instruction_steps.specs.Views.{read_is, registers_of};
 ghost use Rattle.combining.specs.Asked.{value_for};
 ghost use Rattle.worker_bank.specs.Columns.{value_of};
 ghost use Rattle.worker_bank.specs.Bank.{registers_at, IsBank, IsSameBank};
@@ -16,8 +16,8 @@ ghost use Rattle.worker_messages.specs.Equipped.{IsAwaited};
 ghost use Rattle.worker_exchange.specs.Answered.{Gives, IsAnsweredPart, IsAnswered};
 
 use combining::Asks;
-use superstep_code::Side;
-use superstep_steps::{Read, UniformState, put_number};
+use instruction_steps::{Read, UniformState, put_number};
+use superstep_instructions::Side;
 use worker_bank::Bank;
 use worker_steps::WorkerState;
 

@@ -6,7 +6,7 @@ ghost use Rattle.superstep_machine.specs.declared.mark.HeaderMark.TheVariants as
 ghost use Rattle.superstep_machine.specs.Parts.{UniformPart};
 ghost use Rattle.superstep_machine.specs.Run as machine;
 ghost use Rattle.superstep_machine.specs.Run.{State, setting, ready, after};
-ghost use Rattle.superstep_steps.specs.Views.{KeepsReserve};
+ghost use Rattle.instruction_steps.specs.Views.{KeepsReserve};
 ghost use Rattle.worker_steps.specs.Met.{IsVerifiedAt};
 ghost use Rattle.worker_messages.specs.declared.way.Way.TheVariants as way_is_one_of;
 ghost use Rattle.worker_messages.specs.Reached.{most_instructions};
@@ -24,7 +24,7 @@ use crate::taking::take_send;
 use crate::voting::take_vote;
 use address_map::AddressMap;
 use message_rows::Column;
-use superstep_code::Code;
+use superstep_instructions::Code;
 use superstep_machine::{HeaderMark, Key};
 use worker_messages::{Local, Step, Way};
 use write_rules::WriteRule;

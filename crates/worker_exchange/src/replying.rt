@@ -2,8 +2,8 @@
 
 ghost use Rattle.std.specs.Prelude.{◌≡◌, ◌<◌, ◌≤◌, ◌+◌, ◌^◌, ℕ, Some, [], length, map as each, vec_capacity, slice_get};
 ghost use Rattle.std.specs.List.{AllByRecursion};
-ghost use Rattle.superstep_code.specs.declared.instr.Instr.TheVariants as instr_is;
-ghost use Rattle.superstep_code.specs.Code.{SuperstepCode};
+ghost use Rattle.superstep_instructions.specs.declared.instr.Instr.TheVariants as instr_is;
+ghost use Rattle.superstep_instructions.specs.Code.{SuperstepCode};
 ghost use Rattle.superstep_machine.specs.Worker.{Worker};
 ghost use Rattle.superstep_machine.specs.Answering.{after_reply};
 ghost use Rattle.superstep_machine.specs.Run.{setting, Replies};

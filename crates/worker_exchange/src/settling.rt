@@ -1,13 +1,13 @@
 //! What a module does with the messages of a send: the puts are merged into its cells, and conflicts are noted.
 
 ghost use Rattle.std.specs.Prelude.{◌≡◌, ◌<◌, ◌≤◌, ℕ, List, length, map as each};
-ghost use Rattle.superstep_code.specs.Code.{SuperstepCode};
+ghost use Rattle.superstep_instructions.specs.Code.{SuperstepCode};
 ghost use Rattle.superstep_machine.specs.declared.header.MessageHeader.{MessageHeader as Header};
 ghost use Rattle.superstep_machine.specs.Setting.{module_cells};
 ghost use Rattle.superstep_machine.specs.Sending as spec;
 ghost use Rattle.superstep_machine.specs.Run.{setting, Sends};
 ghost use Rattle.superstep_machine.specs.WordLaws.{messages_read};
-ghost use Rattle.superstep_steps.specs.Views.{moment_is, put_is, read_is, uniform_of};
+ghost use Rattle.instruction_steps.specs.Views.{moment_is, put_is, read_is, uniform_of};
 ghost use Rattle.combining.specs.ModuleLaws.{ask_parts as spec_ask_parts, key_of_shared as spec_key_of_shared};
 ghost use Rattle.worker_exchange.specs.Received.{messages_to};
 ghost use Rattle.worker_exchange.specs.Settled.{key_of_put as spec_key_of_put, IsSettled};
@@ -15,11 +15,11 @@ ghost use Rattle.worker_exchange.specs.Settled.{key_of_put as spec_key_of_put, I
 use crate::parts::{ask_parts, put_parts};
 use address_map::AddressMap;
 use combining::{Cells, merge_at_module, read_conflict};
+use instruction_steps::{Moment, Read, UniformState};
 use message_rows::Column;
 use pram_values::{Kind, Place};
-use superstep_code::Side;
+use superstep_instructions::Side;
 use superstep_machine::{Key, least};
-use superstep_steps::{Moment, Read, UniformState};
 use write_rules::WriteRule;
 
 // A fault of several processors at a cell.

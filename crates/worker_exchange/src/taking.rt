@@ -2,8 +2,8 @@
 
 ghost use Rattle.std.specs.Prelude.{◌≡◌, ◌<◌, ◌≤◌, ◌+◌, ℕ, [], Some, length, map as each, vec_capacity, slice_get};
 ghost use Rattle.std.specs.List.{AllByRecursion};
-ghost use Rattle.superstep_code.specs.declared.instr.Instr.TheVariants as instr_is;
-ghost use Rattle.superstep_code.specs.Code.{SuperstepCode};
+ghost use Rattle.superstep_instructions.specs.declared.instr.Instr.TheVariants as instr_is;
+ghost use Rattle.superstep_instructions.specs.Code.{SuperstepCode};
 ghost use Rattle.superstep_machine.specs.Worker.{Worker};
 ghost use Rattle.superstep_machine.specs.Sending.{asks_held, after_send};
 ghost use Rattle.superstep_machine.specs.Run.{setting, Sends};
@@ -25,10 +25,10 @@ use crate::parts::asks_of;
 use crate::settling::settle;
 use address_map::AddressMap;
 use combining::Asks;
+use instruction_steps::UniformState;
 use message_rows::{Column, put_words};
 use std::mem;
 use superstep_machine::{Key, MessageHeader, least};
-use superstep_steps::UniformState;
 use worker_messages::Local;
 use worker_steps::WorkerState;
 use write_rules::WriteRule;

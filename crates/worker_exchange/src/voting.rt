@@ -3,8 +3,8 @@
 ghost use Rattle.std.specs.Prelude.{◌≡◌, ◌≤◌, ◌+◌, ◌^◌, ℕ, List, Some, length, slice_get};
 ghost use Rattle.std.specs.List.{list_any};
 ghost use Rattle.address_map.specs.Lawful.{Shape};
-ghost use Rattle.superstep_code.specs.declared.instr.Instr.TheVariants as instr_is;
-ghost use Rattle.superstep_code.specs.Code.{SuperstepCode};
+ghost use Rattle.superstep_instructions.specs.declared.instr.Instr.TheVariants as instr_is;
+ghost use Rattle.superstep_instructions.specs.Code.{SuperstepCode};
 ghost use Rattle.superstep_machine.specs.Setting.{Setting};
 ghost use Rattle.superstep_machine.specs.Words.{Message};
 ghost use Rattle.superstep_machine.specs.Worker.{Worker};

@@ -7,7 +7,7 @@ use Rattle.superstep_machine.specs.Steps.{under, is_active}
 use Rattle.worker_bank.specs.Masks.{masks_of}
 use Rattle.worker_steps.specs.declared.worker.WorkerState.{WorkerState}
 use Rattle.worker_steps.specs.Shown.{part_in}
-use Rattle.worker_messages.specs.Told.{any_active}
+use Rattle.worker_messages.specs.MessagesWritten.{any_active}
 
 any_mapped : {A B : Type 0} (p : B → Bool) (f : A → B) (xs : List A) → list_any p (map f xs) ≡ list_any (λ x. p (f x)) xs
 any_mapped p f [] = refl

@@ -3,15 +3,15 @@ use Rattle.std.proofs.Common.{◌≡◌, ℕ, ◌+◌, ◌-◌, ◌*◌, ◌<◌
 use Rattle.std.specs.Prelude.{slice_get, slice_index_or, if◌then◌else◌}
 use Rattle.std.proofs.lemmas.Nat.{mul-le}
 use Rattle.address_map.specs.Lawful.{Shape}
-use Rattle.superstep_code.specs.Limits.{IsCode}
-use Rattle.superstep_code.specs.Code.{SuperstepCode}
+use Rattle.superstep_instructions.specs.Limits.{IsCode}
+use Rattle.superstep_instructions.specs.Code.{SuperstepCode}
 use Rattle.superstep_machine.specs.Setting.{Setting}
 use Rattle.superstep_machine.specs.Parts.{UniformPart}
 use Rattle.superstep_machine.specs.Worker.{Worker}
 use Rattle.superstep_machine.specs.Stretch.{At}
 use Rattle.superstep_machine.specs.Run as machine
 use Rattle.superstep_machine.specs.Run.{setting, is_held}
-use Rattle.superstep_steps.specs.Views.{put_is}
+use Rattle.instruction_steps.specs.Views.{put_is}
 use Rattle.bsp_verify.specs.Judging.{is_mark}
 use Rattle.bsp_verify.proofs.PathLemmas.{paths_sound}
 use Rattle.worker_bank.specs.Bank.{IsSameBank}

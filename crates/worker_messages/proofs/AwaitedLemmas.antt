@@ -9,11 +9,11 @@ use Rattle.std.proofs.lemmas.List.{length-map}
 use Rattle.std.proofs.lemmas.List.FromFn.{length-map-range_with_len}
 use Rattle.std.proofs.lemmas.Option.{slice_get_within}
 use Rattle.pram_model.proofs.Truths.{both, unsome}
-use Rattle.superstep_code.specs.declared.instr.Side.TheVariants.{Uniform, Private}
-use Rattle.superstep_code.specs.declared.instr.Instr.{Instr}
-use Rattle.superstep_code.specs.declared.instr.Instr.TheVariants as instrs
-use Rattle.superstep_code.specs.Limits.{IsCode}
-use Rattle.superstep_code.specs.Code.{SuperstepCode}
+use Rattle.superstep_instructions.specs.declared.instr.Side.TheVariants.{Uniform, Private}
+use Rattle.superstep_instructions.specs.declared.instr.Instr.{Instr}
+use Rattle.superstep_instructions.specs.declared.instr.Instr.TheVariants as instrs
+use Rattle.superstep_instructions.specs.Limits.{IsCode}
+use Rattle.superstep_instructions.specs.Code.{SuperstepCode}
 use Rattle.superstep_machine.specs.declared.mark.HeaderMark.{HeaderMark}
 use Rattle.superstep_machine.specs.declared.mark.HeaderMark.TheVariants.{Clear, OutOfMemory, OutOfReserve}
 use Rattle.superstep_machine.specs.Setting.{Setting, processors}
@@ -26,14 +26,14 @@ use Rattle.superstep_machine.specs.Answering.{own_answered, value_came}
 use Rattle.superstep_machine.specs.Fitting.{IsCellBelow}
 use Rattle.superstep_machine.specs.Run as machine
 use Rattle.superstep_machine.proofs.MachineWords.{all_map}
-use Rattle.superstep_steps.specs.Views.{read_is}
+use Rattle.instruction_steps.specs.Views.{read_is}
 use Rattle.bsp_verify.specs.Judging.{is_register, has_registers}
 use Rattle.bsp_verify.specs.WellFormed.{IsWellFormed}
 use Rattle.bsp_verify.specs.Moments.{side_of}
 use Rattle.bsp_verify.proofs.WorkerLemmas.{all_add, all_made, all_numbered, either_way}
 use Rattle.flat_machine.specs.Flatness.{IsMapFor}
-use Rattle.run_limits.proofs.Keeping.{IsReadBelow, IsOwnKept}
-use Rattle.run_limits.proofs.Runs.{ready_keeps}
+use Rattle.machine_limits.proofs.Keeping.{IsReadBelow, IsOwnKept}
+use Rattle.machine_limits.proofs.Runs.{ready_keeps}
 use Rattle.worker_steps.specs.Shown.{part_in}
 use Rattle.worker_messages.specs.declared.step.Step.TheVariants as steps
 use Rattle.worker_messages.specs.declared.local.Local.{Local}

@@ -4,6 +4,6 @@ pub mod AwaitedLemmas
 pub mod RoomLemmas
 pub mod ArrivedLemmas
 pub mod WrittenLemmas
-pub mod ToldLemmas
+pub mod MessagesWrittenLemmas
 pub mod OpeningLemmas
 pub mod PastLemmas

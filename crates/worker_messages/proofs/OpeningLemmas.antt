@@ -9,12 +9,12 @@ use Rattle.std.proofs.Math.Nat.{div-le_self}
 use Rattle.pram_model.specs.declared.rule.Rule.{Rule}
 use Rattle.pram_model.specs.declared.rule.Rule.TheVariants as rules_are
 use Rattle.address_map.specs.Lawful.{Shape}
-use Rattle.superstep_code.specs.Code.{SuperstepCode}
-use Rattle.superstep_code.specs.Limits.{IsCode}
+use Rattle.superstep_instructions.specs.Code.{SuperstepCode}
+use Rattle.superstep_instructions.specs.Limits.{IsCode}
 use Rattle.superstep_machine.specs.Parts.{UniformPart}
 use Rattle.superstep_machine.specs.Run as machine
 use Rattle.superstep_machine.specs.Run.{setting, opening}
-use Rattle.run_limits.specs.Within.{AreValues, words_for_each}
+use Rattle.machine_limits.specs.Within.{AreValues, words_for_each}
 use Rattle.combining.specs.AllModules.{column}
 use Rattle.message_rows.specs.Sends.{words_of}
 use Rattle.worker_steps.specs.Met.{IsVerifiedAt}

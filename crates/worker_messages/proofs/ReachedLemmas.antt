@@ -1,6 +1,6 @@
 -- What is so of every state that a worker may come to.
 use Rattle.std.proofs.Common.{◌≡◌, ℕ, zero, suc, List, [], ℤ, refl, sym, subst}
-use Rattle.superstep_code.specs.Limits.{IsCode}
+use Rattle.superstep_instructions.specs.Limits.{IsCode}
 use Rattle.superstep_machine.specs.declared.mark.HeaderMark.{HeaderMark}
 use Rattle.superstep_machine.specs.declared.mark.HeaderMark.TheVariants.{Clear, OutOfMemory, OutOfReserve}
 use Rattle.superstep_machine.specs.Setting.{Setting}
@@ -14,9 +14,9 @@ use Rattle.bsp_verify.specs.Moments.{DescribesWorker}
 use Rattle.bsp_verify.proofs.PathLemmas.{paths_sound}
 use Rattle.bsp_verify.proofs.RunLemmas.{Stops, Arrives, follow, Agrees, next_agrees, begins}
 use Rattle.flat_machine.specs.Flatness.{IsMapFor}
-use Rattle.run_limits.specs.Within.{AreValues}
-use Rattle.run_limits.proofs.Keeping.{IsKept}
-use Rattle.run_limits.proofs.Runs.{KeptAt, until_kept, keeps, readies_kept, after_kept, none_kept}
+use Rattle.machine_limits.specs.Within.{AreValues}
+use Rattle.machine_limits.proofs.Keeping.{IsKept}
+use Rattle.machine_limits.proofs.Runs.{KeptAt, until_kept, keeps, readies_kept, after_kept, none_kept}
 use Rattle.worker_messages.specs.Reached.{IsReached}
 
 -- a worker that fits in words, with a path to its place

@@ -3,15 +3,15 @@ use Rattle.std.proofs.Common.{ℕ, ◌+◌, ◌*◌, ◌<◌, ◌≤◌, ◌∙�
 use Rattle.std.specs.Prelude.{nat_lt}
 use Rattle.std.specs.List.{range_with_len}
 use Rattle.address_map.specs.Lawful.{Shape}
-use Rattle.superstep_code.specs.Code.{SuperstepCode}
+use Rattle.superstep_instructions.specs.Code.{SuperstepCode}
 use Rattle.pram_model.specs.declared.rule.Rule.{Rule}
 use Rattle.superstep_machine.specs.Worker.{Worker}
 use Rattle.superstep_machine.specs.Setting.{Setting, processors}
 use Rattle.superstep_machine.specs.Parts.{PrivatePart}
 use Rattle.superstep_machine.specs.Run.{State, is_held}
-use Rattle.superstep_steps.specs.declared.read.Read.{Read}
-use Rattle.superstep_steps.specs.declared.uniform.UniformState.{UniformState}
-use Rattle.superstep_steps.specs.Views.{put_is, IsRoomier}
+use Rattle.instruction_steps.specs.declared.read.Read.{Read}
+use Rattle.instruction_steps.specs.declared.uniform.UniformState.{UniformState}
+use Rattle.instruction_steps.specs.Views.{put_is, IsRoomier}
 use Rattle.worker_bank.specs.Bank.{part_at, number_of}
 use Rattle.worker_steps.specs.declared.worker.WorkerState.{WorkerState}
 use Rattle.worker_steps.specs.Shown.{cells_at, Shows}

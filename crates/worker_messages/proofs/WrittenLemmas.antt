@@ -4,7 +4,7 @@ use Rattle.std.specs.List.{AllByRecursion, filter, flat_map}
 use Rattle.std.proofs.Math.Nat.{div-le_self}
 use Rattle.pram_model.specs.declared.rule.Rule.{Rule}
 use Rattle.pram_model.specs.declared.rule.Rule.TheVariants.{Sum}
-use Rattle.superstep_code.specs.Limits.{IsCode}
+use Rattle.superstep_instructions.specs.Limits.{IsCode}
 use Rattle.superstep_machine.specs.Setting.{Setting, workers}
 use Rattle.superstep_machine.specs.Words.{CellAsk, put_words, ask_words, words}
 use Rattle.superstep_machine.specs.Worker.{Worker}
@@ -12,8 +12,8 @@ use Rattle.superstep_machine.specs.Fitting.{FitsPut, FitsWorker}
 use Rattle.superstep_machine.specs.Sending.{puts_held, asks_held, sent}
 use Rattle.bsp_verify.proofs.WorkerLemmas.{one_side}
 use Rattle.flat_machine.specs.Flatness.{IsMapFor}
-use Rattle.run_limits.specs.Within.{words_for_each, share}
-use Rattle.run_limits.proofs.Messages.{fits_worker, sent_message}
+use Rattle.machine_limits.specs.Within.{words_for_each, share}
+use Rattle.machine_limits.proofs.Messages.{fits_worker, sent_message}
 use Rattle.combining.specs.Held.{puts_for, IsPutBelow}
 use Rattle.combining.specs.Asked.{HeldAsk, asks_for, IsAskBelow}
 use Rattle.combining.specs.Adding.{asked_by, unanswered}

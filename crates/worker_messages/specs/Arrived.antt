@@ -2,9 +2,9 @@
 use Rattle.std.specs.Prelude.{◌≡◌, ℕ, ◌^◌, ◌<◌, ◌≤◌, length, map, Bool, vec_capacity, if◌then◌else◌}
 use Rattle.pram_model.specs.declared.rule.Rule.{Rule}
 use Rattle.address_map.specs.Lawful.{Shape}
-use Rattle.superstep_code.specs.Code.{SuperstepCode}
+use Rattle.superstep_instructions.specs.Code.{SuperstepCode}
 use Rattle.superstep_machine.specs.Run.{State, setting, ready, is_held}
-use Rattle.superstep_steps.specs.Views.{put_is}
+use Rattle.instruction_steps.specs.Views.{put_is}
 use Rattle.worker_bank.specs.Bank.{IsBank}
 use Rattle.combining.specs.AllModules.{column, room_at}
 use Rattle.worker_steps.specs.declared.stop.Stop.{Stop}

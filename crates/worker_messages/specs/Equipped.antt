@@ -3,16 +3,16 @@ use Rattle.std.specs.Prelude.{◌≡◌, ℕ, ◌+◌, ◌-◌, ◌*◌, ◌/◌
 use Rattle.std.specs.Global.{Global}
 use Rattle.std.specs.List.{AllByRecursion}
 use Rattle.address_map.specs.Lawful.{Shape}
-use Rattle.superstep_code.specs.declared.instr.Side.TheVariants.{Uniform, Private}
-use Rattle.superstep_code.specs.declared.instr.Instr.{Instr}
-use Rattle.superstep_code.specs.declared.instr.Instr.TheVariants.{Send, Reply, Vote, Halt}
-use Rattle.superstep_code.specs.Code.{SuperstepCode}
+use Rattle.superstep_instructions.specs.declared.instr.Side.TheVariants.{Uniform, Private}
+use Rattle.superstep_instructions.specs.declared.instr.Instr.{Instr}
+use Rattle.superstep_instructions.specs.declared.instr.Instr.TheVariants.{Send, Reply, Vote, Halt}
+use Rattle.superstep_instructions.specs.Code.{SuperstepCode}
 use Rattle.superstep_machine.specs.Run.{State, setting, is_over}
 use Rattle.superstep_machine.specs.Fitting.{IsCellBelow}
-use Rattle.superstep_steps.specs.declared.read.Read.{Read}
+use Rattle.instruction_steps.specs.declared.read.Read.{Read}
 use Rattle.bsp_verify.specs.WellFormed.{IsWellFormed}
 use Rattle.flat_machine.specs.Flatness.{IsMapFor}
-use Rattle.run_limits.specs.Within.{words_for_each}
+use Rattle.machine_limits.specs.Within.{words_for_each}
 use Rattle.combining.specs.AllModules.{column, room_at}
 use Rattle.combining.specs.Asked.{IsAskBelow}
 use Rattle.message_rows.specs.Sends.{words_of}

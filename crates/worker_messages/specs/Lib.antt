@@ -1,6 +1,6 @@
 pub mod Reached
 pub mod Shown
 pub mod Equipped
-pub mod Told
+pub mod MessagesWritten
 pub mod Arrived
 pub mod Opened

@@ -3,7 +3,7 @@ use Rattle.std.specs.Prelude.{◌≡◌, ℕ, ◌<◌, ◌≤◌, List, length, 
 use Rattle.pram_model.specs.Layout.{total_size}
 use Rattle.address_map.specs.Lawful.{Shape}
 use Rattle.address_map.specs.Outcome.{IsWorkers}
-use Rattle.superstep_code.specs.Code.{SuperstepCode}
+use Rattle.superstep_instructions.specs.Code.{SuperstepCode}
 use Rattle.worker_messages.specs.declared.refusal.RunRefusal.{RunRefusal}
 use Rattle.worker_messages.specs.declared.refusal.RunRefusal.TheVariants.{BadWorkers, BadMap, InputTooLong, OutOfMemory, OutOfReserve}
 

@@ -1,11 +1,11 @@
 -- The states that a worker may come to, whatever the other workers send.
 use Rattle.std.specs.Prelude.{◌≡◌, ℕ, zero, suc, ◌+◌, ◌*◌, List, length, ℤ}
 use Rattle.std.specs.List.{AllByRecursion}
-use Rattle.superstep_code.specs.Code.{SuperstepCode}
+use Rattle.superstep_instructions.specs.Code.{SuperstepCode}
 use Rattle.superstep_machine.specs.Setting.{Setting}
 use Rattle.superstep_machine.specs.Words.{Message}
 use Rattle.superstep_machine.specs.Run.{State, opening, ready, after}
-use Rattle.run_limits.specs.Within.{AreValues}
+use Rattle.machine_limits.specs.Within.{AreValues}
 
 -- By n exchanges worker w comes to a state, from an input whose values in its module have 64 bits, at each of them whatever column with
 -- such values came.

@@ -8,7 +8,7 @@ ghost use Rattle.superstep_machine.specs.Setting.{Setting};
 ghost use Rattle.superstep_machine.specs.Run.{State, setting, message_of, is_held};
 ghost use Rattle.superstep_machine.specs.declared.key.Key.{Key as NotedKey};
 ghost use Rattle.superstep_machine.specs.HeaderWords.{FitsKey};
-ghost use Rattle.superstep_steps.specs.Views.{put_is, HasReserve, KeepsReserve};
+ghost use Rattle.instruction_steps.specs.Views.{put_is, HasReserve, KeepsReserve};
 ghost use Rattle.bsp_verify.specs.WellFormed.{IsWellFormed};
 ghost use Rattle.worker_steps.specs.Fitted.{IsFitted};
 ghost use Rattle.worker_steps.specs.Met.{IsVerifiedAt};
@@ -20,18 +20,18 @@ ghost use Rattle.worker_messages.specs.Shown.{is_stopped, purpose_is, marked, Is
 ghost use Rattle.worker_messages.specs.Equipped.{most_words, left, left_at, AreBuffers, MayGoOn, IsAtStep};
 ghost use Rattle.worker_steps.specs.Stretch.{PrintsPast};
 ghost use Rattle.worker_messages.specs.Arrived.{step_at as spec_step_at, way_at as spec_way_at, HasArrived, ComesPast, CanTell};
-ghost use Rattle.worker_messages.specs.Told.{told, told_mark, IsWrittenFor};
+ghost use Rattle.worker_messages.specs.MessagesWritten.{told, told_mark, IsWrittenFor};
 
 use crate::local::Local;
 use crate::step::Step;
 use crate::telling::{any_active, key_fits, tell_alone, tell_mark, tell_send};
 use crate::way::Way;
 use address_map::AddressMap;
+use instruction_steps::Moment;
 use message_rows::{Row, fill_replies};
 use std::alloc::AllocError;
-use superstep_code::Code;
+use superstep_instructions::Code;
 use superstep_machine::HeaderMark;
-use superstep_steps::Moment;
 use worker_steps::Stop;
 use write_rules::WriteRule;
 

@@ -6,7 +6,7 @@ ghost use Rattle.address_map.specs.Lawful.{Shape};
 ghost use Rattle.address_map.specs.Outcome.{IsWorkers};
 ghost use Rattle.superstep_machine.specs.Run.{setting, opening};
 ghost use Rattle.bsp_verify.specs.WellFormed.{IsWellFormed};
-ghost use Rattle.run_limits.specs.Within.{AreValues, words_for_each as spec_words_for_each};
+ghost use Rattle.machine_limits.specs.Within.{AreValues, words_for_each as spec_words_for_each};
 ghost use Rattle.combining.specs.AllModules.{column};
 ghost use Rattle.message_rows.specs.Sends.{words_of};
 ghost use Rattle.worker_messages.specs.Shown.{IsShown};
@@ -22,7 +22,7 @@ use address_map::AddressMap;
 use combining::{Asks, Cells};
 use pram_model::Rule;
 use std::alloc::{AllocError, Global};
-use superstep_code::Code;
+use superstep_instructions::Code;
 use worker_steps::WorkerState;
 
 // How many words a message has at most for each processor.

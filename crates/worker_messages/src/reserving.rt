@@ -2,16 +2,16 @@
 
 ghost use Rattle.std.specs.Prelude.{◌≡◌, ◌<◌, ℕ, OnOk};
 ghost use Rattle.address_map.specs.Lawful.{Shape};
-ghost use Rattle.superstep_code.specs.Code.{SuperstepCode};
+ghost use Rattle.superstep_instructions.specs.Code.{SuperstepCode};
 ghost use Rattle.superstep_machine.specs.Setting.{Setting};
 ghost use Rattle.superstep_machine.specs.Run.{State};
-ghost use Rattle.superstep_steps.specs.Views.{HasReserve, IsRoomier};
+ghost use Rattle.instruction_steps.specs.Views.{HasReserve, IsRoomier};
 ghost use Rattle.worker_messages.specs.Shown.{IsShown};
 ghost use Rattle.worker_messages.specs.Equipped.{MayGoOn};
 
 use crate::local::Local;
+use instruction_steps::reserve;
 use std::alloc::AllocError;
-use superstep_steps::reserve;
 
 impl Local {
     /// Takes the memory by which the worker grows up to so many items of output. It shows what it showed. The error comes where memory was

@@ -9,7 +9,7 @@ ghost use Rattle.combining.specs.AllModules.{room_at};
 ghost use Rattle.message_rows.specs.Rows.{IsRow, words_in};
 ghost use Rattle.message_rows.specs.Sends.{CanBeWritten, header_with};
 ghost use Rattle.worker_messages.specs.Equipped.{AreBuffers};
-ghost use Rattle.worker_messages.specs.Told.{any_active as spec_any_active, told_in_send, told_alone, told_mark};
+ghost use Rattle.worker_messages.specs.MessagesWritten.{any_active as spec_any_active, told_in_send, told_alone, told_mark};
 
 use crate::buffers::Buffers;
 use address_map::AddressMap;

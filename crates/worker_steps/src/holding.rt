@@ -2,7 +2,7 @@
 
 ghost use Rattle.std.specs.Prelude.{◌≡◌, ◌≤◌, ◌<◌, ◌+◌, ◌^◌, ◌∷◌, [], ℕ, Some, length};
 ghost use Rattle.superstep_machine.specs.Worker.{by_processor};
-ghost use Rattle.superstep_steps.specs.Views.{uniform_of};
+ghost use Rattle.instruction_steps.specs.Views.{uniform_of};
 ghost use Rattle.combining.specs.Held.{held_after};
 ghost use Rattle.combining.specs.Adding.{by_read, asked_after};
 ghost use Rattle.worker_bank.specs.Bank.{number_of, IsBank};
@@ -11,7 +11,7 @@ ghost use Rattle.worker_steps.specs.Held.{cells_of, made, writes_of};
 
 use crate::noting::number;
 use combining::{Asks, Puts};
-use superstep_steps::{UniformState, index_of, value_at, write_to};
+use instruction_steps::{UniformState, index_of, value_at, write_to};
 use worker_bank::Bank;
 use write_rules::WriteRule;
 

@@ -1,8 +1,8 @@
 //! Every instruction that is no mark, no exchange and no jump.
 
 ghost use Rattle.std.specs.Prelude.{◌≡◌, true, OnOk, OnErr};
-ghost use Rattle.superstep_code.specs.declared.instr.Instr.TheVariants as instr_is;
-ghost use Rattle.superstep_steps.specs.Views.{IsShort};
+ghost use Rattle.superstep_instructions.specs.declared.instr.Instr.TheVariants as instr_is;
+ghost use Rattle.instruction_steps.specs.Views.{IsShort};
 ghost use Rattle.worker_steps.specs.Fitted.{IsFitted};
 ghost use Rattle.worker_steps.specs.Met.{IsMetAt};
 ghost use Rattle.worker_steps.specs.Kinds.{is_own as spec_is_own, is_work, is_on_registers};
@@ -10,7 +10,7 @@ ghost use Rattle.worker_steps.specs.Done.{IsDone};
 
 use crate::worker::WorkerState;
 use std::alloc::AllocError;
-use superstep_code::{Code, Instr, Side};
+use superstep_instructions::{Code, Instr, Side};
 use write_rules::WriteRule;
 
 // Whether an instruction works on private registers.

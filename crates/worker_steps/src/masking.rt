@@ -1,12 +1,12 @@
 //! Masks of a worker's processors.
 
-ghost use Rattle.superstep_code.specs.declared.instr.Instr.TheVariants as instr_is;
+ghost use Rattle.superstep_instructions.specs.declared.instr.Instr.TheVariants as instr_is;
 ghost use Rattle.worker_steps.specs.Fitted.{IsFitted};
 ghost use Rattle.worker_steps.specs.Met.{IsMetAt};
 ghost use Rattle.worker_steps.specs.Done.{IsDone};
 
 use crate::worker::WorkerState;
-use superstep_code::Code;
+use superstep_instructions::Code;
 
 impl WorkerState {
     /// Of the active processors those stay active whose `source` isn't 0.

@@ -1,16 +1,16 @@
 //! The key that a worker's processors note.
 
 ghost use Rattle.std.specs.Prelude.{◌≡◌, ◌<◌, ℕ, Some};
-ghost use Rattle.superstep_code.specs.declared.instr.Instr.{Instr};
+ghost use Rattle.superstep_instructions.specs.declared.instr.Instr.{Instr};
 ghost use Rattle.superstep_machine.specs.Results.{position_of};
-ghost use Rattle.superstep_steps.specs.Views.{uniform_of};
+ghost use Rattle.instruction_steps.specs.Views.{uniform_of};
 ghost use Rattle.worker_bank.specs.Bank.{number_of, IsBank};
-ghost use Rattle.worker_bank.specs.Told.{key_of};
+ghost use Rattle.worker_bank.specs.InstructionReports.{key_of};
 ghost use Rattle.pram_values.specs.declared.kind.Kind.{Kind as FaultKind};
 
+use instruction_steps::{UniformState, fault_at, index_of};
 use pram_values::{Kind, Place};
 use superstep_machine::Key;
-use superstep_steps::{UniformState, fault_at, index_of};
 use worker_bank::Bank;
 
 /// The number of a processor in the range.

@@ -7,8 +7,8 @@ ghost use Rattle.worker_steps.specs.Met.{IsMetAt};
 ghost use Rattle.worker_steps.specs.Done.{IsDone};
 
 use crate::worker::WorkerState;
-use superstep_code::{Code, Instr};
-use superstep_steps::change_range;
+use instruction_steps::change_range;
+use superstep_instructions::{Code, Instr};
 use worker_bank::how_many;
 
 impl WorkerState {

@@ -1,9 +1,9 @@
 //! Reads.
 
 ghost use Rattle.std.specs.Prelude.{OnOk, OnErr};
-ghost use Rattle.superstep_code.specs.declared.instr.Instr.TheVariants as instr_is;
-ghost use Rattle.superstep_code.specs.declared.instr.Side.TheVariants as side_is;
-ghost use Rattle.superstep_steps.specs.Views.{IsShort};
+ghost use Rattle.superstep_instructions.specs.declared.instr.Instr.TheVariants as instr_is;
+ghost use Rattle.superstep_instructions.specs.declared.instr.Side.TheVariants as side_is;
+ghost use Rattle.instruction_steps.specs.Views.{IsShort};
 ghost use Rattle.worker_steps.specs.Fitted.{IsFitted};
 ghost use Rattle.worker_steps.specs.Met.{IsMetAt};
 ghost use Rattle.worker_steps.specs.Done.{IsDone};
@@ -11,10 +11,10 @@ ghost use Rattle.worker_steps.specs.Done.{IsDone};
 use crate::holding::{hold_ask, hold_asks};
 use crate::noting::own_key;
 use crate::worker::WorkerState;
+use instruction_steps::{register, step_uniform, uniform_key};
 use std::alloc::AllocError;
-use superstep_code::{Code, Instr, Side};
+use superstep_instructions::{Code, Instr, Side};
 use superstep_machine::least;
-use superstep_steps::{register, step_uniform, uniform_key};
 
 impl WorkerState {
     /// A read of the uniform part is held.

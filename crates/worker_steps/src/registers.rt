@@ -1,14 +1,14 @@
 //! What an instruction on private registers does to a worker's processors.
 
 ghost use Rattle.std.specs.Prelude.{◌≡◌, ◌<◌, ◌+ℤ◌, ◌<ℤ◌, ◌^◌, ℕ, pos, length};
-ghost use Rattle.superstep_code.specs.Code.{SuperstepCode};
-ghost use Rattle.superstep_steps.specs.Views.{uniform_of};
+ghost use Rattle.superstep_instructions.specs.Code.{SuperstepCode};
+ghost use Rattle.instruction_steps.specs.Views.{uniform_of};
 ghost use Rattle.worker_bank.specs.Bank.{number_of, IsAfter, IsFirstFault, IsBank, IsSameBank};
 ghost use Rattle.worker_steps.specs.Kinds.{IsOwn};
 
+use instruction_steps::{UniformState, register};
 use pram_values::Kind;
-use superstep_code::{Instr, Side};
-use superstep_steps::{UniformState, register};
+use superstep_instructions::{Instr, Side};
 use worker_bank::Bank;
 
 /// An instruction on private registers. The answer is the first processor that faults, and its kind.

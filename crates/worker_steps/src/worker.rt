@@ -2,7 +2,7 @@
 
 ghost use Rattle.std.specs.Prelude.{◌≡◌, ◌<◌, ◌≤◌, ◌+◌, ◌*◌, ◌^◌, ℤ, List, length, IfOk};
 ghost use Rattle.pram_model.specs.declared.rule.Rule.{Rule};
-ghost use Rattle.superstep_code.specs.Code.{SuperstepCode};
+ghost use Rattle.superstep_instructions.specs.Code.{SuperstepCode};
 ghost use Rattle.superstep_machine.specs.Setting.{Setting, workers as workers_of, processors};
 ghost use Rattle.superstep_machine.specs.Run.{no_worker};
 ghost use Rattle.worker_steps.specs.Shown.{Shows};
@@ -10,9 +10,9 @@ ghost use Rattle.worker_steps.specs.Fitted.{AreColumns, IsFitted};
 ghost use Rattle.worker_steps.specs.Met.{IsVerifiedAt};
 
 use combining::{Asks, Puts};
+use instruction_steps::{UniformState, open_uniform};
 use std::alloc::{AllocError, Global};
 use superstep_machine::Key;
-use superstep_steps::{UniformState, open_uniform};
 use worker_bank::Bank;
 
 /// What instructions act on: the worker's copy of the uniform part, its processors, the place of the next instruction, and the least

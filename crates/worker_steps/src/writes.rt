@@ -3,9 +3,9 @@
 ghost use Rattle.std.specs.Prelude.{◌≡◌, None, OnOk, OnErr, if◌then◌else◌};
 ghost use Rattle.std.proofs.Common.{eqb};
 ghost use Rattle.superstep_machine.specs.Steps.{uniform_write as spec_uniform_write};
-ghost use Rattle.superstep_steps.specs.Views.{uniform_of, IsShort};
-ghost use Rattle.superstep_code.specs.declared.instr.Instr.TheVariants as instr_is;
-ghost use Rattle.superstep_code.specs.declared.instr.Side.TheVariants as side_is;
+ghost use Rattle.instruction_steps.specs.Views.{uniform_of, IsShort};
+ghost use Rattle.superstep_instructions.specs.declared.instr.Instr.TheVariants as instr_is;
+ghost use Rattle.superstep_instructions.specs.declared.instr.Side.TheVariants as side_is;
 ghost use Rattle.worker_steps.specs.Fitted.{IsFitted};
 ghost use Rattle.worker_steps.specs.Met.{IsMetAt};
 ghost use Rattle.worker_steps.specs.Done.{IsDone};
@@ -13,10 +13,10 @@ ghost use Rattle.worker_steps.specs.Done.{IsDone};
 use crate::holding::{hold_write, hold_writes};
 use crate::noting::own_key;
 use crate::worker::WorkerState;
+use instruction_steps::{UniformState, step_uniform, uniform_key, uniform_write};
 use std::alloc::AllocError;
-use superstep_code::{Code, Instr, Side};
+use superstep_instructions::{Code, Instr, Side};
 use superstep_machine::least;
-use superstep_steps::{UniformState, step_uniform, uniform_key, uniform_write};
 use write_rules::WriteRule;
 
 // The uniform part's write is worker 0's alone.

@@ -10,7 +10,7 @@ use lib.ListN.{get_elem?}
 use Rattle.message_rows.specs.Rows.{WrittenMessage}
 use Rattle.turnstile.specs.declared.views.Message.{Message}
 use Rattle.turnstile.specs.Turns as turns
-use Rattle.histories.specs.Histories.{entry}
+use Rattle.worker_histories.specs.Histories.{entry}
 use Rattle.workers.specs.Seating.{letter_of, letters}
 use Rattle.workers.specs.Exchanged.{rows_at, columns_at, SeatsHaveExchanged}
 

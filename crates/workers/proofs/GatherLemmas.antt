@@ -4,7 +4,7 @@ use Rattle.std.proofs.Common.{Option, Some, None, ℤ, refl, sym, ap, subst, ◌
 use Rattle.std.specs.Prelude.{slice_get}
 use Rattle.std.specs.List.{range_with_len, AllByRecursion}
 use Rattle.address_map.specs.Lawful.{Shape}
-use Rattle.superstep_code.specs.Code.{SuperstepCode}
+use Rattle.superstep_instructions.specs.Code.{SuperstepCode}
 use Rattle.superstep_machine.specs.HeaderWords.{read_header}
 use Rattle.superstep_machine.specs.Setting.{Setting}
 use Rattle.superstep_machine.specs.Run.{State, opening, is_over, setting}
@@ -15,17 +15,17 @@ use Rattle.worker_messages.specs.Reached.{most_instructions}
 use Rattle.worker_messages.specs.Shown.{is_stopped, IsShown}
 use Rattle.worker_messages.specs.Equipped.{IsRunnable}
 use Rattle.turnstile.specs.Seats.{RowState, SamePhases, ReceivedAsSent, AreWhole}
-use Rattle.histories.specs.Histories.{end_by, HaveExchanged}
-use Rattle.histories.specs.Shares.{share_of}
-use Rattle.histories.specs.Joined.{IsRunFrom}
-use Rattle.histories.specs.InWords.{in_words, IsPlayedInWords, shares_in_words}
-use Rattle.histories.specs.Marked.{HasGone}
-use Rattle.histories.proofs.Parts.{exchanges_are}
-use Rattle.histories.proofs.Reading.{histories_in_words_make_a_run}
-use Rattle.histories.proofs.Marking.{marks_end_all_or_none}
+use Rattle.worker_histories.specs.Histories.{end_by, HaveExchanged}
+use Rattle.worker_histories.specs.Shares.{share_of}
+use Rattle.worker_histories.specs.Joined.{IsRunFrom}
+use Rattle.worker_histories.specs.InWords.{in_words, IsPlayedInWords, shares_in_words}
+use Rattle.worker_histories.specs.Marked.{HasGone}
+use Rattle.worker_histories.proofs.Parts.{exchanges_are}
+use Rattle.worker_histories.proofs.Reading.{histories_in_words_make_a_run}
+use Rattle.worker_histories.proofs.Marking.{marks_end_all_or_none}
 use Rattle.bsp_machine.specs.declared.counted.CountedWorker.{CountedWorker}
 use Rattle.message_rows.specs.Rows.{WrittenMessage}
-use Rattle.bsp_machine.specs.declared.reserve.Reserve.{Reserve}
+use Rattle.run_options.specs.declared.reserve.Reserve.{Reserve}
 use Rattle.bsp_machine.specs.Reserves.{own_mark, IsMark, AreMarked, IsGiven, HaveReserve, AreGiven}
 use Rattle.bsp_machine.specs.Workers.{share_told, shares, AreTogether, IsBehind}
 use Rattle.bsp_machine.specs.Ended.{AreRunning, IsFirstOver, IsFirstStopped, IsFirstUnstopped}

@@ -5,7 +5,7 @@ use Rattle.std.specs.Prelude.{slice_get}
 use Rattle.std.specs.List.{AllByRecursion}
 use Rattle.std.proofs.lemmas.List.{take-append-le}
 use Rattle.address_map.specs.Lawful.{Shape}
-use Rattle.superstep_code.specs.Code.{SuperstepCode}
+use Rattle.superstep_instructions.specs.Code.{SuperstepCode}
 use Rattle.superstep_machine.specs.Setting.{Setting, workers}
 use Rattle.superstep_machine.specs.Machine.{phases}
 use Rattle.superstep_machine.specs.Run.{State, bsp, opening, is_over, setting}
@@ -13,14 +13,14 @@ use Rattle.bsp_verify.specs.Runs.{worker_after}
 use Rattle.message_rows.specs.Rows.{WrittenMessage}
 use Rattle.worker_messages.specs.Reached.{most_instructions}
 use Rattle.worker_messages.specs.Equipped.{IsRunnable}
-use Rattle.histories.specs.Histories.{rows_by, end_by, entry, HaveExchanged}
-use Rattle.histories.specs.Joined.{IsRunSoFar}
-use Rattle.histories.specs.InWords.{in_words, IsUnderway}
-use Rattle.histories.specs.Marked.{has_mark, any_mark, AreClear, IsClear, IsCutShort}
-use Rattle.histories.proofs.Before.{exchanged_before, underway_before}
-use Rattle.histories.proofs.Marking.{either, found, clear_row, marked_at, rows_long, long_more}
-use Rattle.histories.proofs.Reading.{histories_in_words_are_the_run_so_far}
-use Rattle.bsp_machine.specs.declared.reserve.Reserve.{Reserve}
+use Rattle.worker_histories.specs.Histories.{rows_by, end_by, entry, HaveExchanged}
+use Rattle.worker_histories.specs.Joined.{IsRunSoFar}
+use Rattle.worker_histories.specs.InWords.{in_words, IsUnderway}
+use Rattle.worker_histories.specs.Marked.{has_mark, any_mark, AreClear, IsClear, IsCutShort}
+use Rattle.worker_histories.proofs.Before.{exchanged_before, underway_before}
+use Rattle.worker_histories.proofs.Marking.{either, found, clear_row, marked_at, rows_long, long_more}
+use Rattle.worker_histories.proofs.Reading.{histories_in_words_are_the_run_so_far}
+use Rattle.run_options.specs.declared.reserve.Reserve.{Reserve}
 use Rattle.bsp_machine.specs.Reserves.{is_past}
 use Rattle.bsp_machine.proofs.ListLemmas.{there_at, get_within}
 use Rattle.workers.specs.Worked.{items_at, MarksWherePast}

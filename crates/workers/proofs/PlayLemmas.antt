@@ -7,8 +7,8 @@ use Rattle.std.proofs.lemmas.List.{append-nil, length-append, length-map}
 use Rattle.std.proofs.Math.Nat.{mul-le-mul}
 use Rattle.std.specs.List.{AllByRecursion, range_with_len}
 use Rattle.address_map.specs.Lawful.{Shape}
-use Rattle.superstep_code.specs.Code.{SuperstepCode}
-use Rattle.superstep_code.specs.Limits.{IsCode}
+use Rattle.superstep_instructions.specs.Code.{SuperstepCode}
+use Rattle.superstep_instructions.specs.Limits.{IsCode}
 use Rattle.bsp_verify.specs.Judging.{is_mark}
 use Rattle.worker_steps.specs.Stretch.{rank}
 use Rattle.worker_messages.specs.declared.way.Way.{Way}
@@ -24,16 +24,16 @@ use Rattle.message_rows.specs.Rows.{WrittenMessage, written, message_at, words_i
 use Rattle.worker_messages.specs.Reached.{most_instructions}
 use Rattle.worker_messages.specs.Shown.{way_is, purpose_is, is_stopped, IsShown}
 use Rattle.worker_exchange.specs.Received.{messages_to, mark_heard}
-use Rattle.histories.specs.Shares.{Share, purpose_of}
-use Rattle.histories.specs.Histories.{end_by}
-use Rattle.histories.specs.InWords.{in_words, shares_in_words}
-use Rattle.histories.specs.Marked.{has_mark, any_mark, IsMarked, HasGone, IsClear}
-use Rattle.histories.proofs.Growing.{histories_grow, shares_grow}
-use Rattle.histories.proofs.Marking.{clear_grows}
+use Rattle.worker_histories.specs.Shares.{Share, purpose_of}
+use Rattle.worker_histories.specs.Histories.{end_by}
+use Rattle.worker_histories.specs.InWords.{in_words, shares_in_words}
+use Rattle.worker_histories.specs.Marked.{has_mark, any_mark, IsMarked, HasGone, IsClear}
+use Rattle.worker_histories.proofs.Growing.{histories_grow, shares_grow}
+use Rattle.worker_histories.proofs.Marking.{clear_grows}
 use Rattle.turnstile.specs.Seats.{RowState}
 use Rattle.bsp_machine.specs.declared.counted.CountedWorker.{CountedWorker}
 use Rattle.bsp_machine.specs.Workers.{IsBetween, IsStanding, state_behind, share_at}
-use Rattle.bsp_machine.specs.declared.reserve.Reserve.{Reserve}
+use Rattle.run_options.specs.declared.reserve.Reserve.{Reserve}
 use Rattle.bsp_machine.specs.Reserves.{is_past, own_mark, IsMark, AreMarked}
 use Rattle.bsp_machine.proofs.MarkLemmas.{or_false, going_on, never, given_behind}
 use Rattle.bsp_machine.proofs.StandingLemmas.{row_marked, row_mark, row_is, row_read, purpose_at}

@@ -2,7 +2,7 @@
 use Rattle.std.proofs.Common.{◌≡◌, ℕ, zero, suc, ◌<◌, List, [], ◌∷◌, length, Some, refl, sym, ◌∙◌, subst, arith}
 use Rattle.std.specs.Prelude.{slice_get}
 use Rattle.std.specs.List.{AllByRecursion}
-use Rattle.histories.specs.Histories.{entry, HaveExchanged}
+use Rattle.worker_histories.specs.Histories.{entry, HaveExchanged}
 use Rattle.bsp_machine.proofs.ListLemmas.{get_within}
 
 module _ {M : Type 0} (P : M → Type 0) where

@@ -5,15 +5,15 @@ use Rattle.std.specs.Prelude.{slice_get, zip}
 use Rattle.std.specs.List.{AllByRecursion}
 use Rattle.std.proofs.lemmas.List.{length-map}
 use Rattle.address_map.specs.Lawful.{Shape}
-use Rattle.superstep_code.specs.Code.{SuperstepCode}
-use Rattle.superstep_code.specs.Limits.{IsCode}
+use Rattle.superstep_instructions.specs.Code.{SuperstepCode}
+use Rattle.superstep_instructions.specs.Limits.{IsCode}
 use Rattle.superstep_machine.specs.Run.{opening, setting}
 use Rattle.worker_messages.specs.Equipped.{most_words}
 use Rattle.turnstile.specs.Seats.{RowState, AreSeatsOf}
 use Rattle.bsp_machine.specs.declared.counted.CountedWorker.{CountedWorker}
-use Rattle.histories.specs.Shares.{Share}
+use Rattle.worker_histories.specs.Shares.{Share}
 use Rattle.bsp_machine.specs.Workers.{IsBetween, share_told}
-use Rattle.bsp_machine.specs.declared.reserve.Reserve.{Reserve}
+use Rattle.run_options.specs.declared.reserve.Reserve.{Reserve}
 use Rattle.bsp_machine.specs.Reserves.{HaveReserve}
 use Rattle.bsp_machine.specs.Opening.{AreFresh}
 use Rattle.bsp_machine.proofs.ListLemmas.{one_there}

@@ -8,7 +8,7 @@ use Rattle.std.proofs.lemmas.List.{length-map}
 use Rattle.address_map.specs.Lawful.{Shape}
 use Rattle.write_rules.specs.Verdict.{Verdict, Ended, Faulted}
 use Rattle.write_rules.specs.Verdict as verdicts
-use Rattle.superstep_code.specs.Code.{SuperstepCode}
+use Rattle.superstep_instructions.specs.Code.{SuperstepCode}
 use Rattle.superstep_machine.specs.declared.key.Key.{Key}
 use Rattle.superstep_machine.specs.declared.mark.HeaderMark.{HeaderMark}
 use Rattle.superstep_machine.specs.declared.mark.HeaderMark.TheVariants.{Clear, OutOfMemory, OutOfReserve}
@@ -32,9 +32,9 @@ use Rattle.flat_machine.proofs.Outcomes.{one_outcome}
 use Rattle.worker_messages.specs.Reached.{most_instructions}
 use Rattle.worker_messages.specs.Equipped.{IsRunnable}
 use Rattle.worker_steps.proofs.PastLemmas.{keeps}
-use Rattle.histories.specs.Histories.{GoesOn}
-use Rattle.histories.proofs.Joining.{phase_more}
-use Rattle.bsp_machine.specs.declared.reserve.Reserve.{Reserve}
+use Rattle.worker_histories.specs.Histories.{GoesOn}
+use Rattle.worker_histories.proofs.Joining.{phase_more}
+use Rattle.run_options.specs.declared.reserve.Reserve.{Reserve}
 use Rattle.bsp_machine.specs.Reserves.{is_past}
 use Rattle.workers.specs.Worked.{items_at}
 use Rattle.workers.specs.Past.{ComesPast}

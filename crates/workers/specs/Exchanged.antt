@@ -2,7 +2,7 @@
 use Rattle.std.specs.Prelude.{◌≡◌, ℕ, List, [], length, Option, Some, None, slice_get}
 use Rattle.turnstile.specs.Seats.{RowState, SamePhases, ReceivedAsSent, AreWhole}
 use Rattle.message_rows.specs.Rows.{WrittenMessage}
-use Rattle.histories.specs.Histories.{HaveExchanged}
+use Rattle.worker_histories.specs.Histories.{HaveExchanged}
 use Rattle.workers.specs.Seating.{sent_of, received_of}
 
 abbrev pub rows_at : Option RowState → List (List WrittenMessage)

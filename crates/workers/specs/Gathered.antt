@@ -1,7 +1,7 @@
 -- Workers that have played their parts of one run.
 use Rattle.std.specs.Prelude.{◌≡◌, ℕ, List, [], length, Some, true, false, ℤ, slice_get}
 use Rattle.address_map.specs.Lawful.{Shape}
-use Rattle.superstep_code.specs.Code.{SuperstepCode}
+use Rattle.superstep_instructions.specs.Code.{SuperstepCode}
 use Rattle.superstep_machine.specs.Run.{opening, is_over, setting}
 use Rattle.worker_messages.specs.Shown.{way_is, is_stopped}
 use Rattle.turnstile.specs.Seats.{RowState}

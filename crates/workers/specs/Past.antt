@@ -1,15 +1,15 @@
 -- Runs that come past a reserve.
 use Rattle.std.specs.Prelude.{◌≡◌, ℕ, suc, ◌<◌, ◌⊎◌, List, Option, None, Some, true, ℤ}
 use Rattle.address_map.specs.Lawful.{Shape}
-use Rattle.superstep_code.specs.Code.{SuperstepCode}
+use Rattle.superstep_instructions.specs.Code.{SuperstepCode}
 use Rattle.superstep_machine.specs.Run.{bsp, opening, setting}
 use Rattle.bsp_verify.specs.Runs.{worker_after}
 use Rattle.worker_messages.specs.declared.refusal.RunRefusal.{RunRefusal}
 use Rattle.worker_messages.specs.declared.refusal.RunRefusal.TheVariants.{OutOfReserve}
 use Rattle.worker_messages.specs.Opened.{IsAccepted, IsRefusal}
 use Rattle.worker_messages.specs.Reached.{most_instructions}
-use Rattle.histories.specs.Histories.{GoesOn}
-use Rattle.bsp_machine.specs.declared.reserve.Reserve.{Reserve}
+use Rattle.worker_histories.specs.Histories.{GoesOn}
+use Rattle.run_options.specs.declared.reserve.Reserve.{Reserve}
 use Rattle.bsp_machine.specs.Reserves.{is_past}
 use Rattle.workers.specs.Worked.{items_at}
 

@@ -1,7 +1,7 @@
 -- Coming past a reserve in the words of what a run comes to: its outcome and its list of exchanges.
 use Rattle.std.specs.Prelude.{◌≡◌, ℕ, ◌<◌, ◌≤◌, ◌⊎◌, List, length, ℤ}
 use Rattle.address_map.specs.Lawful.{Shape}
-use Rattle.superstep_code.specs.Code.{SuperstepCode}
+use Rattle.superstep_instructions.specs.Code.{SuperstepCode}
 use Rattle.superstep_machine.specs.Setting.{Setting}
 use Rattle.superstep_machine.specs.Run.{setting}
 use Rattle.superstep_machine.specs.Trace.{Exchange, AreBspExchanges}
@@ -9,7 +9,7 @@ use Rattle.write_rules.specs.Verdict.{Verdict, Ended, Faulted, GoesOn}
 use Rattle.bsp_verify.specs.Runs.{worker_after}
 use Rattle.worker_messages.specs.Reached.{most_instructions}
 use Rattle.worker_messages.specs.Equipped.{IsRunnable}
-use Rattle.bsp_machine.specs.declared.reserve.Reserve.{Reserve}
+use Rattle.run_options.specs.declared.reserve.Reserve.{Reserve}
 use Rattle.workers.specs.Past.{ComesPast}
 
 -- more items than a reserve has, or more exchanges

@@ -1,12 +1,12 @@
 -- What a worker's thread is told to do, and what comes of it.
 use Rattle.std.specs.Prelude.{◌≡◌, ℕ, List, [], map, length, zip, true, false}
 use Rattle.address_map.specs.Lawful.{Shape}
-use Rattle.superstep_code.specs.Code.{SuperstepCode}
+use Rattle.superstep_instructions.specs.Code.{SuperstepCode}
 use Rattle.superstep_machine.specs.Run.{State, is_over}
 use Rattle.worker_messages.specs.Shown.{way_is, is_stopped}
 use Rattle.worker_messages.specs.Equipped.{most_words, IsRunnable}
 use Rattle.turnstile.specs.Seats.{TurnstileShape, RowState, AreSeatsOf, AreFresh}
-use Rattle.histories.specs.Shares.{Share}
+use Rattle.worker_histories.specs.Shares.{Share}
 use Rattle.bsp_machine.specs.declared.counted.CountedWorker.{CountedWorker}
 use Rattle.bsp_machine.specs.Workers.{IsBetween}
 use Rattle.bsp_machine.specs.Opening.{AreOpened}

@@ -2,7 +2,7 @@
 use Rattle.std.specs.Prelude.{◌≡◌, ℕ, ◌+◌, ◌<◌, List, [], ◌∷◌, ◌++◌, length, Some, false}
 use Rattle.std.specs.List.{AllByRecursion}
 use Rattle.address_map.specs.Lawful.{Shape}
-use Rattle.superstep_code.specs.Code.{SuperstepCode}
+use Rattle.superstep_instructions.specs.Code.{SuperstepCode}
 use Rattle.superstep_machine.specs.Setting.{Setting}
 use Rattle.superstep_machine.specs.Run.{State, ready, setting}
 use Rattle.message_rows.specs.Rows.{WrittenMessage, words_in}
@@ -10,12 +10,12 @@ use Rattle.worker_messages.specs.Reached.{most_instructions}
 use Rattle.worker_messages.specs.Equipped.{most_words}
 use Rattle.worker_messages.specs.Shown.{is_stopped}
 use Rattle.turnstile.specs.Seats.{RowState}
-use Rattle.histories.specs.Histories.{end_by}
-use Rattle.histories.specs.Shares.{Share, purpose_of}
-use Rattle.histories.specs.InWords.{in_words, IsSent, shares_in_words}
-use Rattle.histories.specs.Marked.{IsMarked, StopsByMarks, HasGone}
+use Rattle.worker_histories.specs.Histories.{end_by}
+use Rattle.worker_histories.specs.Shares.{Share, purpose_of}
+use Rattle.worker_histories.specs.InWords.{in_words, IsSent, shares_in_words}
+use Rattle.worker_histories.specs.Marked.{IsMarked, StopsByMarks, HasGone}
 use Rattle.bsp_machine.specs.declared.counted.CountedWorker.{CountedWorker}
-use Rattle.bsp_machine.specs.declared.reserve.Reserve.{Reserve}
+use Rattle.run_options.specs.declared.reserve.Reserve.{Reserve}
 use Rattle.bsp_machine.specs.Reserves.{is_past, own_mark, AreMarked, IsGiven}
 use Rattle.bsp_machine.specs.Workers.{IsBetween}
 use Rattle.workers.specs.Seating.{sent_of, received_of}

@@ -7,7 +7,6 @@ mod gates;
 mod gathering;
 mod hands;
 mod job;
-pub mod law;
 mod lists;
 mod part;
 mod play;
@@ -15,6 +14,7 @@ mod report;
 mod reserving;
 mod room;
 mod run;
+pub mod seat_laws;
 mod task;
 mod threads;
 

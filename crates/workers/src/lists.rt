@@ -8,7 +8,7 @@ use crate::task::Task;
 use address_map::AddressMap;
 use bsp_machine::CountedWorker;
 use std::collections::VecDeque;
-use superstep_code::Code;
+use superstep_instructions::Code;
 use turnstile::{RowSeat, Turnstile};
 
 /// A task for each worker, at the seat of its place.

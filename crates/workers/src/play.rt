@@ -4,7 +4,7 @@ ghost use Rattle.std.specs.Prelude.{◌≡◌, ◌+◌, ◌^◌, ◌<◌, ℕ, L
 ghost use Rattle.superstep_machine.specs.Run.{State, is_over as spec_is_over};
 ghost use Rattle.worker_messages.specs.Shown.{is_stopped, way_is};
 ghost use Rattle.worker_messages.specs.Equipped.{left, IsRunnable, MayGoOn};
-ghost use Rattle.histories.specs.Shares.{Share};
+ghost use Rattle.worker_histories.specs.Shares.{Share};
 ghost use Rattle.bsp_machine.specs.Workers.{IsBetween};
 ghost use Rattle.workers.specs.Seating.{SameOwner};
 ghost use Rattle.workers.specs.Worked.{IsSeatFor, IsSomewhere, HasExchanged, HasWorked};
@@ -14,7 +14,7 @@ use crate::hands::{ColumnHand, RowHand};
 use address_map::AddressMap;
 use bsp_machine::CountedWorker;
 use std::sync::Wait;
-use superstep_code::Code;
+use superstep_instructions::Code;
 use turnstile::{RowSeat, Turnstile};
 use write_rules::WriteRule;
 

@@ -2,16 +2,17 @@
 
 ghost use Rattle.std.specs.Prelude.{◌≡◌, List, ℤ, length, Some, None, IfOk, IfErr, OnOk};
 ghost use Rattle.address_map.specs.Lawful.{Shape};
-ghost use Rattle.superstep_code.specs.Code.{SuperstepCode};
+ghost use Rattle.superstep_instructions.specs.Code.{SuperstepCode};
 ghost use Rattle.bsp_verify.specs.WellFormed.{IsWellFormed};
 ghost use Rattle.worker_messages.specs.Opened.{IsAccepted, IsRefusal};
 ghost use Rattle.bsp_machine.specs.Reserves.{HaveReserve};
 ghost use Rattle.bsp_machine.specs.Opening.{AreFresh};
 
 use address_map::AddressMap;
-use bsp_machine::{CountedWorker, Reserve, open_all};
+use bsp_machine::{CountedWorker, open_all};
+use run_options::Reserve;
 use std::alloc::{AllocError, Global};
-use superstep_code::Code;
+use superstep_instructions::Code;
 use worker_messages::RunRefusal;
 
 // Each worker takes all the memory of its run.

@@ -11,7 +11,7 @@ use address_map::AddressMap;
 use bsp_machine::CountedWorker;
 use std::marker::Model;
 use std::sync::Wait;
-use superstep_code::Code;
+use superstep_instructions::Code;
 use turnstile::{RowSeat, Turnstile};
 use write_rules::{WriteRule, under};
 

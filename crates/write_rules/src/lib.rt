@@ -5,7 +5,6 @@ mod common;
 mod entry;
 mod exclusive;
 mod fault;
-pub mod law;
 mod outcome;
 mod priority;
 mod rule_body;
@@ -13,6 +12,7 @@ mod summed;
 mod values;
 mod write;
 mod write_rule;
+pub mod writer_laws;
 
 pub use common::Common;
 pub use entry::Entry;

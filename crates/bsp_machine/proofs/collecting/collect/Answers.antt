@@ -5,7 +5,7 @@ use Rattle.superstep_machine.specs.Run.{verdict_by}
 use Rattle.worker_messages.specs.Reached.{most_instructions}
 use Rattle.worker_messages.specs.Shown.{way_is, is_stopped}
 use Rattle.exchange_counts.specs.Columns.{AreColumns}
-use Rattle.exchange_counts.specs.Told.{exchanges_told}
+use Rattle.exchange_counts.specs.CountedExchanges.{exchanges_told}
 use Rattle.bsp_machine.specs.declared.counted.CountedWorker.{CountedWorker}
 use Rattle.bsp_machine.specs.Ended.{memory_of, verdict_in}
 use Rattle.bsp_machine.specs.Reserves.{refusal_by}

@@ -4,7 +4,7 @@ use Rattle.superstep_machine.specs.Run.{is_over}
 use Rattle.worker_messages.specs.Shown.{is_stopped, way_is}
 use Rattle.worker_messages.specs.Equipped.{left, left_at}
 use Rattle.bsp_machine.specs.declared.counted.CountedWorker.{CountedWorker}
-use Rattle.bsp_machine.specs.declared.reserve.Reserve.{Reserve}
+use Rattle.run_options.specs.declared.reserve.Reserve.{Reserve}
 use Rattle.bsp_machine.specs.Reserves.{HaveReserve, IsGiven}
 use Rattle.bsp_machine.specs.Workers.{AreAt, IsBehind}
 use Rattle.bsp_machine.proofs.MarkLemmas.{any_stopped}

@@ -5,7 +5,7 @@ use Rattle.worker_messages.specs.Equipped.{most_words, left, left_at}
 use Rattle.bsp_machine.specs.declared.counted.CountedWorker.{CountedWorker}
 use Rattle.bsp_machine.specs.declared.sheet.Sheet.{Sheet}
 use Rattle.bsp_machine.specs.Sheets.{messages_in}
-use Rattle.bsp_machine.specs.declared.reserve.Reserve.{Reserve}
+use Rattle.run_options.specs.declared.reserve.Reserve.{Reserve}
 use Rattle.bsp_machine.specs.Reserves.{HaveReserve}
 use Rattle.bsp_machine.specs.Workers.{AreSheets, AreBehind, IsAt, IsReady}
 use Rattle.bsp_machine.proofs.phase.send_all.Given as goal

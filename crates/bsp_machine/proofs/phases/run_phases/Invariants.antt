@@ -1,7 +1,7 @@
 use Rattle.std.proofs.Common.{◌≡◌, List, ℤ, length, Option}
 use Rattle.worker_messages.specs.Equipped.{most_words}
 use Rattle.bsp_machine.specs.Workers.{AreSheets}
-use Rattle.bsp_machine.specs.declared.reserve.Reserve.{Reserve}
+use Rattle.run_options.specs.declared.reserve.Reserve.{Reserve}
 use Rattle.bsp_machine.specs.Reserves.{AreGiven}
 use Rattle.bsp_machine.specs.Ended.{AreRunning, left_first}
 use Rattle.bsp_machine.proofs.phases.run_phases.Given as goal

@@ -1,5 +1,5 @@
 use Rattle.std.proofs.Common.{◌+◌, ◌<◌, refl, sym, subst, inl, inr}
-use Rattle.superstep_code.specs.declared.instr.Instr.{Instr}
+use Rattle.superstep_instructions.specs.declared.instr.Instr.{Instr}
 use Rattle.bsp_verify.specs.Control.{Leads}
 use Rattle.bsp_verify.specs.Table.{Adds}
 use Rattle.bsp_verify.proofs.Ways.{leads_next, adds_both}

@@ -1,7 +1,7 @@
 use Rattle.std.proofs.Common.{refl}
 use Rattle.text_places.proofs.Pieces.{both, stops_in_first}
 use Rattle.diagnoses.specs.Remarks.{remark_is}
-use Rattle.diagnoses.proofs.Told.{breach_parts}
+use Rattle.diagnoses.proofs.BreachSentences.{breach_parts}
 use Rattle.diagnoses.proofs.breaches.write_breach.Goals as goal
 
 pub returns-in_err-write_excerpt : goal.returns-in_err-write_excerpt

@@ -1,5 +1,5 @@
 use Rattle.std.proofs.Common.{◌≡◌, drop, map}
-use Rattle.run_entries.specs.Entries.{entry_is}
+use Rattle.step_entries.specs.Entries.{entry_is}
 use Rattle.diagnoses.specs.Met.{met_in}
 use Rattle.diagnoses.proofs.met.met_in.Given as goal
 

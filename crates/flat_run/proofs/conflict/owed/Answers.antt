@@ -2,7 +2,7 @@ use Rattle.std.proofs.Common.{◌-◌, ◌∙◌, None, ap, arith}
 use Rattle.pram_model.specs.Layout.{total_size}
 use Rattle.superstep_machine.specs.Keys.{least}
 use Rattle.superstep_machine.specs.Sending.{put_conflict, verdict_on}
-use Rattle.superstep_steps.specs.Views.{put_is}
+use Rattle.instruction_steps.specs.Views.{put_is}
 use Rattle.flat_run.specs.Views.{held_of}
 use Rattle.flat_run.proofs.SumLemmas.{sum_goes}
 use Rattle.flat_run.proofs.conflict.owed.Goals as goal

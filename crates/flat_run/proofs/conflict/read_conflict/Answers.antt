@@ -5,7 +5,7 @@ use Rattle.pram_values.specs.declared.kind.Kind.TheVariants.{ReadConflict}
 use Rattle.pram_values.specs.Total.{total}
 use Rattle.superstep_machine.specs.Keys.{least}
 use Rattle.superstep_machine.specs.Sending.{several, asks_for, cell_at, conflict_at, is_private, is_several}
-use Rattle.superstep_steps.specs.Views.{read_is}
+use Rattle.instruction_steps.specs.Views.{read_is}
 use Rattle.flat_run.specs.Views.{own_of, flat_of}
 use Rattle.flat_run.proofs.ConflictLemmas.{conflict_by}
 use Rattle.flat_run.proofs.SumLemmas.{sum_goes}

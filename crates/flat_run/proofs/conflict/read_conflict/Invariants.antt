@@ -1,7 +1,7 @@
 use Rattle.std.proofs.Common.{None}
 use Rattle.pram_model.specs.Layout.{total_size}
 use Rattle.superstep_machine.specs.Keys.{least}
-use Rattle.superstep_steps.specs.Views.{read_is}
+use Rattle.instruction_steps.specs.Views.{read_is}
 use Rattle.flat_run.specs.Views.{flat_of}
 use Rattle.flat_run.proofs.ConflictLemmas.{conflict_by}
 use Rattle.flat_run.proofs.SumLemmas.{IsSumFrom}

@@ -1,6 +1,6 @@
 use Rattle.std.proofs.Common.{◌≡◌, ◌≤◌, length, map, drop}
 use Rattle.flat_machine.specs.Flat as flat
-use Rattle.superstep_steps.specs.Views.{read_is}
+use Rattle.instruction_steps.specs.Views.{read_is}
 use Rattle.flat_run.specs.Views.{flat_of}
 use Rattle.flat_run.proofs.conflict.read_conflicts.Given as goal
 

@@ -3,7 +3,7 @@ use Rattle.std.specs.List.{range_with_len}
 use Rattle.pram_values.specs.Total.{total}
 use Rattle.superstep_machine.specs.Keys.{least}
 use Rattle.superstep_machine.specs.Steps.{uniform_key, own_key}
-use Rattle.superstep_steps.specs.Views.{uniform_of}
+use Rattle.instruction_steps.specs.Views.{uniform_of}
 use Rattle.flat_run.specs.Views.{own_of}
 use Rattle.flat_run.proofs.instruct.noted.Goals as goal
 

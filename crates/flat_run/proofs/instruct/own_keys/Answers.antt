@@ -1,7 +1,7 @@
 use Rattle.std.proofs.Common.{◌-◌, ◌∙◌, None, ap, arith}
 use Rattle.superstep_machine.specs.Keys.{least}
 use Rattle.superstep_machine.specs.Steps.{own_key}
-use Rattle.superstep_steps.specs.Views.{uniform_of}
+use Rattle.instruction_steps.specs.Views.{uniform_of}
 use Rattle.flat_run.specs.Views.{own_of}
 use Rattle.flat_run.proofs.PartLemmas.{own_is}
 use Rattle.flat_run.proofs.SumLemmas.{sum_starts, sum_goes, sum_ends}

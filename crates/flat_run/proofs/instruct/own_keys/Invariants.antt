@@ -1,7 +1,7 @@
 use Rattle.std.proofs.Common.{None}
 use Rattle.superstep_machine.specs.Keys.{least}
 use Rattle.superstep_machine.specs.Steps.{own_key}
-use Rattle.superstep_steps.specs.Views.{uniform_of}
+use Rattle.instruction_steps.specs.Views.{uniform_of}
 use Rattle.flat_run.specs.Views.{own_of}
 use Rattle.flat_run.proofs.SumLemmas.{IsSumFrom}
 use Rattle.flat_run.proofs.instruct.own_keys.Given as goal

@@ -3,7 +3,7 @@ use Rattle.std.proofs.lemmas.Int.{to_z-of_z}
 use Rattle.superstep_machine.specs.Sending.{join}
 use Rattle.superstep_machine.specs.Steps.{index_of, own_write}
 use Rattle.flat_machine.specs.Flat.{single_to}
-use Rattle.superstep_steps.specs.Views.{uniform_of}
+use Rattle.instruction_steps.specs.Views.{uniform_of}
 use Rattle.flat_run.specs.Views.{own_of, held_of}
 use Rattle.flat_run.proofs.PartLemmas.{own_is}
 use Rattle.flat_run.proofs.SumLemmas.{sum_goes}

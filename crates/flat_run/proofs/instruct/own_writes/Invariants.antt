@@ -2,7 +2,7 @@ use Rattle.std.proofs.Common.{◌≡◌, ℕ, ◌<◌, ◌≤◌, length, None}
 use Rattle.superstep_machine.specs.Sending.{join}
 use Rattle.superstep_machine.specs.Steps.{index_of, own_write}
 use Rattle.flat_machine.specs.Flat.{single_to}
-use Rattle.superstep_steps.specs.Views.{uniform_of}
+use Rattle.instruction_steps.specs.Views.{uniform_of}
 use Rattle.flat_run.specs.Views.{own_of, held_of}
 use Rattle.flat_run.proofs.SumLemmas.{IsSumFrom}
 use Rattle.flat_run.proofs.instruct.own_writes.Given as goal

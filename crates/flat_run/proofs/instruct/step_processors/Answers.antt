@@ -1,6 +1,6 @@
 use Rattle.std.proofs.Common.{arith}
 use Rattle.superstep_machine.specs.Steps.{on_own}
-use Rattle.superstep_steps.specs.Views.{uniform_of}
+use Rattle.instruction_steps.specs.Views.{uniform_of}
 use Rattle.flat_run.proofs.PartLemmas.{each_starts, each_goes}
 use Rattle.flat_run.proofs.instruct.step_processors.Goals as goal
 

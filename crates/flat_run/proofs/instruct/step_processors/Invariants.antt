@@ -1,5 +1,5 @@
 use Rattle.superstep_machine.specs.Steps.{on_own}
-use Rattle.superstep_steps.specs.Views.{uniform_of}
+use Rattle.instruction_steps.specs.Views.{uniform_of}
 use Rattle.flat_run.proofs.PartLemmas.{AreEach}
 use Rattle.flat_run.proofs.instruct.step_processors.Given as goal
 

@@ -1,5 +1,5 @@
 use Rattle.std.proofs.Common.{◌∙◌, ◌+◌, ℕ, ℤ, sym, ap, arith}
-use Rattle.superstep_steps.specs.Views.{registers_of}
+use Rattle.instruction_steps.specs.Views.{registers_of}
 use Rattle.write_rules.proofs.Writes.{same_item}
 use Rattle.flat_run.proofs.CellLemmas.{own_left, own_goes, own_ends_reads, own_ends_cells}
 use Rattle.flat_run.proofs.reply.answer_own.Goals as goal

@@ -1,7 +1,7 @@
 use Rattle.std.proofs.Common.{◌≡◌, ◌-◌, length, map}
 use Rattle.std.specs.List.{zip}
 use Rattle.superstep_machine.specs.Answering.{answers, destinations}
-use Rattle.superstep_steps.specs.Views.{registers_of, read_is}
+use Rattle.instruction_steps.specs.Views.{registers_of, read_is}
 use Rattle.flat_run.proofs.CellLemmas.{own_left}
 use Rattle.flat_run.proofs.reply.answer_own.Given as goal
 

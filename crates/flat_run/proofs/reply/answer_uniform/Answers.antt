@@ -1,5 +1,5 @@
 use Rattle.std.proofs.Common.{◌∙◌, ◌+◌, ℕ, ℤ, sym, ap, arith}
-use Rattle.superstep_steps.specs.Views.{registers_of}
+use Rattle.instruction_steps.specs.Views.{registers_of}
 use Rattle.write_rules.proofs.Writes.{same_item}
 use Rattle.flat_run.proofs.CellLemmas.{uniform_left, uniform_goes, uniform_ends}
 use Rattle.flat_run.proofs.reply.answer_uniform.Goals as goal

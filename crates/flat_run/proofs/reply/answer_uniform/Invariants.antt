@@ -1,7 +1,7 @@
 use Rattle.std.proofs.Common.{◌≡◌, ◌-◌, length, map}
 use Rattle.superstep_machine.specs.Parts.{Read}
 use Rattle.superstep_machine.specs.Answering.{answers}
-use Rattle.superstep_steps.specs.Views.{registers_of, read_is}
+use Rattle.instruction_steps.specs.Views.{registers_of, read_is}
 use Rattle.flat_run.proofs.CellLemmas.{uniform_left}
 use Rattle.flat_run.proofs.reply.answer_uniform.Given as goal
 

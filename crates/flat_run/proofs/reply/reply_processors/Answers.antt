@@ -1,6 +1,6 @@
 use Rattle.std.proofs.Common.{map, arith}
 use Rattle.superstep_machine.specs.Answering.{own_answered}
-use Rattle.superstep_steps.specs.Views.{registers_of, read_is}
+use Rattle.instruction_steps.specs.Views.{registers_of, read_is}
 use Rattle.flat_run.proofs.PartLemmas.{each_starts, each_goes}
 use Rattle.flat_run.proofs.reply.reply_processors.Goals as goal
 

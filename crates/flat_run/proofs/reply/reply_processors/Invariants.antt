@@ -1,6 +1,6 @@
 use Rattle.std.proofs.Common.{◌-◌, length, map}
 use Rattle.superstep_machine.specs.Answering.{own_answered}
-use Rattle.superstep_steps.specs.Views.{registers_of, read_is}
+use Rattle.instruction_steps.specs.Views.{registers_of, read_is}
 use Rattle.flat_run.proofs.PartLemmas.{AreEach}
 use Rattle.flat_run.proofs.reply.reply_processors.Given as goal
 

@@ -1,7 +1,7 @@
 use Rattle.std.proofs.Common.{◌∙◌, ap, arith, w64}
 use Rattle.std.proofs.lemmas.Int.{to_z-of_z}
 use Rattle.superstep_machine.specs.Sending.{verdict_on, settled}
-use Rattle.superstep_steps.specs.Views.{registers_of}
+use Rattle.instruction_steps.specs.Views.{registers_of}
 use Rattle.write_rules.proofs.Writes.{same_item}
 use Rattle.flat_run.proofs.CellLemmas.{settles_start, settles_go, settles_end}
 use Rattle.flat_run.proofs.PartLemmas.{held_is}

@@ -1,5 +1,5 @@
 use Rattle.std.proofs.Common.{OnOk, Some, sym, subst}
-use Rattle.superstep_code.specs.declared.instr.Instr.{Instr}
+use Rattle.superstep_instructions.specs.declared.instr.Instr.{Instr}
 use Rattle.flat_run.specs.Views.{flat_of}
 use Rattle.flat_run.specs.RunViews.{state_of, led, AreSameStates}
 use Rattle.flat_run.proofs.step.obey.Goals as goal

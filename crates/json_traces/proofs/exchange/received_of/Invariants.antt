@@ -1,5 +1,5 @@
 use Rattle.std.proofs.Common.{◌≡◌, take}
-use Rattle.exchange_counts.specs.Told.{exchange_at}
+use Rattle.exchange_counts.specs.CountedExchanges.{exchange_at}
 use Rattle.json_traces.proofs.exchange.received_of.Given as goal
 
 abbrev pub invariant-workers : goal.invariant-workers

@@ -1,6 +1,6 @@
 use Rattle.std.proofs.Common.{◌<◌, ◌+◌, ◌∷◌, [], arith, drop, length}
 use Rattle.json_lines.proofs.Json.{goes_on}
-use Rattle.exchange_counts.specs.Told.{exchange_at}
+use Rattle.exchange_counts.specs.CountedExchanges.{exchange_at}
 use Rattle.json_traces.specs.TraceFacts.{exchange_facts, exchanges_from}
 use Rattle.json_traces.proofs.ExchangeFacts.{exchanges_at}
 use Rattle.json_traces.proofs.trace.exchanges_text.Goals as goal

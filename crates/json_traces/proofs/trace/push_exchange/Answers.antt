@@ -1,6 +1,6 @@
 use Rattle.std.proofs.Common.{subst, sym}
 use Rattle.json_lines.specs.Small.{IsReadable}
-use Rattle.exchange_counts.specs.Told.{exchange_at}
+use Rattle.exchange_counts.specs.CountedExchanges.{exchange_at}
 use Rattle.json_traces.proofs.ExchangeFacts.{readable_exchange}
 use Rattle.json_traces.proofs.trace.push_exchange.Goals as goal
 

@@ -1,6 +1,6 @@
 use Rattle.std.proofs.Common.{take}
 use Rattle.std.specs.List.{AllByRecursion}
-use Rattle.superstep_code.specs.Limits.{IsInstr}
+use Rattle.superstep_instructions.specs.Limits.{IsInstr}
 use Rattle.lowering.proofs.finish.all_fit.Given as goal
 
 -- those so far

@@ -1,7 +1,7 @@
 use Rattle.std.proofs.Common.{◌≡◌, ◌+◌, ◌≤◌, max, ap, ◌∙◌, arith, drop, get_or}
 use Rattle.std.proofs.lemmas.List.{drop_more}
-use Rattle.superstep_code.specs.Limits.{most_registers}
-use Rattle.superstep_code.specs.declared.instr.Instr.TheVariants.{Mark}
+use Rattle.superstep_instructions.specs.Limits.{most_registers}
+use Rattle.superstep_instructions.specs.declared.instr.Instr.TheVariants.{Mark}
 use Rattle.plain_form.specs.Registers as spec
 use Rattle.lowering.proofs.finish.registers.Goals as goal
 

@@ -1,5 +1,5 @@
 use Rattle.std.proofs.Common.{◌≡◌, ◌≤◌, max, drop}
-use Rattle.superstep_code.specs.Limits.{most_registers}
+use Rattle.superstep_instructions.specs.Limits.{most_registers}
 use Rattle.plain_form.specs.Registers as spec
 use Rattle.lowering.proofs.finish.registers.Given as goal
 

@@ -7,7 +7,7 @@ use Rattle.lowering.specs.Blocks.{part}
 use Rattle.lowering.specs.Room.{StatementsHaveRoom}
 use Rattle.straight_lowering.specs.Straight.{setting}
 use Rattle.straight_lowering.specs.Written.{wrote}
-use Rattle.superstep_code.specs.declared.instr.Side.TheVariants.{Uniform}
+use Rattle.superstep_instructions.specs.declared.instr.Side.TheVariants.{Uniform}
 use Rattle.lowering.proofs.Filling.{looped_is, turned_is, else_is, some_joined, on_ok}
 use Rattle.lowering.proofs.StatementParts.{statements_more, while_is, for_is, if_is}
 use Rattle.lowering.proofs.StatementsShort.{room_of_each, while_room, if_room, for_room, while_short, for_short, then_short, joined_short}

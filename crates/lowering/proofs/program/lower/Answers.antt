@@ -1,6 +1,6 @@
 use Rattle.std.proofs.Common.{true, sym, subst}
 use Rattle.bsp_verify.specs.WellFormed.{IsWellFormed}
-use Rattle.formed_code.proofs.ProgramsFormed.{forms_are_well_formed}
+use Rattle.verified_form.proofs.ProgramsFormed.{forms_are_well_formed}
 use Rattle.lowering.proofs.program.lower.Goals as goal
 
 -- the form of a program within bounds

@@ -1,6 +1,6 @@
 use Rattle.std.proofs.Common.{drop, map}
 use Rattle.text_out.proofs.Progress.{Progress}
-use Rattle.run_entries.specs.Entries.{act_is}
+use Rattle.step_entries.specs.Entries.{act_is}
 use Rattle.step_pictures.specs.Measures.{grid_is}
 use Rattle.step_pictures.specs.Columns.{acts_drawn}
 use Rattle.step_pictures.proofs.columns.write_acts.Given as goal

@@ -1,6 +1,6 @@
 use Rattle.std.proofs.Common.{ℕ, List, ◌∙◌, ap, map, subst, sym}
 use Rattle.text_out.specs.Out.{Writes}
-use Rattle.run_entries.specs.Entries.{act_is, entry_is}
+use Rattle.step_entries.specs.Entries.{act_is, entry_is}
 use Rattle.step_pictures.specs.Columns.{column, fault_column, ran_column}
 use Rattle.step_pictures.specs.Measures.{grid_is}
 use Rattle.step_pictures.proofs.columns.write_column.Goals as goal

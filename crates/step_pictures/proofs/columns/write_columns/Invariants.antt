@@ -1,5 +1,5 @@
 use Rattle.std.proofs.Common.{map}
-use Rattle.run_entries.specs.Entries.{entry_is}
+use Rattle.step_entries.specs.Entries.{entry_is}
 use Rattle.step_pictures.specs.Measures.{grid_is}
 use Rattle.step_pictures.specs.Columns.{columns_from}
 use Rattle.step_pictures.proofs.ColumnTexts.{InColumns}

@@ -1,6 +1,6 @@
 use Rattle.std.proofs.Common.{◌++◌, map, refl}
 use Rattle.text_out.proofs.Progress.{breaks_off, closes, goes_on, starts}
-use Rattle.run_entries.specs.Entries.{act_is}
+use Rattle.step_entries.specs.Entries.{act_is}
 use Rattle.step_pictures.specs.Measures.{grid_is}
 use Rattle.step_pictures.specs.Columns.{acts_drawn, conflict}
 use Rattle.step_pictures.proofs.columns.write_faulted.Goals as goal

@@ -1,6 +1,6 @@
 use Rattle.std.proofs.Common.{◌∙◌, ap, arith, map, sym}
 use Rattle.std.proofs.lemmas.List.{take-map, take_all}
-use Rattle.run_entries.specs.Entries.{entry_is}
+use Rattle.step_entries.specs.Entries.{entry_is}
 use Rattle.step_pictures.proofs.measure.drawn.Goals as goal
 
 pub returns-then-entries-gt-MOST_ENTRIES-clause-drawn : goal.returns-then-entries-gt-MOST_ENTRIES-clause-drawn

@@ -1,7 +1,7 @@
 use Rattle.std.proofs.Common.{◌++◌, ◌∙◌, ap, map, sym}
 use Rattle.std.proofs.lemmas.List.{length-map}
 use Rattle.text_out.proofs.Progress.{breaks_off, closes, goes_on, starts}
-use Rattle.run_entries.specs.Entries.{entry_is}
+use Rattle.step_entries.specs.Entries.{entry_is}
 use Rattle.step_pictures.specs.Measures.{Grid, picture_height, picture_width, rows_of}
 use Rattle.step_pictures.specs.Picture.{opening_text, rest}
 use Rattle.step_pictures.proofs.picture.write_drawn.Goals as goal

@@ -1,7 +1,7 @@
 use Rattle.std.proofs.Common.{ℕ, List, subst, sym}
 use Rattle.std.proofs.lemmas.List.{length-map}
 use Rattle.text_out.specs.Out.{Writes}
-use Rattle.run_entries.specs.Entries.{entry_is}
+use Rattle.step_entries.specs.Entries.{entry_is}
 use Rattle.step_pictures.specs.Picture.{picture_of}
 use Rattle.step_pictures.proofs.picture.write_picture.Goals as goal
 

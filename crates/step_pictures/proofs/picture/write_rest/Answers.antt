@@ -1,6 +1,6 @@
 use Rattle.std.proofs.Common.{◌++◌, map, refl, sym}
 use Rattle.text_out.proofs.Progress.{breaks_off, closes, goes_on, starts}
-use Rattle.run_entries.specs.Entries.{entry_is}
+use Rattle.step_entries.specs.Entries.{entry_is}
 use Rattle.step_pictures.specs.Measures.{grid_is, grid_of}
 use Rattle.step_pictures.specs.Picture.{head, table}
 use Rattle.step_pictures.proofs.picture.write_rest.Goals as goal

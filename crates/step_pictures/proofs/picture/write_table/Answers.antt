@@ -1,6 +1,6 @@
 use Rattle.std.proofs.Common.{◌++◌, codes, map, refl}
 use Rattle.text_out.proofs.Progress.{breaks_off, closes, goes_on, starts}
-use Rattle.run_entries.specs.Entries.{entry_is}
+use Rattle.step_entries.specs.Entries.{entry_is}
 use Rattle.step_pictures.specs.Measures.{grid_is}
 use Rattle.step_pictures.specs.Columns.{columns_from}
 use Rattle.step_pictures.proofs.picture.write_table.Goals as goal

@@ -1,6 +1,6 @@
 use Rattle.std.proofs.Common.{drop}
 use Rattle.text_out.proofs.Progress.{Progress}
-use Rattle.step_texts.specs.Told.{changes_text}
+use Rattle.step_texts.specs.ChangeTexts.{changes_text}
 use Rattle.step_texts.proofs.step_text.write_changes.Given as goal
 
 abbrev pub invariant-loop-change : goal.invariant-loop-change

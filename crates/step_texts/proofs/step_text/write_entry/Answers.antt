@@ -1,7 +1,7 @@
 use Rattle.std.proofs.Common.{◌++◌, ◌∷◌, [], append_assoc, refl}
 use Rattle.text_out.proofs.Progress.{breaks_off, closes, goes_on, starts}
-use Rattle.run_entries.specs.Entries.{entry_is}
-use Rattle.step_texts.specs.Told.{number_text, told_text}
+use Rattle.step_entries.specs.Entries.{entry_is}
+use Rattle.step_texts.specs.ChangeTexts.{number_text, told_text}
 use Rattle.step_texts.proofs.step_text.write_entry.Goals as goal
 
 pub returns-in_err-write_number : goal.returns-in_err-write_number

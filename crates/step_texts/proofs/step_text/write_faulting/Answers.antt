@@ -1,7 +1,7 @@
 use Rattle.std.proofs.Common.{refl}
 use Rattle.program_texts.specs.Shown.{fault_text}
 use Rattle.text_out.proofs.Progress.{breaks_off, closes, goes_on, starts}
-use Rattle.step_texts.specs.Told.{meeting_text}
+use Rattle.step_texts.specs.ChangeTexts.{meeting_text}
 use Rattle.step_texts.proofs.step_text.write_faulting.Goals as goal
 
 pub returns-in_err-write_fault_text : goal.returns-in_err-write_fault_text

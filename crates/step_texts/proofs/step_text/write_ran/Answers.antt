@@ -1,6 +1,6 @@
 use Rattle.std.proofs.Common.{refl}
 use Rattle.text_out.proofs.Progress.{breaks_off, closes, goes_on, starts}
-use Rattle.step_texts.specs.Told.{changes_text, head_text}
+use Rattle.step_texts.specs.ChangeTexts.{changes_text, head_text}
 use Rattle.step_texts.proofs.step_text.write_ran.Goals as goal
 
 pub returns-in_err-write_head : goal.returns-in_err-write_head

@@ -1,5 +1,5 @@
 use Rattle.std.proofs.Common.{map}
-use Rattle.run_entries.specs.Entries.{entry_is}
+use Rattle.step_entries.specs.Entries.{entry_is}
 use Rattle.step_texts.specs.StepText.{steps_text}
 use Rattle.step_texts.proofs.StepLines.{InLines}
 use Rattle.step_texts.proofs.step_text.write_steps.Given as goal

@@ -1,6 +1,6 @@
 use Rattle.text_out.proofs.Progress.{breaks_off, closes, goes_on, starts}
 use Rattle.std.proofs.Common.{◌∷◌, ◌++◌, codes, refl}
-use Rattle.step_texts.specs.Told.{changes_text}
+use Rattle.step_texts.specs.ChangeTexts.{changes_text}
 use Rattle.step_texts.proofs.terminal.write_in_colour.Goals as goal
 
 pub returns-in_err-write_all : goal.returns-in_err-write_all

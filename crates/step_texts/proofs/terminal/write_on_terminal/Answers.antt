@@ -1,7 +1,7 @@
 use Rattle.text_out.proofs.Progress.{breaks_off, closes, goes_on, starts}
 use Rattle.std.proofs.Common.{◌++◌, ℕ, refl, subst}
 use Rattle.text_out.specs.Out.{Writes}
-use Rattle.run_entries.specs.Entries.{entry_is}
+use Rattle.step_entries.specs.Entries.{entry_is}
 use Rattle.step_texts.specs.OnTerminal.{beside, line_of, told_text}
 use Rattle.step_texts.proofs.terminal.write_on_terminal.Goals as goal
 

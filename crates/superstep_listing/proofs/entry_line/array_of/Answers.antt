@@ -2,7 +2,7 @@ use Rattle.std.proofs.Common.{◌≡◌, ◌∙◌, ◌++◌, ◌∷◌, ap, sym
 use Rattle.std.specs.Fmt.{signed_decimal}
 use Rattle.std.specs.Prelude.{Some}
 use Rattle.pram_model.specs.Names.{IsName}
-use Rattle.superstep_code.specs.Limits.{AreBounds}
+use Rattle.superstep_instructions.specs.Limits.{AreBounds}
 use Rattle.superstep_listing.proofs.Cuts.{cut_as, not_cut}
 use Rattle.superstep_listing.proofs.Declared.{high_fits, is_name_no, is_name_yes, lacks_name, low_fits}
 use Rattle.superstep_listing.proofs.Numerals.{shown_again}

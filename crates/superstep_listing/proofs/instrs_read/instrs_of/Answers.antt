@@ -1,6 +1,6 @@
 use Rattle.std.proofs.Common.{◌∙◌, ◌+◌, ◌++◌, ◌∷◌, [], ap, sym, subst, length, length-append}
 use Rattle.std.specs.List.{AllByRecursion}
-use Rattle.superstep_code.specs.Limits.{IsInstr}
+use Rattle.superstep_instructions.specs.Limits.{IsInstr}
 use Rattle.superstep_listing.specs.Listing.{ended, instr_lines}
 use Rattle.superstep_listing.proofs.Stuck.{all_fit_more, read_more, stuck_instr}
 use Rattle.superstep_listing.proofs.instrs_read.instrs_of.Goals as goal

@@ -1,6 +1,6 @@
 use Rattle.std.proofs.Common.{◌≡◌, ◌++◌, length}
 use Rattle.std.specs.List.{AllByRecursion}
-use Rattle.superstep_code.specs.Limits.{IsInstr}
+use Rattle.superstep_instructions.specs.Limits.{IsInstr}
 use Rattle.superstep_listing.specs.Listing.{ended, instr_lines}
 use Rattle.superstep_listing.proofs.instrs_read.instrs_of.Given as goal
 

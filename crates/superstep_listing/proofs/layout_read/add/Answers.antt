@@ -2,7 +2,7 @@ use Rattle.std.proofs.Common.{refl, sym, subst}
 use Rattle.std.specs.HashSet.{contains_by}
 use Rattle.std.specs.Str.{bytes_eq}
 use Rattle.pram_model.specs.Layout.{SharedEntry}
-use Rattle.superstep_code.specs.Limits.{IsLayout}
+use Rattle.superstep_instructions.specs.Limits.{IsLayout}
 use Rattle.superstep_listing.proofs.Entries.{layout_more, layout_new, layout_room}
 use Rattle.superstep_listing.proofs.Known.{known_more, known_new, known_taken}
 use Rattle.superstep_listing.proofs.layout_read.add.Goals as goal

@@ -1,7 +1,7 @@
 use Rattle.std.proofs.Common.{◌≡◌, ◌∙◌, ◌++◌, ◌∷◌, [], refl, sym, ap, subst, Bool}
 use Rattle.std.specs.Prelude.{MatchBool}
 use Rattle.pram_model.specs.Layout.{SharedEntry}
-use Rattle.superstep_code.specs.Limits.{IsLayout}
+use Rattle.superstep_instructions.specs.Limits.{IsLayout}
 use Rattle.superstep_listing.specs.Listing.{entry_line}
 use Rattle.superstep_listing.proofs.Cuts.{one_cut}
 use Rattle.superstep_listing.proofs.Entries.{layout_entry}

@@ -1,7 +1,7 @@
 use Rattle.std.proofs.Common.{◌≡◌, ◌++◌, length, map}
 use Rattle.std.specs.HashSet.{contains_by}
 use Rattle.std.specs.Str.{bytes_eq}
-use Rattle.superstep_code.specs.Limits.{IsLayout}
+use Rattle.superstep_instructions.specs.Limits.{IsLayout}
 use Rattle.superstep_listing.specs.Names.{AreKnown}
 use Rattle.superstep_listing.specs.Listing.{ended, entry_line}
 use Rattle.superstep_listing.proofs.layout_read.layout_of.Given as goal

@@ -1,8 +1,8 @@
 use Rattle.std.proofs.Common.{◌≡◌, ◌∙◌, sym, ap, subst}
 use Rattle.std.specs.Fmt.{signed_decimal}
 use Rattle.std.specs.Prelude.{Ok}
-use Rattle.superstep_code.specs.Code.{Wide}
-use Rattle.superstep_code.specs.Limits.{Fits}
+use Rattle.superstep_instructions.specs.Code.{Wide}
+use Rattle.superstep_instructions.specs.Limits.{Fits}
 use Rattle.superstep_listing.proofs.Numerals.{not_text, parsed_as, read_back, same_bytes}
 use Rattle.superstep_listing.proofs.numeral.number.Goals as goal
 

@@ -1,8 +1,8 @@
 use Rattle.std.proofs.Common.{◌≡◌, ◌++◌, length}
 use Rattle.std.specs.List.{AllByRecursion}
-use Rattle.superstep_code.specs.Code.{Wide}
+use Rattle.superstep_instructions.specs.Code.{Wide}
 use Rattle.superstep_listing.specs.Cutting.{behind_word, spaced}
-use Rattle.superstep_code.specs.Limits.{Fits}
+use Rattle.superstep_instructions.specs.Limits.{Fits}
 use Rattle.superstep_listing.proofs.operands.numbers_behind.Given as goal
 
 abbrev pub invariant-loop-left : goal.invariant-loop-left

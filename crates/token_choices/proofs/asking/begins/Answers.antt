@@ -1,6 +1,6 @@
 use Rattle.std.proofs.Common.{◌∙◌, Err, IfOk, ap, subst, sym}
-use Rattle.pram_syntax.specs.Faults.{IsRefusedRightly}
-use Rattle.pram_syntax.specs.Program.{Begins, ProgramTree, limit}
+use Rattle.pram_trees.specs.Faults.{IsRefusedRightly}
+use Rattle.pram_trees.specs.Program.{Begins, ProgramTree, limit}
 use Rattle.token_choices.specs.Choices.{Decides}
 use Rattle.token_choices.proofs.Beginnings.{begins_whole, decides_by_place, never_within}
 use Rattle.token_choices.proofs.asking.begins.Goals as goal

@@ -1,5 +1,5 @@
 use Rattle.std.proofs.Common.{◌++◌, ap, refl, sym}
-use Rattle.token_choices.specs.Told.{choice_text}
+use Rattle.token_choices.specs.ChoiceTexts.{choice_text}
 use Rattle.text_places.proofs.Pieces.{both, stops_in_first}
 use Rattle.token_choices.proofs.writing.write_among.Goals as goal
 

@@ -1,6 +1,6 @@
 use Rattle.std.proofs.Common.{drop}
 use Rattle.text_out.proofs.Progress.{Progress}
-use Rattle.exchange_counts.specs.Told.{exchange_at}
+use Rattle.exchange_counts.specs.CountedExchanges.{exchange_at}
 use Rattle.trace_pictures.specs.Picture.{received_bars}
 use Rattle.trace_pictures.proofs.bars.write_received_bars.Given as goal
 

@@ -1,6 +1,6 @@
 use Rattle.text_out.proofs.Progress.{breaks_off, closes, goes_on, starts}
 use Rattle.std.proofs.Common.{refl}
-use Rattle.exchange_counts.specs.Told.{exchange_at}
+use Rattle.exchange_counts.specs.CountedExchanges.{exchange_at}
 use Rattle.trace_pictures.specs.Picture.{received_bars}
 use Rattle.trace_pictures.proofs.columns.write_bars.Goals as goal
 

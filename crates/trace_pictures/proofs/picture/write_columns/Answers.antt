@@ -2,7 +2,7 @@ use Rattle.std.proofs.Common.{◌+◌, ◌<◌, ◌≤◌, length, arith, subst,
 use Rattle.text_out.proofs.Writing.{writes_stopped}
 use Rattle.text_out.proofs.Progress.{goes_on, stops}
 use Rattle.superstep_machine.specs.Trace.{relation_of}
-use Rattle.exchange_counts.specs.Told.{exchange_at}
+use Rattle.exchange_counts.specs.CountedExchanges.{exchange_at}
 use Rattle.trace_pictures.specs.Picture.{drawn}
 use Rattle.trace_pictures.proofs.ColumnTexts.{column_fits, columns_at}
 use Rattle.trace_pictures.proofs.picture.write_columns.Goals as goal

@@ -2,7 +2,7 @@ use Rattle.std.proofs.Common.{◌++◌, codes, ap, subst, refl, ◌∙◌}
 use Rattle.std.specs.Prelude.{List, ℕ, decimal}
 use Rattle.text_out.specs.Out.{Writes}
 use Rattle.text_out.proofs.Progress.{breaks_off, closes, goes_on, starts}
-use Rattle.exchange_counts.specs.Told.{exchange_at}
+use Rattle.exchange_counts.specs.CountedExchanges.{exchange_at}
 use Rattle.tracer.specs.Traced.{kind_text}
 use Rattle.tracer.proofs.TraceLemmas.{head_split, behind_sent, behind_received, ending}
 use Rattle.tracer.proofs.exchange_line.write_exchange.Goals as goal

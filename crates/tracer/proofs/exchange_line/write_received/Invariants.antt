@@ -1,6 +1,6 @@
 use Rattle.std.proofs.Common.{drop}
 use Rattle.text_out.proofs.Progress.{Progress}
-use Rattle.exchange_counts.specs.Told.{exchange_at}
+use Rattle.exchange_counts.specs.CountedExchanges.{exchange_at}
 use Rattle.tracer.specs.Traced.{spaced}
 use Rattle.tracer.proofs.exchange_line.write_received.Given as goal
 

@@ -3,8 +3,8 @@ use Rattle.std.specs.Int.{w64}
 use Rattle.std.proofs.lemmas.Int.{to_z-of_z}
 use Rattle.superstep_machine.specs.Parts.{set_register}
 use Rattle.superstep_machine.specs.Fitting.{IsCellBelow}
-use Rattle.superstep_steps.specs.Views.{registers_of}
-use Rattle.superstep_steps.specs.declared.read.Read.{Read}
+use Rattle.instruction_steps.specs.Views.{registers_of}
+use Rattle.instruction_steps.specs.declared.read.Read.{Read}
 use Rattle.worker_exchange.proofs.AnswerLemmas.{no_read, uniform_left, uniform_goes, uniform_ends, came_there, none_there}
 use Rattle.worker_exchange.proofs.AnswerLemmas.{each_of, cell_small}
 use Rattle.worker_exchange.proofs.answering.answer_uniform.Goals.{in-Some, in_default}

@@ -1,6 +1,6 @@
 use Rattle.std.proofs.Common.{◌≡◌, ℕ, ℤ, length}
 use Rattle.superstep_machine.specs.Answering.{answers}
-use Rattle.superstep_steps.specs.Views.{registers_of}
+use Rattle.instruction_steps.specs.Views.{registers_of}
 use Rattle.worker_exchange.specs.Answered.{Gives}
 use Rattle.worker_exchange.proofs.AnswerLemmas.{by_cell, uniform_left}
 use Rattle.worker_exchange.proofs.answering.answer_uniform.Given as goal

@@ -4,7 +4,7 @@ use Rattle.superstep_machine.specs.Sending.{is_private}
 use Rattle.superstep_machine.specs.Setting.{module_cells}
 use Rattle.superstep_machine.specs.Run.{setting}
 use Rattle.superstep_machine.specs.WordLaws.{messages_read}
-use Rattle.superstep_steps.specs.Views.{moment_is, read_is}
+use Rattle.instruction_steps.specs.Views.{moment_is, read_is}
 use Rattle.combining.specs.Merged.{IsLeastShared}
 use Rattle.combining.specs.ModuleLaws.{key_of_shared}
 use Rattle.combining.proofs.ModuleSends.{shared_conflict}

@@ -3,7 +3,7 @@ use Rattle.superstep_machine.specs.Setting.{module_cells}
 use Rattle.superstep_machine.specs.Sending.{read_conflicts}
 use Rattle.superstep_machine.specs.Run.{setting}
 use Rattle.superstep_machine.specs.WordLaws.{messages_read}
-use Rattle.superstep_steps.specs.Views.{read_is}
+use Rattle.instruction_steps.specs.Views.{read_is}
 use Rattle.worker_exchange.proofs.SettleLemmas.{more_noted}
 use Rattle.worker_exchange.proofs.settling.key_of_reads.Goals as goal
 

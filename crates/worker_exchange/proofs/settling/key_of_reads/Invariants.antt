@@ -1,11 +1,11 @@
 use Rattle.std.proofs.Common.{◌≡◌, ◌≤◌, ℕ, List, length, drop, map}
-use Rattle.superstep_code.specs.Code.{SuperstepCode}
+use Rattle.superstep_instructions.specs.Code.{SuperstepCode}
 use Rattle.superstep_machine.specs.declared.header.MessageHeader.{MessageHeader}
 use Rattle.superstep_machine.specs.Setting.{module_cells}
 use Rattle.superstep_machine.specs.Sending.{read_conflicts}
 use Rattle.superstep_machine.specs.Run.{setting}
 use Rattle.superstep_machine.specs.WordLaws.{messages_read}
-use Rattle.superstep_steps.specs.Views.{read_is}
+use Rattle.instruction_steps.specs.Views.{read_is}
 use Rattle.combining.specs.ModuleLaws.{ask_parts}
 use Rattle.worker_exchange.proofs.settling.key_of_reads.Given as goal
 

@@ -2,8 +2,8 @@ use Rattle.std.proofs.Common.{◌≡◌, ℕ, List, map, take, sym, ap, subst, �
 use Rattle.superstep_machine.specs.Keys.{least}
 use Rattle.superstep_machine.specs.Run.{setting, Sends}
 use Rattle.superstep_machine.specs.WordReading.{put_part, ask_part}
-use Rattle.superstep_steps.specs.Views.{read_is, uniform_of}
-use Rattle.superstep_steps.specs.declared.read.Read.{Read}
+use Rattle.instruction_steps.specs.Views.{read_is, uniform_of}
+use Rattle.instruction_steps.specs.declared.read.Read.{Read}
 use Rattle.superstep_machine.specs.Setting.{module_cells}
 use Rattle.superstep_machine.specs.Sending.{read_conflicts}
 use Rattle.write_rules.specs.Rule.{shares_reads}

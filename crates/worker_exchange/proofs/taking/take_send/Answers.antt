@@ -11,7 +11,7 @@ use Rattle.worker_bank.specs.declared.bank.Bank.{Bank}
 use Rattle.message_rows.specs.Rows.{message_at}
 use Rattle.message_rows.specs.Sends.{words_of}
 use Rattle.worker_messages.specs.declared.local.Local.{Local}
-use Rattle.superstep_steps.specs.Views.{uniform_of}
+use Rattle.instruction_steps.specs.Views.{uniform_of}
 use Rattle.worker_messages.specs.Shown.{cells_asked}
 use Rattle.worker_messages.specs.Equipped.{most_words}
 use Rattle.worker_exchange.specs.Received.{messages_to}

@@ -3,8 +3,8 @@ use Rattle.std.specs.Prelude.{slice_index_or}
 use Rattle.std.specs.List.{AllByRecursion, range_with_len}
 use Rattle.superstep_machine.specs.Run.{setting, opening}
 use Rattle.superstep_machine.specs.Setting.{workers, processors}
-use Rattle.run_limits.specs.Within.{words_for_each}
-use Rattle.run_limits.proofs.Shares.{few_processors}
+use Rattle.machine_limits.specs.Within.{words_for_each}
+use Rattle.machine_limits.proofs.Shares.{few_processors}
 use Rattle.combining.specs.Asked.{IsAskBelow}
 use Rattle.worker_messages.specs.declared.local.Local.{Local}
 use Rattle.worker_messages.specs.declared.way.Way.TheVariants as ways

@@ -1,5 +1,5 @@
 use Rattle.std.proofs.Common.{◌+◌, ◌-◌, ◌*◌, ◌/◌, sym, ap, ◌∙◌}
-use Rattle.run_limits.specs.Within.{words_for_each}
+use Rattle.machine_limits.specs.Within.{words_for_each}
 use Rattle.worker_messages.proofs.opening.row_room.Goals as goal
 
 pub returns-clause-value : goal.returns-clause-value

@@ -2,7 +2,7 @@ use Rattle.std.proofs.Common.{◌≡◌, ◌∷◌, [], sym, ap, ◌∙◌, arit
 use Rattle.std.proofs.lemmas.Int.{to_z-of_z}
 use Rattle.superstep_machine.specs.Steps.{index_of, write_to}
 use Rattle.superstep_machine.specs.Worker.{by_processor}
-use Rattle.superstep_steps.specs.Views.{uniform_of}
+use Rattle.instruction_steps.specs.Views.{uniform_of}
 use Rattle.combining.specs.Held.{held_after}
 use Rattle.worker_bank.specs.Cells.{cell_in}
 use Rattle.worker_bank.specs.Columns.{value_of}

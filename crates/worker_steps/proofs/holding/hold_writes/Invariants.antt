@@ -1,5 +1,5 @@
 use Rattle.std.proofs.Common.{◌≡◌, ◌≤◌, ◌+◌, length}
-use Rattle.superstep_steps.specs.Views.{uniform_of}
+use Rattle.instruction_steps.specs.Views.{uniform_of}
 use Rattle.combining.specs.Held.{held_after}
 use Rattle.worker_steps.specs.Held.{writes_of}
 use Rattle.worker_steps.proofs.holding.hold_writes.Given as goal

@@ -3,10 +3,10 @@ use Rattle.std.proofs.Common.{rules}
 use Rattle.std.specs.Prelude.{FitsSigned}
 use Rattle.std.specs.Int.{w64}
 use Rattle.std.proofs.lemmas.Int.{to_z-of_z}
-use Rattle.superstep_code.specs.declared.instr.Side.TheVariants.{Private}
-use Rattle.superstep_code.specs.declared.instr.Instr.TheVariants.{Set}
-use Rattle.superstep_steps.specs.Views.{registers_of}
-use Rattle.superstep_steps.specs.Views.{uniform_of}
+use Rattle.superstep_instructions.specs.declared.instr.Side.TheVariants.{Private}
+use Rattle.superstep_instructions.specs.declared.instr.Instr.TheVariants.{Set}
+use Rattle.instruction_steps.specs.Views.{registers_of}
+use Rattle.instruction_steps.specs.Views.{uniform_of}
 use Rattle.worker_bank.specs.Bank.{IsAfter, IsFirstFault}
 use Rattle.worker_steps.proofs.KindLemmas.{set_fits, set_private, copy_private, negate_private, calculate_private, decide_private, not_private}
 use Rattle.worker_steps.proofs.registers.work.Goals as goal

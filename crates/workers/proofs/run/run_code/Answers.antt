@@ -1,12 +1,12 @@
 use Rattle.std.proofs.Common.{◌≡◌, ℕ, Ok, Err, Option, Some, None, inr, refl, sym, ap, ◌∙◌, subst, arith, Vec, Global}
 use Rattle.std.specs.Prelude.{slice_get, IfOk, IfErr, IfSome, Result, List, ℤ}
 use Rattle.address_map.specs.Lawful.{Shape}
-use Rattle.superstep_code.specs.Code.{SuperstepCode}
+use Rattle.superstep_instructions.specs.Code.{SuperstepCode}
 use Rattle.worker_messages.specs.declared.refusal.RunRefusal.{RunRefusal}
 use Rattle.worker_messages.specs.Opened.{IsAccepted, IsRefusal}
 use Rattle.worker_messages.specs.Equipped.{most_words}
 use Rattle.bsp_machine.specs.declared.counted.CountedWorker.{CountedWorker}
-use Rattle.bsp_machine.specs.declared.reserve.Reserve.{Reserve}
+use Rattle.run_options.specs.declared.reserve.Reserve.{Reserve}
 use Rattle.bsp_machine.specs.Reserves.{HaveReserve, refusal_for}
 use Rattle.bsp_machine.specs.Opening.{AreFresh}
 use Rattle.bsp_machine.proofs.ListLemmas.{get_there}

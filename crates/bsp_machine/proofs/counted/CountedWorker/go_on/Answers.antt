@@ -3,7 +3,7 @@ use Rattle.superstep_machine.specs.declared.mark.HeaderMark.TheVariants.{OutOfMe
 use Rattle.superstep_machine.specs.Run.{setting, message_of}
 use Rattle.message_rows.specs.Rows.{IsRow, written, message_at}
 use Rattle.worker_messages.specs.Shown.{purpose_is, marked, IsShown, IsAtExchange}
-use Rattle.worker_messages.specs.Told.{IsWrittenFor}
+use Rattle.worker_messages.specs.MessagesWritten.{IsWrittenFor}
 use Rattle.bsp_machine.proofs.MarkLemmas.{going_on}
 use Rattle.bsp_machine.specs.Reserves.{own_mark}
 use Rattle.bsp_machine.proofs.CountedLemmas.{standing_refused, no_reserve, stopped_short, short_of_room}

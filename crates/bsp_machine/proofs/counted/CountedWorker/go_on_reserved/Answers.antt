@@ -5,8 +5,8 @@ use Rattle.superstep_machine.specs.declared.mark.HeaderMark.TheVariants.{OutOfRe
 use Rattle.superstep_machine.specs.Run.{setting, ready, message_of}
 use Rattle.message_rows.specs.Rows.{IsRow, written, message_at}
 use Rattle.worker_messages.specs.Shown.{purpose_is, marked, is_stopped, IsShown, IsAtExchange}
-use Rattle.worker_messages.specs.Told.{IsWrittenFor}
-use Rattle.bsp_machine.specs.declared.reserve.Reserve.{Reserve}
+use Rattle.worker_messages.specs.MessagesWritten.{IsWrittenFor}
+use Rattle.run_options.specs.declared.reserve.Reserve.{Reserve}
 use Rattle.bsp_machine.specs.Reserves.{is_past, own_mark}
 use Rattle.bsp_machine.proofs.MarkLemmas.{going_on, or_false, never}
 use Rattle.bsp_machine.proofs.CountedLemmas.{standing_refused, one_reserve, past_is}

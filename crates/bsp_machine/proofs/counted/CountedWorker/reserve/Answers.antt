@@ -2,9 +2,9 @@ use Rattle.std.proofs.Common.{◌≤◌, length, Some, refl, ap, subst, ◌∙�
 use Rattle.std.specs.Prelude.{vec_capacity}
 use Rattle.superstep_machine.specs.Parts.{UniformPart}
 use Rattle.superstep_machine.specs.Run.{setting, opening}
-use Rattle.superstep_steps.specs.Views.{HasReserve}
+use Rattle.instruction_steps.specs.Views.{HasReserve}
 use Rattle.worker_messages.specs.declared.local.Local.{Local}
-use Rattle.bsp_machine.specs.declared.reserve.Reserve.{Reserve}
+use Rattle.run_options.specs.declared.reserve.Reserve.{Reserve}
 use Rattle.bsp_machine.proofs.CountedLemmas.{one_reserve}
 use Rattle.bsp_machine.proofs.counted.CountedWorker.reserve.Goals as goal
 

@@ -3,7 +3,7 @@ use Rattle.std.proofs.lemmas.List.{length-map}
 use Rattle.worker_messages.specs.Shown.{purpose_is}
 use Rattle.exchange_counts.specs.declared.count.Count.{Count}
 use Rattle.exchange_counts.specs.Columns.{columns_of, column_of, entry_of}
-use Rattle.exchange_counts.proofs.ToldLemmas.{Column, column_is, entry_is, inside, sent_many, sent_is, received_is, purpose_seen}
+use Rattle.exchange_counts.proofs.CountedExchangeLemmas.{Column, column_is, entry_is, inside, sent_many, sent_is, received_is, purpose_seen}
 use Rattle.exchange_counts.proofs.counts.Counts.count.Goals as goal
 
 pub index-requires : goal.index-requires

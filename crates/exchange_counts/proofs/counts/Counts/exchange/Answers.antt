@@ -1,5 +1,5 @@
 use Rattle.std.proofs.Common.{◌<◌, length, ◌∙◌, arith}
-use Rattle.exchange_counts.specs.Told.{exchange_at}
+use Rattle.exchange_counts.specs.CountedExchanges.{exchange_at}
 use Rattle.exchange_counts.proofs.Greatest.{most_more, reached_more, is_greatest, relation_is}
 use Rattle.exchange_counts.proofs.counts.Counts.exchange.Goals as goal
 

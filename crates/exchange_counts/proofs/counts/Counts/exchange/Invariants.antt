@@ -1,6 +1,6 @@
 use Rattle.std.proofs.Common.{ℕ, ◌<◌, ◌≤◌, get_or}
 use Rattle.superstep_machine.specs.Trace.{greatest}
-use Rattle.exchange_counts.specs.Told.{exchange_at}
+use Rattle.exchange_counts.specs.CountedExchanges.{exchange_at}
 use Rattle.exchange_counts.proofs.counts.Counts.exchange.Given as goal
 
 abbrev pub invariant-workers : goal.invariant-workers

@@ -1,7 +1,7 @@
 use Rattle.std.proofs.Common.{length, ap, arith}
 use Rattle.std.proofs.lemmas.List.{length-map}
 use Rattle.exchange_counts.specs.Columns.{columns_of}
-use Rattle.exchange_counts.proofs.ToldLemmas.{Column, as_long, column_is}
+use Rattle.exchange_counts.proofs.CountedExchangeLemmas.{Column, as_long, column_is}
 use Rattle.exchange_counts.proofs.counts.Counts.len.Goals as goal
 
 pub returns : goal.returns

@@ -1,7 +1,7 @@
 use Rattle.std.proofs.Common.{arith}
 use Rattle.std.proofs.lemmas.List.{length-map}
 use Rattle.exchange_counts.specs.Columns.{columns_of}
-use Rattle.exchange_counts.proofs.ToldLemmas.{Column, sent_many, received_many}
+use Rattle.exchange_counts.proofs.CountedExchangeLemmas.{Column, sent_many, received_many}
 use Rattle.exchange_counts.proofs.counts.Counts.workers.Goals as goal
 
 pub returns-clause-sent : goal.returns-clause-sent

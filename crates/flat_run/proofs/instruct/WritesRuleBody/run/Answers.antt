@@ -4,7 +4,7 @@ use Rattle.pram_values.specs.Total.{total}
 use Rattle.superstep_machine.specs.Sending.{join}
 use Rattle.superstep_machine.specs.Steps.{index_of, own_write, uniform_write}
 use Rattle.flat_machine.specs.Flat.{single_to}
-use Rattle.superstep_steps.specs.Views.{uniform_of}
+use Rattle.instruction_steps.specs.Views.{uniform_of}
 use Rattle.flat_run.specs.Views.{own_of, held_of}
 use Rattle.flat_run.proofs.instruct.WritesRuleBody.run.Goals as goal
 

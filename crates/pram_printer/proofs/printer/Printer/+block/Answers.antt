@@ -1,6 +1,6 @@
 use Rattle.std.proofs.Common.{None, Some, ap, sym, ◌∙◌}
-use Rattle.pram_syntax.specs.declared.tree.Stmt.TheVariants as s
-use Rattle.pram_syntax.specs.Blocks.{block_tokens, local_tokens, statement_tokens}
+use Rattle.pram_trees.specs.declared.tree.Stmt.TheVariants as s
+use Rattle.pram_trees.specs.Blocks.{block_tokens, local_tokens, statement_tokens}
 use Rattle.pram_printer.specs.Spelling.{spelling}
 use Rattle.text_out.proofs.Printed.{printed_as, printed_more, prints_then}
 use Rattle.pram_printer.proofs.Printed.{spelling-append, spelling-assign, spelling-assign_element, spelling-for, spelling-if}

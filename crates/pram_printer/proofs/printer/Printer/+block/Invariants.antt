@@ -1,7 +1,7 @@
 use Rattle.std.proofs.Common.{◌≡◌}
 use Rattle.text_out.specs.Printing.{printing}
 use Rattle.pram_printer.specs.Spelling.{spelling}
-use Rattle.pram_syntax.specs.Blocks.{block_tokens}
+use Rattle.pram_trees.specs.Blocks.{block_tokens}
 use Rattle.text_out.proofs.Printed.{PrintedTo}
 use Rattle.pram_printer.proofs.printer.Printer.+block.Given as goal
 

@@ -1,5 +1,5 @@
 use Rattle.std.proofs.Common.{◌∙◌}
-use Rattle.pram_syntax.specs.Grammar.{step_tokens}
+use Rattle.pram_trees.specs.Grammar.{step_tokens}
 use Rattle.pram_printer.specs.Spelling.{spelling}
 use Rattle.text_out.proofs.Printed.{printed_as, printed_more, prints_then}
 use Rattle.pram_printer.proofs.Printed.{as_chain, as_paren, as_prefix, step_more, step_text}

@@ -1,5 +1,5 @@
 use Rattle.std.proofs.Common.{ap}
-use Rattle.pram_syntax.specs.Program.{declaration_tokens}
+use Rattle.pram_trees.specs.Program.{declaration_tokens}
 use Rattle.pram_printer.specs.Spelling.{spelling}
 use Rattle.text_out.proofs.Printed.{printed_as, prints_then}
 use Rattle.pram_printer.proofs.printer.Printer.declaration.Goals as goal

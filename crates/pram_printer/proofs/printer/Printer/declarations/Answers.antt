@@ -1,5 +1,5 @@
 use Rattle.std.proofs.Common.{◌∙◌}
-use Rattle.pram_syntax.specs.Program.{declaration_tokens, declarations_tokens}
+use Rattle.pram_trees.specs.Program.{declaration_tokens, declarations_tokens}
 use Rattle.pram_printer.specs.Spelling.{spelling}
 use Rattle.text_out.proofs.Printed.{printed_more}
 use Rattle.pram_printer.proofs.Printed.{spelling-append}

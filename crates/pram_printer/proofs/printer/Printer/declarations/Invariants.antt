@@ -1,7 +1,7 @@
 use Rattle.std.proofs.Common.{◌≡◌}
 use Rattle.text_out.specs.Printing.{printing}
 use Rattle.pram_printer.specs.Spelling.{spelling}
-use Rattle.pram_syntax.specs.Program.{declarations_tokens}
+use Rattle.pram_trees.specs.Program.{declarations_tokens}
 use Rattle.text_out.proofs.Printed.{PrintedTo}
 use Rattle.pram_printer.proofs.printer.Printer.declarations.Given as goal
 

@@ -3,7 +3,7 @@ use Rattle.pram_tokens.specs.declared.token.Token.TheVariants as token
 use Rattle.pram_tokens.specs.declared.token.Mark.TheVariants as mark
 use Rattle.pram_tokens.specs.declared.token.Name.{Name}
 use Rattle.pram_tokens.specs.declared.token.Token.{Token}
-use Rattle.pram_syntax.specs.Blocks.{local_tokens}
+use Rattle.pram_trees.specs.Blocks.{local_tokens}
 use Rattle.pram_printer.specs.Spelling.{spelling}
 use Rattle.text_out.proofs.Printed.{printed_more, prints_then}
 use Rattle.pram_printer.proofs.Printed.{spelling-append}

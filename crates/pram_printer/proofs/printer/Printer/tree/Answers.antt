@@ -1,6 +1,6 @@
 use Rattle.std.proofs.Common.{ap, sym}
-use Rattle.pram_syntax.specs.Blocks.{block_tokens}
-use Rattle.pram_syntax.specs.Program.{declarations_tokens}
+use Rattle.pram_trees.specs.Blocks.{block_tokens}
+use Rattle.pram_trees.specs.Program.{declarations_tokens}
 use Rattle.pram_printer.specs.Spelling.{spelling}
 use Rattle.text_out.proofs.Printed.{printed_as, prints_then}
 use Rattle.pram_printer.proofs.Printed.{spelling-program}

@@ -11,7 +11,7 @@ use Rattle.work_time.proofs.Blocks.{else_arm, for_arm, for_goes, then_arm, while
 use Rattle.work_time.proofs.Closings.{closes}
 use Rattle.work_time.proofs.ForLoops.{turn_goes, turn_halts, turns_end}
 use Rattle.work_time.proofs.Loops as loop
-use Rattle.work_time.specs.Told.{told_closed}
+use Rattle.work_time.specs.CountedParts.{told_closed}
 use Rattle.work_time.proofs.meter.Meter.+outside.Goals as goal
 
 pub run_for-returns-clause-value : goal.run_for-returns-clause-value

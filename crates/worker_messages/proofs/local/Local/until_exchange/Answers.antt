@@ -1,13 +1,13 @@
 use Rattle.std.proofs.Common.{◌≡◌, ◌<◌, sym, subst, ap, ◌∙◌, arith}
 use Rattle.message_rows.specs.Rows.{IsRow, written, message_at}
 use Rattle.superstep_machine.specs.Run.{setting, message_of}
-use Rattle.superstep_steps.specs.Views.{KeepsReserve}
+use Rattle.instruction_steps.specs.Views.{KeepsReserve}
 use Rattle.worker_messages.specs.declared.local.Local.{Local}
 use Rattle.worker_messages.specs.Shown.{purpose_is, marked, IsAtExchange}
 use Rattle.worker_messages.specs.Equipped.{IsAtStep}
 use Rattle.worker_messages.specs.Arrived.{CanTell}
-use Rattle.worker_messages.specs.Told.{told, IsWrittenFor}
-use Rattle.worker_messages.proofs.ToldLemmas.{told_is, told_back, same_row, can_tell, still_at, still_stands, unmarked}
+use Rattle.worker_messages.specs.MessagesWritten.{told, IsWrittenFor}
+use Rattle.worker_messages.proofs.MessagesWrittenLemmas.{told_is, told_back, same_row, can_tell, still_at, still_stands, unmarked}
 use Rattle.worker_messages.proofs.local.Local.until_exchange.Goals as goal
 
 pub tell-requires-clause-can : goal.tell-requires-clause-can

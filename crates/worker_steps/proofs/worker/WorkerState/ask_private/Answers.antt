@@ -2,10 +2,10 @@ use Rattle.std.proofs.Common.{◌≡◌, ◌<◌, length, sym, ap, ◌∙◌, ar
 use Rattle.std.specs.Vec.{with_items, with_item}
 use Rattle.std.proofs.lemmas.List.{with_items_is}
 use Rattle.pram_values.specs.declared.kind.Kind.{Kind}
-use Rattle.superstep_code.specs.declared.instr.Side.TheVariants.{Private}
-use Rattle.superstep_code.specs.declared.instr.Instr.TheVariants.{Ask}
+use Rattle.superstep_instructions.specs.declared.instr.Side.TheVariants.{Private}
+use Rattle.superstep_instructions.specs.declared.instr.Instr.TheVariants.{Ask}
 use Rattle.superstep_machine.specs.Keys.{least}
-use Rattle.superstep_steps.specs.Views.{uniform_of}
+use Rattle.instruction_steps.specs.Views.{uniform_of}
 use Rattle.worker_bank.specs.Bank.{part_at, number_of, IsFirstFault}
 use Rattle.superstep_machine.specs.Steps.{on_own}
 use Rattle.worker_bank.specs.Cells.{cell_in}

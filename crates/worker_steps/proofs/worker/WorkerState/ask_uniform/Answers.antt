@@ -2,9 +2,9 @@ use Rattle.std.proofs.Common.{length, sym, ap, ◌∙◌, arith, ◌∷◌, []}
 use Rattle.std.proofs.Common.{rules, w64, to_z, of_z, FitsSigned}
 use Rattle.std.proofs.lemmas.Int.{to_z-of_z}
 use Rattle.pram_model.specs.Layout.{cell_of}
-use Rattle.superstep_code.specs.declared.instr.Side.TheVariants.{Uniform}
+use Rattle.superstep_instructions.specs.declared.instr.Side.TheVariants.{Uniform}
 use Rattle.superstep_machine.specs.Keys.{least}
-use Rattle.superstep_steps.specs.Views.{registers_of}
+use Rattle.instruction_steps.specs.Views.{registers_of}
 use Rattle.combining.specs.Adding.{by_read, asked_after}
 use Rattle.worker_steps.proofs.AskDone.{room_left, few_reads, cell_small, done_ask_uniform}
 use Rattle.worker_steps.proofs.worker.WorkerState.ask_uniform.Goals as goal

@@ -7,7 +7,7 @@ use Rattle.superstep_machine.specs.Keys.{least}
 use Rattle.superstep_machine.specs.Parts.{UniformPart}
 use Rattle.superstep_machine.specs.Results.{position_of}
 use Rattle.superstep_machine.specs.Steps.{fault_at, on_uniform, uniform_key, wrong_uniform}
-use Rattle.superstep_steps.specs.Views.{uniform_of}
+use Rattle.instruction_steps.specs.Views.{uniform_of}
 use Rattle.worker_steps.specs.Done.{IsDone}
 use Rattle.worker_steps.proofs.DoneLemmas.{least_none}
 use Rattle.worker_steps.proofs.KindLemmas.{fault_kept, renewal_works}

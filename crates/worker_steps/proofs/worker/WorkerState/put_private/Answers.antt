@@ -2,11 +2,11 @@ use Rattle.std.proofs.Common.{◌≡◌, ◌<◌, length, sym, ap, ◌∙◌, ar
 use Rattle.std.specs.Vec.{with_items}
 use Rattle.std.proofs.lemmas.List.{with_items_is}
 use Rattle.pram_values.specs.declared.kind.Kind.{Kind}
-use Rattle.superstep_code.specs.declared.instr.Side.TheVariants.{Private}
-use Rattle.superstep_code.specs.declared.instr.Instr.TheVariants.{Put}
+use Rattle.superstep_instructions.specs.declared.instr.Side.TheVariants.{Private}
+use Rattle.superstep_instructions.specs.declared.instr.Instr.TheVariants.{Put}
 use Rattle.superstep_machine.specs.Keys.{least}
 use Rattle.superstep_machine.specs.Parts.{Registers, PrivatePart}
-use Rattle.superstep_steps.specs.Views.{uniform_of}
+use Rattle.instruction_steps.specs.Views.{uniform_of}
 use Rattle.combining.specs.Held.{held_after}
 use Rattle.worker_bank.specs.Bank.{part_at, number_of, registers_at, IsFirstFault}
 use Rattle.worker_bank.specs.Columns.{value_of}

@@ -1,10 +1,10 @@
 use Rattle.std.proofs.Common.{◌∙◌, sym, ap, refl, None, [], ◌∷◌, pos, cond, eqb}
-use Rattle.superstep_code.specs.declared.instr.Side.TheVariants.{Uniform}
-use Rattle.superstep_code.specs.declared.instr.Instr.TheVariants.{Put}
+use Rattle.superstep_instructions.specs.declared.instr.Side.TheVariants.{Uniform}
+use Rattle.superstep_instructions.specs.declared.instr.Instr.TheVariants.{Put}
 use Rattle.superstep_machine.specs.Keys.{least}
 use Rattle.superstep_machine.specs.Steps.{is_active, uniform_key, uniform_write}
 use Rattle.superstep_machine.specs.Worker.{by_processor}
-use Rattle.superstep_steps.specs.Views.{uniform_of}
+use Rattle.instruction_steps.specs.Views.{uniform_of}
 use Rattle.combining.specs.Held.{held_after}
 use Rattle.worker_bank.specs.Bank.{part_at, number_of}
 use Rattle.worker_steps.specs.Held.{made}

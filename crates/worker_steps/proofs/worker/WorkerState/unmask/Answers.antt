@@ -1,7 +1,7 @@
 use Rattle.std.proofs.Common.{sym, refl, None, arith}
-use Rattle.superstep_code.specs.declared.instr.Instr.TheVariants.{Unmask}
-use Rattle.superstep_steps.specs.Views.{uniform_of}
-use Rattle.worker_bank.proofs.ToldLemmas.{others_never_fault}
+use Rattle.superstep_instructions.specs.declared.instr.Instr.TheVariants.{Unmask}
+use Rattle.instruction_steps.specs.Views.{uniform_of}
+use Rattle.worker_bank.proofs.InstructionReportLemmas.{others_never_fault}
 use Rattle.worker_steps.proofs.DoneLemmas.{done_bank, least_none}
 use Rattle.worker_steps.proofs.worker.WorkerState.unmask.Goals as goal
 

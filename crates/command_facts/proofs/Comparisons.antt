@@ -1,0 +1,23 @@
+-- A comparison of what the files of a call hold.
+use Rattle.std.proofs.Common.{◌≡◌, ◌≤◌, ℕ, ℤ, List, subst, sym}
+use Rattle.std.specs.Prelude.{Option, length}
+use Rattle.pram_model.specs.Layout.{SharedEntry, total_size}
+use Rattle.rule_comparison.specs.Compared.{IsComparison}
+use Rattle.rule_comparison.specs.declared.comparison.Comparison.{Comparison}
+use Rattle.command_requests.specs.declared.request.RunWords.{RunWords}
+use Rattle.command_facts.specs.declared.loaded.Loaded.{Loaded}
+use Rattle.command_facts.specs.Found.{IsComparisonFound, IsInputFor, IsLoaded}
+
+pub comparison_found : (holds : List ℕ → Option (List ℕ) → Type 0) (file : List ℕ) (words : RunWords) (l : Loaded) (input given : List ℤ)
+    (c : Comparison) → given ≡ input → IsLoaded (holds file) l → IsInputFor holds words input → c.layout ≡ l.program.layout →
+    length given ≤ total_size l.program.layout → IsComparison l.program given words.options.bound c → IsComparisonFound holds file words c
+comparison_found holds file words l input given c same is is_input declared fits compared = record {
+  loaded = l;
+  is_loaded = is;
+  input = input;
+  given = is_input;
+  declared = declared;
+  fits = subst (λ (i : List ℤ). length i ≤ total_size c.layout) same
+      (subst (λ (e : List SharedEntry). length given ≤ total_size e) (sym declared) fits);
+  compared = subst (λ (i : List ℤ). IsComparison l.program i words.options.bound c) same compared;
+}

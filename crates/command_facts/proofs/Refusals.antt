@@ -1,0 +1,79 @@
+-- Why a run is refused, put together from its reason and from what is told besides.
+use Rattle.std.proofs.Common.{◌≡◌, ◌≤◌, ◌<◌, ℕ, ℤ, List, arith, refl, subst, sym}
+use Rattle.std.specs.Prelude.{◌↔◌, Option, length}
+use Rattle.pram_model.specs.Layout.{total_size}
+use Rattle.pram_check.specs.Checked.{Checked}
+use Rattle.superstep_instructions.specs.Code.{SuperstepCode}
+use Rattle.pram_meaning.specs.declared.reference.RunRefusal.{RunRefusal}
+use Rattle.pram_meaning.specs.declared.reference.RunRefusal.TheVariants as no_meaning
+use Rattle.program_texts.specs.Report.{IsMeaningRefused}
+use Rattle.program_texts.specs.declared.from_text.Refusal.{Refusal}
+use Rattle.program_texts.specs.declared.stop.Stop.TheVariants.{Refused}
+use Rattle.bsp_verify.specs.WellFormed.{IsWellFormed}
+use Rattle.program_runs.specs.Reserved.{IsCodeRefusedWith}
+use Rattle.command_requests.specs.declared.request.RunWords.{RunWords}
+use Rattle.command_requests.specs.declared.request.Verb.{Verb}
+use Rattle.command_facts.specs.declared.halted.Halted.{Halted}
+use Rattle.command_facts.specs.declared.loaded.Loaded.{Loaded}
+use Rattle.command_facts.specs.Found.{IsInputFor, IsLoaded}
+use Rattle.command_facts.specs.Held.{IsListingIn}
+use Rattle.command_facts.specs.Refused.{IsRefusedCodeRun, IsRefusedRun, IsRunRefusedBy, IsToldWith, StopsAtCodeRun, StopsAtRun, refusal_of}
+
+-- by the definition
+pub no_meaning_on : (program : Checked) (input : List ℤ) (r : RunRefusal) →
+    (r ≡ no_meaning.InputTooLong) ↔ (total_size program.layout < length input) → IsMeaningRefused program input (refusal_of r)
+no_meaning_on program input no_meaning.InputTooLong is = is.0 refl
+no_meaning_on program input no_meaning.OutOfMemory is = few (λ long. differ (is.1 long))
+  where
+    differ : no_meaning.OutOfMemory ≡ no_meaning.InputTooLong → ⊥
+    differ e = cc
+
+    few : (total_size program.layout < length input → ⊥) → length input ≤ total_size program.layout
+    few h = omega (arith, h)
+
+-- a program's run
+pub run_refused : (verb : Verb) (program : Checked) (input : List ℤ) (words : RunWords) (r : Refusal) (h : Halted) →
+    IsRunRefusedBy verb program input words r → h.stop ≡ Refused r → IsToldWith r (length input) (total_size program.layout) h.about →
+    IsRefusedRun verb program input words h.stop h.about
+run_refused verb program input words r h why is told =
+    subst (λ s. IsRefusedRun verb program input words s h.about) (sym is) (why, told)
+
+-- the run of code
+pub code_run_refused : (code : SuperstepCode) (input : List ℤ) (words : RunWords) (r : Refusal) (h : Halted) →
+    IsCodeRefusedWith code input words.options words.reserve r → h.stop ≡ Refused r →
+    IsToldWith r (length input) (total_size code.layout) h.about → IsRefusedCodeRun code input words h.stop h.about
+code_run_refused code input words r h why is told = subst (λ s. IsRefusedCodeRun code input words s h.about) (sym is) (why, told)
+
+-- ---- over files
+
+module _ (holds : List ℕ → Option (List ℕ) → Type 0) (file : List ℕ) (words : RunWords) (input given : List ℤ) (same : given ≡ input)
+    (is_input : IsInputFor holds words input) (values cells : ℕ) (r : Refusal) (h : Halted) (stops : h.stop ≡ Refused r)
+    (told : IsToldWith r values cells h.about) where
+  told_with : (n m : ℕ) → values ≡ n → cells ≡ m → IsToldWith r n m h.about
+  told_with n m v c = subst (λ (x : ℕ). IsToldWith r x m h.about) v (subst (λ (x : ℕ). IsToldWith r values x h.about) c told)
+
+  -- the run of the file's program
+  pub stops_at_run : (verb : Verb) (l : Loaded) → IsLoaded (holds file) l → values ≡ length input → cells ≡ total_size l.program.layout →
+      IsRunRefusedBy verb l.program given words r → StopsAtRun holds verb file words h
+  stops_at_run verb l is v c why = record {
+    program = l.program;
+    is = record { text = l.source.bytes.items; held = is.0; is_program = is.1 };
+    input = input;
+    given = is_input;
+    refused = run_refused verb l.program input words r h (subst (λ (i : List ℤ). IsRunRefusedBy verb l.program i words r) same why) stops
+        (told_with (length input) (total_size l.program.layout) v c);
+  }
+
+  -- the run of its code
+  pub stops_at_code_run : (code : SuperstepCode) → IsListingIn (holds file) code → IsWellFormed code → values ≡ length input →
+      cells ≡ total_size code.layout → IsCodeRefusedWith code given words.options words.reserve r → StopsAtCodeRun holds file words h
+  stops_at_code_run code is verified v c why = record {
+    code = code;
+    is = is;
+    verified = verified;
+    input = input;
+    given = is_input;
+    refused = code_run_refused code input words r h
+        (subst (λ (i : List ℤ). IsCodeRefusedWith code i words.options words.reserve r) same why) stops
+        (told_with (length input) (total_size code.layout) v c);
+  }

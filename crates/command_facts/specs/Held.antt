@@ -1,0 +1,68 @@
+-- What the files of a call hold, and which file a refusal speaks of.
+use Rattle.std.specs.Prelude.{◌≡◌, ℕ, ℤ, List, Option, Some, None, Err}
+use Rattle.pram_tokens.specs.Input.{IsInputOf}
+use Rattle.pram_tokens.specs.Plain.{IsPlain}
+use Rattle.pram_tokens.specs.Scanning.{longest}
+use Rattle.pram_check.specs.Checked.{Checked}
+use Rattle.superstep_instructions.specs.Code.{SuperstepCode}
+use Rattle.superstep_listing.specs.Text.{IsListing}
+use Rattle.superstep_listing.specs.Text.{longest as longest_listing}
+use Rattle.program_texts.specs.Files.{IsReadFrom}
+use Rattle.program_texts.specs.Report.{IsInputRefusal, IsNoProgram}
+use Rattle.program_texts.specs.declared.from_text.Refusal.TheVariants as refusal
+use Rattle.program_texts.specs.declared.stop.Stop.{Stop}
+use Rattle.program_texts.specs.declared.stop.Stop.TheVariants as stop
+use Rattle.diagnoses.specs.declared.about.About.{About}
+use Rattle.diagnoses.specs.declared.about.About.TheVariants as about
+use Rattle.command_facts.specs.declared.halted.Halted.{Halted}
+use Rattle.command_facts.specs.Listings.{IsOfListing, IsUnverifiedText}
+
+-- the file holds an input of these values
+abbrev pub IsInputIn : (Option (List ℕ) → Type 0) → List ℤ → Type 0
+IsInputIn holds values = (text : List ℕ) × holds (Some text) × IsInputOf text values
+
+-- the file holds a listing of that code
+abbrev pub IsListingIn : (Option (List ℕ) → Type 0) → SuperstepCode → Type 0
+IsListingIn holds code = (text : List ℕ) × holds (Some text) × IsListing text code
+
+-- The name stands for no file that can be read; or memory was refused.
+abbrev pub IsUnread : (Option (List ℕ) → Type 0) → List ℕ → Stop → Type 0
+IsUnread holds name (stop.Unreadable word) = (word.now ≡ name) × holds None
+IsUnread holds name (stop.Refused refusal.OutOfMemory) = Unit {0}
+IsUnread holds name _ = ⊥
+
+-- A call stops at a file: it wasn't read; or what it holds, as far as it was read, has what is told.
+abbrev pub IsAtFile : (Option (List ℕ) → Type 0) → List ℕ → (most : ℕ) → (Stop → List ℕ → Type 0) → Stop → About → Type 0
+IsAtFile holds name most Has why about.Nothing = IsUnread holds name why
+IsAtFile holds name most Has why (about.Text s) = IsReadFrom holds most s.bytes.items × Has why s.bytes.items
+IsAtFile holds name most Has (stop.NotVerified at word) (about.Line s line) =
+    IsReadFrom holds most s.bytes.items × IsUnverifiedText at word.now s.bytes.items line
+IsAtFile holds name most Has why _ = ⊥
+
+-- the text of a program is refused for that
+abbrev pub IsOfProgram : Stop → List ℕ → Type 0
+IsOfProgram (stop.Refused r) text = IsNoProgram {X = Checked} text (Err r)
+IsOfProgram _ text = ⊥
+
+-- the text of an input is
+abbrev pub IsOfInput : Stop → List ℕ → Type 0
+IsOfInput (stop.Refused (refusal.Text fault)) text = IsInputRefusal text fault
+IsOfInput (stop.Refused refusal.OutOfMemory) text = IsPlain text
+IsOfInput _ text = ⊥
+
+-- the code of a listing is refused for the line that is told, or for want of memory
+abbrev pub IsOfCodeIn : List ℕ → Stop → About → Type 0
+IsOfCodeIn text (stop.NotVerified at word) (about.Line s line) =
+    (s.bytes.items ≡ text) × IsUnverifiedText at word.now s.bytes.items line
+IsOfCodeIn text (stop.Refused refusal.OutOfMemory) about.Nothing = Unit {0}
+IsOfCodeIn text _ _ = ⊥
+
+-- the call stops at the file of a program, of an input, of a listing
+abbrev pub StopsAtProgram : (Option (List ℕ) → Type 0) → List ℕ → Halted → Type 0
+StopsAtProgram holds name h = IsAtFile holds name longest IsOfProgram h.stop h.about
+
+abbrev pub StopsAtInput : (Option (List ℕ) → Type 0) → List ℕ → Halted → Type 0
+StopsAtInput holds name h = IsAtFile holds name longest IsOfInput h.stop h.about
+
+abbrev pub StopsAtListing : (Option (List ℕ) → Type 0) → List ℕ → Halted → Type 0
+StopsAtListing holds name h = IsAtFile holds name longest_listing IsOfListing h.stop h.about

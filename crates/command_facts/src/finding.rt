@@ -1,0 +1,176 @@
+//! What calls find in their files.
+
+ghost use Rattle.std.specs.Prelude.{◌≡◌, ◌⊎◌, IfOk, IfErr};
+ghost use Rattle.command_facts.specs.Found.{Finds, FindsOf, IsCodeFound, IsComparisonFound, IsInputFor, IsLoaded, IsRunFound};
+ghost use Rattle.command_facts.specs.Refused.{Refuses, RefusesCodeRun, RefusesOf, RefusesRun, StopsBehindProgram};
+ghost use Rattle.command_facts.specs.Held.{StopsAtProgram};
+
+use crate::found::{Found, FoundCode, FoundRun};
+use crate::halted::{Halted, halted_run};
+use crate::loaded::Loaded;
+use crate::loading::{load_input, load_listing, load_program};
+use crate::running::{facts_of, refusal_of};
+use command_requests::{Request, RunWords, Verb};
+use compiling::compile_program;
+use program_runs::run_code;
+use program_texts::{Sources, Stop};
+use rule_comparison::{Comparison, compare_rules};
+use std::alloc::Global;
+use std::sync::Wait;
+use std::thread::Threads;
+use workers::OpenGate;
+
+// The program of a file, and behind it the values of the call's input.
+fn load_given<'a, S: Sources>(
+    alloc: Global,
+    file: &'a str,
+    words: RunWords<'a>,
+    sources: &mut S,
+) -> Result<(Loaded<'a>, Vec<i64>), Halted<'a>>
+    ensures loaded { IfOk result (λ given. IsLoaded (S.Sources.holds sources.old file.now) given.0) }
+    ensures input { IfOk result (λ given. IsInputFor (S.Sources.holds sources.old) words.entry given.1.items) }
+    ensures refused { IfErr result (λ h. StopsAtProgram (S.Sources.holds sources.old file.now) file.now h
+        ⊎ StopsBehindProgram (S.Sources.holds sources.old) file.now words.entry h) }
+{
+    let loaded = load_program(alloc, sources, file)?;
+    let input = load_input(alloc, sources, words.input)?;
+    Ok((loaded, input))
+}
+
+// The code of the file's program.
+fn find_code<'a, S: Sources>(
+    alloc: Global,
+    file: &'a str,
+    words: RunWords<'a>,
+    sources: &mut S,
+) -> Result<Found<'a>, Halted<'a>>
+    ensures found { IfOk result (FindsOf (S.Sources.holds sources.old) Verb.Plan file.now words.entry) }
+    ensures refused { IfErr result (RefusesOf (S.Sources.holds sources.old) Verb.Plan file.now words.entry) }
+{
+    let loaded = load_program(alloc, sources, file)?;
+    match compile_program(alloc, &loaded.program) {
+        Ok(code) => Ok(Found::Planned(code)),
+        Err(refusal) => Err(Halted::from(Stop::from(refusal))),
+    }
+}
+
+// How the file's program comes out under each rule.
+fn find_comparison<'a, S: Sources>(
+    alloc: Global,
+    file: &'a str,
+    words: RunWords<'a>,
+    sources: &mut S,
+) -> Result<Comparison, Halted<'a>>
+    ensures found { IfOk result (IsComparisonFound (S.Sources.holds sources.old) file.now words.entry) }
+    ensures refused { IfErr result (RefusesRun (S.Sources.holds sources.old) Verb.Rules file.now words.entry) }
+{
+    let (loaded, input) = load_given(alloc, file, words, sources)?;
+    let cells = loaded.program.layout().cells();
+    match compare_rules(alloc, loaded.program, &input, words.options.bound) {
+        Ok(comparison) => Ok(comparison),
+        Err(refusal) => Err(halted_run(refusal_of(refusal), input.len(), cells)),
+    }
+}
+
+// A run of the file's program.
+fn find_run<'a, R: Threads + Wait + Sync, S: Sources>(
+    rt: &R,
+    alloc: Global,
+    verb: Verb,
+    file: &'a str,
+    words: RunWords<'a>,
+    sources: &mut S,
+) -> Result<FoundRun<'a>, Halted<'a>>
+    ensures found { IfOk result (IsRunFound (S.Sources.holds sources.old) verb file.now words.entry) }
+    ensures refused { IfErr result (RefusesRun (S.Sources.holds sources.old) verb file.now words.entry) }
+{
+    let (loaded, input) = load_given(alloc, file, words, sources)?;
+    match facts_of(rt, alloc, verb, &loaded.program, &input, words) {
+        Ok((outcome, facts)) => Ok(FoundRun {
+            loaded,
+            input,
+            words,
+            outcome,
+            facts,
+        }),
+        Err(refusal) => {
+            let cells = loaded.program.layout().cells();
+            Err(halted_run(refusal, input.len(), cells))
+        }
+    }
+}
+
+// A run of the file's code.
+fn find_code_run<'a, R: Threads + Wait + Sync, S: Sources>(
+    rt: &R,
+    alloc: Global,
+    file: &'a str,
+    words: RunWords<'a>,
+    sources: &mut S,
+) -> Result<FoundCode, Halted<'a>>
+    ensures found { IfOk result (IsCodeFound (S.Sources.holds sources.old) file.now words.entry) }
+    ensures refused { IfErr result (RefusesCodeRun (S.Sources.holds sources.old) file.now words.entry) }
+{
+    let code = load_listing(alloc, sources, file)?;
+    let input = load_input(alloc, sources, words.input)?;
+    let (options, reserve) = (words.options, words.reserve);
+    match run_code(rt, alloc, &code, &input, options, reserve, &OpenGate) {
+        Ok((outcome, _counts)) => Ok(FoundCode { code, outcome }),
+        Err(refusal) => {
+            let cells = code.code().layout().cells();
+            Err(halted_run(refusal, input.len(), cells))
+        }
+    }
+}
+
+// What a call over a program finds.
+fn find_of<'a, R: Threads + Wait + Sync, S: Sources>(
+    rt: &R,
+    alloc: Global,
+    verb: Verb,
+    file: &'a str,
+    words: RunWords<'a>,
+    sources: &mut S,
+) -> Result<Found<'a>, Halted<'a>>
+    ensures found { IfOk result (FindsOf (S.Sources.holds sources.old) verb file.now words.entry) }
+    ensures refused { IfErr result (RefusesOf (S.Sources.holds sources.old) verb file.now words.entry) }
+{
+    match verb {
+        Verb::Check => Ok(Found::Accepted(load_program(alloc, sources, file)?)),
+        Verb::Plan => find_code(alloc, file, words, sources),
+        Verb::Rules => {
+            let comparison = find_comparison(alloc, file, words, sources)?;
+            Ok(Found::Compared(comparison))
+        }
+        Verb::Meaning | Verb::Cost | Verb::Steps | Verb::Run | Verb::Trace => {
+            let run = find_run(rt, alloc, verb, file, words, sources)?;
+            Ok(Found::Run(run))
+        }
+    }
+}
+
+/// What a call finds, before anything is written of it.
+///
+/// A refusal is judged in this order: the file and its text (P2, E1 to E10; of a listing E2, E15, E14); the input's file and its text (P2, E1
+/// to E3); the number of workers (E13), the map (E12), and the number of the input's values (E11); and with a reserve whether the run comes
+/// past it (E18). E16 comes where memory was refused.
+pub fn find<'a, R: Threads + Wait + Sync, S: Sources>(
+    rt: &R,
+    alloc: Global,
+    request: Request<'a>,
+    sources: &mut S,
+) -> Result<Found<'a>, Halted<'a>>
+    // It is of all that the files hold which the request names, within its bound, on its workers, by its map and with its reserve.
+    ensures found { IfOk result (Finds (S.Sources.holds sources.old) request.entry) }
+    ensures refused { IfErr result (Refuses (S.Sources.holds sources.old) request.entry) }
+{
+    match request {
+        Request::Version => Ok(Found::Version),
+        Request::Explanation(subject) => Ok(Found::Explanation(subject)),
+        Request::Program { verb, file, words } => find_of(rt, alloc, verb, file, words, sources),
+        Request::Listing { file, words } => {
+            let run = find_code_run(rt, alloc, file, words, sources)?;
+            Ok(Found::Executed(run))
+        }
+    }
+}

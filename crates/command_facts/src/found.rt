@@ -1,0 +1,60 @@
+//! What calls find.
+
+use crate::loaded::Loaded;
+use bsp_verify::Verified;
+use command_requests::RunWords;
+use exchange_counts::Counts;
+use explanations::Subject;
+use rule_comparison::Comparison;
+use step_entries::Entry;
+use work_time::Cost;
+use write_rules::Outcome;
+
+/// What is found of a program's run beside its outcome.
+#[derive(Drop)]
+pub enum Facts {
+    /// Nothing.
+    Nothing,
+    /// What it costs.
+    Cost(Cost),
+    /// What is told of its statements.
+    Steps(Vec<Entry>),
+    /// Its exchanges.
+    Exchanges(Counts),
+}
+
+/// A run of a program: the program with its text, the input's values, how it was asked for, its outcome, and what is found beside that.
+#[derive(Drop)]
+pub struct FoundRun<'a> {
+    pub loaded: Loaded<'a>,
+    pub input: Vec<i64>,
+    pub words: RunWords<'a>,
+    pub outcome: Outcome,
+    pub facts: Facts,
+}
+
+/// A run of a listing's code, and its outcome.
+#[derive(Drop)]
+pub struct FoundCode {
+    pub code: Verified,
+    pub outcome: Outcome,
+}
+
+/// What a call finds.
+#[derive(Drop)]
+pub enum Found<'a> {
+    /// The version was asked for.
+    Version,
+    /// What there is to say of a subject was asked for.
+    Explanation(Subject),
+    /// A program is accepted.
+    Accepted(Loaded<'a>),
+    /// The code of a program.
+    Planned(Verified),
+    /// How a program comes out under each rule.
+    Compared(Comparison),
+    /// A program was run.
+    Run(FoundRun<'a>),
+    /// A listing was run.
+    Executed(FoundCode),
+}

@@ -1,0 +1,52 @@
+//! Why a call ends without an outcome, and what is known besides.
+
+ghost use Rattle.std.specs.Prelude.{◌≡◌};
+ghost use Rattle.diagnoses.specs.declared.about.About.TheVariants.{Nothing};
+ghost use Rattle.program_texts.specs.declared.stop.Stop.TheVariants.{Refused};
+ghost use Rattle.command_facts.specs.Refused as spec;
+
+use diagnoses::About;
+use program_texts::{Refusal, Stop};
+
+/// Why a call ends without an outcome, and what is known besides.
+#[derive(Drop)]
+pub struct Halted<'a> {
+    pub stop: Stop<'a>,
+    pub about: About<'a>,
+}
+
+impl<'a> From<Stop<'a>> for Halted<'a> {
+    ghost from_gives = { λ stop h. (h.stop ≡ stop) × (h.about ≡ Nothing) };
+
+    fn from(stop: Stop<'a>) -> Halted<'a> {
+        Halted {
+            stop,
+            about: About::Nothing,
+        }
+    }
+}
+
+fn about_run<'a>(refusal: Refusal, values: usize, cells: u32) -> About<'a>
+    ensures { spec.IsToldWith refusal values cells result }
+{
+    match refusal {
+        Refusal::InputTooLong => About::Values { values, cells },
+        Refusal::Text(_) => About::Nothing,
+        Refusal::Program(_) => About::Nothing,
+        Refusal::BadMap => About::Nothing,
+        Refusal::BadWorkers => About::Nothing,
+        Refusal::OutOfMemory => About::Nothing,
+        Refusal::OutOfReserve => About::Nothing,
+    }
+}
+
+/// A run that is refused, with the numbers of the input's values and of the cells where it is for these.
+pub(crate) fn halted_run<'a>(refusal: Refusal, values: usize, cells: u32) -> Halted<'a>
+    ensures stop { result.stop ≡ Refused refusal }
+    ensures about { spec.IsToldWith refusal values cells result.about }
+{
+    Halted {
+        stop: Stop::Refused(refusal),
+        about: about_run(refusal, values, cells),
+    }
+}

@@ -1,0 +1,187 @@
+//! What the files of a call hold.
+
+ghost use Rattle.std.specs.Prelude.{◌≡◌, ℕ, List, [], None, Some, IfOk, IfErr, IsSomeAnd, Err};
+ghost use Rattle.std.specs.Option.{ForSome};
+ghost use Rattle.superstep_instructions.specs.Code.{SuperstepCode};
+ghost use Rattle.superstep_instructions.specs.Limits.{IsCode};
+ghost use Rattle.superstep_listing.specs.Text.{IsFaultOf, IsListing};
+ghost use Rattle.bsp_verify.specs.WellFormed.{IsWellFormed};
+ghost use Rattle.bsp_verify.specs.FirstFault.{IsRefusal};
+ghost use Rattle.program_texts.specs.Files.{IsReadFrom, IsSame};
+ghost use Rattle.program_texts.specs.Report.{IsProgramOf};
+ghost use Rattle.command_facts.specs.Held.{IsInputIn, IsListingIn, IsOfCodeIn, IsUnread, StopsAtInput, StopsAtListing, StopsAtProgram};
+ghost use Rattle.command_facts.specs.Listings.{IsOfListing, line_of_instruction};
+ghost use Rattle.command_facts.specs.Listings.{reason_word as spec_reason_word};
+
+use crate::halted::Halted;
+use crate::loaded::Loaded;
+use bsp_verify::{Reason, Verified, VerifyFault, verify};
+use diagnoses::{About, Kind, Source};
+use pram_tokens::LONGEST;
+use pram_trees::{TextFault, read_input};
+use program_texts::{Refusal, SourceFault, Sources, Stop, read_program};
+use std::alloc::Global;
+use superstep_instructions::Code;
+use superstep_listing::{LONGEST as LONGEST_LISTING, ListingFault, read_listing};
+
+// The bytes of a file, up to one more than the most that its text may have.
+fn load<'a, S: Sources>(
+    alloc: Global,
+    sources: &mut S,
+    name: &'a str,
+    most: u32,
+) -> Result<Vec<u8>, Stop<'a>>
+    ensures bytes { IfOk result (λ bytes. IsReadFrom (S.Sources.holds sources.old name.now) most bytes.items) }
+    ensures unread { IfErr result (IsUnread (S.Sources.holds sources.old name.now) name.now) }
+    ensures same { IsSame (S.Sources.holds sources.new) (S.Sources.holds sources.old) }
+{
+    match sources.read(alloc, name, most) {
+        Ok(bytes) => Ok(bytes),
+        Err(SourceFault::Unreadable) => Err(Stop::Unreadable(name)),
+        Err(SourceFault::OutOfMemory) => Err(Stop::Refused(Refusal::OutOfMemory)),
+    }
+}
+
+/// The program of a file.
+pub(crate) fn load_program<'a, S: Sources>(
+    alloc: Global,
+    sources: &mut S,
+    name: &'a str,
+) -> Result<Loaded<'a>, Halted<'a>>
+    ensures program { IfOk result (λ l. IsProgramOf l.source.bytes.items l.program) }
+    // Its text is all that the file of that name holds.
+    ensures held { IfOk result (λ l. S.Sources.holds sources.old name.now (Some l.source.bytes.items)) }
+    ensures of_file { IfErr result (StopsAtProgram (S.Sources.holds sources.old name.now) name.now) }
+    ensures same { IsSame (S.Sources.holds sources.new) (S.Sources.holds sources.old) }
+{
+    let bytes = load(alloc, sources, name, LONGEST as u32)?;
+    match read_program(alloc, &bytes) {
+        Ok(program) => {
+            let source = source_of(Kind::Program, name, bytes);
+            Ok(Loaded { source, program })
+        }
+        Err(refusal) => Err(Halted {
+            stop: Stop::Refused(refusal),
+            about: About::Text(source_of(Kind::Program, name, bytes)),
+        }),
+    }
+}
+
+fn source_of<'a>(kind: Kind, name: &'a str, bytes: Vec<u8>) -> Source<'a>
+    ensures { result.bytes.items ≡ bytes.items }
+{
+    Source { kind, name, bytes }
+}
+
+/// The values of the input's file, and none where there is no file.
+pub(crate) fn load_input<'a, S: Sources>(
+    alloc: Global,
+    sources: &mut S,
+    name: Option<&'a str>,
+) -> Result<Vec<i64>, Halted<'a>>
+    // The values are those of all that the file holds.
+    ensures held { IfOk result (λ values. ForSome name.entry (λ n. IsInputIn (S.Sources.holds sources.old n.now) values.items)) }
+    ensures without { IfOk result (λ values. name.entry ≡ None → values.items ≡ []) }
+    ensures of_file { IfErr result (λ h. IsSomeAnd name.entry (λ n. StopsAtInput (S.Sources.holds sources.old n.now) n.now h)) }
+    ensures same { IsSame (S.Sources.holds sources.new) (S.Sources.holds sources.old) }
+{
+    let name = match name {
+        None => return Ok(Vec::new(alloc)),
+        Some(name) => name,
+    };
+    let bytes = load(alloc, sources, name, LONGEST as u32)?;
+    match read_input(alloc, &bytes) {
+        Ok(values) => Ok(values),
+        Err(fault) => Err(Halted {
+            stop: Stop::Refused(Refusal::of_text(fault)),
+            about: About::Text(source_of(Kind::Input, name, bytes)),
+        }),
+    }
+}
+
+// Why a text is no listing.
+fn stop_of_listing<'a>(fault: ListingFault) -> Stop<'a>
+    ensures { (text : List ℕ) → IsFaultOf {X = SuperstepCode} text (Err fault) → IsOfListing result text }
+{
+    match fault {
+        ListingFault::TextTooLong => Stop::Refused(Refusal::Text(TextFault::TextTooLong)),
+        ListingFault::BadListing(at) => Stop::BadListing(at),
+        ListingFault::OutOfMemory => Stop::Refused(Refusal::OutOfMemory),
+    }
+}
+
+// The word for what is wrong with an instruction.
+fn reason_word(reason: Reason) -> &'static str
+    ensures { result.now ≡ spec_reason_word reason }
+{
+    match reason {
+        Reason::State => "state",
+        Reason::Register => "register",
+        Reason::Entry => "entry",
+        Reason::Target => "target",
+        Reason::Mode => "mode",
+        Reason::Mask => "mask",
+        Reason::Exchange => "exchange",
+        Reason::End => "end",
+    }
+}
+
+// The line of a listing on which an instruction stands: six stand before the first one, and one for each declaration.
+fn line_of(code: &Code, at: u32) -> usize
+    requires { IsCode code.now }
+    ensures { result ≡ line_of_instruction code.now at }
+{
+    code.layout().len() + 7 + at as usize
+}
+
+// Why the code of a listing is not run, and the line where it is wrong.
+fn halted_listing<'a>(fault: VerifyFault, code: &Code, source: Source<'a>) -> Halted<'a>
+    requires listing { IsListing source.bytes.items code.now }
+    requires refused { IsRefusal code.now fault }
+    ensures of_text { IsOfCodeIn source.entry.bytes.items result.stop result.about }
+{
+    match fault {
+        VerifyFault::NotVerified { at, reason } => {
+            let line = line_of(code, at);
+            Halted {
+                stop: Stop::NotVerified(at, reason_word(reason)),
+                about: About::Line { source, line },
+            }
+        }
+        VerifyFault::OutOfMemory => Halted {
+            stop: Stop::Refused(Refusal::OutOfMemory),
+            about: About::Nothing,
+        },
+    }
+}
+
+/// The code of a listing's file, verified.
+pub(crate) fn load_listing<'a, S: Sources>(
+    alloc: Global,
+    sources: &mut S,
+    name: &'a str,
+) -> Result<Verified, Halted<'a>>
+    ensures verified { IfOk result IsWellFormed }
+    // The listing is all that the file of that name holds.
+    ensures held { IfOk result (IsListingIn (S.Sources.holds sources.old name.now)) }
+    ensures of_file { IfErr result (StopsAtListing (S.Sources.holds sources.old name.now) name.now) }
+    ensures same { IsSame (S.Sources.holds sources.new) (S.Sources.holds sources.old) }
+{
+    let bytes = load(alloc, sources, name, LONGEST_LISTING as u32)?;
+    let code = match read_listing(alloc, &bytes) {
+        Ok(code) => code,
+        Err(fault) => {
+            return Err(Halted {
+                stop: stop_of_listing(fault),
+                about: About::Text(source_of(Kind::Listing, name, bytes)),
+            });
+        }
+    };
+    match verify(alloc, code) {
+        Ok(verified) => Ok(verified),
+        Err((fault, code)) => {
+            let source = source_of(Kind::Listing, name, bytes);
+            Err(halted_listing(fault, &code, source))
+        }
+    }
+}

@@ -1,0 +1,140 @@
+//! What programs come to.
+
+ghost use Rattle.std.specs.Prelude.{◌≡◌, ◌<◌, IfOk, IfErr};
+ghost use Rattle.program_texts.specs.Report.{IsMeaningOf};
+ghost use Rattle.write_rules.specs.Verdict.{verdict_of};
+ghost use Rattle.program_runs.specs.Reserved.{IsProgramRefusedWith, IsProgramRunWith};
+ghost use Rattle.command_facts.specs.Found as spec;
+ghost use Rattle.command_facts.specs.Refused as refused;
+
+use crate::found::Facts;
+use command_requests::{CostWords, RunWords, Verb};
+use exchange_counts::Counts;
+use pram_check::Program;
+use pram_meaning::RunRefusal;
+use program_runs::run_program;
+use program_texts::{Refusal, mean_program};
+use std::alloc::Global;
+use std::sync::Wait;
+use std::thread::Threads;
+use step_journal::steps_of;
+use work_time::cost_of;
+use workers::OpenGate;
+use write_rules::Outcome;
+
+/// Why a program has no meaning on an input, in the words of calls.
+pub(crate) fn refusal_of(refusal: RunRefusal) -> Refusal
+    ensures { result ≡ refused.refusal_of refusal }
+{
+    match refusal {
+        RunRefusal::InputTooLong => Refusal::InputTooLong,
+        RunRefusal::OutOfMemory => Refusal::OutOfMemory,
+    }
+}
+
+// The outcome by the definition.
+fn mean(
+    alloc: Global,
+    program: &Program,
+    input: &[i64],
+    words: RunWords<'_>,
+) -> Result<(Outcome, Facts), Refusal>
+    ensures meaning { IfOk result (λ f. IsMeaningOf program.now input.now words.entry.options.bound (verdict_of f.0)) }
+    ensures facts { IfOk result (λ f. f.1 ≡ Facts.Nothing) }
+    ensures stopped { IfErr result (refused.IsRunRefusedBy Verb.Meaning program.now input.now words.entry) }
+{
+    let outcome = mean_program(alloc, program, input, words.options.bound)?;
+    Ok((outcome, Facts::Nothing))
+}
+
+// On how many processors rounds are counted, whether they are told or not.
+fn processors_of(words: CostWords) -> u32
+    ensures value { result ≡ spec.processors_of words.schedule }
+    ensures some { 0 < result }
+{
+    match words.schedule {
+        Some(processors) => processors,
+        None => 1,
+    }
+}
+
+// The outcome by the definition, and what that run costs.
+fn cost(
+    alloc: Global,
+    program: &Program,
+    input: &[i64],
+    words: RunWords<'_>,
+) -> Result<(Outcome, Facts), Refusal>
+    ensures meaning { IfOk result (λ f. IsMeaningOf program.now input.now words.entry.options.bound (verdict_of f.0)) }
+    ensures facts { IfOk result (λ f. spec.AreFactsOf Verb.Cost program.now input.now words.entry (verdict_of f.0) f.1) }
+    ensures stopped { IfErr result (refused.IsRunRefusedBy Verb.Cost program.now input.now words.entry) }
+{
+    let schedule = processors_of(words.costs);
+    match cost_of(alloc, program, input, words.options.bound, schedule) {
+        Ok((outcome, cost)) => Ok((outcome, Facts::Cost(cost))),
+        Err(refusal) => Err(refusal_of(refusal)),
+    }
+}
+
+// The outcome by the definition, and what is told of that run, statement by statement.
+fn steps(
+    alloc: Global,
+    program: &Program,
+    input: &[i64],
+    words: RunWords<'_>,
+) -> Result<(Outcome, Facts), Refusal>
+    ensures meaning { IfOk result (λ f. IsMeaningOf program.now input.now words.entry.options.bound (verdict_of f.0)) }
+    ensures facts { IfOk result (λ f. spec.AreFactsOf Verb.Steps program.now input.now words.entry (verdict_of f.0) f.1) }
+    ensures stopped { IfErr result (refused.IsRunRefusedBy Verb.Steps program.now input.now words.entry) }
+{
+    match steps_of(alloc, program, input, words.options.bound) {
+        Ok((outcome, entries)) => Ok((outcome, Facts::Steps(entries))),
+        Err(refusal) => Err(refusal_of(refusal)),
+    }
+}
+
+// The outcome by workers, and the exchanges.
+fn by_workers<R: Threads + Wait + Sync>(
+    rt: &R,
+    alloc: Global,
+    program: &Program,
+    input: &[i64],
+    words: RunWords<'_>,
+) -> Result<(Outcome, Counts), Refusal>
+    ensures meaning { IfOk result (λ f. IsMeaningOf program.now input.now words.entry.options.bound (verdict_of f.0)) }
+    ensures ran { IfOk result (λ f. IsProgramRunWith program.now input.now words.entry.options words.entry.reserve (verdict_of f.0) f.1) }
+    ensures stopped { IfErr result (IsProgramRefusedWith program.now input.now words.entry.options words.entry.reserve) }
+{
+    let (options, reserve) = (words.options, words.reserve);
+    run_program(rt, alloc, program, input, options, reserve, &OpenGate)
+}
+
+/// The outcome of a program, and what the call asks for beside it.
+pub(crate) fn facts_of<R: Threads + Wait + Sync>(
+    rt: &R,
+    alloc: Global,
+    verb: Verb,
+    program: &Program,
+    input: &[i64],
+    words: RunWords<'_>,
+) -> Result<(Outcome, Facts), Refusal>
+    ensures meaning { IfOk result (λ f. IsMeaningOf program.now input.now words.entry.options.bound (verdict_of f.0)) }
+    ensures facts { IfOk result (λ f. spec.AreFactsOf verb program.now input.now words.entry (verdict_of f.0) f.1) }
+    ensures stopped { IfErr result (refused.IsRunRefusedBy verb program.now input.now words.entry) }
+{
+    match verb {
+        Verb::Cost => cost(alloc, program, input, words),
+        Verb::Steps => steps(alloc, program, input, words),
+        Verb::Run => {
+            let (outcome, _counts) = by_workers(rt, alloc, program, input, words)?;
+            Ok((outcome, Facts::Nothing))
+        }
+        Verb::Trace => {
+            let (outcome, counts) = by_workers(rt, alloc, program, input, words)?;
+            Ok((outcome, Facts::Exchanges(counts)))
+        }
+        Verb::Meaning | Verb::Check | Verb::Plan | Verb::Rules => {
+            mean(alloc, program, input, words)
+        }
+    }
+}

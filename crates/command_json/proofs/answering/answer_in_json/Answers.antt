@@ -1,0 +1,12 @@
+use Rattle.std.proofs.Common.{refl, subst, sym, Result}
+use Rattle.program_texts.specs.declared.stop.Stop.{Stop}
+use Rattle.command_requests.specs.declared.request.Request.{Request}
+use Rattle.command_json.specs.Left.{IsStop, Stopped}
+use Rattle.command_json.proofs.answering.answer_in_json.Goals as goal
+
+pub returns-in-Err : goal.returns-in-Err
+returns-in-Err g c = record {
+  leaves = Stopped c.from.result
+      (subst (λ (a : Result Request Stop). IsStop (g.S.Sources.holds c.args.sources.now) a c.from.result) (sym c.in-Err.is) c.from.ensures) refl
+      c.report.ensures.told;
+}

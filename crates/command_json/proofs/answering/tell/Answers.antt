@@ -1,0 +1,14 @@
+use Rattle.std.proofs.Common.{refl, subst, sym}
+use Rattle.command_json.specs.Left.{CutOff, LeavesFound, Told}
+use Rattle.command_json.proofs.Alone.{said_alone}
+use Rattle.command_json.proofs.answering.tell.Goals as goal
+
+pub returns-in-Ok : goal.returns-in-Ok
+returns-in-Ok g c =
+    let w = c.in-Ok.ensures.written in
+    record { leaves = subst (LeavesFound c.args.found.now _ _ _ _) (sym w.0) (Told w.1.0 w.1.1 w.1.2 refl) }
+
+pub returns-in-Err : goal.returns-in-Err
+returns-in-Err g c = record {
+  leaves = CutOff c.in-Err.stop c.in-Err.ensures.written (said_alone c.from.result c.in-Err.stop _ _ c.from.ensures c.report.ensures.told);
+}

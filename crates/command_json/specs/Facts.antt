@@ -1,0 +1,63 @@
+-- The facts by which what was found is told as JSON.
+use Rattle.std.specs.Prelude.{◌≡◌, ◌⊎◌, ℕ, List, [], ◌∷◌, Result, Ok, Err, codes, map}
+use Rattle.serde_json.specs.Data.{Data}
+use Rattle.json_lines.specs.Lines.{IsJson}
+use Rattle.text_out.specs.Out.{OutState, StopsIn, with_bytes}
+use Rattle.write_rules.specs.Verdict.{verdict_of}
+use Rattle.step_entries.specs.Entries.{entry_is}
+use Rattle.program_texts.specs.declared.from_text.Refusal.TheVariants as refusal
+use Rattle.program_texts.specs.declared.status.Status.{Status}
+use Rattle.program_texts.specs.declared.stop.Stop.{Stop}
+use Rattle.program_texts.specs.declared.stop.Stop.TheVariants as stop
+use Rattle.command_facts.specs.Found.{status_of_found}
+use Rattle.command_facts.specs.declared.found.Facts.{Facts}
+use Rattle.command_facts.specs.declared.found.Facts.TheVariants as facts
+use Rattle.command_facts.specs.declared.found.Found.{Found}
+use Rattle.command_facts.specs.declared.found.Found.TheVariants as found
+use Rattle.command_facts.specs.declared.found.FoundRun.{FoundRun}
+use Rattle.json_texts.specs.AcceptedFacts.{accepted_facts}
+use Rattle.json_texts.specs.CostFacts.{cost_facts}
+use Rattle.json_texts.specs.OutcomeFacts.{outcome_facts}
+use Rattle.json_texts.specs.RuleFacts.{comparison_facts}
+use Rattle.json_texts.specs.StepFacts.{steps_facts}
+use Rattle.json_traces.specs.TraceFacts.{trace_facts}
+
+-- a run of a program: its outcome, what it costs, its statements between the numbers that are asked for, or its exchanges
+abbrev pub run_facts : FoundRun → Facts → List Data
+run_facts r facts.Nothing = outcome_facts r.loaded.program.layout (verdict_of r.outcome) ∷ []
+run_facts r (facts.Cost c) =
+    cost_facts r.loaded.program.layout (verdict_of r.outcome) c r.words.costs.schedule r.words.costs.lines ∷ []
+run_facts r (facts.Steps entries) =
+    steps_facts r.loaded.program.layout (verdict_of r.outcome) (map entry_is entries.items) r.words.steps.from r.words.steps.to
+run_facts r (facts.Exchanges exchanges) = trace_facts exchanges (verdict_of r.outcome)
+
+-- the facts of what was found; code, what comes of a listing, explanations and the version are not told as JSON
+abbrev pub AreFactsOf : Found → List Data → Type 0
+AreFactsOf (found.Accepted l) told = told ≡ accepted_facts l.program ∷ []
+AreFactsOf (found.Compared c) told = told ≡ comparison_facts c ∷ []
+AreFactsOf (found.Run r) told = told ≡ run_facts r r.facts
+AreFactsOf _ told = ⊥
+
+-- lines of JSON that say them
+abbrev pub IsJsonOf : Found → List ℕ → Type 0
+IsJsonOf f text = (told : List Data) × AreFactsOf f told × IsJson told text
+
+-- what was found is not told as JSON
+abbrev pub IsUntold : Found → Type 0
+IsUntold found.Version = Unit {0}
+IsUntold (found.Explanation subject) = Unit {0}
+IsUntold (found.Planned code) = Unit {0}
+IsUntold (found.Executed c) = Unit {0}
+IsUntold _ = ⊥
+
+-- why no lines are made: memory was refused, or what was found is not told so
+abbrev pub IsUnmade : Found → Stop → Type 0
+IsUnmade f (stop.Refused refusal.OutOfMemory) = Unit {0}
+IsUnmade f (stop.Number word) = IsUntold f × (word.now ≡ codes "json")
+IsUnmade f _ = ⊥
+
+-- such lines were written whole, or the writer failed in them, or none were made
+abbrev pub WritesFound : Found → OutState → OutState → Result Status Stop → Type 0
+WritesFound f old new (Ok s) = (s ≡ status_of_found f) × ((text : List ℕ) × IsJsonOf f text × (new ≡ with_bytes old text))
+WritesFound f old new (Err why) =
+    ((why ≡ stop.WriteFailed) × ((text : List ℕ) × IsJsonOf f text × StopsIn old new text)) ⊎ (IsUnmade f why × (new ≡ old))

@@ -1,0 +1,79 @@
+//! How the program answers a request in JSON.
+
+ghost use Rattle.std.specs.Prelude.{◌<◌, ◌^◌};
+ghost use Rattle.command_json.specs.Left.{LeavesFound, LeavesJson};
+
+use crate::reporting::report;
+use crate::telling::write_found;
+use command_facts::{Found, Halted, find};
+use command_requests::Request;
+use program_texts::{Sources, Status, Stop};
+use std::alloc::Global;
+use std::sync::Wait;
+use std::thread::Threads;
+use text_out::Out;
+
+// What was found is told.
+fn tell<O: Out, E: Out>(alloc: Global, found: &Found<'_>, out: &mut O, err: &mut E) -> Status
+    requires out { (O.Out.state out.old).failures < 2 ^ 62 }
+    requires err { (E.Out.state err.old).failures < 2 ^ 62 }
+    ensures leaves { LeavesFound found.now (O.Out.state out.old) (O.Out.state out.new) (E.Out.state err.old) (E.Out.state err.new) result }
+{
+    match write_found(alloc, found, out) {
+        Ok(status) => status,
+        Err(stop) => {
+            report(alloc, err, &Halted::from(stop));
+            Status::Refused
+        }
+    }
+}
+
+// A request that was read.
+fn answer_request<R: Threads + Wait + Sync, S: Sources, O: Out, E: Out>(
+    rt: &R,
+    alloc: Global,
+    request: Request<'_>,
+    sources: &mut S,
+    out: &mut O,
+    err: &mut E,
+) -> Status
+    requires out { (O.Out.state out.old).failures < 2 ^ 62 }
+    requires err { (E.Out.state err.old).failures < 2 ^ 62 }
+    ensures leaves { LeavesJson (S.Sources.holds sources.old) (Ok request.entry)
+        (O.Out.state out.old) (O.Out.state out.new) (E.Out.state err.old) (E.Out.state err.new) result }
+{
+    match find(rt, alloc, request, sources) {
+        Ok(found) => tell(alloc, &found, out, err),
+        Err(halted) => {
+            report(alloc, err, &halted);
+            Status::Refused
+        }
+    }
+}
+
+/// Answers a request in JSON, or says why the words of a call are none, and answers the exit status.
+///
+/// `check`, `meaning`, `cost`, `rules` and `run` write one object; `steps` and `trace` an object a line, and on the last line how the run
+/// came out. What is refused is one object on `err`, and there nothing else is written: what [`find`](command_facts::find) refuses, E17
+/// where standard output failed, and E16 where memory was refused. `plan`, `exec`, `explain` and the version are not told as JSON (P1).
+pub fn answer_in_json<'a, R: Threads + Wait + Sync, S: Sources, O: Out, E: Out>(
+    rt: &R,
+    alloc: Global,
+    asked: Result<Request<'a>, Stop<'a>>,
+    sources: &mut S,
+    out: &mut O,
+    err: &mut E,
+) -> Status
+    requires out { (O.Out.state out.old).failures < 2 ^ 62 }
+    requires err { (E.Out.state err.old).failures < 2 ^ 62 }
+    ensures leaves { LeavesJson (S.Sources.holds sources.old) asked.entry
+        (O.Out.state out.old) (O.Out.state out.new) (E.Out.state err.old) (E.Out.state err.new) result }
+{
+    match asked {
+        Ok(request) => answer_request(rt, alloc, request, sources, out, err),
+        Err(stop) => {
+            report(alloc, err, &Halted::from(stop));
+            Status::Refused
+        }
+    }
+}

@@ -1,0 +1,83 @@
+//! What was found, told on standard output.
+
+ghost use Rattle.std.specs.Prelude.{◌≡◌, ◌<◌, ◌^◌, IfOk, IfErr};
+ghost use Rattle.std.specs.String.{string_bytes};
+ghost use Rattle.json_lines.specs.Lines.{IsJson};
+ghost use Rattle.command_facts.specs.Found.{status_of_found};
+ghost use Rattle.command_json.specs.Facts as spec;
+
+use crate::writing::write_json;
+use command_facts::{Facts, Found, FoundRun};
+use json_texts::{json_accepted, json_comparison, json_cost, json_outcome, json_steps};
+use json_traces::json_trace;
+use program_texts::{Status, Stop};
+use std::alloc::{AllocError, Global};
+use text_out::Out;
+
+/// The word that a call is refused for which isn't told as JSON.
+const JSON: &str = "json";
+
+// A run of a program.
+fn run_text(alloc: Global, run: &FoundRun<'_>) -> Result<String, AllocError>
+    ensures told { IfOk result (λ text. IsJson (spec.run_facts run.now run.now.facts) (string_bytes text)) }
+{
+    let layout = run.loaded.program.layout();
+    let outcome = &run.outcome;
+    let words = &run.words;
+    match &run.facts {
+        Facts::Nothing => json_outcome(alloc, layout, outcome),
+        Facts::Exchanges(counts) => json_trace(alloc, counts, outcome),
+        Facts::Cost(cost) => {
+            let (schedule, lines) = (words.costs.schedule, words.costs.lines);
+            json_cost(alloc, layout, outcome, cost, schedule, lines)
+        }
+        Facts::Steps(entries) => {
+            let (first, last) = (words.steps.from as usize, words.steps.to as usize);
+            json_steps(alloc, layout, outcome, entries, first, last)
+        }
+    }
+}
+
+// The lines of what was found.
+fn text_of<'a>(alloc: Global, found: &Found<'_>) -> Result<String, Stop<'a>>
+    ensures told { IfOk result (λ text. spec.IsJsonOf found.now (string_bytes text)) }
+    ensures unmade { IfErr result (spec.IsUnmade found.now) }
+{
+    match found {
+        Found::Accepted(loaded) => Ok(json_accepted(alloc, &loaded.program)?),
+        Found::Compared(comparison) => Ok(json_comparison(alloc, comparison)?),
+        Found::Run(run) => Ok(run_text(alloc, run)?),
+        Found::Version => Err(Stop::Number(JSON)),
+        Found::Explanation(_) => Err(Stop::Number(JSON)),
+        Found::Planned(_) => Err(Stop::Number(JSON)),
+        Found::Executed(_) => Err(Stop::Number(JSON)),
+    }
+}
+
+// The exit status that goes with what was found.
+fn status_of(found: &Found<'_>) -> Status
+    ensures { result ≡ status_of_found found.now }
+{
+    match found {
+        Found::Run(run) => Status::of(&run.outcome),
+        Found::Executed(run) => Status::of(&run.outcome),
+        Found::Version => Status::Done,
+        Found::Explanation(_) => Status::Done,
+        Found::Accepted(_) => Status::Done,
+        Found::Planned(_) => Status::Done,
+        Found::Compared(_) => Status::Done,
+    }
+}
+
+/// Writes what was found as lines of JSON, and nothing where memory for them was refused or it isn't told so.
+pub(crate) fn write_found<'a, O: Out>(
+    alloc: Global,
+    found: &Found<'_>,
+    out: &mut O,
+) -> Result<Status, Stop<'a>>
+    requires out { (O.Out.state out.old).failures < 2 ^ 62 }
+    ensures written { spec.WritesFound found.now (O.Out.state out.old) (O.Out.state out.new) result }
+{
+    let text = text_of(alloc, found)?;
+    write_json(out, &text, status_of(found))
+}

@@ -1,0 +1,26 @@
+use Rattle.diagnoses.specs.Remarks.{Nothing}
+use Rattle.command_text.proofs.Reporting.{line_cut_off, nothing_said, said_behind}
+use Rattle.command_text.proofs.explaining.write_halt.Goals as goal
+
+pub returns-in_err-write_stop : goal.returns-in_err-write_stop
+returns-in_err-write_stop g c =
+    let h = c.args.halted.now in
+    record {
+      written = (
+        Nothing,
+        nothing_said h.stop h.about,
+        line_cut_off c.args.explains h.stop h.about Nothing _ _ c.from_residual.result _ c.from_residual.ensures.1 c.in_err-write_stop.ensures.written,
+      );
+    }
+
+pub returns-then-explains : goal.returns-then-explains
+returns-then-explains g c =
+    let h = c.args.halted.now in
+    let w = c.write_stop_diagnosis.ensures.written in
+    record {
+      written = (
+        w.0,
+        w.1,
+        said_behind c.args.explains h.stop h.about w.0 _ _ _ c.write_stop_diagnosis.result c.if-explains.true c.in_ok-write_stop.ensures.written w.2,
+      );
+    }

@@ -1,0 +1,12 @@
+use Rattle.command_facts.proofs.Writing.{cut_off, wrote}
+use Rattle.command_text.proofs.writing.write_drawn.Goals as goal
+
+pub returns-in_err-write_picture : goal.returns-in_err-write_picture
+returns-in_err-write_picture g c = record {
+  written = cut_off _ _ _ _ c.from_residual.result c.from_residual.ensures.1 c.in_err-write_picture.ensures.written;
+}
+
+pub returns : goal.returns
+returns g c = record {
+  written = wrote _ _ _ _ _ _ c.finish.result c.of.ensures c.in_ok-write_picture.ensures.written c.finish.ensures.ok c.finish.ensures.failed;
+}

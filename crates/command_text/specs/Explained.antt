@@ -1,0 +1,53 @@
+-- What is said on standard error.
+use Rattle.std.specs.Prelude.{◌≡◌, ◌⊎◌, ℕ, ℤ, List, [], ◌++◌, Bool, true, false}
+use Rattle.text_out.specs.Out.{OutState}
+use Rattle.write_rules.specs.declared.outcome.Outcome.{Outcome}
+use Rattle.write_rules.specs.declared.outcome.Outcome.TheVariants.{Faulted}
+use Rattle.program_texts.specs.StoppedFields.{stop_text}
+use Rattle.program_texts.specs.declared.stop.Stop.{Stop}
+use Rattle.diagnoses.specs.declared.about.About.{About}
+use Rattle.diagnoses.specs.FaultTexts.{fault_diagnosis, fault_sentence}
+use Rattle.diagnoses.specs.Met.{who_met}
+use Rattle.diagnoses.specs.Remarks.{Remark}
+use Rattle.diagnoses.specs.Stops.{HasRemark, stop_diagnosis}
+use Rattle.command_facts.specs.declared.found.Found.{Found}
+use Rattle.command_facts.specs.declared.found.Found.TheVariants as found
+use Rattle.command_facts.specs.declared.found.FoundCode.{FoundCode}
+use Rattle.command_facts.specs.declared.found.FoundRun.{FoundRun}
+use Rattle.command_facts.specs.Written.{IsReported}
+
+-- ---- refusals
+
+-- the line of a refusal, and where it is asked for what is said behind it
+abbrev pub refusal_text : Bool → Stop → About → Remark → List ℕ
+refusal_text false why a r = stop_text why
+refusal_text true why a r = stop_text why ++ stop_diagnosis why a r
+
+-- That stands on standard error, as far as it takes it.
+pub record IsRefusalReported (explains : Bool) (why : Stop) (a : About) (old new : OutState) : Type 0 where
+  pub remark : Remark
+  pub said : HasRemark why a remark
+  pub reported : IsReported old new (refusal_text explains why a remark)
+
+-- ---- faults
+
+-- those that met at a run's fault are told, or none, where memory for them was refused
+abbrev pub HaveMet : FoundRun → List ℤ → Type 0
+HaveMet r who = (who ≡ who_met r.loaded.program r.input.items r.words.options.bound) ⊎ (who ≡ [])
+
+-- of a program's run a fault is explained with its line of the text
+abbrev pub IsRunExplained : Bool → FoundRun → Outcome → OutState → OutState → Type 0
+IsRunExplained true r (Faulted fault output) old new =
+    (who : List ℤ) × HaveMet r who × IsReported old new (fault_diagnosis r.loaded.source r.loaded.program.layout fault who)
+IsRunExplained _ r o old new = new ≡ old
+
+-- of a listing's code what happened is said, since its lines aren't the program's
+abbrev pub IsCodeExplained : Bool → FoundCode → Outcome → OutState → OutState → Type 0
+IsCodeExplained true c (Faulted fault output) old new = IsReported old new (fault_sentence c.code.layout fault [])
+IsCodeExplained _ c o old new = new ≡ old
+
+-- Where that is asked for, the fault of what was found is explained; and nothing is said where there is none.
+abbrev pub IsExplained : Bool → Found → OutState → OutState → Type 0
+IsExplained explains (found.Run r) old new = IsRunExplained explains r r.outcome old new
+IsExplained explains (found.Executed c) old new = IsCodeExplained explains c c.outcome old new
+IsExplained explains _ old new = new ≡ old

@@ -1,0 +1,38 @@
+-- What a call leaves on its streams.
+use Rattle.std.specs.Prelude.{◌≡◌, ℕ, List, Option, Result, Ok, Err}
+use Rattle.text_out.specs.Out.{OutState, with_bytes}
+use Rattle.program_texts.specs.declared.status.Status.{Status}
+use Rattle.program_texts.specs.declared.status.Status.TheVariants as status
+use Rattle.program_texts.specs.declared.stop.Stop.{Stop}
+use Rattle.diagnoses.specs.declared.about.About.TheVariants as about
+use Rattle.command_requests.specs.declared.request.Request.{Request}
+use Rattle.command_facts.specs.declared.found.Found.{Found}
+use Rattle.command_facts.specs.declared.halted.Halted.{Halted}
+use Rattle.command_facts.specs.Found.{Finds, status_of_found}
+use Rattle.command_facts.specs.Refused.{Refuses}
+use Rattle.command_text.specs.declared.terminal.Terminal.{Terminal}
+use Rattle.command_text.specs.Explained.{IsExplained, IsRefusalReported}
+use Rattle.command_facts.specs.Written.{WroteSome}
+use Rattle.command_text.specs.Texts.{IsTextOf, NeedsMemory}
+
+-- Both streams after what was found is told, with the exit status: it stands on standard output, whole, and on standard error nothing, but
+-- a fault where that is to be explained; or standard output failed in it, or memory for it was refused, and that is told.
+pub data LeavesFound (on : Terminal) (found : Found) (out out_new err err_new : OutState) : Status → Type 0 where
+  Told : (text : List ℕ) → IsTextOf on found text → out_new ≡ with_bytes out text → IsExplained on.errors found err err_new
+      → LeavesFound on found out out_new err err_new (status_of_found found)
+  CutOff : (why : Stop) → WroteSome (status_of_found found) (NeedsMemory found) (IsTextOf on found) out out_new (Err why)
+      → IsRefusalReported on.errors why about.Nothing err err_new → LeavesFound on found out out_new err err_new status.Refused
+
+-- why a request is refused: its words are, or nothing is found
+abbrev pub IsStop : (List ℕ → Option (List ℕ) → Type 0) → Result Request Stop → Halted → Type 0
+IsStop holds (Ok request) h = Refuses holds request h
+IsStop holds (Err why) h = (h.stop ≡ why) × (h.about ≡ about.Nothing)
+
+-- Both streams after a call. What was found is of all that the files hold which the request names. A refusal's line goes to standard error,
+-- and behind it what is said of it, if that is asked for; nothing is on standard output then.
+pub data Leaves (holds : List ℕ → Option (List ℕ) → Type 0) (on : Terminal) (asked : Result Request Stop) (out out_new err err_new : OutState)
+    : Status → Type 0 where
+  Answered : (request : Request) (found : Found) (ends : Status) → asked ≡ Ok request → Finds holds request found
+      → LeavesFound on found out out_new err err_new ends → Leaves holds on asked out out_new err err_new ends
+  Stopped : (h : Halted) → IsStop holds asked h → out_new ≡ out → IsRefusalReported on.errors h.stop h.about err err_new
+      → Leaves holds on asked out out_new err err_new status.Refused

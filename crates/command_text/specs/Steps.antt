@@ -1,0 +1,46 @@
+-- A run that is told statement by statement.
+use Rattle.std.specs.Prelude.{◌≡◌, ℕ, ℤ, List, [], ◌∷◌, ◌++◌, true, false, length}
+use Rattle.pram_model.specs.Layout.{SharedEntry}
+use Rattle.pram_check.specs.Checked.{Checked}
+use Rattle.write_rules.specs.Verdict.{verdict_of}
+use Rattle.write_rules.specs.declared.outcome.Outcome.{Outcome}
+use Rattle.program_texts.specs.Shown.{shown}
+use Rattle.step_entries.specs.Entries.{Entry}
+use Rattle.step_texts.specs.StepText.{steps_text}
+use Rattle.step_texts.specs.declared.manner.Manner.{Manner}
+use Rattle.step_texts.specs.declared.manner.Manner.TheVariants.{OnTerminal, Plain}
+use Rattle.json_lines.specs.Lines.{IsJson}
+use Rattle.json_texts.specs.StepFacts.{steps_facts}
+use Rattle.step_pages.specs.Facts.{IsCut}
+use Rattle.step_pages.specs.Opening.{opening_facts}
+use Rattle.step_pages.specs.Page.{page}
+use Rattle.command_text.specs.declared.terminal.Terminal.{Terminal}
+
+-- ---- in words
+
+-- Entries are written plainly; where standard output is a terminal, beside the text, and in colours if these are wanted.
+abbrev pub IsManner : Terminal → (text : List ℕ) → Manner → Type 0
+IsManner on text Plain = on.output ≡ false
+IsManner on text (OnTerminal source colours) = (on.output ≡ true) × (source.now ≡ text) × (colours ≡ on.colours)
+
+-- the entries whose numbers, counted from 1, go from `first` to `last`, and behind them the outcome
+abbrev pub told_text : List SharedEntry → Manner → Outcome → List Entry → (first last : ℕ) → List ℕ
+told_text layout manner outcome entries first last = steps_text layout manner first last entries ++ shown layout (verdict_of outcome)
+
+-- ---- as a page
+
+-- the facts of a run: the line of what is known before its first statement, and those of all entries and of the outcome
+pub record AreFacts (text : List ℕ) (program : Checked) (input : List ℤ) (outcome : Outcome) (entries : List Entry) (facts : List ℕ) : Type 0 where
+  pub opening : List ℕ
+  pub opens : IsJson (opening_facts text program.tree input ∷ []) opening
+  pub lines : List ℕ
+  pub tells : IsJson (steps_facts program.layout (verdict_of outcome) entries 1 (length entries)) lines
+  pub joined : facts ≡ opening ++ lines
+
+-- a page of such facts
+pub record IsPage (text : List ℕ) (program : Checked) (input : List ℤ) (outcome : Outcome) (entries : List Entry) (shows : List ℕ) : Type 0 where
+  pub facts : List ℕ
+  pub are : AreFacts text program input outcome entries facts
+  pub kept : ℕ
+  pub cut : IsCut facts kept
+  pub is : shows ≡ page facts kept

@@ -1,0 +1,83 @@
+-- The text by which what was found is told.
+use Rattle.std.specs.Prelude.{◌≡◌, ℕ, List, ◌++◌, Bool, true, false, codes, decimal, map}
+use Rattle.pram_model.specs.Layout.{total_size}
+use Rattle.pram_model.specs.Rules.{rule_word}
+use Rattle.pram_check.specs.Checked.{Checked}
+use Rattle.superstep_listing.specs.Listing.{spelling}
+use Rattle.superstep_machine.specs.Trace.{Exchange}
+use Rattle.tracer.specs.Traced.{trace_text}
+use Rattle.trace_pictures.specs.Picture as trace
+use Rattle.step_pictures.specs.Picture as steps
+use Rattle.write_rules.specs.Verdict.{verdict_of}
+use Rattle.program_texts.specs.Shown.{line, shown}
+use Rattle.explanations.specs.Explained.{explanation}
+use Rattle.rule_comparison.specs.ComparisonText.{comparison_text}
+use Rattle.step_entries.specs.Entries.{Entry, entry_is}
+use Rattle.step_texts.specs.declared.manner.Manner.{Manner}
+use Rattle.command_facts.specs.declared.found.Facts.{Facts}
+use Rattle.command_facts.specs.declared.found.Facts.TheVariants as facts
+use Rattle.command_facts.specs.declared.found.Found.{Found}
+use Rattle.command_facts.specs.declared.found.Found.TheVariants as found
+use Rattle.command_facts.specs.declared.found.FoundRun.{FoundRun}
+use Rattle.command_text.specs.declared.terminal.Terminal.{Terminal}
+use Rattle.command_text.specs.Costs.{costs_text}
+use Rattle.command_text.specs.Steps.{IsManner, IsPage, told_text}
+
+abbrev pub version_text : List ℕ
+version_text = line (codes "pramc 0.1.0")
+
+-- `accepted cells 16 procs 8 rule erew`
+abbrev pub accepted_line : Checked → List ℕ
+accepted_line program =
+    line (codes "accepted cells " ++ (decimal (total_size program.layout)
+    ++ (codes " procs " ++ (decimal program.procs ++ (codes " rule " ++ rule_word program.rule)))))
+
+-- the exchanges of a run, in words or drawn
+abbrev pub counts_text : Bool → List Exchange → List ℕ
+counts_text false exchanges = trace_text exchanges
+counts_text true exchanges = trace.picture exchanges
+
+-- the outcome of a run
+abbrev pub outcome_text : FoundRun → List ℕ
+outcome_text r = shown r.loaded.program.layout (verdict_of r.outcome)
+
+-- a run statement by statement: in words, between the numbers that are asked for, and then its outcome
+abbrev pub IsInWords : Terminal → FoundRun → List Entry → List ℕ → Type 0
+IsInWords on r entries text = (manner : Manner) × IsManner on r.loaded.source.bytes.items manner
+    × (text ≡ told_text r.loaded.program.layout manner r.outcome entries r.words.steps.from r.words.steps.to)
+
+-- drawn, or as a page, where that is asked for
+abbrev pub AreStepsText : (svg html : Bool) → Terminal → FoundRun → List Entry → List ℕ → Type 0
+AreStepsText true html on r entries text = text ≡ steps.picture r.loaded.program.layout entries
+AreStepsText false true on r entries text = IsPage r.loaded.source.bytes.items r.loaded.program r.input.items r.outcome entries text
+AreStepsText false false on r entries text = IsInWords on r entries text
+
+-- the text of a run, by what was found beside its outcome
+abbrev pub IsRunText : Terminal → FoundRun → Facts → List ℕ → Type 0
+IsRunText on r facts.Nothing text = text ≡ outcome_text r
+IsRunText on r (facts.Cost c) text =
+    text ≡ costs_text (verdict_of r.outcome) c r.words.costs.schedule r.words.costs.lines ++ outcome_text r
+IsRunText on r (facts.Steps entries) text = AreStepsText r.words.svg r.words.html on r (map entry_is entries.items) text
+IsRunText on r (facts.Exchanges exchanges) text = text ≡ counts_text r.words.svg exchanges
+
+-- the text of what was found
+abbrev pub IsTextOf : Terminal → Found → List ℕ → Type 0
+IsTextOf on found.Version text = text ≡ version_text
+IsTextOf on (found.Explanation subject) text = text ≡ explanation subject
+IsTextOf on (found.Accepted l) text = text ≡ accepted_line l.program
+IsTextOf on (found.Planned code) text = text ≡ spelling code
+IsTextOf on (found.Compared c) text = text ≡ comparison_text c
+IsTextOf on (found.Run r) text = IsRunText on r r.facts text
+IsTextOf on (found.Executed c) text = text ≡ shown c.code.layout (verdict_of c.outcome)
+
+-- only a page is put together before it is written
+abbrev pub IsAPage : (svg html : Bool) → Type 0
+IsAPage svg html = (svg ≡ false) × (html ≡ true)
+
+abbrev pub IsPaged : FoundRun → Facts → Type 0
+IsPaged r (facts.Steps entries) = IsAPage r.words.svg r.words.html
+IsPaged r _ = ⊥
+
+abbrev pub NeedsMemory : Found → Type 0
+NeedsMemory (found.Run r) = IsPaged r r.facts
+NeedsMemory _ = ⊥

@@ -1,0 +1,100 @@
+//! How the program answers a request.
+
+ghost use Rattle.std.specs.Prelude.{◌<◌, ◌^◌};
+ghost use Rattle.command_text.specs.Left.{Leaves, LeavesFound};
+
+use crate::explaining::{explain, report};
+use crate::telling::write_found;
+use crate::terminal::Terminal;
+use command_facts::{Found, Halted, find};
+use command_requests::Request;
+use program_texts::{Sources, Status, Stop};
+use std::alloc::Global;
+use std::sync::Wait;
+use std::thread::Threads;
+use text_out::Out;
+
+// What was found is told.
+fn tell<O: Out, E: Out>(
+    alloc: Global,
+    on: Terminal,
+    found: &Found<'_>,
+    out: &mut O,
+    err: &mut E,
+) -> Status
+    requires out { (O.Out.state out.old).failures < 2 ^ 62 }
+    requires err { (E.Out.state err.old).failures < 2 ^ 62 }
+    ensures leaves { LeavesFound on found.now (O.Out.state out.old) (O.Out.state out.new) (E.Out.state err.old) (E.Out.state err.new) result }
+{
+    match write_found(alloc, on, found, out) {
+        Ok(status) => {
+            explain(alloc, err, found, on.errors);
+            status
+        }
+        Err(stop) => {
+            report(alloc, err, &Halted::from(stop), on.errors);
+            Status::Refused
+        }
+    }
+}
+
+// A request that was read.
+fn answer_request<R: Threads + Wait + Sync, S: Sources, O: Out, E: Out>(
+    rt: &R,
+    alloc: Global,
+    request: Request<'_>,
+    on: Terminal,
+    sources: &mut S,
+    out: &mut O,
+    err: &mut E,
+) -> Status
+    requires out { (O.Out.state out.old).failures < 2 ^ 62 }
+    requires err { (E.Out.state err.old).failures < 2 ^ 62 }
+    ensures leaves { Leaves (S.Sources.holds sources.old) on (Ok request.entry)
+        (O.Out.state out.old) (O.Out.state out.new) (E.Out.state err.old) (E.Out.state err.new) result }
+{
+    match find(rt, alloc, request, sources) {
+        Ok(found) => tell(alloc, on, &found, out, err),
+        Err(halted) => {
+            report(alloc, err, &halted, on.errors);
+            Status::Refused
+        }
+    }
+}
+
+/// Answers a request, or says why the words of a call are none, and answers the exit status.
+///
+/// `check FILE` writes `accepted cells N procs M rule R`; `plan FILE` the listing of the program's code; `meaning FILE` the outcome by
+/// the definition, `cost FILE` what that run costs and then its outcome, `steps FILE` that run statement by statement and then its
+/// outcome, or a picture or a page of it, and `rules FILE` how it comes out under each rule; `run FILE` that of its code, run by workers in
+/// threads, and `trace FILE` the exchanges of that run, or a picture of them; `exec LISTING` the outcome of a listing, run so;
+/// `explain WORD` what a refusal or a fault is; `--version`, or `-V`, the line `pramc 0.1.0`.
+///
+/// What is refused is written to `err`: P1 for the words, P2 for a file that can't be read, and E1 to E18. Besides what
+/// [`find`](command_facts::find) refuses, E17 is told where standard output failed, and E16 where memory for a page was refused.
+///
+/// Where the errors are to be explained, what a reader needs follows there: the place, its line and a caret, and a
+/// sentence; and so of a fault, of a program's run with its line. Where standard output is a terminal, statements stand beside their lines
+/// of the program's text, and what changes is coloured if that is wanted.
+pub fn answer<'a, R: Threads + Wait + Sync, S: Sources, O: Out, E: Out>(
+    rt: &R,
+    alloc: Global,
+    asked: Result<Request<'a>, Stop<'a>>,
+    on: Terminal,
+    sources: &mut S,
+    out: &mut O,
+    err: &mut E,
+) -> Status
+    requires out { (O.Out.state out.old).failures < 2 ^ 62 }
+    requires err { (E.Out.state err.old).failures < 2 ^ 62 }
+    ensures leaves { Leaves (S.Sources.holds sources.old) on asked.entry
+        (O.Out.state out.old) (O.Out.state out.new) (E.Out.state err.old) (E.Out.state err.new) result }
+{
+    match asked {
+        Ok(request) => answer_request(rt, alloc, request, on, sources, out, err),
+        Err(stop) => {
+            report(alloc, err, &Halted::from(stop), on.errors);
+            Status::Refused
+        }
+    }
+}

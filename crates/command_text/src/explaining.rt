@@ -1,0 +1,129 @@
+//! What a call writes to standard error.
+
+ghost use Rattle.std.specs.Prelude.{◌≡◌, ◌⊎◌, ◌<◌, ◌^◌, [], ℤ, List};
+ghost use Rattle.text_out.specs.Out.{Writes};
+ghost use Rattle.diagnoses.specs.FaultTexts.{fault_diagnosis, fault_sentence};
+ghost use Rattle.diagnoses.specs.Met.{who_met as those_met};
+ghost use Rattle.diagnoses.specs.Remarks.{Remark};
+ghost use Rattle.diagnoses.specs.Stops.{HasRemark};
+ghost use Rattle.command_facts.specs.Written.{IsReported};
+ghost use Rattle.command_text.specs.Explained as spec;
+
+use command_facts::{Found, FoundCode, FoundRun, Halted};
+use diagnoses::{who_met, write_fault_sentence, write_run_fault, write_stop_diagnosis};
+use pram_check::Program;
+use pram_values::Place;
+use program_texts::write_stop;
+use std::alloc::Global;
+use text_out::{Out, WriteFault};
+use write_rules::{Fault, Outcome};
+
+// The line of a refusal, and if that is asked for what is said behind it.
+fn write_halt<E: Out>(
+    alloc: Global,
+    err: &mut E,
+    halted: &Halted<'_>,
+    explains: bool,
+) -> Result<(), WriteFault>
+    requires err { (E.Out.state err.old).failures < 2 ^ 62 }
+    ensures written { (r : Remark) × HasRemark halted.now.stop halted.now.about r × Writes (E.Out.state err.old) (E.Out.state err.new)
+        (spec.refusal_text explains halted.now.stop halted.now.about r) result }
+{
+    write_stop(err, &halted.stop)?;
+    if explains {
+        write_stop_diagnosis(alloc, err, &halted.stop, &halted.about)
+    } else {
+        Ok(())
+    }
+}
+
+/// Writes what is refused to standard error. That it fails changes no status.
+pub(crate) fn report<E: Out>(alloc: Global, err: &mut E, halted: &Halted<'_>, explains: bool)
+    requires err { (E.Out.state err.old).failures < 2 ^ 62 }
+    ensures written { spec.IsRefusalReported explains halted.now.stop halted.now.about (E.Out.state err.old) (E.Out.state err.new) }
+{
+    if write_halt(alloc, err, halted, explains).is_ok() {
+        let _ = err.flush();
+    }
+}
+
+// Those that met at the fault of a run, at a cell; the meaning is run again for that.
+fn meeting(alloc: Global, program: &Program, input: &[i64], bound: u32, place: Place) -> Vec<i64>
+    ensures { (result.items ≡ those_met program.now input.now bound) ⊎ (result.items ≡ []) }
+{
+    match place {
+        Place::Cell(_) => match who_met(alloc, program, input, bound) {
+            Some(who) => who,
+            None => Vec::new(alloc),
+        },
+        Place::Processor(_) | Place::All => Vec::new(alloc),
+    }
+}
+
+// Writes what is said of a run's fault.
+fn say_run_fault<E: Out>(alloc: Global, err: &mut E, run: &FoundRun<'_>, fault: &Fault)
+    requires err { (E.Out.state err.old).failures < 2 ^ 62 }
+    ensures written { (who : List ℤ) × spec.HaveMet run.now who × IsReported (E.Out.state err.old) (E.Out.state err.new)
+        (fault_diagnosis run.now.loaded.source run.now.loaded.program.layout fault.now who) }
+{
+    let program = &run.loaded.program;
+    let bound = run.words.options.bound;
+    let who = meeting(alloc, program, &run.input, bound, fault.place);
+    if write_run_fault(err, &run.loaded.source, program.layout(), fault, &who).is_ok() {
+        let _ = err.flush();
+    }
+}
+
+fn explain_run<E: Out>(alloc: Global, err: &mut E, run: &FoundRun<'_>, explains: bool)
+    requires err { (E.Out.state err.old).failures < 2 ^ 62 }
+    ensures left { spec.IsRunExplained explains run.now run.now.outcome (E.Out.state err.old) (E.Out.state err.new) }
+{
+    if !explains {
+        return;
+    }
+    match &run.outcome {
+        Outcome::Ended { .. } => {}
+        Outcome::GoesOn { .. } => {}
+        Outcome::Faulted { fault, .. } => say_run_fault(alloc, err, run, fault),
+    }
+}
+
+// Writes what is said of the fault of code.
+fn say_code_fault<E: Out>(err: &mut E, run: &FoundCode, fault: &Fault)
+    requires err { (E.Out.state err.old).failures < 2 ^ 62 }
+    ensures written { IsReported (E.Out.state err.old) (E.Out.state err.new) (fault_sentence run.now.code.layout fault.now []) }
+{
+    if write_fault_sentence(err, run.code.code().layout(), fault, &[]).is_ok() {
+        let _ = err.flush();
+    }
+}
+
+fn explain_code<E: Out>(err: &mut E, run: &FoundCode, explains: bool)
+    requires err { (E.Out.state err.old).failures < 2 ^ 62 }
+    ensures left { spec.IsCodeExplained explains run.now run.now.outcome (E.Out.state err.old) (E.Out.state err.new) }
+{
+    if !explains {
+        return;
+    }
+    match &run.outcome {
+        Outcome::Ended { .. } => {}
+        Outcome::GoesOn { .. } => {}
+        Outcome::Faulted { fault, .. } => say_code_fault(err, run, fault),
+    }
+}
+
+/// Writes what is said of the fault of what was found, where that is asked for, to standard error. That it fails changes no status.
+pub(crate) fn explain<E: Out>(alloc: Global, err: &mut E, found: &Found<'_>, explains: bool)
+    requires err { (E.Out.state err.old).failures < 2 ^ 62 }
+    ensures left { spec.IsExplained explains found.now (E.Out.state err.old) (E.Out.state err.new) }
+{
+    match found {
+        Found::Run(run) => explain_run(alloc, err, run, explains),
+        Found::Executed(run) => explain_code(err, run, explains),
+        Found::Version => {}
+        Found::Explanation(_) => {}
+        Found::Accepted(_) => {}
+        Found::Planned(_) => {}
+        Found::Compared(_) => {}
+    }
+}

@@ -1,0 +1,169 @@
+//! Runs of a program that are told statement by statement: in words, drawn, or as a page.
+
+ghost use Rattle.std.specs.Prelude.{◌<◌, ◌^◌, ℕ, IfOk, List, map};
+ghost use Rattle.std.specs.String.{string_bytes};
+ghost use Rattle.text_out.specs.Out.{Writes};
+ghost use Rattle.command_facts.specs.Written.{Wrote, WroteSome};
+ghost use Rattle.program_texts.specs.Status.{status_of};
+ghost use Rattle.step_entries.specs.Entries.{entry_is};
+ghost use Rattle.step_pages.specs.Facts.{IsCut};
+ghost use Rattle.step_pages.specs.Page.{page};
+ghost use Rattle.step_pictures.specs.Picture.{picture};
+ghost use Rattle.command_text.specs.Steps as spec;
+ghost use Rattle.command_text.specs.Texts as texts;
+
+use crate::terminal::Terminal;
+use command_facts::FoundRun;
+use command_requests::StepWords;
+use json_texts::json_steps;
+use pram_trees::Layout;
+use program_texts::{Status, Stop, finish, show};
+use std::alloc::{AllocError, Global};
+use step_entries::Entry;
+use step_pages::{opening_line, write_page};
+use step_pictures::write_picture;
+use step_texts::{Manner, write_steps};
+use text_out::{Out, WriteFault};
+use write_rules::Outcome;
+
+// How entries are written on these streams.
+fn manner_of<'t>(on: Terminal, text: &'t [u8]) -> Manner<'t>
+    ensures { spec.IsManner on text.now result }
+{
+    if on.output {
+        Manner::OnTerminal {
+            text,
+            colours: on.colours,
+        }
+    } else {
+        Manner::Plain
+    }
+}
+
+// The entries that are asked for, and behind them the run's outcome.
+fn write_entries_and_outcome<O: Out>(
+    out: &mut O,
+    layout: &Layout,
+    outcome: &Outcome,
+    entries: &[Entry],
+    manner: &Manner<'_>,
+    words: StepWords,
+) -> Result<(), WriteFault>
+    requires out { (O.Out.state out.old).failures < 2 ^ 62 }
+    ensures written { Writes (O.Out.state out.old) (O.Out.state out.new)
+        (spec.told_text layout.now manner.now outcome.now (map entry_is entries.now) words.from words.to) result }
+{
+    let (first, last) = (words.from as usize, words.to as usize);
+    write_steps(out, layout, manner, entries, first, last)?;
+    show(layout, outcome, out)
+}
+
+// Writes a run statement by statement, and behind that its outcome.
+fn write_told<'a, O: Out>(
+    out: &mut O,
+    layout: &Layout,
+    outcome: &Outcome,
+    entries: &[Entry],
+    manner: &Manner<'_>,
+    words: StepWords,
+) -> Result<Status, Stop<'a>>
+    requires out { (O.Out.state out.old).failures < 2 ^ 62 }
+    ensures written { Wrote (status_of outcome.now)
+        (spec.told_text layout.now manner.now outcome.now (map entry_is entries.now) words.from words.to)
+        (O.Out.state out.old) (O.Out.state out.new) result }
+{
+    write_entries_and_outcome(out, layout, outcome, entries, manner, words)?;
+    finish(out, Status::of(outcome))
+}
+
+// In words.
+fn write_in_words<'a, O: Out>(
+    on: Terminal,
+    run: &FoundRun<'_>,
+    entries: &[Entry],
+    out: &mut O,
+) -> Result<Status, Stop<'a>>
+    requires out { (O.Out.state out.old).failures < 2 ^ 62 }
+    ensures written { (text : List ℕ) × texts.IsInWords on run.now (map entry_is entries.now) text
+        × Wrote (status_of run.now.outcome) text (O.Out.state out.old) (O.Out.state out.new) result }
+{
+    let layout = run.loaded.program.layout();
+    let manner = manner_of(on, run.loaded.source.bytes.as_slice());
+    write_told(out, layout, &run.outcome, entries, &manner, run.words.steps)
+}
+
+// Writes a picture of a run's statements.
+fn write_pictured<'a, O: Out>(
+    out: &mut O,
+    layout: &Layout,
+    outcome: &Outcome,
+    entries: &[Entry],
+) -> Result<Status, Stop<'a>>
+    requires out { (O.Out.state out.old).failures < 2 ^ 62 }
+    ensures written { Wrote (status_of outcome.now) (picture layout.now (map entry_is entries.now))
+        (O.Out.state out.old) (O.Out.state out.new) result }
+{
+    write_picture(out, layout, entries)?;
+    finish(out, Status::of(outcome))
+}
+
+// The facts of a run, for its page: what is known before the first statement, all entries, and the outcome.
+fn page_facts(alloc: Global, run: &FoundRun<'_>, entries: &[Entry]) -> Result<String, AllocError>
+    ensures facts { IfOk result (λ facts. spec.AreFacts run.now.loaded.source.bytes.items run.now.loaded.program run.now.input.items
+        run.now.outcome (map entry_is entries.now) (string_bytes facts)) }
+{
+    let program = &run.loaded.program;
+    let text = run.loaded.source.bytes.as_slice();
+    let mut facts = opening_line(alloc, text, program.tree(), &run.input)?;
+    let last = entries.len();
+    let lines = json_steps(alloc, program.layout(), &run.outcome, entries, 1, last)?;
+    facts.push_str(&lines)?;
+    Ok(facts)
+}
+
+// Writes a page of a run's facts.
+fn write_paged<'a, O: Out>(out: &mut O, outcome: &Outcome, facts: &[u8]) -> Result<Status, Stop<'a>>
+    requires out { (O.Out.state out.old).failures < 2 ^ 62 }
+    ensures written { (kept : ℕ) × IsCut facts.now kept
+        × Wrote (status_of outcome.now) (page facts.now kept) (O.Out.state out.old) (O.Out.state out.new) result }
+{
+    write_page(out, facts)?;
+    finish(out, Status::of(outcome))
+}
+
+// As a page.
+fn write_as_page<'a, O: Out>(
+    alloc: Global,
+    run: &FoundRun<'_>,
+    entries: &[Entry],
+    out: &mut O,
+) -> Result<Status, Stop<'a>>
+    requires out { (O.Out.state out.old).failures < 2 ^ 62 }
+    ensures written { WroteSome (status_of run.now.outcome) (Unit {0}) (spec.IsPage run.now.loaded.source.bytes.items
+        run.now.loaded.program run.now.input.items run.now.outcome (map entry_is entries.now)) (O.Out.state out.old) (O.Out.state out.new) result }
+{
+    let facts = page_facts(alloc, run, entries)?;
+    write_paged(out, &run.outcome, facts.as_bytes())
+}
+
+/// A run of a program statement by statement: drawn, as a page, or in words and then its outcome.
+pub(crate) fn write_steps_of<'a, O: Out>(
+    alloc: Global,
+    on: Terminal,
+    run: &FoundRun<'_>,
+    entries: &[Entry],
+    out: &mut O,
+) -> Result<Status, Stop<'a>>
+    requires out { (O.Out.state out.old).failures < 2 ^ 62 }
+    ensures written { WroteSome (status_of run.now.outcome) (texts.IsAPage run.now.words.svg run.now.words.html)
+        (texts.AreStepsText run.now.words.svg run.now.words.html on run.now (map entry_is entries.now))
+        (O.Out.state out.old) (O.Out.state out.new) result }
+{
+    if run.words.svg {
+        write_pictured(out, run.loaded.program.layout(), &run.outcome, entries)
+    } else if run.words.html {
+        write_as_page(alloc, run, entries, out)
+    } else {
+        write_in_words(on, run, entries, out)
+    }
+}

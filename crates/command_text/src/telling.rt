@@ -1,0 +1,79 @@
+//! What was found, told on standard output.
+
+ghost use Rattle.std.specs.Prelude.{◌<◌, ◌^◌};
+ghost use Rattle.program_texts.specs.Status.{status_of};
+ghost use Rattle.command_facts.specs.Found.{status_of_found};
+ghost use Rattle.command_facts.specs.Written.{Wrote, WroteSome};
+ghost use Rattle.command_text.specs.Texts as spec;
+
+use crate::stepping::write_steps_of;
+use crate::terminal::Terminal;
+use crate::writing::{
+    write_accepted, write_costs, write_drawn, write_exchanges, write_outcome, write_plan,
+    write_rules, write_subject, write_version,
+};
+use command_facts::{Facts, Found, FoundRun};
+use exchange_counts::Counts;
+use program_texts::{Status, Stop};
+use std::alloc::Global;
+use text_out::Out;
+use write_rules::Outcome;
+
+// The exchanges of a run, in words or drawn.
+fn write_counts<'a, O: Out>(
+    out: &mut O,
+    outcome: &Outcome,
+    counts: &Counts,
+    svg: bool,
+) -> Result<Status, Stop<'a>>
+    requires out { (O.Out.state out.old).failures < 2 ^ 62 }
+    ensures written { Wrote (status_of outcome.now) (spec.counts_text svg counts.now) (O.Out.state out.old) (O.Out.state out.new) result }
+{
+    if svg {
+        write_drawn(out, outcome, counts)
+    } else {
+        write_exchanges(out, outcome, counts)
+    }
+}
+
+// A run of a program.
+fn write_run<'a, O: Out>(
+    alloc: Global,
+    on: Terminal,
+    run: &FoundRun<'_>,
+    out: &mut O,
+) -> Result<Status, Stop<'a>>
+    requires out { (O.Out.state out.old).failures < 2 ^ 62 }
+    ensures written { WroteSome (status_of run.now.outcome) (spec.IsPaged run.now run.now.facts) (spec.IsRunText on run.now run.now.facts)
+        (O.Out.state out.old) (O.Out.state out.new) result }
+{
+    let layout = run.loaded.program.layout();
+    match &run.facts {
+        Facts::Nothing => write_outcome(out, layout, &run.outcome),
+        Facts::Cost(cost) => write_costs(out, layout, &run.outcome, cost, run.words.costs),
+        Facts::Exchanges(counts) => write_counts(out, &run.outcome, counts, run.words.svg),
+        Facts::Steps(entries) => write_steps_of(alloc, on, run, entries, out),
+    }
+}
+
+/// Writes what was found, and nothing where memory for it was refused.
+pub(crate) fn write_found<'a, O: Out>(
+    alloc: Global,
+    on: Terminal,
+    found: &Found<'_>,
+    out: &mut O,
+) -> Result<Status, Stop<'a>>
+    requires out { (O.Out.state out.old).failures < 2 ^ 62 }
+    ensures written { WroteSome (status_of_found found.now) (spec.NeedsMemory found.now) (spec.IsTextOf on found.now)
+        (O.Out.state out.old) (O.Out.state out.new) result }
+{
+    match found {
+        Found::Version => write_version(out),
+        Found::Explanation(subject) => write_subject(out, *subject),
+        Found::Accepted(loaded) => write_accepted(out, &loaded.program),
+        Found::Planned(code) => write_plan(out, code.code()),
+        Found::Compared(comparison) => write_rules(out, comparison),
+        Found::Run(run) => write_run(alloc, on, run, out),
+        Found::Executed(run) => write_outcome(out, run.code.code().layout(), &run.outcome),
+    }
+}

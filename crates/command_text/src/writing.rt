@@ -1,0 +1,204 @@
+//! What a call writes to standard output.
+
+ghost use Rattle.std.specs.Prelude.{◌<◌, ◌^◌, ◌++◌};
+ghost use Rattle.text_out.specs.Out.{Writes};
+ghost use Rattle.write_rules.specs.Verdict.{verdict_of};
+ghost use Rattle.program_texts.specs.Shown.{shown};
+ghost use Rattle.program_texts.specs.Status.{status_of};
+ghost use Rattle.program_texts.specs.declared.status.Status.TheVariants.{Done};
+ghost use Rattle.explanations.specs.Explained.{explanation};
+ghost use Rattle.rule_comparison.specs.ComparisonText.{comparison_text};
+ghost use Rattle.superstep_listing.specs.Listing.{spelling};
+ghost use Rattle.trace_pictures.specs.Picture.{picture};
+ghost use Rattle.tracer.specs.Traced.{trace_text};
+ghost use Rattle.command_text.specs.Costs.{costs_text};
+ghost use Rattle.command_facts.specs.Written.{Wrote};
+ghost use Rattle.command_text.specs.Texts.{accepted_line, version_text};
+
+use command_requests::{CostWords, VERSION};
+use cost_texts::{write_cost, write_lines};
+use exchange_counts::Counts;
+use explanations::{Subject, write_explanation};
+use itoa::Buffer;
+use pram_check::Program;
+use pram_trees::Layout;
+use program_texts::{Status, Stop, finish, rule_word, show};
+use rule_comparison::{Comparison, show_comparison};
+use superstep_instructions::Code;
+use superstep_listing::write_listing;
+use text_out::{Out, WriteFault};
+use trace_pictures::write_picture;
+use tracer::write_trace;
+use work_time::Cost;
+use write_rules::Outcome;
+
+/// Writes an outcome.
+pub(crate) fn write_outcome<'a, O: Out>(
+    out: &mut O,
+    layout: &Layout,
+    outcome: &Outcome,
+) -> Result<Status, Stop<'a>>
+    requires out { (O.Out.state out.old).failures < 2 ^ 62 }
+    ensures written { Wrote (status_of outcome.now) (shown layout.now (verdict_of outcome.now))
+        (O.Out.state out.old) (O.Out.state out.new) result }
+{
+    show(layout, outcome, out)?;
+    finish(out, Status::of(outcome))
+}
+
+// A run's costs, as far as they are asked for.
+fn write_numbers<O: Out>(
+    out: &mut O,
+    outcome: &Outcome,
+    cost: &Cost,
+    words: CostWords,
+) -> Result<(), WriteFault>
+    requires out { (O.Out.state out.old).failures < 2 ^ 62 }
+    ensures written { Writes (O.Out.state out.old) (O.Out.state out.new)
+        (costs_text (verdict_of outcome.now) cost.now words.schedule words.lines) result }
+{
+    write_cost(outcome, cost, words.schedule, out)?;
+    if words.lines {
+        write_lines(&cost.lines, out)
+    } else {
+        Ok(())
+    }
+}
+
+// Those, and behind them the run's outcome.
+fn write_numbers_and_outcome<O: Out>(
+    out: &mut O,
+    layout: &Layout,
+    outcome: &Outcome,
+    cost: &Cost,
+    words: CostWords,
+) -> Result<(), WriteFault>
+    requires out { (O.Out.state out.old).failures < 2 ^ 62 }
+    ensures written { Writes (O.Out.state out.old) (O.Out.state out.new)
+        (costs_text (verdict_of outcome.now) cost.now words.schedule words.lines ++ shown layout.now (verdict_of outcome.now)) result }
+{
+    write_numbers(out, outcome, cost, words)?;
+    show(layout, outcome, out)
+}
+
+/// Writes what a run costs, and behind that its outcome.
+pub(crate) fn write_costs<'a, O: Out>(
+    out: &mut O,
+    layout: &Layout,
+    outcome: &Outcome,
+    cost: &Cost,
+    words: CostWords,
+) -> Result<Status, Stop<'a>>
+    requires out { (O.Out.state out.old).failures < 2 ^ 62 }
+    ensures written { Wrote (status_of outcome.now) (costs_text (verdict_of outcome.now) cost.now words.schedule words.lines
+        ++ shown layout.now (verdict_of outcome.now))
+        (O.Out.state out.old) (O.Out.state out.new) result }
+{
+    write_numbers_and_outcome(out, layout, outcome, cost, words)?;
+    finish(out, Status::of(outcome))
+}
+
+/// Writes how a program comes out under each rule.
+pub(crate) fn write_rules<'a, O: Out>(
+    out: &mut O,
+    comparison: &Comparison,
+) -> Result<Status, Stop<'a>>
+    requires out { (O.Out.state out.old).failures < 2 ^ 62 }
+    ensures written { Wrote Done (comparison_text comparison.now)
+        (O.Out.state out.old) (O.Out.state out.new) result }
+{
+    show_comparison(comparison, out)?;
+    finish(out, Status::Done)
+}
+
+/// Writes the exchanges of a run.
+pub(crate) fn write_exchanges<'a, O: Out>(
+    out: &mut O,
+    outcome: &Outcome,
+    counts: &Counts,
+) -> Result<Status, Stop<'a>>
+    requires out { (O.Out.state out.old).failures < 2 ^ 62 }
+    ensures written { Wrote (status_of outcome.now) (trace_text counts.now)
+        (O.Out.state out.old) (O.Out.state out.new) result }
+{
+    write_trace(counts, out)?;
+    finish(out, Status::of(outcome))
+}
+
+/// Writes a picture of the exchanges of a run.
+pub(crate) fn write_drawn<'a, O: Out>(
+    out: &mut O,
+    outcome: &Outcome,
+    counts: &Counts,
+) -> Result<Status, Stop<'a>>
+    requires out { (O.Out.state out.old).failures < 2 ^ 62 }
+    ensures written { Wrote (status_of outcome.now) (picture counts.now)
+        (O.Out.state out.old) (O.Out.state out.new) result }
+{
+    write_picture(counts, out)?;
+    finish(out, Status::of(outcome))
+}
+
+/// Writes the listing of a program's code.
+pub(crate) fn write_plan<'a, O: Out>(out: &mut O, code: &Code) -> Result<Status, Stop<'a>>
+    requires out { (O.Out.state out.old).failures < 2 ^ 62 }
+    ensures written { Wrote Done (spelling code.now)
+        (O.Out.state out.old) (O.Out.state out.new) result }
+{
+    write_listing(code, out)?;
+    finish(out, Status::Done)
+}
+
+/// Writes what there is to say of a subject.
+pub(crate) fn write_subject<'a, O: Out>(out: &mut O, subject: Subject) -> Result<Status, Stop<'a>>
+    requires out { (O.Out.state out.old).failures < 2 ^ 62 }
+    ensures written { Wrote Done (explanation subject)
+        (O.Out.state out.old) (O.Out.state out.new) result }
+{
+    write_explanation(out, subject)?;
+    finish(out, Status::Done)
+}
+
+/// Writes the version.
+pub(crate) fn write_version<'a, O: Out>(out: &mut O) -> Result<Status, Stop<'a>>
+    requires out { (O.Out.state out.old).failures < 2 ^ 62 }
+    ensures written { Wrote Done version_text
+        (O.Out.state out.old) (O.Out.state out.new) result }
+{
+    write_version_line(out)?;
+    finish(out, Status::Done)
+}
+
+fn write_version_line<O: Out>(out: &mut O) -> Result<(), WriteFault>
+    requires out { (O.Out.state out.old).failures < 2 ^ 62 }
+    ensures written { Writes (O.Out.state out.old) (O.Out.state out.new) version_text result }
+{
+    out.write_parts(&[b"pramc ", VERSION.as_bytes(), b"\n"])
+}
+
+/// Writes that a program is accepted.
+pub(crate) fn write_accepted<'a, O: Out>(out: &mut O, program: &Program) -> Result<Status, Stop<'a>>
+    requires out { (O.Out.state out.old).failures < 2 ^ 62 }
+    ensures written { Wrote Done (accepted_line program.now)
+        (O.Out.state out.old) (O.Out.state out.new) result }
+{
+    write_accepted_line(out, program)?;
+    finish(out, Status::Done)
+}
+
+fn write_accepted_line<O: Out>(out: &mut O, program: &Program) -> Result<(), WriteFault>
+    requires out { (O.Out.state out.old).failures < 2 ^ 62 }
+    ensures written { Writes (O.Out.state out.old) (O.Out.state out.new) (accepted_line program.now) result }
+{
+    let mut cells = Buffer::new();
+    let mut procs = Buffer::new();
+    out.write_parts(&[
+        b"accepted cells ",
+        cells.format(program.layout().cells()).as_bytes(),
+        b" procs ",
+        procs.format(program.procs()).as_bytes(),
+        b" rule ",
+        rule_word(program.rule()),
+        b"\n",
+    ])
+}

@@ -1,0 +1,4 @@
+//! The code of a formula computes its value and notes what is wrong.
+#![tactic(auto)]
+
+pub mod formula_laws;

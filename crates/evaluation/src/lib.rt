@@ -1,4 +1,0 @@
-//! A statement's processors, each of which goes on after its fault.
-#![tactic(auto)]
-
-pub mod law;

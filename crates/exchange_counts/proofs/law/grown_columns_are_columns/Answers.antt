@@ -1,5 +1,0 @@
-use Rattle.exchange_counts.proofs.ToldLemmas.{still_columns}
-use Rattle.exchange_counts.proofs.law.grown_columns_are_columns.Goals as goal
-
-pub returns : goal.returns
-returns c = λ columns more count are grow. still_columns count columns more are grow

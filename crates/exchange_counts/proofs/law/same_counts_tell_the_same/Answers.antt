@@ -1,5 +1,0 @@
-use Rattle.exchange_counts.proofs.ToldLemmas.{same_told}
-use Rattle.exchange_counts.proofs.law.same_counts_tell_the_same.Goals as goal
-
-pub returns : goal.returns
-returns c = λ columns others are same. same_told columns others same

@@ -1,0 +1,4 @@
+//! The flat machine's runs, stretch by stretch.
+#![tactic(auto)]
+
+pub mod stretch_laws;

@@ -1,6 +1,0 @@
-use Rattle.formed_code.proofs.Straight.{marks_come_first, evaluations_stay}
-use Rattle.formed_code.proofs.Fine as fine
-use Rattle.formed_code.proofs.law.straight_parts_are_fine.Goals as goal
-
-pub returns : goal.returns
-returns c = record { marks = marks_come_first; fine = fine.straight_parts_are_fine; stay = evaluations_stay }

@@ -1,4 +1,0 @@
-//! The code of a program is code that can run.
-#![tactic(auto)]
-
-pub mod law;

@@ -1,5 +1,0 @@
-use Rattle.formula_values.proofs.Inside.{formulas_are_evaluated_inside, pairs_are_evaluated_inside}
-use Rattle.formula_values.proofs.law.formulas_are_evaluated_inside.Goals as goal
-
-pub returns : goal.returns
-returns c = record { formulas = formulas_are_evaluated_inside; pairs = pairs_are_evaluated_inside }

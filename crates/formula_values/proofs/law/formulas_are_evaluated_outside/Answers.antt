@@ -1,5 +1,0 @@
-use Rattle.formula_values.proofs.Outside.{formulas_are_evaluated_outside, pairs_are_evaluated_outside}
-use Rattle.formula_values.proofs.law.formulas_are_evaluated_outside.Goals as goal
-
-pub returns : goal.returns
-returns c = record { formulas = formulas_are_evaluated_outside; pairs = pairs_are_evaluated_outside }

@@ -1,5 +1,0 @@
-use Rattle.std.proofs.Common.{refl}
-use Rattle.fusing.proofs.law.exchanges_of_two_writes.Goals as goal
-
-pub returns : goal.returns
-returns c = record { all = refl; fused = refl }

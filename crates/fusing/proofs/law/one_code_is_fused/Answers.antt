@@ -1,5 +1,0 @@
-use Rattle.fusing.proofs.Fused.{has_one, has_any}
-use Rattle.fusing.proofs.law.one_code_is_fused.Goals as goal
-
-pub returns : goal.returns
-returns c = record { one = has_one; any = has_any }

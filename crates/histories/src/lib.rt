@@ -1,4 +1,0 @@
-//! Histories of workers that exchange messages: that they make one run of the machine.
-#![tactic(auto)]
-
-pub mod law;

@@ -1,0 +1,4 @@
+//! What runs of code keep within.
+#![tactic(auto)]
+
+pub mod limit_laws;

@@ -1,6 +1,0 @@
-use Rattle.pram_syntax.specs.Program.{program_tokens}
-use Rattle.pram_tokens.proofs.Offsets.{in_order}
-use Rattle.pram_parser.proofs.law.tokens_stand_in_order.Goals as goal
-
-pub returns : goal.returns
-returns c text tree is = in_order text (program_tokens tree) is.offsets is.tokens

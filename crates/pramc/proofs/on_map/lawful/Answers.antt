@@ -1,4 +1,0 @@
-use Rattle.pramc.proofs.on_map.lawful.Goals as goal
-
-pub returns : goal.returns
-returns g c = g.met.M.AddressMap.lawful c.args.map.now

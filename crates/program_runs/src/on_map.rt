@@ -1,0 +1,112 @@
+//! A run by the workers of a map.
+
+ghost use Rattle.std.specs.Prelude.{List, ℤ, Option, IfOk, IfErr};
+ghost use Rattle.superstep_instructions.specs.Code.{SuperstepCode};
+ghost use Rattle.address_map.specs.Lawful.{IsLawful};
+ghost use Rattle.address_map.specs.Outcome.{IsWorkers};
+ghost use Rattle.run_options.specs.declared.options.Options.{Options as RunOptions};
+ghost use Rattle.pram_model.specs.Layout.{total_size};
+ghost use Rattle.write_rules.specs.Verdict.{verdict_of};
+ghost use Rattle.run_options.specs.Places.{IsLeastPower};
+ghost use Rattle.run_options.specs.declared.reserve.Reserve.{Reserve as Given};
+ghost use Rattle.program_runs.specs.Runs.{IsChoice, IsMapOf, IsNoMap};
+ghost use Rattle.program_runs.specs.Reserved.{IsCodeRefusedWith, IsCodeRunWith};
+
+use address_map::{AddressMap, Affine, Identity, MapFault};
+use bsp_verify::Verified;
+use exchange_counts::Counts;
+use program_texts::Refusal;
+use run_options::{MapChoice, Options, Reserve, places};
+use std::alloc::Global;
+use std::sync::Wait;
+use std::thread::Threads;
+use worker_messages::RunRefusal;
+use workers::{Gate, run_with_reserve};
+use write_rules::Outcome;
+
+// Every map is lawful: that is a law of its trait.
+fn lawful<M: AddressMap>(map: &M)
+    ensures { IsLawful (M.shape map.now) }
+{
+    let _modules = map.modules();
+}
+
+// Runs code by the workers of a map.
+fn run_on<R: Threads + Wait + Sync, M: AddressMap + Sync, G: Gate + Sync>(
+    rt: &R,
+    alloc: Global,
+    code: &Verified,
+    map: &M,
+    input: &[i64],
+    options: Options,
+    reserve: Option<Reserve>,
+    gate: &G,
+) -> Result<(Outcome, Counts), Refusal>
+    requires workers { IsWorkers options.workers }
+    requires choice { IsChoice options.map }
+    requires least { IsLeastPower (total_size code.now.layout) (M.shape map.now).count }
+    requires placed { IsMapOf options.map (M.shape map.now).count options.workers (M.shape map.now) }
+    ensures run { IfOk result (λ found. IsCodeRunWith code.now input.now options reserve (verdict_of found.0) found.1) }
+    ensures refused { IfErr result (IsCodeRefusedWith code.now input.now options reserve) }
+{
+    lawful(map);
+    match run_with_reserve(
+        rt,
+        alloc,
+        code,
+        map,
+        options.workers,
+        input,
+        options.bound,
+        reserve,
+        gate,
+    ) {
+        Ok(found) => Ok(found),
+        Err(RunRefusal::BadWorkers) => Err(Refusal::BadWorkers),
+        Err(RunRefusal::BadMap) => Err(Refusal::BadMap),
+        Err(RunRefusal::InputTooLong) => Err(Refusal::InputTooLong),
+        Err(RunRefusal::OutOfMemory) => Err(Refusal::OutOfMemory),
+        Err(RunRefusal::OutOfReserve) => Err(Refusal::OutOfReserve),
+    }
+}
+
+// Why there is no such map.
+fn refusal_of(fault: MapFault) -> Refusal
+    ensures { (code : SuperstepCode) (input : List ℤ) (how : RunOptions) (reserve : Option Given) → IsNoMap how fault →
+        IsCodeRefusedWith code input how reserve result }
+{
+    match fault {
+        MapFault::BadWorkers => Refusal::BadWorkers,
+        MapFault::BadMap => Refusal::BadMap,
+    }
+}
+
+/// Runs verified code on an input, by the workers and the map of the options, each in a thread of its own that passes the gate before
+/// its exchanges: its outcome, and the exchanges of the workers. It is refused for the first of these: E13 where there are no workers or
+/// more than 32, E12 where there is no such map, E11 where the input has more values than the code has cells; for E16 where memory
+/// or a thread was refused; and with a reserve for E18, exactly where the run comes past that.
+pub fn run_code<R: Threads + Wait + Sync, G: Gate + Sync>(
+    rt: &R,
+    alloc: Global,
+    code: &Verified,
+    input: &[i64],
+    options: Options,
+    reserve: Option<Reserve>,
+    gate: &G,
+) -> Result<(Outcome, Counts), Refusal>
+    ensures run { IfOk result (λ found. IsCodeRunWith code.now input.now options reserve (verdict_of found.0) found.1) }
+    ensures refused { IfErr result (IsCodeRefusedWith code.now input.now options reserve) }
+{
+    let cells = places(code.code().layout().cells());
+    let workers = options.workers;
+    match options.map {
+        MapChoice::Identity => match Identity::new(cells, workers) {
+            Ok(map) => run_on(rt, alloc, code, &map, input, options, reserve, gate),
+            Err(fault) => Err(refusal_of(fault)),
+        },
+        MapChoice::Affine { factor, shift } => match Affine::new(cells, workers, factor, shift) {
+            Ok(map) => run_on(rt, alloc, code, &map, input, options, reserve, gate),
+            Err(fault) => Err(refusal_of(fault)),
+        },
+    }
+}

@@ -1,4 +1,0 @@
-//! What runs of code keep within.
-#![tactic(auto)]
-
-pub mod law;

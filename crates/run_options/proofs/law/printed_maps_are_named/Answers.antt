@@ -1,5 +1,0 @@
-use Rattle.run_options.proofs.Printed.{named_back}
-use Rattle.run_options.proofs.law.printed_maps_are_named.Goals as goal
-
-pub returns : goal.returns
-returns c = named_back

@@ -1,5 +1,0 @@
-use Rattle.run_options.proofs.Printed.{read_back}
-use Rattle.run_options.proofs.law.printed_numbers_are_read.Goals as goal
-
-pub returns : goal.returns
-returns c = read_back

@@ -1,0 +1,41 @@
+//! Laws of runs that are told.
+
+ghost use Rattle.step_journal.specs.Accesses.{ReadersMeet, TwoMeet, WritersMeet};
+ghost use Rattle.step_journal.specs.Costs.{EntriesAreTimeSteps};
+ghost use Rattle.step_journal.specs.Entries.{ChangesGiveTheMemory, ItemsGiveTheOutput, TheFaultIsLast};
+
+/// The changes that are told of a run, applied in order to its opening memory, give the memory of
+/// its outcome.
+#[tactic(auto, using(crate::proofs::Replays::changes_give_the_memory))]
+pub fn changes_give_the_memory()
+    ensures { ChangesGiveTheMemory }
+{}
+
+/// The items that are told of a run, joined, are the output of its outcome, whatever it comes to.
+#[tactic(auto, using(crate::proofs::Replays::items_give_the_output))]
+pub fn items_give_the_output()
+    ensures { ItemsGiveTheOutput }
+{}
+
+/// The processors that meet at the cell of a statement's fault have accessed it there, and there are
+/// two of them at least: at a read conflict they are those that read it at the fault's position, and
+/// at every other fault of a cell those that write it.
+#[tactic(auto, using(crate::proofs::ThoseMet::readers_meet, crate::proofs::ThoseMet::writers_meet, crate::proofs::ThoseMet::two_meet))]
+pub fn those_that_meet_access_the_cell()
+    ensures readers { ReadersMeet }
+    ensures writers { WritersMeet }
+    ensures two { TwoMeet }
+{}
+
+/// The last entry that is told of a run is its fault, exactly where its outcome is one; no other is.
+#[tactic(auto, using(crate::proofs::Costed::the_fault_is_last))]
+pub fn the_fault_is_last()
+    ensures { TheFaultIsLast }
+{}
+
+/// The time steps by which the cost of a run is counted are its entries, one by one: each with its
+/// line, its processors and its accesses.
+#[tactic(auto, using(crate::proofs::Costed::entries_are_time_steps))]
+pub fn entries_are_time_steps()
+    ensures { EntriesAreTimeSteps }
+{}

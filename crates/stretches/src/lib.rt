@@ -1,4 +1,0 @@
-//! The flat machine's runs, stretch by stretch.
-#![tactic(auto)]
-
-pub mod law;

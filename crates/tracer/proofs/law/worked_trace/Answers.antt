@@ -1,5 +1,0 @@
-use Rattle.tracer.proofs.TraceLemmas.{worked}
-use Rattle.tracer.proofs.law.worked_trace.Goals as goal
-
-pub returns : goal.returns
-returns c = worked

@@ -1,0 +1,5 @@
+use Rattle.work_time.proofs.Timed.{time_is_the_least_bound}
+use Rattle.work_time.proofs.cost_laws.time_keeps_to_the_bound.Goals as goal
+
+pub returns-clause-ends : goal.returns-clause-ends
+returns-clause-ends c = time_is_the_least_bound

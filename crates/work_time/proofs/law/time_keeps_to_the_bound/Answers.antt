@@ -1,5 +1,0 @@
-use Rattle.work_time.proofs.Timed.{time_is_the_least_bound}
-use Rattle.work_time.proofs.law.time_keeps_to_the_bound.Goals as goal
-
-pub returns-clause-ends : goal.returns-clause-ends
-returns-clause-ends c = time_is_the_least_bound
