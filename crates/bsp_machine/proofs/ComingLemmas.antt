@@ -22,7 +22,8 @@ use Rattle.bsp_verify.specs.Runs.{worker_after}
 use Rattle.std.proofs.lemmas.List.Sums.{sum_by-cons}
 use Rattle.message_rows.specs.Rows.{WrittenMessage, message_at, words_in, unwritten}
 use Rattle.worker_messages.specs.Reached.{most_instructions}
-use Rattle.worker_messages.specs.Shown.{purpose_is, is_stopped, IsShown}
+use Rattle.superstep_machine.specs.Purposes.{purpose_is}
+use Rattle.worker_messages.specs.Shown.{is_stopped, IsShown}
 use Rattle.worker_exchange.specs.Received.{mark_heard, is_marked}
 use Rattle.bsp_machine.specs.declared.counted.CountedWorker.{CountedWorker}
 use Rattle.bsp_machine.specs.declared.sheet.Sheet.{Sheet}
@@ -98,13 +99,13 @@ module _ (code : SuperstepCode) (m : Shape) (map_for : IsMapFor code m) (bound :
       mine : (row' : Sheet) × (slice_get rows w ≡ Some row')
       mine = there_at rows w (omega (arith, within, long))
 
-      one_purpose : purpose_is x.local.step ≡ purpose_is sender.0.local.step
+      one_purpose : purpose_is x.local.purpose ≡ purpose_is sender.0.local.purpose
       one_purpose =
           sym (purpose_at code m bound _ _ w x (messages_in mine.0) (at w x mine.0 here mine.1) (none w x here) n low)
           ∙ (one_exchange t map_for input k w i within below).0
           ∙ purpose_at code m bound _ _ i sender.0 (messages_in row) has (none i sender.0 sender.1) n low
 
-      entry_read : read_message code.rule m w (purpose_is x.local.step) (read_header (entry row).header) (entry row).words
+      entry_read : read_message code.rule m w (purpose_is x.local.purpose) (read_header (entry row).header) (entry row).words
           ≡ message_of t i (worker_after t input k i) w
       entry_read =
           (λ j. read_message code.rule m w (one_purpose j) (read_header (entry_is j).header) (entry_is j).words)
@@ -115,14 +116,14 @@ module _ (code : SuperstepCode) (m : Shape) (map_for : IsMapFor code m) (bound :
           ap (λ (c : WrittenMessage). length c.words)
           (entry_is ∙ row_is code m bound _ _ i sender.0 (messages_in row) has (none i sender.0 sender.1) n low w within)
 
-    pub coming : HasCome code m bound input k w x.local.step (picked w rows)
+    pub coming : HasCome code m bound input k w x.local.purpose (picked w rows)
     coming = record {
       messages = λ n low.
-          map_twice (λ (r : MessageHeader × List ℕ). read_message code.rule m w (purpose_is x.local.step) r.0 r.1)
+          map_twice (λ (r : MessageHeader × List ℕ). read_message code.rule m w (purpose_is x.local.purpose) r.0 r.1)
           (λ (c : WrittenMessage). (read_header c.header, c.words)) (picked w rows)
-          ∙ map_twice (λ (c : WrittenMessage). read_message code.rule m w (purpose_is x.local.step)
+          ∙ map_twice (λ (c : WrittenMessage). read_message code.rule m w (purpose_is x.local.purpose)
           (read_header c.header) c.words) entry rows
-          ∙ map_by (λ row. read_message code.rule m w (purpose_is x.local.step) (read_header (entry row).header) (entry row).words)
+          ∙ map_by (λ row. read_message code.rule m w (purpose_is x.local.purpose) (read_header (entry row).header) (entry row).words)
           (λ i. message_of (setting code m bound n) i (worker_after (setting code m bound n) input k i) w) rows 0
           (λ i row e. entry_read n low i row e
           ∙ ap (λ j. message_of (setting code m bound n) j (worker_after (setting code m bound n) input k j) w)
@@ -229,7 +230,7 @@ module _ (t : Setting) (input : List ℤ) (k w : ℕ) (within : w < workers t) w
 module _ (code : SuperstepCode) (m : Shape) (map_for : IsMapFor code m) (bound : ℕ) (input : List ℤ) (k w : ℕ) (within : w < m.parts)
     (old new : CountedWorker) (row came : List WrittenMessage) (at : IsAt code m bound input k w old row)
     (alive : is_stopped new.local.way ≡ false → is_stopped old.local.way ≡ false)
-    (come : is_stopped new.local.way ≡ false → HasCome code m bound input k w old.local.step came)
+    (come : is_stopped new.local.way ≡ false → HasCome code m bound input k w old.local.purpose came)
     (here : IsBetween code m bound
     (λ n. state_behind code m bound w old came (worker_after (setting code m bound n) input k w) n)
     (λ n. shares (setting code m bound n) input w k ++ share_at old row came ∷ []) w new) where

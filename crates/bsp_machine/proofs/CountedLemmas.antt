@@ -14,7 +14,8 @@ use Rattle.message_rows.specs.Rows.{WrittenMessage, IsRow, written, message_at}
 use Rattle.worker_messages.specs.declared.way.Way.TheVariants.{Stopped}
 use Rattle.worker_messages.specs.declared.local.Local.{Local}
 use Rattle.worker_messages.specs.Reached.{most_instructions}
-use Rattle.worker_messages.specs.Shown.{purpose_is, marked, is_stopped, IsShown, IsAtExchange}
+use Rattle.superstep_machine.specs.Purposes.{purpose_is}
+use Rattle.worker_messages.specs.Shown.{marked, is_stopped, IsShown, IsAtExchange}
 use Rattle.worker_messages.specs.Arrived.{ComesPast}
 use Rattle.worker_messages.specs.MessagesWritten.{IsWrittenFor}
 use Rattle.bsp_machine.specs.declared.counted.CountedWorker.{CountedWorker}
@@ -44,7 +45,7 @@ pub standing_refused : (code : SuperstepCode) (m : Shape) (bound : ℕ) (states 
     is_past r (length (ready (setting code m bound n) w (states n)).state.worker.uniform.output) (length (told n)) ≡ true) →
     ((t : Setting) (w : ℕ) (s : State) → IsRow m.parts (λ j. written t.code.rule (message_of t w (marked x.local.way s) j)) row) →
     ((t : Setting) (w : ℕ) (s : State) (j : ℕ) → j < m.parts →
-    IsWrittenFor t.code.rule t.map j (purpose_is x.local.step) (message_of t w (marked x.local.way s) j) (message_at row j)) →
+    IsWrittenFor t.code.rule t.map j (purpose_is x.local.purpose) (message_of t w (marked x.local.way s) j) (message_at row j)) →
     IsStanding code m bound states told w x row
 standing_refused code m bound states told w x row mark way own past filled read = record {
   worker = λ h. absurd (never x.local.way mark way h);

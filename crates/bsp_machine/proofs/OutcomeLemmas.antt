@@ -24,7 +24,8 @@ use Rattle.flat_machine.proofs.Lists.{map_twice}
 use Rattle.worker_messages.specs.declared.way.Way.{Way}
 use Rattle.worker_messages.specs.declared.way.Way.TheVariants as ways
 use Rattle.worker_messages.specs.Reached.{most_instructions}
-use Rattle.worker_messages.specs.Shown.{way_is, is_stopped, purpose_is, IsShown}
+use Rattle.superstep_machine.specs.Purposes.{purpose_is}
+use Rattle.worker_messages.specs.Shown.{way_is, is_stopped, IsShown}
 use Rattle.exchange_counts.specs.declared.count.Count.{Count}
 use Rattle.exchange_counts.specs.Columns.{column_of, entry_of, nothing, AreColumns}
 use Rattle.exchange_counts.specs.CountedExchanges.{exchange_told, exchanges_told}
@@ -158,7 +159,7 @@ module _ (code : SuperstepCode) (m : Shape) (map_for : IsMapFor code m) (bound :
 
   one_told : (i : ℕ) → i < k → exchange_told (counts_of all) i ≡ exchange_of t (worker_after t input i)
   one_told i l = λ j. record {
-    purpose = (ap (λ (c : Count). purpose_is c.step) (first_entry i all first here)
+    purpose = (ap (λ (c : Count). purpose_is c.purpose) (first_entry i all first here)
         ∙ ap (λ (s : Share). s.purpose) (share_at 0 first here i l)) j;
     sent = listed i l (λ (c : Count). c.sent) _ (λ w x at. ap (λ (s : Share). s.sent) (share_at w x at i l)
         ∙ by_worker _ w (below w x at)) j;

@@ -11,7 +11,8 @@ use Rattle.message_rows.specs.Rows.{WrittenMessage, written, message_at}
 use Rattle.worker_messages.specs.declared.way.Way.{Way}
 use Rattle.worker_messages.specs.declared.way.Way.TheVariants as ways
 use Rattle.worker_messages.specs.Reached.{most_instructions}
-use Rattle.worker_messages.specs.Shown.{purpose_is, is_stopped, marked}
+use Rattle.superstep_machine.specs.Purposes.{purpose_is}
+use Rattle.worker_messages.specs.Shown.{is_stopped, marked}
 use Rattle.worker_exchange.specs.Received.{is_marked}
 use Rattle.worker_histories.specs.Shares.{Share}
 use Rattle.bsp_machine.specs.declared.counted.CountedWorker.{CountedWorker}
@@ -49,7 +50,7 @@ module _ (code : SuperstepCode) (m : Shape) (bound : ℕ) (states : ℕ → Stat
   header_is : (n j : ℕ) → most_instructions code bound < n → j < m.parts →
       (read_header (message_at row j).header).mark ≡ mark_now (marked x.local.way (states n)).refusals
   header_is n j low within =
-      sym (mark_read code.rule m j (purpose_is x.local.step) (read_header (message_at row j).header) (message_at row j).words)
+      sym (mark_read code.rule m j (purpose_is x.local.purpose) (read_header (message_at row j).header) (message_at row j).words)
       ∙ ap (λ (q : Message). q.mark) (at.read n j low within) ∙ mark_sent (set_to n) w (marked x.local.way (states n)) j
 
   pub row_marked : (n j : ℕ) → most_instructions code bound < n → j < m.parts →
@@ -72,9 +73,9 @@ module _ (code : SuperstepCode) (m : Shape) (bound : ℕ) (states : ℕ → Stat
     row_is j within = (at.filled n low).each j within ∙ ap (λ q. written code.rule (message_of (set_to n) w q j)) clear
 
     pub row_read : (j : ℕ) → j < m.parts →
-        read_message code.rule m j (purpose_is x.local.step) (read_header (message_at row j).header) (message_at row j).words
+        read_message code.rule m j (purpose_is x.local.purpose) (read_header (message_at row j).header) (message_at row j).words
         ≡ message_of (set_to n) w (states n) j
     row_read j within = at.read n j low within ∙ ap (λ q. message_of (set_to n) w q j) clear
 
-    pub purpose_at : (ready (set_to n) w (states n)).purpose ≡ purpose_is x.local.step
+    pub purpose_at : (ready (set_to n) w (states n)).purpose ≡ purpose_is x.local.purpose
     purpose_at = (at.shown going n low).purpose

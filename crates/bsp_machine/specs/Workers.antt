@@ -10,11 +10,12 @@ use Rattle.superstep_machine.specs.Run.{State, bsp, after, is_over, message_of, 
 use Rattle.superstep_machine.specs.Trace.{exchange_of, sum_over, words_between}
 use Rattle.bsp_verify.specs.Runs.{worker_after}
 use Rattle.message_rows.specs.Rows.{WrittenMessage, IsRow, written, message_at, words_in}
-use Rattle.worker_messages.specs.declared.step.Step.{Step}
+use Rattle.superstep_machine.specs.declared.purpose.Purpose.{Purpose}
 use Rattle.worker_messages.specs.declared.way.Way.TheVariants.{Stopped}
 use Rattle.worker_messages.specs.declared.local.Local.{Local}
 use Rattle.worker_messages.specs.Reached.{most_instructions}
-use Rattle.worker_messages.specs.Shown.{way_is, purpose_is, is_stopped, marked, IsShown, IsAtExchange}
+use Rattle.superstep_machine.specs.Purposes.{purpose_is}
+use Rattle.worker_messages.specs.Shown.{way_is, is_stopped, marked, IsShown, IsAtExchange}
 use Rattle.worker_messages.specs.Equipped.{MayGoOn, IsAtStep}
 use Rattle.worker_messages.specs.MessagesWritten.{IsWrittenFor}
 use Rattle.worker_exchange.specs.Received.{messages_to}
@@ -30,14 +31,14 @@ use Rattle.bsp_machine.specs.Sheets.{messages_in, IsSheet}
 
 -- what a worker counts at an exchange at which so many words came to it
 abbrev pub count_of : Local → ℕ → Count
-count_of x received = record { step = x.step; sent = x.buffers.sent; received = received }
+count_of x received = record { purpose = x.purpose; sent = x.buffers.sent; received = received }
 
 abbrev pub share_told : Count → Share
-share_told c = record { purpose = purpose_is c.step; sent = c.sent; received = c.received }
+share_told c = record { purpose = purpose_is c.purpose; sent = c.sent; received = c.received }
 
 -- the part of a worker at an exchange, from whom this row went and to whom this came
 abbrev pub share_at : CountedWorker → List WrittenMessage → List WrittenMessage → Share
-share_at x row came = record { purpose = purpose_is x.local.step; sent = words_in row; received = words_in came }
+share_at x row came = record { purpose = purpose_is x.local.purpose; sent = words_in row; received = words_in came }
 
 -- worker w's parts of the first k exchanges
 abbrev pub shares : Setting → List ℤ → ℕ → ℕ → List Share
@@ -72,7 +73,7 @@ module _ (code : SuperstepCode) (m : Shape) (bound : ℕ) where
     pub filled : (n : ℕ) → most_instructions code bound < n →
         IsRow m.parts (λ j. written code.rule (message_of (setting code m bound n) w (marked x.local.way (states n)) j)) row
     pub read : (n j : ℕ) → most_instructions code bound < n → j < m.parts →
-        IsWrittenFor code.rule m j (purpose_is x.local.step)
+        IsWrittenFor code.rule m j (purpose_is x.local.purpose)
         (message_of (setting code m bound n) w (marked x.local.way (states n)) j) (message_at row j)
     pub refused : (mark : HeaderMark) → x.local.way ≡ Stopped mark → mark ≡ own_mark x.reserve
     pub past : (r : Reserve) (n : ℕ) → x.reserve ≡ Some r → most_instructions code bound < n → is_stopped x.local.way
@@ -87,7 +88,7 @@ module _ (code : SuperstepCode) (m : Shape) (bound : ℕ) where
   abbrev pub state_behind : ℕ → CountedWorker → List WrittenMessage → State → ℕ → State
   state_behind w x came s n =
       after (setting code m bound n) w (ready (setting code m bound n) w s)
-      (messages_to code.rule m w (purpose_is x.local.step) came)
+      (messages_to code.rule m w (purpose_is x.local.purpose) came)
 
   -- ---- one worker of the run from an input
 
@@ -103,13 +104,13 @@ module _ (code : SuperstepCode) (m : Shape) (bound : ℕ) where
 
   -- If it hasn't stopped it stands at an exchange, with room to count it.
   pub record IsReady (x : CountedWorker) : Type 0 where
-    pub step : is_stopped x.local.way ≡ false → IsAtStep code m bound x.local
+    pub purpose : is_stopped x.local.way ≡ false → IsAtStep code m bound x.local
     pub room : is_stopped x.local.way ≡ false → length x.counts.items < vec_capacity x.counts
 
   -- What came to worker w in the exchange behind k is what the machine's workers send to it.
-  pub record HasCome (input : List ℤ) (k w : ℕ) (step : Step) (came : List WrittenMessage) : Type 0 where
+  pub record HasCome (input : List ℤ) (k w : ℕ) (purpose : Purpose) (came : List WrittenMessage) : Type 0 where
     pub messages : (n : ℕ) → most_instructions code bound < n →
-        messages_to code.rule m w (purpose_is step) came ≡ column (bsp (setting code m bound n)) m.parts
+        messages_to code.rule m w (purpose_is purpose) came ≡ column (bsp (setting code m bound n)) m.parts
         (worker_after (setting code m bound n) input k) w
     pub words : (n : ℕ) → most_instructions code bound < n →
         words_in came ≡ sum_over (setting code m bound n)

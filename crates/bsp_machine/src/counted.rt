@@ -70,11 +70,11 @@ fn count<C: Column>(local: &Local, counts: &mut Vec<Count>, column: &C, workers:
     if is_over(local) {
         return;
     }
-    let step = local.step;
+    let purpose = local.purpose;
     let sent = local.buffers.sent;
     let received = words_came(column, workers);
     counts.push_reserved(Count {
-        step,
+        purpose,
         sent,
         received,
     });
@@ -181,7 +181,7 @@ impl CountedWorker {
         ensures room { W.room row.new ≡ W.room row.old }
         ensures kept { W.kept row.old row.new }
     {
-        let _step = self.local.until_exchange(code, rule, map, bound, row);
+        let _purpose = self.local.until_exchange(code, rule, map, bound, row);
         if self.is_past(reserve) {
             self.local.refuse(map, row, HeaderMark::OutOfReserve);
         }
@@ -215,7 +215,7 @@ impl CountedWorker {
         ensures room { W.room row.new ≡ W.room row.old }
         ensures kept { W.kept row.old row.new }
     {
-        let _step = self.local.until_exchange(code, rule, map, bound, row);
+        let _purpose = self.local.until_exchange(code, rule, map, bound, row);
         let most = self.local.steps.uniform.output.len();
         match keep_room(&mut self.items, most) {
             Ok(()) => {}

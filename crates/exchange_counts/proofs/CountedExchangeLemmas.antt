@@ -6,7 +6,7 @@ use Rattle.std.proofs.lemmas.List.{get_or-map, length-map, same_lists, length-ap
 use Rattle.std.proofs.lemmas.List.{get_or_append_left, get_or-append_right, get_or_default}
 use Rattle.std.proofs.lemmas.List.FromFn.{get_or-map-range_with_len, length-map-range_with_len, map-range_with_len_more}
 use Rattle.superstep_machine.specs.Trace.{Exchange}
-use Rattle.worker_messages.specs.Shown.{purpose_is}
+use Rattle.superstep_machine.specs.Purposes.{purpose_is}
 use Rattle.exchange_counts.specs.declared.count.Count.{Count}
 use Rattle.exchange_counts.specs.Columns.{columns_of, column_of, entry_of, nothing, AreColumns, AreSame, GrowBy}
 use Rattle.exchange_counts.specs.CountedExchanges.{exchange_counted, exchange_told, exchanges_told, no_exchange, exchange_at}
@@ -51,8 +51,8 @@ module _ (columns : List (List Count)) (k : ℕ) where
       (let n = length-map columns (entry_of k) in omega (arith, l, n))
       ∙ ap (λ (c : Count). c.received) (entry_at w l)
 
-  pub purpose_at : 0 < length columns → (exchange_told columns k).purpose ≡ purpose_is (entry_of k (column_of columns 0)).step
-  purpose_at l = ap (λ (c : Count). purpose_is c.step) (entry_at 0 l)
+  pub purpose_at : 0 < length columns → (exchange_told columns k).purpose ≡ purpose_is (entry_of k (column_of columns 0)).purpose
+  purpose_at l = ap (λ (c : Count). purpose_is c.purpose) (entry_at 0 l)
 
 -- a column of the lists that they are in
 pub column_is : (columns : List Column) (w : ℕ) (v : Column) → w < length columns → v ≡ get_or columns w v →
@@ -117,7 +117,7 @@ module _ (columns : List (List Count)) (now : List Exchange) (is : exchanges_tol
         get_or (exchange_at now k).received w 0 ≡ (entry_of (k - 1) (column_of columns w)).received
     received_is w l = ap (λ (e : Exchange). get_or e.received w 0) exchange_is ∙ received_at columns (k - 1) w l
 
-    pub purpose_seen : 0 < length columns → (exchange_at now k).purpose ≡ purpose_is (entry_of (k - 1) (column_of columns 0)).step
+    pub purpose_seen : 0 < length columns → (exchange_at now k).purpose ≡ purpose_is (entry_of (k - 1) (column_of columns 0)).purpose
     purpose_seen l = ap (λ (e : Exchange). e.purpose) exchange_is ∙ purpose_at columns (k - 1) l
 
 -- ---- one entry more for each worker

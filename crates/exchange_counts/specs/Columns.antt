@@ -2,7 +2,7 @@
 use Rattle.std.specs.Prelude.{◌≡◌, ℕ, ◌<◌, List, [], ◌∷◌, ◌++◌, length, map, Vec, slice_index_or}
 use Rattle.std.specs.Global.{Global}
 use Rattle.exchange_counts.specs.declared.count.Count.{Count}
-use Rattle.worker_messages.specs.declared.step.Step.TheVariants.{Close}
+use Rattle.superstep_machine.specs.declared.purpose.Purpose.TheVariants.{Close}
 
 abbrev pub columns_of : List (Vec Count Global) → List (List Count)
 columns_of = map (λ (v : Vec Count Global). v.items)
@@ -13,7 +13,7 @@ column_of columns w = slice_index_or columns w []
 
 -- where nothing was counted
 abbrev pub nothing : Count
-nothing = record { step = Close; sent = 0; received = 0 }
+nothing = record { purpose = Close; sent = 0; received = 0 }
 
 -- entry k of a column, from 0
 abbrev pub entry_of : ℕ → List Count → Count

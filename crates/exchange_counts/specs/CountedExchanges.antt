@@ -3,14 +3,14 @@ use Rattle.std.specs.Prelude.{ℕ, ◌-◌, List, [], length, map, slice_index_o
 use Rattle.std.specs.List.{range_with_len}
 use Rattle.superstep_machine.specs.Trace.{Exchange}
 use Rattle.superstep_machine.specs.Run.{Closes}
-use Rattle.worker_messages.specs.Shown.{purpose_is}
+use Rattle.superstep_machine.specs.Purposes.{purpose_is}
 use Rattle.exchange_counts.specs.declared.count.Count.{Count}
 use Rattle.exchange_counts.specs.Columns.{column_of, nothing, entry_of}
 
 -- an exchange at which the workers counted this, in order of workers; worker 0 says what it was for
 abbrev pub exchange_counted : List Count → Exchange
 exchange_counted counts = record {
-  purpose = purpose_is (slice_index_or counts 0 nothing).step;
+  purpose = purpose_is (slice_index_or counts 0 nothing).purpose;
   sent = map (λ (c : Count). c.sent) counts;
   received = map (λ (c : Count). c.received) counts;
 }

@@ -2,13 +2,13 @@
 
 ghost use Rattle.std.specs.Prelude.{◌≡◌, ◌≤◌, ◌<◌, ℕ, length, slice_index_or};
 ghost use Rattle.superstep_machine.specs.Trace.{relation_of};
-ghost use Rattle.worker_messages.specs.Shown.{purpose_is};
+ghost use Rattle.superstep_machine.specs.Purposes.{purpose_is};
 ghost use Rattle.exchange_counts.specs.Columns.{columns_of, AreColumns};
 ghost use Rattle.exchange_counts.specs.CountedExchanges.{exchanges_told, exchange_at};
 
 use crate::count::Count;
 use std::marker::Model;
-use worker_messages::Step;
+use superstep_machine::Purpose;
 
 /// The exchanges of a run, as its workers counted them: one worker at least, and each counted as many exchanges.
 #[derive(Drop)]
@@ -61,27 +61,27 @@ impl Counts {
         requires worker { w < length (exchange_at self.now k).sent }
         ensures sent { result.sent ≡ slice_index_or (exchange_at self.now k).sent w 0 }
         ensures received { result.received ≡ slice_index_or (exchange_at self.now k).received w 0 }
-        ensures purpose { w ≡ 0 → purpose_is result.step ≡ (exchange_at self.now k).purpose }
+        ensures purpose { w ≡ 0 → purpose_is result.purpose ≡ (exchange_at self.now k).purpose }
     {
         self.columns[w][k - 1]
     }
 
     /// What an exchange was for, and its h: no worker sent or received more words in it. Exchanges are counted from 1.
-    pub fn exchange(&self, k: usize) -> (Step, u64)
+    pub fn exchange(&self, k: usize) -> (Purpose, u64)
         requires first { 1 ≤ k }
         requires last { k ≤ length self.now }
         ensures purpose { purpose_is result.0 ≡ (exchange_at self.now k).purpose }
         ensures relation { result.1 ≡ relation_of (exchange_at self.now k) }
     {
         let workers = self.workers();
-        let step = self.count(k, 0).step;
+        let purpose = self.count(k, 0).purpose;
         let mut sent: u64 = 0;
         let mut received: u64 = 0;
         'workers: for w in 0..workers {
             sent = sent.max(self.sent(k, w));
             received = received.max(self.received(k, w));
         }
-        (step, sent.max(received))
+        (purpose, sent.max(received))
     }
 
     /// How many words a worker sent in an exchange. Exchanges are counted from 1, workers from 0.

@@ -7,4 +7,4 @@ mod counts;
 
 pub use count::Count;
 pub use counts::Counts;
-pub use worker_messages::Step;
+pub use superstep_machine::Purpose;

@@ -4,20 +4,12 @@ use Rattle.std.proofs.Common.{eqb}
 use Rattle.superstep_instructions.specs.declared.instr.Instr.{Instr}
 use Rattle.superstep_instructions.specs.declared.instr.Instr.TheVariants as instr
 use Rattle.superstep_instructions.specs.Code.{SuperstepCode}
-use Rattle.superstep_machine.specs.Run as machine
+use Rattle.superstep_machine.specs.Purposes.{purpose_is}
 use Rattle.superstep_machine.specs.Parts.{UniformPart}
 use Rattle.superstep_machine.specs.Stretch.{ToSend, ToReply, ToVote, ToClose}
 use Rattle.flat_machine.specs.ByExchanges.{State}
 use Rattle.flat_machine.specs.Exchanges as listed
-use Rattle.flat_run.specs.declared.exchange.Purpose.{Purpose}
-use Rattle.flat_run.specs.declared.exchange.Purpose.TheVariants.{Send, Reply, Vote, Close}
 use Rattle.flat_run.specs.declared.exchange.Exchange.{Exchange}
-
-abbrev pub purpose_is : Purpose → machine.Purpose
-purpose_is Send = machine.Sends
-purpose_is Reply = machine.Replies
-purpose_is (Vote destination) = machine.Votes destination
-purpose_is Close = machine.Closes
 
 abbrev pub exchange_is : Exchange → listed.Exchange
 exchange_is x = record { purpose = purpose_is x.purpose; held = x.held }

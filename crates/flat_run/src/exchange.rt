@@ -4,18 +4,7 @@ ghost use Rattle.std.specs.Prelude.{◌≡◌};
 ghost use Rattle.flat_machine.specs.Exchanges as spec;
 ghost use Rattle.flat_run.specs.Exchanged.{exchange_is};
 
-/// What an exchange is for.
-#[derive(Clone, Copy, Debug, Drop, PartialEq, Eq)]
-pub enum Purpose {
-    /// What is held is sent.
-    Send,
-    /// Reads are answered.
-    Reply,
-    /// It is voted whether any processor is active, for this uniform register.
-    Vote { destination: u16 },
-    /// The run closes.
-    Close,
-}
+use superstep_machine::Purpose;
 
 /// An exchange: what it is for, and whether a read or a write is held there.
 #[derive(Clone, Copy, Debug, Drop, PartialEq, Eq)]

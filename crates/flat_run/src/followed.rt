@@ -7,16 +7,18 @@ ghost use Rattle.instruction_steps.specs.Views.{uniform_of};
 ghost use Rattle.flat_machine.specs.ByInstructions.{everywhere};
 ghost use Rattle.flat_machine.specs.Exchanges.{exchange, exchanges_at, exchanges_from, exchanges_of, is_holding as spec_is_holding};
 ghost use Rattle.flat_run.specs.RunViews.{state_of, way_is, IsRun};
-ghost use Rattle.flat_run.specs.Exchanged.{purpose_is, exchanges_are, exchanges_for, exchanges_here};
+ghost use Rattle.superstep_machine.specs.Purposes.{purpose_is};
+ghost use Rattle.flat_run.specs.Exchanged.{exchanges_are, exchanges_for, exchanges_here};
 ghost use Rattle.superstep_instructions.specs.declared.instr.Instr.TheVariants as instr_is;
 
-use crate::exchange::{Exchange, Purpose};
+use crate::exchange::Exchange;
 use crate::program::{enough, is_on, open};
 use crate::run::Run;
 use crate::step::step;
 use instruction_steps::UniformState;
 use std::alloc::{AllocError, Global};
 use superstep_instructions::{Code, Instr};
+use superstep_machine::Purpose;
 
 // Whether a read or a write is held.
 fn is_holding(uniform: &UniformState) -> bool

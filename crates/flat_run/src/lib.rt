@@ -16,6 +16,7 @@ mod step;
 mod verdict;
 mod vote;
 
-pub use exchange::{Exchange, Purpose};
+pub use exchange::Exchange;
 pub use followed::flat_exchanges;
 pub use program::flat_run;
+pub use superstep_machine::Purpose;

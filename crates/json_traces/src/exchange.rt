@@ -2,22 +2,22 @@
 
 ghost use Rattle.std.specs.Prelude.{◌≡◌, ◌≤◌, ◌<◌, IfOk, length};
 ghost use Rattle.serde_json.specs.View.{view};
-ghost use Rattle.worker_messages.specs.Shown.{purpose_is};
+ghost use Rattle.superstep_machine.specs.Purposes.{purpose_is};
 ghost use Rattle.exchange_counts.specs.CountedExchanges.{exchange_at};
 ghost use Rattle.json_traces.specs.TraceFacts as spec;
 
-use exchange_counts::{Counts, Step};
+use exchange_counts::{Counts, Purpose};
 use json_lines::{Object, Value, counts_of};
 use std::alloc::{AllocError, Global};
 
-fn purpose_word(step: Step) -> &'static str
-    ensures { result.now ≡ spec.purpose_word (purpose_is step) }
+fn purpose_word(purpose: Purpose) -> &'static str
+    ensures { result.now ≡ spec.purpose_word (purpose_is purpose) }
 {
-    match step {
-        Step::Send => "send",
-        Step::Reply => "reply",
-        Step::Vote { destination: _ } => "vote",
-        Step::Close => "close",
+    match purpose {
+        Purpose::Send => "send",
+        Purpose::Reply => "reply",
+        Purpose::Vote { destination: _ } => "vote",
+        Purpose::Close => "close",
     }
 }
 
@@ -55,12 +55,12 @@ pub(crate) fn exchange_facts(alloc: Global, counts: &Counts, k: usize) -> Result
     requires last { k ≤ length counts.now }
     ensures { IfOk result (λ v. view v ≡ spec.exchange_facts k (exchange_at counts.now k)) }
 {
-    let (step, h) = counts.exchange(k);
+    let (purpose, h) = counts.exchange(k);
     let sent = sent_of(alloc, counts, k)?;
     let received = received_of(alloc, counts, k)?;
     let mut object = Object::new(alloc);
     object.put_count("exchange", k as u64)?;
-    object.put_word("for", purpose_word(step))?;
+    object.put_word("for", purpose_word(purpose))?;
     object.put("sent", counts_of(alloc, &sent)?)?;
     object.put("received", counts_of(alloc, &received)?)?;
     object.put_count("h", h)?;

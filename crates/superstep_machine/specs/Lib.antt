@@ -13,6 +13,7 @@ pub mod Answering
 pub mod Stretch
 pub mod Machine
 pub mod Run
+pub mod Purposes
 pub mod Refusals
 pub mod WordReading
 pub mod HeaderWords

@@ -1,4 +1,4 @@
-//! The machine that runs superstep code on p workers, by its definition: keys, headers and words of messages, and the laws of these.
+//! The machine that runs superstep code on p workers, by its definition: what an exchange is for, keys, headers and words of messages, and the laws of these.
 #![tactic(auto)]
 
 mod collected_law;
@@ -8,8 +8,10 @@ mod key;
 pub mod machine_laws;
 mod mark;
 mod mark_law;
+mod purpose;
 mod words_law;
 
 pub use header::MessageHeader;
 pub use key::{Key, least};
 pub use mark::{HeaderMark, worse};
+pub use purpose::Purpose;

@@ -3,12 +3,12 @@
 ghost use Rattle.std.specs.Prelude.{◌≡◌, ◌≤◌, ◌<◌, ◌+◌, ◌-◌, ◌*◌, ◌^◌, length};
 ghost use Rattle.superstep_machine.specs.Trace.{relation_of};
 ghost use Rattle.text_out.specs.Out.{Writes};
-ghost use Rattle.worker_messages.specs.Shown.{purpose_is};
+ghost use Rattle.superstep_machine.specs.Purposes.{purpose_is};
 ghost use Rattle.exchange_counts.specs.CountedExchanges.{exchange_at};
 ghost use Rattle.trace_pictures.specs.Picture as spec;
 
 use crate::bars::{Scale, write_received_bars, write_sent_bars};
-use exchange_counts::{Counts, Step};
+use exchange_counts::{Counts, Purpose};
 use itoa::Buffer;
 use text_out::{Out, WriteFault};
 use tracer::kind_word;
@@ -31,14 +31,14 @@ pub(crate) fn column_width(workers: usize) -> u128
 }
 
 // What stands behind a column.
-fn ground(step: Step) -> &'static [u8]
-    ensures { result.now ≡ spec.ground (purpose_is step) }
+fn ground(purpose: Purpose) -> &'static [u8]
+    ensures { result.now ≡ spec.ground (purpose_is purpose) }
 {
-    match step {
-        Step::Send => b"#f2f2f2",
-        Step::Reply => b"#ffffff",
-        Step::Vote { destination: _ } => b"#e0e0e0",
-        Step::Close => b"#ffffff",
+    match purpose {
+        Purpose::Send => b"#f2f2f2",
+        Purpose::Reply => b"#ffffff",
+        Purpose::Vote { destination: _ } => b"#e0e0e0",
+        Purpose::Close => b"#ffffff",
     }
 }
 
@@ -48,12 +48,12 @@ fn write_front<W: Out>(
     x: u128,
     width: u128,
     k: usize,
-    step: Step,
+    purpose: Purpose,
     h: u64,
 ) -> Result<(), WriteFault>
     requires counted { (W.Out.state out.old).failures < 2 ^ 63 }
     requires near { x < 2 ^ 100 }
-    ensures written { Writes (W.Out.state out.old) (W.Out.state out.new) (spec.column_front x width k (purpose_is step) h) result }
+    ensures written { Writes (W.Out.state out.old) (W.Out.state out.new) (spec.column_front x width k (purpose_is purpose) h) result }
 {
     let mut left = Buffer::new();
     let mut words_left = Buffer::new();
@@ -67,7 +67,7 @@ fn write_front<W: Out>(
         b"' y='50' width='",
         wide.format(width).as_bytes(),
         b"' height='264' fill='",
-        ground(step),
+        ground(purpose),
         b"'/>\n<text x='",
         words,
         b"' y='64'>",
@@ -75,7 +75,7 @@ fn write_front<W: Out>(
         b"</text>\n<text x='",
         words,
         b"' y='78'>",
-        kind_word(step),
+        kind_word(purpose),
         b"</text>\n<text x='",
         words,
         b"' y='304'>h ",
@@ -129,8 +129,8 @@ pub(crate) fn write_column<W: Out>(
 {
     let x = column_left(measure, k);
     let width = column_width(measure.workers);
-    let (step, h) = counts.exchange(k);
-    write_front(out, x, width, k, step, h)?;
+    let (purpose, h) = counts.exchange(k);
+    write_front(out, x, width, k, purpose, h)?;
     let scale = Scale {
         x,
         most: measure.most,

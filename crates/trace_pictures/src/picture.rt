@@ -29,7 +29,7 @@ fn most_words(counts: &Counts) -> u64
 {
     let mut most: u64 = 0;
     'exchanges: for i in 0..drawn(counts) {
-        let (_step, h) = counts.exchange(i + 1);
+        let (_purpose, h) = counts.exchange(i + 1);
         most = most.max(h);
     }
     most

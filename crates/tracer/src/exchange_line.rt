@@ -2,23 +2,23 @@
 
 ghost use Rattle.std.specs.Prelude.{◌≡◌, ◌≤◌, ◌<◌, ◌^◌, length};
 ghost use Rattle.text_out.specs.Out.{Writes};
-ghost use Rattle.worker_messages.specs.Shown.{purpose_is};
+ghost use Rattle.superstep_machine.specs.Purposes.{purpose_is};
 ghost use Rattle.exchange_counts.specs.CountedExchanges.{exchange_at};
 ghost use Rattle.tracer.specs.Traced.{kind_text, spaced, exchange_text};
 
-use exchange_counts::{Counts, Step};
+use exchange_counts::{Counts, Purpose};
 use itoa::Buffer;
 use text_out::{Out, WriteFault};
 
 /// The word for what an exchange is for: `send`, `reply`, `vote` or `close`.
-pub fn kind_word(step: Step) -> &'static [u8]
-    ensures { result.now ≡ kind_text (purpose_is step) }
+pub fn kind_word(purpose: Purpose) -> &'static [u8]
+    ensures { result.now ≡ kind_text (purpose_is purpose) }
 {
-    match step {
-        Step::Send => b"send",
-        Step::Reply => b"reply",
-        Step::Vote { destination: _ } => b"vote",
-        Step::Close => b"close",
+    match purpose {
+        Purpose::Send => b"send",
+        Purpose::Reply => b"reply",
+        Purpose::Vote { destination: _ } => b"vote",
+        Purpose::Close => b"close",
     }
 }
 
@@ -63,9 +63,14 @@ pub(crate) fn write_exchange<W: Out>(
     requires last { k ≤ length counts.now }
     ensures written { Writes (W.Out.state out.old) (W.Out.state out.new) (exchange_text k (exchange_at counts.now k)) result }
 {
-    let (step, h) = counts.exchange(k);
+    let (purpose, h) = counts.exchange(k);
     let mut digits = Buffer::new();
-    out.write_parts(&[digits.format(k).as_bytes(), b" ", kind_word(step), b" sent"])?;
+    out.write_parts(&[
+        digits.format(k).as_bytes(),
+        b" ",
+        kind_word(purpose),
+        b" sent",
+    ])?;
     write_sent(counts, k, out)?;
     out.write_all(b" received")?;
     write_received(counts, k, out)?;

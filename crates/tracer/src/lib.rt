@@ -5,6 +5,6 @@ mod exchange_line;
 mod trace;
 pub mod trace_laws;
 
-pub use exchange_counts::{Count, Counts, Step};
+pub use exchange_counts::{Count, Counts, Purpose};
 pub use exchange_line::kind_word;
 pub use trace::write_trace;

@@ -14,7 +14,8 @@ use Rattle.superstep_machine.specs.Run as machine
 use Rattle.machine_limits.specs.Within.{AreValues}
 use Rattle.message_rows.specs.Rows.{WrittenMessage}
 use Rattle.worker_messages.specs.declared.local.Local.{Local}
-use Rattle.worker_messages.specs.Shown.{way_is, purpose_is, place_behind, ShowsWorker, IsShown, IsAtExchange}
+use Rattle.superstep_machine.specs.Purposes.{purpose_is}
+use Rattle.worker_messages.specs.Shown.{way_is, place_behind, ShowsWorker, IsShown, IsAtExchange}
 use Rattle.worker_messages.proofs.ArrivedLemmas.{ready_is}
 use Rattle.worker_exchange.specs.Received.{messages_to}
 
@@ -66,8 +67,8 @@ module _ (t : Setting) (w : ℕ) (x z : Local) (s : machine.State) (at : IsAtExc
       ∙ ap machine.marks_later (by_way_kept t w s s.way ∙ at.clear)
 
   -- Whatever it was for: where the worker is shown, its way is what was decided, and it stands behind the exchange.
-  pub behind : ShowsWorker t w z (machine.after_exchange t w (purpose_is x.step) r.state.worker messages) →
-      way_is z.way ≡ machine.decided (purpose_is x.step) r.state.worker.uniform (machine.key_of messages) (way_is x.way) →
+  pub behind : ShowsWorker t w z (machine.after_exchange t w (purpose_is x.purpose) r.state.worker messages) →
+      way_is z.way ≡ machine.decided (purpose_is x.purpose) r.state.worker.uniform (machine.key_of messages) (way_is x.way) →
       z.steps.place ≡ place_behind x.way x.steps.place → IsShown t w z (machine.after t w r messages)
   behind shows way place = record {
     exchanges = suc at.exchanges;

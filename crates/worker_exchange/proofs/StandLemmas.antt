@@ -23,12 +23,13 @@ use Rattle.worker_steps.specs.Met.{IsVerifiedAt}
 use Rattle.worker_steps.specs.Stretch.{rank_of, rank}
 use Rattle.worker_steps.proofs.StretchLemmas.{rank_on, rises_there}
 use Rattle.message_rows.specs.Rows.{WrittenMessage}
-use Rattle.worker_messages.specs.declared.step.Step.{Step}
-use Rattle.worker_messages.specs.declared.step.Step.TheVariants as steps
+use Rattle.superstep_machine.specs.declared.purpose.Purpose.{Purpose}
+use Rattle.superstep_machine.specs.declared.purpose.Purpose.TheVariants as purposes
 use Rattle.worker_messages.specs.declared.way.Way.{Way}
 use Rattle.worker_messages.specs.declared.way.Way.TheVariants as ways
 use Rattle.worker_messages.specs.declared.local.Local.{Local}
-use Rattle.worker_messages.specs.Shown.{way_is, purpose_is, is_stopped, place_behind, ShowsWorker, IsShown}
+use Rattle.superstep_machine.specs.Purposes.{purpose_is}
+use Rattle.worker_messages.specs.Shown.{way_is, is_stopped, place_behind, ShowsWorker, IsShown}
 use Rattle.worker_messages.specs.Equipped.{IsEquipped, IsRunnable, IsAtStep, GoesWith, instr_of, left_by, left_at_by, left, left_at}
 use Rattle.worker_exchange.specs.Received.{messages_to, mark_heard, key_heard}
 use Rattle.worker_exchange.specs.Taken.{StandsStill}
@@ -51,13 +52,13 @@ stopped_over (ways.Ending ended) h = cc
 stopped_over (ways.Past k ended) h = cc
 stopped_over (ways.Stopped mark) h = refl
 
-abbrev Decides : Step → UniformPart → Option Key → Way → Way → Type 0
-Decides step u key way new = way_is new ≡ machine.decided (purpose_is step) u key (way_is way)
+abbrev Decides : Purpose → UniformPart → Option Key → Way → Way → Type 0
+Decides purpose u key way new = way_is new ≡ machine.decided (purpose_is purpose) u key (way_is way)
 
 -- what goes on went on
-went_on : (step : Step) (u : UniformPart) (key : Option Key) (way new : Way) → Decides step u key way new → new ≡ ways.On → way ≡ ways.On
-went_on step u key way new d e =
-    on_is way (decided_same machine.On (λ k ended q. cc) (purpose_is step) u key (way_is way) (sym d ∙ ap way_is e))
+went_on : (purpose : Purpose) (u : UniformPart) (key : Option Key) (way new : Way) → Decides purpose u key way new → new ≡ ways.On → way ≡ ways.On
+went_on purpose u key way new d e =
+    on_is way (decided_same machine.On (λ k ended q. cc) (purpose_is purpose) u key (way_is way) (sym d ∙ ap way_is e))
   where
     on_is : (way : Way) → way_is way ≡ machine.On → way ≡ ways.On
     on_is ways.On h = refl
@@ -66,57 +67,57 @@ went_on step u key way new d e =
     on_is (ways.Stopped mark) h = cc
 
 -- nothing stops
-never_stops : (step : Step) (u : UniformPart) (key : Option Key) (way new : Way) → Decides step u key way new →
+never_stops : (purpose : Purpose) (u : UniformPart) (key : Option Key) (way new : Way) → Decides purpose u key way new →
     machine.is_over (way_is way) ≡ false → is_stopped new ≡ false
-never_stops step u key way ways.On d going = refl
-never_stops step u key way (ways.Ending ended) d going = refl
-never_stops step u key way (ways.Past k ended) d going = refl
-never_stops step u key way (ways.Stopped mark) d going =
-    let same = decided_same (machine.Refused mark) (λ k ended q. cc) (purpose_is step) u key (way_is way) (sym d) in
+never_stops purpose u key way ways.On d going = refl
+never_stops purpose u key way (ways.Ending ended) d going = refl
+never_stops purpose u key way (ways.Past k ended) d going = refl
+never_stops purpose u key way (ways.Stopped mark) d going =
+    let same = decided_same (machine.Refused mark) (λ k ended q. cc) (purpose_is purpose) u key (way_is way) (sym d) in
     absurd (both_not (ap machine.is_over same) going)
   where
     both_not : {b : Bool} → b ≡ true → b ≡ false → ⊥
     both_not h k = (let e : true ≡ false = sym h ∙ k in cc)
 
 -- fewer exchanges are left
-fewer_by : (step : Step) (u : UniformPart) (key : Option Key) (way new : Way) → GoesWith way step → Decides step u key way new →
+fewer_by : (purpose : Purpose) (u : UniformPart) (key : Option Key) (way new : Way) → GoesWith way purpose → Decides purpose u key way new →
     machine.is_over (way_is new) ≡ false → (before later : ℕ) → (way ≡ ways.On → later < before) →
-    left_by new later < left_at_by way step before
-fewer_by step u key ways.On ways.On goes d going before later falls = let h = falls refl in omega (arith, h)
-fewer_by step u key ways.On (ways.Ending ended) goes d going before later falls = omega arith
-fewer_by step u key way (ways.Past k ended) goes d going before later falls = absurd (cc going)
-fewer_by step u key way (ways.Stopped mark) goes d going before later falls = absurd (cc going)
-fewer_by steps.Send u key (ways.Ending e) ways.On goes d going before later falls =
-    absurd (cc (went_on steps.Send u key (ways.Ending e) ways.On d refl))
-fewer_by steps.Send u key (ways.Ending e) (ways.Ending ended) goes d going before later falls = omega arith
-fewer_by steps.Close u key (ways.Ending e) ways.On goes d going before later falls = absurd (cc d)
-fewer_by steps.Close u key (ways.Ending e) (ways.Ending ended) goes d going before later falls = absurd (cc d)
-fewer_by steps.Reply u key (ways.Ending e) new goes d going before later falls = absurd goes
-fewer_by (steps.Vote r) u key (ways.Ending e) new goes d going before later falls = absurd goes
-fewer_by step u key (ways.Past k e) new goes d going before later falls = absurd goes
-fewer_by step u key (ways.Stopped m) new goes d going before later falls = absurd goes
+    left_by new later < left_at_by way purpose before
+fewer_by purpose u key ways.On ways.On goes d going before later falls = let h = falls refl in omega (arith, h)
+fewer_by purpose u key ways.On (ways.Ending ended) goes d going before later falls = omega arith
+fewer_by purpose u key way (ways.Past k ended) goes d going before later falls = absurd (cc going)
+fewer_by purpose u key way (ways.Stopped mark) goes d going before later falls = absurd (cc going)
+fewer_by purposes.Send u key (ways.Ending e) ways.On goes d going before later falls =
+    absurd (cc (went_on purposes.Send u key (ways.Ending e) ways.On d refl))
+fewer_by purposes.Send u key (ways.Ending e) (ways.Ending ended) goes d going before later falls = omega arith
+fewer_by purposes.Close u key (ways.Ending e) ways.On goes d going before later falls = absurd (cc d)
+fewer_by purposes.Close u key (ways.Ending e) (ways.Ending ended) goes d going before later falls = absurd (cc d)
+fewer_by purposes.Reply u key (ways.Ending e) new goes d going before later falls = absurd goes
+fewer_by (purposes.Vote r) u key (ways.Ending e) new goes d going before later falls = absurd goes
+fewer_by purpose u key (ways.Past k e) new goes d going before later falls = absurd goes
+fewer_by purpose u key (ways.Stopped m) new goes d going before later falls = absurd goes
 
 -- ---- the place
 
-leads_on : (step : Step) → GoesWith ways.On step → (p : ℕ) → Leads (instr_of step) p (p + 1)
-leads_on steps.Send goes p = refl
-leads_on steps.Reply goes p = refl
-leads_on (steps.Vote d) goes p = refl
-leads_on steps.Close goes p = absurd goes
+leads_on : (purpose : Purpose) → GoesWith ways.On purpose → (p : ℕ) → Leads (instr_of purpose) p (p + 1)
+leads_on purposes.Send goes p = refl
+leads_on purposes.Reply goes p = refl
+leads_on (purposes.Vote d) goes p = refl
+leads_on purposes.Close goes p = absurd goes
 
-no_mark : (step : Step) → is_mark (Some (instr_of step)) ≡ false
-no_mark steps.Send = refl
-no_mark steps.Reply = refl
-no_mark (steps.Vote d) = refl
-no_mark steps.Close = refl
+no_mark : (purpose : Purpose) → is_mark (Some (instr_of purpose)) ≡ false
+no_mark purposes.Send = refl
+no_mark purposes.Reply = refl
+no_mark (purposes.Vote d) = refl
+no_mark purposes.Close = refl
 
-falls_behind : (code : SuperstepCode) (bound : ℕ) (x : WorkerState) (step : Step) → IsWellFormed code → IsVerifiedAt code x →
-    slice_get code.instructions x.place ≡ Some (instr_of step) → GoesWith ways.On step →
+falls_behind : (code : SuperstepCode) (bound : ℕ) (x : WorkerState) (purpose : Purpose) → IsWellFormed code → IsVerifiedAt code x →
+    slice_get code.instructions x.place ≡ Some (instr_of purpose) → GoesWith ways.On purpose →
     rank_of code (bound - x.uniform.count) (x.place + 1) < rank code bound x
-falls_behind code bound x step formed v there goes =
-    rank_on code (bound - x.uniform.count) x.place (x.place + 1) (ap is_mark there ∙ no_mark step)
-    (slice_get_within code.instructions x.place (instr_of step) there)
-    (rises_there code x (instr_of step) formed v there (x.place + 1) (leads_on step goes x.place))
+falls_behind code bound x purpose formed v there goes =
+    rank_on code (bound - x.uniform.count) x.place (x.place + 1) (ap is_mark there ∙ no_mark purpose)
+    (slice_get_within code.instructions x.place (instr_of purpose) there)
+    (rises_there code x (instr_of purpose) formed v there (x.place + 1) (leads_on purpose goes x.place))
 
 -- ---- with another place and another way
 
@@ -165,34 +166,34 @@ module _ (code : SuperstepCode) (m : Shape) (bound : ℕ) (came : List WrittenMe
     (at : IsAtStep code m bound x) (still : StandsStill x a) (same : z ≡ placed a z.steps.place z.way)
     (place : z.steps.place ≡ place_behind a.way a.steps.place)
     (way : (u : UniformPart) → machine.is_held u.put ≡ held → u.count ≡ x.steps.uniform.count →
-    way_is z.way ≡ machine.decided (purpose_is x.step) u key (way_is a.way))
+    way_is z.way ≡ machine.decided (purpose_is x.purpose) u key (way_is a.way))
     (was : machine.is_held (put_is x.steps.uniform.put) ≡ held) (told : key ≡ key_heard came) (clear : mark_heard came ≡ Clear) where
   abbrev u : UniformPart
   u = uniform_of x.steps.uniform
 
-  decides : Decides x.step u key x.way z.way
-  decides = way u was refl ∙ ap (λ v. machine.decided (purpose_is x.step) u key (way_is v)) still.way
+  decides : Decides x.purpose u key x.way z.way
+  decides = way u was refl ∙ ap (λ v. machine.decided (purpose_is x.purpose) u key (way_is v)) still.way
 
   place_is : z.steps.place ≡ place_behind x.way x.steps.place
   place_is = place ∙ (λ i. place_behind (still.way i) (still.place i))
 
   pub runs_on : is_stopped z.way ≡ false
-  runs_on = never_stops x.step u key x.way z.way decides at.going
+  runs_on = never_stops x.purpose u key x.way z.way decides at.going
 
   pub shown_behind : ShowsTaken code m bound came x a → ShowsBehind code m bound came x z
   shown_behind taken n s enough here =
       let t = setting code m bound n in
       let w = x.steps.bank.worker in
-      let messages = messages_to code.rule m w (purpose_is x.step) came in
+      let messages = messages_to code.rule m w (purpose_is x.purpose) came in
       let y = (machine.ready t w s).state.worker in
-      behind t w x z s here messages (values_read code.rule m w (purpose_is x.step) came)
-      (marks_heard code.rule m w (purpose_is x.step) came ∙ clear)
-      (subst (λ (q : Local). ShowsWorker t w q (machine.after_exchange t w (purpose_is x.step) y messages)) (sym same)
-      (shows_placed t w a z.steps.place z.way (machine.after_exchange t w (purpose_is x.step) y messages) (taken n s enough here)))
+      behind t w x z s here messages (values_read code.rule m w (purpose_is x.purpose) came)
+      (marks_heard code.rule m w (purpose_is x.purpose) came ∙ clear)
+      (subst (λ (q : Local). ShowsWorker t w q (machine.after_exchange t w (purpose_is x.purpose) y messages)) (sym same)
+      (shows_placed t w a z.steps.place z.way (machine.after_exchange t w (purpose_is x.purpose) y messages) (taken n s enough here)))
       (way y.uniform (ap (λ (q : UniformPart). machine.is_held q.put) here.worker.shows.uniform ∙ was)
       (ap (λ (q : UniformPart). q.count) here.worker.shows.uniform)
-      ∙ (λ i. machine.decided (purpose_is x.step) y.uniform
-      ((told ∙ sym (keys_heard code.rule m w (purpose_is x.step) came)) i) (way_is (still.way i))))
+      ∙ (λ i. machine.decided (purpose_is x.purpose) y.uniform
+      ((told ∙ sym (keys_heard code.rule m w (purpose_is x.purpose) came)) i) (way_is (still.way i))))
       place_is
 
   count_is : z.steps.uniform.count ≡ x.steps.uniform.count
@@ -208,7 +209,7 @@ module _ (code : SuperstepCode) (m : Shape) (bound : ℕ) (came : List WrittenMe
   verified_behind : (x.way ≡ ways.On → IsVerifiedAt code (record a.steps { place = x.steps.place + 1 })) → z.way ≡ ways.On →
       IsVerifiedAt code z.steps
   verified_behind verified on =
-      let before = went_on x.step u key x.way z.way decides on in
+      let before = went_on x.purpose u key x.way z.way decides on in
       subst (λ (q : Local). IsVerifiedAt code q.steps) (sym same)
       (subst (λ p. IsVerifiedAt code (record a.steps { place = p }))
       (sym (place_is ∙ ap (λ v. place_behind v x.steps.place) before)) (verified before))
@@ -218,7 +219,7 @@ module _ (code : SuperstepCode) (m : Shape) (bound : ℕ) (came : List WrittenMe
   going_behind runnable taken equipped verified going n s enough here =
       let t = setting code m bound n in
       let w = x.steps.bank.worker in
-      let state = machine.after t w (machine.ready t w s) (messages_to code.rule m w (purpose_is x.step) came) in
+      let state = machine.after t w (machine.ready t w s) (messages_to code.rule m w (purpose_is x.purpose) came) in
       record {
         runnable = runnable;
         equipped = subst (IsEquipped code m) (sym same) (equipped_placed code m a z.steps.place z.way (equipped n s enough here));
@@ -233,8 +234,8 @@ module _ (code : SuperstepCode) (m : Shape) (bound : ℕ) (came : List WrittenMe
 
   pub left_behind : IsWellFormed code → machine.is_over (way_is z.way) ≡ false → left code bound z < left_at code bound x
   left_behind formed going =
-      fewer_by x.step u key x.way z.way at.goes decides going (rank code bound x.steps) (rank code bound z.steps)
+      fewer_by x.purpose u key x.way z.way at.goes decides going (rank code bound x.steps) (rank code bound z.steps)
       (λ on.
       let p = place_is ∙ ap (λ v. place_behind v x.steps.place) on in
       subst (λ (q : ℕ × ℕ). rank_of code (bound - q.0) q.1 < rank code bound x.steps) (λ i. (sym count_is i, sym p i))
-      (falls_behind code bound x.steps x.step formed (at.verified on) (at.stands on) (subst (λ v. GoesWith v x.step) on at.goes)))
+      (falls_behind code bound x.steps x.purpose formed (at.verified on) (at.stands on) (subst (λ v. GoesWith v x.purpose) on at.goes)))

@@ -8,9 +8,10 @@ use Rattle.superstep_machine.specs.Sending.{asks_held}
 use Rattle.superstep_machine.specs.Run as machine
 use Rattle.combining.specs.Adding.{unanswered}
 use Rattle.combining.specs.Asked.{IsAskBelow}
-use Rattle.worker_messages.specs.declared.step.Step.TheVariants as steps
+use Rattle.superstep_machine.specs.declared.purpose.Purpose.TheVariants as purposes
 use Rattle.worker_messages.specs.declared.local.Local.{Local}
-use Rattle.worker_messages.specs.Shown.{purpose_is, IsAtExchange}
+use Rattle.superstep_machine.specs.Purposes.{purpose_is}
+use Rattle.worker_messages.specs.Shown.{IsAtExchange}
 use Rattle.worker_messages.specs.Equipped.{IsRunnable, IsEquipped}
 use Rattle.worker_messages.proofs.ReachedLemmas.{IsPathed, ready_pathed}
 use Rattle.worker_messages.proofs.WrittenLemmas.{asks_are}
@@ -18,7 +19,7 @@ use Rattle.worker_messages.proofs.MessagesWrittenLemmas.{held_can}
 
 module _ (t : Setting) (code : IsCode t.code) (run : IsRunnable t.code t.map) (x : Local)
     (below : x.steps.bank.worker < workers t) (s : machine.State) (at : IsAtExchange t x.steps.bank.worker x s)
-    (sends : x.step ≡ steps.Send) where
+    (sends : x.purpose ≡ purposes.Send) where
   pathed : IsPathed t x.steps.bank.worker (machine.ready t x.steps.bank.worker s).state.worker
   pathed = ready_pathed t code run.map run.formed x.steps.bank.worker at.exchanges s at.reached
       (λ e. none (sym (at.purpose ∙ ap purpose_is sends) ∙ e))

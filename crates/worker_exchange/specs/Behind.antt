@@ -6,7 +6,8 @@ use Rattle.superstep_machine.specs.Run.{State, setting, ready, after, after_exch
 use Rattle.message_rows.specs.Rows.{WrittenMessage}
 use Rattle.worker_messages.specs.declared.local.Local.{Local}
 use Rattle.worker_messages.specs.Reached.{most_instructions}
-use Rattle.worker_messages.specs.Shown.{way_is, purpose_is, ShowsWorker, IsShown, IsAtExchange}
+use Rattle.superstep_machine.specs.Purposes.{purpose_is}
+use Rattle.worker_messages.specs.Shown.{way_is, ShowsWorker, IsShown, IsAtExchange}
 use Rattle.worker_messages.specs.Equipped.{MayGoOn}
 use Rattle.worker_exchange.specs.declared.progress.Progress.{Progress}
 use Rattle.worker_exchange.specs.declared.progress.Progress.TheVariants.{GoOn, Over}
@@ -21,16 +22,16 @@ ForEachState code m bound x Holds = (n : ℕ) (s : State) → most_instructions 
 abbrev pub ShowsTaken : SuperstepCode → Shape → ℕ → List WrittenMessage → Local → Local → Type 0
 ShowsTaken code m bound came x z = ForEachState code m bound x (λ n s.
     ShowsWorker (setting code m bound n) x.steps.bank.worker z
-    (after_exchange (setting code m bound n) x.steps.bank.worker (purpose_is x.step)
+    (after_exchange (setting code m bound n) x.steps.bank.worker (purpose_is x.purpose)
     (ready (setting code m bound n) x.steps.bank.worker s).state.worker
-    (messages_to code.rule m x.steps.bank.worker (purpose_is x.step) came)))
+    (messages_to code.rule m x.steps.bank.worker (purpose_is x.purpose) came)))
 
 -- .. and the state behind it
 abbrev pub ShowsBehind : SuperstepCode → Shape → ℕ → List WrittenMessage → Local → Local → Type 0
 ShowsBehind code m bound came x z = ForEachState code m bound x (λ n s.
     IsShown (setting code m bound n) x.steps.bank.worker z (after (setting code m bound n) x.steps.bank.worker
     (ready (setting code m bound n) x.steps.bank.worker s)
-    (messages_to code.rule m x.steps.bank.worker (purpose_is x.step) came)))
+    (messages_to code.rule m x.steps.bank.worker (purpose_is x.purpose) came)))
 
 -- where it isn't over it may go on
 abbrev pub MayGoOnBehind : SuperstepCode → Shape → ℕ → Local → Local → Type 0

@@ -3,10 +3,11 @@
 ghost use Rattle.std.specs.Prelude.{◌≡◌};
 ghost use Rattle.superstep_machine.specs.Parts.{UniformPart};
 ghost use Rattle.superstep_machine.specs.Run as machine;
-ghost use Rattle.worker_messages.specs.Shown.{way_is, purpose_is};
+ghost use Rattle.superstep_machine.specs.Purposes.{purpose_is};
+ghost use Rattle.worker_messages.specs.Shown.{way_is};
 
-use superstep_machine::Key;
-use worker_messages::{Step, Way};
+use superstep_machine::{Key, Purpose};
+use worker_messages::Way;
 
 // A key whose statement is over.
 fn due(key: Option<Key>, count: u32) -> Option<Key>
@@ -40,20 +41,20 @@ fn closed_by(key: Option<Key>, way: Way) -> Way
 
 /// How it stands with a run behind an exchange: a key ends it whose statement is over, at a send only where no put is held; and a close
 /// ends it by any key, or as it was to end. `held` and `count` are those before the exchange.
-pub fn decide(step: Step, held: bool, count: u32, key: Option<Key>, way: Way) -> Way
+pub fn decide(purpose: Purpose, held: bool, count: u32, key: Option<Key>, way: Way) -> Way
     ensures { (u : UniformPart) → machine.is_held u.put ≡ held → u.count ≡ count →
-        way_is result ≡ machine.decided (purpose_is step) u key (way_is way) }
+        way_is result ≡ machine.decided (purpose_is purpose) u key (way_is way) }
 {
-    match step {
-        Step::Send => {
+    match purpose {
+        Purpose::Send => {
             if held {
                 way
             } else {
                 unless(due(key, count), way)
             }
         }
-        Step::Reply => unless(due(key, count), way),
-        Step::Vote { destination: _ } => unless(due(key, count), way),
-        Step::Close => closed_by(key, way),
+        Purpose::Reply => unless(due(key, count), way),
+        Purpose::Vote { destination: _ } => unless(due(key, count), way),
+        Purpose::Close => closed_by(key, way),
     }
 }

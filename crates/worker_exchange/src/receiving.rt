@@ -10,7 +10,8 @@ ghost use Rattle.instruction_steps.specs.Views.{KeepsReserve};
 ghost use Rattle.worker_steps.specs.Met.{IsVerifiedAt};
 ghost use Rattle.worker_messages.specs.declared.way.Way.TheVariants as way_is_one_of;
 ghost use Rattle.worker_messages.specs.Reached.{most_instructions};
-ghost use Rattle.worker_messages.specs.Shown.{way_is, purpose_is, is_stopped as spec_is_stopped, place_behind, IsShown, IsAtExchange};
+ghost use Rattle.superstep_machine.specs.Purposes.{purpose_is};
+ghost use Rattle.worker_messages.specs.Shown.{way_is, is_stopped as spec_is_stopped, place_behind, IsShown, IsAtExchange};
 ghost use Rattle.worker_messages.specs.Equipped.{most_words, left, left_at, IsRunnable, IsEquipped, MayGoOn, IsAtStep};
 ghost use Rattle.worker_exchange.specs.Received.{messages_to, mark_heard, key_heard, any_heard, is_marked};
 ghost use Rattle.worker_exchange.specs.Taken.{StandsStill};
@@ -25,8 +26,8 @@ use crate::voting::take_vote;
 use address_map::AddressMap;
 use message_rows::Column;
 use superstep_instructions::Code;
-use superstep_machine::{HeaderMark, Key};
-use worker_messages::{Local, Step, Way};
+use superstep_machine::{HeaderMark, Key, Purpose};
+use worker_messages::{Local, Way};
 use write_rules::WriteRule;
 
 // Takes what the messages bring, by what the exchange is for.
@@ -52,20 +53,20 @@ fn take<R: WriteRule, M: AddressMap, C: Column>(
     ensures still { StandsStill local.old local.new }
 {
     let _instructions = code.instructions();
-    match local.step {
-        Step::Send => take_send(local, rule, map, column),
-        Step::Reply => take_reply(local, map, column),
-        Step::Vote { destination } => take_vote(local, destination, active),
-        Step::Close => {}
+    match local.purpose {
+        Purpose::Send => take_send(local, rule, map, column),
+        Purpose::Reply => take_reply(local, map, column),
+        Purpose::Vote { destination } => take_vote(local, destination, active),
+        Purpose::Close => {}
     }
 }
 
 // Stands behind the exchange, and decides by a key how it stands with the run. A put was held before it, or not, and so many statements had
 // begun.
-fn stand_behind(local: &mut Local, held: bool, count: u32, step: Step, key: Option<Key>)
+fn stand_behind(local: &mut Local, held: bool, count: u32, purpose: Purpose, key: Option<Key>)
     requires place { local.old.way ≡ way_is_one_of.On → local.old.steps.place + 1 < 2 ^ 32 }
     ensures way { (u : UniformPart) → machine.is_held u.put ≡ held → u.count ≡ count →
-        way_is local.new.way ≡ machine.decided (purpose_is step) u key (way_is local.old.way) }
+        way_is local.new.way ≡ machine.decided (purpose_is purpose) u key (way_is local.old.way) }
     ensures place { local.new.steps.place ≡ place_behind local.old.way local.old.steps.place }
     ensures same { local.new ≡ record local.old {
       steps = record local.old.steps { place = local.new.steps.place };
@@ -75,7 +76,7 @@ fn stand_behind(local: &mut Local, held: bool, count: u32, step: Step, key: Opti
     if let Way::On = local.way {
         local.steps.place += 1;
     }
-    local.way = decide(step, held, count, key, local.way);
+    local.way = decide(purpose, held, count, key, local.way);
 }
 
 // An exchange without a mark.
@@ -105,11 +106,11 @@ fn exchange<R: WriteRule, M: AddressMap, C: Column>(
     ensures left { machine.is_over (way_is local.new.way) ≡ false → left code.now bound local.new < left_at code.now bound local.old }
 {
     let _instructions = code.instructions();
-    let step = local.step;
+    let purpose = local.purpose;
     let held = local.steps.uniform.put.is_some();
     let count = local.steps.uniform.count;
     take(local, code, rule, map, bound, column, heard.active);
-    stand_behind(local, held, count, step, heard.key);
+    stand_behind(local, held, count, purpose, heard.key);
 }
 
 /// What came in an exchange: a mark in any header stops the worker; else it takes what the messages bring, by what the exchange is for, and
@@ -134,7 +135,7 @@ pub fn receive<R: WriteRule, M: AddressMap, C: Column>(
         IsShown (setting code.now (M.shape map.now) bound n) local.old.steps.bank.worker local.new
         (after (setting code.now (M.shape map.now) bound n) local.old.steps.bank.worker
         (ready (setting code.now (M.shape map.now) bound n) local.old.steps.bank.worker s)
-        (messages_to code.now.rule (M.shape map.now) local.old.steps.bank.worker (purpose_is local.old.step) (C.came column.now))) }
+        (messages_to code.now.rule (M.shape map.now) local.old.steps.bank.worker (purpose_is local.old.purpose) (C.came column.now))) }
     ensures going { machine.is_over (way_is local.new.way) ≡ false → (n : ℕ) (s : State) → most_instructions code.now bound < n →
         IsAtExchange (setting code.now (M.shape map.now) bound n) local.old.steps.bank.worker local.old s →
         MayGoOn code.now (M.shape map.now) bound local.new }

@@ -16,27 +16,28 @@ use Rattle.bsp_verify.specs.Judging.{is_mark}
 use Rattle.bsp_verify.proofs.PathLemmas.{paths_sound}
 use Rattle.worker_bank.specs.Bank.{IsSameBank}
 use Rattle.combining.specs.Adding.{unanswered}
-use Rattle.worker_steps.specs.declared.stop.Stop.{Stop}
-use Rattle.worker_steps.specs.declared.stop.Stop.TheVariants as stops
+use Rattle.worker_steps.specs.declared.stretch_end.StretchEnd.{StretchEnd}
+use Rattle.worker_steps.specs.declared.stretch_end.StretchEnd.TheVariants as ends
 use Rattle.worker_steps.specs.declared.worker.WorkerState.{WorkerState}
 use Rattle.worker_steps.specs.Fitted.{IsFitted}
 use Rattle.worker_steps.specs.Met.{IsVerifiedAt}
 use Rattle.worker_steps.specs.Stretch.{stop_is, rank, stretch_by, ArrivesAt, StandsAt}
-use Rattle.worker_messages.specs.declared.step.Step.TheVariants as steps
+use Rattle.superstep_machine.specs.declared.purpose.Purpose.TheVariants as purposes
 use Rattle.worker_messages.specs.declared.way.Way.{Way}
 use Rattle.worker_messages.specs.declared.way.Way.TheVariants as ways
 use Rattle.worker_messages.specs.declared.local.Local.{Local}
 use Rattle.worker_messages.specs.Reached.{IsReached, most_instructions}
-use Rattle.worker_messages.specs.Shown.{way_is, purpose_is, place_behind, ShowsWorker, IsShown, IsAtExchange}
+use Rattle.superstep_machine.specs.Purposes.{purpose_is}
+use Rattle.worker_messages.specs.Shown.{way_is, place_behind, ShowsWorker, IsShown, IsAtExchange}
 use Rattle.worker_messages.specs.Equipped.{IsEquipped, MayGoOn, GoesWith, instr_of, left_by, left_at_by}
-use Rattle.worker_messages.specs.Arrived.{step_at, way_at, stopped_at, HasArrived}
+use Rattle.worker_messages.specs.Arrived.{purpose_at, way_at, stopped_at, HasArrived}
 use Rattle.worker_messages.proofs.AwaitedLemmas.{awaits}
 
 -- ---- the definition's worker
 
 -- what is shown of where it stands
 pub record IsAtReady (t : Setting) (w : ℕ) (x : Local) (r : machine.Ready) : Type 0 where
-  pub purpose : r.purpose ≡ purpose_is x.step
+  pub purpose : r.purpose ≡ purpose_is x.purpose
   pub way : r.state.way ≡ way_is x.way
   pub place : r.state.place ≡ place_behind x.way x.steps.place
   pub worker : ShowsWorker t w x r.state.worker
@@ -73,40 +74,40 @@ rank_most code bound x =
 
 -- ---- where its code stops
 
-close_is : (held : Bool) → (if held then machine.Sends else machine.Closes) ≡ purpose_is (if held then steps.Send else steps.Close)
+close_is : (held : Bool) → (if held then machine.Sends else machine.Closes) ≡ purpose_is (if held then purposes.Send else purposes.Close)
 close_is true = refl
 close_is false = refl
 
-still_going : (stop : Stop) (way : Way) → machine.is_over (way_is way) ≡ false → machine.is_over (way_is (way_at stop way)) ≡ false
-still_going (stops.Close ended) way h = refl
+still_going : (stop : StretchEnd) (way : Way) → machine.is_over (way_is way) ≡ false → machine.is_over (way_is (way_at stop way)) ≡ false
+still_going (ends.Close ended) way h = refl
 still_going stop way h = h
 
-fewer : (stop : Stop) (way : Way) (held : Bool) → way ≡ ways.On → (n k : ℕ) → n ≤ k →
-    left_at_by (way_at stop way) (step_at stop held) n ≤ left_by way k
-fewer (stops.Close ended) way true e n k h = subst (λ v. 2 ≤ left_by v k) (sym e) (omega arith)
-fewer (stops.Close ended) way false e n k h = subst (λ v. 1 ≤ left_by v k) (sym e) (omega arith)
-fewer stops.Send way held e n k h = subst (λ v. left_at_by v steps.Send n ≤ left_by v k) (sym e) (omega (arith, h))
-fewer stops.Reply way held e n k h = subst (λ v. left_at_by v steps.Reply n ≤ left_by v k) (sym e) (omega (arith, h))
-fewer (stops.Vote d) way held e n k h = subst (λ v. left_at_by v (steps.Vote d) n ≤ left_by v k) (sym e) (omega (arith, h))
+fewer : (stop : StretchEnd) (way : Way) (held : Bool) → way ≡ ways.On → (n k : ℕ) → n ≤ k →
+    left_at_by (way_at stop way) (purpose_at stop held) n ≤ left_by way k
+fewer (ends.Close ended) way true e n k h = subst (λ v. 2 ≤ left_by v k) (sym e) (omega arith)
+fewer (ends.Close ended) way false e n k h = subst (λ v. 1 ≤ left_by v k) (sym e) (omega arith)
+fewer ends.Send way held e n k h = subst (λ v. left_at_by v purposes.Send n ≤ left_by v k) (sym e) (omega (arith, h))
+fewer ends.Reply way held e n k h = subst (λ v. left_at_by v purposes.Reply n ≤ left_by v k) (sym e) (omega (arith, h))
+fewer (ends.Vote d) way held e n k h = subst (λ v. left_at_by v (purposes.Vote d) n ≤ left_by v k) (sym e) (omega (arith, h))
 
-goes_at : (stop : Stop) (way : Way) (held : Bool) → way ≡ ways.On → GoesWith (way_at stop way) (step_at stop held)
-goes_at stops.Send way held e = subst (λ v. GoesWith v steps.Send) (sym e) tt
-goes_at stops.Reply way held e = subst (λ v. GoesWith v steps.Reply) (sym e) tt
-goes_at (stops.Vote d) way held e = subst (λ v. GoesWith v (steps.Vote d)) (sym e) tt
-goes_at (stops.Close ended) way true e = tt
-goes_at (stops.Close ended) way false e = tt
+goes_at : (stop : StretchEnd) (way : Way) (held : Bool) → way ≡ ways.On → GoesWith (way_at stop way) (purpose_at stop held)
+goes_at ends.Send way held e = subst (λ v. GoesWith v purposes.Send) (sym e) tt
+goes_at ends.Reply way held e = subst (λ v. GoesWith v purposes.Reply) (sym e) tt
+goes_at (ends.Vote d) way held e = subst (λ v. GoesWith v (purposes.Vote d)) (sym e) tt
+goes_at (ends.Close ended) way true e = tt
+goes_at (ends.Close ended) way false e = tt
 
 module _ (code : SuperstepCode) (m : Shape) (bound : ℕ) (is_code : IsCode code) (a : Local) (y : WorkerState) (on : a.way ≡ ways.On)
     (go : MayGoOn code m bound a) where
   abbrev moved : Local
   moved = record a { steps = y }
 
-  stands_at : (stop : Stop) → StandsAt code bound (stop_is stop) y → way_at stop a.way ≡ ways.On →
-      slice_get code.instructions y.place ≡ Some (instr_of (step_at stop (is_held (put_is y.uniform.put))))
-  stands_at stops.Send h e = h
-  stands_at stops.Reply h e = h
-  stands_at (stops.Vote d) h e = h
-  stands_at (stops.Close ended) h e = absurd (cc e)
+  stands_at : (stop : StretchEnd) → StandsAt code bound (stop_is stop) y → way_at stop a.way ≡ ways.On →
+      slice_get code.instructions y.place ≡ Some (instr_of (purpose_at stop (is_held (put_is y.uniform.put))))
+  stands_at ends.Send h e = h
+  stands_at ends.Reply h e = h
+  stands_at (ends.Vote d) h e = h
+  stands_at (ends.Close ended) h e = absurd (cc e)
 
   equipped_still : IsFitted code y → IsSameBank a.steps.bank y.bank → IsEquipped code m moved
   equipped_still fitted same =
@@ -124,26 +125,26 @@ module _ (code : SuperstepCode) (m : Shape) (bound : ℕ) (is_code : IsCode code
 
   module _ (t : Setting) (s : machine.State) (place : ℕ) (z : Worker) (way : s.way ≡ way_is a.way)
       (worker : ShowsWorker t a.steps.bank.worker moved z) where
-    at_ready : (stop : Stop) → IsAtReady t a.steps.bank.worker (stopped_at stop moved) (machine.ready_at s (At (stop_is stop) y.place z))
-    at_ready stops.Send = record {
+    at_ready : (stop : StretchEnd) → IsAtReady t a.steps.bank.worker (stopped_at stop moved) (machine.ready_at s (At (stop_is stop) y.place z))
+    at_ready ends.Send = record {
       purpose = refl;
       way = way;
       place = ap (λ v. place_behind v y.place) (sym on);
       worker = record { shows = worker.shows; cells = worker.cells; sent = worker.sent; taken = worker.taken };
     }
-    at_ready stops.Reply = record {
+    at_ready ends.Reply = record {
       purpose = refl;
       way = way;
       place = ap (λ v. place_behind v y.place) (sym on);
       worker = record { shows = worker.shows; cells = worker.cells; sent = worker.sent; taken = worker.taken };
     }
-    at_ready (stops.Vote d) = record {
+    at_ready (ends.Vote d) = record {
       purpose = refl;
       way = way;
       place = ap (λ v. place_behind v y.place) (sym on);
       worker = record { shows = worker.shows; cells = worker.cells; sent = worker.sent; taken = worker.taken };
     }
-    at_ready (stops.Close ended) = record {
+    at_ready (ends.Close ended) = record {
       purpose = ap (λ (u : UniformPart). if is_held u.put then machine.Sends else machine.Closes) worker.shows.uniform
           ∙ close_is (is_held (put_is y.uniform.put));
       way = refl;
@@ -159,7 +160,7 @@ module _ (code : SuperstepCode) (m : Shape) (bound : ℕ) (is_code : IsCode code
       omega (arith, within, held)
 
   -- the state at the exchange
-  at_next : (stop : Stop) → ArrivesAt code bound (stop_is stop) a.steps y → IsSameBank a.steps.bank y.bank → (n : ℕ) (s : machine.State) →
+  at_next : (stop : StretchEnd) → ArrivesAt code bound (stop_is stop) a.steps y → IsSameBank a.steps.bank y.bank → (n : ℕ) (s : machine.State) →
       most_instructions code bound < n → IsShown (setting code m bound n) a.steps.bank.worker a s →
       IsAtExchange (setting code m bound n) a.steps.bank.worker (stopped_at stop moved) s
   at_next stop arrives same n s enough sh =
@@ -187,7 +188,7 @@ module _ (code : SuperstepCode) (m : Shape) (bound : ℕ) (is_code : IsCode code
         taken = λ j. ap (λ l. slice_index_or l j []) k.carried.taken ∙ sh.worker.taken j;
       }) stop)
 
-  pub arrived : (stop : Stop) → ArrivesAt code bound (stop_is stop) a.steps y → StandsAt code bound (stop_is stop) y → IsFitted code y →
+  pub arrived : (stop : StretchEnd) → ArrivesAt code bound (stop_is stop) a.steps y → StandsAt code bound (stop_is stop) y → IsFitted code y →
       IsVerifiedAt code y → y.uniform.count ≤ bound → IsSameBank a.steps.bank y.bank →
       rank code bound y ≤ rank code bound a.steps →
       HasArrived code m bound a (stopped_at stop moved)
@@ -225,7 +226,7 @@ module _ (code : SuperstepCode) (m : Shape) (bound : ℕ) (is_code : IsCode code
 -- ---- a run that ends
 
 pub ended : (code : SuperstepCode) (m : Shape) (bound : ℕ) (a : Local) → MayGoOn code m bound a → (a.way ≡ ways.On → ⊥) →
-    HasArrived code m bound a (record a { step = steps.Close })
+    HasArrived code m bound a (record a { purpose = purposes.Close })
 ended code m bound a go off =
     let e = go.equipped in record {
       at = record {
@@ -250,7 +251,7 @@ ended code m bound a go off =
       };
       shown = λ n s enough sh.
           let t = setting code m bound n in
-          at_exchange t a.steps.bank.worker s sh.clear (record a { step = steps.Close }) sh.exchanges sh.reached
+          at_exchange t a.steps.bank.worker s sh.clear (record a { purpose = purposes.Close }) sh.exchanges sh.reached
           (record { purpose = machine.Closes; state = s }) (ready_is t a.steps.bank.worker s sh.clear ∙ closes t s a.way sh.way off)
           (record {
             purpose = refl;
@@ -262,13 +263,13 @@ ended code m bound a go off =
       falls = no_more a.way off (rank code bound a.steps);
     }
   where
-    closing : (way : Way) → (way ≡ ways.On → ⊥) → machine.is_over (way_is way) ≡ false → GoesWith way steps.Close
+    closing : (way : Way) → (way ≡ ways.On → ⊥) → machine.is_over (way_is way) ≡ false → GoesWith way purposes.Close
     closing ways.On h k = absurd (h refl)
     closing (ways.Ending ended) h k = tt
     closing (ways.Past key ended) h k = cc
     closing (ways.Stopped mark) h k = cc
 
-    no_more : (way : Way) → (way ≡ ways.On → ⊥) → (n : ℕ) → left_at_by way steps.Close n ≤ left_by way n
+    no_more : (way : Way) → (way ≡ ways.On → ⊥) → (n : ℕ) → left_at_by way purposes.Close n ≤ left_by way n
     no_more ways.On h n = absurd (h refl)
     no_more (ways.Ending ended) h n = omega arith
     no_more (ways.Past key ended) h n = omega arith

@@ -35,10 +35,11 @@ use Rattle.flat_machine.specs.Flatness.{IsMapFor}
 use Rattle.machine_limits.proofs.Keeping.{IsReadBelow, IsOwnKept}
 use Rattle.machine_limits.proofs.Runs.{ready_keeps}
 use Rattle.worker_steps.specs.Shown.{part_in}
-use Rattle.worker_messages.specs.declared.step.Step.TheVariants as steps
+use Rattle.superstep_machine.specs.declared.purpose.Purpose.TheVariants as purposes
 use Rattle.worker_messages.specs.declared.local.Local.{Local}
 use Rattle.worker_messages.specs.Reached.{IsReached}
-use Rattle.worker_messages.specs.Shown.{purpose_is, IsAtExchange}
+use Rattle.superstep_machine.specs.Purposes.{purpose_is}
+use Rattle.worker_messages.specs.Shown.{IsAtExchange}
 use Rattle.worker_messages.specs.Equipped.{AwaitsAnswers}
 use Rattle.worker_messages.proofs.ReachedLemmas.{IsPathed, ready_pathed}
 
@@ -206,7 +207,7 @@ three P Q R S f (x ∷ xs) p q r = (f x p.0 q.0 r.0, three P Q R S f xs p.1 q.1 
 
 module _ (t : Setting) (code : IsCode t.code) (room : IsMapFor t.code t.map) (formed : IsWellFormed t.code) (w : ℕ) (x : Local)
     (s : machine.State) (at : IsAtExchange t w x s) (registers : length x.steps.bank.columns.items ≡ t.code.private_registers)
-    (reply : x.step ≡ steps.Reply) where
+    (reply : x.purpose ≡ purposes.Reply) where
   abbrev y : Worker
   y = (machine.ready t w s).state.worker
 

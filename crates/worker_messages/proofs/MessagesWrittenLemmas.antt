@@ -31,13 +31,14 @@ use Rattle.combining.specs.Answers.{answers}
 use Rattle.worker_steps.specs.Shown.{own_in}
 use Rattle.message_rows.specs.Rows.{WrittenMessage, written, IsRow}
 use Rattle.message_rows.specs.Sends.{words_of, header_with, reply_message, CanBeWritten}
-use Rattle.worker_messages.specs.declared.step.Step.{Step}
-use Rattle.worker_messages.specs.declared.step.Step.TheVariants as steps
+use Rattle.superstep_machine.specs.declared.purpose.Purpose.{Purpose}
+use Rattle.superstep_machine.specs.declared.purpose.Purpose.TheVariants as purposes
 use Rattle.worker_messages.specs.declared.buffers.Buffers.{Buffers}
 use Rattle.worker_messages.specs.declared.way.Way.{Way}
 use Rattle.worker_messages.specs.declared.way.Way.TheVariants as ways
 use Rattle.worker_messages.specs.declared.local.Local.{Local}
-use Rattle.worker_messages.specs.Shown.{way_is, purpose_is, marked, ShowsWorker, IsAtExchange}
+use Rattle.superstep_machine.specs.Purposes.{purpose_is}
+use Rattle.worker_messages.specs.Shown.{way_is, marked, ShowsWorker, IsAtExchange}
 use Rattle.worker_messages.specs.Equipped.{most_words, AreBuffers, MayGoOn, IsAtStep}
 use Rattle.worker_messages.specs.Arrived.{HasArrived, CanTell}
 use Rattle.worker_messages.specs.MessagesWritten.{IsWrittenFor, told_in_send, told_alone, told_at, told}
@@ -85,56 +86,56 @@ module _ (t : Setting) (code : IsCode t.code) (room : IsMapFor t.code t.map) (fo
   abbrev y : Worker
   y = (machine.ready t w s).state.worker
 
-  pathed : (step : Step) → x.step ≡ step → (purpose_is step ≡ machine.Closes → ⊥) → IsPathed t w y
-  pathed step e h = exchange_pathed t code room formed w at.exchanges s at.reached at.clear
+  pathed : (purpose : Purpose) → x.purpose ≡ purpose → (purpose_is purpose ≡ machine.Closes → ⊥) → IsPathed t w y
+  pathed purpose e h = exchange_pathed t code room formed w at.exchanges s at.reached at.clear
       (λ closes. h (sym (at.purpose ∙ ap purpose_is e) ∙ closes))
 
-  fits_at : (step : Step) → x.step ≡ step → (purpose_is step ≡ machine.Closes → ⊥) → FitsWorker t y
-  fits_at step e h = fits t code room w l x.steps y (pathed step e h) at.worker.shows
+  fits_at : (purpose : Purpose) → x.purpose ≡ purpose → (purpose_is purpose ≡ machine.Closes → ⊥) → FitsWorker t y
+  fits_at purpose e h = fits t code room w l x.steps y (pathed purpose e h) at.worker.shows
 
-  message_is : (j : ℕ) → machine.message_of t w s j ≡ machine.message_for t (purpose_is x.step) y j
+  message_is : (j : ℕ) → machine.message_of t w s j ≡ machine.message_for t (purpose_is x.purpose) y j
   message_is j =
       ap (λ ms. machine.message_with t (machine.ready t w s) j (machine.mark_now ms)) at.clear
       ∙ ap (λ p. machine.message_for t p y j) at.purpose
 
-  told_for : (step : Step) → x.step ≡ step → (j : ℕ) →
-      told_at t.code.rule t.map step x j ≡ written t.code.rule (machine.message_for t (purpose_is step) y j)
-  told_for steps.Send e j = told_sent t code room w l x y (pathed steps.Send e (λ h. cc)) at.worker j
-  told_for steps.Reply e j =
+  told_for : (purpose : Purpose) → x.purpose ≡ purpose → (j : ℕ) →
+      told_at t.code.rule t.map purpose x j ≡ written t.code.rule (machine.message_for t (purpose_is purpose) y j)
+  told_for purposes.Send e j = told_sent t code room w l x y (pathed purposes.Send e (λ h. cc)) at.worker j
+  told_for purposes.Reply e j =
       ap (λ v. reply_message x.steps.key t.map v x.cells (words_of x.asked.items) j) here ∙ told_replied t w x y at.worker j
-  told_for (steps.Vote d) e j = told_voted t w x y at.worker j
-  told_for steps.Close e j = told_closing t w x y at.worker j
+  told_for (purposes.Vote d) e j = told_voted t w x y at.worker j
+  told_for purposes.Close e j = told_closing t w x y at.worker j
 
   pub told_is : (j : ℕ) → told t.code.rule t.map x j ≡ written t.code.rule (machine.message_of t w s j)
-  told_is j = told_for x.step refl j ∙ ap (written t.code.rule) (sym (message_is j))
+  told_is j = told_for x.purpose refl j ∙ ap (written t.code.rule) (sym (message_is j))
 
   -- each is read back from its words
-  back_for : (step : Step) → x.step ≡ step → (j : ℕ) →
-      IsReadBack t.code.rule t.map j (purpose_is step) (machine.message_for t (purpose_is step) y j)
-  back_for steps.Send e j = sent_back t y j (fits_at steps.Send e (λ h. cc))
-  back_for steps.Reply e j = replied_back t y j (fits_at steps.Reply e (λ h. cc))
-  back_for (steps.Vote d) e j = voted_back t y j d
-  back_for steps.Close e j = closing_back t y j
+  back_for : (purpose : Purpose) → x.purpose ≡ purpose → (j : ℕ) →
+      IsReadBack t.code.rule t.map j (purpose_is purpose) (machine.message_for t (purpose_is purpose) y j)
+  back_for purposes.Send e j = sent_back t y j (fits_at purposes.Send e (λ h. cc))
+  back_for purposes.Reply e j = replied_back t y j (fits_at purposes.Reply e (λ h. cc))
+  back_for (purposes.Vote d) e j = voted_back t y j d
+  back_for purposes.Close e j = closing_back t y j
 
-  key_for : (step : Step) (j : ℕ) → (machine.message_for t (purpose_is step) y j).key ≡ y.key
-  key_for steps.Send j = refl
-  key_for steps.Reply j = refl
-  key_for (steps.Vote d) j = refl
-  key_for steps.Close j = refl
+  key_for : (purpose : Purpose) (j : ℕ) → (machine.message_for t (purpose_is purpose) y j).key ≡ y.key
+  key_for purposes.Send j = refl
+  key_for purposes.Reply j = refl
+  key_for (purposes.Vote d) j = refl
+  key_for purposes.Close j = refl
 
   pub told_back : ((key : Key) → x.steps.key ≡ Some key → FitsKey key) → (j : ℕ) →
-      IsWrittenFor t.code.rule t.map j (purpose_is x.step) (machine.message_of t w s j) (written t.code.rule (machine.message_of t w s j))
+      IsWrittenFor t.code.rule t.map j (purpose_is x.purpose) (machine.message_of t w s j) (written t.code.rule (machine.message_of t w s j))
   told_back keys j =
-      let m = machine.message_for t (purpose_is x.step) y j in
-      subst (λ q. IsWrittenFor t.code.rule t.map j (purpose_is x.step) q (written t.code.rule q)) (sym (message_is j))
-      (ap (λ h. read_message t.code.rule t.map j (purpose_is x.step) h (words t.code.rule m))
-      (given_back (header_of m) (λ key e. keys key (sym at.worker.shows.key ∙ sym (key_for x.step j) ∙ e)))
-      ∙ back_for x.step refl j)
+      let m = machine.message_for t (purpose_is x.purpose) y j in
+      subst (λ q. IsWrittenFor t.code.rule t.map j (purpose_is x.purpose) q (written t.code.rule q)) (sym (message_is j))
+      (ap (λ h. read_message t.code.rule t.map j (purpose_is x.purpose) h (words t.code.rule m))
+      (given_back (header_of m) (λ key e. keys key (sym at.worker.shows.key ∙ sym (key_for x.purpose j) ∙ e)))
+      ∙ back_for x.purpose refl j)
 
   pub held_can : (rooms : List ℕ) → length rooms ≡ t.map.parts →
-      ((j : ℕ) → j < t.map.parts → room_at rooms j ≡ words_for_each t.code.rule * share t) → x.step ≡ steps.Send →
+      ((j : ℕ) → j < t.map.parts → room_at rooms j ≡ words_for_each t.code.rule * share t) → x.purpose ≡ purposes.Send →
       CanBeWritten t.code.rule t.map rooms x.steps.puts.held x.steps.asks.held
-  held_can rooms count each e = can_be_written t code room w l x.steps y (pathed steps.Send e (λ h. cc)) at.worker.shows rooms count each
+  held_can rooms count each e = can_be_written t code room w l x.steps y (pathed purposes.Send e (λ h. cc)) at.worker.shows rooms count each
 
 -- a row of the messages
 pub same_row : (p : ℕ) (one other : ℕ → WrittenMessage) (row : List WrittenMessage) → ((j : ℕ) → one j ≡ other j) → IsRow p one row →

@@ -7,11 +7,11 @@ use Rattle.superstep_machine.specs.Run.{State, setting, ready, is_held}
 use Rattle.instruction_steps.specs.Views.{put_is}
 use Rattle.worker_bank.specs.Bank.{IsBank}
 use Rattle.combining.specs.AllModules.{column, room_at}
-use Rattle.worker_steps.specs.declared.stop.Stop.{Stop}
-use Rattle.worker_steps.specs.declared.stop.Stop.TheVariants as stops
+use Rattle.worker_steps.specs.declared.stretch_end.StretchEnd.{StretchEnd}
+use Rattle.worker_steps.specs.declared.stretch_end.StretchEnd.TheVariants as ends
 use Rattle.message_rows.specs.Sends.{words_of, CanBeWritten}
-use Rattle.worker_messages.specs.declared.step.Step.{Step}
-use Rattle.worker_messages.specs.declared.step.Step.TheVariants as steps
+use Rattle.superstep_machine.specs.declared.purpose.Purpose.{Purpose}
+use Rattle.superstep_machine.specs.declared.purpose.Purpose.TheVariants as purposes
 use Rattle.worker_messages.specs.declared.way.Way.{Way}
 use Rattle.worker_messages.specs.declared.way.Way.TheVariants as ways
 use Rattle.worker_messages.specs.declared.local.Local.{Local}
@@ -20,18 +20,18 @@ use Rattle.worker_messages.specs.Shown.{IsShown, IsAtExchange}
 use Rattle.worker_messages.specs.Equipped.{IsAtStep, left, left_at}
 
 -- what the exchange is for at which a worker stops: a close sends first what is held
-abbrev pub step_at : Stop → Bool → Step
-step_at stops.Send held = steps.Send
-step_at stops.Reply held = steps.Reply
-step_at (stops.Vote d) held = steps.Vote d
-step_at (stops.Close ended) held = if held then steps.Send else steps.Close
+abbrev pub purpose_at : StretchEnd → Bool → Purpose
+purpose_at ends.Send held = purposes.Send
+purpose_at ends.Reply held = purposes.Reply
+purpose_at (ends.Vote d) held = purposes.Vote d
+purpose_at (ends.Close ended) held = if held then purposes.Send else purposes.Close
 
-abbrev pub way_at : Stop → Way → Way
-way_at (stops.Close ended) way = ways.Ending ended
+abbrev pub way_at : StretchEnd → Way → Way
+way_at (ends.Close ended) way = ways.Ending ended
 way_at stop way = way
 
-abbrev pub stopped_at : Stop → Local → Local
-stopped_at stop x = record x { way = way_at stop x.way; step = step_at stop (is_held (put_is x.steps.uniform.put)) }
+abbrev pub stopped_at : StretchEnd → Local → Local
+stopped_at stop x = record x { way = way_at stop x.way; purpose = purpose_at stop (is_held (put_is x.steps.uniform.put)) }
 
 -- In b the worker is at the exchange that it comes to from a: whatever state a shows, b shows where the definition's worker stands then.
 pub record HasArrived (code : SuperstepCode) (m : Shape) (bound : ℕ) (a b : Local) : Type 0 where
@@ -58,4 +58,4 @@ pub record CanTell (rule : Rule) (m : Shape) (room : ℕ) (x : Local) : Type 0 w
   pub short : length x.buffers.reply.items < 2 ^ 32
   pub counts : length x.buffers.counts.items ≡ m.parts
   pub rooms : (j : ℕ) → j < m.parts → room_at (map vec_capacity x.buffers.words.items) j ≤ room
-  pub held : x.step ≡ steps.Send → CanBeWritten rule m (map vec_capacity x.buffers.words.items) x.steps.puts.held x.steps.asks.held
+  pub held : x.purpose ≡ purposes.Send → CanBeWritten rule m (map vec_capacity x.buffers.words.items) x.steps.puts.held x.steps.asks.held

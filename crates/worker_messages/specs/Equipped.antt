@@ -21,8 +21,8 @@ use Rattle.worker_steps.specs.Fitted.{IsFitted}
 use Rattle.worker_steps.specs.Met.{IsVerifiedAt}
 use Rattle.worker_steps.specs.Stretch.{rank}
 use Rattle.worker_messages.specs.declared.way.Way.{Way}
-use Rattle.worker_messages.specs.declared.step.Step.{Step}
-use Rattle.worker_messages.specs.declared.step.Step.TheVariants as steps
+use Rattle.superstep_machine.specs.declared.purpose.Purpose.{Purpose}
+use Rattle.superstep_machine.specs.declared.purpose.Purpose.TheVariants as purposes
 use Rattle.worker_messages.specs.declared.way.Way.TheVariants as ways
 use Rattle.worker_messages.specs.declared.buffers.Buffers.{Buffers}
 use Rattle.worker_messages.specs.declared.local.Local.{Local}
@@ -75,11 +75,11 @@ pub record MayGoOn (code : SuperstepCode) (m : Shape) (bound : ℕ) (x : Local) 
   pub shown : IsShown (setting code m bound enough) x.steps.bank.worker x state
 
 -- the instruction that an exchange is for, if its run doesn't end with it
-abbrev pub instr_of : Step → Instr
-instr_of steps.Send = Send
-instr_of steps.Reply = Reply
-instr_of (steps.Vote d) = Vote d
-instr_of steps.Close = Halt
+abbrev pub instr_of : Purpose → Instr
+instr_of purposes.Send = Send
+instr_of purposes.Reply = Reply
+instr_of (purposes.Vote d) = Vote d
+instr_of purposes.Close = Halt
 
 -- A read that awaits an answer, of a worker with so many private registers and so many processors: its cell is one of so many, the
 -- register of a private read is there, and a uniform read is awaited where there are no processors.
@@ -96,12 +96,12 @@ pub record AwaitsAnswers (m : Shape) (x : Local) : Type 0 where
       AllByRecursion (IsCellBelow m.count) (cells_at (length x.steps.uniform.awaited.items) x.steps.awaited.items j)
 
 -- for which exchanges there is which way: what goes on doesn't close, and what ends sends first what is held
-abbrev pub GoesWith : Way → Step → Type 0
-GoesWith ways.On steps.Close = ⊥
-GoesWith ways.On step = Unit {0}
-GoesWith (ways.Ending ended) steps.Send = Unit {0}
-GoesWith (ways.Ending ended) steps.Close = Unit {0}
-GoesWith way step = ⊥
+abbrev pub GoesWith : Way → Purpose → Type 0
+GoesWith ways.On purposes.Close = ⊥
+GoesWith ways.On purpose = Unit {0}
+GoesWith (ways.Ending ended) purposes.Send = Unit {0}
+GoesWith (ways.Ending ended) purposes.Close = Unit {0}
+GoesWith way purpose = ⊥
 
 -- A worker at an exchange, at whose place that stands; at a send at most eight reads are held, and a reply answers what is awaited.
 pub record IsAtStep (code : SuperstepCode) (m : Shape) (bound : ℕ) (x : Local) : Type 0 where
@@ -109,10 +109,10 @@ pub record IsAtStep (code : SuperstepCode) (m : Shape) (bound : ℕ) (x : Local)
   pub going : is_over (way_is x.way) ≡ false
   pub count : x.steps.uniform.count ≤ bound
   pub verified : x.way ≡ ways.On → IsVerifiedAt code x.steps
-  pub stands : x.way ≡ ways.On → slice_get code.instructions x.steps.place ≡ Some (instr_of x.step)
-  pub goes : GoesWith x.way x.step
-  pub few : x.step ≡ steps.Send → length x.steps.uniform.asks.items ≤ 8
-  pub awaited : x.step ≡ steps.Reply → AwaitsAnswers m x
+  pub stands : x.way ≡ ways.On → slice_get code.instructions x.steps.place ≡ Some (instr_of x.purpose)
+  pub goes : GoesWith x.way x.purpose
+  pub few : x.purpose ≡ purposes.Send → length x.steps.uniform.asks.items ≤ 8
+  pub awaited : x.purpose ≡ purposes.Reply → AwaitsAnswers m x
 
 -- how many instructions and exchanges may still come before the run is over
 abbrev pub left_by : Way → ℕ → ℕ
@@ -124,11 +124,11 @@ abbrev pub left : SuperstepCode → ℕ → Local → ℕ
 left code bound x = left_by x.way (rank code bound x.steps)
 
 -- how many may still come for a worker that stands at an exchange: one that ends sends first what is held
-abbrev pub left_at_by : Way → Step → ℕ → ℕ
-left_at_by ways.On step rank = rank + 2
-left_at_by (ways.Ending ended) steps.Send rank = 2
-left_at_by (ways.Ending ended) step rank = 1
-left_at_by way step rank = 0
+abbrev pub left_at_by : Way → Purpose → ℕ → ℕ
+left_at_by ways.On purpose rank = rank + 2
+left_at_by (ways.Ending ended) purposes.Send rank = 2
+left_at_by (ways.Ending ended) purpose rank = 1
+left_at_by way purpose rank = 0
 
 abbrev pub left_at : SuperstepCode → ℕ → Local → ℕ
-left_at code bound x = left_at_by x.way x.step (rank code bound x.steps)
+left_at code bound x = left_at_by x.way x.purpose (rank code bound x.steps)

@@ -8,15 +8,15 @@ use Rattle.superstep_machine.specs.declared.header.MessageHeader.{MessageHeader}
 use Rattle.superstep_machine.specs.HeaderWords.{header_words, read_header, blank_header}
 use Rattle.superstep_machine.specs.Words.{Message}
 use Rattle.superstep_machine.specs.WordReading.{read_message}
-use Rattle.superstep_machine.specs.Run.{Purpose}
+use Rattle.superstep_machine.specs.Run as machine
 use Rattle.superstep_machine.specs.Steps.{is_active}
 use Rattle.combining.specs.Held.{puts_for}
 use Rattle.worker_steps.specs.declared.worker.WorkerState.{WorkerState}
 use Rattle.worker_steps.specs.Shown.{own_in}
 use Rattle.message_rows.specs.Rows.{WrittenMessage}
 use Rattle.message_rows.specs.Sends.{words_of, header_with, send_words, reply_message}
-use Rattle.worker_messages.specs.declared.step.Step.{Step}
-use Rattle.worker_messages.specs.declared.step.Step.TheVariants as steps
+use Rattle.superstep_machine.specs.declared.purpose.Purpose.{Purpose}
+use Rattle.superstep_machine.specs.declared.purpose.Purpose.TheVariants as purposes
 use Rattle.worker_messages.specs.declared.local.Local.{Local}
 
 -- whether a processor is active
@@ -34,20 +34,20 @@ told_in_send rule m x j = record {
 abbrev pub told_alone : MessageHeader → ℕ → WrittenMessage
 told_alone header j = record { header = header_words header; words = [] }
 
-abbrev pub told_at : Rule → Shape → Step → Local → ℕ → WrittenMessage
-told_at rule m steps.Send x = told_in_send rule m x.steps
-told_at rule m steps.Reply x = reply_message x.steps.key m x.steps.bank.worker x.cells (words_of x.asked.items)
-told_at rule m (steps.Vote d) x = told_alone (record (header_with x.steps.key 0) { active = any_active x.steps })
-told_at rule m steps.Close x = told_alone (header_with x.steps.key 0)
+abbrev pub told_at : Rule → Shape → Purpose → Local → ℕ → WrittenMessage
+told_at rule m purposes.Send x = told_in_send rule m x.steps
+told_at rule m purposes.Reply x = reply_message x.steps.key m x.steps.bank.worker x.cells (words_of x.asked.items)
+told_at rule m (purposes.Vote d) x = told_alone (record (header_with x.steps.key 0) { active = any_active x.steps })
+told_at rule m purposes.Close x = told_alone (header_with x.steps.key 0)
 
 -- to worker j, by what the exchange is for
 abbrev pub told : Rule → Shape → Local → ℕ → WrittenMessage
-told rule m x = told_at rule m x.step x
+told rule m x = told_at rule m x.purpose x
 
 -- a mark, and nothing else
 abbrev pub told_mark : HeaderMark → ℕ → WrittenMessage
 told_mark mark = told_alone (record blank_header { mark = mark })
 
 -- from words the message is read, by module j
-abbrev pub IsWrittenFor : Rule → Shape → ℕ → Purpose → Message → WrittenMessage → Type 0
+abbrev pub IsWrittenFor : Rule → Shape → ℕ → machine.Purpose → Message → WrittenMessage → Type 0
 IsWrittenFor rule m j purpose message x = read_message rule m j purpose (read_header x.header) x.words ≡ message

@@ -11,8 +11,7 @@ use Rattle.combining.specs.AllModules.{column}
 use Rattle.combining.specs.Adding.{unanswered}
 use Rattle.worker_steps.specs.Shown.{Shows}
 use Rattle.message_rows.specs.Sends.{words_of}
-use Rattle.worker_messages.specs.declared.step.Step.{Step}
-use Rattle.worker_messages.specs.declared.step.Step.TheVariants as steps
+use Rattle.superstep_machine.specs.Purposes.{purpose_is}
 use Rattle.worker_messages.specs.declared.way.Way.{Way}
 use Rattle.worker_messages.specs.declared.way.Way.TheVariants as ways
 use Rattle.worker_messages.specs.declared.local.Local.{Local}
@@ -25,12 +24,6 @@ way_is ways.On = machine.On
 way_is (ways.Ending ended) = machine.Ending ended
 way_is (ways.Past key ended) = machine.Past key ended
 way_is (ways.Stopped mark) = machine.Refused mark
-
-abbrev pub purpose_is : Step → machine.Purpose
-purpose_is steps.Send = machine.Sends
-purpose_is steps.Reply = machine.Replies
-purpose_is (steps.Vote d) = machine.Votes d
-purpose_is steps.Close = machine.Closes
 
 abbrev pub is_stopped : Way → Bool
 is_stopped (ways.Stopped mark) = true
@@ -74,7 +67,7 @@ pub record IsShown (t : Setting) (w : ℕ) (x : Local) (s : machine.State) : Typ
 pub record IsAtExchange (t : Setting) (w : ℕ) (x : Local) (s : machine.State) : Type 0 where
   pub exchanges : ℕ
   pub reached : IsReached t w exchanges s
-  pub purpose : (machine.ready t w s).purpose ≡ purpose_is x.step
+  pub purpose : (machine.ready t w s).purpose ≡ purpose_is x.purpose
   pub way : (machine.ready t w s).state.way ≡ way_is x.way
   pub place : (machine.ready t w s).state.place ≡ place_behind x.way x.steps.place
   pub clear : s.refusals ≡ []

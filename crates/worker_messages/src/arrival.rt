@@ -14,16 +14,16 @@ ghost use Rattle.worker_steps.specs.Fitted.{IsFitted};
 ghost use Rattle.worker_steps.specs.Met.{IsVerifiedAt};
 ghost use Rattle.message_rows.specs.Rows.{IsRow, written, message_at, words_in};
 ghost use Rattle.worker_messages.specs.declared.way.Way.TheVariants as way_is_one_of;
-ghost use Rattle.worker_messages.specs.declared.step.Step.TheVariants as step_is;
+ghost use Rattle.superstep_machine.specs.declared.purpose.Purpose.TheVariants as purpose_is_one_of;
 ghost use Rattle.worker_messages.specs.Reached.{most_instructions};
-ghost use Rattle.worker_messages.specs.Shown.{is_stopped, purpose_is, marked, IsShown, IsAtExchange};
+ghost use Rattle.superstep_machine.specs.Purposes.{purpose_is};
+ghost use Rattle.worker_messages.specs.Shown.{is_stopped, marked, IsShown, IsAtExchange};
 ghost use Rattle.worker_messages.specs.Equipped.{most_words, left, left_at, AreBuffers, MayGoOn, IsAtStep};
 ghost use Rattle.worker_steps.specs.Stretch.{PrintsPast};
-ghost use Rattle.worker_messages.specs.Arrived.{step_at as spec_step_at, way_at as spec_way_at, HasArrived, ComesPast, CanTell};
+ghost use Rattle.worker_messages.specs.Arrived.{purpose_at as spec_purpose_at, way_at as spec_way_at, HasArrived, ComesPast, CanTell};
 ghost use Rattle.worker_messages.specs.MessagesWritten.{told, told_mark, IsWrittenFor};
 
 use crate::local::Local;
-use crate::step::Step;
 use crate::telling::{any_active, key_fits, tell_alone, tell_mark, tell_send};
 use crate::way::Way;
 use address_map::AddressMap;
@@ -31,31 +31,31 @@ use instruction_steps::Moment;
 use message_rows::{Row, fill_replies};
 use std::alloc::AllocError;
 use superstep_instructions::Code;
-use superstep_machine::HeaderMark;
-use worker_steps::Stop;
+use superstep_machine::{HeaderMark, Purpose};
+use worker_steps::StretchEnd;
 use write_rules::WriteRule;
 
 // What the exchange is for at which a worker stops.
-fn step_at(stop: Stop, put: Option<Moment>) -> Step
-    ensures { result ≡ spec_step_at stop (is_held (put_is put)) }
+fn purpose_at(stop: StretchEnd, put: Option<Moment>) -> Purpose
+    ensures { result ≡ spec_purpose_at stop (is_held (put_is put)) }
 {
     match stop {
-        Stop::Send => Step::Send,
-        Stop::Reply => Step::Reply,
-        Stop::Vote { destination } => Step::Vote { destination },
-        Stop::Close { ended: _ } => match put {
-            Some(_) => Step::Send,
-            None => Step::Close,
+        StretchEnd::Send => Purpose::Send,
+        StretchEnd::Reply => Purpose::Reply,
+        StretchEnd::Vote { destination } => Purpose::Vote { destination },
+        StretchEnd::Close { ended: _ } => match put {
+            Some(_) => Purpose::Send,
+            None => Purpose::Close,
         },
     }
 }
 
 // How it stands with its run then.
-fn way_at(stop: Stop, way: Way) -> Way
+fn way_at(stop: StretchEnd, way: Way) -> Way
     ensures { result ≡ spec_way_at stop way }
 {
     match stop {
-        Stop::Close { ended } => Way::Ending { ended },
+        StretchEnd::Close { ended } => Way::Ending { ended },
         _ => way,
     }
 }
@@ -76,7 +76,7 @@ impl Local {
     {
         let _instructions = code.instructions();
         let stop = self.steps.advance(code, rule, bound)?;
-        self.step = step_at(stop, self.steps.uniform.put);
+        self.purpose = purpose_at(stop, self.steps.uniform.put);
         self.way = way_at(stop, self.way);
         Ok(())
     }
@@ -100,7 +100,7 @@ impl Local {
         match self.way {
             Way::On => self.go_on(code, rule, bound),
             _ => {
-                self.step = Step::Close;
+                self.purpose = Purpose::Close;
                 Ok(())
             }
         }
@@ -122,9 +122,9 @@ impl Local {
         let workers = map.modules() as usize;
         let key = self.steps.key;
         key_fits(key);
-        let sent = match self.step {
-            Step::Send => tell_send(rule, map, &self.steps, &mut self.buffers, row),
-            Step::Reply => fill_replies(
+        let sent = match self.purpose {
+            Purpose::Send => tell_send(rule, map, &self.steps, &mut self.buffers, row),
+            Purpose::Reply => fill_replies(
                 row,
                 key,
                 map,
@@ -133,10 +133,10 @@ impl Local {
                 &self.cells,
                 self.buffers.reply.as_mut_slice(),
             ),
-            Step::Vote { destination: _ } => {
+            Purpose::Vote { destination: _ } => {
                 tell_alone(row, workers, key, any_active(&self.steps))
             }
-            Step::Close => tell_alone(row, workers, key, false),
+            Purpose::Close => tell_alone(row, workers, key, false),
         };
         self.buffers.sent = sent;
     }
@@ -150,17 +150,17 @@ impl Local {
         ensures row { (t : Setting) (w : ℕ) (s : State) → IsRow (M.shape map.now).parts
             (λ j. written t.code.rule (message_of t w (marked self.new.way s) j)) (W.filled row.new) }
         ensures read { (t : Setting) (w : ℕ) (s : State) (j : ℕ) → j < (M.shape map.now).parts →
-            IsWrittenFor t.code.rule t.map j (purpose_is self.new.step) (message_of t w (marked self.new.way s) j)
+            IsWrittenFor t.code.rule t.map j (purpose_is self.new.purpose) (message_of t w (marked self.new.way s) j)
             (message_at (W.filled row.new) j) }
         ensures way { self.new.way ≡ way_is_one_of.Stopped mark }
-        ensures step { self.new.step ≡ step_is.Close }
+        ensures purpose { self.new.purpose ≡ purpose_is_one_of.Close }
         ensures steps { self.new.steps ≡ self.old.steps }
         ensures sent { self.new.buffers.sent ≡ words_in (W.filled row.new) }
         ensures room { W.room row.new ≡ W.room row.old }
         ensures kept { W.kept row.old row.new }
     {
         self.way = Way::Stopped { mark };
-        self.step = Step::Close;
+        self.purpose = Purpose::Close;
         self.buffers.sent = tell_mark(row, map.modules() as usize, mark);
     }
 
@@ -174,7 +174,7 @@ impl Local {
         map: &M,
         bound: u32,
         row: &mut W,
-    ) -> Step
+    ) -> Purpose
         requires rule { R.WriteRule.rule rule.now ≡ code.now.rule }
         requires going { MayGoOn code.now (M.shape map.now) bound self.old }
         requires workers { length (W.filled row.old) ≡ (M.shape map.now).parts }
@@ -191,7 +191,7 @@ impl Local {
         // Each is read by the one that it is sent to.
         ensures read { (n : ℕ) (s : State) (j : ℕ) → most_instructions code.now bound < n → j < (M.shape map.now).parts →
             IsShown (setting code.now (M.shape map.now) bound n) self.old.steps.bank.worker self.old s →
-            IsWrittenFor code.now.rule (M.shape map.now) j (purpose_is self.new.step) (message_of (setting code.now (M.shape map.now) bound n)
+            IsWrittenFor code.now.rule (M.shape map.now) j (purpose_is self.new.purpose) (message_of (setting code.now (M.shape map.now) bound n)
             self.old.steps.bank.worker (marked self.new.way s) j) (message_at (W.filled row.new) j) }
         ensures at { is_stopped self.new.way ≡ false → IsAtStep code.now (M.shape map.now) bound self.new }
         ensures worker { is_stopped self.new.way ≡ false → self.new.steps.bank.worker ≡ self.old.steps.bank.worker }
@@ -201,7 +201,7 @@ impl Local {
         ensures past { is_stopped self.new.way ≡ true → (items : ℕ) → HasReserve items self.old.steps.uniform →
             ComesPast code.now (M.shape map.now) bound self.old items }
         ensures reserve { is_stopped self.new.way ≡ false → KeepsReserve self.old.steps.uniform self.new.steps.uniform }
-        ensures step { result ≡ self.new.step }
+        ensures purpose { result ≡ self.new.purpose }
         ensures sent { self.new.buffers.sent ≡ words_in (W.filled row.new) }
         ensures room { W.room row.new ≡ W.room row.old }
         ensures kept { W.kept row.old row.new }
@@ -210,11 +210,11 @@ impl Local {
         match self.arrive(code, rule, map, bound) {
             Ok(()) => {
                 self.tell(rule, map, row);
-                self.step
+                self.purpose
             }
             Err(_) => {
                 self.refuse(map, row, HeaderMark::OutOfMemory);
-                Step::Close
+                Purpose::Close
             }
         }
     }

@@ -7,7 +7,6 @@ mod local;
 mod opening;
 mod refusal;
 mod reserving;
-mod step;
 mod telling;
 mod way;
 
@@ -15,5 +14,4 @@ pub use buffers::Buffers;
 pub use local::Local;
 pub use opening::row_room;
 pub use refusal::RunRefusal;
-pub use step::Step;
 pub use way::Way;

@@ -1,9 +1,9 @@
 //! A worker of a run.
 
 use crate::buffers::Buffers;
-use crate::step::Step;
 use crate::way::Way;
 use combining::{Asks, Cells};
+use superstep_machine::Purpose;
 use worker_steps::WorkerState;
 
 /// A worker of a run: what its instructions act on, the cells of its module, the asks that it sent and that have no answer yet, by worker
@@ -18,5 +18,5 @@ pub struct Local {
     pub buffers: Buffers,
     pub values: Vec<i64>,
     pub way: Way,
-    pub step: Step,
+    pub purpose: Purpose,
 }

@@ -16,13 +16,13 @@ ghost use Rattle.worker_messages.specs.Opened.{IsMapWith, IsAccepted, IsRefusal}
 use crate::buffers::Buffers;
 use crate::local::Local;
 use crate::refusal::RunRefusal;
-use crate::step::Step;
 use crate::way::Way;
 use address_map::AddressMap;
 use combining::{Asks, Cells};
 use pram_model::Rule;
 use std::alloc::{AllocError, Global};
 use superstep_instructions::Code;
+use superstep_machine::Purpose;
 use worker_steps::WorkerState;
 
 // How many words a message has at most for each processor.
@@ -159,7 +159,7 @@ fn open<M: AddressMap>(
         buffers,
         values,
         way: Way::On,
-        step: Step::Close,
+        purpose: Purpose::Close,
     })
 }
 

@@ -10,9 +10,9 @@ mod range;
 mod reads;
 mod registers;
 mod step;
-mod stop;
+mod stretch_end;
 mod worker;
 mod writes;
 
-pub use stop::Stop;
+pub use stretch_end::StretchEnd;
 pub use worker::WorkerState;

@@ -22,7 +22,8 @@ use Rattle.superstep_machine.specs.Setting.{Setting}
 use Rattle.superstep_machine.specs.Run.{Purpose, State, setting, ready, after, message_of, is_over}
 use Rattle.message_rows.specs.Rows.{WrittenMessage, written, message_at, words_in}
 use Rattle.worker_messages.specs.Reached.{most_instructions}
-use Rattle.worker_messages.specs.Shown.{way_is, purpose_is, is_stopped, IsShown}
+use Rattle.superstep_machine.specs.Purposes.{purpose_is}
+use Rattle.worker_messages.specs.Shown.{way_is, is_stopped, IsShown}
 use Rattle.worker_exchange.specs.Received.{messages_to, mark_heard}
 use Rattle.worker_histories.specs.Shares.{Share, purpose_of}
 use Rattle.worker_histories.specs.Histories.{end_by}
@@ -101,7 +102,7 @@ module _ (code : SuperstepCode) (m : Shape) (bound : ℕ) (states : ℕ → Stat
 
   -- what the exchange is for, for the worker that it shows
   for_it : is_stopped new.local.way ≡ false → (n : ℕ) → most_instructions code bound < n →
-      purpose_is mid.local.step ≡ purpose_of (t n) w (states n)
+      purpose_is mid.local.purpose ≡ purpose_of (t n) w (states n)
   for_it h n low = sym (purpose_at code m bound states told w mid row at (alive h) n low)
 
   long : length row ≡ m.parts

@@ -9,6 +9,6 @@ exchanges-preserved c =
     let long = c.drawn-i-end.ensures.drawn in
     let below : c.exchanges.i < length (drawn c.args.counts.now) = omega (arith, test, long) in
     record {
-      all = most_more c.args.counts.now c.exchanges.i c.exchanges.most c.max-most.result c.exchange-step.result.1 below c.exchanges.invariant.all
-          c.exchange-step.ensures.relation c.max-most.ensures;
+      all = most_more c.args.counts.now c.exchanges.i c.exchanges.most c.max-most.result c.exchange-purpose.result.1 below c.exchanges.invariant.all
+          c.exchange-purpose.ensures.relation c.max-most.ensures;
     }

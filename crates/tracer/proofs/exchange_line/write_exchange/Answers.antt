@@ -11,7 +11,7 @@ pub returns-in_err-write_parts : goal.returns-in_err-write_parts
 returns-in_err-write_parts g c =
     let e = exchange_at c.args.counts.now c.args.k in
     let digits = c.as_bytes.ensures.value ∙ c.format.ensures.text in
-    let word = c.kind_word.ensures ∙ ap kind_text c.exchange-step.ensures.purpose in
+    let word = c.kind_word.ensures ∙ ap kind_text c.exchange-purpose.ensures.purpose in
     let at = head_split (decimal c.args.k) (kind_text e.purpose) c.as_bytes.result.now c.kind_word.result.now (behind_sent e) digits word in
     record {
       written = breaks_off _ _ _ _ _ _ (behind_sent e) c.from_residual.result _ c.from_residual.ensures.1 (starts _ _ c.requires.counted) at
@@ -22,7 +22,7 @@ pub returns-in_err-write_sent : goal.returns-in_err-write_sent
 returns-in_err-write_sent g c =
     let e = exchange_at c.args.counts.now c.args.k in
     let digits = c.as_bytes.ensures.value ∙ c.format.ensures.text in
-    let word = c.kind_word.ensures ∙ ap kind_text c.exchange-step.ensures.purpose in
+    let word = c.kind_word.ensures ∙ ap kind_text c.exchange-purpose.ensures.purpose in
     let at = head_split (decimal c.args.k) (kind_text e.purpose) c.as_bytes.result.now c.kind_word.result.now (behind_sent e) digits word in
     let headed = goes_on _ _ _ _ _ _ (behind_sent e) (starts _ _ c.requires.counted) at c.in_ok-write_parts.ensures.written in
     record {
@@ -35,7 +35,7 @@ pub returns-in_err-write_all : goal.returns-in_err-write_all
 returns-in_err-write_all g c =
     let e = exchange_at c.args.counts.now c.args.k in
     let digits = c.as_bytes.ensures.value ∙ c.format.ensures.text in
-    let word = c.kind_word.ensures ∙ ap kind_text c.exchange-step.ensures.purpose in
+    let word = c.kind_word.ensures ∙ ap kind_text c.exchange-purpose.ensures.purpose in
     let at = head_split (decimal c.args.k) (kind_text e.purpose) c.as_bytes.result.now c.kind_word.result.now (behind_sent e) digits word in
     let headed = goes_on _ _ _ _ _ _ (behind_sent e) (starts _ _ c.requires.counted) at c.in_ok-write_parts.ensures.written in
     let sent = goes_on _ _ _ _ _ _ (codes " received" ++ behind_received e) headed refl c.in_ok-write_sent.ensures.written in
@@ -49,7 +49,7 @@ pub returns-in_err-write_received : goal.returns-in_err-write_received
 returns-in_err-write_received g c =
     let e = exchange_at c.args.counts.now c.args.k in
     let digits = c.as_bytes.ensures.value ∙ c.format.ensures.text in
-    let word = c.kind_word.ensures ∙ ap kind_text c.exchange-step.ensures.purpose in
+    let word = c.kind_word.ensures ∙ ap kind_text c.exchange-purpose.ensures.purpose in
     let at = head_split (decimal c.args.k) (kind_text e.purpose) c.as_bytes.result.now c.kind_word.result.now (behind_sent e) digits word in
     let headed = goes_on _ _ _ _ _ _ (behind_sent e) (starts _ _ c.requires.counted) at c.in_ok-write_parts.ensures.written in
     let sent = goes_on _ _ _ _ _ _ (codes " received" ++ behind_received e) headed refl c.in_ok-write_sent.ensures.written in
@@ -64,13 +64,13 @@ pub returns : goal.returns
 returns g c =
     let e = exchange_at c.args.counts.now c.args.k in
     let digits = c.as_bytes.ensures.value ∙ c.format.ensures.text in
-    let word = c.kind_word.ensures ∙ ap kind_text c.exchange-step.ensures.purpose in
+    let word = c.kind_word.ensures ∙ ap kind_text c.exchange-purpose.ensures.purpose in
     let at = head_split (decimal c.args.k) (kind_text e.purpose) c.as_bytes.result.now c.kind_word.result.now (behind_sent e) digits word in
     let headed = goes_on _ _ _ _ _ _ (behind_sent e) (starts _ _ c.requires.counted) at c.in_ok-write_parts.ensures.written in
     let sent = goes_on _ _ _ _ _ _ (codes " received" ++ behind_received e) headed refl c.in_ok-write_sent.ensures.written in
     let named = goes_on _ _ _ _ _ _ (behind_received e) sent refl c.in_ok-write_all.ensures.written in
     let received = goes_on _ _ _ _ _ _ (ending e) named refl c.in_ok-write_received.ensures.written in
-    let relation = c.as_bytes-2.ensures.value ∙ c.format-2.ensures.text ∙ ap decimal c.exchange-step.ensures.relation in
+    let relation = c.as_bytes-2.ensures.value ∙ c.format-2.ensures.text ∙ ap decimal c.exchange-purpose.ensures.relation in
     record {
       written = closes _ _ _ _ (ending e) c.write_parts-2.result received
           (subst

@@ -1,8 +1,9 @@
 use Rattle.std.proofs.Common.{◌<◌, sym, subst, ◌∙◌, arith}
 use Rattle.superstep_machine.specs.Setting.{workers}
 use Rattle.superstep_machine.specs.Run.{setting, ready, after_exchange, Votes}
-use Rattle.worker_messages.specs.declared.step.Step.{Step}
-use Rattle.worker_messages.specs.Shown.{purpose_is, ShowsWorker}
+use Rattle.superstep_machine.specs.declared.purpose.Purpose.{Purpose}
+use Rattle.superstep_machine.specs.Purposes.{purpose_is}
+use Rattle.worker_messages.specs.Shown.{ShowsWorker}
 use Rattle.worker_exchange.specs.Received.{messages_to}
 use Rattle.worker_exchange.proofs.TakeLemmas.{asks_sent, asks_below}
 use Rattle.worker_exchange.proofs.HeardLemmas.{votes_heard}
@@ -20,8 +21,8 @@ returns-in-Send-clause-shows g c = λ n s enough here.
     let below = c.requires.at.equipped.fitted.worker in
     let many = c.requires.at.equipped.workers in
     let lt : w < workers t = omega (arith, below, many) in
-    subst (λ (step : Step). ShowsWorker t w c.take_send.new.local
-    (after_exchange t w (purpose_is step) y (messages_to code.rule m w (purpose_is step) came))) (sym c.in-Send.is)
+    subst (λ (purpose : Purpose). ShowsWorker t w c.take_send.new.local
+    (after_exchange t w (purpose_is purpose) y (messages_to code.rule m w (purpose_is purpose) came))) (sym c.in-Send.is)
     (c.take_send.ensures.shows code c.args.bound n y c.requires.rule here.worker
     (asks_sent t c.instructions-instructions.ensures.stands c.requires.runnable x lt s here c.in-Send.is))
 
@@ -46,8 +47,8 @@ returns-in-Reply-clause-shows g c = λ n s enough here.
     let w = c.args.local.now.steps.bank.worker in
     let came = g.C.Column.came c.args.column.now in
     let y = (ready t w s).state.worker in
-    subst (λ (step : Step). ShowsWorker t w c.take_reply.new.local
-    (after_exchange t w (purpose_is step) y (messages_to code.rule m w (purpose_is step) came))) (sym c.in-Reply.is)
+    subst (λ (purpose : Purpose). ShowsWorker t w c.take_reply.new.local
+    (after_exchange t w (purpose_is purpose) y (messages_to code.rule m w (purpose_is purpose) came))) (sym c.in-Reply.is)
     (c.take_reply.ensures.shows code c.args.bound n y here.worker)
 
 pub returns-in-Vote-clause-shows : goal.returns-in-Vote-clause-shows
@@ -59,7 +60,7 @@ returns-in-Vote-clause-shows g c = λ n s enough here.
     let came = g.C.Column.came c.args.column.now in
     let d = c.in-Vote.destination in
     let y = (ready t w s).state.worker in
-    subst (λ (step : Step). ShowsWorker t w c.take_vote.new.local
-    (after_exchange t w (purpose_is step) y (messages_to code.rule m w (purpose_is step) came))) (sym c.in-Vote.is)
+    subst (λ (purpose : Purpose). ShowsWorker t w c.take_vote.new.local
+    (after_exchange t w (purpose_is purpose) y (messages_to code.rule m w (purpose_is purpose) came))) (sym c.in-Vote.is)
     (c.take_vote.ensures.shows t w y (messages_to code.rule m w (Votes d) came)
     (votes_heard code.rule m w (Votes d) came ∙ sym c.requires.active) here.worker)

@@ -8,7 +8,7 @@ use Rattle.machine_limits.proofs.Shares.{few_processors}
 use Rattle.combining.specs.Asked.{IsAskBelow}
 use Rattle.worker_messages.specs.declared.local.Local.{Local}
 use Rattle.worker_messages.specs.declared.way.Way.TheVariants as ways
-use Rattle.worker_messages.specs.declared.step.Step.TheVariants as steps
+use Rattle.superstep_machine.specs.declared.purpose.Purpose.TheVariants as purposes
 use Rattle.worker_messages.specs.Shown.{IsShown}
 use Rattle.worker_messages.specs.Equipped.{IsEquipped, HaveRoom, AreBuffers, most_words}
 use Rattle.worker_messages.proofs.OpeningLemmas.{opens, may_open}
@@ -26,7 +26,7 @@ returns-clause-shown g c = λ bound n.
       buffers = c.in_ok-buffers.buffers;
       values = c.in_ok-values.values;
       way = ways.On;
-      step = steps.Close;
+      purpose = purposes.Close;
     } in
     let here : x.steps.bank.worker ≡ c.args.worker = c.in_ok-steps.ensures.worker.0 in
     subst (λ w. IsShown (setting code m bound n) w x (opening (setting code m bound n) c.args.input.now w)) here
@@ -47,7 +47,7 @@ returns-clause-going g c = λ bound runnable.
       buffers = c.in_ok-buffers.buffers;
       values = c.in_ok-values.values;
       way = ways.On;
-      step = steps.Close;
+      purpose = purposes.Close;
     } in
     let here : x.steps.bank.worker ≡ c.args.worker = c.in_ok-steps.ensures.worker.0 in
     let many : x.steps.bank.workers ≡ m.parts = c.in_ok-steps.ensures.worker.1 ∙ c.modules-workers.ensures in

@@ -4,7 +4,8 @@ use Rattle.std.proofs.lemmas.Bool.Decides.{nat_tests}
 use Rattle.superstep_machine.specs.declared.mark.HeaderMark.TheVariants.{OutOfReserve}
 use Rattle.superstep_machine.specs.Run.{setting, ready, message_of}
 use Rattle.message_rows.specs.Rows.{IsRow, written, message_at}
-use Rattle.worker_messages.specs.Shown.{purpose_is, marked, is_stopped, IsShown, IsAtExchange}
+use Rattle.superstep_machine.specs.Purposes.{purpose_is}
+use Rattle.worker_messages.specs.Shown.{marked, is_stopped, IsShown, IsAtExchange}
 use Rattle.worker_messages.specs.MessagesWritten.{IsWrittenFor}
 use Rattle.run_options.specs.declared.reserve.Reserve.{Reserve}
 use Rattle.bsp_machine.specs.Reserves.{is_past, own_mark}
@@ -15,14 +16,14 @@ use Rattle.bsp_machine.proofs.counted.CountedWorker.go_on_reserved.Goals as goal
 pub refuse-requires-clause-workers : goal.refuse-requires-clause-workers
 refuse-requires-clause-workers g c =
     let r = c.requires.going in
-    (c.until_exchange-step.ensures.row r.enough r.state r.is_enough r.shown).long
+    (c.until_exchange-purpose.ensures.row r.enough r.state r.is_enough r.shown).long
 
 pub returns-then-is_past-clause-at : goal.returns-then-is_past-clause-at
 returns-then-is_past-clause-at g c = λ states told w b.
     let code = c.args.code.now in
     let m = g.M.AddressMap.shape c.args.map.now in
     let x = c.args.self.now in
-    let step = c.until_exchange-step.ensures in
+    let purpose = c.until_exchange-purpose.ensures in
     let alive = going_on x.local.way c.requires.going.going in
     let had = b.reserved alive c.args.reserve c.requires.reserve in
     let e = c.refuse.ensures in
@@ -31,7 +32,7 @@ returns-then-is_past-clause-at g c = λ states told w b.
     (λ r n some low. subst (λ (q : Reserve). is_past q
     (length (ready (setting code m c.args.bound n) w (states n)).state.worker.uniform.output) (length (told n)) ≡ true)
     (one_reserve x.reserve c.args.reserve r c.requires.reserve some)
-    (past_is code m c.args.bound states told w x c.until_exchange-step.new.self c.args.reserve b alive had.0 had.2 step.shown step.past n low
+    (past_is code m c.args.bound states told w x c.until_exchange-purpose.new.self c.args.reserve b alive had.0 had.2 purpose.shown purpose.past n low
     ∙ sym c.is_past.ensures ∙ c.if-is_past.true))
     e.row e.read
 
@@ -41,9 +42,9 @@ returns-else-is_past-clause-at g c = λ states told w b.
     let m = g.M.AddressMap.shape c.args.map.now in
     let x = c.args.self.now in
     let old = x.local in
-    let new = c.until_exchange-step.new.self in
-    let row = g.W.Row.filled c.until_exchange-step.new.row in
-    let e = c.until_exchange-step.ensures in
+    let new = c.until_exchange-purpose.new.self in
+    let row = g.W.Row.filled c.until_exchange-purpose.new.row in
+    let e = c.until_exchange-purpose.ensures in
     let alive = going_on old.way c.requires.going.going in
     let same = b.worker alive in
     let had = b.reserved alive c.args.reserve c.requires.reserve in
@@ -66,7 +67,7 @@ returns-else-is_past-clause-at g c = λ states told w b.
       read = λ n j low inside.
           let t = setting code m c.args.bound n in
           let s = states n in
-          subst (λ v. IsWrittenFor code.rule m j (purpose_is new.step) (message_of t v (marked new.way s) j) (message_at row j)) same
+          subst (λ v. IsWrittenFor code.rule m j (purpose_is new.purpose) (message_of t v (marked new.way s) j) (message_at row j)) same
           (e.read n s j low inside (subst (λ v. IsShown t v old s) (sym same) (b.shown alive n low)));
       refused = λ mark h. absurd (never new.way mark h on.0);
       past = λ r n some low. on.0 ∙ sym (subst (λ (q : Reserve). is_past q

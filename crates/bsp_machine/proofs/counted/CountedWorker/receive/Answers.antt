@@ -3,7 +3,8 @@ use Rattle.superstep_machine.specs.Run.{setting, ready, after}
 use Rattle.flat_machine.proofs.Lists.{map_joined}
 use Rattle.message_rows.specs.Rows.{words_in}
 use Rattle.worker_messages.specs.Reached.{most_instructions}
-use Rattle.worker_messages.specs.Shown.{is_stopped, purpose_is, IsShown, IsAtExchange}
+use Rattle.superstep_machine.specs.Purposes.{purpose_is}
+use Rattle.worker_messages.specs.Shown.{is_stopped, IsShown, IsAtExchange}
 use Rattle.worker_exchange.specs.Received.{is_marked, mark_heard, messages_to}
 use Rattle.bsp_machine.specs.Workers.{share_told, share_at, count_of}
 use Rattle.bsp_machine.proofs.MarkLemmas.{going_on, or_false}
@@ -26,7 +27,7 @@ returns-clause-behind g c = λ states told w row at.
           let t = setting code m c.args.bound n in
           let s = states n in
           let same = at.worker (alive h) in
-          subst (λ v. IsShown t v new (after t v (ready t v s) (messages_to code.rule m v (purpose_is old.step) came))) same
+          subst (λ v. IsShown t v new (after t v (ready t v s) (messages_to code.rule m v (purpose_is old.purpose) came))) same
           (e.shown h n s low (subst (λ v. IsAtExchange t v old s) (sym same) (at.shown (alive h) n low)));
       going = λ h.
           let on = going_on new.way h in
@@ -37,7 +38,7 @@ returns-clause-behind g c = λ states told w row at.
           (subst (λ v. IsAtExchange t v old (states n)) (sym (at.worker (alive on))) (at.shown (alive on) n low));
       counted = λ h n low.
           let count = count_of old (words_in came) in
-          ap (map share_told) (c.count.ensures.counted (c.requires.ready.step (alive h)).going)
+          ap (map share_told) (c.count.ensures.counted (c.requires.ready.purpose (alive h)).going)
           ∙ map_joined share_told x.counts.items (count ∷ [])
           ∙ (λ i. at.counted (alive h) n low i ++ record (share_at x row came) { sent = at.sent (alive h) i } ∷ []);
       items = λ h.

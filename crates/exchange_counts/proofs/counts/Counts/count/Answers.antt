@@ -1,6 +1,6 @@
 use Rattle.std.proofs.Common.{◌≡◌, ◌<◌, ◌-◌, length, ap, sym, ◌∙◌, arith}
 use Rattle.std.proofs.lemmas.List.{length-map}
-use Rattle.worker_messages.specs.Shown.{purpose_is}
+use Rattle.superstep_machine.specs.Purposes.{purpose_is}
 use Rattle.exchange_counts.specs.declared.count.Count.{Count}
 use Rattle.exchange_counts.specs.Columns.{columns_of, column_of, entry_of}
 use Rattle.exchange_counts.proofs.CountedExchangeLemmas.{Column, column_is, entry_is, inside, sent_many, sent_is, received_is, purpose_seen}
@@ -82,6 +82,6 @@ returns-clause-purpose c = λ zeroth.
     let is : c.index-2.result.now ≡ entry_of (k - 1) (column_of columns c.args.w) =
     entry_is (column_of columns c.args.w) c.index.result.now.items (k - 1) c.index-2.result.now column
     (let one = c.requires.first in omega (arith, within, long, one)) c.index-2.ensures in
-    ap (λ (x : Count). purpose_is x.step) is
-    ∙ ap (λ w. purpose_is (entry_of (k - 1) (column_of columns w)).step) zeroth
+    ap (λ (x : Count). purpose_is x.purpose) is
+    ∙ ap (λ w. purpose_is (entry_of (k - 1) (column_of columns w)).purpose) zeroth
     ∙ sym (purpose_seen columns c.args.self.now c.self.view_is k c.requires.first c.requires.last c.self.invariant.some)

@@ -1,5 +1,5 @@
 use Rattle.std.proofs.Common.{sym, subst}
-use Rattle.worker_messages.specs.declared.step.Step.{Step}
+use Rattle.superstep_machine.specs.declared.purpose.Purpose.{Purpose}
 use Rattle.worker_messages.specs.declared.way.Way.{Way}
 use Rattle.worker_messages.specs.Arrived.{HasArrived}
 use Rattle.worker_messages.proofs.ArrivedLemmas.{arrived}
@@ -12,7 +12,7 @@ returns-clause-arrived g c = λ m go.
     let a = c.args.self.now in
     let y = c.advance.new.self in
     let e = c.in_ok-stop.ensures in
-    subst (λ (p : Way × Step). HasArrived code m bound a (record a { steps = y; way = p.0; step = p.1 }))
-    (λ i. (sym c.way_at-self.ensures i, sym c.step_at-self.ensures i))
+    subst (λ (p : Way × Purpose). HasArrived code m bound a (record a { steps = y; way = p.0; purpose = p.1 }))
+    (λ i. (sym c.way_at-self.ensures i, sym c.purpose_at-self.ensures i))
     (arrived code m bound c.instructions-instructions.ensures.stands a y c.requires.on go c.in_ok-stop.stop e.arrives e.stands e.fitted
     e.verified e.count e.same e.rank)

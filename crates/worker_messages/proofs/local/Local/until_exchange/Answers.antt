@@ -3,7 +3,8 @@ use Rattle.message_rows.specs.Rows.{IsRow, written, message_at}
 use Rattle.superstep_machine.specs.Run.{setting, message_of}
 use Rattle.instruction_steps.specs.Views.{KeepsReserve}
 use Rattle.worker_messages.specs.declared.local.Local.{Local}
-use Rattle.worker_messages.specs.Shown.{purpose_is, marked, IsAtExchange}
+use Rattle.superstep_machine.specs.Purposes.{purpose_is}
+use Rattle.worker_messages.specs.Shown.{marked, IsAtExchange}
 use Rattle.worker_messages.specs.Equipped.{IsAtStep}
 use Rattle.worker_messages.specs.Arrived.{CanTell}
 use Rattle.worker_messages.specs.MessagesWritten.{told, IsWrittenFor}
@@ -76,10 +77,10 @@ returns-in-Ok-clause-read g c = λ n s j enough low shown.
     let is : message_at row j ≡ written code.rule (message_of t w s j) =
     (subst (λ r. IsRow m.parts (told r m b) row) c.requires.rule c.tell.ensures.filled).each j low
     ∙ told_is t stands run.map run.formed w lt b s shows same j in
-    subst (λ (x : Local). IsWrittenFor code.rule m j (purpose_is x.step) (message_of t w (marked c.tell.new.self.way s) j) (message_at row j))
+    subst (λ (x : Local). IsWrittenFor code.rule m j (purpose_is x.purpose) (message_of t w (marked c.tell.new.self.way s) j) (message_at row j))
     (sym c.tell.ensures.same)
-    (subst (λ q. IsWrittenFor code.rule m j (purpose_is b.step) (message_of t w q j) (message_at row j)) (sym clear)
-    (subst (λ x. IsWrittenFor code.rule m j (purpose_is b.step) (message_of t w s j) x) (sym is)
+    (subst (λ q. IsWrittenFor code.rule m j (purpose_is b.purpose) (message_of t w q j) (message_at row j)) (sym clear)
+    (subst (λ x. IsWrittenFor code.rule m j (purpose_is b.purpose) (message_of t w s j) x) (sym is)
     (told_back t stands run.map run.formed w lt b s shows same c.tell.ensures.keys j)))
 
 pub returns-in-Ok-clause-reserve : goal.returns-in-Ok-clause-reserve

@@ -1,8 +1,9 @@
-//! Why a worker stops between two instructions.
+//! What ends a stretch of instructions.
 
-/// What the next exchange is for.
+/// Why a worker stops between two instructions: what the code asks for there. It is not yet what the next exchange is for: a run that
+/// closes sends first what is held.
 #[derive(Clone, Copy, Debug, PartialEq, Eq)]
-pub enum Stop {
+pub enum StretchEnd {
     /// To send what is held.
     Send,
     /// For the answers to what was sent.

@@ -1,8 +1,8 @@
 //! What an exchange is for.
 
-/// What an exchange is for.
+/// What an exchange is for. It is the one word for that, of workers, of their counts and traces, and of the run on one memory.
 #[derive(Clone, Copy, Debug, PartialEq, Eq)]
-pub enum Step {
+pub enum Purpose {
     /// What is held goes to the modules.
     Send,
     /// The modules answer what they were asked.
