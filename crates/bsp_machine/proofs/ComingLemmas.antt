@@ -20,10 +20,10 @@ use Rattle.flat_machine.proofs.Laws.{one_exchange}
 use Rattle.flat_machine.proofs.Lists.{map_twice, map_itself}
 use Rattle.bsp_verify.specs.Runs.{worker_after}
 use Rattle.std.proofs.lemmas.List.Sums.{sum_by-cons}
-use Rattle.message_rows.specs.Rows.{WrittenMessage, message_at, words_in, unwritten}
-use Rattle.worker_messages.specs.Reached.{most_instructions}
+use Rattle.worker_exchange.specs.Rows.{WrittenMessage, message_at, words_in, unwritten}
+use Rattle.worker_exchange.specs.Reached.{most_instructions}
 use Rattle.superstep_machine.specs.Purposes.{purpose_is}
-use Rattle.worker_messages.specs.Shown.{is_stopped, IsShown}
+use Rattle.worker_exchange.specs.Shown.{is_stopped, IsShown}
 use Rattle.worker_exchange.specs.Received.{mark_heard, is_marked}
 use Rattle.bsp_machine.specs.declared.counted.CountedWorker.{CountedWorker}
 use Rattle.bsp_machine.specs.declared.sheet.Sheet.{Sheet}

@@ -10,14 +10,14 @@ use Rattle.superstep_machine.specs.Setting.{Setting}
 use Rattle.superstep_machine.specs.Parts.{UniformPart}
 use Rattle.superstep_machine.specs.Run.{State, setting, message_of, ready}
 use Rattle.instruction_steps.specs.Views.{HasReserve}
-use Rattle.message_rows.specs.Rows.{WrittenMessage, IsRow, written, message_at}
-use Rattle.worker_messages.specs.declared.way.Way.TheVariants.{Stopped}
-use Rattle.worker_messages.specs.declared.local.Local.{Local}
-use Rattle.worker_messages.specs.Reached.{most_instructions}
+use Rattle.worker_exchange.specs.Rows.{WrittenMessage, IsRow, written, message_at}
+use Rattle.worker_exchange.specs.declared.way.Way.TheVariants.{Stopped}
+use Rattle.worker_exchange.specs.declared.local.Local.{Local}
+use Rattle.worker_exchange.specs.Reached.{most_instructions}
 use Rattle.superstep_machine.specs.Purposes.{purpose_is}
-use Rattle.worker_messages.specs.Shown.{marked, is_stopped, IsShown, IsAtExchange}
-use Rattle.worker_messages.specs.Arrived.{ComesPast}
-use Rattle.worker_messages.specs.MessagesWritten.{IsWrittenFor}
+use Rattle.worker_exchange.specs.Shown.{marked, is_stopped, IsShown, IsAtExchange}
+use Rattle.worker_exchange.specs.Arrived.{ComesPast}
+use Rattle.worker_exchange.specs.MessagesWritten.{IsWrittenFor}
 use Rattle.bsp_machine.specs.declared.counted.CountedWorker.{CountedWorker}
 use Rattle.run_options.specs.declared.reserve.Reserve.{Reserve}
 use Rattle.worker_histories.specs.Shares.{Share}

@@ -10,11 +10,11 @@ use Rattle.superstep_machine.specs.Run.{is_over, setting}
 use Rattle.bsp_verify.specs.Runs.{worker_after}
 use Rattle.flat_machine.specs.Flatness.{IsMapFor}
 use Rattle.flat_machine.proofs.Laws.{one_control_after}
-use Rattle.worker_messages.specs.declared.way.Way.{Way}
-use Rattle.worker_messages.specs.declared.way.Way.TheVariants as ways
-use Rattle.worker_messages.specs.Reached.{most_instructions}
-use Rattle.worker_messages.specs.Shown.{way_is, is_stopped}
-use Rattle.worker_messages.specs.Equipped.{left, left_by}
+use Rattle.worker_exchange.specs.declared.way.Way.{Way}
+use Rattle.worker_exchange.specs.declared.way.Way.TheVariants as ways
+use Rattle.worker_exchange.specs.Reached.{most_instructions}
+use Rattle.worker_exchange.specs.Shown.{way_is, is_stopped}
+use Rattle.worker_exchange.specs.Equipped.{left, left_by}
 use Rattle.bsp_machine.specs.declared.counted.CountedWorker.{CountedWorker}
 use Rattle.bsp_machine.specs.Workers.{MayAllGoOn}
 use Rattle.bsp_machine.specs.Ended.{left_first, AreRunning}

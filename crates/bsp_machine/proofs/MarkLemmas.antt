@@ -12,10 +12,10 @@ use Rattle.superstep_machine.specs.Marks.{worse}
 use Rattle.superstep_machine.specs.HeaderWords.{read_header}
 use Rattle.superstep_machine.specs.WordReading.{read_message}
 use Rattle.superstep_machine.specs.Run.{Purpose, Sends, Replies, Votes, Closes, State, is_over}
-use Rattle.message_rows.specs.Rows.{WrittenMessage}
-use Rattle.worker_messages.specs.declared.way.Way.{Way}
-use Rattle.worker_messages.specs.declared.way.Way.TheVariants as ways
-use Rattle.worker_messages.specs.Shown.{way_is, is_stopped, marked}
+use Rattle.worker_exchange.specs.Rows.{WrittenMessage}
+use Rattle.worker_exchange.specs.declared.way.Way.{Way}
+use Rattle.worker_exchange.specs.declared.way.Way.TheVariants as ways
+use Rattle.worker_exchange.specs.Shown.{way_is, is_stopped, marked}
 use Rattle.worker_exchange.specs.Received.{mark_heard, is_marked}
 use Rattle.bsp_machine.specs.declared.counted.CountedWorker.{CountedWorker}
 use Rattle.run_options.specs.declared.reserve.Reserve.{Reserve}

@@ -21,11 +21,11 @@ use Rattle.flat_machine.specs.Flatness.{IsMapFor}
 use Rattle.flat_machine.specs.ByExchanges as flat
 use Rattle.flat_machine.proofs.Runs.{phases_agree, opening_agrees}
 use Rattle.flat_machine.proofs.Lists.{map_twice}
-use Rattle.worker_messages.specs.declared.way.Way.{Way}
-use Rattle.worker_messages.specs.declared.way.Way.TheVariants as ways
-use Rattle.worker_messages.specs.Reached.{most_instructions}
+use Rattle.worker_exchange.specs.declared.way.Way.{Way}
+use Rattle.worker_exchange.specs.declared.way.Way.TheVariants as ways
+use Rattle.worker_exchange.specs.Reached.{most_instructions}
 use Rattle.superstep_machine.specs.Purposes.{purpose_is}
-use Rattle.worker_messages.specs.Shown.{way_is, is_stopped, IsShown}
+use Rattle.worker_exchange.specs.Shown.{way_is, is_stopped, IsShown}
 use Rattle.exchange_counts.specs.declared.count.Count.{Count}
 use Rattle.exchange_counts.specs.Columns.{column_of, entry_of, nothing, AreColumns}
 use Rattle.exchange_counts.specs.CountedExchanges.{exchange_told, exchanges_told}

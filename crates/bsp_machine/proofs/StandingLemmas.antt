@@ -7,12 +7,12 @@ use Rattle.superstep_machine.specs.Words.{Message}
 use Rattle.superstep_machine.specs.WordReading.{read_message}
 use Rattle.superstep_machine.specs.Setting.{Setting}
 use Rattle.superstep_machine.specs.Run.{State, setting, ready, message_of, mark_now}
-use Rattle.message_rows.specs.Rows.{WrittenMessage, written, message_at}
-use Rattle.worker_messages.specs.declared.way.Way.{Way}
-use Rattle.worker_messages.specs.declared.way.Way.TheVariants as ways
-use Rattle.worker_messages.specs.Reached.{most_instructions}
+use Rattle.worker_exchange.specs.Rows.{WrittenMessage, written, message_at}
+use Rattle.worker_exchange.specs.declared.way.Way.{Way}
+use Rattle.worker_exchange.specs.declared.way.Way.TheVariants as ways
+use Rattle.worker_exchange.specs.Reached.{most_instructions}
 use Rattle.superstep_machine.specs.Purposes.{purpose_is}
-use Rattle.worker_messages.specs.Shown.{is_stopped, marked}
+use Rattle.worker_exchange.specs.Shown.{is_stopped, marked}
 use Rattle.worker_exchange.specs.Received.{is_marked}
 use Rattle.worker_histories.specs.Shares.{Share}
 use Rattle.bsp_machine.specs.declared.counted.CountedWorker.{CountedWorker}

@@ -1,7 +1,7 @@
 -- No message of a column has more words than the longest.
 use Rattle.std.proofs.Common.{ℕ, zero, suc, ◌≤◌, List, [], ◌∷◌, length, arith}
 use Rattle.std.proofs.lemmas.Bool.Decides.{nat_tests}
-use Rattle.message_rows.specs.Rows.{WrittenMessage, message_at}
+use Rattle.worker_exchange.specs.Rows.{WrittenMessage, message_at}
 use Rattle.bsp_machine.specs.Sheets.{longest}
 
 pub none_longer : (came : List WrittenMessage) (i : ℕ) → length (message_at came i).words ≤ longest came

@@ -8,9 +8,9 @@ use Rattle.superstep_machine.specs.Setting.{workers}
 use Rattle.superstep_machine.specs.Run.{bsp, opening, is_over, setting}
 use Rattle.write_rules.specs.declared.outcome.Outcome.{Outcome}
 use Rattle.write_rules.specs.Verdict.{Verdict, verdict_of}
-use Rattle.worker_messages.specs.Reached.{most_instructions}
-use Rattle.worker_messages.specs.Shown.{way_is, is_stopped}
-use Rattle.worker_messages.specs.Equipped.{most_words, left, IsRunnable}
+use Rattle.worker_exchange.specs.Reached.{most_instructions}
+use Rattle.worker_exchange.specs.Shown.{way_is, is_stopped}
+use Rattle.worker_exchange.specs.Equipped.{most_words, left, IsRunnable}
 use Rattle.exchange_counts.specs.declared.count.Count.{Count}
 use Rattle.worker_histories.specs.Histories.{GoesOn}
 use Rattle.bsp_machine.specs.declared.counted.CountedWorker.{CountedWorker}

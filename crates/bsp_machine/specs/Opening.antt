@@ -4,8 +4,8 @@ use Rattle.pram_model.specs.Layout.{total_size}
 use Rattle.address_map.specs.Lawful.{Shape}
 use Rattle.superstep_instructions.specs.Code.{SuperstepCode}
 use Rattle.superstep_machine.specs.Run.{opening, setting}
-use Rattle.worker_messages.specs.Shown.{IsShown}
-use Rattle.worker_messages.specs.Equipped.{MayGoOn}
+use Rattle.worker_exchange.specs.Shown.{IsShown}
+use Rattle.worker_exchange.specs.Equipped.{MayGoOn}
 use Rattle.bsp_machine.specs.declared.counted.CountedWorker.{CountedWorker}
 use Rattle.bsp_machine.specs.declared.end_room.EndRoom.{EndRoom}
 use Rattle.bsp_machine.specs.Reserves.{IsReserved}

@@ -5,11 +5,11 @@ use Rattle.superstep_machine.specs.declared.mark.HeaderMark.{HeaderMark}
 use Rattle.superstep_machine.specs.declared.mark.HeaderMark.TheVariants.{Clear, OutOfMemory, OutOfReserve}
 use Rattle.superstep_machine.specs.HeaderWords.{read_header}
 use Rattle.instruction_steps.specs.Views.{HasReserve}
-use Rattle.message_rows.specs.Rows.{WrittenMessage}
-use Rattle.worker_messages.specs.declared.refusal.RunRefusal.{RunRefusal}
-use Rattle.worker_messages.specs.declared.refusal.RunRefusal.TheVariants as refusals
-use Rattle.worker_messages.specs.declared.way.Way.{Way}
-use Rattle.worker_messages.specs.declared.way.Way.TheVariants.{Stopped}
+use Rattle.worker_exchange.specs.Rows.{WrittenMessage}
+use Rattle.worker_exchange.specs.declared.refusal.RunRefusal.{RunRefusal}
+use Rattle.worker_exchange.specs.declared.refusal.RunRefusal.TheVariants as refusals
+use Rattle.worker_exchange.specs.declared.way.Way.{Way}
+use Rattle.worker_exchange.specs.declared.way.Way.TheVariants.{Stopped}
 use Rattle.bsp_machine.specs.declared.counted.CountedWorker.{CountedWorker}
 use Rattle.run_options.specs.declared.reserve.Reserve.{Reserve}
 

@@ -1,6 +1,6 @@
 -- What rows and columns of messages stand for.
 use Rattle.std.specs.Prelude.{◌≡◌, ℕ, List, [], ◌∷◌, map, length, vec_capacity, slice_index_or, replicate, nat_le, if◌then◌else◌}
-use Rattle.message_rows.specs.Rows.{WrittenMessage}
+use Rattle.worker_exchange.specs.Rows.{WrittenMessage}
 use Rattle.bsp_machine.specs.declared.letter.Letter.{Letter}
 use Rattle.bsp_machine.specs.declared.sheet.Sheet.{Sheet}
 

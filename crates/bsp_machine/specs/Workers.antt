@@ -9,15 +9,15 @@ use Rattle.superstep_machine.specs.Machine.{column}
 use Rattle.superstep_machine.specs.Run.{State, bsp, after, is_over, message_of, ready, setting}
 use Rattle.superstep_machine.specs.Trace.{exchange_of, sum_over, words_between}
 use Rattle.bsp_verify.specs.Runs.{worker_after}
-use Rattle.message_rows.specs.Rows.{WrittenMessage, IsRow, written, message_at, words_in}
+use Rattle.worker_exchange.specs.Rows.{WrittenMessage, IsRow, written, message_at, words_in}
 use Rattle.superstep_machine.specs.declared.purpose.Purpose.{Purpose}
-use Rattle.worker_messages.specs.declared.way.Way.TheVariants.{Stopped}
-use Rattle.worker_messages.specs.declared.local.Local.{Local}
-use Rattle.worker_messages.specs.Reached.{most_instructions}
+use Rattle.worker_exchange.specs.declared.way.Way.TheVariants.{Stopped}
+use Rattle.worker_exchange.specs.declared.local.Local.{Local}
+use Rattle.worker_exchange.specs.Reached.{most_instructions}
 use Rattle.superstep_machine.specs.Purposes.{purpose_is}
-use Rattle.worker_messages.specs.Shown.{way_is, is_stopped, marked, IsShown, IsAtExchange}
-use Rattle.worker_messages.specs.Equipped.{MayGoOn, IsAtStep}
-use Rattle.worker_messages.specs.MessagesWritten.{IsWrittenFor}
+use Rattle.worker_exchange.specs.Shown.{way_is, is_stopped, marked, IsShown, IsAtExchange}
+use Rattle.worker_exchange.specs.Equipped.{MayGoOn, IsAtStep}
+use Rattle.worker_exchange.specs.MessagesWritten.{IsWrittenFor}
 use Rattle.worker_exchange.specs.Received.{messages_to}
 use Rattle.exchange_counts.specs.declared.count.Count.{Count}
 use Rattle.worker_histories.specs.Shares.{Share, share_of}

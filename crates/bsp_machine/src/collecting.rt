@@ -4,7 +4,7 @@ ghost use Rattle.std.specs.Prelude.{◌≡◌, ◌<◌, ℕ, List, ℤ, Option, 
 ghost use Rattle.write_rules.specs.Verdict.{verdict_of};
 ghost use Rattle.superstep_machine.specs.Run.{IsBspOutcome};
 ghost use Rattle.superstep_machine.specs.Trace.{AreBspExchanges};
-ghost use Rattle.worker_messages.specs.Equipped.{IsRunnable};
+ghost use Rattle.worker_exchange.specs.Equipped.{IsRunnable};
 ghost use Rattle.bsp_machine.specs.declared.counted.CountedWorker.{CountedWorker as Counted};
 ghost use Rattle.run_options.specs.declared.reserve.Reserve.{Reserve as Given};
 ghost use Rattle.bsp_machine.specs.Reserves.{refusal_by as spec_refusal_by, refusal_for, AreGiven};
@@ -20,7 +20,7 @@ use exchange_counts::Counts;
 use std::mem;
 use superstep_instructions::Code;
 use superstep_machine::HeaderMark;
-use worker_messages::{RunRefusal, Way};
+use worker_exchange::{RunRefusal, Way};
 use write_rules::Outcome;
 
 // Takes worker 0's room for items.

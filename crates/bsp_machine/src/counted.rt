@@ -8,12 +8,12 @@ ghost use Rattle.superstep_machine.specs.declared.mark.HeaderMark.{HeaderMark as
 ghost use Rattle.superstep_machine.specs.Run.{State, is_over as spec_is_over, opening, setting};
 ghost use Rattle.address_map.specs.Lawful.{Shape};
 ghost use Rattle.bsp_verify.specs.WellFormed.{IsWellFormed};
-ghost use Rattle.message_rows.specs.Rows.{WrittenMessage, words_in};
-ghost use Rattle.worker_messages.specs.declared.way.Way.TheVariants as way_is_one_of;
-ghost use Rattle.worker_messages.specs.Shown.{is_stopped as spec_is_stopped, way_is};
-ghost use Rattle.worker_messages.specs.Equipped.{most_words, left, left_at, IsRunnable, MayGoOn};
-ghost use Rattle.worker_messages.specs.Opened.{IsAccepted, IsRefusal};
-ghost use Rattle.worker_messages.specs.Reached.{most_instructions};
+ghost use Rattle.worker_exchange.specs.Rows.{WrittenMessage, words_in};
+ghost use Rattle.worker_exchange.specs.declared.way.Way.TheVariants as way_is_one_of;
+ghost use Rattle.worker_exchange.specs.Shown.{is_stopped as spec_is_stopped, way_is};
+ghost use Rattle.worker_exchange.specs.Equipped.{most_words, left, left_at, IsRunnable, MayGoOn};
+ghost use Rattle.worker_exchange.specs.Opened.{IsAccepted, IsRefusal};
+ghost use Rattle.worker_exchange.specs.Reached.{most_instructions};
 ghost use Rattle.worker_exchange.specs.Received.{mark_heard, is_marked};
 ghost use Rattle.worker_histories.specs.Shares.{Share};
 ghost use Rattle.bsp_machine.specs.Workers.{count_of, share_at, state_behind, HasItems, IsBetween, IsStanding, IsReady};
@@ -23,13 +23,11 @@ ghost use Rattle.bsp_machine.specs.Opening.{IsFresh};
 
 use address_map::AddressMap;
 use exchange_counts::Count;
-use message_rows::{Column, Row};
 use run_options::Reserve;
 use std::alloc::{AllocError, Global};
 use superstep_instructions::Code;
 use superstep_machine::HeaderMark;
-use worker_exchange::{is_over, is_stopped, receive};
-use worker_messages::{Local, RunRefusal};
+use worker_exchange::{Column, Local, Row, RunRefusal, is_over, is_stopped, receive};
 use write_rules::WriteRule;
 
 /// A worker, what it counted at each exchange so far, room for the items of its output, and the reserve that it was given, if any.

@@ -4,8 +4,8 @@ ghost use Rattle.std.specs.Prelude.{◌≡◌, ◌≤◌, length, vec_capacity, 
 ghost use Rattle.std.specs.Bool.{OnTrue, OnFalse};
 ghost use Rattle.bsp_machine.specs.Sheets.{message_in, no_words};
 
-use message_rows::put_words;
 use std::alloc::{AllocError, Global};
+use worker_exchange::put_words;
 
 /// A message: the words of its header, and its words, for which there is room from the beginning.
 #[derive(Drop)]

@@ -2,8 +2,8 @@
 
 ghost use Rattle.std.specs.Prelude.{◌≡◌, ◌++◌, ◌∷◌, [], length, None, IfOk, IfErr, OnOk};
 ghost use Rattle.bsp_verify.specs.WellFormed.{IsWellFormed};
-ghost use Rattle.worker_messages.specs.declared.refusal.RunRefusal.TheVariants as refusal_is;
-ghost use Rattle.worker_messages.specs.Opened.{IsAccepted, IsRefusal};
+ghost use Rattle.worker_exchange.specs.declared.refusal.RunRefusal.TheVariants as refusal_is;
+ghost use Rattle.worker_exchange.specs.Opened.{IsAccepted, IsRefusal};
 ghost use Rattle.bsp_machine.specs.Workers.{AreSheets};
 ghost use Rattle.bsp_machine.specs.Reserves.{AreGiven};
 ghost use Rattle.bsp_machine.specs.Opening.{AreFresh};
@@ -13,7 +13,7 @@ use crate::sheet::Sheet;
 use address_map::AddressMap;
 use std::alloc::{AllocError, Global};
 use superstep_instructions::Code;
-use worker_messages::RunRefusal;
+use worker_exchange::RunRefusal;
 
 // One worker more.
 fn add(all: &mut Vec<CountedWorker>, worker: CountedWorker) -> Result<(), RunRefusal>

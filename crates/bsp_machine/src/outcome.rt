@@ -3,7 +3,7 @@
 ghost use Rattle.std.specs.Prelude.{◌≡◌, ◌≤◌, ◌<◌, ◌++◌, ◌∷◌, [], length, Some, false, slice_get, vec_capacity};
 ghost use Rattle.pram_model.specs.Layout.{total_size};
 ghost use Rattle.superstep_machine.specs.Run as spec;
-ghost use Rattle.worker_messages.specs.Shown.{way_is, is_stopped};
+ghost use Rattle.worker_exchange.specs.Shown.{way_is, is_stopped};
 ghost use Rattle.bsp_machine.specs.declared.counted.CountedWorker.{CountedWorker as Counted};
 ghost use Rattle.bsp_machine.specs.Ended.{AreWide, memory_of, verdict_in};
 
@@ -12,7 +12,7 @@ use crate::memory::take_memory;
 use address_map::AddressMap;
 use superstep_instructions::Code;
 use superstep_machine::Key;
-use worker_messages::Way;
+use worker_exchange::Way;
 use write_rules::{Fault, Outcome};
 
 fn fault_of(key: Key) -> Fault

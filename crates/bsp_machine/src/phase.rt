@@ -2,8 +2,8 @@
 
 ghost use Rattle.std.specs.Prelude.{◌≡◌, ◌<◌, ◌≤◌, ℕ, suc, List, ℤ, length, false, Option, Some, slice_get};
 ghost use Rattle.superstep_machine.specs.Run.{is_over as spec_is_over};
-ghost use Rattle.worker_messages.specs.Shown.{is_stopped, way_is};
-ghost use Rattle.worker_messages.specs.Equipped.{most_words, left, left_at, IsRunnable};
+ghost use Rattle.worker_exchange.specs.Shown.{is_stopped, way_is};
+ghost use Rattle.worker_exchange.specs.Equipped.{most_words, left, left_at, IsRunnable};
 ghost use Rattle.bsp_machine.specs.declared.counted.CountedWorker.{CountedWorker as Counted};
 ghost use Rattle.bsp_machine.specs.Workers.{AreBehind, AreAt, AreReady, MayAllGoOn, AreTogether, AreSheets};
 ghost use Rattle.run_options.specs.declared.reserve.Reserve.{Reserve as Given};

@@ -1,7 +1,7 @@
 //! Exchange by exchange, up to the end of the run.
 
 ghost use Rattle.std.specs.Prelude.{◌≡◌, List, ℤ, length, Option};
-ghost use Rattle.worker_messages.specs.Equipped.{most_words, IsRunnable};
+ghost use Rattle.worker_exchange.specs.Equipped.{most_words, IsRunnable};
 ghost use Rattle.bsp_machine.specs.Workers.{AreSheets};
 ghost use Rattle.run_options.specs.declared.reserve.Reserve.{Reserve as Given};
 ghost use Rattle.bsp_machine.specs.Reserves.{AreGiven};

@@ -1,7 +1,7 @@
 //! Columns of messages.
 
 use crate::sheet::Sheet;
-use message_rows::Column;
+use worker_exchange::Column;
 
 /// A column: of each row the message to one worker.
 #[derive(Drop)]

@@ -5,8 +5,8 @@ ghost use Rattle.write_rules.specs.Verdict.{verdict_of};
 ghost use Rattle.superstep_machine.specs.Run.{IsBspOutcome};
 ghost use Rattle.superstep_machine.specs.Trace.{AreBspExchanges};
 ghost use Rattle.bsp_verify.specs.WellFormed.{IsWellFormed};
-ghost use Rattle.worker_messages.specs.Equipped.{IsRunnable};
-ghost use Rattle.worker_messages.specs.Opened.{IsAccepted, IsRefusal};
+ghost use Rattle.worker_exchange.specs.Equipped.{IsRunnable};
+ghost use Rattle.worker_exchange.specs.Opened.{IsAccepted, IsRefusal};
 ghost use Rattle.run_options.specs.declared.reserve.Reserve.{Reserve as Given};
 ghost use Rattle.bsp_machine.specs.Reserves.{AreGiven};
 ghost use Rattle.bsp_machine.specs.Opening.{AreOpened};
@@ -22,7 +22,7 @@ use bsp_verify::Verified;
 use exchange_counts::Counts;
 use std::alloc::{AllocError, Global};
 use superstep_instructions::Code;
-use worker_messages::RunRefusal;
+use worker_exchange::RunRefusal;
 use write_rules::{Outcome, under};
 
 // All workers go on up to the end of their run.

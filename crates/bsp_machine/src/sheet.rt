@@ -4,8 +4,8 @@ ghost use Rattle.std.specs.Prelude.{◌≡◌, ◌≤◌, ◌<◌, ℕ, length, 
 ghost use Rattle.bsp_machine.specs.Sheets.{IsSheet};
 
 use crate::letter::Letter;
-use message_rows::Row;
 use std::alloc::{AllocError, Global};
+use worker_exchange::Row;
 
 /// A row: a message for each worker.
 #[derive(Drop)]

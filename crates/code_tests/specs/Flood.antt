@@ -3,7 +3,7 @@ use Rattle.std.specs.Prelude.{◌≡◌, ℕ, ◌≤◌, List, length}
 use Rattle.address_map.specs.Lawful.{Shape}
 use Rattle.superstep_instructions.specs.Code.{SuperstepCode}
 use Rattle.superstep_machine.specs.Run.{State}
-use Rattle.worker_messages.specs.Equipped.{most_words, IsRunnable}
+use Rattle.worker_exchange.specs.Equipped.{most_words, IsRunnable}
 use Rattle.worker_histories.specs.Shares.{Share}
 use Rattle.bsp_machine.specs.declared.counted.CountedWorker.{CountedWorker}
 use Rattle.bsp_machine.specs.Workers.{IsBetween}

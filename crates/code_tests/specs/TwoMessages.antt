@@ -1,7 +1,7 @@
 -- The same message from each of two workers.
 use Rattle.std.specs.Prelude.{ℕ, zero, suc, ◌≤◌, List, [], ◌∷◌, length}
 use Rattle.std.proofs.Common.{arith}
-use Rattle.message_rows.specs.Rows.{WrittenMessage, message_at}
+use Rattle.worker_exchange.specs.Rows.{WrittenMessage, message_at}
 
 abbrev pub told_by : List ℕ → List ℕ → WrittenMessage
 told_by header words = record { header = header; words = words }

@@ -10,7 +10,7 @@ use std::alloc::Global;
 use superstep_code::read_listing;
 use text_out::Buffer;
 use tracer::write_trace;
-use worker_messages::RunRefusal;
+use worker_exchange::RunRefusal;
 use write_rules::Outcome;
 
 const WORKERS: [u32; 6] = [1, 2, 3, 4, 7, 32];

@@ -2,7 +2,7 @@
 
 ghost use Rattle.std.specs.Prelude.{◌≡◌, false};
 ghost use Rattle.superstep_machine.specs.Run.{is_over};
-ghost use Rattle.worker_messages.specs.Shown.{way_is};
+ghost use Rattle.worker_exchange.specs.Shown.{way_is};
 ghost use Rattle.code_tests.specs.Flood.{CanBeFlooded};
 
 use crate::codes::BROADCAST;

@@ -22,8 +22,8 @@ use Rattle.run_options.specs.Places.{IsLeastPower}
 use Rattle.run_options.specs.declared.map_choice.MapChoice.{MapChoice}
 use Rattle.run_options.specs.declared.map_choice.MapChoice.TheVariants as choose
 use Rattle.run_options.specs.declared.options.Options.{Options}
-use Rattle.worker_messages.specs.declared.refusal.RunRefusal.TheVariants as run
-use Rattle.worker_messages.specs.Opened.{IsAccepted}
+use Rattle.worker_exchange.specs.declared.refusal.RunRefusal.TheVariants as run
+use Rattle.worker_exchange.specs.Opened.{IsAccepted}
 use Rattle.workers.specs.Past.{IsRefusalWith}
 use Rattle.program_texts.specs.declared.from_text.Refusal.{Refusal}
 use Rattle.program_texts.specs.declared.from_text.Refusal.TheVariants as refusals

@@ -20,7 +20,7 @@ use run_options::{MapChoice, Options, Reserve, places};
 use std::alloc::Global;
 use std::sync::Wait;
 use std::thread::Threads;
-use worker_messages::RunRefusal;
+use worker_exchange::RunRefusal;
 use workers::{Gate, run_with_reserve};
 use write_rules::Outcome;
 

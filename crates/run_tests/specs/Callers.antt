@@ -3,7 +3,7 @@ use Rattle.std.specs.Prelude.{◌≡◌, ℕ, List, [], false, ℤ}
 use Rattle.address_map.specs.Lawful.{Shape}
 use Rattle.superstep_instructions.specs.Code.{SuperstepCode}
 use Rattle.superstep_machine.specs.Run.{opening, setting}
-use Rattle.worker_messages.specs.Shown.{is_stopped}
+use Rattle.worker_exchange.specs.Shown.{is_stopped}
 use Rattle.turnstile.specs.Seats.{TurnstileShape, RowState, IsFresh}
 use Rattle.bsp_machine.specs.declared.counted.CountedWorker.{CountedWorker}
 use Rattle.bsp_machine.specs.Workers.{IsBetween}

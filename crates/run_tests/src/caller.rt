@@ -7,7 +7,7 @@ ghost use Rattle.write_rules.specs.Verdict.{verdict_of};
 ghost use Rattle.superstep_machine.specs.Run.{IsBspOutcome};
 ghost use Rattle.superstep_machine.specs.Trace.{AreBspExchanges};
 ghost use Rattle.bsp_verify.specs.WellFormed.{IsWellFormed};
-ghost use Rattle.worker_messages.specs.Equipped.{most_words, IsRunnable};
+ghost use Rattle.worker_exchange.specs.Equipped.{most_words, IsRunnable};
 ghost use Rattle.bsp_machine.specs.Opening.{IsRoom};
 ghost use Rattle.run_tests.specs.Callers.{Opens, IsNewSeat, HasPlayed};
 
@@ -23,7 +23,7 @@ use superstep_code::Code;
 use text_out::Buffer;
 use tracer::write_trace;
 use turnstile::{RowSeat, Turnstile};
-use worker_messages::row_room;
+use worker_exchange::row_room;
 use workers::{OpenGate, gather, work};
 use write_rules::{Exclusive, Outcome};
 

@@ -8,7 +8,7 @@ use std::thread::Threads;
 use superstep_code::read_listing;
 use text_out::Buffer;
 use tracer::write_trace;
-use worker_messages::RunRefusal;
+use worker_exchange::RunRefusal;
 use workers::{OpenGate, run_workers};
 
 // b[i] := a[1] for four processors.

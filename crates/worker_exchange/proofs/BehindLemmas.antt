@@ -12,11 +12,11 @@ use Rattle.superstep_machine.specs.Worker.{Worker}
 use Rattle.superstep_machine.specs.Stretch.{ToSend, ToReply, ToVote, ToClose, Arrival, Nowhere, At}
 use Rattle.superstep_machine.specs.Run as machine
 use Rattle.machine_limits.specs.Within.{AreValues}
-use Rattle.message_rows.specs.Rows.{WrittenMessage}
-use Rattle.worker_messages.specs.declared.local.Local.{Local}
+use Rattle.worker_exchange.specs.Rows.{WrittenMessage}
+use Rattle.worker_exchange.specs.declared.local.Local.{Local}
 use Rattle.superstep_machine.specs.Purposes.{purpose_is}
-use Rattle.worker_messages.specs.Shown.{way_is, place_behind, ShowsWorker, IsShown, IsAtExchange}
-use Rattle.worker_messages.proofs.ArrivedLemmas.{ready_is}
+use Rattle.worker_exchange.specs.Shown.{way_is, place_behind, ShowsWorker, IsShown, IsAtExchange}
+use Rattle.worker_exchange.proofs.ArrivedLemmas.{ready_is}
 use Rattle.worker_exchange.specs.Received.{messages_to}
 
 -- ---- messages that are read have values of 64 bits

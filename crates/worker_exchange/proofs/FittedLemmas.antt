@@ -23,9 +23,9 @@ use Rattle.bsp_verify.specs.States.{after}
 use Rattle.bsp_verify.specs.WellFormed.{IsWellFormed}
 use Rattle.combining.specs.AllModules.{column, room_at}
 use Rattle.combining.specs.Asked.{HeldAsks, IsAskBelow}
-use Rattle.message_rows.specs.Sends.{words_of}
-use Rattle.worker_messages.specs.declared.local.Local.{Local}
-use Rattle.worker_messages.specs.Equipped.{most_words, AreBuffers, IsEquipped}
+use Rattle.worker_exchange.specs.Sends.{words_of}
+use Rattle.worker_exchange.specs.declared.local.Local.{Local}
+use Rattle.worker_exchange.specs.Equipped.{most_words, AreBuffers, IsEquipped}
 use Rattle.worker_bank.specs.declared.bank.Bank.{Bank}
 use Rattle.worker_bank.specs.Bank.{number_of, IsBank}
 use Rattle.worker_steps.specs.declared.worker.WorkerState.{WorkerState}

@@ -11,7 +11,7 @@ use Rattle.superstep_machine.specs.HeaderWords.{read_header}
 use Rattle.superstep_machine.specs.Words.{Message}
 use Rattle.superstep_machine.specs.WordReading.{read_message}
 use Rattle.superstep_machine.specs.Run.{Purpose, Sends, Replies, Votes, Closes, mark_of, key_of}
-use Rattle.message_rows.specs.Rows.{WrittenMessage}
+use Rattle.worker_exchange.specs.Rows.{WrittenMessage}
 use Rattle.worker_exchange.specs.Received.{messages_to, mark_heard, key_heard, any_heard}
 
 -- a message has what its header says

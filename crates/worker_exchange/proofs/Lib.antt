@@ -1,3 +1,14 @@
+pub mod RowLemmas
+pub mod SendLemmas
+pub mod ActiveLemmas
+pub mod ReachedLemmas
+pub mod AwaitedLemmas
+pub mod RoomLemmas
+pub mod ArrivedLemmas
+pub mod WrittenLemmas
+pub mod MessagesWrittenLemmas
+pub mod OpeningLemmas
+pub mod PastLemmas
 pub mod PartLemmas
 pub mod SettleLemmas
 pub mod SentLemmas

@@ -5,7 +5,7 @@ use Rattle.combining.proofs.AllColumns.{changed_here, changed_elsewhere}
 use Rattle.std.proofs.Common.{Vec}
 use Rattle.std.specs.Global.{Global}
 use Rattle.combining.specs.AllModules.{column}
-use Rattle.message_rows.specs.Sends.{words_of}
+use Rattle.worker_exchange.specs.Sends.{words_of}
 use Rattle.worker_exchange.specs.Parts.{part_at}
 
 pub one_part : (parts : List (Bor (List ℕ))) (i : ℕ) (x : Bor (List ℕ)) (part : ℕ → List ℕ) → i < length parts → x.now ≡ part i →

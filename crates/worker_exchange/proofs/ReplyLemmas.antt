@@ -40,12 +40,12 @@ use Rattle.worker_steps.specs.Met.{Describes, IsVerifiedAt}
 use Rattle.worker_steps.proofs.FittedLemmas.{fitted_same}
 use Rattle.worker_steps.proofs.ShownLemmas.{asked_same}
 use Rattle.worker_steps.proofs.StretchLemmas.{verified_next}
-use Rattle.message_rows.specs.Rows.{WrittenMessage}
-use Rattle.message_rows.specs.Sends.{words_of}
-use Rattle.worker_messages.specs.declared.local.Local.{Local}
-use Rattle.worker_messages.specs.Shown.{cells_asked, ShowsWorker}
-use Rattle.worker_messages.specs.Equipped.{most_words, AreBuffers, IsAwaited, IsEquipped}
-use Rattle.worker_messages.proofs.OpeningLemmas.{mapped_twice}
+use Rattle.worker_exchange.specs.Rows.{WrittenMessage}
+use Rattle.worker_exchange.specs.Sends.{words_of}
+use Rattle.worker_exchange.specs.declared.local.Local.{Local}
+use Rattle.worker_exchange.specs.Shown.{cells_asked, ShowsWorker}
+use Rattle.worker_exchange.specs.Equipped.{most_words, AreBuffers, IsAwaited, IsEquipped}
+use Rattle.worker_exchange.proofs.OpeningLemmas.{mapped_twice}
 use Rattle.worker_exchange.specs.Received.{received, messages_to}
 use Rattle.worker_exchange.specs.Answered.{Gives, IsAnswered}
 use Rattle.worker_exchange.proofs.BehindLemmas.{word_fits, values_read}

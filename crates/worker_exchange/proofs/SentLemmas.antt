@@ -19,11 +19,11 @@ use Rattle.combining.specs.AllModules.{column}
 use Rattle.combining.specs.Adding.{unanswered}
 use Rattle.worker_steps.specs.declared.worker.WorkerState.{WorkerState}
 use Rattle.worker_steps.specs.Shown.{cells_at, part_in, own_in}
-use Rattle.message_rows.specs.Rows.{WrittenMessage, message_at}
-use Rattle.message_rows.specs.Sends.{words_of}
-use Rattle.worker_messages.specs.declared.local.Local.{Local}
-use Rattle.worker_messages.specs.Shown.{cells_asked, ShowsWorker}
-use Rattle.worker_messages.proofs.OpeningLemmas.{mapped_twice}
+use Rattle.worker_exchange.specs.Rows.{WrittenMessage, message_at}
+use Rattle.worker_exchange.specs.Sends.{words_of}
+use Rattle.worker_exchange.specs.declared.local.Local.{Local}
+use Rattle.worker_exchange.specs.Shown.{cells_asked, ShowsWorker}
+use Rattle.worker_exchange.proofs.OpeningLemmas.{mapped_twice}
 use Rattle.worker_exchange.specs.Received.{messages_to}
 use Rattle.worker_exchange.specs.Settled.{IsSettled}
 use Rattle.worker_exchange.specs.Taken.{IsSentWorker}

@@ -25,7 +25,7 @@ use Rattle.superstep_machine.specs.Sending.{entry_came, verdict_on, put_conflict
 use Rattle.combining.specs.Merged.{IsMerged}
 use Rattle.combining.specs.ModuleLaws.{put_parts}
 use Rattle.combining.proofs.ModuleSends.{merged_cells, merged_conflict}
-use Rattle.message_rows.specs.Rows.{WrittenMessage, message_at}
+use Rattle.worker_exchange.specs.Rows.{WrittenMessage, message_at}
 use Rattle.worker_exchange.specs.Received.{received}
 use Rattle.worker_exchange.specs.Parts.{part_at}
 use Rattle.worker_exchange.specs.Settled.{key_of_put, IsSettled}

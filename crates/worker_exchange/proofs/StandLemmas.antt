@@ -22,15 +22,15 @@ use Rattle.worker_steps.specs.declared.worker.WorkerState.{WorkerState}
 use Rattle.worker_steps.specs.Met.{IsVerifiedAt}
 use Rattle.worker_steps.specs.Stretch.{rank_of, rank}
 use Rattle.worker_steps.proofs.StretchLemmas.{rank_on, rises_there}
-use Rattle.message_rows.specs.Rows.{WrittenMessage}
+use Rattle.worker_exchange.specs.Rows.{WrittenMessage}
 use Rattle.superstep_machine.specs.declared.purpose.Purpose.{Purpose}
 use Rattle.superstep_machine.specs.declared.purpose.Purpose.TheVariants as purposes
-use Rattle.worker_messages.specs.declared.way.Way.{Way}
-use Rattle.worker_messages.specs.declared.way.Way.TheVariants as ways
-use Rattle.worker_messages.specs.declared.local.Local.{Local}
+use Rattle.worker_exchange.specs.declared.way.Way.{Way}
+use Rattle.worker_exchange.specs.declared.way.Way.TheVariants as ways
+use Rattle.worker_exchange.specs.declared.local.Local.{Local}
 use Rattle.superstep_machine.specs.Purposes.{purpose_is}
-use Rattle.worker_messages.specs.Shown.{way_is, is_stopped, place_behind, ShowsWorker, IsShown}
-use Rattle.worker_messages.specs.Equipped.{IsEquipped, IsRunnable, IsAtStep, GoesWith, instr_of, left_by, left_at_by, left, left_at}
+use Rattle.worker_exchange.specs.Shown.{way_is, is_stopped, place_behind, ShowsWorker, IsShown}
+use Rattle.worker_exchange.specs.Equipped.{IsEquipped, IsRunnable, IsAtStep, GoesWith, instr_of, left_by, left_at_by, left, left_at}
 use Rattle.worker_exchange.specs.Received.{messages_to, mark_heard, key_heard}
 use Rattle.worker_exchange.specs.Taken.{StandsStill}
 use Rattle.worker_exchange.specs.Behind.{ForEachState, ShowsTaken, ShowsBehind, MayGoOnBehind}

@@ -9,13 +9,13 @@ use Rattle.superstep_machine.specs.Run as machine
 use Rattle.combining.specs.Adding.{unanswered}
 use Rattle.combining.specs.Asked.{IsAskBelow}
 use Rattle.superstep_machine.specs.declared.purpose.Purpose.TheVariants as purposes
-use Rattle.worker_messages.specs.declared.local.Local.{Local}
+use Rattle.worker_exchange.specs.declared.local.Local.{Local}
 use Rattle.superstep_machine.specs.Purposes.{purpose_is}
-use Rattle.worker_messages.specs.Shown.{IsAtExchange}
-use Rattle.worker_messages.specs.Equipped.{IsRunnable, IsEquipped}
-use Rattle.worker_messages.proofs.ReachedLemmas.{IsPathed, ready_pathed}
-use Rattle.worker_messages.proofs.WrittenLemmas.{asks_are}
-use Rattle.worker_messages.proofs.MessagesWrittenLemmas.{held_can}
+use Rattle.worker_exchange.specs.Shown.{IsAtExchange}
+use Rattle.worker_exchange.specs.Equipped.{IsRunnable, IsEquipped}
+use Rattle.worker_exchange.proofs.ReachedLemmas.{IsPathed, ready_pathed}
+use Rattle.worker_exchange.proofs.WrittenLemmas.{asks_are}
+use Rattle.worker_exchange.proofs.MessagesWrittenLemmas.{held_can}
 
 module _ (t : Setting) (code : IsCode t.code) (run : IsRunnable t.code t.map) (x : Local)
     (below : x.steps.bank.worker < workers t) (s : machine.State) (at : IsAtExchange t x.steps.bank.worker x s)

@@ -3,12 +3,12 @@ use Rattle.std.specs.Prelude.{◌≡◌, ℕ, ◌<◌, List, Bool, true, false}
 use Rattle.address_map.specs.Lawful.{Shape}
 use Rattle.superstep_instructions.specs.Code.{SuperstepCode}
 use Rattle.superstep_machine.specs.Run.{State, setting, ready, after, after_exchange, is_over}
-use Rattle.message_rows.specs.Rows.{WrittenMessage}
-use Rattle.worker_messages.specs.declared.local.Local.{Local}
-use Rattle.worker_messages.specs.Reached.{most_instructions}
+use Rattle.worker_exchange.specs.Rows.{WrittenMessage}
+use Rattle.worker_exchange.specs.declared.local.Local.{Local}
+use Rattle.worker_exchange.specs.Reached.{most_instructions}
 use Rattle.superstep_machine.specs.Purposes.{purpose_is}
-use Rattle.worker_messages.specs.Shown.{way_is, ShowsWorker, IsShown, IsAtExchange}
-use Rattle.worker_messages.specs.Equipped.{MayGoOn}
+use Rattle.worker_exchange.specs.Shown.{way_is, ShowsWorker, IsShown, IsAtExchange}
+use Rattle.worker_exchange.specs.Equipped.{MayGoOn}
 use Rattle.worker_exchange.specs.declared.progress.Progress.{Progress}
 use Rattle.worker_exchange.specs.declared.progress.Progress.TheVariants.{GoOn, Over}
 use Rattle.worker_exchange.specs.Received.{messages_to}

@@ -1,3 +1,11 @@
+pub mod Rows
+pub mod Sends
+pub mod Reached
+pub mod Shown
+pub mod Equipped
+pub mod MessagesWritten
+pub mod Arrived
+pub mod Opened
 pub mod Received
 pub mod Parts
 pub mod Settled

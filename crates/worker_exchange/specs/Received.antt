@@ -14,7 +14,7 @@ use Rattle.superstep_machine.specs.HeaderWords.{read_header}
 use Rattle.superstep_machine.specs.Words.{Message}
 use Rattle.superstep_machine.specs.WordReading.{read_message}
 use Rattle.superstep_machine.specs.Run.{Purpose}
-use Rattle.message_rows.specs.Rows.{WrittenMessage}
+use Rattle.worker_exchange.specs.Rows.{WrittenMessage}
 
 -- the headers and the words
 abbrev pub received : List WrittenMessage → List (MessageHeader × List ℕ)

@@ -6,7 +6,7 @@ use Rattle.superstep_machine.specs.Sending.{uniform_sent}
 use Rattle.instruction_steps.specs.declared.uniform.UniformState.{UniformState}
 use Rattle.instruction_steps.specs.Views.{uniform_of, KeepsReserve}
 use Rattle.worker_steps.specs.declared.worker.WorkerState.{WorkerState}
-use Rattle.worker_messages.specs.declared.local.Local.{Local}
+use Rattle.worker_exchange.specs.declared.local.Local.{Local}
 
 -- the uniform part: what was held is on its way
 pub record IsSentPart (u v : UniformState) : Type 0 where

@@ -12,7 +12,7 @@ ghost use Rattle.worker_bank.specs.Bank.{registers_at, IsBank, IsSameBank};
 ghost use Rattle.worker_bank.specs.Cells.{cell_in};
 ghost use Rattle.worker_steps.specs.Shown.{cells_at};
 ghost use Rattle.worker_steps.specs.Fitted.{AreColumns};
-ghost use Rattle.worker_messages.specs.Equipped.{IsAwaited};
+ghost use Rattle.worker_exchange.specs.Equipped.{IsAwaited};
 ghost use Rattle.worker_exchange.specs.Answered.{Gives, IsAnsweredPart, IsAnswered};
 
 use combining::Asks;

@@ -4,10 +4,10 @@ ghost use Rattle.std.specs.Prelude.{◌≡◌};
 ghost use Rattle.superstep_machine.specs.Parts.{UniformPart};
 ghost use Rattle.superstep_machine.specs.Run as machine;
 ghost use Rattle.superstep_machine.specs.Purposes.{purpose_is};
-ghost use Rattle.worker_messages.specs.Shown.{way_is};
+ghost use Rattle.worker_exchange.specs.Shown.{way_is};
 
+use crate::way::Way;
 use superstep_machine::{Key, Purpose};
-use worker_messages::Way;
 
 // A key whose statement is over.
 fn due(key: Option<Key>, count: u32) -> Option<Key>

@@ -3,7 +3,7 @@
 ghost use Rattle.std.specs.Prelude.{◌≡◌, length};
 ghost use Rattle.worker_exchange.specs.Received.{mark_heard, key_heard, any_heard};
 
-use message_rows::Column;
+use crate::column::Column;
 use superstep_machine::{HeaderMark, Key, MessageHeader, least, worse};
 
 /// What the headers of a column say together: the worst mark, the least key, and whether any worker has an active processor.

@@ -3,10 +3,10 @@
 ghost use Rattle.std.specs.Prelude.{◌≡◌, ◌<◌, ◌≤◌, ◌*◌, ℕ, length, min};
 ghost use Rattle.superstep_machine.specs.HeaderWords.{read_header};
 ghost use Rattle.superstep_machine.specs.WordReading.{put_length as spec_put_length, put_part, ask_part};
-ghost use Rattle.message_rows.specs.Rows.{message_at};
+ghost use Rattle.worker_exchange.specs.Rows.{message_at};
 ghost use Rattle.worker_exchange.specs.Parts.{part_at};
 
-use message_rows::Column;
+use crate::column::Column;
 use superstep_machine::MessageHeader;
 use write_rules::WriteRule;
 

@@ -2,9 +2,10 @@
 
 ghost use Rattle.std.specs.Prelude.{◌≡◌};
 ghost use Rattle.superstep_machine.specs.Run as machine;
-ghost use Rattle.worker_messages.specs.Shown.{way_is, is_stopped as spec_is_stopped};
+ghost use Rattle.worker_exchange.specs.Shown.{way_is, is_stopped as spec_is_stopped};
 
-use worker_messages::{Local, Way};
+use crate::local::Local;
+use crate::way::Way;
 
 /// Whether a worker's run goes on behind an exchange.
 #[derive(Clone, Copy, Debug, Drop, PartialEq, Eq)]

@@ -8,26 +8,27 @@ ghost use Rattle.superstep_machine.specs.Run as machine;
 ghost use Rattle.superstep_machine.specs.Run.{State, setting, ready, after};
 ghost use Rattle.instruction_steps.specs.Views.{KeepsReserve};
 ghost use Rattle.worker_steps.specs.Met.{IsVerifiedAt};
-ghost use Rattle.worker_messages.specs.declared.way.Way.TheVariants as way_is_one_of;
-ghost use Rattle.worker_messages.specs.Reached.{most_instructions};
+ghost use Rattle.worker_exchange.specs.declared.way.Way.TheVariants as way_is_one_of;
+ghost use Rattle.worker_exchange.specs.Reached.{most_instructions};
 ghost use Rattle.superstep_machine.specs.Purposes.{purpose_is};
-ghost use Rattle.worker_messages.specs.Shown.{way_is, is_stopped as spec_is_stopped, place_behind, IsShown, IsAtExchange};
-ghost use Rattle.worker_messages.specs.Equipped.{most_words, left, left_at, IsRunnable, IsEquipped, MayGoOn, IsAtStep};
+ghost use Rattle.worker_exchange.specs.Shown.{way_is, is_stopped as spec_is_stopped, place_behind, IsShown, IsAtExchange};
+ghost use Rattle.worker_exchange.specs.Equipped.{most_words, left, left_at, IsRunnable, IsEquipped, MayGoOn, IsAtStep};
 ghost use Rattle.worker_exchange.specs.Received.{messages_to, mark_heard, key_heard, any_heard, is_marked};
 ghost use Rattle.worker_exchange.specs.Taken.{StandsStill};
 ghost use Rattle.worker_exchange.specs.Behind.{ForEachState, ShowsTaken, ShowsBehind, MayGoOnBehind, is_the_end};
 
+use crate::column::Column;
 use crate::deciding::decide;
 use crate::hearing::{Heard, hear};
+use crate::local::Local;
 use crate::progress::{Progress, is_over, is_stopped};
 use crate::replying::take_reply;
 use crate::taking::take_send;
 use crate::voting::take_vote;
+use crate::way::Way;
 use address_map::AddressMap;
-use message_rows::Column;
 use superstep_instructions::Code;
 use superstep_machine::{HeaderMark, Key, Purpose};
-use worker_messages::{Local, Way};
 use write_rules::WriteRule;
 
 // Takes what the messages bring, by what the exchange is for.

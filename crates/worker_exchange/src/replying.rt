@@ -13,17 +13,17 @@ ghost use Rattle.combining.specs.Asked.{IsAskBelow};
 ghost use Rattle.worker_bank.specs.Bank.{IsBank};
 ghost use Rattle.worker_steps.specs.Fitted.{AreColumns};
 ghost use Rattle.worker_steps.specs.Met.{IsVerifiedAt};
-ghost use Rattle.message_rows.specs.Sends.{words_of};
-ghost use Rattle.worker_messages.specs.Shown.{ShowsWorker};
-ghost use Rattle.worker_messages.specs.Equipped.{AwaitsAnswers, IsEquipped};
+ghost use Rattle.worker_exchange.specs.Sends.{words_of};
+ghost use Rattle.worker_exchange.specs.Shown.{ShowsWorker};
+ghost use Rattle.worker_exchange.specs.Equipped.{AwaitsAnswers, IsEquipped};
 ghost use Rattle.worker_exchange.specs.Received.{messages_to};
 ghost use Rattle.worker_exchange.specs.Taken.{StandsStill};
 
 use crate::answering::answer_worker;
+use crate::column::Column;
+use crate::local::Local;
 use crate::parts::word_parts;
 use address_map::AddressMap;
-use message_rows::Column;
-use worker_messages::Local;
 
 // No worker's asks are kept any more.
 fn forget(asked: &mut [Vec<u64>])

@@ -12,11 +12,11 @@ ghost use Rattle.combining.specs.ModuleLaws.{ask_parts as spec_ask_parts, key_of
 ghost use Rattle.worker_exchange.specs.Received.{messages_to};
 ghost use Rattle.worker_exchange.specs.Settled.{key_of_put as spec_key_of_put, IsSettled};
 
+use crate::column::Column;
 use crate::parts::{ask_parts, put_parts};
 use address_map::AddressMap;
 use combining::{Cells, merge_at_module, read_conflict};
 use instruction_steps::{Moment, Read, UniformState};
-use message_rows::Column;
 use pram_values::{Kind, Place};
 use superstep_instructions::Side;
 use superstep_machine::{Key, least};

@@ -11,12 +11,12 @@ ghost use Rattle.superstep_machine.specs.Worker.{Worker};
 ghost use Rattle.superstep_machine.specs.Answering.{after_vote};
 ghost use Rattle.bsp_verify.specs.WellFormed.{IsWellFormed};
 ghost use Rattle.worker_steps.specs.Met.{IsVerifiedAt};
-ghost use Rattle.worker_messages.specs.Shown.{ShowsWorker};
-ghost use Rattle.worker_messages.specs.Equipped.{IsEquipped};
+ghost use Rattle.worker_exchange.specs.Shown.{ShowsWorker};
+ghost use Rattle.worker_exchange.specs.Equipped.{IsEquipped};
 ghost use Rattle.worker_exchange.specs.Taken.{StandsStill};
 
+use crate::local::Local;
 use pram_values::truth;
-use worker_messages::Local;
 
 /// What came in a vote: the register gets 1 if any worker has an active processor, else 0.
 pub fn take_vote(local: &mut Local, destination: u16, active: bool)

@@ -4,7 +4,7 @@ use Rattle.std.specs.List.{AllByRecursion}
 use Rattle.superstep_machine.specs.Machine.{Machine, row}
 use Rattle.superstep_machine.specs.Setting.{Setting, workers}
 use Rattle.superstep_machine.specs.Run.{State, is_over}
-use Rattle.message_rows.specs.Rows.{WrittenMessage}
+use Rattle.worker_exchange.specs.Rows.{WrittenMessage}
 use Rattle.worker_histories.specs.Histories.{rows_by, HoldsBefore, entry, HaveExchanged}
 use Rattle.worker_histories.specs.InWords.{in_words, AreGivenBack, IsUnderway}
 

@@ -10,7 +10,7 @@ use Rattle.superstep_machine.specs.HeaderWords.{read_header}
 use Rattle.superstep_machine.specs.Setting.{Setting, workers}
 use Rattle.superstep_machine.specs.Run.{State}
 use Rattle.superstep_machine.specs.Machine.{Machine}
-use Rattle.message_rows.specs.Rows.{WrittenMessage}
+use Rattle.worker_exchange.specs.Rows.{WrittenMessage}
 use Rattle.worker_exchange.specs.Received.{mark_heard, is_marked}
 use Rattle.worker_histories.specs.Histories.{rows_by, entry, HaveExchanged}
 use Rattle.worker_histories.specs.InWords.{in_words, AreGivenBack}

@@ -13,7 +13,7 @@ use Rattle.bsp_verify.specs.Runs.{worker_after}
 use Rattle.flat_machine.specs.Flatness.{IsMapFor}
 use Rattle.flat_machine.proofs.Laws.{one_exchange}
 use Rattle.flat_machine.proofs.Lists.{map_twice}
-use Rattle.message_rows.specs.Rows.{WrittenMessage, written, words_in}
+use Rattle.worker_exchange.specs.Rows.{WrittenMessage, written, words_in}
 use Rattle.worker_exchange.specs.Received.{messages_to}
 use Rattle.worker_histories.specs.Histories.{end_by, HaveExchanged}
 use Rattle.worker_histories.specs.Shares.{purpose_of, words_of}

@@ -5,8 +5,8 @@ use Rattle.superstep_machine.specs.Setting.{Setting, workers}
 use Rattle.superstep_machine.specs.Machine.{Machine, row}
 use Rattle.superstep_machine.specs.Run.{State, ready, message_of, after, is_over, outcome_of, opening}
 use Rattle.flat_machine.specs.Flatness.{IsMapFor}
-use Rattle.message_rows.specs.Rows.{WrittenMessage, written, words_in}
-use Rattle.worker_messages.specs.MessagesWritten.{IsWrittenFor}
+use Rattle.worker_exchange.specs.Rows.{WrittenMessage, written, words_in}
+use Rattle.worker_exchange.specs.MessagesWritten.{IsWrittenFor}
 use Rattle.worker_exchange.specs.Received.{messages_to}
 use Rattle.worker_histories.specs.Histories.{rows_by, end_by, HoldsBefore, IsGoing, HaveExchanged}
 use Rattle.worker_histories.specs.Shares.{Share, purpose_of, shares_by}

@@ -4,7 +4,7 @@ use Rattle.std.specs.List.{AllByRecursion}
 use Rattle.superstep_machine.specs.HeaderWords.{read_header}
 use Rattle.superstep_machine.specs.Setting.{Setting, workers}
 use Rattle.superstep_machine.specs.Run.{State, is_over}
-use Rattle.message_rows.specs.Rows.{WrittenMessage}
+use Rattle.worker_exchange.specs.Rows.{WrittenMessage}
 use Rattle.worker_exchange.specs.Received.{mark_heard, is_marked}
 use Rattle.worker_histories.specs.Histories.{end_by, HaveExchanged}
 use Rattle.worker_histories.specs.InWords.{in_words, IsSent, IsUnderway}

@@ -2,7 +2,7 @@
 
 ghost use Rattle.superstep_machine.specs.Setting.{Setting};
 ghost use Rattle.superstep_machine.specs.Run.{bsp};
-ghost use Rattle.message_rows.specs.Rows.{words_in};
+ghost use Rattle.worker_exchange.specs.Rows.{words_in};
 ghost use Rattle.worker_histories.specs.Growing.{HistoriesGrow, SharesGrow};
 ghost use Rattle.worker_histories.specs.Shares.{purpose_of, words_of};
 ghost use Rattle.worker_histories.specs.Joined.{HistoriesMakeARun};

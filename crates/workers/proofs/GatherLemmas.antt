@@ -11,9 +11,9 @@ use Rattle.superstep_machine.specs.Run.{State, opening, is_over, setting}
 use Rattle.superstep_machine.specs.Trace.{exchange_of}
 use Rattle.flat_machine.proofs.Lists.{map_twice}
 use Rattle.bsp_verify.specs.Runs.{worker_after}
-use Rattle.worker_messages.specs.Reached.{most_instructions}
-use Rattle.worker_messages.specs.Shown.{is_stopped, IsShown}
-use Rattle.worker_messages.specs.Equipped.{IsRunnable}
+use Rattle.worker_exchange.specs.Reached.{most_instructions}
+use Rattle.worker_exchange.specs.Shown.{is_stopped, IsShown}
+use Rattle.worker_exchange.specs.Equipped.{IsRunnable}
 use Rattle.turnstile.specs.Seats.{RowState, SamePhases, ReceivedAsSent, AreWhole}
 use Rattle.worker_histories.specs.Histories.{end_by, HaveExchanged}
 use Rattle.worker_histories.specs.Shares.{share_of}
@@ -24,7 +24,7 @@ use Rattle.worker_histories.proofs.Parts.{exchanges_are}
 use Rattle.worker_histories.proofs.Reading.{histories_in_words_make_a_run}
 use Rattle.worker_histories.proofs.Marking.{marks_end_all_or_none}
 use Rattle.bsp_machine.specs.declared.counted.CountedWorker.{CountedWorker}
-use Rattle.message_rows.specs.Rows.{WrittenMessage}
+use Rattle.worker_exchange.specs.Rows.{WrittenMessage}
 use Rattle.run_options.specs.declared.reserve.Reserve.{Reserve}
 use Rattle.bsp_machine.specs.Reserves.{own_mark, IsMark, AreMarked, IsGiven, HaveReserve, AreGiven}
 use Rattle.bsp_machine.specs.Workers.{share_told, shares, AreTogether, IsBehind}

@@ -2,7 +2,7 @@
 use Rattle.std.proofs.Common.{◌≡◌, ℕ, zero, suc, ◌<◌, ◌≤◌, List, [], ◌∷◌, ◌++◌, length, set, refl, sym, ap, ◌∙◌, arith}
 use Rattle.std.specs.Prelude.{map, slice_index_or}
 use Rattle.flat_machine.proofs.Lists.{map_joined}
-use Rattle.message_rows.specs.Rows.{message_at}
+use Rattle.worker_exchange.specs.Rows.{message_at}
 use Rattle.turnstile.specs.declared.views.Message.{Message}
 use Rattle.turnstile.specs.Seats.{RowState, ColumnState}
 use Rattle.turnstile.specs.Turns.{blank}

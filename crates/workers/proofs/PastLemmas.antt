@@ -10,9 +10,9 @@ use Rattle.superstep_machine.specs.Setting.{Setting, workers}
 use Rattle.superstep_machine.specs.Machine.{phases}
 use Rattle.superstep_machine.specs.Run.{State, bsp, opening, is_over, setting}
 use Rattle.bsp_verify.specs.Runs.{worker_after}
-use Rattle.message_rows.specs.Rows.{WrittenMessage}
-use Rattle.worker_messages.specs.Reached.{most_instructions}
-use Rattle.worker_messages.specs.Equipped.{IsRunnable}
+use Rattle.worker_exchange.specs.Rows.{WrittenMessage}
+use Rattle.worker_exchange.specs.Reached.{most_instructions}
+use Rattle.worker_exchange.specs.Equipped.{IsRunnable}
 use Rattle.worker_histories.specs.Histories.{rows_by, end_by, entry, HaveExchanged}
 use Rattle.worker_histories.specs.Joined.{IsRunSoFar}
 use Rattle.worker_histories.specs.InWords.{in_words, IsUnderway}

@@ -11,19 +11,19 @@ use Rattle.superstep_instructions.specs.Code.{SuperstepCode}
 use Rattle.superstep_instructions.specs.Limits.{IsCode}
 use Rattle.bsp_verify.specs.Judging.{is_mark}
 use Rattle.worker_steps.specs.Stretch.{rank}
-use Rattle.worker_messages.specs.declared.way.Way.{Way}
-use Rattle.worker_messages.specs.declared.way.Way.TheVariants as ways
-use Rattle.worker_messages.specs.declared.local.Local.{Local}
-use Rattle.worker_messages.specs.Equipped.{left, left_by}
+use Rattle.worker_exchange.specs.declared.way.Way.{Way}
+use Rattle.worker_exchange.specs.declared.way.Way.TheVariants as ways
+use Rattle.worker_exchange.specs.declared.local.Local.{Local}
+use Rattle.worker_exchange.specs.Equipped.{left, left_by}
 use Rattle.superstep_machine.specs.declared.mark.HeaderMark.{HeaderMark}
 use Rattle.superstep_machine.specs.HeaderWords.{read_header}
 use Rattle.superstep_machine.specs.WordReading.{read_message}
 use Rattle.superstep_machine.specs.Setting.{Setting}
 use Rattle.superstep_machine.specs.Run.{Purpose, State, setting, ready, after, message_of, is_over}
-use Rattle.message_rows.specs.Rows.{WrittenMessage, written, message_at, words_in}
-use Rattle.worker_messages.specs.Reached.{most_instructions}
+use Rattle.worker_exchange.specs.Rows.{WrittenMessage, written, message_at, words_in}
+use Rattle.worker_exchange.specs.Reached.{most_instructions}
 use Rattle.superstep_machine.specs.Purposes.{purpose_is}
-use Rattle.worker_messages.specs.Shown.{way_is, is_stopped, IsShown}
+use Rattle.worker_exchange.specs.Shown.{way_is, is_stopped, IsShown}
 use Rattle.worker_exchange.specs.Received.{messages_to, mark_heard}
 use Rattle.worker_histories.specs.Shares.{Share, purpose_of}
 use Rattle.worker_histories.specs.Histories.{end_by}

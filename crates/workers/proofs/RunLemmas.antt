@@ -8,7 +8,7 @@ use Rattle.address_map.specs.Lawful.{Shape}
 use Rattle.superstep_instructions.specs.Code.{SuperstepCode}
 use Rattle.superstep_instructions.specs.Limits.{IsCode}
 use Rattle.superstep_machine.specs.Run.{opening, setting}
-use Rattle.worker_messages.specs.Equipped.{most_words}
+use Rattle.worker_exchange.specs.Equipped.{most_words}
 use Rattle.turnstile.specs.Seats.{RowState, AreSeatsOf}
 use Rattle.bsp_machine.specs.declared.counted.CountedWorker.{CountedWorker}
 use Rattle.worker_histories.specs.Shares.{Share}

@@ -29,8 +29,8 @@ use Rattle.flat_machine.proofs.Laws.{outcomes_are_same, one_exchange}
 use Rattle.flat_machine.proofs.Bridge.{to_exchanges}
 use Rattle.flat_machine.proofs.OneWords.{exchanges_are_unique}
 use Rattle.flat_machine.proofs.Outcomes.{one_outcome}
-use Rattle.worker_messages.specs.Reached.{most_instructions}
-use Rattle.worker_messages.specs.Equipped.{IsRunnable}
+use Rattle.worker_exchange.specs.Reached.{most_instructions}
+use Rattle.worker_exchange.specs.Equipped.{IsRunnable}
 use Rattle.worker_steps.proofs.PastLemmas.{keeps}
 use Rattle.worker_histories.specs.Histories.{GoesOn}
 use Rattle.worker_histories.proofs.Joining.{phase_more}

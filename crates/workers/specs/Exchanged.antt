@@ -1,7 +1,7 @@
 -- The seats of a turnstile, as workers that exchanged words.
 use Rattle.std.specs.Prelude.{◌≡◌, ℕ, List, [], length, Option, Some, None, slice_get}
 use Rattle.turnstile.specs.Seats.{RowState, SamePhases, ReceivedAsSent, AreWhole}
-use Rattle.message_rows.specs.Rows.{WrittenMessage}
+use Rattle.worker_exchange.specs.Rows.{WrittenMessage}
 use Rattle.worker_histories.specs.Histories.{HaveExchanged}
 use Rattle.workers.specs.Seating.{sent_of, received_of}
 

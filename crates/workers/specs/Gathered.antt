@@ -3,7 +3,7 @@ use Rattle.std.specs.Prelude.{◌≡◌, ℕ, List, [], length, Some, true, fals
 use Rattle.address_map.specs.Lawful.{Shape}
 use Rattle.superstep_instructions.specs.Code.{SuperstepCode}
 use Rattle.superstep_machine.specs.Run.{opening, is_over, setting}
-use Rattle.worker_messages.specs.Shown.{way_is, is_stopped}
+use Rattle.worker_exchange.specs.Shown.{way_is, is_stopped}
 use Rattle.turnstile.specs.Seats.{RowState}
 use Rattle.bsp_machine.specs.declared.counted.CountedWorker.{CountedWorker}
 use Rattle.workers.specs.Worked.{HasWorked}

@@ -4,10 +4,10 @@ use Rattle.address_map.specs.Lawful.{Shape}
 use Rattle.superstep_instructions.specs.Code.{SuperstepCode}
 use Rattle.superstep_machine.specs.Run.{bsp, opening, setting}
 use Rattle.bsp_verify.specs.Runs.{worker_after}
-use Rattle.worker_messages.specs.declared.refusal.RunRefusal.{RunRefusal}
-use Rattle.worker_messages.specs.declared.refusal.RunRefusal.TheVariants.{OutOfReserve}
-use Rattle.worker_messages.specs.Opened.{IsAccepted, IsRefusal}
-use Rattle.worker_messages.specs.Reached.{most_instructions}
+use Rattle.worker_exchange.specs.declared.refusal.RunRefusal.{RunRefusal}
+use Rattle.worker_exchange.specs.declared.refusal.RunRefusal.TheVariants.{OutOfReserve}
+use Rattle.worker_exchange.specs.Opened.{IsAccepted, IsRefusal}
+use Rattle.worker_exchange.specs.Reached.{most_instructions}
 use Rattle.worker_histories.specs.Histories.{GoesOn}
 use Rattle.run_options.specs.declared.reserve.Reserve.{Reserve}
 use Rattle.bsp_machine.specs.Reserves.{is_past}

@@ -1,7 +1,7 @@
 -- The messages of a seat as words of the machine's messages.
 use Rattle.std.specs.Prelude.{◌≡◌, ℕ, ◌≤◌, List, length, map}
 use Rattle.std.proofs.Common.{◌∙◌, ap}
-use Rattle.message_rows.specs.Rows.{WrittenMessage, message_at}
+use Rattle.worker_exchange.specs.Rows.{WrittenMessage, message_at}
 use Rattle.turnstile.specs.declared.views.Message.{Message}
 use Rattle.turnstile.specs.Seats.{RowState, ColumnState}
 

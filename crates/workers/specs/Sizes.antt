@@ -7,8 +7,8 @@ use Rattle.superstep_machine.specs.Run.{setting}
 use Rattle.superstep_machine.specs.Trace.{Exchange, AreBspExchanges}
 use Rattle.write_rules.specs.Verdict.{Verdict, Ended, Faulted, GoesOn}
 use Rattle.bsp_verify.specs.Runs.{worker_after}
-use Rattle.worker_messages.specs.Reached.{most_instructions}
-use Rattle.worker_messages.specs.Equipped.{IsRunnable}
+use Rattle.worker_exchange.specs.Reached.{most_instructions}
+use Rattle.worker_exchange.specs.Equipped.{IsRunnable}
 use Rattle.run_options.specs.declared.reserve.Reserve.{Reserve}
 use Rattle.workers.specs.Past.{ComesPast}
 

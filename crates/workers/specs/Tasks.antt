@@ -3,8 +3,8 @@ use Rattle.std.specs.Prelude.{◌≡◌, ℕ, List, [], map, length, zip, true, 
 use Rattle.address_map.specs.Lawful.{Shape}
 use Rattle.superstep_instructions.specs.Code.{SuperstepCode}
 use Rattle.superstep_machine.specs.Run.{State, is_over}
-use Rattle.worker_messages.specs.Shown.{way_is, is_stopped}
-use Rattle.worker_messages.specs.Equipped.{most_words, IsRunnable}
+use Rattle.worker_exchange.specs.Shown.{way_is, is_stopped}
+use Rattle.worker_exchange.specs.Equipped.{most_words, IsRunnable}
 use Rattle.turnstile.specs.Seats.{TurnstileShape, RowState, AreSeatsOf, AreFresh}
 use Rattle.worker_histories.specs.Shares.{Share}
 use Rattle.bsp_machine.specs.declared.counted.CountedWorker.{CountedWorker}

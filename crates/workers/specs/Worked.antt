@@ -5,10 +5,10 @@ use Rattle.address_map.specs.Lawful.{Shape}
 use Rattle.superstep_instructions.specs.Code.{SuperstepCode}
 use Rattle.superstep_machine.specs.Setting.{Setting}
 use Rattle.superstep_machine.specs.Run.{State, ready, setting}
-use Rattle.message_rows.specs.Rows.{WrittenMessage, words_in}
-use Rattle.worker_messages.specs.Reached.{most_instructions}
-use Rattle.worker_messages.specs.Equipped.{most_words}
-use Rattle.worker_messages.specs.Shown.{is_stopped}
+use Rattle.worker_exchange.specs.Rows.{WrittenMessage, words_in}
+use Rattle.worker_exchange.specs.Reached.{most_instructions}
+use Rattle.worker_exchange.specs.Equipped.{most_words}
+use Rattle.worker_exchange.specs.Shown.{is_stopped}
 use Rattle.turnstile.specs.Seats.{RowState}
 use Rattle.worker_histories.specs.Histories.{end_by}
 use Rattle.worker_histories.specs.Shares.{Share, purpose_of}

@@ -5,7 +5,7 @@ ghost use Rattle.write_rules.specs.Verdict.{verdict_of};
 ghost use Rattle.superstep_machine.specs.Run.{IsBspOutcome};
 ghost use Rattle.superstep_machine.specs.Trace.{AreBspExchanges};
 ghost use Rattle.turnstile.specs.Seats.{AreSeatsOf};
-ghost use Rattle.worker_messages.specs.Equipped.{IsRunnable};
+ghost use Rattle.worker_exchange.specs.Equipped.{IsRunnable};
 ghost use Rattle.run_options.specs.declared.reserve.Reserve.{Reserve as Given};
 ghost use Rattle.bsp_machine.specs.Reserves.{HaveReserve, refusal_for};
 ghost use Rattle.bsp_machine.specs.Opening.{IsRoom};
@@ -18,7 +18,7 @@ use bsp_machine::{CountedWorker, EndRoom, collect};
 use exchange_counts::Counts;
 use superstep_instructions::Code;
 use turnstile::{RowSeat, Turnstile};
-use worker_messages::RunRefusal;
+use worker_exchange::RunRefusal;
 use write_rules::Outcome;
 
 /// What the workers of one run come to, in their order, each with the seat at which it has played its part, and the exchanges that

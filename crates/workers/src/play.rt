@@ -2,8 +2,8 @@
 
 ghost use Rattle.std.specs.Prelude.{◌≡◌, ◌+◌, ◌^◌, ◌<◌, ℕ, List, [], length, true, false};
 ghost use Rattle.superstep_machine.specs.Run.{State, is_over as spec_is_over};
-ghost use Rattle.worker_messages.specs.Shown.{is_stopped, way_is};
-ghost use Rattle.worker_messages.specs.Equipped.{left, IsRunnable, MayGoOn};
+ghost use Rattle.worker_exchange.specs.Shown.{is_stopped, way_is};
+ghost use Rattle.worker_exchange.specs.Equipped.{left, IsRunnable, MayGoOn};
 ghost use Rattle.worker_histories.specs.Shares.{Share};
 ghost use Rattle.bsp_machine.specs.Workers.{IsBetween};
 ghost use Rattle.workers.specs.Seating.{SameOwner};

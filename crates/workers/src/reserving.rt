@@ -4,7 +4,7 @@ ghost use Rattle.std.specs.Prelude.{◌≡◌, List, ℤ, length, Some, None, If
 ghost use Rattle.address_map.specs.Lawful.{Shape};
 ghost use Rattle.superstep_instructions.specs.Code.{SuperstepCode};
 ghost use Rattle.bsp_verify.specs.WellFormed.{IsWellFormed};
-ghost use Rattle.worker_messages.specs.Opened.{IsAccepted, IsRefusal};
+ghost use Rattle.worker_exchange.specs.Opened.{IsAccepted, IsRefusal};
 ghost use Rattle.bsp_machine.specs.Reserves.{HaveReserve};
 ghost use Rattle.bsp_machine.specs.Opening.{AreFresh};
 
@@ -13,7 +13,7 @@ use bsp_machine::{CountedWorker, open_all};
 use run_options::Reserve;
 use std::alloc::{AllocError, Global};
 use superstep_instructions::Code;
-use worker_messages::RunRefusal;
+use worker_exchange::RunRefusal;
 
 // Each worker takes all the memory of its run.
 fn reserve_each(workers: &mut Vec<CountedWorker>, reserve: Reserve) -> Result<(), AllocError>

@@ -5,7 +5,7 @@ ghost use Rattle.write_rules.specs.Verdict.{verdict_of};
 ghost use Rattle.superstep_machine.specs.Run.{IsBspOutcome};
 ghost use Rattle.superstep_machine.specs.Trace.{AreBspExchanges};
 ghost use Rattle.bsp_verify.specs.WellFormed.{IsWellFormed};
-ghost use Rattle.worker_messages.specs.Opened.{IsAccepted, IsRefusal};
+ghost use Rattle.worker_exchange.specs.Opened.{IsAccepted, IsRefusal};
 ghost use Rattle.turnstile.specs.Seats.{AreSeatsOf};
 ghost use Rattle.run_options.specs.declared.reserve.Reserve.{Reserve as Given};
 ghost use Rattle.bsp_machine.specs.Reserves.{HaveReserve};
@@ -29,7 +29,7 @@ use std::sync::Wait;
 use std::thread::Threads;
 use superstep_instructions::Code;
 use turnstile::{RowSeat, Turnstile};
-use worker_messages::RunRefusal;
+use worker_exchange::RunRefusal;
 use write_rules::Outcome;
 
 // All workers play their parts, a thread being started for each. All seats come back, and the workers if they began: where the start of a

@@ -2,8 +2,8 @@ use Rattle.std.proofs.Common.{◌≡◌, ◌<◌, ◌≤◌, suc, length, vec_ca
 use Rattle.pram_model.specs.Layout.{total_size}
 use Rattle.write_rules.specs.Verdict.{verdict_of}
 use Rattle.superstep_machine.specs.Run.{verdict_by}
-use Rattle.worker_messages.specs.Reached.{most_instructions}
-use Rattle.worker_messages.specs.Shown.{way_is, is_stopped}
+use Rattle.worker_exchange.specs.Reached.{most_instructions}
+use Rattle.worker_exchange.specs.Shown.{way_is, is_stopped}
 use Rattle.exchange_counts.specs.Columns.{AreColumns}
 use Rattle.exchange_counts.specs.CountedExchanges.{exchanges_told}
 use Rattle.bsp_machine.specs.declared.counted.CountedWorker.{CountedWorker}

@@ -1,5 +1,5 @@
 use Rattle.std.proofs.Common.{◌≡◌, ◌+◌, ◌*◌, ◌^◌, ◌≤◌, drop}
-use Rattle.message_rows.specs.Rows.{words_in}
+use Rattle.worker_exchange.specs.Rows.{words_in}
 use Rattle.bsp_machine.proofs.counted.words_came.Given as goal
 
 abbrev pub decreases-messages : goal.decreases-messages

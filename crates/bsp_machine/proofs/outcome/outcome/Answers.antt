@@ -1,5 +1,5 @@
 use Rattle.std.proofs.Common.{get_or, ap}
-use Rattle.worker_messages.specs.Shown.{is_stopped}
+use Rattle.worker_exchange.specs.Shown.{is_stopped}
 use Rattle.bsp_machine.proofs.ListLemmas.{get_there}
 use Rattle.bsp_machine.proofs.outcome.outcome.Goals as goal
 

@@ -1,7 +1,7 @@
 use Rattle.std.proofs.Common.{◌<◌, arith}
 use Rattle.worker_steps.specs.Stretch.{rank}
 use Rattle.superstep_machine.specs.Run.{is_over}
-use Rattle.worker_messages.specs.Shown.{way_is}
+use Rattle.worker_exchange.specs.Shown.{way_is}
 use Rattle.bsp_machine.specs.Ended.{left_first}
 use Rattle.bsp_machine.proofs.ListLemmas.{there_at}
 use Rattle.bsp_machine.proofs.LeftLemmas.{left_first_at, none_left, some_left, either_way}

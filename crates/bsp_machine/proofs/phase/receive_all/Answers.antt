@@ -3,8 +3,8 @@ use Rattle.std.proofs.Common.{arith}
 use Rattle.std.specs.Prelude.{slice_get}
 use Rattle.superstep_machine.specs.Run.{is_over, setting}
 use Rattle.bsp_verify.specs.Runs.{worker_after}
-use Rattle.worker_messages.specs.Shown.{way_is, is_stopped}
-use Rattle.worker_messages.specs.Equipped.{most_words, left, left_at}
+use Rattle.worker_exchange.specs.Shown.{way_is, is_stopped}
+use Rattle.worker_exchange.specs.Equipped.{most_words, left, left_at}
 use Rattle.worker_exchange.specs.Received.{is_marked, mark_heard}
 use Rattle.bsp_machine.specs.declared.counted.CountedWorker.{CountedWorker}
 use Rattle.bsp_machine.specs.Sheets.{messages_in, picked}

@@ -1,8 +1,8 @@
 use Rattle.std.proofs.Common.{◌≡◌, ℕ, suc, ◌<◌, ◌≤◌, List, ℤ, length, Option, Some, false}
 use Rattle.std.specs.Prelude.{slice_get}
 use Rattle.superstep_machine.specs.Run.{is_over}
-use Rattle.worker_messages.specs.Shown.{is_stopped, way_is}
-use Rattle.worker_messages.specs.Equipped.{left, left_at}
+use Rattle.worker_exchange.specs.Shown.{is_stopped, way_is}
+use Rattle.worker_exchange.specs.Equipped.{left, left_at}
 use Rattle.bsp_machine.specs.declared.counted.CountedWorker.{CountedWorker}
 use Rattle.run_options.specs.declared.reserve.Reserve.{Reserve}
 use Rattle.bsp_machine.specs.Reserves.{HaveReserve, IsGiven}

@@ -1,7 +1,7 @@
 use Rattle.std.proofs.Common.{◌≡◌, ℕ, ◌<◌, ◌≤◌, List, ℤ, length, Option, Some, false}
 use Rattle.std.specs.Prelude.{slice_get}
-use Rattle.worker_messages.specs.Shown.{is_stopped}
-use Rattle.worker_messages.specs.Equipped.{most_words, left, left_at}
+use Rattle.worker_exchange.specs.Shown.{is_stopped}
+use Rattle.worker_exchange.specs.Equipped.{most_words, left, left_at}
 use Rattle.bsp_machine.specs.declared.counted.CountedWorker.{CountedWorker}
 use Rattle.bsp_machine.specs.declared.sheet.Sheet.{Sheet}
 use Rattle.bsp_machine.specs.Sheets.{messages_in}

@@ -1,6 +1,6 @@
 use Rattle.std.proofs.Common.{◌≡◌, Some, sym, ap, ◌∙◌, subst, arith}
 use Rattle.std.specs.Prelude.{slice_get}
-use Rattle.worker_messages.specs.Equipped.{most_words}
+use Rattle.worker_exchange.specs.Equipped.{most_words}
 use Rattle.bsp_machine.specs.Workers.{AreSheets}
 use Rattle.bsp_machine.proofs.ListLemmas.{get_there}
 use Rattle.bsp_machine.proofs.OpeningLemmas.{fresh_run}

@@ -1,6 +1,6 @@
 use Rattle.std.proofs.Common.{◌≡◌, Ok, Err, None, sym, subst}
 use Rattle.std.proofs.lemmas.Result.{IfErr-weaker}
-use Rattle.worker_messages.specs.Opened.{IsRefusal}
+use Rattle.worker_exchange.specs.Opened.{IsRefusal}
 use Rattle.bsp_machine.specs.Reserves.{refusal_for}
 use Rattle.std.specs.Prelude.{IfOk, Result}
 use Rattle.bsp_machine.proofs.OpeningLemmas.{fresh_run}

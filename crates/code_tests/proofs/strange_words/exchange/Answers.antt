@@ -1,5 +1,5 @@
 use Rattle.std.proofs.Common.{sym, subst, ◌≤◌}
-use Rattle.worker_messages.specs.Equipped.{most_words}
+use Rattle.worker_exchange.specs.Equipped.{most_words}
 use Rattle.code_tests.proofs.strange_words.exchange.Goals as goal
 
 pub until_exchange-requires-clause-going : goal.until_exchange-requires-clause-going

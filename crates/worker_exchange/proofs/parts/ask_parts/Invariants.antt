@@ -1,7 +1,7 @@
 use Rattle.std.proofs.Common.{◌≡◌, ◌<◌, ℕ}
 use Rattle.superstep_machine.specs.HeaderWords.{read_header}
 use Rattle.superstep_machine.specs.WordReading.{ask_part}
-use Rattle.message_rows.specs.Rows.{message_at}
+use Rattle.worker_exchange.specs.Rows.{message_at}
 use Rattle.worker_exchange.specs.Parts.{part_at}
 use Rattle.worker_exchange.proofs.parts.ask_parts.Given as goal
 

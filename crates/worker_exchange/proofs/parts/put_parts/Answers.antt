@@ -1,7 +1,7 @@
 use Rattle.std.proofs.Common.{ap, ◌∙◌, arith}
 use Rattle.superstep_machine.specs.HeaderWords.{read_header}
 use Rattle.superstep_machine.specs.WordReading.{put_part}
-use Rattle.message_rows.specs.Rows.{message_at}
+use Rattle.worker_exchange.specs.Rows.{message_at}
 use Rattle.worker_exchange.proofs.PartLemmas.{one_part}
 use Rattle.worker_exchange.proofs.parts.put_parts.Goals as goal
 

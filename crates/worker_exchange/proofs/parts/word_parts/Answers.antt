@@ -1,5 +1,5 @@
 use Rattle.std.proofs.Common.{arith}
-use Rattle.message_rows.specs.Rows.{message_at}
+use Rattle.worker_exchange.specs.Rows.{message_at}
 use Rattle.worker_exchange.proofs.PartLemmas.{one_part}
 use Rattle.worker_exchange.proofs.parts.word_parts.Goals as goal
 

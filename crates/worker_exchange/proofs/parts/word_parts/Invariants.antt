@@ -1,5 +1,5 @@
 use Rattle.std.proofs.Common.{◌≡◌, ◌<◌, ℕ}
-use Rattle.message_rows.specs.Rows.{message_at}
+use Rattle.worker_exchange.specs.Rows.{message_at}
 use Rattle.worker_exchange.specs.Parts.{part_at}
 use Rattle.worker_exchange.proofs.parts.word_parts.Given as goal
 

@@ -1,8 +1,8 @@
 use Rattle.std.proofs.Common.{sym, ap, subst, ◌∙◌}
 use Rattle.superstep_machine.specs.Run.{is_over}
-use Rattle.worker_messages.specs.declared.local.Local.{Local}
-use Rattle.worker_messages.specs.Shown.{way_is}
-use Rattle.worker_messages.specs.Equipped.{MayGoOn}
+use Rattle.worker_exchange.specs.declared.local.Local.{Local}
+use Rattle.worker_exchange.specs.Shown.{way_is}
+use Rattle.worker_exchange.specs.Equipped.{MayGoOn}
 use Rattle.worker_exchange.proofs.StandLemmas.{never, stopped_over}
 use Rattle.worker_exchange.proofs.receiving.receive.Goals.{then-not-is_stopped+in-Clear, then-not-is_stopped+in_default}
 use Rattle.worker_exchange.proofs.receiving.receive.Goals.{else-not-is_stopped}

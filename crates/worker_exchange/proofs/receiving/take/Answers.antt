@@ -3,7 +3,7 @@ use Rattle.superstep_machine.specs.Setting.{workers}
 use Rattle.superstep_machine.specs.Run.{setting, ready, after_exchange, Votes}
 use Rattle.superstep_machine.specs.declared.purpose.Purpose.{Purpose}
 use Rattle.superstep_machine.specs.Purposes.{purpose_is}
-use Rattle.worker_messages.specs.Shown.{ShowsWorker}
+use Rattle.worker_exchange.specs.Shown.{ShowsWorker}
 use Rattle.worker_exchange.specs.Received.{messages_to}
 use Rattle.worker_exchange.proofs.TakeLemmas.{asks_sent, asks_below}
 use Rattle.worker_exchange.proofs.HeardLemmas.{votes_heard}

@@ -1,6 +1,6 @@
 use Rattle.std.proofs.Common.{◌≡◌, ◌<◌, ℕ, [], map, vec_capacity}
 use Rattle.combining.specs.AllModules.{column}
-use Rattle.message_rows.specs.Sends.{words_of}
+use Rattle.worker_exchange.specs.Sends.{words_of}
 use Rattle.worker_exchange.proofs.replying.forget.Given as goal
 
 abbrev pub invariant-workers : goal.invariant-workers

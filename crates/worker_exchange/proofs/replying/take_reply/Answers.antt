@@ -6,8 +6,8 @@ use Rattle.superstep_machine.specs.Answering.{value_came}
 use Rattle.superstep_machine.specs.Run.{setting, Replies}
 use Rattle.combining.specs.AllModules.{column}
 use Rattle.combining.specs.Came.{all_replied}
-use Rattle.message_rows.specs.Sends.{words_of}
-use Rattle.worker_messages.specs.declared.local.Local.{Local}
+use Rattle.worker_exchange.specs.Sends.{words_of}
+use Rattle.worker_exchange.specs.declared.local.Local.{Local}
 use Rattle.worker_exchange.specs.Received.{received, messages_to}
 use Rattle.worker_exchange.specs.Answered.{Gives}
 use Rattle.worker_exchange.proofs.SettleLemmas.{parts_are}

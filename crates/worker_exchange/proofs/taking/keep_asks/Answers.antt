@@ -2,7 +2,7 @@ use Rattle.std.proofs.Common.{sym, ap, ◌∙◌, arith, vec_capacity}
 use Rattle.superstep_machine.specs.HeaderWords.{read_header}
 use Rattle.superstep_machine.specs.WordReading.{ask_part}
 use Rattle.combining.proofs.AllColumns.{same_of_all}
-use Rattle.message_rows.specs.Rows.{message_at}
+use Rattle.worker_exchange.specs.Rows.{message_at}
 use Rattle.worker_exchange.proofs.PartLemmas.{one_kept}
 use Rattle.worker_exchange.proofs.taking.keep_asks.Goals as goal
 

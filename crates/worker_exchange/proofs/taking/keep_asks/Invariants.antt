@@ -2,8 +2,8 @@ use Rattle.std.proofs.Common.{◌≡◌, ◌<◌, ℕ, map, vec_capacity}
 use Rattle.superstep_machine.specs.HeaderWords.{read_header}
 use Rattle.superstep_machine.specs.WordReading.{ask_part}
 use Rattle.combining.specs.AllModules.{column}
-use Rattle.message_rows.specs.Rows.{message_at}
-use Rattle.message_rows.specs.Sends.{words_of}
+use Rattle.worker_exchange.specs.Rows.{message_at}
+use Rattle.worker_exchange.specs.Sends.{words_of}
 use Rattle.worker_exchange.proofs.taking.keep_asks.Given as goal
 
 abbrev pub invariant-messages : goal.invariant-messages

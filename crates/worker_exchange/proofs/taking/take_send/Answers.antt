@@ -8,12 +8,12 @@ use Rattle.superstep_machine.specs.Run.{setting, Sends}
 use Rattle.combining.specs.AllModules.{column}
 use Rattle.combining.specs.Asked.{HeldAsks}
 use Rattle.worker_bank.specs.declared.bank.Bank.{Bank}
-use Rattle.message_rows.specs.Rows.{message_at}
-use Rattle.message_rows.specs.Sends.{words_of}
-use Rattle.worker_messages.specs.declared.local.Local.{Local}
+use Rattle.worker_exchange.specs.Rows.{message_at}
+use Rattle.worker_exchange.specs.Sends.{words_of}
+use Rattle.worker_exchange.specs.declared.local.Local.{Local}
 use Rattle.instruction_steps.specs.Views.{uniform_of}
-use Rattle.worker_messages.specs.Shown.{cells_asked}
-use Rattle.worker_messages.specs.Equipped.{most_words}
+use Rattle.worker_exchange.specs.Shown.{cells_asked}
+use Rattle.worker_exchange.specs.Equipped.{most_words}
 use Rattle.worker_exchange.specs.Received.{messages_to}
 use Rattle.worker_exchange.proofs.SentLemmas.{taken_are, sent_shown}
 use Rattle.worker_exchange.proofs.FittedLemmas.{verified_sent, drop_short, few_kept, settled_long, equipped_sent}

@@ -1,5 +1,5 @@
 use Rattle.superstep_machine.specs.Run.{bsp}
-use Rattle.message_rows.specs.Rows.{words_in}
+use Rattle.worker_exchange.specs.Rows.{words_in}
 use Rattle.worker_histories.specs.Shares.{purpose_of, words_of}
 use Rattle.worker_histories.specs.InWords.{in_words}
 use Rattle.worker_histories.proofs.Growing.{histories_grow, shares_grow}

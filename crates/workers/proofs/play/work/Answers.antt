@@ -1,8 +1,8 @@
 use Rattle.std.proofs.Common.{◌<◌, length, refl, sym, ap, ◌∙◌, arith}
 use Rattle.superstep_machine.specs.Run.{is_over}
 use Rattle.worker_steps.specs.Stretch.{rank}
-use Rattle.worker_messages.specs.Shown.{way_is}
-use Rattle.worker_messages.specs.Equipped.{left}
+use Rattle.worker_exchange.specs.Shown.{way_is}
+use Rattle.worker_exchange.specs.Equipped.{left}
 use Rattle.bsp_machine.proofs.LeftLemmas.{none_left, some_left, either_way}
 use Rattle.workers.proofs.PlayLemmas.{none_yet, worked_on, left_few, one_more}
 use Rattle.workers.proofs.play.work.Goals as goal

@@ -1,6 +1,6 @@
 use Rattle.std.proofs.Common.{◌≡◌, ◌+◌, ◌≤◌, ℕ, List, length}
 use Rattle.superstep_machine.specs.Run.{State}
-use Rattle.worker_messages.specs.Equipped.{left}
+use Rattle.worker_exchange.specs.Equipped.{left}
 use Rattle.worker_histories.specs.Shares.{Share}
 use Rattle.bsp_machine.specs.Workers.{IsBetween}
 use Rattle.workers.specs.Seating.{SameOwner}

@@ -2,9 +2,9 @@ use Rattle.std.proofs.Common.{◌≡◌, ℕ, Ok, Err, Option, Some, None, inr, 
 use Rattle.std.specs.Prelude.{slice_get, IfOk, IfErr, IfSome, Result, List, ℤ}
 use Rattle.address_map.specs.Lawful.{Shape}
 use Rattle.superstep_instructions.specs.Code.{SuperstepCode}
-use Rattle.worker_messages.specs.declared.refusal.RunRefusal.{RunRefusal}
-use Rattle.worker_messages.specs.Opened.{IsAccepted, IsRefusal}
-use Rattle.worker_messages.specs.Equipped.{most_words}
+use Rattle.worker_exchange.specs.declared.refusal.RunRefusal.{RunRefusal}
+use Rattle.worker_exchange.specs.Opened.{IsAccepted, IsRefusal}
+use Rattle.worker_exchange.specs.Equipped.{most_words}
 use Rattle.bsp_machine.specs.declared.counted.CountedWorker.{CountedWorker}
 use Rattle.run_options.specs.declared.reserve.Reserve.{Reserve}
 use Rattle.bsp_machine.specs.Reserves.{HaveReserve, refusal_for}
@@ -12,7 +12,7 @@ use Rattle.bsp_machine.specs.Opening.{AreFresh}
 use Rattle.bsp_machine.proofs.ListLemmas.{get_there}
 use Rattle.workers.specs.Gathered.{HaveEnded}
 use Rattle.workers.specs.Past.{ComesPast, IsRefusalWith, StaysWithin}
-use Rattle.worker_messages.proofs.OpeningLemmas.{few_words}
+use Rattle.worker_exchange.proofs.OpeningLemmas.{few_words}
 use Rattle.workers.proofs.run.run_code.Goals as goal
 
 if_ok : {A E : Type 0} (P Q : A → Type 0) → ((a : A) → P a → Q a) → (r : Result A E) → IfOk r P → IfOk r Q

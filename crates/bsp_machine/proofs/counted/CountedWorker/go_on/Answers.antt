@@ -1,10 +1,10 @@
 use Rattle.std.proofs.Common.{sym, ap, subst, ◌∙◌, arith}
 use Rattle.superstep_machine.specs.declared.mark.HeaderMark.TheVariants.{OutOfMemory}
 use Rattle.superstep_machine.specs.Run.{setting, message_of}
-use Rattle.message_rows.specs.Rows.{IsRow, written, message_at}
+use Rattle.worker_exchange.specs.Rows.{IsRow, written, message_at}
 use Rattle.superstep_machine.specs.Purposes.{purpose_is}
-use Rattle.worker_messages.specs.Shown.{marked, IsShown, IsAtExchange}
-use Rattle.worker_messages.specs.MessagesWritten.{IsWrittenFor}
+use Rattle.worker_exchange.specs.Shown.{marked, IsShown, IsAtExchange}
+use Rattle.worker_exchange.specs.MessagesWritten.{IsWrittenFor}
 use Rattle.bsp_machine.proofs.MarkLemmas.{going_on}
 use Rattle.bsp_machine.specs.Reserves.{own_mark}
 use Rattle.bsp_machine.proofs.CountedLemmas.{standing_refused, no_reserve, stopped_short, short_of_room}

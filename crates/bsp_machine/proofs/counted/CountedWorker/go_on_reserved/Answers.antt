@@ -3,10 +3,10 @@ use Rattle.std.specs.Prelude.{nat_lt, ◌||◌}
 use Rattle.std.proofs.lemmas.Bool.Decides.{nat_tests}
 use Rattle.superstep_machine.specs.declared.mark.HeaderMark.TheVariants.{OutOfReserve}
 use Rattle.superstep_machine.specs.Run.{setting, ready, message_of}
-use Rattle.message_rows.specs.Rows.{IsRow, written, message_at}
+use Rattle.worker_exchange.specs.Rows.{IsRow, written, message_at}
 use Rattle.superstep_machine.specs.Purposes.{purpose_is}
-use Rattle.worker_messages.specs.Shown.{marked, is_stopped, IsShown, IsAtExchange}
-use Rattle.worker_messages.specs.MessagesWritten.{IsWrittenFor}
+use Rattle.worker_exchange.specs.Shown.{marked, is_stopped, IsShown, IsAtExchange}
+use Rattle.worker_exchange.specs.MessagesWritten.{IsWrittenFor}
 use Rattle.run_options.specs.declared.reserve.Reserve.{Reserve}
 use Rattle.bsp_machine.specs.Reserves.{is_past, own_mark}
 use Rattle.bsp_machine.proofs.MarkLemmas.{going_on, or_false, never}

@@ -1,10 +1,10 @@
 use Rattle.std.proofs.Common.{◌≡◌, ◌<◌, suc, [], ◌∷◌, ◌++◌, map, length, false, sym, subst, ap, ◌∙◌, arith}
 use Rattle.superstep_machine.specs.Run.{setting, ready, after}
 use Rattle.flat_machine.proofs.Lists.{map_joined}
-use Rattle.message_rows.specs.Rows.{words_in}
-use Rattle.worker_messages.specs.Reached.{most_instructions}
+use Rattle.worker_exchange.specs.Rows.{words_in}
+use Rattle.worker_exchange.specs.Reached.{most_instructions}
 use Rattle.superstep_machine.specs.Purposes.{purpose_is}
-use Rattle.worker_messages.specs.Shown.{is_stopped, IsShown, IsAtExchange}
+use Rattle.worker_exchange.specs.Shown.{is_stopped, IsShown, IsAtExchange}
 use Rattle.worker_exchange.specs.Received.{is_marked, mark_heard, messages_to}
 use Rattle.bsp_machine.specs.Workers.{share_told, share_at, count_of}
 use Rattle.bsp_machine.proofs.MarkLemmas.{going_on, or_false}

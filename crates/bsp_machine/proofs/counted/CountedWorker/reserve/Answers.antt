@@ -3,7 +3,7 @@ use Rattle.std.specs.Prelude.{vec_capacity}
 use Rattle.superstep_machine.specs.Parts.{UniformPart}
 use Rattle.superstep_machine.specs.Run.{setting, opening}
 use Rattle.instruction_steps.specs.Views.{HasReserve}
-use Rattle.worker_messages.specs.declared.local.Local.{Local}
+use Rattle.worker_exchange.specs.declared.local.Local.{Local}
 use Rattle.run_options.specs.declared.reserve.Reserve.{Reserve}
 use Rattle.bsp_machine.proofs.CountedLemmas.{one_reserve}
 use Rattle.bsp_machine.proofs.counted.CountedWorker.reserve.Goals as goal

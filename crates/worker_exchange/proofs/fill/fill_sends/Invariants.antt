@@ -1,0 +1,15 @@
+use Rattle.std.proofs.Common.{◌≡◌, ◌≤◌, ◌*◌, ◌^◌, length, take}
+use Rattle.worker_exchange.specs.Rows.{words_in}
+use Rattle.worker_exchange.specs.Sends.{words_of, send_message}
+use Rattle.worker_exchange.proofs.RowLemmas.{AreFilled}
+use Rattle.worker_exchange.proofs.fill.fill_sends.Given as goal
+
+abbrev pub invariant-workers : goal.invariant-workers
+invariant-workers g l = record {
+  filled : AreFilled (send_message l.key (words_of l.columns) l.counts) l.j (g.W.Row.filled l.row);
+  words : l.sent ≡ words_in (take l.j (g.W.Row.filled l.row));
+  fits : l.sent ≤ l.j * 2 ^ 32;
+  long : length (g.W.Row.filled l.row) ≡ length l.columns;
+  room : g.W.Row.room l.row ≡ g.W.Row.room l.fn.row;
+  kept : g.W.Row.kept l.fn.row l.row;
+}

@@ -1,9 +1,0 @@
-pub mod ActiveLemmas
-pub mod ReachedLemmas
-pub mod AwaitedLemmas
-pub mod RoomLemmas
-pub mod ArrivedLemmas
-pub mod WrittenLemmas
-pub mod MessagesWrittenLemmas
-pub mod OpeningLemmas
-pub mod PastLemmas

@@ -1,6 +1,0 @@
-pub mod Reached
-pub mod Shown
-pub mod Equipped
-pub mod MessagesWritten
-pub mod Arrived
-pub mod Opened
