@@ -6,7 +6,7 @@ use Rattle.pram_check.specs.Checked.{Checked}
 use Rattle.superstep_listing.specs.Listing.{spelling}
 use Rattle.superstep_machine.specs.Trace.{Exchange}
 use Rattle.tracer.specs.Traced.{trace_text}
-use Rattle.trace_pictures.specs.Picture as trace
+use Rattle.tracer.specs.Picture as trace
 use Rattle.step_pictures.specs.Picture as steps
 use Rattle.write_rules.specs.Verdict.{verdict_of}
 use Rattle.program_texts.specs.Shown.{line, shown}

@@ -9,7 +9,7 @@ ghost use Rattle.program_texts.specs.declared.status.Status.TheVariants.{Done};
 ghost use Rattle.explanations.specs.Explained.{explanation};
 ghost use Rattle.rule_comparison.specs.ComparisonText.{comparison_text};
 ghost use Rattle.superstep_listing.specs.Listing.{spelling};
-ghost use Rattle.trace_pictures.specs.Picture.{picture};
+ghost use Rattle.tracer.specs.Picture.{picture};
 ghost use Rattle.tracer.specs.Traced.{trace_text};
 ghost use Rattle.command_text.specs.Costs.{costs_text};
 ghost use Rattle.command_facts.specs.Written.{Wrote};
@@ -27,8 +27,7 @@ use rule_comparison::{Comparison, show_comparison};
 use superstep_instructions::Code;
 use superstep_listing::write_listing;
 use text_out::{Out, WriteFault};
-use trace_pictures::write_picture;
-use tracer::write_trace;
+use tracer::{write_picture, write_trace};
 use work_time::Cost;
 use write_rules::Outcome;
 

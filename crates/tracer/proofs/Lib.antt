@@ -1,1 +1,3 @@
 pub mod TraceLemmas
+pub mod BarTexts
+pub mod ColumnTexts

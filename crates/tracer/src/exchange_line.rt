@@ -11,7 +11,7 @@ use itoa::Buffer;
 use text_out::{Out, WriteFault};
 
 /// The word for what an exchange is for: `send`, `reply`, `vote` or `close`.
-pub fn kind_word(purpose: Purpose) -> &'static [u8]
+pub(crate) fn kind_word(purpose: Purpose) -> &'static [u8]
     ensures { result.now ≡ kind_text (purpose_is purpose) }
 {
     match purpose {

@@ -1,10 +1,13 @@
-//! The trace of a run: a line for each of its exchanges.
+//! The trace of a run, as text and as a picture: a line, or a column with bars, for each of its exchanges.
 #![tactic(auto)]
 
+mod bars;
+mod columns;
 mod exchange_line;
+mod picture;
 mod trace;
 pub mod trace_laws;
 
 pub use exchange_counts::{Count, Counts, Purpose};
-pub use exchange_line::kind_word;
+pub use picture::write_picture;
 pub use trace::write_trace;

@@ -1,2 +1,0 @@
-pub mod BarTexts
-pub mod ColumnTexts

@@ -1,0 +1,38 @@
+use Rattle.std.proofs.Common.{◌<◌, length, arith}
+use Rattle.text_out.proofs.Writing.{writes_stopped}
+use Rattle.text_out.proofs.Progress.{goes_on, stops}
+use Rattle.exchange_counts.specs.CountedExchanges.{exchange_at}
+use Rattle.tracer.proofs.BarTexts.{received_at, received_fits}
+use Rattle.tracer.proofs.bars.write_received_bars.Goals as goal
+
+pub write_received_bar-requires-clause-words : goal.write_received_bar-requires-clause-words
+write_received_bar-requires-clause-words g c =
+    let e = exchange_at c.args.counts.now c.args.k in
+    let as_many = c.workers-workers.ensures.received c.args.k c.requires.first c.requires.last in
+    let test = c.workers-test.true in
+    let below : c.workers.w < length e.received = omega (arith, as_many, test) in
+    received_fits e c.workers.w c.received.result c.args.scale.most below c.received.ensures c.requires.most
+
+-- the writer stopped within one bar
+pub returns-in_err-write_received_bar : goal.returns-in_err-write_received_bar
+returns-in_err-write_received_bar g c =
+    let e = exchange_at c.args.counts.now c.args.k in
+    let as_many = c.workers-workers.ensures.received c.args.k c.requires.first c.requires.last in
+    let test = c.workers-test.true in
+    let below : c.workers.w < length e.received = omega (arith, as_many, test) in
+    record {
+      written = writes_stopped _ _ _ c.from_residual.result _ c.from_residual.ensures.1
+          (stops _ _ _ _ _ _ _ c.workers.invariant.progress (received_at c.args.scale.most c.args.scale.x c.workers.w e.received c.received.result below c.received.ensures)
+          c.in_err-write_received_bar.ensures.written);
+    }
+
+pub workers-preserved : goal.workers-preserved
+workers-preserved g c =
+    let e = exchange_at c.args.counts.now c.args.k in
+    let as_many = c.workers-workers.ensures.received c.args.k c.requires.first c.requires.last in
+    let test = c.workers-test.true in
+    let below : c.workers.w < length e.received = omega (arith, as_many, test) in
+    record {
+      progress = goes_on _ _ _ _ _ _ _ c.workers.invariant.progress
+          (received_at c.args.scale.most c.args.scale.x c.workers.w e.received c.received.result below c.received.ensures) c.in_ok-write_received_bar.ensures.written;
+    }

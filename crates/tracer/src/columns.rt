@@ -1,0 +1,139 @@
+//! The columns of exchanges.
+
+ghost use Rattle.std.specs.Prelude.{◌≡◌, ◌≤◌, ◌<◌, ◌+◌, ◌-◌, ◌*◌, ◌^◌, length};
+ghost use Rattle.superstep_machine.specs.Trace.{relation_of};
+ghost use Rattle.text_out.specs.Out.{Writes};
+ghost use Rattle.superstep_machine.specs.Purposes.{purpose_is};
+ghost use Rattle.exchange_counts.specs.CountedExchanges.{exchange_at};
+ghost use Rattle.tracer.specs.Picture as spec;
+
+use crate::bars::{Scale, write_received_bars, write_sent_bars};
+use crate::exchange_line::kind_word;
+use exchange_counts::{Counts, Purpose};
+use itoa::Buffer;
+use text_out::{Out, WriteFault};
+
+const LEFT: u128 = 72;
+
+/// How the columns of a run are drawn: how wide each is, in pixels, and for how many words the tallest bar is.
+#[derive(Clone, Copy, Debug)]
+pub(crate) struct Measure {
+    pub(crate) workers: usize,
+    pub(crate) most: u64,
+}
+
+/// How wide the column of an exchange is.
+pub(crate) fn column_width(workers: usize) -> u128
+    ensures width { result ≡ spec.column_width workers }
+    ensures fits { result < 2 ^ 70 }
+{
+    10 * workers as u128 + 50
+}
+
+// What stands behind a column.
+fn ground(purpose: Purpose) -> &'static [u8]
+    ensures { result.now ≡ spec.ground (purpose_is purpose) }
+{
+    match purpose {
+        Purpose::Send => b"#f2f2f2",
+        Purpose::Reply => b"#ffffff",
+        Purpose::Vote { destination: _ } => b"#e0e0e0",
+        Purpose::Close => b"#ffffff",
+    }
+}
+
+// What is behind a column from x on; its number and its kind above the bars, and its h below them.
+fn write_front<W: Out>(
+    out: &mut W,
+    x: u128,
+    width: u128,
+    k: usize,
+    purpose: Purpose,
+    h: u64,
+) -> Result<(), WriteFault>
+    requires counted { (W.Out.state out.old).failures < 2 ^ 63 }
+    requires near { x < 2 ^ 100 }
+    ensures written { Writes (W.Out.state out.old) (W.Out.state out.new) (spec.column_front x width k (purpose_is purpose) h) result }
+{
+    let mut left = Buffer::new();
+    let mut words_left = Buffer::new();
+    let mut wide = Buffer::new();
+    let mut number = Buffer::new();
+    let mut relation = Buffer::new();
+    let words = words_left.format(x + 4).as_bytes();
+    out.write_parts(&[
+        b"<rect x='",
+        left.format(x).as_bytes(),
+        b"' y='50' width='",
+        wide.format(width).as_bytes(),
+        b"' height='264' fill='",
+        ground(purpose),
+        b"'/>\n<text x='",
+        words,
+        b"' y='64'>",
+        number.format(k).as_bytes(),
+        b"</text>\n<text x='",
+        words,
+        b"' y='78'>",
+        kind_word(purpose),
+        b"</text>\n<text x='",
+        words,
+        b"' y='304'>h ",
+        relation.format(h).as_bytes(),
+        b"</text>\n",
+    ])
+}
+
+// The bars of an exchange in a column.
+fn write_bars<W: Out>(
+    out: &mut W,
+    counts: &Counts,
+    scale: Scale,
+    k: usize,
+) -> Result<(), WriteFault>
+    requires counted { (W.Out.state out.old).failures < 2 ^ 63 }
+    requires first { 1 ≤ k }
+    requires last { k ≤ length counts.now }
+    requires most { relation_of (exchange_at counts.now k) ≤ scale.most }
+    ensures written { Writes (W.Out.state out.old) (W.Out.state out.new)
+        (spec.bars scale.most scale.x (exchange_at counts.now k)) result }
+{
+    write_sent_bars(out, counts, scale, k)?;
+    write_received_bars(out, counts, scale, k)
+}
+
+// Where the column of exchange k begins.
+fn column_left(measure: Measure, k: usize) -> u128
+    requires first { 1 ≤ k }
+    requires few { k ≤ 200 }
+    ensures left { result ≡ spec.column_left measure.workers k }
+    ensures near { result < 2 ^ 100 }
+{
+    LEFT + column_width(measure.workers) * (k as u128 - 1)
+}
+
+/// Writes the column of an exchange, counted from 1.
+pub(crate) fn write_column<W: Out>(
+    out: &mut W,
+    counts: &Counts,
+    measure: Measure,
+    k: usize,
+) -> Result<(), WriteFault>
+    requires counted { (W.Out.state out.old).failures < 2 ^ 63 }
+    requires first { 1 ≤ k }
+    requires last { k ≤ length counts.now }
+    requires few { k ≤ 200 }
+    requires most { relation_of (exchange_at counts.now k) ≤ measure.most }
+    ensures written { Writes (W.Out.state out.old) (W.Out.state out.new)
+        (spec.column measure.workers measure.most k (exchange_at counts.now k)) result }
+{
+    let x = column_left(measure, k);
+    let width = column_width(measure.workers);
+    let (purpose, h) = counts.exchange(k);
+    write_front(out, x, width, k, purpose, h)?;
+    let scale = Scale {
+        x,
+        most: measure.most,
+    };
+    write_bars(out, counts, scale, k)
+}
