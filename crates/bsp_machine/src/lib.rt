@@ -20,3 +20,5 @@ pub use counted::CountedWorker;
 pub use end_room::EndRoom;
 pub use opening::open_all;
 pub use plain::run_plain;
+pub use superstep_machine::Purpose;
+pub use worker_exchange::{Column, Local, Row, RunRefusal, put_words, row_room};

@@ -3,14 +3,13 @@
 use crate::codes::BROADCAST;
 use crate::flat::{ENDED, FAULTED, GOING_ON};
 use address_map::{AddressMap, Affine, Identity, Rounds};
-use bsp_machine::run_plain;
+use bsp_machine::{RunRefusal, run_plain};
 use bsp_verify::{Verified, verify};
 use flat_run::flat_run;
 use std::alloc::Global;
 use superstep_code::read_listing;
 use text_out::Buffer;
 use tracer::write_trace;
-use worker_exchange::RunRefusal;
 use write_rules::Outcome;
 
 const WORKERS: [u32; 6] = [1, 2, 3, 4, 7, 32];

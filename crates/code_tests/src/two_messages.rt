@@ -2,8 +2,8 @@
 
 ghost use Rattle.std.specs.Prelude.{◌≡◌, vec_capacity, IfOk};
 
+use bsp_machine::{Column, Row, put_words};
 use std::alloc::{AllocError, Global};
-use worker_exchange::{Column, Row, put_words};
 
 /// What a worker sends to each of two.
 #[derive(Drop)]

@@ -13,6 +13,7 @@ ghost use Rattle.program_runs.specs.Runs.{IsChoice, IsMapOf, IsNoMap};
 ghost use Rattle.program_runs.specs.Reserved.{IsCodeRefusedWith, IsCodeRunWith};
 
 use address_map::{AddressMap, Affine, Identity, MapFault};
+use bsp_machine::RunRefusal;
 use bsp_verify::Verified;
 use exchange_counts::Counts;
 use program_texts::Refusal;
@@ -20,7 +21,6 @@ use run_options::{MapChoice, Options, Reserve, places};
 use std::alloc::Global;
 use std::sync::Wait;
 use std::thread::Threads;
-use worker_exchange::RunRefusal;
 use workers::{Gate, run_with_reserve};
 use write_rules::Outcome;
 

@@ -13,7 +13,7 @@ ghost use Rattle.run_tests.specs.Callers.{Opens, IsNewSeat, HasPlayed};
 
 use crate::listing::{TRACE, verified};
 use address_map::{AddressMap, Identity};
-use bsp_machine::{CountedWorker, EndRoom};
+use bsp_machine::{CountedWorker, EndRoom, row_room};
 use exchange_counts::Counts;
 use pram_model::Rule;
 use std::alloc::Global;
@@ -23,7 +23,6 @@ use superstep_code::Code;
 use text_out::Buffer;
 use tracer::write_trace;
 use turnstile::{RowSeat, Turnstile};
-use worker_exchange::row_room;
 use workers::{OpenGate, gather, work};
 use write_rules::{Exclusive, Outcome};
 

@@ -1,6 +1,7 @@
 //! The worked listing by workers in threads: its outcome, its exchanges, and why it isn't run.
 
 use address_map::Identity;
+use bsp_machine::RunRefusal;
 use bsp_verify::{Verified, verify};
 use std::alloc::Global;
 use std::sync::Wait;
@@ -8,7 +9,6 @@ use std::thread::Threads;
 use superstep_code::read_listing;
 use text_out::Buffer;
 use tracer::write_trace;
-use worker_exchange::RunRefusal;
 use workers::{OpenGate, run_workers};
 
 // b[i] := a[1] for four processors.

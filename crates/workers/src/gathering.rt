@@ -14,11 +14,10 @@ ghost use Rattle.workers.specs.Gathered.{HaveEnded, HaveEndedSome, NoneHasStoppe
 ghost use Rattle.workers.specs.Past.{ComesPast};
 
 use address_map::AddressMap;
-use bsp_machine::{CountedWorker, EndRoom, collect};
+use bsp_machine::{CountedWorker, EndRoom, RunRefusal, collect};
 use exchange_counts::Counts;
 use superstep_instructions::Code;
 use turnstile::{RowSeat, Turnstile};
-use worker_exchange::RunRefusal;
 use write_rules::Outcome;
 
 /// What the workers of one run come to, in their order, each with the seat at which it has played its part, and the exchanges that

@@ -3,8 +3,8 @@
 ghost use Rattle.std.specs.Prelude.{◌≡◌, ◌<◌, ◌≤◌, ℕ, length};
 ghost use Rattle.workers.specs.Seating.{AreShort};
 
+use bsp_machine::{Column, Row};
 use turnstile::{ColumnSeat, RowSeat};
-use worker_exchange::{Column, Row};
 
 /// A seat whose row a worker fills with the messages of an exchange.
 #[derive(Drop)]

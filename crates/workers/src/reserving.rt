@@ -9,11 +9,10 @@ ghost use Rattle.bsp_machine.specs.Reserves.{HaveReserve};
 ghost use Rattle.bsp_machine.specs.Opening.{AreFresh};
 
 use address_map::AddressMap;
-use bsp_machine::{CountedWorker, open_all};
+use bsp_machine::{CountedWorker, RunRefusal, open_all};
 use run_options::Reserve;
 use std::alloc::{AllocError, Global};
 use superstep_instructions::Code;
-use worker_exchange::RunRefusal;
 
 // Each worker takes all the memory of its run.
 fn reserve_each(workers: &mut Vec<CountedWorker>, reserve: Reserve) -> Result<(), AllocError>

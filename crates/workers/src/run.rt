@@ -20,7 +20,7 @@ use crate::lists::{tasks_of, unused, unzipped};
 use crate::reserving::open_reserved;
 use crate::room::RunRoom;
 use address_map::AddressMap;
-use bsp_machine::{CountedWorker, EndRoom};
+use bsp_machine::{CountedWorker, EndRoom, RunRefusal};
 use bsp_verify::Verified;
 use exchange_counts::Counts;
 use run_options::Reserve;
@@ -29,7 +29,6 @@ use std::sync::Wait;
 use std::thread::Threads;
 use superstep_instructions::Code;
 use turnstile::{RowSeat, Turnstile};
-use worker_exchange::RunRefusal;
 use write_rules::Outcome;
 
 // All workers play their parts, a thread being started for each. All seats come back, and the workers if they began: where the start of a
