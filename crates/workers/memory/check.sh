@@ -10,8 +10,8 @@ limit=100000 # kilobytes of address space; ten thousand runs take more than two 
 . "$top/bench/lib.sh"
 bench=crates/workers
 libraries="arrayvec itoa thiserror atomic_table crossbeam_utils" prepare memory exchange_arena turnstile pram_model text_out address_map \
-    pram_values write_rules superstep_instructions superstep_listing superstep_machine bsp_verify combining flat_machine instruction_steps worker_bank \
-    worker_steps machine_limits exchange_counts worker_exchange worker_histories bsp_machine workers
+    pram_tokens run_options pram_values write_rules superstep_instructions superstep_listing superstep_machine bsp_verify combining flat_machine \
+    instruction_steps worker_bank worker_steps machine_limits exchange_counts worker_exchange worker_histories bsp_machine workers
 cd "$program"
 if ! rt run --jobs 1 > "$work/log" 2>&1; then
     tail -n 20 "$work/log"
