@@ -17,6 +17,7 @@ use Rattle.worker_exchange.specs.declared.way.Way.{Way}
 use Rattle.worker_exchange.specs.declared.way.Way.TheVariants as ways
 use Rattle.worker_exchange.specs.Shown.{way_is, is_stopped, marked}
 use Rattle.worker_exchange.specs.Received.{mark_heard, is_marked}
+use Rattle.worker_histories.proofs.Marking.{marked_worse}
 use Rattle.bsp_machine.specs.declared.counted.CountedWorker.{CountedWorker}
 use Rattle.run_options.specs.declared.reserve.Reserve.{Reserve}
 use Rattle.bsp_machine.specs.Reserves.{own_mark, IsMark, AreMarked, IsGiven, refusal_by, refusal_for}
@@ -43,13 +44,6 @@ never way mark e h = true_no_false (sym (ap is_stopped e) ∙ h)
     true_no_false h = cc
 
 -- ---- marks together
-
-marked_worse : (a b : HeaderMark) → is_marked (worse a b) ≡ (is_marked a || is_marked b)
-marked_worse Clear b = refl
-marked_worse OutOfMemory b = refl
-marked_worse OutOfReserve Clear = refl
-marked_worse OutOfReserve OutOfMemory = refl
-marked_worse OutOfReserve OutOfReserve = refl
 
 abbrev pub header_marked : WrittenMessage → Bool
 header_marked x = is_marked (read_header x.header).mark

@@ -6,18 +6,13 @@ use Rattle.superstep_machine.specs.Setting.{Setting, workers}
 use Rattle.superstep_machine.specs.Machine.{column}
 use Rattle.superstep_machine.specs.Run.{State, Ready, bsp, opening, after, ready, mark_now, message_with, message_of}
 use Rattle.bsp_verify.specs.Runs.{worker_after}
-use Rattle.superstep_machine.proofs.Refused.{for_clear}
+use Rattle.superstep_machine.proofs.Refused.{with_mark}
 use Rattle.worker_histories.proofs.Joining.{phase_more}
 
 module _ (t : Setting) where
   -- the mark of a message is the one of the stretch before
-  mark_with : (r : Ready) (j : ℕ) (mark : HeaderMark) → (message_with t r j mark).mark ≡ mark
-  mark_with r j Clear = for_clear t r.purpose r.state.worker j
-  mark_with r j OutOfMemory = refl
-  mark_with r j OutOfReserve = refl
-
   pub mark_sent : (w : ℕ) (s : State) (j : ℕ) → (message_of t w s j).mark ≡ mark_now s.refusals
-  mark_sent w s j = mark_with (ready t w s) j (mark_now s.refusals)
+  mark_sent w s j = with_mark t (ready t w s) j (mark_now s.refusals)
 
   -- the next state of a worker of the run
   pub state_more : (input : List ℤ) (k w : ℕ) → worker_after t input (suc k) w

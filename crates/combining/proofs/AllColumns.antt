@@ -7,7 +7,7 @@ use Rattle.combining.specs.AllModules.{column, room_at, GetsFirst}
 
 -- ---- a list of which one item is changed
 
-map_set : {A B : Type 0} (f : A → B) (xs : List A) (n : ℕ) (v : A) → map f (set xs n v) ≡ set (map f xs) n (f v)
+pub map_set : {A B : Type 0} (f : A → B) (xs : List A) (n : ℕ) (v : A) → map f (set xs n v) ≡ set (map f xs) n (f v)
 map_set f [] n v = refl
 map_set f (x ∷ xs) zero v = refl
 map_set f (x ∷ xs) (suc n) v = ap (λ ys. f x ∷ ys) (map_set f xs n v)

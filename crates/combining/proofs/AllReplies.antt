@@ -19,6 +19,7 @@ pub all_left : (n k : ℕ) (replies : List (List ℕ)) → left_of_all (zeros n)
 all_left n k [] = refl
 all_left n k (ws ∷ rest) = ap (λ m. drop m ws ∷ left_of_all (zeros n) (k + 1) rest) (none_taken n k) ∙ ap (λ us. ws ∷ us) (all_left n (k + 1) rest)
 
+-- a reply without words changes nothing
 pub nothing_replied : (part : ℕ → ℕ) (k : ℕ) (held : List HeldAsk) → replied part k [] held ≡ held
 nothing_replied part k [] = refl
 nothing_replied part k (x ∷ rest) = refl

@@ -20,6 +20,7 @@ use Rattle.superstep_machine.proofs.MachineWords.{all_firsts, all_map, cell_at_b
 use Rattle.combining.specs.Asked.{HeldAsk, IsAskBelow, ask_key, key_of, marked_twice, ask}
 use Rattle.combining.specs.Adding.{cells_added, asked_from, asked_by, asked_after, unanswered, AddedAsksAreTheMachines, AsksCanBeAdded}
 use Rattle.combining.specs.Adding.{FittingAsksAreTheMachines, CellsStayBelow}
+use Rattle.combining.proofs.AscendingAsks.{asked_after_append}
 use Rattle.combining.proofs.MachinePuts.{firsts_filter, length_filter}
 
 -- ---- one read
@@ -178,10 +179,6 @@ small_apart : (k : ℕ) (cs : List ℕ) (ys : List (ℕ × ℕ)) → AllByRecurs
 small_apart k [] ys all = (tt, all)
 small_apart k (c ∷ cs) ys all = let rest = small_apart k cs ys all.1 in ((all.0, rest.0), rest.1)
 
-after_more : (xs ys : List (ℕ × ℕ)) (held : List HeldAsk) → asked_after (xs ++ ys) held ≡ asked_after ys (asked_after xs held)
-after_more [] ys held = refl
-after_more (x ∷ xs) ys held = after_more xs ys (ask x.0 x.1 held)
-
 keys_apart : (k c m d : ℕ) → c < 2 ^ 20 → d < 2 ^ 20 → k < m → ask_key k c ≡ ask_key m d → ⊥
 keys_apart k c m d small l less e = omega (arith, small, l, less, e)
 
@@ -202,10 +199,10 @@ behind s x k small less (read ∷ rest) all held =
     let cs = cells_added s read k in
     let later = asked_from s (k + 1) rest in
     let both = small_apart k cs later all in
-    after_more (pairs k cs) later (x ∷ held)
+    asked_after_append (pairs k cs) later (x ∷ held)
     ∙ ap (asked_after later) (behind_read x k small less cs both.0 held)
     ∙ behind s x (k + 1) small (omega (arith, less)) rest both.1 (asked_after (pairs k cs) held)
-    ∙ ap (λ ys. x ∷ ys) (sym (after_more (pairs k cs) later held))
+    ∙ ap (λ ys. x ∷ ys) (sym (asked_after_append (pairs k cs) later held))
 
 all_behind : (s : Worker) (k m : ℕ) → k < m → (twice : ℕ → Bool) (cs : List ℕ) → AllSmall cs
     → (reads : List Read) → AllByRecursion Small (asked_from s m reads)
@@ -225,7 +222,7 @@ reads_are s k (read ∷ rest) sides all =
     let later = asked_from s (k + 1) rest in
     let both = small_apart k cs later all in
     let now : ℕ → CellAsk = λ c. record { read = k; cell = c; twice = asked_twice s k c } in
-    after_more (pairs k cs) later []
+    asked_after_append (pairs k cs) later []
     ∙ ap (asked_after later) (read_within k (length cs) cs (omega arith) ∙ marks_are s.own k read.cell read.side sides.0)
     ∙ all_behind s k (k + 1) (omega arith) (asked_twice s k) (firsts cs) (all_firsts (λ c. c < 2 ^ 20) cs both.0) rest both.1
     ∙ ap (λ ys. map (λ c. unanswered (now c)) (firsts cs) ++ ys) (reads_are s (k + 1) rest sides.1 both.1)

@@ -10,11 +10,6 @@ lies_there m lawful one cell below =
     let part = lawful.part_below cell below in
     eq-eqb (m.part cell) 0 (omega (arith, part, one))
 
--- a reply without words changes nothing
-pub nothing_replied : (part : ℕ → ℕ) (j : ℕ) (held : List HeldAsk) → replied part j [] held ≡ held
-nothing_replied part j [] = refl
-nothing_replied part j (x ∷ held) = refl
-
 -- what is behind some pairs goes by what is behind the items
 pub drop_paired : {X Y : Type 0} (make : ℕ → X → Y) (i : ℕ) (ks : List ℕ) (xs : List X) →
     drop i (paired make ks xs) ≡ paired make (drop i ks) (drop i xs)

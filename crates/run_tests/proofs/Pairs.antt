@@ -1,6 +1,7 @@
 -- Two seats and two workers, as lists of all.
 use Rattle.std.proofs.Common.{◌≡◌, ℕ, zero, suc, List, [], ◌∷◌, ◌++◌, length, Some, sym, ap, ◌∙◌, subst, arith, ℤ}
 use Rattle.std.specs.Prelude.{slice_get}
+use Rattle.pram_model.proofs.Truths.{unsome}
 use Rattle.std.proofs.lemmas.List.{length-append}
 use Rattle.address_map.specs.Lawful.{Shape}
 use Rattle.superstep_instructions.specs.Code.{SuperstepCode}
@@ -9,14 +10,11 @@ use Rattle.bsp_machine.specs.declared.counted.CountedWorker.{CountedWorker}
 use Rattle.workers.specs.Gathered.{HasEnded, HaveEnded}
 use Rattle.run_tests.specs.Callers.{IsNewSeat}
 
-some_is : {A : Type 0} (x y : A) → Some x ≡ Some y → x ≡ y
-some_is x y e = cc
-
 -- what holds at both places
 at_both : {A B : Type 0} (P : ℕ → A → B → Type 0) (a b : A) (x y : B) → P 0 a x → P 1 b y → (w : ℕ) (r : A) (z : B) →
     slice_get (a ∷ b ∷ []) w ≡ Some r → slice_get (x ∷ y ∷ []) w ≡ Some z → P w r z
-at_both P a b x y p q zero r z e f = subst (P 0 r) (some_is x z f) (subst (λ v. P 0 v x) (some_is a r e) p)
-at_both P a b x y p q (suc zero) r z e f = subst (P 1 r) (some_is y z f) (subst (λ v. P 1 v y) (some_is b r e) q)
+at_both P a b x y p q zero r z e f = subst (P 0 r) (unsome x z f) (subst (λ v. P 0 v x) (unsome a r e) p)
+at_both P a b x y p q (suc zero) r z e f = subst (P 1 r) (unsome y z f) (subst (λ v. P 1 v y) (unsome b r e) q)
 at_both P a b x y p q (suc (suc w)) r z e f = absurd (cc)
 
 pub both_ended : (code : SuperstepCode) (m : Shape) (bound : ℕ) (input : List ℤ) (a b : RowState) (x y : CountedWorker)

@@ -272,6 +272,11 @@ module _ {A : Type 0} (op : A → A → A) (assoc : (a b c : A) → op (op a b) 
 pub keys_are_monoid : IsMonoid (Option Key) None least
 keys_are_monoid = together_is_monoid first_key first_associates first_commutes
 
+-- nothing beside a key leaves it
+pub none_least : (x : Option Key) → least x None ≡ x
+none_least None = refl
+none_least (Some a) = refl
+
 -- a key twice is the key
 pub least_again : (x : Option Key) → least x x ≡ x
 least_again None = refl

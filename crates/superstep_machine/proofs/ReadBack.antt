@@ -115,7 +115,8 @@ put_long Common x = refl
 put_long Priority x = refl
 put_long Sum x = refl
 
-puts_long : (rule : Rule) (xs : List CellPut) → length (flat_map (put_words rule) xs) ≡ length xs * put_length rule
+-- puts are counted by their words
+pub puts_long : (rule : Rule) (xs : List CellPut) → length (flat_map (put_words rule) xs) ≡ length xs * put_length rule
 puts_long rule [] = sym (zero-mul (put_length rule))
 puts_long rule (x ∷ xs) =
     length-append (put_words rule x) (flat_map (put_words rule) xs)

@@ -158,7 +158,8 @@ module _ (t : Setting) where
   for_clear (Votes d) x j = refl
   for_clear Closes x j = refl
 
-  with_mark : (r : Ready) (j : ℕ) (mark : HeaderMark) → (message_with t r j mark).mark ≡ mark
+  -- the mark of a message is the one that it is given
+  pub with_mark : (r : Ready) (j : ℕ) (mark : HeaderMark) → (message_with t r j mark).mark ≡ mark
   with_mark r j Clear = for_clear r.purpose r.state.worker j
   with_mark r j OutOfMemory = refl
   with_mark r j OutOfReserve = refl

@@ -11,7 +11,7 @@ use Rattle.pram_model.specs.declared.rule.Rule.TheVariants.{Sum}
 use Rattle.address_map.specs.Lawful.{Shape}
 use Rattle.superstep_machine.specs.Words.{CellPut, put_words, ask_words}
 use Rattle.superstep_machine.specs.WordReading.{put_length}
-use Rattle.superstep_machine.proofs.ReadBack.{put_long}
+use Rattle.superstep_machine.proofs.ReadBack.{puts_long}
 use Rattle.combining.specs.AllModules.{column, room_at, HasGot}
 use Rattle.combining.specs.Held.{puts_for, packed_puts}
 use Rattle.combining.specs.Asked.{HeldAsk, asks_for}
@@ -35,12 +35,6 @@ one_cleared columns j w l none h i k =
 -- the words of a list are those of its place
 pub words_at : (columns : List Words) (j : ℕ) (v : Words) → j < length columns → v ≡ get_or columns j v → column (words_of columns) j ≡ v.items
 words_at columns j v l is = item_of items columns j v [] l is
-
--- puts are counted by their words
-puts_long : (rule : Rule) (xs : List CellPut) → length (flat_map (put_words rule) xs) ≡ length xs * put_length rule
-puts_long rule [] = sym (zero-mul (put_length rule))
-puts_long rule (x ∷ xs) =
-    length-append (put_words rule x) (flat_map (put_words rule) xs) ∙ (λ i. put_long rule x i + puts_long rule xs i) ∙ grind arith
 
 some_words : (rule : Rule) → 0 < put_length rule
 some_words Sum = omega arith

@@ -22,6 +22,7 @@ use Rattle.superstep_machine.specs.Parts.{Moment, UniformPart}
 use Rattle.superstep_machine.specs.Worker.{Worker}
 use Rattle.superstep_machine.specs.WordLaws.{messages_read}
 use Rattle.superstep_machine.specs.Sending.{entry_came, verdict_on, put_conflict, after_send}
+use Rattle.superstep_machine.proofs.KeyOrder.{none_least}
 use Rattle.combining.specs.Merged.{IsMerged}
 use Rattle.combining.specs.ModuleLaws.{put_parts}
 use Rattle.combining.proofs.ModuleSends.{merged_cells, merged_conflict}
@@ -58,10 +59,6 @@ parts_are (x ∷ came) (p ∷ parts) part l h =
     let rest = parts_are came parts part (omega (arith, l)) (λ i b. h (suc i) (omega (arith, b))) in
     λ i. here i ∷ rest i
 
-least_none : (noted : Option Key) → least noted None ≡ noted
-least_none None = refl
-least_none (Some key) = refl
-
 none_put : (verdict : ℕ → Option Value) (cells : List ℕ) → total None least (λ c. put_conflict None c (verdict c)) cells ≡ None
 none_put verdict [] = refl
 none_put verdict (c ∷ cells) = none_put verdict cells
@@ -87,7 +84,7 @@ module _ (t : Setting) (w : ℕ) (lawful : IsLawful t.map) (below : w < workers 
   settled_shared shared = record {
     cells = cells_after;
     key = (λ i. least (put_noted u.put i) (if shared i then None else read_conflicts messages (module_cells t w) 0 u.asks))
-        ∙ least_none (key_of_put u.put found);
+        ∙ none_least (key_of_put u.put found);
   }
 
   pub settled_apart : shares_reads t.code.rule ≡ false → (noted : Option Key) →

@@ -43,7 +43,7 @@ one_truth false false f g = refl
 
 -- ---- a mark among messages
 
-marked_worse : (a b : HeaderMark) → is_marked (worse a b) ≡ (is_marked a || is_marked b)
+pub marked_worse : (a b : HeaderMark) → is_marked (worse a b) ≡ (is_marked a || is_marked b)
 marked_worse Clear b = refl
 marked_worse OutOfMemory b = refl
 marked_worse OutOfReserve Clear = refl

@@ -2,6 +2,7 @@
 use Rattle.std.proofs.Common.{◌≡◌, ◌≢◌, inl, inr, ℕ, zero, suc, ◌≤◌, List, [], ◌∷◌, ◌++◌, length, map, Bool, true, false}
 use Rattle.std.proofs.Common.{Option, Some, None, Vec, Global, refl, sym, ap, ◌∙◌, subst, arith}
 use Rattle.std.specs.Prelude.{slice_get, filter_map}
+use Rattle.pram_model.proofs.Truths.{unsome}
 use Rattle.std.proofs.lemmas.List.{length-append, length-map, map-append, append-nil}
 use Rattle.std.proofs.lemmas.List.Elements.{filter_map-append}
 use Rattle.std.specs.declared.thread.PromisedHandle.{PromisedHandle}
@@ -19,9 +20,6 @@ use Rattle.workers.specs.Reports.{IsReportOf, CameOf}
 use Rattle.workers.specs.Crews.{Pairwise, runner_of, AreStarted, IsSaid, AreReports, IsEnded}
 use Rattle.workers.proofs.PairLemmas.{pair_at, pairs_long, get_front, mapped_at}
 
-some_is : {A : Type 0} (x y : A) → Some x ≡ Some y → x ≡ y
-some_is x y e = cc
-
 get_of_elem : {A : Type 0} (xs : List A) (k : ℕ) (x : A) → get_elem? xs k ≡ some x → slice_get xs k ≡ Some x
 get_of_elem [] k x e = absurd (cc)
 get_of_elem (y ∷ xs) zero x e = (let s : y ≡ x = cc in ap (λ z. Some z) s)
@@ -29,7 +27,7 @@ get_of_elem (y ∷ xs) (suc k) x e = get_of_elem xs k x e
 
 map_get : {A B : Type 0} (f : A → B) (xs : List A) (k : ℕ) (x : A) → slice_get xs k ≡ Some x → slice_get (map f xs) k ≡ Some (f x)
 map_get f [] k x e = absurd (cc)
-map_get f (y ∷ xs) zero x e = ap (λ z. Some (f z)) (some_is y x e)
+map_get f (y ∷ xs) zero x e = ap (λ z. Some (f z)) (unsome y x e)
 map_get f (y ∷ xs) (suc k) x e = map_get f xs k x e
 
 -- ---- one report more
@@ -115,7 +113,7 @@ module _ {T : Type 0} (done : T → RowState × CountedWorker → Type 0) where
   all_done (x ∷ tasks) (r ∷ reports) same each =
       let h = each 0 r refl in
       let rest = all_done tasks reports (omega (arith, same)) (λ k q e. each (suc k) q e) in
-      let here : done x h.1 = subst (λ z. done z h.1) (sym (some_is x h.0 h.2)) h.4 in
+      let here : done x h.1 = subst (λ z. done z h.1) (sym (unsome x h.0 h.2)) h.4 in
       subst (Pairwise done (x ∷ tasks)) (sym (some_first r reports h.1 h.3)) (here, rest)
     where
       some_first : (r : Report T) (reports : List (Report T)) (y : RowState × CountedWorker) → r.played ≡ Some y →
@@ -173,7 +171,7 @@ module _ {T : Type 0} (done : T → RowState × CountedWorker → Type 0) where
         absurd (let q : ◌≡◌ {A = Option (Vec T Global)} None (Some back) = sym said.1 ∙ there in cc)
     back_by false is back there =
         let said = subst (λ b. IsSaid b tasks s.said unsaid) is e.said in
-        ap (λ (v : Vec T Global). v.items) (some_is back said.1 (sym there ∙ said.2)) ∙ said.3
+        ap (λ (v : Vec T Global). v.items) (unsome back said.1 (sym there ∙ said.2)) ∙ said.3
 
     pub tasks_back : (back : Vec T Global) → unsaid ≡ Some back → back.items ≡ tasks
     tasks_back = back_by e.went refl

@@ -1,17 +1,13 @@
 -- Messages of a seat as words of the machine's messages.
 use Rattle.std.proofs.Common.{◌≡◌, ℕ, zero, suc, ◌<◌, ◌≤◌, List, [], ◌∷◌, ◌++◌, length, set, refl, sym, ap, ◌∙◌, arith}
 use Rattle.std.specs.Prelude.{map, slice_index_or}
+use Rattle.combining.proofs.AllColumns.{map_set}
 use Rattle.flat_machine.proofs.Lists.{map_joined}
 use Rattle.worker_exchange.specs.Rows.{message_at}
 use Rattle.turnstile.specs.declared.views.Message.{Message}
 use Rattle.turnstile.specs.Seats.{RowState, ColumnState}
 use Rattle.turnstile.specs.Turns.{blank}
 use Rattle.workers.specs.Seating.{letter_of, letters, sent_of, received_of, only_row}
-
-map_set : {A B : Type 0} (f : A → B) (xs : List A) (i : ℕ) (x : A) → map f (set xs i x) ≡ set (map f xs) i (f x)
-map_set f [] i x = refl
-map_set f (y ∷ ys) zero x = refl
-map_set f (y ∷ ys) (suc i) x = ap (λ r. f y ∷ r) (map_set f ys i x)
 
 -- a message that is put into a row
 pub filled_is : (a b : RowState) (i : ℕ) (m : Message) → b ≡ record a { row = set a.row i m } →

@@ -2,10 +2,8 @@
 use Rattle.std.proofs.Common.{◌≡◌, ℕ, zero, suc, List, [], ◌∷◌, ◌++◌, length, map, Some, refl, ap}
 use Rattle.std.proofs.Common.{subst, arith}
 use Rattle.std.specs.Prelude.{slice_get}
+use Rattle.pram_model.proofs.Truths.{unsome}
 use Rattle.workers.specs.Crews.{Pairwise}
-
-some_is : {A : Type 0} (x y : A) → Some x ≡ Some y → x ≡ y
-some_is x y e = cc
 
 module _ {A B : Type 0} (P : A → B → Type 0) where
   -- one more of each
@@ -27,7 +25,7 @@ module _ {A B : Type 0} (P : A → B → Type 0) where
   pair_at [] [] k y all e = absurd (cc)
   pair_at [] (z ∷ ys) k y all e = absurd all
   pair_at (x ∷ xs) [] k y all e = absurd all
-  pair_at (x ∷ xs) (z ∷ ys) zero y all e = (x, refl, subst (P x) (some_is z y e) all.0)
+  pair_at (x ∷ xs) (z ∷ ys) zero y all e = (x, refl, subst (P x) (unsome z y e) all.0)
   pair_at (x ∷ xs) (z ∷ ys) (suc k) y all e = pair_at xs ys k y all.1 e
 
   -- by place
@@ -48,5 +46,5 @@ module _ {A : Type 0} where
   pub mapped_at : {B : Type 0} (f : A → B) (xs : List A) (k : ℕ) (y : B) → slice_get (map f xs) k ≡ Some y →
       (x : A) × (slice_get xs k ≡ Some x) × (f x ≡ y)
   mapped_at f [] k y e = absurd (cc)
-  mapped_at f (x ∷ xs) zero y e = (x, refl, some_is (f x) y e)
+  mapped_at f (x ∷ xs) zero y e = (x, refl, unsome (f x) y e)
   mapped_at f (x ∷ xs) (suc k) y e = mapped_at f xs k y e

@@ -8,7 +8,8 @@ use Rattle.combining.specs.Held.{paired}
 use Rattle.combining.specs.Asked.{ask_at, replied, IsAskBelow}
 use Rattle.combining.proofs.Pairs.{all_keys, length_paired, paired_more, take_paired_set}
 use Rattle.combining.proofs.Asking.{reply_yes, same_item, is_for}
-use Rattle.combining.proofs.OneModule.{lies_there, nothing_replied, rest_of_pairs}
+use Rattle.combining.proofs.AllReplies.{nothing_replied}
+use Rattle.combining.proofs.OneModule.{lies_there, rest_of_pairs}
 use Rattle.combining.proofs.single.keep_in_order.Goals as goal
 
 abbrev none : Asked

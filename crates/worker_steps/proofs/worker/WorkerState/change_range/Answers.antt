@@ -9,7 +9,7 @@ use Rattle.superstep_machine.specs.Results.{position_of}
 use Rattle.superstep_machine.specs.Steps.{fault_at, on_uniform, uniform_key, wrong_uniform}
 use Rattle.instruction_steps.specs.Views.{uniform_of}
 use Rattle.worker_steps.specs.Done.{IsDone}
-use Rattle.worker_steps.proofs.DoneLemmas.{least_none}
+use Rattle.superstep_machine.proofs.KeyOrder.{none_least}
 use Rattle.worker_steps.proofs.KindLemmas.{fault_kept, renewal_works}
 use Rattle.worker_steps.proofs.RangeLemmas.{range_is, room_for, none_held, done_range}
 use Rattle.worker_steps.proofs.worker.WorkerState.change_range.Goals as goal
@@ -69,4 +69,4 @@ returns-in_default c =
     let u = uniform_of a.uniform in
     let wrong : None ≡ wrong_uniform code i u = sym c.in_default.is ∙ c.change_range-wrong.ensures.wrong in
     done (goal.at.returns-in_default c).After-enter a.key
-    (sym (least_none a.key) ∙ ap (λ (w : Option Kind). least a.key (fault_at u (position_of i) All w)) wrong)
+    (sym (none_least a.key) ∙ ap (λ (w : Option Kind). least a.key (fault_at u (position_of i) All w)) wrong)

@@ -8,8 +8,9 @@ use Rattle.instruction_steps.specs.Views.{uniform_of}
 use Rattle.combining.specs.Held.{held_after}
 use Rattle.worker_bank.specs.Bank.{part_at, number_of}
 use Rattle.worker_steps.specs.Held.{made}
-use Rattle.worker_steps.proofs.KindLemmas.{none_either}
-use Rattle.worker_steps.proofs.DoneLemmas.{least_none, same_bank}
+use Rattle.worker_bank.proofs.InstructionReportLemmas.{none_either}
+use Rattle.superstep_machine.proofs.KeyOrder.{none_least}
+use Rattle.worker_steps.proofs.DoneLemmas.{same_bank}
 use Rattle.worker_steps.proofs.PutDone.{put_keeps, uniform_made, done_put}
 use Rattle.worker_steps.proofs.worker.WorkerState.put_uniform.Goals as goal
 
@@ -28,7 +29,7 @@ returns-clause-done g c =
     (λ xs ys j l. sym (put_keeps code Uniform entry s v q u (number_of a.bank j) (part_at a.bank xs ys j)))
     (λ xs ys j l. none_either (is_active (part_at a.bank xs ys j))) c.requires.fitted.bank refl (same_bank a.bank) refl
     (c.least-key.ensures ∙ ap (least a.key) (c.uniform_key-noted.ensures
-    ∙ sym (least_none (uniform_key code (Put Uniform entry s v q) u))))
+    ∙ sym (none_least (uniform_key code (Put Uniform entry s v q) u))))
     (uniform_made code a entry s v q c.requires.fitted c.requires.met)
     (c.hold_write.ensures.held ∙ ap (λ xs. held_after (g.R.WriteRule.rule c.args.rule.now) (made (by_processor (pos 0) c.write_of-write.result ∷ [])) xs)
     c.clear.ensures.none
