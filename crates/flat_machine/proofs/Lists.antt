@@ -4,8 +4,9 @@ use Rattle.std.proofs.Common.{arith}
 use Rattle.std.specs.Prelude.{slice_index_or}
 use Rattle.std.specs.List.{AllByRecursion, range_with_len, zip}
 use Rattle.std.proofs.lemmas.List.FromFn.{get_or-map-range_with_len}
-use Rattle.pram_values.specs.Total.{total, in_class}
+use Rattle.pram_values.specs.Total.{in_class}
 use Rattle.superstep_machine.proofs.Numbers.{same_number}
+pub use Rattle.std.proofs.lemmas.Simd.{map-map as map_twice}
 
 pub remainder_below : (v p : ℕ) → 1 ≤ p → v % p < p
 remainder_below v p h = omega (arith, h)
@@ -18,10 +19,6 @@ all_by P h (x ∷ xs) = (h x, all_by P h xs)
 pub all_below : (P : ℕ → Type 0) (n k : ℕ) → ((x : ℕ) → x < k + n → P x) → AllByRecursion P (range_with_len k n)
 all_below P zero k h = tt
 all_below P (suc n) k h = (h k (omega arith), all_below P n (k + 1) (λ x l. h x (omega arith)))
-
-pub map_twice : {A B C : Type 0} (f : B → C) (g : A → B) (xs : List A) → map f (map g xs) ≡ map (λ x. f (g x)) xs
-map_twice f g [] = refl
-map_twice f g (x ∷ xs) = ap (λ ys. f (g x) ∷ ys) (map_twice f g xs)
 
 pub map_same : {A B : Type 0} (f g : A → B) → ((x : A) → f x ≡ g x) → (xs : List A) → map f xs ≡ map g xs
 map_same f g h [] = refl

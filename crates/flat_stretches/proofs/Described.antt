@@ -33,7 +33,8 @@ places_are_as_said t given long met place f spent c =
       awaited = d.awaited;
       holds = λ e. let n = d.put ∙ e in record { put = no_put f.uniform.put n; held = a.counted.bare n };
       alone = d.alone;
-      rests = λ n w. rests_there t place f spent c (nil_from_length f.uniform.asks (d.asks ∙ n)) (none_came f.uniform.awaited (d.awaited ∙ w));
+      rests = λ n w. rests_there t place f spent c (nil_from_length f.uniform.asks (d.asks ∙ n))
+          (none_came f.uniform.awaited (d.awaited ∙ w));
     }
 
 -- ---- judged stretches

@@ -6,7 +6,8 @@ use Rattle.std.specs.List.{AllByRecursion, filter, range_with_len, zip}
 use Rattle.pram_values.specs.Truth.{is_nonzero, truth}
 use Rattle.superstep_instructions.specs.declared.instr.Side.TheVariants.{Uniform, Private}
 use Rattle.superstep_instructions.specs.declared.instr.Instr.{Instr}
-use Rattle.superstep_instructions.specs.declared.instr.Instr.TheVariants.{Mark, Set, Copy, Negate, Calculate, Decide, Not, CopyUniform, Index}
+use Rattle.superstep_instructions.specs.declared.instr.Instr.TheVariants.{Mark, Set, Copy, Negate, Calculate, Decide, Not, CopyUniform}
+use Rattle.superstep_instructions.specs.declared.instr.Instr.TheVariants.{Index}
 use Rattle.superstep_instructions.specs.declared.instr.Instr.TheVariants.{Enter}
 use Rattle.superstep_instructions.specs.declared.instr.Instr.TheVariants.{Leave, Mask, Flip, Unmask, Ask, Put, Send, Reply, Vote}
 use Rattle.superstep_instructions.specs.Code.{SuperstepCode}
@@ -19,8 +20,10 @@ use Rattle.flat_machine.specs.Flat.{Flat, range, after_instr, after_send, after_
 use Rattle.flat_stretches.specs.Folds.{act, act_at_once}
 use Rattle.flat_stretches.specs.Frames.{Frame, StandsIn, SetsNarrow, EverybodyIsPresent, RangesBegin, MasksNarrow}
 use Rattle.flat_stretches.specs.Frames.{FlipsTurn, UnmasksWiden, is_some, VotesSay, is_above, StaysIn, FoldsStay, FoldsAtOnceStay}
-use Rattle.flat_stretches.proofs.Below.{at_most, set_below}
+use Rattle.flat_stretches.proofs.Below.{set_below}
 use Rattle.flat_stretches.proofs.Sets.{filter_same, filter_twice, filter_all, any_is_some}
+use Rattle.pram_values.proofs.TruthValues.{is_nonzero-truth}
+use Rattle.std.proofs.lemmas.Bool.{leb-true}
 
 -- ---- sets
 
@@ -56,14 +59,10 @@ flips_turn code first base t fr f s = record {
 pub unmasks_widen : UnmasksWiden
 unmasks_widen code first base t fr f s = record { width = s.width; masks = λ v. ap unmasked (s.masks v); flags = s.flags }
 
-truth_is : (b : Bool) → is_nonzero (truth b) ≡ b
-truth_is true = refl
-truth_is false = refl
-
 pub votes_say : VotesSay
 votes_say first base d fr f s =
     ap (λ b. is_nonzero (if b then truth (any_active f) else f.uniform.registers d)) (with_itself d)
-    ∙ truth_is (any_active f) ∙ any_is_some (λ v. is_active (f.own v)) (range f)
+    ∙ is_nonzero-truth (any_active f) ∙ any_is_some (λ v. is_active (f.own v)) (range f)
     ∙ ap (λ w. is_some (filter (λ v. is_active (f.own v)) (range_with_len 0 w))) s.width
     ∙ ap is_some (filter_same (λ v. is_active (f.own v)) (λ v. under (fr.masks v)) (λ v. ap under (s.masks v)) (range_with_len 0 fr.width))
 
@@ -80,7 +79,7 @@ module _ (base : ℕ) (x : PrivatePart) where
   either_same false y h = record { masks = refl; registers = λ r l. refl }
 
   set_same : (d : ℕ) (z : ℤ) → nat_le base d ≡ true → AreSameBelow base x (record x { registers = set_register d z x.registers })
-  set_same d z h = record { masks = refl; registers = λ r l. set_below base d z x.registers r (at_most base d h) l }
+  set_same d z h = record { masks = refl; registers = λ r l. set_below base d z x.registers r (leb-true base d h) l }
 
   set_if_active : (d : ℕ) (z : ℤ) → nat_le base d ≡ true →
       AreSameBelow base x (if is_active x then record x { registers = set_register d z x.registers } else x)
@@ -157,14 +156,14 @@ module _ (code : SuperstepCode) (first base : ℕ) (fr : Frame) (f : Flat) (s : 
   instr_stays (Ask Uniform d c x q) h = record {
     stands = stands_by (after_instr code (Ask Uniform d c x q) f) refl (owns (Ask Uniform d c x q) h);
     above = (let a = s.above in record {
-      asks = all_add (λ (y : Read). base ≤ y.destination) f.uniform.asks _ a.asks (at_most base d h);
+      asks = all_add (λ (y : Read). base ≤ y.destination) f.uniform.asks _ a.asks (leb-true base d h);
       awaited = a.awaited;
     });
   }
   instr_stays (Ask Private d c x q) h = record {
     stands = stands_by (after_instr code (Ask Private d c x q) f) refl (owns (Ask Private d c x q) h);
     above = (let a = s.above in record {
-      asks = all_add (λ (y : Read). base ≤ y.destination) f.uniform.asks _ a.asks (at_most base d h);
+      asks = all_add (λ (y : Read). base ≤ y.destination) f.uniform.asks _ a.asks (leb-true base d h);
       awaited = a.awaited;
     });
   }

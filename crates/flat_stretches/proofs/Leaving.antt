@@ -8,7 +8,8 @@ use Rattle.pram_values.specs.Truth.{truth}
 use Rattle.write_rules.specs.declared.entry.Entry.{Entry}
 use Rattle.superstep_instructions.specs.declared.instr.Side.TheVariants.{Uniform, Private}
 use Rattle.superstep_instructions.specs.declared.instr.Instr.{Instr}
-use Rattle.superstep_instructions.specs.declared.instr.Instr.TheVariants.{Mark, Set, Copy, Negate, Calculate, Decide, Not, Enter, Leave, Ask, Put}
+use Rattle.superstep_instructions.specs.declared.instr.Instr.TheVariants.{Mark, Set, Copy, Negate, Calculate, Decide, Not, Enter, Leave}
+use Rattle.superstep_instructions.specs.declared.instr.Instr.TheVariants.{Ask, Put}
 use Rattle.superstep_instructions.specs.declared.instr.Instr.TheVariants.{Print, Send, Reply, Vote}
 use Rattle.superstep_instructions.specs.Code.{SuperstepCode}
 use Rattle.superstep_machine.specs.Parts.{Registers, Read, set_register}
@@ -20,15 +21,16 @@ use Rattle.flat_machine.specs.Flat.{Flat, after_instr, after_vote, any_active}
 use Rattle.flat_stretches.specs.Applied.{IsBare}
 use Rattle.flat_stretches.specs.Folds.{act_at_once, acts_at_once}
 use Rattle.flat_stretches.specs.Leaving.{IsLeft, evaluates, IsReadAbove, ReadsAbove, FoldsLeave}
-use Rattle.flat_stretches.proofs.Below.{at_most, set_below}
+use Rattle.flat_stretches.proofs.Below.{set_below}
 use Rattle.flat_stretches.proofs.Folds.{bare_at_once}
+use Rattle.std.proofs.lemmas.Bool.{leb-true}
 
 -- ---- registers below `base`
 
 module _ (base : ℕ) where
   set_if_above : (d : ℕ) (z : ℤ) (registers : Registers) → nat_le base d ≡ true → (r : ℕ) → r < base →
       set_register d z registers r ≡ registers r
-  set_if_above d z registers h r l = set_below base d z registers r (at_most base d h) l
+  set_if_above d z registers h r l = set_below base d z registers r (leb-true base d h) l
 
   asked_below : (cell : Option ℕ) (d : ℕ) (registers : Registers) → nat_le base d ≡ true → (r : ℕ) → r < base →
       zero_without cell d registers r ≡ registers r
@@ -50,7 +52,7 @@ module _ (base : ℕ) where
 
   read_above : (d : ℕ) (cell : Option ℕ) → nat_le base d ≡ true → IsReadAbove base d cell
   read_above d None h = tt
-  read_above d (Some c) h = at_most base d h
+  read_above d (Some c) h = leb-true base d h
 
 -- ---- one instruction
 

@@ -58,7 +58,7 @@ marked_rests t place f spent c a line h =
     (none_came f.uniform.awaited (let d = a.describes in d.awaited ∙ no_answers (Mark line) a.point.state (λ e. cc) h))
 
 -- a mark does nothing to a processor
-mark_stays : (active : Bool) (x : PrivatePart) → (if active then x else x) ≡ x
+pub mark_stays : (active : Bool) (x : PrivatePart) → (if active then x else x) ≡ x
 mark_stays true x = refl
 mark_stays false x = refl
 

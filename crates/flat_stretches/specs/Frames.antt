@@ -4,7 +4,8 @@ use Rattle.std.specs.List.{AllByRecursion, filter, range_with_len}
 use Rattle.pram_values.specs.Truth.{is_nonzero}
 use Rattle.superstep_instructions.specs.declared.instr.Side.TheVariants.{Private}
 use Rattle.superstep_instructions.specs.declared.instr.Instr.{Instr}
-use Rattle.superstep_instructions.specs.declared.instr.Instr.TheVariants.{Set, Copy, Negate, Calculate, Decide, Not, CopyUniform, Index, Enter}
+use Rattle.superstep_instructions.specs.declared.instr.Instr.TheVariants.{Set, Copy, Negate, Calculate, Decide, Not, CopyUniform, Index}
+use Rattle.superstep_instructions.specs.declared.instr.Instr.TheVariants.{Enter}
 use Rattle.superstep_instructions.specs.declared.instr.Instr.TheVariants.{Leave, Mask, Flip, Unmask, Ask}
 use Rattle.superstep_instructions.specs.Code.{SuperstepCode}
 use Rattle.superstep_machine.specs.Parts.{Registers, zeros, Read, PrivatePart}

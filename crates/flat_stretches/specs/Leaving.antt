@@ -3,7 +3,8 @@ use Rattle.std.specs.Prelude.{◌≡◌, ℕ, ◌<◌, ◌≤◌, List, Bool, tr
 use Rattle.std.specs.List.{AllByRecursion}
 use Rattle.superstep_instructions.specs.declared.instr.Side.TheVariants.{Uniform}
 use Rattle.superstep_instructions.specs.declared.instr.Instr.{Instr}
-use Rattle.superstep_instructions.specs.declared.instr.Instr.TheVariants.{Mark, Set, Copy, Negate, Calculate, Decide, Not, Enter, Leave, Ask, Put}
+use Rattle.superstep_instructions.specs.declared.instr.Instr.TheVariants.{Mark, Set, Copy, Negate, Calculate, Decide, Not, Enter, Leave}
+use Rattle.superstep_instructions.specs.declared.instr.Instr.TheVariants.{Ask, Put}
 use Rattle.superstep_instructions.specs.declared.instr.Instr.TheVariants.{Print, Vote}
 use Rattle.superstep_instructions.specs.Code.{SuperstepCode}
 use Rattle.superstep_machine.specs.Parts.{Read}

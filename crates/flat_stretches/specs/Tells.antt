@@ -3,7 +3,8 @@ use Rattle.std.specs.Prelude.{◌≡◌, ℕ, ◌+◌, List, [], length, Bool, t
 use Rattle.std.specs.List.{AllByRecursion}
 use Rattle.write_rules.specs.Verdict.{Faulted}
 use Rattle.superstep_instructions.specs.declared.instr.Instr.{Instr}
-use Rattle.superstep_instructions.specs.declared.instr.Instr.TheVariants.{Set, Copy, Decide, Not, CopyUniform, Index, Leave, Mask, Flip, Unmask}
+use Rattle.superstep_instructions.specs.declared.instr.Instr.TheVariants.{Set, Copy, Decide, Not, CopyUniform, Index, Leave, Mask, Flip}
+use Rattle.superstep_instructions.specs.declared.instr.Instr.TheVariants.{Unmask}
 use Rattle.superstep_instructions.specs.declared.instr.Instr.TheVariants.{Print, Send, Reply, Vote, Jump, JumpIfZero}
 use Rattle.superstep_instructions.specs.Code.{SuperstepCode}
 use Rattle.superstep_machine.specs.declared.key.Key.{Key}

@@ -1,4 +1,5 @@
-use Rattle.flat_stretches.proofs.Applied.{instructions_apply, writes_apply, sends_are_same, sends_of_writes_apply, replies_apply, votes_apply}
+use Rattle.flat_stretches.proofs.Applied.{instructions_apply, writes_apply, sends_are_same, sends_of_writes_apply, replies_apply}
+use Rattle.flat_stretches.proofs.Applied.{votes_apply}
 use Rattle.flat_stretches.proofs.Applied.{bare_is_applied, empty_sends_are_nothing}
 use Rattle.std.proofs.Common.{refl}
 use Rattle.flat_stretches.proofs.stretch_laws.held_writes_apply.Goals as goal

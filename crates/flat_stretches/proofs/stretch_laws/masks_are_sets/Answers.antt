@@ -1,5 +1,6 @@
 use Rattle.flat_stretches.proofs.Idle.{idle_stay}
-use Rattle.flat_stretches.proofs.Frames.{sets_narrow, everybody_is_present, ranges_begin, masks_narrow, flips_turn, unmasks_widen, votes_say}
+use Rattle.flat_stretches.proofs.Frames.{sets_narrow, everybody_is_present, ranges_begin, masks_narrow, flips_turn, unmasks_widen}
+use Rattle.flat_stretches.proofs.Frames.{votes_say}
 use Rattle.flat_stretches.proofs.Frames.{folds_stay, folds_at_once_stay}
 use Rattle.flat_stretches.proofs.Loops.{loops_open, loops_turn, loops_close}
 use Rattle.flat_stretches.proofs.stretch_laws.masks_are_sets.Goals as goal
