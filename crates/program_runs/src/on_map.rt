@@ -17,11 +17,11 @@ use bsp_machine::RunRefusal;
 use bsp_verify::Verified;
 use exchange_counts::Counts;
 use program_texts::Refusal;
-use run_options::{MapChoice, Options, Reserve, places};
+use run_options::{MapChoice, Options, Reserve, Terms, places};
 use std::alloc::Global;
 use std::sync::Wait;
 use std::thread::Threads;
-use workers::{Gate, run_with_reserve};
+use workers::{Gate, run_on_terms};
 use write_rules::Outcome;
 
 // Every map is lawful: that is a law of its trait.
@@ -50,17 +50,12 @@ fn run_on<R: Threads + Wait + Sync, M: AddressMap + Sync, G: Gate + Sync>(
     ensures refused { IfErr result (IsCodeRefusedWith code.now input.now options reserve) }
 {
     lawful(map);
-    match run_with_reserve(
-        rt,
-        alloc,
-        code,
-        map,
-        options.workers,
-        input,
-        options.bound,
+    let terms = Terms {
+        workers: options.workers,
+        bound: options.bound,
         reserve,
-        gate,
-    ) {
+    };
+    match run_on_terms(rt, alloc, code, map, input, terms, gate) {
         Ok(found) => Ok(found),
         Err(RunRefusal::BadWorkers) => Err(Refusal::BadWorkers),
         Err(RunRefusal::BadMap) => Err(Refusal::BadMap),

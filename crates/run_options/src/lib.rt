@@ -8,6 +8,7 @@ mod pair;
 mod place_count;
 mod reserve;
 pub mod spelling_laws;
+mod terms;
 
 pub use map_choice::{MapChoice, read_map};
 pub use number::read_number;
@@ -15,3 +16,4 @@ pub use options::Options;
 pub use pair::read_pair;
 pub use place_count::places;
 pub use reserve::Reserve;
+pub use terms::Terms;

@@ -15,6 +15,7 @@ mod reserving;
 mod room;
 mod run;
 pub mod seat_laws;
+mod shared;
 mod task;
 mod threads;
 
@@ -22,4 +23,4 @@ pub use gates::{Gate, OpenGate};
 pub use gathering::gather;
 pub use hands::{ColumnHand, RowHand};
 pub use play::work;
-pub use run::{run_reserved, run_with_reserve, run_workers};
+pub use run::{run_on_terms, run_reserved, run_workers};

@@ -19,11 +19,12 @@ use crate::gathering::gather;
 use crate::lists::{tasks_of, unused, unzipped};
 use crate::reserving::open_reserved;
 use crate::room::RunRoom;
+use crate::shared::Shared;
 use address_map::AddressMap;
 use bsp_machine::{CountedWorker, EndRoom, RunRefusal};
 use bsp_verify::Verified;
 use exchange_counts::Counts;
-use run_options::Reserve;
+use run_options::{Reserve, Terms};
 use std::alloc::Global;
 use std::sync::Wait;
 use std::thread::Threads;
@@ -35,21 +36,18 @@ use write_rules::Outcome;
 // thread is refused, none does.
 fn play_all<'a, R: Threads + Wait + Sync, M: AddressMap + Sync, G: Gate + Sync>(
     rt: &R,
-    turnstile: &'a Turnstile,
-    code: &'a Code,
-    map: &'a M,
-    bound: u32,
+    run: &'a Shared<'a, M>,
     gate: &G,
     seats: Vec<RowSeat>,
     workers: Vec<CountedWorker>,
     room: RunRoom<'a, M>,
 ) -> (Vec<RowSeat>, Option<Vec<CountedWorker>>)
-    requires begin { CanBegin M.shape (record { turnstile = turnstile.now; code = code.now; map = map.now; bound = bound }) seats.items
-        workers.items }
+    requires begin { CanBegin M.shape run.now seats.items workers.items }
     requires room { room.crew.line.runners ≡ length seats.items }
-    ensures seats { AreSeatsOf turnstile.entry.now result.0.items }
-    ensures ended { IfSome result.1 (λ ended. (input : List ℤ) → AreFresh code.entry.now (M.shape map.entry.now) input workers.items →
-        HaveEnded code.entry.now (M.shape map.entry.now) bound input result.0.items ended.items) }
+    ensures seats { AreSeatsOf run.entry.now.turnstile result.0.items }
+    ensures ended { IfSome result.1 (λ ended. (input : List ℤ) →
+        AreFresh run.entry.now.code (M.shape run.entry.now.map) input workers.items →
+        HaveEnded run.entry.now.code (M.shape run.entry.now.map) run.entry.now.bound input result.0.items ended.items) }
     ensures reserve { IfSome result.1 (λ ended. (reserve : Option Given) → HaveReserve reserve workers.items →
         HaveReserve reserve ended.items) }
 {
@@ -59,7 +57,7 @@ fn play_all<'a, R: Threads + Wait + Sync, M: AddressMap + Sync, G: Gate + Sync>(
         seats: back,
         workers: ended,
     } = room;
-    let tasks = tasks_of(turnstile, code, map, bound, seats, workers, tasks);
+    let tasks = tasks_of(run, seats, workers, tasks);
     match crew.work_all(rt, tasks, gate) {
         Ok(played) => {
             let (back, ended) = unzipped(played, back, ended);
@@ -75,19 +73,22 @@ fn run_code<R: Threads + Wait + Sync, M: AddressMap + Sync, G: Gate + Sync>(
     alloc: Global,
     code: &Code,
     map: &M,
-    workers: u32,
     input: &[i64],
-    bound: u32,
-    reserve: Option<Reserve>,
+    terms: Terms,
     gate: &G,
 ) -> Result<(Outcome, Counts), RunRefusal>
     requires formed { IsWellFormed code.now }
-    ensures refused { IfErr result (IsRefusalWith code.now (M.shape map.now) workers input.now bound reserve) }
-    ensures accepted { IfOk result (λ found. IsAccepted code.now (M.shape map.now) workers input.now) }
-    ensures within { IfOk result (λ found. StaysWithin code.now (M.shape map.now) bound input.now reserve) }
-    ensures outcome { IfOk result (λ found. IsBspOutcome code.now (M.shape map.now) input.now bound (verdict_of found.0)) }
-    ensures counts { IfOk result (λ found. AreBspExchanges code.now (M.shape map.now) input.now bound (verdict_of found.0) found.1) }
+    ensures refused { IfErr result (IsRefusalWith code.now (M.shape map.now) terms.workers input.now terms.bound terms.reserve) }
+    ensures accepted { IfOk result (λ found. IsAccepted code.now (M.shape map.now) terms.workers input.now) }
+    ensures within { IfOk result (λ found. StaysWithin code.now (M.shape map.now) terms.bound input.now terms.reserve) }
+    ensures outcome { IfOk result (λ found. IsBspOutcome code.now (M.shape map.now) input.now terms.bound (verdict_of found.0)) }
+    ensures counts { IfOk result (λ found. AreBspExchanges code.now (M.shape map.now) input.now terms.bound (verdict_of found.0) found.1) }
 {
+    let Terms {
+        workers,
+        bound,
+        reserve,
+    } = terms;
     let _instructions = code.instructions();
     let opened = open_reserved(alloc, code, map, workers, input, reserve)?;
     let Ok(end_room) = EndRoom::new(alloc, code, workers) else {
@@ -101,7 +102,13 @@ fn run_code<R: Threads + Wait + Sync, M: AddressMap + Sync, G: Gate + Sync>(
         turnstile.close(seats);
         return Err(RunRefusal::OutOfMemory);
     };
-    let (seats, ended) = play_all(rt, &turnstile, code, map, bound, gate, seats, opened, room);
+    let shared = Shared {
+        turnstile: &turnstile,
+        code,
+        map,
+        bound,
+    };
+    let (seats, ended) = play_all(rt, &shared, gate, seats, opened, room);
     match ended {
         Some(ended) => gather(code, map, turnstile, seats, ended, end_room),
         None => {
@@ -111,26 +118,24 @@ fn run_code<R: Threads + Wait + Sync, M: AddressMap + Sync, G: Gate + Sync>(
     }
 }
 
-/// Runs verified code by workers with a reserve, or without: as `run_reserved`, or as `run_workers`.
-pub fn run_with_reserve<R: Threads + Wait + Sync, M: AddressMap + Sync, G: Gate + Sync>(
+/// Runs verified code on an input, on such terms: as `run_reserved` where they have a reserve, else as `run_workers`.
+pub fn run_on_terms<R: Threads + Wait + Sync, M: AddressMap + Sync, G: Gate + Sync>(
     rt: &R,
     alloc: Global,
     verified: &Verified,
     map: &M,
-    workers: u32,
     input: &[i64],
-    bound: u32,
-    reserve: Option<Reserve>,
+    terms: Terms,
     gate: &G,
 ) -> Result<(Outcome, Counts), RunRefusal>
-    ensures refused { IfErr result (IsRefusalWith verified.now (M.shape map.now) workers input.now bound reserve) }
-    ensures accepted { IfOk result (λ found. IsAccepted verified.now (M.shape map.now) workers input.now) }
-    ensures within { IfOk result (λ found. StaysWithin verified.now (M.shape map.now) bound input.now reserve) }
-    ensures outcome { IfOk result (λ found. IsBspOutcome verified.now (M.shape map.now) input.now bound (verdict_of found.0)) }
-    ensures counts { IfOk result (λ found. AreBspExchanges verified.now (M.shape map.now) input.now bound (verdict_of found.0) found.1) }
+    ensures refused { IfErr result (IsRefusalWith verified.now (M.shape map.now) terms.workers input.now terms.bound terms.reserve) }
+    ensures accepted { IfOk result (λ found. IsAccepted verified.now (M.shape map.now) terms.workers input.now) }
+    ensures within { IfOk result (λ found. StaysWithin verified.now (M.shape map.now) terms.bound input.now terms.reserve) }
+    ensures outcome { IfOk result (λ found. IsBspOutcome verified.now (M.shape map.now) input.now terms.bound (verdict_of found.0)) }
+    ensures counts { IfOk result (λ found. AreBspExchanges verified.now (M.shape map.now) input.now terms.bound (verdict_of found.0) found.1) }
 {
     let code = verified.code();
-    run_code(rt, alloc, code, map, workers, input, bound, reserve, gate)
+    run_code(rt, alloc, code, map, input, terms, gate)
 }
 
 /// Runs verified code on an input by so many workers, within a bound on statements: what the run comes to, and its exchanges with the words
@@ -153,7 +158,12 @@ pub fn run_workers<R: Threads + Wait + Sync, M: AddressMap + Sync, G: Gate + Syn
     ensures outcome { IfOk result (λ found. IsBspOutcome verified.now (M.shape map.now) input.now bound (verdict_of found.0)) }
     ensures counts { IfOk result (λ found. AreBspExchanges verified.now (M.shape map.now) input.now bound (verdict_of found.0) found.1) }
 {
-    run_with_reserve(rt, alloc, verified, map, workers, input, bound, None, gate)
+    let terms = Terms {
+        workers,
+        bound,
+        reserve: None,
+    };
+    run_on_terms(rt, alloc, verified, map, input, terms, gate)
 }
 
 /// The same run by workers that take all their memory before the first exchange, for so many items of output and so many exchanges. It is
@@ -177,7 +187,10 @@ pub fn run_reserved<R: Threads + Wait + Sync, M: AddressMap + Sync, G: Gate + Sy
     ensures counts { IfOk result (λ found. AreBspExchanges verified.now (M.shape map.now) input.now bound (verdict_of found.0) found.1) }
 {
     let reserve = Some(reserve);
-    run_with_reserve(
-        rt, alloc, verified, map, workers, input, bound, reserve, gate,
-    )
+    let terms = Terms {
+        workers,
+        bound,
+        reserve,
+    };
+    run_on_terms(rt, alloc, verified, map, input, terms, gate)
 }

@@ -50,7 +50,7 @@ new-requires-2-clause-room g c =
     let few = accepted.few in
     let many = c.in_ok-opened.ensures.count in
     let here : slice_get workers 0 ≡ Some x = get_there workers 0 x (omega (arith, few, many)) ∙ ap (λ y. Some y) (sym c.index.ensures) in
-    let reply = ((c.in_ok-opened.ensures.opened 0 x here).going c.args.bound).equipped.buffers.reply in
+    let reply = ((c.in_ok-opened.ensures.opened 0 x here).going c.args.terms.bound).equipped.buffers.reply in
     let most : c.len-most.result ≡ most_words code m = c.len-most.ensures ∙ x.local.buffers.reply.ok.0 ∙ reply in
     let short = few_words code m c.instructions-instructions.ensures.stands (omega (arith, few, parts)) in
     omega (arith, most, short)
@@ -66,7 +66,7 @@ play_all-seats-requires-clause-begin g c κs within =
     let few = accepted.few in
     let many = c.in_ok-opened.ensures.count in
     let here : slice_get workers 0 ≡ Some x = get_there workers 0 x (omega (arith, few, many)) ∙ ap (λ y. Some y) (sym c.index.ensures) in
-    let goes = (c.in_ok-opened.ensures.opened 0 x here).going c.args.bound in
+    let goes = (c.in_ok-opened.ensures.opened 0 x here).going c.args.terms.bound in
     let most : c.len-most.result ≡ most_words code m = c.len-most.ensures ∙ x.local.buffers.reply.ok.0 ∙ goes.equipped.buffers.reply in
     let made = c.in-Ok-new.ensures in
     record {
@@ -86,33 +86,33 @@ gather-requires-clause-runnable g c =
     let few = c.in_ok-opened.ensures.accepted.few in
     let many = c.in_ok-opened.ensures.count in
     let here : slice_get workers 0 ≡ Some x = get_there workers 0 x (omega (arith, few, many)) ∙ ap (λ y. Some y) (sym c.index.ensures) in
-    ((c.in_ok-opened.ensures.opened 0 x here).going c.args.bound).runnable
+    ((c.in_ok-opened.ensures.opened 0 x here).going c.args.terms.bound).runnable
 
 pub gather-requires-clause-ended : goal.gather-requires-clause-ended
 gather-requires-clause-ended g c = record {
-  bound = c.args.bound;
+  bound = c.args.terms.bound;
   input = c.args.input.now;
   ended = (subst (λ (o : Option (Vec CountedWorker Global)). IfSome o (λ ended. (input : List ℤ) →
       AreFresh c.args.code.now (g.M.AddressMap.shape c.args.map.now) input c.in_ok-opened.opened.items →
-      HaveEnded c.args.code.now (g.M.AddressMap.shape c.args.map.now) c.args.bound input c.play_all-seats.result.0.items ended.items))
+      HaveEnded c.args.code.now (g.M.AddressMap.shape c.args.map.now) c.args.terms.bound input c.play_all-seats.result.0.items ended.items))
       c.in-Some.is c.play_all-seats.ensures.ended c.args.input.now c.in_ok-opened.ensures.opened);
 }
 
 pub returns-in-Some-clause-outcome : goal.returns-in-Some-clause-outcome
 returns-in-Some-clause-outcome g c =
-    if_ok _ _ (λ found h. h c.args.bound c.args.input.now
+    if_ok _ _ (λ found h. h c.args.terms.bound c.args.input.now
     (subst (λ (o : Option (Vec CountedWorker Global)). IfSome o (λ ended. (input : List ℤ) →
     AreFresh c.args.code.now (g.M.AddressMap.shape c.args.map.now) input c.in_ok-opened.opened.items →
-    HaveEnded c.args.code.now (g.M.AddressMap.shape c.args.map.now) c.args.bound input c.play_all-seats.result.0.items ended.items))
+    HaveEnded c.args.code.now (g.M.AddressMap.shape c.args.map.now) c.args.terms.bound input c.play_all-seats.result.0.items ended.items))
     c.in-Some.is c.play_all-seats.ensures.ended c.args.input.now c.in_ok-opened.ensures.opened)) c.gather.result
     c.gather.ensures.outcome
 
 pub returns-in-Some-clause-counts : goal.returns-in-Some-clause-counts
 returns-in-Some-clause-counts g c =
-    if_ok _ _ (λ found h. h c.args.bound c.args.input.now
+    if_ok _ _ (λ found h. h c.args.terms.bound c.args.input.now
     (subst (λ (o : Option (Vec CountedWorker Global)). IfSome o (λ ended. (input : List ℤ) →
     AreFresh c.args.code.now (g.M.AddressMap.shape c.args.map.now) input c.in_ok-opened.opened.items →
-    HaveEnded c.args.code.now (g.M.AddressMap.shape c.args.map.now) c.args.bound input c.play_all-seats.result.0.items ended.items))
+    HaveEnded c.args.code.now (g.M.AddressMap.shape c.args.map.now) c.args.terms.bound input c.play_all-seats.result.0.items ended.items))
     c.in-Some.is c.play_all-seats.ensures.ended c.args.input.now c.in_ok-opened.ensures.opened)) c.gather.result
     c.gather.ensures.counts
 
@@ -124,13 +124,13 @@ returns-in-Some-clause-refused g c =
     let m = g.M.AddressMap.shape c.args.map.now in
     let opened = c.in_ok-opened.opened.items in
     let ended = subst (λ (o : Option (Vec CountedWorker Global)). IfSome o (λ ended. (input : List ℤ) → AreFresh code m input opened →
-    HaveEnded code m c.args.bound input c.play_all-seats.result.0.items ended.items))
+    HaveEnded code m c.args.terms.bound input c.play_all-seats.result.0.items ended.items))
     c.in-Some.is c.play_all-seats.ensures.ended c.args.input.now c.in_ok-opened.ensures.opened in
     let have = subst (λ (o : Option (Vec CountedWorker Global)). IfSome o (λ ended. (reserve : Option Reserve) → HaveReserve reserve opened →
-    HaveReserve reserve ended.items)) c.in-Some.is c.play_all-seats.ensures.reserve c.args.reserve c.in_ok-opened.ensures.given in
-    refused_with code m c.args.workers c.args.input.now c.args.bound c.args.reserve c.gather.result c.in_ok-opened.ensures.accepted
-    (c.gather.ensures.given c.args.reserve have)
-    (λ reserve is. if_err _ _ (λ refusal h. h c.args.bound c.args.input.now reserve ended
+    HaveReserve reserve ended.items)) c.in-Some.is c.play_all-seats.ensures.reserve c.args.terms.reserve c.in_ok-opened.ensures.given in
+    refused_with code m c.args.terms.workers c.args.input.now c.args.terms.bound c.args.terms.reserve c.gather.result c.in_ok-opened.ensures.accepted
+    (c.gather.ensures.given c.args.terms.reserve have)
+    (λ reserve is. if_err _ _ (λ refusal h. h c.args.terms.bound c.args.input.now reserve ended
     (subst (λ o. HaveReserve o c.in-Some.ended.items) is have)) c.gather.result c.gather.ensures.past)
 
 pub returns-in-Some-clause-within : goal.returns-in-Some-clause-within
@@ -139,10 +139,10 @@ returns-in-Some-clause-within g c =
     let m = g.M.AddressMap.shape c.args.map.now in
     let opened = c.in_ok-opened.opened.items in
     let ended = subst (λ (o : Option (Vec CountedWorker Global)). IfSome o (λ ended. (input : List ℤ) → AreFresh code m input opened →
-    HaveEnded code m c.args.bound input c.play_all-seats.result.0.items ended.items))
+    HaveEnded code m c.args.terms.bound input c.play_all-seats.result.0.items ended.items))
     c.in-Some.is c.play_all-seats.ensures.ended c.args.input.now c.in_ok-opened.ensures.opened in
     let have = subst (λ (o : Option (Vec CountedWorker Global)). IfSome o (λ ended. (reserve : Option Reserve) → HaveReserve reserve opened →
-    HaveReserve reserve ended.items)) c.in-Some.is c.play_all-seats.ensures.reserve c.args.reserve c.in_ok-opened.ensures.given in
-    within_with code m c.args.input.now c.args.bound c.args.reserve c.gather.result
-    (λ reserve is. if_ok _ _ (λ found h. h c.args.bound c.args.input.now reserve ended
+    HaveReserve reserve ended.items)) c.in-Some.is c.play_all-seats.ensures.reserve c.args.terms.reserve c.in_ok-opened.ensures.given in
+    within_with code m c.args.input.now c.args.terms.bound c.args.terms.reserve c.gather.result
+    (λ reserve is. if_ok _ _ (λ found h. h c.args.terms.bound c.args.input.now reserve ended
     (subst (λ o. HaveReserve o c.in-Some.ended.items) is have)) c.gather.result c.gather.ensures.within)
