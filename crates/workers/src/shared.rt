@@ -6,6 +6,7 @@ use superstep_instructions::Code;
 use turnstile::Turnstile;
 
 /// What all workers of one run share: their barrier, the code, the map of its cells, and the bound on statements.
+#[derive(Drop)]
 pub(crate) struct Shared<'a, M: AddressMap> {
     pub turnstile: &'a Turnstile,
     pub code: &'a Code,
