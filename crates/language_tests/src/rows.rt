@@ -1,4 +1,4 @@
-// How a row of the tests is tried: what the program prints for it, and its exit status.
+// Calls of the program over files in memory: what they print, and the exit status.
 
 use pram_syntax::Buffer;
 use pramc::{SourceFault, Sources, Status, Terminal, command};
@@ -74,23 +74,4 @@ pub(crate) fn call_on<R: Threads + Wait + Sync>(
     let words = owned.as_slice();
     let status = command(rt, alloc, words, terminal, &mut shelf, &mut out, &mut err);
     Ok(Said { status, out, err })
-}
-
-// Whether a call of the program prints just that.
-pub(crate) fn prints<R: Threads + Wait + Sync>(
-    rt: &R,
-    alloc: Global,
-    words: &[&str],
-    program: &[u8],
-    input: &[u8],
-    expected: (&[u8], &[u8], u8),
-) -> bool {
-    match call(rt, alloc, words, program, input) {
-        Ok(said) => {
-            said.out.bytes() == expected.0
-                && said.err.bytes() == expected.1
-                && said.status.code() == expected.2
-        }
-        Err(_) => false,
-    }
 }
