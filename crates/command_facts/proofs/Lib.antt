@@ -5,3 +5,4 @@ pub mod Files
 pub mod Same
 pub mod Refusals
 pub mod Comparisons
+pub mod Alone

@@ -4,8 +4,8 @@ use Rattle.std.specs.Prelude.{◌↔◌, Option, length}
 use Rattle.pram_model.specs.Layout.{total_size}
 use Rattle.pram_check.specs.Checked.{Checked}
 use Rattle.superstep_instructions.specs.Code.{SuperstepCode}
-use Rattle.pram_meaning.specs.declared.reference.RunRefusal.{RunRefusal}
-use Rattle.pram_meaning.specs.declared.reference.RunRefusal.TheVariants as no_meaning
+use Rattle.pram_meaning.specs.declared.reference.MeaningRefusal.{MeaningRefusal}
+use Rattle.pram_meaning.specs.declared.reference.MeaningRefusal.TheVariants as no_meaning
 use Rattle.program_texts.specs.Report.{IsMeaningRefused}
 use Rattle.program_texts.specs.declared.from_text.Refusal.{Refusal}
 use Rattle.program_texts.specs.declared.stop.Stop.TheVariants.{Refused}
@@ -20,7 +20,7 @@ use Rattle.command_facts.specs.Held.{IsListingIn}
 use Rattle.command_facts.specs.Refused.{IsRefusedCodeRun, IsRefusedRun, IsRunRefusedBy, IsToldWith, StopsAtCodeRun, StopsAtRun, refusal_of}
 
 -- by the definition
-pub no_meaning_on : (program : Checked) (input : List ℤ) (r : RunRefusal) →
+pub no_meaning_on : (program : Checked) (input : List ℤ) (r : MeaningRefusal) →
     (r ≡ no_meaning.InputTooLong) ↔ (total_size program.layout < length input) → IsMeaningRefused program input (refusal_of r)
 no_meaning_on program input no_meaning.InputTooLong is = is.0 refl
 no_meaning_on program input no_meaning.OutOfMemory is = few (λ long. differ (is.1 long))

@@ -3,7 +3,7 @@ use Rattle.std.proofs.Common.{◌≡◌, ℕ, List, sym, subst}
 use Rattle.std.specs.Prelude.{Option, Some, None, IsSomeAnd, Result, Ok, Err, IfErr, IsErrAnd}
 use Rattle.pram_tokens.specs.Scanning.{longest}
 use Rattle.std.specs.Option.{ForSome}
-use Rattle.program_texts.specs.Files.{IsReadFrom, IsSame}
+use Rattle.system_files.specs.Files.{IsReadFrom, IsSame}
 use Rattle.program_texts.specs.declared.from_text.Refusal.TheVariants as refusal
 use Rattle.program_texts.specs.declared.stop.Stop.{Stop}
 use Rattle.program_texts.specs.declared.stop.Stop.TheVariants as stop

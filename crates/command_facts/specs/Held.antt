@@ -7,7 +7,7 @@ use Rattle.pram_check.specs.Checked.{Checked}
 use Rattle.superstep_instructions.specs.Code.{SuperstepCode}
 use Rattle.superstep_listing.specs.Text.{IsListing}
 use Rattle.superstep_listing.specs.Text.{longest as longest_listing}
-use Rattle.program_texts.specs.Files.{IsReadFrom}
+use Rattle.system_files.specs.Files.{IsReadFrom}
 use Rattle.program_texts.specs.Report.{IsInputRefusal, IsNoProgram}
 use Rattle.program_texts.specs.declared.from_text.Refusal.TheVariants as refusal
 use Rattle.program_texts.specs.declared.stop.Stop.{Stop}

@@ -1,12 +1,12 @@
 -- Why a call finds nothing.
-use Rattle.std.specs.Prelude.{◌≡◌, ◌⊎◌, ℕ, ℤ, List, length, Option, Some}
+use Rattle.std.specs.Prelude.{◌≡◌, ◌⊎◌, ℕ, ℤ, List, length, Option, Some, Result, Ok, Err}
 use Rattle.std.specs.Option.{IsSomeAnd}
 use Rattle.pram_model.specs.Layout.{total_size}
 use Rattle.pram_check.specs.Checked.{Checked}
 use Rattle.superstep_instructions.specs.Code.{SuperstepCode}
 use Rattle.bsp_verify.specs.WellFormed.{IsWellFormed}
-use Rattle.pram_meaning.specs.declared.reference.RunRefusal.{RunRefusal}
-use Rattle.pram_meaning.specs.declared.reference.RunRefusal.TheVariants as no_meaning
+use Rattle.pram_meaning.specs.declared.reference.MeaningRefusal.{MeaningRefusal}
+use Rattle.pram_meaning.specs.declared.reference.MeaningRefusal.TheVariants as no_meaning
 use Rattle.program_texts.specs.Report.{IsMeaningRefused, IsProgramOf}
 use Rattle.program_texts.specs.declared.from_text.Refusal.{Refusal}
 use Rattle.program_texts.specs.declared.from_text.Refusal.TheVariants as refusal
@@ -39,7 +39,7 @@ IsToldWith _ values cells a = a ≡ about.Nothing
 -- ---- runs
 
 -- why a program has no meaning on an input, in the words of calls
-abbrev pub refusal_of : RunRefusal → Refusal
+abbrev pub refusal_of : MeaningRefusal → Refusal
 refusal_of no_meaning.InputTooLong = refusal.InputTooLong
 refusal_of no_meaning.OutOfMemory = refusal.OutOfMemory
 
@@ -125,3 +125,8 @@ Refuses holds request.Version h = ⊥
 Refuses holds (request.Explanation subject) h = ⊥
 Refuses holds (request.Program verb file words) h = RefusesOf holds verb file.now words h
 Refuses holds (request.Listing file words) h = RefusesCodeRun holds file.now words h
+
+-- why a request is refused: its words are, or nothing is found
+abbrev pub IsStop : (List ℕ → Option (List ℕ) → Type 0) → Result Request Stop → Halted → Type 0
+IsStop holds (Ok request) h = Refuses holds request h
+IsStop holds (Err why) h = (h.stop ≡ why) × (h.about ≡ about.Nothing)

@@ -13,11 +13,12 @@ use crate::running::{facts_of, refusal_of};
 use command_requests::{Request, RunWords, Verb};
 use compiling::compile_program;
 use program_runs::run_code;
-use program_texts::{Sources, Stop};
+use program_texts::Stop;
 use rule_comparison::{Comparison, compare_rules};
 use std::alloc::Global;
 use std::sync::Wait;
 use std::thread::Threads;
+use system_files::Sources;
 use workers::OpenGate;
 
 // The program of a file, and behind it the values of the call's input.

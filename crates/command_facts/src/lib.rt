@@ -7,8 +7,10 @@ mod halted;
 mod loaded;
 mod loading;
 mod running;
+mod status;
 
 pub use finding::find;
 pub use found::{Facts, Found, FoundCode, FoundRun};
 pub use halted::Halted;
 pub use loaded::Loaded;
+pub use status::status_of;

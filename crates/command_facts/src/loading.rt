@@ -7,7 +7,7 @@ ghost use Rattle.superstep_instructions.specs.Limits.{IsCode};
 ghost use Rattle.superstep_listing.specs.Text.{IsFaultOf, IsListing};
 ghost use Rattle.bsp_verify.specs.WellFormed.{IsWellFormed};
 ghost use Rattle.bsp_verify.specs.FirstFault.{IsRefusal};
-ghost use Rattle.program_texts.specs.Files.{IsReadFrom, IsSame};
+ghost use Rattle.system_files.specs.Files.{IsReadFrom, IsSame};
 ghost use Rattle.program_texts.specs.Report.{IsProgramOf};
 ghost use Rattle.command_facts.specs.Held.{IsInputIn, IsListingIn, IsOfCodeIn, IsUnread, StopsAtInput, StopsAtListing, StopsAtProgram};
 ghost use Rattle.command_facts.specs.Listings.{IsOfListing, line_of_instruction};
@@ -19,10 +19,11 @@ use bsp_verify::{Reason, Verified, VerifyFault, verify};
 use diagnoses::{About, Kind, Source};
 use pram_tokens::LONGEST;
 use pram_trees::{TextFault, read_input};
-use program_texts::{Refusal, SourceFault, Sources, Stop, read_program};
+use program_texts::{Refusal, Stop, read_program};
 use std::alloc::Global;
 use superstep_instructions::Code;
 use superstep_listing::{LONGEST as LONGEST_LISTING, ListingFault, read_listing};
+use system_files::{SourceFault, Sources};
 
 // The bytes of a file, up to one more than the most that its text may have.
 fn load<'a, S: Sources>(

@@ -11,7 +11,7 @@ use crate::found::Facts;
 use command_requests::{CostWords, RunWords, Verb};
 use exchange_counts::Counts;
 use pram_check::Program;
-use pram_meaning::RunRefusal;
+use pram_meaning::MeaningRefusal;
 use program_runs::run_program;
 use program_texts::{Refusal, mean_program};
 use std::alloc::Global;
@@ -23,12 +23,12 @@ use workers::OpenGate;
 use write_rules::Outcome;
 
 /// Why a program has no meaning on an input, in the words of calls.
-pub(crate) fn refusal_of(refusal: RunRefusal) -> Refusal
+pub(crate) fn refusal_of(refusal: MeaningRefusal) -> Refusal
     ensures { result ≡ refused.refusal_of refusal }
 {
     match refusal {
-        RunRefusal::InputTooLong => Refusal::InputTooLong,
-        RunRefusal::OutOfMemory => Refusal::OutOfMemory,
+        MeaningRefusal::InputTooLong => Refusal::InputTooLong,
+        MeaningRefusal::OutOfMemory => Refusal::OutOfMemory,
     }
 }
 

@@ -20,7 +20,7 @@ use Rattle.json_texts.specs.CostFacts.{cost_facts}
 use Rattle.json_texts.specs.OutcomeFacts.{outcome_facts}
 use Rattle.json_texts.specs.RuleFacts.{comparison_facts}
 use Rattle.json_texts.specs.StepFacts.{steps_facts}
-use Rattle.json_traces.specs.TraceFacts.{trace_facts}
+use Rattle.json_texts.specs.TraceFacts.{trace_facts}
 
 -- a run of a program: its outcome, what it costs, its statements between the numbers that are asked for, or its exchanges
 abbrev pub run_facts : FoundRun → Facts → List Data

@@ -13,7 +13,7 @@ use Rattle.command_requests.specs.declared.request.Request.{Request}
 use Rattle.command_facts.specs.declared.found.Found.{Found}
 use Rattle.command_facts.specs.declared.halted.Halted.{Halted}
 use Rattle.command_facts.specs.Found.{Finds, status_of_found}
-use Rattle.command_facts.specs.Refused.{Refuses}
+use Rattle.command_facts.specs.Refused.{IsStop}
 use Rattle.command_facts.specs.Written.{IsReported}
 use Rattle.json_texts.specs.RefusalFacts.{stop_facts}
 use Rattle.command_json.specs.Facts.{IsJsonOf, WritesFound}
@@ -45,11 +45,6 @@ pub data LeavesFound (found : Found) (out out_new err err_new : OutState) : Stat
       → LeavesFound found out out_new err err_new (status_of_found found)
   CutOff : (why : Stop) → WritesFound found out out_new (Err why) → IsRefusalSaid why about.Nothing err err_new
       → LeavesFound found out out_new err err_new status.Refused
-
--- why a request is refused: its words are, or nothing is found
-abbrev pub IsStop : (List ℕ → Option (List ℕ) → Type 0) → Result Request Stop → Halted → Type 0
-IsStop holds (Ok request) h = Refuses holds request h
-IsStop holds (Err why) h = (h.stop ≡ why) × (h.about ≡ about.Nothing)
 
 -- After a call. What was found is of all that the files hold which the request names. What is refused is told on standard error, once, and
 -- nothing is on standard output then.

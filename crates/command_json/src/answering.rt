@@ -7,10 +7,11 @@ use crate::reporting::report;
 use crate::telling::write_found;
 use command_facts::{Found, Halted, find};
 use command_requests::Request;
-use program_texts::{Sources, Status, Stop};
+use program_texts::{Status, Stop};
 use std::alloc::Global;
 use std::sync::Wait;
 use std::thread::Threads;
+use system_files::Sources;
 use text_out::Out;
 
 // What was found is told.

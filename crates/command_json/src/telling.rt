@@ -1,15 +1,13 @@
 //! What was found, told on standard output.
 
-ghost use Rattle.std.specs.Prelude.{◌≡◌, ◌<◌, ◌^◌, IfOk, IfErr};
+ghost use Rattle.std.specs.Prelude.{◌<◌, ◌^◌, IfOk, IfErr};
 ghost use Rattle.std.specs.String.{string_bytes};
 ghost use Rattle.json_lines.specs.Lines.{IsJson};
-ghost use Rattle.command_facts.specs.Found.{status_of_found};
 ghost use Rattle.command_json.specs.Facts as spec;
 
 use crate::writing::write_json;
-use command_facts::{Facts, Found, FoundRun};
-use json_texts::{json_accepted, json_comparison, json_cost, json_outcome, json_steps};
-use json_traces::json_trace;
+use command_facts::{Facts, Found, FoundRun, status_of};
+use json_texts::{json_accepted, json_comparison, json_cost, json_outcome, json_steps, json_trace};
 use program_texts::{Status, Stop};
 use std::alloc::{AllocError, Global};
 use text_out::Out;
@@ -51,21 +49,6 @@ fn text_of<'a>(alloc: Global, found: &Found<'_>) -> Result<String, Stop<'a>>
         Found::Explanation(_) => Err(Stop::Number(JSON)),
         Found::Planned(_) => Err(Stop::Number(JSON)),
         Found::Executed(_) => Err(Stop::Number(JSON)),
-    }
-}
-
-// The exit status that goes with what was found.
-fn status_of(found: &Found<'_>) -> Status
-    ensures { result ≡ status_of_found found.now }
-{
-    match found {
-        Found::Run(run) => Status::of(&run.outcome),
-        Found::Executed(run) => Status::of(&run.outcome),
-        Found::Version => Status::Done,
-        Found::Explanation(_) => Status::Done,
-        Found::Accepted(_) => Status::Done,
-        Found::Planned(_) => Status::Done,
-        Found::Compared(_) => Status::Done,
     }
 }
 

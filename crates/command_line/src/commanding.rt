@@ -8,10 +8,11 @@ use command_json::answer_in_json;
 use command_requests::{asks_for_json, asks_to_explain};
 use command_text::{Terminal, answer};
 use command_words::read_words;
-use program_texts::{Sources, Status};
+use program_texts::Status;
 use std::alloc::Global;
 use std::sync::Wait;
 use std::thread::Threads;
+use system_files::Sources;
 use text_out::Out;
 
 // The streams of the call, of which standard error has explanations where it is a terminal or a word asks for them.

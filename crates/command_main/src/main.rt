@@ -2,10 +2,10 @@
 #![tactic(auto)]
 
 use pramc::{Terminal, command};
-use program_texts::{Stream, SystemFiles};
 use std::io::IsTerminal;
 use std::process::ExitCode;
 use std::{env, io};
+use system_files::{Stream, SystemFiles};
 
 // What the streams are. Colours are wanted unless `NO_COLOR` is set and not empty.
 fn terminal(rt: &HostRuntime) -> Terminal {

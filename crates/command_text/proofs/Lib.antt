@@ -1,4 +1,3 @@
 pub mod Reporting
 pub mod Room
 pub mod StepsWritten
-pub mod Alone

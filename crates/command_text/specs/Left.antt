@@ -9,7 +9,7 @@ use Rattle.command_requests.specs.declared.request.Request.{Request}
 use Rattle.command_facts.specs.declared.found.Found.{Found}
 use Rattle.command_facts.specs.declared.halted.Halted.{Halted}
 use Rattle.command_facts.specs.Found.{Finds, status_of_found}
-use Rattle.command_facts.specs.Refused.{Refuses}
+use Rattle.command_facts.specs.Refused.{IsStop}
 use Rattle.command_text.specs.declared.terminal.Terminal.{Terminal}
 use Rattle.command_text.specs.Explained.{IsExplained, IsRefusalReported}
 use Rattle.command_facts.specs.Written.{WroteSome}
@@ -22,11 +22,6 @@ pub data LeavesFound (on : Terminal) (found : Found) (out out_new err err_new : 
       → LeavesFound on found out out_new err err_new (status_of_found found)
   CutOff : (why : Stop) → WroteSome (status_of_found found) (NeedsMemory found) (IsTextOf on found) out out_new (Err why)
       → IsRefusalReported on.errors why about.Nothing err err_new → LeavesFound on found out out_new err err_new status.Refused
-
--- why a request is refused: its words are, or nothing is found
-abbrev pub IsStop : (List ℕ → Option (List ℕ) → Type 0) → Result Request Stop → Halted → Type 0
-IsStop holds (Ok request) h = Refuses holds request h
-IsStop holds (Err why) h = (h.stop ≡ why) × (h.about ≡ about.Nothing)
 
 -- Both streams after a call. What was found is of all that the files hold which the request names. A refusal's line goes to standard error,
 -- and behind it what is said of it, if that is asked for; nothing is on standard output then.

@@ -5,3 +5,4 @@ pub mod CostFacts
 pub mod RuleFacts
 pub mod ActFacts
 pub mod StepFacts
+pub mod TraceFacts

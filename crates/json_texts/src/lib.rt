@@ -1,9 +1,10 @@
-//! What the program's commands tell, as JSON: outcomes, accepted programs, refusals, costs, comparisons and entries.
+//! What the program's commands tell, as JSON: outcomes, accepted programs, refusals, costs, comparisons, statements and exchanges.
 #![tactic(auto)]
 
 mod accepted;
 mod acts;
 mod cost;
+mod exchange;
 mod fault;
 mod memory;
 mod outcome;
@@ -11,6 +12,7 @@ mod refusal;
 mod rule;
 mod rules;
 mod steps;
+mod trace;
 
 pub use accepted::json_accepted;
 pub use cost::json_cost;
@@ -18,3 +20,4 @@ pub use outcome::json_outcome;
 pub use refusal::{json_stop, out_of_memory_line};
 pub use rules::json_comparison;
 pub use steps::json_steps;
+pub use trace::json_trace;

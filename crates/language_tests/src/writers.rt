@@ -2,7 +2,7 @@
 
 use crate::narrow::Narrow;
 use pram_syntax::{WriteFault, parse, print_tree};
-use program_texts::{Report, meaning_of_text, show};
+use program_texts::{TextOutcome, meaning_of_text, show};
 use std::alloc::Global;
 
 const SPELLING: &[u8] = b"rule crew ;\nprocs 1 ;\nbegin\nprint ( 1 ) ;\nend\n";
@@ -48,7 +48,7 @@ const SHOWN: [(&[u8], &[i64], &[u8]); 3] = [
 ];
 
 // Whether the outcome is shown so to a writer that takes a byte at a time, and so far to one that fails behind any byte.
-fn is_shown(alloc: Global, report: &Report, shown: &[u8]) -> bool {
+fn is_shown(alloc: Global, report: &TextOutcome, shown: &[u8]) -> bool {
     let mut slow = Narrow::new(alloc, 1, 1000);
     let whole = show(&report.layout, &report.outcome, &mut slow);
     if whole != Ok(()) || slow.bytes.as_slice() != shown {

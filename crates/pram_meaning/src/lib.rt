@@ -27,4 +27,4 @@ pub mod view;
 // `Key` and `Read` are types of the definitions.
 pub use key::Key;
 pub use read::Read;
-pub use reference::{RunRefusal, open, reference_run};
+pub use reference::{MeaningRefusal, open, reference_run};

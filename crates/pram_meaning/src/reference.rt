@@ -15,7 +15,7 @@ use write_rules::Outcome;
 
 /// Why a run is refused.
 #[derive(Clone, Copy, Debug, Drop, PartialEq, Eq, Error)]
-pub enum RunRefusal {
+pub enum MeaningRefusal {
     /// E11: the input has more values than the program has cells.
     #[error("E11 InputTooLong")]
     InputTooLong,
@@ -55,17 +55,17 @@ pub fn reference_run(
     program: &Program,
     input: &[i64],
     bound: u32,
-) -> Result<Outcome, RunRefusal>
+) -> Result<Outcome, MeaningRefusal>
     ensures outcome { IfOk result (λ o. IsOutcome program.now input.now bound (verdict_of o)) }
     ensures fits { IfOk result (λ o. length input.now ≤ total_size program.now.layout) }
-    ensures too_long { (result ≡ Err RunRefusal.InputTooLong) ↔ (total_size program.now.layout < length input.now) }
+    ensures too_long { (result ≡ Err MeaningRefusal.InputTooLong) ↔ (total_size program.now.layout < length input.now) }
 {
     if input.len() > program.layout().cells() as usize {
-        return Err(RunRefusal::InputTooLong);
+        return Err(MeaningRefusal::InputTooLong);
     }
     let mut run = match open(alloc, program, input) {
         Ok(run) => run,
-        Err(_) => return Err(RunRefusal::OutOfMemory),
+        Err(_) => return Err(MeaningRefusal::OutOfMemory),
     };
     let interpreter = Interpreter {
         alloc,
@@ -82,6 +82,6 @@ pub fn reference_run(
             output: run.output,
         }),
         Err(Halt::Bound) => Ok(Outcome::GoesOn { output: run.output }),
-        Err(Halt::OutOfMemory) => Err(RunRefusal::OutOfMemory),
+        Err(Halt::OutOfMemory) => Err(MeaningRefusal::OutOfMemory),
     }
 }

@@ -7,6 +7,6 @@ pub use Rattle.program_texts.specs.Shown
 pub use Rattle.program_texts.specs.Status
 pub use Rattle.program_texts.specs.Stopped
 pub use Rattle.program_texts.specs.StoppedFields
-pub use Rattle.program_texts.specs.Held
-pub use Rattle.program_texts.specs.Files
+pub use Rattle.system_files.specs.Held
+pub use Rattle.system_files.specs.Files
 pub use Rattle.command_line.specs.Command

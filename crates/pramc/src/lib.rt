@@ -8,8 +8,8 @@ pub use compiling::{compile, compile_program};
 pub use exchange_counts::{Count, Counts};
 pub use program_runs::{Report, run_code, run_program, run_text, run_text_reserved};
 pub use program_texts::{
-    Refusal, SourceFault, Sources, Status, Stop, mean_program, meaning_of_text, read_program, show,
-    write_stop,
+    Refusal, Status, Stop, mean_program, meaning_of_text, read_program, show, write_stop,
 };
 pub use run_options::{MapChoice, Options, Reserve};
+pub use system_files::{SourceFault, Sources};
 pub use workers::{Gate, OpenGate};

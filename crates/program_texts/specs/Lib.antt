@@ -3,5 +3,3 @@ pub mod Shown
 pub mod Status
 pub mod Stopped
 pub mod StoppedFields
-pub mod Held
-pub mod Files

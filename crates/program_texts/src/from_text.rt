@@ -5,7 +5,7 @@ ghost use Rattle.write_rules.specs.Verdict.{verdict_of};
 ghost use Rattle.program_texts.specs.Report.{IsMeaningOf, IsMeaningRefused, IsNoProgram, IsProgramOf, IsRefusedRightly, IsRunOf, refusal_of};
 
 use pram_check::{Breach, CheckFault, Program, check};
-use pram_meaning::{RunRefusal, reference_run};
+use pram_meaning::{MeaningRefusal, reference_run};
 use pram_parser::parse;
 use pram_trees::{Layout, TextFault};
 use std::alloc::Global;
@@ -44,7 +44,7 @@ impl Refusal {
 
 /// How a run came out, and the shared declarations by which its cells are named.
 #[derive(Drop)]
-pub struct Report {
+pub struct TextOutcome {
     pub layout: Layout,
     pub outcome: Outcome,
 }
@@ -85,8 +85,8 @@ pub fn mean_program(
 {
     match reference_run(alloc, program, input, bound) {
         Ok(outcome) => Ok(outcome),
-        Err(RunRefusal::InputTooLong) => Err(Refusal::InputTooLong),
-        Err(RunRefusal::OutOfMemory) => Err(Refusal::OutOfMemory),
+        Err(MeaningRefusal::InputTooLong) => Err(Refusal::InputTooLong),
+        Err(MeaningRefusal::OutOfMemory) => Err(Refusal::OutOfMemory),
     }
 }
 
@@ -97,7 +97,7 @@ pub fn meaning_of_text(
     text: &[u8],
     input: &[i64],
     bound: u32,
-) -> Result<Report, Refusal>
+) -> Result<TextOutcome, Refusal>
     ensures outcome { IfOk result (λ r. IsRunOf text.now input.now bound r.layout (verdict_of r.outcome)) }
     ensures refused { IsRefusedRightly text.now input.now result }
 {
@@ -108,7 +108,7 @@ pub fn meaning_of_text(
     match mean_program(alloc, &program, input, bound) {
         Ok(outcome) => {
             let layout = program.into_layout();
-            Ok(Report { layout, outcome })
+            Ok(TextOutcome { layout, outcome })
         }
         Err(refusal) => Err(refusal),
     }

@@ -1,23 +1,19 @@
 //! Programs from their texts, what they mean by the definition, and the texts of outcomes and refusals.
 #![tactic(auto)]
 
-mod console;
 mod from_text;
 mod last_flush;
 mod outcome_text;
 mod rule_text;
 mod show_parts;
-mod sources;
 mod status;
 mod stop;
 pub mod text_laws;
 
-pub use console::{Stream, SystemFiles};
-pub use from_text::{Refusal, Report, mean_program, meaning_of_text, read_program};
+pub use from_text::{Refusal, TextOutcome, mean_program, meaning_of_text, read_program};
 pub use last_flush::finish;
 pub use outcome_text::{show, write_fault, write_fault_text};
 pub use rule_text::rule_word;
 pub use show_parts::{write_cell, write_values};
-pub use sources::{SourceFault, Sources};
 pub use status::Status;
 pub use stop::{Stop, write_stop};

@@ -10,7 +10,7 @@ ghost use Rattle.rule_comparison.specs.Compared.{IsComparison};
 use crate::comparison::Comparison;
 use crate::first_end::FirstEnd;
 use pram_check::Program;
-use pram_meaning::{RunRefusal, reference_run};
+use pram_meaning::{MeaningRefusal, reference_run};
 use pram_trees::Rule;
 use std::alloc::Global;
 use write_rules::Outcome;
@@ -22,11 +22,11 @@ fn run_under(
     rule: Rule,
     input: &[i64],
     bound: u32,
-) -> Result<(Program, Outcome), RunRefusal>
+) -> Result<(Program, Outcome), MeaningRefusal>
     ensures program { IfOk result (λ found. found.0 ≡ under rule program) }
     ensures outcome { IfOk result (λ found. IsOutcome (under rule program) input.now bound (verdict_of found.1)) }
     ensures fits { IfOk result (λ found. length input.now ≤ total_size program.layout) }
-    ensures too_long { (result ≡ Err RunRefusal.InputTooLong) ↔ (total_size program.layout < length input.now) }
+    ensures too_long { (result ≡ Err MeaningRefusal.InputTooLong) ↔ (total_size program.layout < length input.now) }
 {
     let program = program.under(rule);
     let outcome = reference_run(alloc, &program, input, bound)?;
@@ -41,12 +41,12 @@ pub fn compare_rules(
     program: Program,
     input: &[i64],
     bound: u32,
-) -> Result<Comparison, RunRefusal>
+) -> Result<Comparison, MeaningRefusal>
     // Each finding is that of the program's outcome under its rule.
     ensures comparison { IfOk result (IsComparison program input.now bound) }
     ensures layout { IfOk result (λ c. c.layout ≡ program.layout) }
     ensures fits { IfOk result (λ c. length input.now ≤ total_size program.layout) }
-    ensures too_long { (result ≡ Err RunRefusal.InputTooLong) ↔ (total_size program.layout < length input.now) }
+    ensures too_long { (result ≡ Err MeaningRefusal.InputTooLong) ↔ (total_size program.layout < length input.now) }
 {
     let mut first = FirstEnd::none();
     let (program, outcome) = run_under(alloc, program, Rule::Erew, input, bound)?;

@@ -14,7 +14,7 @@ use crate::teller::Teller;
 use pram_check::Program;
 use pram_meaning::interpreter::Interpreter;
 use pram_meaning::run::Halt;
-use pram_meaning::{RunRefusal, open};
+use pram_meaning::{MeaningRefusal, open};
 use std::alloc::Global;
 use step_entries::Entry;
 use write_rules::Outcome;
@@ -29,10 +29,10 @@ pub fn steps_of(
     program: &Program,
     input: &[i64],
     bound: u32,
-) -> Result<(Outcome, Vec<Entry>), RunRefusal>
+) -> Result<(Outcome, Vec<Entry>), MeaningRefusal>
     ensures outcome { IfOk result (λ r. IsOutcome program.now input.now bound (verdict_of r.0)) }
     ensures fits { IfOk result (λ r. length input.now ≤ total_size program.now.layout) }
-    ensures too_long { (result ≡ Err RunRefusal.InputTooLong) ↔ (total_size program.now.layout < length input.now) }
+    ensures too_long { (result ≡ Err MeaningRefusal.InputTooLong) ↔ (total_size program.now.layout < length input.now) }
     ensures entries { IfOk result (λ r. map entry_is r.1.items ≡ run_entries program.now input.now bound) }
     // The changes, applied in order to the opening memory, give the memory of the outcome.
     ensures memory { IfOk result (λ r. HasMemory (verdict_of r.0)
@@ -45,11 +45,11 @@ pub fn steps_of(
     ensures steps { IfOk result (λ r. map step_of (map entry_is r.1.items) ≡ run_steps program.now input.now bound) }
 {
     if input.len() > program.layout().cells() as usize {
-        return Err(RunRefusal::InputTooLong);
+        return Err(MeaningRefusal::InputTooLong);
     }
     let run = match open(alloc, program, input) {
         Ok(run) => run,
-        Err(_) => return Err(RunRefusal::OutOfMemory),
+        Err(_) => return Err(MeaningRefusal::OutOfMemory),
     };
     let nothing = Vec::new(alloc);
     let mut journal = Journal {
@@ -77,6 +77,6 @@ pub fn steps_of(
             let output = run.output;
             Ok((Outcome::GoesOn { output }, entries))
         }
-        Err(Halt::OutOfMemory) => Err(RunRefusal::OutOfMemory),
+        Err(Halt::OutOfMemory) => Err(MeaningRefusal::OutOfMemory),
     }
 }

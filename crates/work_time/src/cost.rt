@@ -13,7 +13,7 @@ use crate::line_cost::LineCost;
 use crate::row_costs::costs_by_line;
 use crate::whole::run_whole;
 use pram_check::Program;
-use pram_meaning::RunRefusal;
+use pram_meaning::MeaningRefusal;
 use std::alloc::Global;
 use write_rules::Outcome;
 
@@ -48,11 +48,11 @@ pub fn cost_of(
     input: &[i64],
     bound: u32,
     schedule: u32,
-) -> Result<(Outcome, Cost), RunRefusal>
+) -> Result<(Outcome, Cost), MeaningRefusal>
     requires some { 0 < schedule }
     ensures outcome { IfOk result (λ r. IsOutcome program.now input.now bound (verdict_of r.0)) }
     ensures fits { IfOk result (λ r. length input.now ≤ total_size program.now.layout) }
-    ensures too_long { (result ≡ Err RunRefusal.InputTooLong) ↔ (total_size program.now.layout < length input.now) }
+    ensures too_long { (result ≡ Err MeaningRefusal.InputTooLong) ↔ (total_size program.now.layout < length input.now) }
     ensures time { IfOk result (λ r. r.1.time ≡ spec.time (run_steps program.now input.now bound)) }
     // The time is at most the bound, and is the bound where the run goes on.
     ensures within { IfOk result (λ r. IsTimeWithin (verdict_of r.0) r.1.time bound) }
@@ -70,10 +70,10 @@ pub fn cost_of(
 {
     let (outcome, ledger) = run_whole(alloc, program, input, bound, schedule)?;
     let Ok(lines) = costs_by_line(alloc, &ledger.lines) else {
-        return Err(RunRefusal::OutOfMemory);
+        return Err(MeaningRefusal::OutOfMemory);
     };
     let Ok(most_exchanges) = ledger.exchanges.close() else {
-        return Err(RunRefusal::OutOfMemory);
+        return Err(MeaningRefusal::OutOfMemory);
     };
     let tally = ledger.all;
     let most_rounds = tally.work / u64::from(schedule) + u64::from(tally.time);

@@ -13,7 +13,7 @@ use crate::meter::Meter;
 use pram_check::Program;
 use pram_meaning::interpreter::Interpreter;
 use pram_meaning::run::Halt;
-use pram_meaning::{RunRefusal, open};
+use pram_meaning::{MeaningRefusal, open};
 use std::alloc::Global;
 use write_rules::Outcome;
 
@@ -25,19 +25,19 @@ pub fn run_whole(
     input: &[i64],
     bound: u32,
     schedule: u32,
-) -> Result<(Outcome, Ledger), RunRefusal>
+) -> Result<(Outcome, Ledger), MeaningRefusal>
     requires some { 0 < schedule }
     ensures outcome { IfOk result (λ r. IsOutcome program.now input.now bound (verdict_of r.0)) }
     ensures fits { IfOk result (λ r. length input.now ≤ total_size program.now.layout) }
-    ensures too_long { (result ≡ Err RunRefusal.InputTooLong) ↔ (total_size program.now.layout < length input.now) }
+    ensures too_long { (result ≡ Err MeaningRefusal.InputTooLong) ↔ (total_size program.now.layout < length input.now) }
     ensures totals { IfOk result (λ r. ledger_is r.1 ≡ counted program.now input.now bound schedule) }
 {
     if input.len() > program.layout().cells() as usize {
-        return Err(RunRefusal::InputTooLong);
+        return Err(MeaningRefusal::InputTooLong);
     }
     let run = match open(alloc, program, input) {
         Ok(run) => run,
-        Err(_) => return Err(RunRefusal::OutOfMemory),
+        Err(_) => return Err(MeaningRefusal::OutOfMemory),
     };
     let ledger = Ledger::new(alloc);
     let mut counter = Counter { run, ledger };
@@ -65,6 +65,6 @@ pub fn run_whole(
             let output = run.output;
             Ok((Outcome::GoesOn { output }, ledger))
         }
-        Err(Halt::OutOfMemory) => Err(RunRefusal::OutOfMemory),
+        Err(Halt::OutOfMemory) => Err(MeaningRefusal::OutOfMemory),
     }
 }

@@ -1,6 +1,6 @@
 use Rattle.std.proofs.Common.{refl, subst, sym}
-use Rattle.command_json.specs.Left.{CutOff, LeavesFound, Told}
-use Rattle.command_json.proofs.Alone.{said_alone}
+use Rattle.command_facts.proofs.Alone.{told_alone}
+use Rattle.command_json.specs.Left.{CutOff, IsRefusalSaid, LeavesFound, Told}
 use Rattle.command_json.proofs.answering.tell.Goals as goal
 
 pub returns-in-Ok : goal.returns-in-Ok
@@ -10,5 +10,5 @@ returns-in-Ok g c =
 
 pub returns-in-Err : goal.returns-in-Err
 returns-in-Err g c = record {
-  leaves = CutOff c.in-Err.stop c.in-Err.ensures.written (said_alone c.from.result c.in-Err.stop _ _ c.from.ensures c.report.ensures.told);
+  leaves = CutOff c.in-Err.stop c.in-Err.ensures.written (told_alone IsRefusalSaid c.from.result c.in-Err.stop _ _ c.from.ensures c.report.ensures.told);
 }

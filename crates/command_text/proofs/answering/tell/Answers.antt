@@ -1,6 +1,7 @@
 use Rattle.std.proofs.Common.{subst, sym}
+use Rattle.command_facts.proofs.Alone.{told_alone}
+use Rattle.command_text.specs.Explained.{IsRefusalReported}
 use Rattle.command_text.specs.Left.{CutOff, LeavesFound, Told}
-use Rattle.command_text.proofs.Alone.{reported_alone}
 use Rattle.command_text.proofs.answering.tell.Goals as goal
 
 pub returns-in-Ok : goal.returns-in-Ok
@@ -10,5 +11,6 @@ returns-in-Ok g c =
 
 pub returns-in-Err : goal.returns-in-Err
 returns-in-Err g c = record {
-  leaves = CutOff c.in-Err.stop c.in-Err.ensures.written (reported_alone _ c.from.result c.in-Err.stop _ _ c.from.ensures c.report.ensures.written);
+  leaves = CutOff c.in-Err.stop c.in-Err.ensures.written
+      (told_alone (IsRefusalReported c.args.on.errors) c.from.result c.in-Err.stop _ _ c.from.ensures c.report.ensures.written);
 }

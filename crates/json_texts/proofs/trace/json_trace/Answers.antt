@@ -1,0 +1,10 @@
+use Rattle.std.proofs.Common.{◌∷◌, []}
+use Rattle.json_lines.proofs.Json.{adds_then}
+use Rattle.write_rules.specs.Verdict.{verdict_of}
+use Rattle.json_texts.specs.TraceFacts.{exchanges_from, way_facts}
+use Rattle.json_texts.proofs.trace.json_trace.Goals as goal
+
+pub returns : goal.returns
+returns c =
+    let way = way_facts (verdict_of c.args.outcome.now) ∷ [] in
+    record { json = adds_then (exchanges_from 1 c.args.counts.now) way [] _ _ c.in_ok-text.ensures.json c.in_ok-push_way.ensures.json }

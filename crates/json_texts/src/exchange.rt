@@ -1,0 +1,68 @@
+//! One exchange.
+
+ghost use Rattle.std.specs.Prelude.{◌≡◌, ◌≤◌, ◌<◌, IfOk, length};
+ghost use Rattle.serde_json.specs.View.{view};
+ghost use Rattle.superstep_machine.specs.Purposes.{purpose_is};
+ghost use Rattle.exchange_counts.specs.CountedExchanges.{exchange_at};
+ghost use Rattle.json_texts.specs.TraceFacts as spec;
+
+use exchange_counts::{Counts, Purpose};
+use json_lines::{Object, Value, counts_of};
+use std::alloc::{AllocError, Global};
+
+fn purpose_word(purpose: Purpose) -> &'static str
+    ensures { result.now ≡ spec.purpose_word (purpose_is purpose) }
+{
+    match purpose {
+        Purpose::Send => "send",
+        Purpose::Reply => "reply",
+        Purpose::Vote { destination: _ } => "vote",
+        Purpose::Close => "close",
+    }
+}
+
+// How many words each worker sent, in order of workers.
+fn sent_of(alloc: Global, counts: &Counts, k: usize) -> Result<Vec<u64>, AllocError>
+    requires first { 1 ≤ k }
+    requires last { k ≤ length counts.now }
+    ensures { IfOk result (λ words. words.items ≡ (exchange_at counts.now k).sent) }
+{
+    let workers = counts.workers();
+    let mut words = Vec::new(alloc);
+    'workers: for w in 0..workers {
+        words.push(counts.sent(k, w))?;
+    }
+    Ok(words)
+}
+
+// How many words each worker received, in order of workers.
+fn received_of(alloc: Global, counts: &Counts, k: usize) -> Result<Vec<u64>, AllocError>
+    requires first { 1 ≤ k }
+    requires last { k ≤ length counts.now }
+    ensures { IfOk result (λ words. words.items ≡ (exchange_at counts.now k).received) }
+{
+    let workers = counts.workers();
+    let mut words = Vec::new(alloc);
+    'workers: for w in 0..workers {
+        words.push(counts.received(k, w))?;
+    }
+    Ok(words)
+}
+
+/// The facts of an exchange, from 1.
+pub(crate) fn exchange_facts(alloc: Global, counts: &Counts, k: usize) -> Result<Value, AllocError>
+    requires first { 1 ≤ k }
+    requires last { k ≤ length counts.now }
+    ensures { IfOk result (λ v. view v ≡ spec.exchange_facts k (exchange_at counts.now k)) }
+{
+    let (purpose, h) = counts.exchange(k);
+    let sent = sent_of(alloc, counts, k)?;
+    let received = received_of(alloc, counts, k)?;
+    let mut object = Object::new(alloc);
+    object.put_count("exchange", k as u64)?;
+    object.put_word("for", purpose_word(purpose))?;
+    object.put("sent", counts_of(alloc, &sent)?)?;
+    object.put("received", counts_of(alloc, &received)?)?;
+    object.put_count("h", h)?;
+    Ok(object.into_value())
+}

@@ -1,9 +1,0 @@
-use Rattle.std.proofs.Common.{◌+◌, drop, string_bytes}
-use Rattle.json_lines.proofs.Json.{SoFar}
-use Rattle.json_traces.specs.TraceFacts.{exchanges_from}
-use Rattle.json_traces.proofs.trace.exchanges_text.Given as goal
-
-abbrev pub invariant-exchanges : goal.invariant-exchanges
-invariant-exchanges l = record {
-  so_far : SoFar (exchanges_from 1 l.counts) (exchanges_from (l.i + 1) (drop l.i l.counts)) (string_bytes l.text);
-}

@@ -1,0 +1,127 @@
+//! The system's files and streams.
+
+ghost use Rattle.std.specs.Prelude.{◌≡◌, ◌⊎◌, ◌+◌, ◌++◌, ◌<◌, ◌≤◌, ◌^◌, [], None, IfOk, OnOk, OnErr, length, take};
+ghost use Rattle.text_out.specs.Out.{OutState, with_failure};
+ghost use Rattle.system_files.specs.Held.{held_at};
+
+use crate::sources::{SourceFault, Sources};
+use std::alloc::Global;
+use std::fs::{File, Files};
+use std::io::{ErrorKind, Print, Read};
+use text_out::{Out, OutFailed};
+
+/// A stream of the system, to which bytes go by up to 4,096 at a time. What it took is with the
+/// system after a flush; what the system did with it isn't known.
+#[derive(Drop)]
+pub struct Stream<P: Print> {
+    stream: P,
+    held: [u8; 4096],
+    len: usize,
+    failures: u64,
+    ghost inside: { len ≤ 4096 },
+}
+
+impl<P: Print> Stream<P> {
+    /// Nothing is held, and nothing has failed.
+    pub fn new(stream: P) -> Stream<P>
+        ensures { (⟦<Stream<P> as Out>⟧.state result).failures ≡ 0 }
+    {
+        Stream {
+            stream,
+            held: [0; 4096],
+            len: 0,
+            failures: 0,
+        }
+    }
+
+    // Hands the held bytes to the system.
+    fn pass(&mut self) -> Result<(), OutFailed>
+        requires counted { self.old.failures < 2 ^ 63 }
+        ensures ok { OnOk result ((self.new.failures ≡ self.old.failures) × (self.new.len ≡ 0)) }
+        ensures failed { OnErr result ((self.new.failures ≡ self.old.failures + 1) × (self.new.len ≡ self.old.len)) }
+        ensures held { self.new.held ≡ self.old.held }
+    {
+        match self.stream.write_all(&self.held[..self.len]) {
+            Ok(()) => {
+                self.len = 0;
+                Ok(())
+            }
+            Err(_) => {
+                self.failures += 1;
+                Err(OutFailed)
+            }
+        }
+    }
+}
+
+impl<P: Print> Stream<P> {
+    // Holds more bytes, behind those held.
+    fn hold(&mut self, bytes: &[u8])
+        requires room { self.old.len + length bytes.now ≤ 4096 }
+        ensures kept { take self.new.len self.new.held ≡ take self.old.len self.old.held ++ bytes.now }
+        ensures failures { self.new.failures ≡ self.old.failures }
+    {
+        let end = self.len + bytes.len();
+        self.held[self.len..end].copy_from_slice(bytes);
+        self.len = end;
+    }
+}
+
+impl<P: Print> Out for Stream<P> {
+    ghost state = { λ s. record { taken = None; failures = s.failures } };
+
+    fn write(&mut self, bytes: &[u8]) -> Result<usize, OutFailed>
+        requires counted { self.old.failures < 2 ^ 63 }
+        ensures some { IfOk result (λ n. (bytes.now ≡ []) ⊎ (0 < n)) }
+        ensures part { IfOk result (λ n. n ≤ length bytes.now) }
+        // What was taken is held, behind what was held before, if that wasn't handed on.
+        ensures taken { IfOk result (λ n. (take self.new.len self.new.held ≡ held_at self.old.len self.old.held ++ take n bytes.now)
+            × (self.new.failures ≡ self.old.failures)) }
+        ensures failed { OnErr result (self.new.failures ≡ self.old.failures + 1) }
+    {
+        if self.len == 4096 {
+            self.pass()?;
+        }
+        let count = bytes.len().min(4096 - self.len);
+        self.hold(&bytes[..count]);
+        Ok(count)
+    }
+
+    fn flush(&mut self) -> Result<(), OutFailed>
+        requires counted { self.old.failures < 2 ^ 63 }
+        ensures ok { OnOk result ((self.new.failures ≡ self.old.failures) × (self.new.len ≡ 0)) }
+        ensures failed { OnErr result (self.new.failures ≡ self.old.failures + 1) }
+    {
+        self.pass()
+    }
+}
+
+/// The files of the system.
+#[derive(Drop)]
+pub struct SystemFiles<'a, R: Files> {
+    pub system: &'a R,
+}
+
+impl<'a, R: Files> Sources for SystemFiles<'a, R> {
+    // what the system's files hold isn't known
+    ghost holds = { λ s name bytes. Unit {0} };
+
+    fn read(&mut self, alloc: Global, name: &str, most: u32) -> Result<Vec<u8>, SourceFault> {
+        let file = match File::open(self.system, name) {
+            Ok(file) => file,
+            Err(fault) => return Err(why(fault.kind())),
+        };
+        let mut bytes = Vec::new(alloc);
+        match file.take(u64::from(most) + 1).read_to_end(&mut bytes) {
+            Ok(_) => Ok(bytes),
+            Err(fault) => Err(why(fault.kind())),
+        }
+    }
+}
+
+fn why(kind: ErrorKind) -> SourceFault {
+    match kind {
+        ErrorKind::OutOfMemory => SourceFault::OutOfMemory,
+        _ => SourceFault::Unreadable,
+    }
+}

@@ -1,0 +1,31 @@
+//! Where the program finds its files.
+
+ghost use Rattle.std.specs.Prelude.{◌≡◌, ℕ, List, Option, None, IfOk, Err};
+ghost use Rattle.system_files.specs.Files.{IsReadFrom, IsSame};
+ghost use Rattle.system_files.specs.declared.sources.SourceFault.TheVariants.{Unreadable};
+
+use std::alloc::Global;
+use thiserror::Error;
+
+/// Why the bytes of a file are not there.
+#[derive(Clone, Copy, Debug, Drop, PartialEq, Eq, Error)]
+pub enum SourceFault {
+    /// P2: there is no such file, or it can't be read.
+    #[error("P2")]
+    Unreadable,
+    /// E16: memory was refused.
+    #[error("E16 OutOfMemory")]
+    OutOfMemory,
+}
+
+/// Files by their names.
+pub trait Sources {
+    /// What a name may stand for: a file with these bytes, or none that can be read.
+    ghost holds: { Self → List ℕ → Option (List ℕ) → Type 0 };
+
+    /// The bytes of a file, or a beginning of it where it has more than `most`, which has more than `most` too.
+    fn read(&mut self, alloc: Global, name: &str, most: u32) -> Result<Vec<u8>, SourceFault>
+        ensures bytes { IfOk result (λ bytes. IsReadFrom (holds self.old name.now) most bytes.items) }
+        ensures unreadable { result ≡ Err Unreadable → holds self.old name.now None }
+        ensures same { IsSame (holds self.new) (holds self.old) };
+}

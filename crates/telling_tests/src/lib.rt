@@ -1,0 +1,21 @@
+//! Tests of what is told of runs and of refusals: their costs, their statements in words and pictures, and JSON beside words.
+#![tactic(auto)]
+
+#[cfg(test)]
+mod acts;
+#[cfg(test)]
+mod calls;
+#[cfg(test)]
+mod costs;
+#[cfg(test)]
+mod cut_off;
+#[cfg(test)]
+mod pictures;
+#[cfg(test)]
+mod refused;
+#[cfg(test)]
+mod statements;
+#[cfg(test)]
+mod told;
+#[cfg(test)]
+mod words;
