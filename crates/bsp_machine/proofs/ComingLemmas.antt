@@ -32,7 +32,9 @@ use Rattle.worker_histories.specs.Shares.{Share, share_of}
 use Rattle.run_options.specs.declared.reserve.Reserve.{Reserve}
 use Rattle.bsp_machine.specs.Reserves.{own_mark, IsMark, AreMarked, HaveReserve}
 use Rattle.bsp_machine.specs.Workers.{shares, share_at, state_behind, IsBetween, IsBehind, IsAt, HasCome, AreAt}
-use Rattle.bsp_machine.proofs.ListLemmas.{map_by, map_at, there_at, get_within, range_more, get_is, one_there}
+use Rattle.bsp_machine.proofs.ListLemmas.{map_by, map_at, range_more, get_is, one_there}
+use Rattle.worker_histories.proofs.Marking.{there}
+use Rattle.std.proofs.lemmas.Option.{slice_get_within}
 use Rattle.bsp_machine.proofs.PhaseLemmas.{state_more}
 use Rattle.bsp_machine.proofs.MarkLemmas.{header_marked, any_stopped, stops_with_any}
 use Rattle.bsp_machine.proofs.StandingLemmas.{row_marked, row_mark, row_is, row_read, purpose_at}
@@ -62,7 +64,7 @@ module _ (code : SuperstepCode) (m : Shape) (bound : ℕ) (input : List ℤ) (k 
         ap words_in (sym (map_itself row))
         ∙ words_by (λ (y : WrittenMessage). y) (λ j. words_between t_of (worker_after t_of input k) w j) row 0
         (λ i y e.
-        let l = get_within row i y e in
+        let l = slice_get_within row i y e in
         let long = (at.filled n low).long in
         ap (λ (z : WrittenMessage). length z.words) (sym (get_is row i y unwritten e)
         ∙ row_is code m bound _ _ w x row at going n low i (omega (arith, l, long)))
@@ -85,10 +87,10 @@ module _ (code : SuperstepCode) (m : Shape) (map_for : IsMapFor code m) (bound :
       t = setting code m bound n
 
       below : i < m.parts
-      below = let l = get_within rows i row e in omega (arith, l, long)
+      below = let l = slice_get_within rows i row e in omega (arith, l, long)
 
       sender : (y : CountedWorker) × (slice_get all i ≡ Some y)
-      sender = there_at all i (let b = below in omega (arith, b, many))
+      sender = there all i (let b = below in omega (arith, b, many))
 
       has : IsAt code m bound input k i sender.0 (messages_in row)
       has = at i sender.0 row sender.1 e
@@ -97,7 +99,7 @@ module _ (code : SuperstepCode) (m : Shape) (map_for : IsMapFor code m) (bound :
       entry_is = get_or_default (messages_in row) w no_words unwritten (let l = (has.filled n low).long in omega (arith, l, within))
 
       mine : (row' : Sheet) × (slice_get rows w ≡ Some row')
-      mine = there_at rows w (omega (arith, within, long))
+      mine = there rows w (omega (arith, within, long))
 
       one_purpose : purpose_is x.local.purpose ≡ purpose_is sender.0.local.purpose
       one_purpose =
@@ -157,8 +159,8 @@ module _ (code : SuperstepCode) (m : Shape) (bound : ℕ) (input : List ℤ) (k 
       each : (i : ℕ) (c : WrittenMessage) (y : CountedWorker) → slice_get (picked w rows) i ≡ Some c → slice_get all i ≡ Some y →
           header_marked c ≡ is_stopped y.local.way
       each i c y e f =
-          let l = get_within all i y f in
-          let there = there_at rows i (omega (arith, l, many, long)) in
+          let l = slice_get_within all i y f in
+          let there = there rows i (omega (arith, l, many, long)) in
           let row = there.0 in
           let is = at i y row f there.1 in
           let low : most_instructions code bound < n = omega arith in
@@ -190,9 +192,9 @@ module _ (code : SuperstepCode) (m : Shape) (bound : ℕ) (input : List ℤ) (k 
           let n = suc (most_instructions code bound) in
           let low : most_instructions code bound < n = omega arith in
           let count = length-map rows entry in
-          let l = get_within (picked w rows) i c e in
-          let row = there_at rows i (omega (arith, l, count)) in
-          let y = there_at all i (omega (arith, l, count, long, many)) in
+          let l = slice_get_within (picked w rows) i c e in
+          let row = there rows i (omega (arith, l, count)) in
+          let y = there all i (omega (arith, l, count, long, many)) in
           let is = at i y.0 row.0 y.1 row.1 in
           let wide = (is.filled n low).long in
           subst (λ (z : WrittenMessage). IsMark (own_mark reserve) (read_header z.header).mark)

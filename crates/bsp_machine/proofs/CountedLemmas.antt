@@ -3,6 +3,7 @@ use Rattle.std.proofs.Common.{◌≡◌, ℕ, ◌+◌, ◌<◌, ◌≤◌, inl, 
 use Rattle.std.specs.Prelude.{◌||◌, nat_lt, nat_le, vec_capacity}
 use Rattle.std.proofs.lemmas.Bool.Decides.{nat_tests}
 use Rattle.std.proofs.lemmas.List.{length-map}
+use Rattle.std.proofs.lemmas.Bool.{lt-ltb}
 use Rattle.address_map.specs.Lawful.{Shape}
 use Rattle.superstep_instructions.specs.Code.{SuperstepCode}
 use Rattle.superstep_machine.specs.declared.mark.HeaderMark.{HeaderMark}
@@ -76,9 +77,6 @@ module _ (code : SuperstepCode) (m : Shape) (bound : ℕ) (states : ℕ → Stat
   here : IsShown (setting code m bound n) x.local.steps.bank.worker x.local (states n)
   here = subst (λ v. IsShown (setting code m bound n) v x.local (states n)) (sym (between.worker alive)) (between.shown alive n low)
 
-  less : (a b : ℕ) → a < b → nat_lt a b ≡ true
-  less a b l = grind (arith, nat_tests)
-
   -- where there is no room to count, no exchange is left
   no_room : (a b c : ℕ) (d : Bool) → a ≤ b → (d || nat_le a c) ≡ ((d || nat_le a c) || nat_le b c)
   no_room a b c true l = refl
@@ -96,7 +94,7 @@ module _ (code : SuperstepCode) (m : Shape) (bound : ℕ) (states : ℕ → Stat
           ≡ (b || is_past r (length y.steps.uniform.output.items) (length x.counts.items) || nat_le (vec_capacity x.counts) (length x.counts.items))
       go true e =
           let l : r.items < printed w = subst (λ v. r.items < printed v) (between.worker alive) (past e r.items has n (states n) low here) in
-          ap (λ d. d || nat_le r.exchanges (length (told n))) (less r.items (printed w) l)
+          ap (λ d. d || nat_le r.exchanges (length (told n))) (lt-ltb r.items (printed w) l)
       go false e =
           let output : printed w ≡ length y.steps.uniform.output.items = ap printed (sym (between.worker alive))
           ∙ ap (λ (u : UniformPart). length u.output) (shown e n (states n) low here).worker.shows.uniform in

@@ -18,7 +18,7 @@ use Rattle.worker_exchange.specs.Equipped.{left, left_by}
 use Rattle.bsp_machine.specs.declared.counted.CountedWorker.{CountedWorker}
 use Rattle.bsp_machine.specs.Workers.{MayAllGoOn}
 use Rattle.bsp_machine.specs.Ended.{left_first, AreRunning}
-use Rattle.bsp_machine.proofs.ListLemmas.{get_within}
+use Rattle.std.proofs.lemmas.Option.{slice_get_within}
 use Rattle.bsp_machine.proofs.MarkLemmas.{going_on}
 
 pub left_first_at : (code : SuperstepCode) (bound : ℕ) (workers : List CountedWorker) (x : CountedWorker) → slice_get workers 0 ≡ Some x →
@@ -60,8 +60,8 @@ module _ (code : SuperstepCode) (m : Shape) (bound : ℕ) (map_for : IsMapFor co
       let t = setting code m bound n in
       let alive = going_on first.local.way on in
       let too : is_stopped x.local.way ≡ false = run.together w 0 x first at here ∙ alive in
-      let l = get_within workers w x at in
-      let f = get_within workers 0 first here in
+      let l = slice_get_within workers w x at in
+      let f = slice_get_within workers 0 first here in
       let same = (one_control_after t map_for input run.exchanges w 0 (omega (arith, l, many)) (omega (arith, f, many))).way in
       (run.behind w x at).going
       (ap is_over (sym (way_shown w x at too n low) ∙ same ∙ way_shown 0 first here alive n low) ∙ on)

@@ -4,6 +4,7 @@ use Rattle.std.proofs.Common.{arith, ⊎_elim}
 use Rattle.std.specs.Prelude.{slice_get}
 use Rattle.std.specs.List.{range_with_len}
 use Rattle.std.proofs.lemmas.Bool.{cases_eq}
+use Rattle.std.proofs.lemmas.Option.{slice_get_within, slice_get-get_or}
 
 module _ {A : Type 0} where
   get_same : (xs : List A) (i : ℕ) (x : A) → i < length xs → slice_get (set xs i x) i ≡ Some x
@@ -17,21 +18,6 @@ module _ {A : Type 0} where
   get_other (y ∷ xs) zero (suc k) x h = refl
   get_other (y ∷ xs) (suc i) zero x h = refl
   get_other (y ∷ xs) (suc i) (suc k) x h = get_other xs i k x (λ e. h (ap suc e))
-
-  pub get_within : (xs : List A) (i : ℕ) (x : A) → slice_get xs i ≡ Some x → i < length xs
-  get_within [] i x h = cc
-  get_within (y ∷ xs) zero x h = omega arith
-  get_within (y ∷ xs) (suc i) x h = let l = get_within xs i x h in omega (arith, l)
-
-  pub there_at : (xs : List A) (i : ℕ) → i < length xs → (y : A) × (slice_get xs i ≡ Some y)
-  there_at [] i h = absurd (omega (arith, h))
-  there_at (y ∷ xs) zero h = (y, refl)
-  there_at (y ∷ xs) (suc i) h = there_at xs i (omega (arith, h))
-
-  pub get_there : (xs : List A) (i : ℕ) (d : A) → i < length xs → slice_get xs i ≡ Some (get_or xs i d)
-  get_there [] i d h = absurd (omega (arith, h))
-  get_there (y ∷ xs) zero d h = refl
-  get_there (y ∷ xs) (suc i) d h = get_there xs i d (omega (arith, h))
 
   pub get_is : (xs : List A) (i : ℕ) (x d : A) → slice_get xs i ≡ Some x → get_or xs i d ≡ x
   get_is [] i x d h = cc

@@ -3,6 +3,7 @@ use Rattle.std.proofs.Common.{◌≡◌, ℕ, zero, suc, List, [], ◌∷◌, le
 use Rattle.std.proofs.Common.{Option, None, Some, refl, sym, ap, subst, ◌∙◌, arith, ◌⊎◌, inl, inr, ⊎_elim}
 use Rattle.std.specs.Prelude.{slice_get, ◌||◌}
 use Rattle.std.specs.List.{list_any}
+use Rattle.std.proofs.lemmas.Bool.{or_parts}
 use Rattle.pram_model.specs.declared.rule.Rule.{Rule}
 use Rattle.address_map.specs.Lawful.{Shape}
 use Rattle.superstep_machine.specs.declared.mark.HeaderMark.{HeaderMark}
@@ -72,10 +73,6 @@ or_true : (b : Bool) → (b || true) ≡ true
 or_true true = refl
 or_true false = refl
 
-pub or_false : (a b : Bool) → (a || b) ≡ false → (a ≡ false) × (b ≡ false)
-or_false true b h = absurd (cc h)
-or_false false b h = (refl, h)
-
 -- it is one of them
 one_of_any : (xs : List CountedWorker) (i : ℕ) (x : CountedWorker) → slice_get xs i ≡ Some x →
     (is_stopped x.local.way || any_stopped xs) ≡ any_stopped xs
@@ -97,7 +94,7 @@ one_of_any xs i x h = go (is_stopped x.local.way) refl
 -- where none has stopped, this one hasn't
 pub none_stopped : (xs : List CountedWorker) (i : ℕ) (x : CountedWorker) → slice_get xs i ≡ Some x → any_stopped xs ≡ false →
     is_stopped x.local.way ≡ false
-none_stopped xs i x h none = (or_false (is_stopped x.local.way) (any_stopped xs) (one_of_any xs i x h ∙ none)).0
+none_stopped xs i x h none = (or_parts (is_stopped x.local.way) (any_stopped xs) (one_of_any xs i x h ∙ none)).0
 
 -- A worker stops at an exchange exactly where any has: from each comes a mark exactly where it has stopped.
 pub stops_with_any : (xs : List CountedWorker) (came : List WrittenMessage) (w : ℕ) (x : CountedWorker) → length came ≡ length xs →

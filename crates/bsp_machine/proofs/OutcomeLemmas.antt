@@ -33,7 +33,9 @@ use Rattle.bsp_machine.specs.declared.counted.CountedWorker.{CountedWorker}
 use Rattle.worker_histories.specs.Shares.{Share, share_of}
 use Rattle.bsp_machine.specs.Workers.{share_told}
 use Rattle.bsp_machine.specs.Ended.{AreRunning, AreWide, cells_of, value_of, memory_of, verdict_in, counts_of}
-use Rattle.bsp_machine.proofs.ListLemmas.{there_at, get_within, map_by}
+use Rattle.bsp_machine.proofs.ListLemmas.{map_by}
+use Rattle.worker_histories.proofs.Marking.{there}
+use Rattle.std.proofs.lemmas.Option.{slice_get_within}
 use Rattle.worker_histories.proofs.Joining.{run_ends}
 use Rattle.worker_histories.proofs.Parts.{exchanges_are}
 
@@ -108,7 +110,7 @@ module _ (code : SuperstepCode) (m : Shape) (map_for : IsMapFor code m) (bound :
   pub wide : AreWide m all
   wide w x at =
       let flat = phases_agree t map_for k (flat.opening input) (opening t input) (opening_agrees t map_for input) in
-      let l = get_within all w x at in
+      let l = slice_get_within all w x at in
       ap length (sym (shown w x at).worker.cells ∙ flat.1.splits.cells w (omega (arith, l, many)))
       ∙ length-map (module_cells t w) flat.0.flat.memory ∙ length-map (range_with_len 0 (m.width w)) (m.cell w)
       ∙ length-range_with_len 0 (m.width w)
@@ -127,9 +129,9 @@ module _ (code : SuperstepCode) (m : Shape) (map_for : IsMapFor code m) (bound :
   columns_long =
       let e = length-map all (λ (x : CountedWorker). x.counts.items) in
       record {
-        some = (let l = get_within all 0 first here in omega (arith, l, e));
+        some = (let l = slice_get_within all 0 first here in omega (arith, l, e));
         long = λ w l.
-            let x = there_at all w (omega (arith, l, e)) in
+            let x = there all w (omega (arith, l, e)) in
             ap length (column_is all w x.0 x.1) ∙ counts_long w x.0 x.1 ∙ sym first_long;
       }
 
@@ -155,7 +157,7 @@ module _ (code : SuperstepCode) (m : Shape) (map_for : IsMapFor code m) (bound :
   by_worker f w l = get_or-map-range_with_len f 0 m.parts w w 0 l (omega arith)
 
   below : (w : ℕ) (x : CountedWorker) → slice_get all w ≡ Some x → w < m.parts
-  below w x at = let l = get_within all w x at in omega (arith, l, many)
+  below w x at = let l = slice_get_within all w x at in omega (arith, l, many)
 
   one_told : (i : ℕ) → i < k → exchange_told (counts_of all) i ≡ exchange_of t (worker_after t input i)
   one_told i l = λ j. record {
@@ -184,7 +186,7 @@ module _ (code : SuperstepCode) (m : Shape) (map_for : IsMapFor code m) (bound :
     value_is : (c : ℕ) → c < total_size code.layout → cell_in t states c ≡ value_of m all c
     value_is c l =
         let within = map_for.lawful.part_below c (omega (arith, l, places)) in
-        let x = there_at all (m.part c) (omega (arith, within, many)) in
+        let x = there all (m.part c) (omega (arith, within, many)) in
         ap (λ (s : State). slice_index_or s.worker.cells (m.offset c) (pos 0)) (state_at (m.part c) within)
         ∙ ap (λ (cells : List ℤ). slice_index_or cells (m.offset c) (pos 0)) ((shown (m.part c) x.0 x.1).worker.cells
         ∙ ap cells_of (sym x.1))

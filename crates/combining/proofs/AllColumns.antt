@@ -1,25 +1,20 @@
 -- Words that are added to the columns of all modules, one item after the other.
 use Rattle.std.proofs.Common.{◌≡◌, ℕ, zero, suc, ◌+◌, ◌<◌, ◌≤◌, List, [], ◌∷◌, ◌++◌, length, get_or, set, map, refl, sym, ap, ◌∙◌}
 use Rattle.std.proofs.Common.{subst, arith, ⊎_elim, Vec, Global, vec_capacity, length-append}
-use Rattle.std.proofs.lemmas.List.{get_or-set_same, get_or-set_other, length-map}
+use Rattle.std.proofs.lemmas.List.{get_or-set_same, get_or-set_other, length-map, map-set}
 use Rattle.std.proofs.lemmas.Bool.{cases_eq}
 use Rattle.combining.specs.AllModules.{column, room_at, GetsFirst}
 
 -- ---- a list of which one item is changed
 
-pub map_set : {A B : Type 0} (f : A → B) (xs : List A) (n : ℕ) (v : A) → map f (set xs n v) ≡ set (map f xs) n (f v)
-map_set f [] n v = refl
-map_set f (x ∷ xs) zero v = refl
-map_set f (x ∷ xs) (suc n) v = ap (λ ys. f x ∷ ys) (map_set f xs n v)
-
 pub changed_here : {A B : Type 0} (f : A → B) (xs : List A) (n : ℕ) (v : A) (d : B) → n < length xs → get_or (map f (set xs n v)) n d ≡ f v
 changed_here f xs n v d l =
-    ap (λ ys. get_or ys n d) (map_set f xs n v)
+    ap (λ ys. get_or ys n d) (map-set f xs n v)
     ∙ get_or-set_same (map f xs) n (f v) d (let e = length-map xs f in omega (arith, e, l))
 
 pub changed_elsewhere : {A B : Type 0} (f : A → B) (xs : List A) (n j : ℕ) (v : A) (d : B) → (n ≡ j → ⊥) →
     get_or (map f (set xs n v)) j d ≡ get_or (map f xs) j d
-changed_elsewhere f xs n j v d apart = ap (λ ys. get_or ys j d) (map_set f xs n v)
+changed_elsewhere f xs n j v d apart = ap (λ ys. get_or ys j d) (map-set f xs n v)
     ∙ get_or-set_other (map f xs) n j (f v) d (λ e. apart (sym e))
 
 pub item_of : {A B : Type 0} (f : A → B) (xs : List A) (n : ℕ) (v : A) (d : B) → n < length xs → v ≡ get_or xs n v →

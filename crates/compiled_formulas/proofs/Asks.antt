@@ -4,7 +4,7 @@ use Rattle.std.proofs.Common.{◌≡◌, ◌≢◌, ℕ, ◌+◌, ◌<◌, ◌�
 use Rattle.std.proofs.Common.{ap, ◌∙◌, arith}
 use Rattle.std.specs.Prelude.{nat_eq}
 use Rattle.std.proofs.lemmas.Bool.Decides.{nat_tests}
-use Rattle.flat_machine.proofs.Late.{none_least}
+use Rattle.superstep_machine.proofs.KeyOrder.{none_least}
 use Rattle.pram_model.specs.Layout.{cell_of}
 use Rattle.pram_tokens.specs.declared.token.Binary.{Binary}
 use Rattle.pram_tokens.specs.declared.token.Binary.TheVariants.{Or, And, Equal, Unequal, Less, AtMost, Greater, AtLeast, Add, Subtract}

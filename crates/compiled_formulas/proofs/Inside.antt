@@ -18,7 +18,7 @@ use Rattle.pram_check.specs.Bounded.{Names, names_of, with_locals}
 use Rattle.pram_meaning.specs.Store.{View, seen, seen_by}
 use Rattle.flat_machine.specs.Flat.{Flat}
 use Rattle.flat_machine.proofs.Late.{least_last}
-use Rattle.flat_machine.proofs.Late.{none_least}
+use Rattle.superstep_machine.proofs.KeyOrder.{none_least}
 use Rattle.flat_stretches.specs.Applied.{IsBare, AsksNone}
 use Rattle.flat_stretches.specs.Folds.{acts_at_once}
 use Rattle.flat_stretches.specs.Leaving.{IsLeft}

@@ -18,12 +18,11 @@ use Rattle.superstep_machine.specs.Run.{is_held}
 use Rattle.superstep_machine.specs.Sending.{cell_at}
 use Rattle.superstep_machine.specs.Steps.{index_of, is_active, under}
 use Rattle.superstep_machine.specs.Answering.{answers, destinations}
-use Rattle.superstep_machine.proofs.KeyOrder.{keys_are_monoid}
+use Rattle.superstep_machine.proofs.KeyOrder.{keys_are_monoid, none_least}
 use Rattle.pram_check.specs.Bounded.{Names}
 use Rattle.pram_meaning.specs.Store.{View}
 use Rattle.flat_machine.specs.Flat.{Flat, conflicts, read_conflicts}
 use Rattle.flat_machine.proofs.Late.{none_owed}
-use Rattle.flat_machine.proofs.Late.{none_least}
 use Rattle.flat_stretches.specs.Applied.{IsBare, AsksNone}
 use Rattle.flat_stretches.specs.Folds.{acts_at_once}
 use Rattle.flat_stretches.specs.Notes.{notes}

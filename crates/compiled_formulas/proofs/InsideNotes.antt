@@ -2,7 +2,7 @@
 use Rattle.std.proofs.Common.{◌≡◌, ℕ, ◌+◌, ◌<◌, List, [], ◌∷◌, map, get_or, Bool, if◌then◌else◌, Option, Some, None}
 use Rattle.std.proofs.Common.{ℤ, refl, sym, ap, ◌∙◌, arith}
 use Rattle.std.specs.List.{filter, range_with_len}
-use Rattle.flat_machine.proofs.Late.{none_least}
+use Rattle.superstep_machine.proofs.KeyOrder.{none_least, keys_are_monoid}
 use Rattle.pram_model.specs.declared.rule.Rule.{Rule}
 use Rattle.pram_values.specs.declared.place.Place.TheVariants.{Processor}
 use Rattle.pram_values.specs.Total.{total}
@@ -10,7 +10,6 @@ use Rattle.pram_values.proofs.Totals.{total_same, total_none, total_map, total_w
 use Rattle.write_rules.specs.Rule.{shares_reads}
 use Rattle.superstep_machine.specs.Keys.{least}
 use Rattle.superstep_machine.specs.Sending.{several, asks_for, put_conflict}
-use Rattle.superstep_machine.proofs.KeyOrder.{keys_are_monoid}
 use Rattle.pram_check.specs.Checked.{Checked}
 use Rattle.pram_meaning.specs.Store.{State, member_of, seen_by}
 use Rattle.statement_evaluation.specs.Rows.{Row, trail}

@@ -12,12 +12,11 @@ use Rattle.superstep_machine.specs.declared.key.Key.{Key}
 use Rattle.superstep_machine.specs.Keys.{least}
 use Rattle.superstep_machine.specs.Parts as parts
 use Rattle.superstep_machine.specs.Sending.{cell_at, several, asks_for, is_several, conflict_at}
-use Rattle.superstep_machine.proofs.KeyOrder.{keys_are_monoid}
+use Rattle.superstep_machine.proofs.KeyOrder.{keys_are_monoid, none_least}
 use Rattle.superstep_machine.specs.Results.{kind_of}
 use Rattle.pram_meaning.specs.Operation.{operate, operate_before}
 use Rattle.pram_meaning.specs.Store.{View}
 use Rattle.flat_machine.specs.Flat.{Flat, cells, askers, read_conflict, read_conflicts}
-use Rattle.flat_machine.proofs.Late.{none_least}
 use Rattle.statement_evaluation.specs.Whole.{testing, reading, value}
 use Rattle.statement_evaluation.specs.Noted.{Heading, moment}
 use Rattle.plain_form.specs.Formulas.{Formula, Zero, Number, Variable, Index, Local, Read, Before, Between, Pair, reads, positions, nesting}

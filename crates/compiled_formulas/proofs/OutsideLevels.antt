@@ -15,7 +15,7 @@ use Rattle.pram_check.specs.Bounded.{Names}
 use Rattle.pram_meaning.specs.Store.{View}
 use Rattle.flat_machine.specs.Flat.{Flat, conflicts, read_conflicts}
 use Rattle.flat_machine.proofs.Late.{none_owed}
-use Rattle.flat_machine.proofs.Late.{none_least}
+use Rattle.superstep_machine.proofs.KeyOrder.{none_least}
 use Rattle.flat_stretches.specs.Applied.{IsBare, AsksNone}
 use Rattle.flat_stretches.specs.Folds.{acts_at_once}
 use Rattle.flat_stretches.specs.Leaving.{IsLeft}

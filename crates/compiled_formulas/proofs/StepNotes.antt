@@ -1,9 +1,8 @@
 -- The notes of all positions are the notes of the steps.
 use Rattle.std.proofs.Common.{◌≡◌, ℕ, ◌+◌, List, [], ◌∷◌, ◌++◌, length, length-append, refl, sym, ap, ◌∙◌, arith}
-use Rattle.flat_machine.proofs.Late.{none_least}
+use Rattle.superstep_machine.proofs.KeyOrder.{none_least, keys_are_monoid}
 use Rattle.pram_values.specs.declared.place.Place.{Place}
 use Rattle.superstep_machine.specs.Keys.{least}
-use Rattle.superstep_machine.proofs.KeyOrder.{keys_are_monoid}
 use Rattle.superstep_machine.specs.Results.{kind_of}
 use Rattle.pram_meaning.specs.Operation.{operate}
 use Rattle.pram_meaning.specs.Store.{View}

@@ -15,9 +15,8 @@ use Rattle.superstep_machine.specs.Keys.{least}
 use Rattle.superstep_machine.specs.Parts.{Registers, Read, UniformPart, PrivatePart}
 use Rattle.superstep_machine.specs.Results.{position_of}
 use Rattle.superstep_machine.specs.Steps.{fault_at, own_key, uniform_key, is_active}
-use Rattle.superstep_machine.proofs.KeyOrder.{keys_are_monoid}
+use Rattle.superstep_machine.proofs.KeyOrder.{keys_are_monoid, none_least}
 use Rattle.flat_machine.specs.Flat.{Flat, range, cells, read_conflicts}
-use Rattle.flat_machine.proofs.Late.{none_least}
 use Rattle.flat_stretches.specs.Folds.{act_at_once, acts_at_once}
 use Rattle.flat_stretches.specs.Notes.{note, notes}
 use Rattle.statement_evaluation.specs.Noted.{Heading, moment, note_key}

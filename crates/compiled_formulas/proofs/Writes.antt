@@ -2,7 +2,7 @@
 use Rattle.std.proofs.Common.{◌≡◌, ℕ, ◌+◌, ◌<◌, List, [], ◌∷◌, ◌++◌, map, length, get_or, if◌then◌else◌}
 use Rattle.std.proofs.Common.{Option, None, ℤ, sym, ap, ◌∙◌, append_assoc, arith}
 use Rattle.std.specs.List.{range_with_len}
-use Rattle.flat_machine.proofs.Late.{none_least}
+use Rattle.superstep_machine.proofs.KeyOrder.{none_least, keys_are_monoid}
 use Rattle.pram_model.specs.declared.rule.Rule.{Rule}
 use Rattle.pram_model.specs.Layout.{cell_of, total_size}
 use Rattle.pram_values.specs.declared.place.Place.TheVariants.{Processor}
@@ -13,7 +13,6 @@ use Rattle.superstep_machine.specs.declared.key.Key.{Key}
 use Rattle.superstep_machine.specs.Keys.{least}
 use Rattle.superstep_machine.specs.Results.{missing}
 use Rattle.superstep_machine.specs.Sending.{several, asks_for}
-use Rattle.superstep_machine.proofs.KeyOrder.{keys_are_monoid}
 use Rattle.pram_check.specs.Checked.{Checked}
 use Rattle.pram_meaning.specs.Store.{State, member_of, seen_by}
 use Rattle.statement_evaluation.specs.Terms.{Task, Writes, task_positions}

@@ -16,11 +16,10 @@ use Rattle.superstep_machine.specs.Keys.{least}
 use Rattle.superstep_machine.specs.Results.{missing}
 use Rattle.superstep_machine.specs.Sending.{join, verdict_on, settled, put_conflict}
 use Rattle.superstep_machine.specs.Steps.{index_of, is_active, under, own_write, write_to}
-use Rattle.superstep_machine.proofs.KeyOrder.{keys_are_monoid}
+use Rattle.superstep_machine.proofs.KeyOrder.{keys_are_monoid, none_least}
 use Rattle.pram_check.specs.Checked.{Checked}
 use Rattle.pram_meaning.specs.Store.{State, member_of, seen_by}
 use Rattle.flat_machine.specs.Flat.{Flat, range, cells, noted, single_to, written}
-use Rattle.flat_machine.proofs.Late.{none_least}
 use Rattle.flat_stretches.specs.Applied.{write_conflict}
 use Rattle.flat_stretches.specs.Folds.{acts_at_once}
 use Rattle.flat_stretches.proofs.Joins.{acts_at_once_join}

@@ -13,7 +13,7 @@ use Rattle.superstep_machine.specs.Keys.{least}
 use Rattle.superstep_machine.specs.Run.{Purpose, Sends, Replies, Votes, Way, On, Ending, Past, Refused, Lost, is_held, due, unless, decided}
 use Rattle.superstep_machine.specs.Run.{items_below, fault_of}
 use Rattle.superstep_machine.specs.Steps.{own_key, is_active}
-use Rattle.superstep_machine.proofs.KeyOrder.{keys_are_monoid}
+use Rattle.superstep_machine.proofs.KeyOrder.{keys_are_monoid, none_least}
 use Rattle.bsp_verify.specs.WellFormed.{IsWellFormed}
 use Rattle.flat_machine.specs.Flat.{Flat, range, noted, after_instr, owed}
 use Rattle.flat_machine.specs.ByExchanges.{State, after_exchange, outcome_of, opening}
@@ -25,7 +25,7 @@ use Rattle.flat_machine.proofs.Counts.{IsKeyOf, least_of, owed_of}
 use Rattle.flat_machine.proofs.Paths.{IsAt, Agrees, Fits, found, states_describe, mark_asks_none, halt_asks_none, reply_holds_none}
 use Rattle.flat_machine.proofs.Paths.{vote_holds_none}
 use Rattle.flat_machine.proofs.Arrival.{arrives}
-use Rattle.flat_machine.proofs.Late.{faulted, none_least, told_noted, closed_told, late_verdict}
+use Rattle.flat_machine.proofs.Late.{faulted, told_noted, closed_told, late_verdict}
 use Rattle.pram_model.proofs.Truths.{unsome}
 
 -- ---- two runs, in which the exchanges of different places decide

@@ -19,7 +19,8 @@ use Rattle.flat_machine.specs.ByExchanges.{State}
 use Rattle.flat_machine.specs.ByInstructions.{stopped, going, step, step_by, steps}
 use Rattle.flat_machine.proofs.Stepping.{carried_out}
 use Rattle.flat_machine.proofs.Counts.{IsCounted}
-use Rattle.flat_machine.proofs.Late.{none_least, none_owed, read_keys}
+use Rattle.flat_machine.proofs.Late.{none_owed, read_keys}
+use Rattle.superstep_machine.proofs.KeyOrder.{none_least}
 
 pub record IsClean (f : Flat) : Type 0 where
   pub asks : f.uniform.asks ≡ [] → (v : ℕ) → (f.own v).asks ≡ []

@@ -19,7 +19,7 @@ use Rattle.superstep_machine.specs.Parts.{Moment}
 use Rattle.superstep_machine.specs.Run.{Sends, Way, On, Past, is_held, due, unless, decided, items_below, fault_of}
 use Rattle.superstep_machine.specs.Sending.{put_conflict, verdict_on}
 use Rattle.superstep_machine.specs.Stretch.{ToClose}
-use Rattle.superstep_machine.proofs.KeyOrder.{by_earlier_statement, keys_are_monoid}
+use Rattle.superstep_machine.proofs.KeyOrder.{by_earlier_statement, keys_are_monoid, none_least}
 use Rattle.bsp_verify.specs.WellFormed.{IsWellFormed}
 use Rattle.flat_machine.specs.Flat.{Flat, cells, noted, after_instr, owed, read_conflicts, after_send, after_reply, after_vote}
 use Rattle.flat_machine.specs.ByExchanges.{State, outcome_of, opening}
@@ -39,9 +39,6 @@ faulted key items = Some (Faulted (fault_of key) items)
 stays : (key : Key) (x : Option Key) → IsKeyOf (λ n. key.count < n) x → least (Some key) x ≡ Some key
 stays key None h = refl
 stays key (Some b) h = ap (λ c. let k : Key = if c then key else b in Some k) (by_earlier_statement key b h)
-
-pub none_least : (x : Option Key) → least x None ≡ x
-none_least x = neutral_right None least keys_are_monoid x
 
 -- a and o, then y
 pub least_last : (a o y : Option Key) → least (least a y) o ≡ least (least a o) y

@@ -14,10 +14,10 @@ use Rattle.superstep_machine.specs.Parts.{UniformPart, PrivatePart, Moment, fres
 use Rattle.superstep_machine.specs.Run.{is_held}
 use Rattle.superstep_machine.specs.Sending.{verdict_on, settled, put_conflict, uniform_sent, own_sent}
 use Rattle.superstep_machine.specs.Steps.{moment_of, on_uniform, uniform_key, on_own, own_key, is_active, is_put, renews}
-use Rattle.superstep_machine.proofs.KeyOrder.{keys_are_monoid}
+use Rattle.superstep_machine.proofs.KeyOrder.{keys_are_monoid, none_least}
 use Rattle.flat_machine.specs.Flat.{Flat, range, cells, noted, written, after_instr, owed, after_send, after_reply}
 use Rattle.flat_machine.specs.Verdicts.{told}
-use Rattle.flat_machine.proofs.Late.{least_last, none_least, none_owed, told_noted, told_sent, read_keys, no_read_keys}
+use Rattle.flat_machine.proofs.Late.{least_last, none_owed, told_noted, told_sent, read_keys, no_read_keys}
 use Rattle.flat_stretches.specs.Applied.{applied, IsBare, wrote, InstructionsApply, WritesApply, SendsAreSame, SendsOfWritesApply}
 use Rattle.flat_stretches.specs.Applied.{RepliesApply, VotesApply, BareIsApplied, EmptySendsAreNothing}
 

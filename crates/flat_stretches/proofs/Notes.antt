@@ -6,9 +6,8 @@ use Rattle.superstep_instructions.specs.declared.instr.Instr.TheVariants.{Ask, P
 use Rattle.superstep_instructions.specs.Code.{SuperstepCode}
 use Rattle.superstep_machine.specs.declared.key.Key.{Key}
 use Rattle.superstep_machine.specs.Keys.{least}
-use Rattle.superstep_machine.proofs.KeyOrder.{keys_are_monoid}
+use Rattle.superstep_machine.proofs.KeyOrder.{keys_are_monoid, none_least}
 use Rattle.flat_machine.specs.Flat.{Flat, noted}
-use Rattle.flat_machine.proofs.Late.{none_least}
 use Rattle.flat_stretches.specs.Applied.{write_conflict}
 use Rattle.flat_stretches.specs.Folds.{act_at_once, acts_at_once}
 use Rattle.flat_stretches.specs.Notes.{note, notes, FoldsTellNotes, NotesJoin, NotesForgetKeys, FoldsForgetKeys}

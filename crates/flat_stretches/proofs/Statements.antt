@@ -19,7 +19,8 @@ use Rattle.superstep_machine.specs.Parts.{PrivatePart}
 use Rattle.superstep_machine.specs.Steps.{is_active}
 use Rattle.bsp_verify.proofs.WorkerLemmas.{none_came}
 use Rattle.bsp_verify.proofs.RunLemmas.{no_answers}
-use Rattle.flat_machine.proofs.Late.{none_least, told_noted}
+use Rattle.flat_machine.proofs.Late.{told_noted}
+use Rattle.superstep_machine.proofs.KeyOrder.{none_least}
 use Rattle.flat_machine.proofs.AnyTime.{none_noted}
 use Rattle.flat_machine.proofs.Paths as paths
 use Rattle.flat_stretches.specs.Applied.{AsksNone}

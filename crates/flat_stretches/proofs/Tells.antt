@@ -23,13 +23,13 @@ use Rattle.superstep_machine.specs.Parts.{Read, UniformPart, PrivatePart}
 use Rattle.superstep_machine.specs.Results.{position_of}
 use Rattle.superstep_machine.specs.Run.{Purpose, Sends, Replies, Votes, On, items_below, fault_of}
 use Rattle.superstep_machine.specs.Steps.{fault_at, wrong_uniform, wrong_own, own_key, index_of, is_active, is_put}
-use Rattle.superstep_machine.proofs.KeyOrder.{keys_are_monoid}
+use Rattle.superstep_machine.proofs.KeyOrder.{keys_are_monoid, none_least}
 use Rattle.flat_machine.specs.Flat.{Flat, range, noted, after_instr, after_send, after_reply, after_vote}
 use Rattle.flat_machine.specs.ByExchanges.{State}
 use Rattle.flat_machine.specs.ByInstructions.{going, everywhere, IsFlatOutcome}
 use Rattle.flat_machine.specs.Verdicts.{told, ends_statement}
 use Rattle.flat_machine.proofs.AnyTime.{a_key_is_for_good}
-use Rattle.flat_machine.proofs.Late.{none_least, told_noted}
+use Rattle.flat_machine.proofs.Late.{told_noted}
 use Rattle.flat_stretches.specs.Along.{Run, Comes, IsAt, works, IsUndecided, IsOf, IsRunning}
 use Rattle.flat_stretches.specs.Tells.{IsDoomed, Tells, is_quiet, EndsTell, QuietPlacesTell, QuietStretchesTell, JumpsTell, ForksTell}
 use Rattle.flat_stretches.specs.Tells.{IsCalm, ends, quiet, jumps, forks, CalmPlacesTell, QuietBeforeCalm}

@@ -13,7 +13,7 @@ use Rattle.pram_check.specs.Bounded as bounded
 use Rattle.pram_check.specs.Bounded.{names_of, with_locals}
 use Rattle.pram_meaning.specs.Store.{State, seen_by}
 use Rattle.flat_machine.specs.Flat.{Flat}
-use Rattle.flat_machine.proofs.Late.{none_least}
+use Rattle.superstep_machine.proofs.KeyOrder.{none_least}
 use Rattle.flat_stretches.specs.Along.{Run}
 use Rattle.flat_stretches.specs.Folds.{acts_at_once}
 use Rattle.flat_stretches.specs.Frames.{Frame, StandsIn, present, is_true}

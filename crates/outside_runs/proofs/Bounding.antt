@@ -19,7 +19,7 @@ use Rattle.pram_meaning.specs.Bounded.{Done, Goes, Stops, Reaches, then_do, coun
 use Rattle.pram_meaning.specs.Values.{IsValue}
 use Rattle.statement_evaluation.specs.LeastFaults.{unless_told}
 use Rattle.flat_machine.specs.Flat.{Flat}
-use Rattle.flat_machine.proofs.Late.{none_least}
+use Rattle.superstep_machine.proofs.KeyOrder.{none_least}
 use Rattle.flat_stretches.specs.Along.{Run}
 use Rattle.flat_stretches.specs.Folds.{Stand, acts_at_once}
 use Rattle.flat_stretches.specs.Notes.{notes}

@@ -12,7 +12,7 @@ use Rattle.superstep_machine.proofs.Numbers.{same_number, with_itself}
 use Rattle.pram_check.specs.Checked.{Checked}
 use Rattle.pram_meaning.specs.Store.{State, with_uniform, printed}
 use Rattle.flat_machine.specs.Flat.{Flat, after_instr}
-use Rattle.flat_machine.proofs.Late.{none_least}
+use Rattle.superstep_machine.proofs.KeyOrder.{none_least}
 use Rattle.flat_stretches.specs.Notes.{note, notes}
 use Rattle.plain_form.specs.Registers.{variable, behind_variables}
 use Rattle.compiled_formulas.proofs.Operations.{set_here, set_there}

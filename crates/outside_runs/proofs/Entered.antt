@@ -20,7 +20,7 @@ use Rattle.pram_meaning.specs.Store.{Member, State, member_of, members, with_tea
 use Rattle.pram_meaning.specs.Values.{IsMember, IsValue, HasValues}
 use Rattle.pram_meaning.proofs.SoundValues.{AreNumbers, numbers_first, numbers_rest, width_values, zeros_are}
 use Rattle.flat_machine.specs.Flat.{Flat, after_instr}
-use Rattle.flat_machine.proofs.Late.{none_least}
+use Rattle.superstep_machine.proofs.KeyOrder.{none_least}
 use Rattle.flat_stretches.specs.Frames.{everybody, StandsIn}
 use Rattle.flat_stretches.specs.Notes.{note, notes}
 use Rattle.statement_evaluation.specs.Noted.{note_key}

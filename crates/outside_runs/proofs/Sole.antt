@@ -10,7 +10,7 @@ use Rattle.pram_check.specs.Bounded as bounded
 use Rattle.pram_check.specs.Bounded.{names_of}
 use Rattle.pram_meaning.specs.Store.{State, seen}
 use Rattle.pram_meaning.specs.Values.{IsValue}
-use Rattle.flat_machine.proofs.Late.{none_least}
+use Rattle.superstep_machine.proofs.KeyOrder.{none_least}
 use Rattle.flat_machine.specs.Flat.{Flat}
 use Rattle.flat_stretches.specs.Along.{Run}
 use Rattle.flat_stretches.specs.Folds.{acts_at_once}

@@ -15,7 +15,7 @@ use Rattle.pram_check.specs.Bounded.{names_of}
 use Rattle.pram_check.specs.Checked.{Checked}
 use Rattle.pram_meaning.specs.Store.{State, with_uniform}
 use Rattle.flat_machine.specs.Flat.{Flat, after_instr}
-use Rattle.flat_machine.proofs.Late.{none_least}
+use Rattle.superstep_machine.proofs.KeyOrder.{none_least}
 use Rattle.flat_stretches.specs.Folds.{acts_at_once}
 use Rattle.flat_stretches.specs.Notes.{note, notes}
 use Rattle.plain_form.specs.Registers.{variable, behind_variables, turn, high, more}

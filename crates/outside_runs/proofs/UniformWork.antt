@@ -8,9 +8,8 @@ use Rattle.superstep_machine.specs.declared.key.Key.{Key}
 use Rattle.superstep_machine.specs.Keys.{least}
 use Rattle.superstep_machine.specs.Parts.{PrivatePart}
 use Rattle.superstep_machine.specs.Steps.{uniform_key, own_key}
-use Rattle.superstep_machine.proofs.KeyOrder.{keys_are_monoid}
+use Rattle.superstep_machine.proofs.KeyOrder.{keys_are_monoid, none_least}
 use Rattle.flat_machine.specs.Flat.{Flat, range, noted}
-use Rattle.flat_machine.proofs.Late.{none_least}
 use Rattle.flat_stretches.specs.Applied.{AsksNone}
 
 pub nothing_either : (b : Bool) → (let none : Option Key = None in if b then none else None) ≡ None

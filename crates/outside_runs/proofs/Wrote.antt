@@ -21,13 +21,12 @@ use Rattle.superstep_machine.specs.Sending.{join, verdict_on, settled, put_confl
 use Rattle.superstep_machine.specs.Setting.{combining}
 use Rattle.superstep_machine.specs.Steps.{index_of, own_write, write_to, is_active, moment_of}
 use Rattle.superstep_machine.proofs.Collected.{entries_are_monoid}
-use Rattle.superstep_machine.proofs.KeyOrder.{keys_are_monoid}
+use Rattle.superstep_machine.proofs.KeyOrder.{keys_are_monoid, none_least}
 use Rattle.superstep_machine.proofs.Numbers.{same_number, with_itself}
 use Rattle.pram_check.specs.Checked.{Checked}
 use Rattle.pram_meaning.specs.Store.{State}
 use Rattle.pram_meaning.specs.Together.{after_write}
 use Rattle.flat_machine.specs.Flat.{Flat, range, cells, noted, single_to, written}
-use Rattle.flat_machine.proofs.Late.{none_least}
 use Rattle.flat_stretches.specs.Applied.{wrote, write_conflict}
 use Rattle.flat_stretches.specs.Notes.{note, notes}
 use Rattle.statement_evaluation.specs.Noted.{note_key}

@@ -14,7 +14,7 @@ use Rattle.bsp_verify.specs.WellFormed.{IsWellFormed}
 use Rattle.flat_machine.specs.Flat.{Flat, after_instr}
 use Rattle.flat_machine.specs.ByInstructions.{IsFlatOutcome}
 use Rattle.flat_machine.specs.Verdicts.{told}
-use Rattle.flat_machine.proofs.Late.{none_least}
+use Rattle.superstep_machine.proofs.KeyOrder.{none_least}
 use Rattle.flat_machine.proofs.AnyTime.{none_noted}
 use Rattle.flat_stretches.specs.Applied.{applied}
 use Rattle.flat_stretches.specs.Along.{Run}

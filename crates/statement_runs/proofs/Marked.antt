@@ -10,7 +10,8 @@ use Rattle.superstep_machine.specs.Parts.{PrivatePart}
 use Rattle.superstep_machine.specs.Run.{is_held}
 use Rattle.superstep_machine.specs.Steps.{is_active}
 use Rattle.flat_machine.specs.Flat.{Flat, conflicts}
-use Rattle.flat_machine.proofs.Late.{none_least, none_owed, read_keys, no_read_keys}
+use Rattle.flat_machine.proofs.Late.{none_owed, read_keys, no_read_keys}
+use Rattle.superstep_machine.proofs.KeyOrder.{none_least}
 use Rattle.flat_stretches.specs.Applied.{applied, IsBare, AsksNone}
 use Rattle.flat_stretches.specs.Folds.{acts_at_once}
 use Rattle.flat_stretches.specs.Notes.{notes}

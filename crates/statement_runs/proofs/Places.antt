@@ -11,7 +11,8 @@ use Rattle.pram_meaning.specs.Store.{State}
 use Rattle.flat_machine.specs.Flat.{Flat, after_instr, after_send}
 use Rattle.flat_machine.specs.ByInstructions.{going}
 use Rattle.flat_machine.specs.Verdicts.{told}
-use Rattle.flat_machine.proofs.Late.{none_least, told_noted}
+use Rattle.flat_machine.proofs.Late.{told_noted}
+use Rattle.superstep_machine.proofs.KeyOrder.{none_least}
 use Rattle.flat_stretches.specs.Applied.{applied, AsksNone}
 use Rattle.flat_stretches.specs.Along.{Run, Comes, IsAt, IsOf, works}
 use Rattle.flat_stretches.specs.Folds.{Stand}

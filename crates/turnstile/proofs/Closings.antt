@@ -21,7 +21,8 @@ use Rattle.turnstile.specs.Seats.{RowState, SamePhases, ReceivedAsSent, AreWhole
 use Rattle.turnstile.specs.Works.{rows_of, columns_of, row_state, Rested}
 use Rattle.turnstile.specs.Closings.{AreWorksOf, gone}
 use Rattle.turnstile.proofs.Comings.{received_is_sent, same_phases, all_laid}
-use Rattle.turnstile.proofs.Rosters.{get_below, elem_of_get, works_count, work_of}
+use Rattle.turnstile.proofs.Rosters.{elem_of_get, works_count, work_of}
+use Rattle.std.proofs.lemmas.Option.{slice_get_within}
 
 from_map : {A B : Type 0} (f : A → B) (l : List A) (k : ℕ) (y : B) → get_elem? (map f l) k ≡ some y → (x : A) × (f x ≡ y)
 from_map f [] k y e = absurd (some-ne-none y (sym e))
@@ -88,7 +89,7 @@ module _ (blocks : TwoBlocks) (p : ℕ) (ws : List ℕ) (ys : List (Option Piece
       ∙ sym (entry_beyond (rows_of a) s j (let r : l ≤ s = omega arith in r)))
     where
       i_below : i < p
-      i_below = let lt = get_below works i a ea in let c = works_count seats works of ∙ len in subst (λ (z : ℕ). i < z) c lt
+      i_below = let lt = slice_get_within works i a ea in let c = works_count seats works of ∙ len in subst (λ (z : ℕ). i < z) c lt
 
       by_cases : Rested b → s < b.round → (o : maybe.Option Message) → entry (columns_of b) s i ≡ o →
           entry (columns_of b) s i ≡ entry (rows_of a) s j

@@ -1,6 +1,7 @@
 -- Lists of seats, and of what they were made of.
 use Rattle.std.proofs.Common.{◌≡◌, ℕ, zero, suc, ◌+◌, ◌<◌, List, [], ◌∷◌, ◌++◌, map, length, Option, Some, slice_get, sym, refl, ap, ◌∙◌}
 use Rattle.std.proofs.Common.{subst, ⊎_elim, length-append, arith}
+use Rattle.std.proofs.lemmas.Option.{slice_get_within}
 use mathlib.Core.Option.{some}
 use lib.ListN.{get_elem?, length-map}
 use Rattle.atomic_table.specs.Seated.{TableId}
@@ -15,11 +16,6 @@ module _ {A : Type 0} where
   pub get_seam : (l : List A) (x : A) (t : List A) → slice_get (l ++ x ∷ t) (length l) ≡ Some x
   get_seam [] x t = refl
   get_seam (y ∷ ys) x t = get_seam ys x t
-
-  pub get_below : (l : List A) (j : ℕ) (b : A) → slice_get l j ≡ Some b → j < length l
-  get_below [] j b e = absurd (cc)
-  get_below (x ∷ xs) zero b e = omega arith
-  get_below (x ∷ xs) (suc j) b e = let h = get_below xs j b e in omega arith
 
   pub elem_of_get : (l : List A) (j : ℕ) (b : A) → slice_get l j ≡ Some b → get_elem? l j ≡ some b
   elem_of_get [] j b e = absurd (cc)

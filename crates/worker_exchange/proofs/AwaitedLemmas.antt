@@ -3,7 +3,7 @@ use Rattle.std.proofs.Common.{◌≡◌, ℕ, zero, suc, ◌+◌, ◌<◌, ◌�
 use Rattle.std.proofs.Common.{ap, subst, ◌∙◌, arith, ⊎_elim}
 use Rattle.std.specs.Prelude.{nat_lt, slice_get}
 use Rattle.std.specs.List.{AllByRecursion, range_with_len, zip}
-use Rattle.std.proofs.lemmas.Bool.{cases_eq}
+use Rattle.std.proofs.lemmas.Bool.{cases_eq, ltb-true}
 use Rattle.std.proofs.lemmas.Bool.Decides.{nat_tests}
 use Rattle.std.proofs.lemmas.List.{length-map}
 use Rattle.std.proofs.lemmas.List.FromFn.{length-map-range_with_len}
@@ -56,9 +56,6 @@ record AreSent (t : Setting) (x : Worker) : Type 0 where
   pub there : AllByRecursion (IsReadThere t.code.private_registers) x.uniform.awaited
   pub own : AllByRecursion (λ (y : PrivatePart). AllByRecursion (IsCellBelow t.map.count) y.awaited) x.own
 
-below_by : (a b : ℕ) → nat_lt a b ≡ true → a < b
-below_by a b h = grind (arith, nat_tests)
-
 abbrev Named : SuperstepCode → Instr → Type 0
 Named code i = has_registers code i ≡ true
 
@@ -86,7 +83,7 @@ module _ (t : Setting) (formed : IsWellFormed t.code) (w : ℕ) where
   held_there (instrs.Ask Uniform d e s q) a u h = all_add (IsReadThere t.code.private_registers) u.asks _ h (λ k. cc)
   held_there (instrs.Ask Private d e s q) a u h =
       all_add (IsReadThere t.code.private_registers) u.asks _ h
-      (λ k. below_by d t.code.private_registers (both (is_register t.code Private d) (is_register t.code Private s) a).0)
+      (λ k. ltb-true d t.code.private_registers (both (is_register t.code Private d) (is_register t.code Private s) a).0)
   held_there (instrs.Put side e s v q) a u h = h
   held_there (instrs.Print s) a u h = h
   held_there i a u h = h

@@ -6,6 +6,7 @@ use Rattle.std.specs.Int.{w64}
 use Rattle.std.proofs.lemmas.List.{ext_get_or}
 use Rattle.std.proofs.lemmas.List.FromFn.{get_or-map-range_with_len, length-map-range_with_len}
 use Rattle.std.proofs.Math.Nat.{div-le_self}
+use Rattle.std.proofs.lemmas.Simd.{map-map}
 use Rattle.pram_model.specs.declared.rule.Rule.{Rule}
 use Rattle.pram_model.specs.declared.rule.Rule.TheVariants as rules_are
 use Rattle.address_map.specs.Lawful.{Shape}
@@ -25,10 +26,6 @@ use Rattle.worker_exchange.specs.Reached.{most_instructions}
 use Rattle.worker_exchange.specs.Shown.{way_is, cells_asked, IsShown}
 use Rattle.worker_exchange.specs.Equipped.{IsEquipped, IsRunnable, MayGoOn, most_words}
 
-pub mapped_twice : {A B C : Type 0} (f : B → C) (g : A → B) (xs : List A) → map f (map g xs) ≡ map (λ x. f (g x)) xs
-mapped_twice f g [] = refl
-mapped_twice f g (x ∷ xs) = ap (λ ys. f (g x) ∷ ys) (mapped_twice f g xs)
-
 -- a list by its items
 pub cells_are : (f : ℕ → ℤ) (g : ℕ → ℕ) (n : ℕ) (xs : List ℤ) → length xs ≡ n → ((o : ℕ) → o < n → get_or xs o (pos 0) ≡ f (g o)) →
     xs ≡ map f (map g (range_with_len 0 n))
@@ -36,7 +33,7 @@ cells_are f g n xs long each =
     ext_get_or (pos 0) xs (map (λ o. f (g o)) (range_with_len 0 n)) (long ∙ sym (length-map-range_with_len (λ o. f (g o)) 0 n))
     (λ i l. each i (omega (arith, l, long))
     ∙ sym (get_or-map-range_with_len (λ o. f (g o)) 0 n i i (pos 0) (omega (arith, l, long)) (omega arith)))
-    ∙ sym (mapped_twice f g (range_with_len 0 n))
+    ∙ sym (map-map f g (range_with_len 0 n))
 
 -- what is so of each item by its place
 pub by_place : (xs : List ℤ) → ((k : ℕ) → k < length xs → FitsSigned w64 (get_or xs k (pos 0))) → AreValues xs

@@ -45,7 +45,7 @@ use Rattle.worker_exchange.specs.Sends.{words_of}
 use Rattle.worker_exchange.specs.declared.local.Local.{Local}
 use Rattle.worker_exchange.specs.Shown.{cells_asked, ShowsWorker}
 use Rattle.worker_exchange.specs.Equipped.{most_words, AreBuffers, IsAwaited, IsEquipped}
-use Rattle.worker_exchange.proofs.OpeningLemmas.{mapped_twice}
+use Rattle.std.proofs.lemmas.Simd.{map-map}
 use Rattle.worker_exchange.specs.Received.{received, messages_to}
 use Rattle.worker_exchange.specs.Answered.{Gives, IsAnswered}
 use Rattle.worker_exchange.proofs.BehindLemmas.{word_fits, values_read}
@@ -128,7 +128,7 @@ module _ (x y : WorkerState) (held : List HeldAsk) (done : IsAnswered held x y) 
 
   pub own_replied : map (own_answered value (uniform_of x.uniform).awaited) (own_in x) ≡ own_in y
   own_replied =
-      mapped_twice (own_answered value (uniform_of x.uniform).awaited) (part_in x) (range_with_len 0 x.bank.masks.many)
+      map-map (own_answered value (uniform_of x.uniform).awaited) (part_in x) (range_with_len 0 x.bank.masks.many)
       ∙ map_within (λ j. own_answered value (uniform_of x.uniform).awaited (part_in x j)) (part_in y) x.bank.masks.many 0
       (λ j l. part_replied j (omega (arith, l)))
       ∙ ap (λ n. map (part_in y) (range_with_len 0 n)) (sym many_same)
@@ -152,7 +152,7 @@ module _ (t : Setting) (w : ℕ) (x z : Local) (y : Worker) (messages : List Mes
       key = shows.shows.key ∙ ap (λ (s : WorkerState). s.key) (sym done.rest);
       puts = shows.shows.puts ∙ ap (λ (s : WorkerState). s.puts.held) (sym done.rest);
       asks = ap (λ asks. asked_after asks [])
-          (asked_same (after_reply t y messages) y (mapped_twice (λ (p : PrivatePart). p.asks) (own_answered value y.uniform.awaited) y.own)
+          (asked_same (after_reply t y messages) y (map-map (λ (p : PrivatePart). p.asks) (own_answered value y.uniform.awaited) y.own)
           refl)
           ∙ shows.shows.asks ∙ ap (λ (s : WorkerState). s.asks.held) (sym done.rest);
     };

@@ -23,7 +23,7 @@ use Rattle.worker_exchange.specs.Rows.{WrittenMessage, message_at}
 use Rattle.worker_exchange.specs.Sends.{words_of}
 use Rattle.worker_exchange.specs.declared.local.Local.{Local}
 use Rattle.worker_exchange.specs.Shown.{cells_asked, ShowsWorker}
-use Rattle.worker_exchange.proofs.OpeningLemmas.{mapped_twice}
+use Rattle.std.proofs.lemmas.Simd.{map-map}
 use Rattle.worker_exchange.specs.Received.{messages_to}
 use Rattle.worker_exchange.specs.Settled.{IsSettled}
 use Rattle.worker_exchange.specs.Taken.{IsSentWorker}
@@ -49,7 +49,7 @@ module _ (x y : WorkerState) (noted : Option Key) (sent : IsSentWorker x y noted
 
   own_is_sent : map own_sent (own_in x) ≡ own_in y
   own_is_sent =
-      mapped_twice own_sent (part_in x) (range_with_len 0 x.bank.masks.many)
+      map-map own_sent (part_in x) (range_with_len 0 x.bank.masks.many)
       ∙ (λ i. map (λ j. part_sent j i) (range_with_len 0 (sym sent.bank i).masks.many))
 
 module _ (t : Setting) (w : ℕ) (x z : Local) (y : Worker) (messages : List Message) (noted : Option Key) (shows : ShowsWorker t w x y)

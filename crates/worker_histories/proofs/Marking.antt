@@ -3,6 +3,8 @@ use Rattle.std.proofs.Common.{◌≡◌, ◌⊎◌, inl, inr, ⊎_elim, ℕ, zer
 use Rattle.std.proofs.Common.{Option, Some, refl, sym, ap, ◌∙◌, subst, arith}
 use Rattle.std.specs.Prelude.{slice_get, slice_index_or, ◌||◌}
 use Rattle.std.specs.List.{AllByRecursion}
+use Rattle.std.proofs.lemmas.Bool.{or_parts, or_cases, or_left, or_right}
+use Rattle.std.proofs.lemmas.Option.{slice_get_within}
 use Rattle.superstep_machine.specs.declared.mark.HeaderMark.{HeaderMark}
 use Rattle.superstep_machine.specs.declared.mark.HeaderMark.TheVariants.{Clear, OutOfMemory, OutOfReserve}
 use Rattle.superstep_machine.specs.Marks.{worse}
@@ -19,22 +21,6 @@ use Rattle.worker_histories.specs.Marked.{MarksEndAllOrNone, ClearGrows}
 use Rattle.worker_histories.proofs.Growing.{before_grows, histories_grow}
 
 -- ---- truth
-
-pub either : (a b : Bool) → (a || b) ≡ true → (a ≡ true) ⊎ (b ≡ true)
-either true b e = inl refl
-either false b e = inr e
-
-left : (a b : Bool) → a ≡ true → (a || b) ≡ true
-left true b e = refl
-left false b e = cc
-
-right : (a b : Bool) → b ≡ true → (a || b) ≡ true
-right true b e = refl
-right false b e = e
-
-both_false : (a b : Bool) → (a || b) ≡ false → (a ≡ false) × (b ≡ false)
-both_false true b e = absurd (cc e)
-both_false false b e = (refl, e)
 
 one_truth : (a b : Bool) → (a ≡ true → b ≡ true) → (b ≡ true → a ≡ true) → a ≡ b
 one_truth true b f g = sym (f refl)
@@ -58,19 +44,19 @@ pub found : (xs : List WrittenMessage) → any_mark xs ≡ true → (k : ℕ) ×
 found [] e = absurd (cc e)
 found (x ∷ xs) e =
     ⊎_elim (λ h. (zero, x, refl, h)) (λ h. let r = found xs h in (suc r.0, r.1, r.2, r.3))
-    (either (has_mark x) (any_mark xs) (sym (any_more x xs) ∙ e))
+    (or_cases (has_mark x) (any_mark xs) (sym (any_more x xs) ∙ e))
 
 shown : (xs : List WrittenMessage) (k : ℕ) (x : WrittenMessage) → slice_get xs k ≡ Some x → has_mark x ≡ true → any_mark xs ≡ true
 shown [] k x e h = absurd (cc e)
 shown (y ∷ xs) zero x e h =
-    any_more y xs ∙ left (has_mark y) (any_mark xs) ((let s : y ≡ x = (let q : Option.Some y ≡ Some x = e in cc) in ap has_mark s) ∙ h)
-shown (y ∷ xs) (suc k) x e h = any_more y xs ∙ right (has_mark y) (any_mark xs) (shown xs k x e h)
+    any_more y xs ∙ or_left (has_mark y) (any_mark xs) ((let s : y ≡ x = (let q : Option.Some y ≡ Some x = e in cc) in ap has_mark s) ∙ h)
+shown (y ∷ xs) (suc k) x e h = any_more y xs ∙ or_right (has_mark y) (any_mark xs) (shown xs k x e h)
 
 -- a row without a mark has none in any message
 pub clear_row : (xs : List WrittenMessage) → any_mark xs ≡ false → IsMarked false xs
 clear_row [] e = tt
 clear_row (x ∷ xs) e =
-    let r = both_false (has_mark x) (any_mark xs) (sym (any_more x xs) ∙ e) in
+    let r = or_parts (has_mark x) (any_mark xs) (sym (any_more x xs) ∙ e) in
     (r.0, clear_row xs r.1)
 
 pub marked_at : (mine : Bool) (xs : List WrittenMessage) (k : ℕ) (x : WrittenMessage) → IsMarked mine xs → slice_get xs k ≡ Some x →
@@ -82,15 +68,10 @@ marked_at mine (y ∷ xs) (suc k) x h e = marked_at mine xs k x h.1 e
 -- ---- places of lists
 
 module _ {A : Type 0} where
-  there : (xs : List A) (k : ℕ) → k < length xs → (x : A) × (slice_get xs k ≡ Some x)
+  pub there : (xs : List A) (k : ℕ) → k < length xs → (x : A) × (slice_get xs k ≡ Some x)
   there [] k h = absurd (omega (arith, h))
   there (x ∷ xs) zero h = (x, refl)
   there (x ∷ xs) (suc k) h = there xs k (omega (arith, h))
-
-  below : (xs : List A) (k : ℕ) (x : A) → slice_get xs k ≡ Some x → k < length xs
-  below [] k x e = cc
-  below (y ∷ xs) zero x e = omega arith
-  below (y ∷ xs) (suc k) x e = let l = below xs k x e in omega (arith, l)
 
   entry_at : (xs : List (List A)) (k i : ℕ) → entry xs k i ≡ slice_get (slice_index_or xs k []) i
   entry_at [] k i = refl
@@ -130,10 +111,10 @@ module _ (p : ℕ) (rows columns : ℕ → List WrittenMessage) (stops : ℕ →
       ⊎_elim (λ h. (i, hi, h))
       (λ h.
       let f = found (columns i) h in
-      let hk : f.0 < p = (let a = below (columns i) f.0 f.1 f.2 in let b = wide i hi in omega (arith, a, b)) in
+      let hk : f.0 < p = (let a = slice_get_within (columns i) f.0 f.1 f.2 in let b = wide i hi in omega (arith, a, b)) in
       let m = marks f.0 hk in
       (f.0, hk, sym (marked_at m.mine (rows f.0) i f.1 m.marked (sym (same f.0 i hk hi) ∙ f.2)) ∙ f.3))
-      (either (marks i hi).mine (any_mark (columns i)) (sym (marks i hi).by_marks ∙ e))
+      (or_cases (marks i hi).mine (any_mark (columns i)) (sym (marks i hi).by_marks ∙ e))
 
   -- and it comes to each
   all_stop : (i j : ℕ) → i < p → j < p → stops i ≡ true → stops j ≡ true
@@ -143,7 +124,7 @@ module _ (p : ℕ) (rows columns : ℕ → List WrittenMessage) (stops : ℕ →
       let m = marks k from.1 in
       let at = there (columns j) k (let a = from.1 in let b = wide j hj in omega (arith, a, b)) in
       (marks j hj).by_marks
-      ∙ right (marks j hj).mine (any_mark (columns j))
+      ∙ or_right (marks j hj).mine (any_mark (columns j))
       (shown (columns j) k at.0 at.1
       (marked_at m.mine (rows k) j at.0 m.marked (sym (same k j from.1 hj) ∙ at.1) ∙ from.2))
 
@@ -249,7 +230,7 @@ clear_grows t w s columns rows column sent true clear unfinished stops as_sent =
   stopped = stops;
 }
 clear_grows t w s columns rows column sent false clear unfinished stops as_sent =
-    let unmarked = both_false stops.mine (any_mark column) (sym stops.by_marks) in
+    let unmarked = or_parts stops.mine (any_mark column) (sym stops.by_marks) in
     let grows = histories_grow (in_words t) (workers t) w s columns column in
     let is = as_sent refl in
     record {

@@ -4,6 +4,7 @@ use Rattle.std.specs.Prelude.{map, slice_get}
 use Rattle.std.specs.List.{AllByRecursion}
 use Rattle.std.proofs.lemmas.List.{length-map}
 use Rattle.std.proofs.lemmas.List.Elements.{recursion_from_All}
+use Rattle.turnstile.proofs.Rows.{elem}
 use mathlib.Core.Option.{none, some}
 use mathlib.Core.Option as maybe
 use lib.ListN.{get_elem?}
@@ -34,28 +35,23 @@ wide_are : (p : ℕ) (columns : List (List Message)) → AllByRecursion (λ (c :
 wide_are p [] h = tt
 wide_are p (c ∷ columns) h = (length-map c letter_of ∙ h.0, wide_are p columns h.1)
 
-there : {A : Type 0} (xs : List A) (k : ℕ) → k < length xs → (x : A) × (slice_get xs k ≡ Some x)
-there [] k h = absurd (omega (arith, h))
-there (x ∷ xs) zero h = (x, refl)
-there (x ∷ xs) (suc k) h = there xs k (omega (arith, h))
-
 pub seats_have_exchanged : SeatsHaveExchanged
 seats_have_exchanged seats workers phases exchanged whole = record {
   many = λ w h.
-      let x = there seats w h in
-      let y = there seats 0 (omega (arith, h)) in
+      let x = elem seats w h in
+      let y = elem seats 0 (omega (arith, h)) in
       let r = whole w x.0 x.1 in
       ap (λ o. length (columns_at o)) x.1 ∙ length-map x.0.received letters ∙ r.phases ∙ phases w 0 x.0 y.0 x.1 y.1
       ∙ sym (length-map y.0.sent letters) ∙ sym (ap (λ o. length (rows_at o)) y.1);
   wide = λ w h.
-      let x = there seats w h in
+      let x = elem seats w h in
       subst (λ o. AllByRecursion (λ (c : List WrittenMessage). length c ≡ length seats) (columns_at o)) (sym x.1)
       (wide_are (length seats) x.0.received
       (subst (λ p. AllByRecursion (λ (c : List Message). length c ≡ p) x.0.received) (workers w x.0 x.1)
       (recursion_from_All (λ (c : List Message). length c ≡ x.0.workers) x.0.received (whole w x.0 x.1).columns)));
   same = λ i j k hi hj.
-      let a = there seats i hi in
-      let b = there seats j hj in
+      let a = elem seats i hi in
+      let b = elem seats j hj in
       ap (λ o. entry (columns_at o) k i) b.1 ∙ entry_is b.0.received k i ∙ ap read (exchanged i j a.0 b.0 a.1 b.1 k)
       ∙ sym (entry_is a.0.sent k j) ∙ sym (ap (λ o. entry (rows_at o) k j) a.1);
 }

@@ -22,14 +22,15 @@ use Rattle.worker_histories.specs.InWords.{in_words, IsPlayedInWords, shares_in_
 use Rattle.worker_histories.specs.Marked.{HasGone}
 use Rattle.worker_histories.proofs.Parts.{exchanges_are}
 use Rattle.worker_histories.proofs.Reading.{histories_in_words_make_a_run}
-use Rattle.worker_histories.proofs.Marking.{marks_end_all_or_none}
+use Rattle.worker_histories.proofs.Marking.{marks_end_all_or_none, there}
 use Rattle.bsp_machine.specs.declared.counted.CountedWorker.{CountedWorker}
 use Rattle.worker_exchange.specs.Rows.{WrittenMessage}
 use Rattle.run_options.specs.declared.reserve.Reserve.{Reserve}
 use Rattle.bsp_machine.specs.Reserves.{own_mark, IsMark, AreMarked, IsGiven, HaveReserve, AreGiven}
 use Rattle.bsp_machine.specs.Workers.{share_told, shares, AreTogether, IsBehind}
 use Rattle.bsp_machine.specs.Ended.{AreRunning, IsFirstOver, IsFirstStopped, IsFirstUnstopped}
-use Rattle.bsp_machine.proofs.ListLemmas.{there_at, get_within, one_there}
+use Rattle.bsp_machine.proofs.ListLemmas.{one_there}
+use Rattle.std.proofs.lemmas.Option.{slice_get_within}
 use Rattle.workers.specs.Exchanged.{rows_at, columns_at, sent_by, received_by, crossings}
 use Rattle.workers.specs.Seating.{sent_of, received_of}
 use Rattle.workers.specs.Worked.{MarksWherePast}
@@ -50,13 +51,13 @@ module _ (code : SuperstepCode) (m : Shape) (runnable : IsRunnable code m) (boun
     (workers : List CountedWorker) (ended : HaveEnded code m bound input seats workers) (same : SamePhases seats)
     (exchanged : ReceivedAsSent seats) (whole : AreWhole seats) where
   many : (w : ℕ) → w < m.parts → (x : CountedWorker) × (slice_get workers w ≡ Some x)
-  many w l = there_at workers w (let n = ended.workers_are in omega (arith, l, n))
+  many w l = there workers w (let n = ended.workers_are in omega (arith, l, n))
 
   seat : (w : ℕ) → w < m.parts → (r : RowState) × (slice_get seats w ≡ Some r)
-  seat w l = there_at seats w (let n = ended.seats_are in omega (arith, l, n))
+  seat w l = there seats w (let n = ended.seats_are in omega (arith, l, n))
 
   below : (w : ℕ) (x : CountedWorker) → slice_get workers w ≡ Some x → w < m.parts
-  below w x at = let l = get_within workers w x at in let n = ended.workers_are in omega (arith, l, n)
+  below w x at = let l = slice_get_within workers w x at in let n = ended.workers_are in omega (arith, l, n)
 
   -- what one worker did
   one : (w : ℕ) (l : w < m.parts) → HasEnded code m bound input w (seat w l).0 (many w l).0
@@ -72,7 +73,7 @@ module _ (code : SuperstepCode) (m : Shape) (runnable : IsRunnable code m) (boun
   exchange = subst (λ p. HaveExchanged p (crossings seats) (sent_by seats) (received_by seats)) ended.seats_are
       (seats_have_exchanged seats
       (λ w r at.
-      let h = get_within seats w r at in
+      let h = slice_get_within seats w r at in
       let n = ended.seats_are in
       let x = many w (omega (arith, h, n)) in
       (ended.each w r x.0 at x.1).workers ∙ sym ended.seats_are) same exchanged whole)

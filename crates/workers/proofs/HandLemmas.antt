@@ -1,7 +1,7 @@
 -- Messages of a seat as words of the machine's messages.
 use Rattle.std.proofs.Common.{◌≡◌, ℕ, zero, suc, ◌<◌, ◌≤◌, List, [], ◌∷◌, ◌++◌, length, set, refl, sym, ap, ◌∙◌, arith}
 use Rattle.std.specs.Prelude.{map, slice_index_or}
-use Rattle.combining.proofs.AllColumns.{map_set}
+use Rattle.std.proofs.lemmas.List.{map-set}
 use Rattle.flat_machine.proofs.Lists.{map_joined}
 use Rattle.worker_exchange.specs.Rows.{message_at}
 use Rattle.turnstile.specs.declared.views.Message.{Message}
@@ -12,7 +12,7 @@ use Rattle.workers.specs.Seating.{letter_of, letters, sent_of, received_of, only
 -- a message that is put into a row
 pub filled_is : (a b : RowState) (i : ℕ) (m : Message) → b ≡ record a { row = set a.row i m } →
     letters b.row ≡ set (letters a.row) i (letter_of m)
-filled_is a b i m e = ap (λ (s : RowState). letters s.row) e ∙ map_set letter_of a.row i m
+filled_is a b i m e = ap (λ (s : RowState). letters s.row) e ∙ map-set letter_of a.row i m
 
 -- where each is short, so are those behind the end, which have no words
 pub all_short : (column : List Message) (room : ℕ) →

@@ -18,11 +18,12 @@ use Rattle.worker_histories.specs.Joined.{IsRunSoFar}
 use Rattle.worker_histories.specs.InWords.{in_words, IsUnderway}
 use Rattle.worker_histories.specs.Marked.{has_mark, any_mark, AreClear, IsClear, IsCutShort}
 use Rattle.worker_histories.proofs.Before.{exchanged_before, underway_before}
-use Rattle.worker_histories.proofs.Marking.{either, found, clear_row, marked_at, rows_long, long_more}
+use Rattle.worker_histories.proofs.Marking.{found, clear_row, marked_at, rows_long, long_more, there}
+use Rattle.std.proofs.lemmas.Bool.{or_cases}
 use Rattle.worker_histories.proofs.Reading.{histories_in_words_are_the_run_so_far}
 use Rattle.run_options.specs.declared.reserve.Reserve.{Reserve}
 use Rattle.bsp_machine.specs.Reserves.{is_past}
-use Rattle.bsp_machine.proofs.ListLemmas.{there_at, get_within}
+use Rattle.std.proofs.lemmas.Option.{slice_get_within}
 use Rattle.workers.specs.Worked.{items_at, MarksWherePast}
 use Rattle.workers.specs.Past.{ComesPast}
 
@@ -43,13 +44,13 @@ entry_last (y ∷ xs) x i = entry_last xs x i
 wide_entry : {M : Type 0} (p : ℕ) (cs : List (List M)) → AllByRecursion (λ (c : List M). length c ≡ p) cs → (k i : ℕ) → k < length cs →
     i < p → (x : M) × (entry cs k i ≡ Some x)
 wide_entry p [] h k i l below = absurd (omega (arith, l))
-wide_entry p (c ∷ cs) h zero i l below = there_at c i (let long = h.0 in omega (arith, long, below))
+wide_entry p (c ∷ cs) h zero i l below = there c i (let long = h.0 in omega (arith, long, below))
 wide_entry p (c ∷ cs) h (suc k) i l below = wide_entry p cs h.1 k i (omega (arith, l)) below
 
 entry_within : {M : Type 0} (p : ℕ) (cs : List (List M)) → AllByRecursion (λ (c : List M). length c ≡ p) cs → (k i : ℕ) (x : M) →
     entry cs k i ≡ Some x → i < p
 entry_within p [] h k i x e = absurd (cc e)
-entry_within p (c ∷ cs) h zero i x e = (let l = get_within c i x e in let long = h.0 in omega (arith, long, l))
+entry_within p (c ∷ cs) h zero i x e = (let l = slice_get_within c i x e in let long = h.0 in omega (arith, long, l))
 entry_within p (c ∷ cs) h (suc k) i x e = entry_within p cs h.1 k i x e
 
 clear_entry : (rs : List (List WrittenMessage)) → AreClear rs → (k i : ℕ) (x : WrittenMessage) → entry rs k i ≡ Some x → has_mark x ≡ false
@@ -195,7 +196,7 @@ module _ (code : SuperstepCode) (m : Shape) (runnable : IsRunnable code m) (boun
         let at = ap (λ cs. entry cs last f.0) first.columns_are ∙ entry_last first.earlier_columns first.column f.0 ∙ f.2 in
         let below = entry_within m.parts (columns 0) (exchanged.wide 0 some) last f.0 f.1 at in
         (f.0, f.1, below, sym (exchanged.same f.0 0 last below some) ∙ at, f.3))
-        (either first.stopped.mine (any_mark first.column) (sym first.stopped.by_marks))
+        (or_cases first.stopped.mine (any_mark first.column) (sym first.stopped.by_marks))
 
     -- such a run comes past the reserve
     pub comes_past : ComesPast code m bound input reserve

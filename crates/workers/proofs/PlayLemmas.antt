@@ -36,7 +36,8 @@ use Rattle.bsp_machine.specs.declared.counted.CountedWorker.{CountedWorker}
 use Rattle.bsp_machine.specs.Workers.{IsBetween, IsStanding, state_behind, share_at}
 use Rattle.run_options.specs.declared.reserve.Reserve.{Reserve}
 use Rattle.bsp_machine.specs.Reserves.{is_past, own_mark, IsMark, AreMarked}
-use Rattle.bsp_machine.proofs.MarkLemmas.{or_false, going_on, never, given_behind}
+use Rattle.bsp_machine.proofs.MarkLemmas.{going_on, never, given_behind}
+use Rattle.std.proofs.lemmas.Bool.{or_parts}
 use Rattle.bsp_machine.proofs.StandingLemmas.{row_marked, row_mark, row_is, row_read, purpose_at}
 use Rattle.workers.specs.Seating.{letters, sent_of, received_of}
 use Rattle.workers.specs.Worked.{items_at, MarksWherePast, IsBehindExchange, HasExchanged, HasWorked}
@@ -98,7 +99,7 @@ module _ (code : SuperstepCode) (m : Shape) (bound : ℕ) (states : ℕ → Stat
   t n = setting code m bound n
 
   alive : is_stopped new.local.way ≡ false → is_stopped mid.local.way ≡ false
-  alive h = (or_false (is_stopped mid.local.way) (any_mark came) (sym stopped ∙ h)).0
+  alive h = (or_parts (is_stopped mid.local.way) (any_mark came) (sym stopped ∙ h)).0
 
   -- what the exchange is for, for the worker that it shows
   for_it : is_stopped new.local.way ≡ false → (n : ℕ) → most_instructions code bound < n →

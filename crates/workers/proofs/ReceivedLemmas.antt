@@ -3,7 +3,7 @@ use Rattle.std.proofs.Common.{◌≡◌, ℕ, zero, suc, ◌<◌, List, [], ◌�
 use Rattle.std.specs.Prelude.{slice_get}
 use Rattle.std.specs.List.{AllByRecursion}
 use Rattle.worker_histories.specs.Histories.{entry, HaveExchanged}
-use Rattle.bsp_machine.proofs.ListLemmas.{get_within}
+use Rattle.std.proofs.lemmas.Option.{slice_get_within}
 
 module _ {M : Type 0} (P : M → Type 0) where
   by_index : (xs : List M) → ((i : ℕ) (x : M) → slice_get xs i ≡ Some x → P x) → AllByRecursion P xs
@@ -22,7 +22,7 @@ module _ {M : Type 0} (P : M → Type 0) where
       ((k i : ℕ) (x : M) → i < p → entry cs k i ≡ Some x → P x) → AllByRecursion (AllByRecursion P) cs
   by_entry p [] wide h = tt
   by_entry p (c ∷ cs) wide h = (
-    by_index c (λ i x e. h 0 i x (let l = get_within c i x e in let n = wide.0 in omega (arith, l, n)) e),
+    by_index c (λ i x e. h 0 i x (let l = slice_get_within c i x e in let n = wide.0 in omega (arith, l, n)) e),
     by_entry p cs wide.1 (λ k i x l e. h (suc k) i x l e),
   )
 

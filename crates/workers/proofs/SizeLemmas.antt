@@ -5,6 +5,7 @@ use Rattle.std.specs.Prelude.{◌||◌, nat_lt, nat_le, if◌then◌else◌, sli
 use Rattle.std.specs.List.{range_with_len, filter}
 use Rattle.std.proofs.lemmas.Bool.Decides.{nat_tests}
 use Rattle.std.proofs.lemmas.List.{length-map}
+use Rattle.std.proofs.lemmas.Bool.{ltb-true, lt-ltb, leb-true, le-leb, or_cases, or_left, or_right}
 use Rattle.address_map.specs.Lawful.{Shape}
 use Rattle.write_rules.specs.Verdict.{Verdict, Ended, Faulted}
 use Rattle.write_rules.specs.Verdict as verdicts
@@ -42,29 +43,6 @@ use Rattle.workers.specs.Sizes.{IsMoreThan, output_of, IsNoFault, printed_by, Ar
 use Rattle.workers.proofs.PastLemmas.{true_no_false, below_or_past}
 
 -- ---- tests of numbers
-
-lt_is : (a b : ℕ) → a < b → nat_lt a b ≡ true
-lt_is a b l = grind (arith, nat_tests)
-
-is_lt : (a b : ℕ) → nat_lt a b ≡ true → a < b
-is_lt a b l = grind (arith, nat_tests)
-
-le_is : (a b : ℕ) → a ≤ b → nat_le a b ≡ true
-le_is a b l = grind (arith, nat_tests)
-
-is_le : (a b : ℕ) → nat_le a b ≡ true → a ≤ b
-is_le a b l = grind (arith, nat_tests)
-
-either_true : (a b : Bool) → (a || b) ≡ true → (a ≡ true) ⊎ (b ≡ true)
-either_true true b e = inl refl
-either_true false b e = inr e
-
-second_true : (a b : Bool) → b ≡ true → (a || b) ≡ true
-second_true true b e = refl
-second_true false b e = e
-
-first_true : (a b : Bool) → a ≡ true → (a || b) ≡ true
-first_true a b e = ap (λ c. c || b) e
 
 -- ---- the end of a run, by its list of exchanges
 
@@ -371,10 +349,10 @@ module _ (code : SuperstepCode) (m : Shape) (runnable : IsRunnable code m) (boun
         let items = items_at t p.worker (worker_after t input p.exchange p.worker) in
         let most = printed_before n low p.exchange p.worker within p.there in
         ⊎_elim
-        (λ (e : nat_lt reserve.items items ≡ true). inl (let l = is_lt reserve.items items e in omega (arith, l, most)))
+        (λ (e : nat_lt reserve.items items ≡ true). inl (let l = ltb-true reserve.items items e in omega (arith, l, most)))
         (λ (e : nat_le reserve.exchanges p.exchange ≡ true).
-        inr (let l = is_le reserve.exchanges p.exchange e in omega (arith, l, within)))
-        (either_true (nat_lt reserve.items items) (nat_le reserve.exchanges p.exchange) (p.past n low))
+        inr (let l = leb-true reserve.exchanges p.exchange e in omega (arith, l, within)))
+        (or_cases (nat_lt reserve.items items) (nat_le reserve.exchanges p.exchange) (p.past n low))
 
     abbrev enough : ℕ
     enough = suc (most_instructions code bound)
@@ -400,11 +378,11 @@ module _ (code : SuperstepCode) (m : Shape) (runnable : IsRunnable code m) (boun
               ⊎_elim
               (λ (l : reserve.items < printed_by t input (length exchanges)).
               let same = last_exchange n low in
-              first_true (nat_lt reserve.items items) (nat_le reserve.exchanges (length exchanges - 1))
-              (lt_is reserve.items items (omega (arith, l, same))))
+              or_left (nat_lt reserve.items items) (nat_le reserve.exchanges (length exchanges - 1))
+              (lt-ltb reserve.items items (omega (arith, l, same))))
               (λ (l : reserve.exchanges < length exchanges).
-              second_true (nat_lt reserve.items items) (nat_le reserve.exchanges (length exchanges - 1))
-              (le_is reserve.exchanges (length exchanges - 1) (omega (arith, l))))
+              or_right (nat_lt reserve.items items) (nat_le reserve.exchanges (length exchanges - 1))
+              (le-leb reserve.exchanges (length exchanges - 1) (omega (arith, l))))
               (h n low);
         }
 

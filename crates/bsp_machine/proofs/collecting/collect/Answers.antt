@@ -10,7 +10,9 @@ use Rattle.bsp_machine.specs.declared.counted.CountedWorker.{CountedWorker}
 use Rattle.bsp_machine.specs.Ended.{memory_of, verdict_in}
 use Rattle.bsp_machine.specs.Reserves.{refusal_by}
 use Rattle.bsp_machine.proofs.MarkLemmas.{refusal_at}
-use Rattle.bsp_machine.proofs.ListLemmas.{get_there, one_there, there_at}
+use Rattle.bsp_machine.proofs.ListLemmas.{one_there}
+use Rattle.std.proofs.lemmas.Option.{slice_get-get_or}
+use Rattle.worker_histories.proofs.Marking.{there}
 use Rattle.bsp_machine.proofs.SwapLemmas as swap
 use Rattle.bsp_machine.proofs.OutcomeLemmas.{told_alive, none_told, wide, columns_long, outcome_ends, exchanges_end}
 use Rattle.bsp_machine.proofs.collecting.collect.Goals as goal
@@ -19,7 +21,7 @@ pub outcome-requires-clause-wide : goal.outcome-requires-clause-wide
 outcome-requires-clause-wide g c = λ y at alive.
     let m = g.M.AddressMap.shape c.args.map.now in
     let all = c.args.workers.items in
-    let x = there_at all 0 (let some = c.requires.runnable.map.lawful.one in let many = c.requires.workers in omega (arith, some, many)) in
+    let x = there all 0 (let some = c.requires.runnable.map.lawful.one in let many = c.requires.workers in omega (arith, some, many)) in
     let left = c.as_slice.ensures.value ∙ c.take_items.ensures.left x.0 x.1 in
     let is = swap.first_is all c.as_slice.result.now x.0 c.args.room.items x.1 left y at in
     let r = c.requires.run in
@@ -30,7 +32,7 @@ outcome-requires-clause-wide g c = λ y at alive.
 pub outcome-requires-clause-items : goal.outcome-requires-clause-items
 outcome-requires-clause-items g c = λ y at alive.
     let all = c.args.workers.items in
-    let x = there_at all 0 (let some = c.requires.runnable.map.lawful.one in let many = c.requires.workers in omega (arith, some, many)) in
+    let x = there all 0 (let some = c.requires.runnable.map.lawful.one in let many = c.requires.workers in omega (arith, some, many)) in
     let left = c.as_slice.ensures.value ∙ c.take_items.ensures.left x.0 x.1 in
     let is = swap.first_is all c.as_slice.result.now x.0 c.args.room.items x.1 left y at in
     let same = c.take_items.ensures.items x.0 x.1 in
@@ -55,13 +57,13 @@ returns-in_default-clause-refused g c = λ x here.
     let all = c.args.workers.items in
     let some = c.requires.runnable.map.lawful.one in
     let many = c.requires.workers in
-    let first = get_there all 0 c.index.result.now (omega (arith, some, many)) ∙ ap (λ y. Some y) (sym c.index.ensures) in
+    let first = slice_get-get_or all 0 c.index.result.now (omega (arith, some, many)) ∙ ap (λ y. Some y) (sym c.index.ensures) in
     c.refusal_by-refusal.ensures ∙ ap (λ (y : CountedWorker). refusal_by y.local.way) (one_there all 0 c.index.result.now x first here)
 
 pub returns-in_default-clause-given : goal.returns-in_default-clause-given
 returns-in_default-clause-given g c = λ reserve given.
     let all = c.args.workers.items in
-    let x = there_at all 0 (let some = c.requires.runnable.map.lawful.one in let many = c.requires.workers in omega (arith, some, many)) in
+    let x = there all 0 (let some = c.requires.runnable.map.lawful.one in let many = c.requires.workers in omega (arith, some, many)) in
     returns-in_default-clause-refused g c x.0 x.1
     ∙ refusal_at x.0.local.way reserve (given 0 x.0 x.1).stopped (returns-in_default-clause-stopped g c x.0 x.1)
 
@@ -72,7 +74,7 @@ of_columns-requires g c =
     let all = c.args.workers.items in
     let some = c.requires.runnable.map.lawful.one in
     let many = c.requires.workers in
-    let x = there_at all 0 (omega (arith, some, many)) in
+    let x = there all 0 (omega (arith, some, many)) in
     let gone = c.take_items.ensures.left x.0 x.1 in
     let left = c.as_slice.ensures.value ∙ gone in
     let at = swap.there all c.as_slice.result.now x.0 c.args.room.items x.1 left in
@@ -103,7 +105,7 @@ returns-clause-outcome g c = λ bound input run.
     let many = c.requires.workers in
     let room = c.requires.runnable.map.room in
     let found = c.in-Some.found in
-    let x = there_at all 0 (omega (arith, some, many)) in
+    let x = there all 0 (omega (arith, some, many)) in
     let left = c.as_slice.ensures.value ∙ c.take_items.ensures.left x.0 x.1 in
     let at = swap.there all c.as_slice.result.now x.0 c.args.room.items x.1 left in
     let told : Some (verdict_of found) ≡ verdict_by (way_is x.0.local.way) x.0.local.steps.uniform.output.items (memory_of code m all) =
@@ -127,7 +129,7 @@ returns-clause-counts g c = λ bound input run.
     let many = c.requires.workers in
     let room = c.requires.runnable.map.room in
     let found = c.in-Some.found in
-    let x = there_at all 0 (omega (arith, some, many)) in
+    let x = there all 0 (omega (arith, some, many)) in
     let gone = c.take_items.ensures.left x.0 x.1 in
     let left = c.as_slice.ensures.value ∙ gone in
     let at = swap.there all c.as_slice.result.now x.0 c.args.room.items x.1 left in

@@ -6,7 +6,8 @@ use Rattle.std.proofs.lemmas.List.{length-map}
 use Rattle.std.proofs.lemmas.List.FromFn.{length-range_with_len}
 use Rattle.pram_model.specs.Layout.{total_size}
 use Rattle.bsp_machine.specs.Ended.{cells_of, value_of}
-use Rattle.bsp_machine.proofs.ListLemmas.{get_there, range_more}
+use Rattle.bsp_machine.proofs.ListLemmas.{range_more}
+use Rattle.std.proofs.lemmas.Option.{slice_get-get_or}
 use Rattle.bsp_machine.proofs.memory.take_memory.Goals as goal
 
 pub push_reserved-requires : goal.push_reserved-requires
@@ -34,7 +35,7 @@ cells-preserved g c =
     let many = c.requires.workers in
     let y = get_or workers c.place-part.result.0 c.index-workers-part.result in
     let here : slice_get workers c.place-part.result.0 ≡ Some y =
-    get_there workers c.place-part.result.0 c.index-workers-part.result (omega (arith, within, part, many)) in
+    slice_get-get_or workers c.place-part.result.0 c.index-workers-part.result (omega (arith, within, part, many)) in
     let is : c.get-value.result ≡ value cell =
     (c.get-value.ensures.value ∙ ap (λ o. slice_index_or y.local.cells o (pos 0)) c.place-part.ensures.offset
     ∙ ap (λ x. slice_index_or (cells_of x) (m.offset cell) (pos 0)) (sym here)

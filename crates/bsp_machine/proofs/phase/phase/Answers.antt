@@ -3,7 +3,7 @@ use Rattle.worker_steps.specs.Stretch.{rank}
 use Rattle.superstep_machine.specs.Run.{is_over}
 use Rattle.worker_exchange.specs.Shown.{way_is}
 use Rattle.bsp_machine.specs.Ended.{left_first}
-use Rattle.bsp_machine.proofs.ListLemmas.{there_at}
+use Rattle.worker_histories.proofs.Marking.{there}
 use Rattle.bsp_machine.proofs.LeftLemmas.{left_first_at, none_left, some_left, either_way}
 use Rattle.bsp_machine.proofs.phase.phase.Goals as goal
 
@@ -18,9 +18,9 @@ returns-clause-left g c =
     let many = c.requires.workers in
     let mid = c.send_all.ensures.workers in
     let new = c.receive_all.ensures.workers in
-    let x = there_at olds 0 (omega (arith, some, many)) in
-    let y = there_at mids 0 (omega (arith, some, mid)) in
-    let z = there_at news 0 (omega (arith, some, new)) in
+    let x = there olds 0 (omega (arith, some, many)) in
+    let y = there mids 0 (omega (arith, some, mid)) in
+    let z = there news 0 (omega (arith, some, new)) in
     let was = left_first_at code bound olds x.0 x.1 in
     let is = left_first_at code bound news z.0 z.1 in
     let more = some_left x.0.local.way (rank code bound x.0.local.steps) (c.requires.going 0 x.0 x.1).going in

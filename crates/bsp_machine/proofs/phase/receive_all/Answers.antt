@@ -9,10 +9,13 @@ use Rattle.worker_exchange.specs.Received.{is_marked, mark_heard}
 use Rattle.bsp_machine.specs.declared.counted.CountedWorker.{CountedWorker}
 use Rattle.bsp_machine.specs.Sheets.{messages_in, picked}
 use Rattle.bsp_machine.specs.Workers.{shares, AreAt, IsBehind}
-use Rattle.bsp_machine.proofs.ListLemmas.{get_there, get_other, get_within, set_each, one_there, there_at}
+use Rattle.bsp_machine.proofs.ListLemmas.{get_other, set_each, one_there}
+use Rattle.std.proofs.lemmas.Option.{slice_get-get_or, slice_get_within}
+use Rattle.worker_histories.proofs.Marking.{there}
 use Rattle.bsp_machine.proofs.SheetLemmas.{column_short}
 use Rattle.bsp_machine.specs.Reserves.{IsGiven}
-use Rattle.bsp_machine.proofs.MarkLemmas.{going_on, or_false, any_stopped, none_stopped, given_behind}
+use Rattle.bsp_machine.proofs.MarkLemmas.{going_on, any_stopped, none_stopped, given_behind}
+use Rattle.std.proofs.lemmas.Bool.{or_parts}
 use Rattle.bsp_machine.proofs.ComingLemmas.{behind_more, coming, stopping, marked_by_own}
 use Rattle.bsp_machine.proofs.phase.receive_all.Goals as goal
 
@@ -40,9 +43,9 @@ workers-preserved g c =
     let test = c.workers-test.true in
     let lt : w < length xs = omega (arith, test) in
     let within : w < m.parts = omega (arith, lt, now) in
-    let here : slice_get xs w ≡ Some y = get_there xs w c.index-workers-w.result lt in
+    let here : slice_get xs w ≡ Some y = slice_get-get_or xs w c.index-workers-w.result lt in
     let before : slice_get olds w ≡ Some y = sym (i.later w (omega arith)) ∙ here in
-    let row = there_at rows w (omega (arith, within, long)) in
+    let row = there rows w (omega (arith, within, long)) in
     let stops : (input : List ℤ) (k : ℕ) → AreAt code m bound input k olds rows → is_stopped x'.local.way ≡ any_stopped olds =
     (λ input k at. e.stopped ∙ stopping code m bound input k olds rows at many long w y before within) in
     record {
@@ -67,7 +70,7 @@ workers-preserved g c =
           (is_stopped x.local.way ≡ false) × (left code bound z.local < left_at code bound x.local)) lt
           (λ x below was on. subst (λ (q : CountedWorker). (is_stopped q.local.way ≡ false)
           × (left code bound x'.local < left_at code bound q.local)) (one_there olds w y x before was) (
-            (or_false (is_stopped y.local.way) (is_marked (mark_heard (picked w rows)))
+            (or_parts (is_stopped y.local.way) (is_marked (mark_heard (picked w rows)))
                 (sym e.stopped ∙ going_on x'.local.way on)).0,
             e.left on,
           ))
@@ -81,27 +84,27 @@ workers-preserved g c =
 
 pub returns-clause-given : goal.returns-clause-given
 returns-clause-given g c = λ reserve input k at all w x there.
-    let l = get_within c.workers.workers w x there in
+    let l = slice_get_within c.workers.workers w x there in
     let stop = c.workers-test.false in
     c.workers.invariant.given reserve input k at all w x (omega (arith, l, stop)) there
 
 pub returns-clause-behind : goal.returns-clause-behind
 returns-clause-behind g c = λ input k at w x there.
-    let l = get_within c.workers.workers w x there in
+    let l = slice_get_within c.workers.workers w x there in
     let stop = c.workers-test.false in
     c.workers.invariant.behind input k at w x (omega (arith, l, stop)) there
 
 pub returns-clause-together : goal.returns-clause-together
 returns-clause-together g c = λ input k at w v x y here there.
     let xs = c.workers.workers in
-    let l = get_within xs w x here in
-    let r = get_within xs v y there in
+    let l = slice_get_within xs w x here in
+    let r = slice_get_within xs v y there in
     let stop = c.workers-test.false in
     c.workers.invariant.stopped input k at w x (omega (arith, l, stop)) here
     ∙ sym (c.workers.invariant.stopped input k at v y (omega (arith, r, stop)) there)
 
 pub returns-clause-left : goal.returns-clause-left
 returns-clause-left g c = λ w x y was there.
-    let l = get_within c.workers.workers w y there in
+    let l = slice_get_within c.workers.workers w y there in
     let stop = c.workers-test.false in
     c.workers.invariant.left w x y (omega (arith, l, stop)) was there

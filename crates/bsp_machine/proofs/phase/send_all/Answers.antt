@@ -9,7 +9,8 @@ use Rattle.bsp_machine.specs.declared.counted.CountedWorker.{CountedWorker}
 use Rattle.bsp_machine.specs.declared.sheet.Sheet.{Sheet}
 use Rattle.bsp_machine.specs.Sheets.{messages_in, IsSheet}
 use Rattle.bsp_machine.specs.Workers.{shares, IsAt, IsReady}
-use Rattle.bsp_machine.proofs.ListLemmas.{get_there, get_other, get_within, set_each, one_there}
+use Rattle.bsp_machine.proofs.ListLemmas.{get_other, set_each, one_there}
+use Rattle.std.proofs.lemmas.Option.{slice_get-get_or, slice_get_within}
 use Rattle.bsp_machine.proofs.SheetLemmas.{sheet_long, sheet_room, still_sheet}
 use Rattle.bsp_machine.proofs.phase.send_all.Goals as goal
 
@@ -18,7 +19,7 @@ until_exchange-requires-clause-going g c =
     let xs = c.workers.workers in
     let w = c.workers.w in
     let i = c.workers.invariant in
-    let here = get_there xs w c.index-workers-w.result (omega arith) in
+    let here = slice_get-get_or xs w c.index-workers-w.result (omega arith) in
     c.requires.going w (get_or xs w c.index-workers-w.result) (sym (i.later w (omega arith)) ∙ here)
 
 pub until_exchange-requires-clause-workers : goal.until_exchange-requires-clause-workers
@@ -29,7 +30,7 @@ until_exchange-requires-clause-workers g c =
     let many = i.long in
     let long = i.rows.long in
     let test = c.workers-test.true in
-    let here = get_there c.workers.rows c.workers.w c.index-rows-w.result (omega (arith, many, long, test)) in
+    let here = slice_get-get_or c.workers.rows c.workers.w c.index-rows-w.result (omega (arith, many, long, test)) in
     sheet_long m.parts (most_words c.args.code.now m) row (i.rows.each c.workers.w row here)
 
 pub until_exchange-requires-clause-room : goal.until_exchange-requires-clause-room
@@ -40,7 +41,7 @@ until_exchange-requires-clause-room g c =
     let many = i.long in
     let long = i.rows.long in
     let test = c.workers-test.true in
-    let here = get_there c.workers.rows c.workers.w c.index-rows-w.result (omega (arith, many, long, test)) in
+    let here = slice_get-get_or c.workers.rows c.workers.w c.index-rows-w.result (omega (arith, many, long, test)) in
     let room = sheet_room m.parts (most_words c.args.code.now m) row (i.rows.each c.workers.w row here) c.requires.some in
     omega (arith, room)
 
@@ -64,8 +65,8 @@ workers-preserved g c =
     let test = c.workers-test.true in
     let lt : w < length xs = omega (arith, test) in
     let lts : w < length rows = omega (arith, many, long, test) in
-    let here : slice_get xs w ≡ Some y = get_there xs w c.index-workers-w.result lt in
-    let there : slice_get rows w ≡ Some row = get_there rows w c.index-rows-w.result lts in
+    let here : slice_get xs w ≡ Some y = slice_get-get_or xs w c.index-workers-w.result lt in
+    let there : slice_get rows w ≡ Some row = slice_get-get_or rows w c.index-rows-w.result lts in
     let before : slice_get olds w ≡ Some y = sym (i.later w (omega arith)) ∙ here in
     record {
       long = length-set xs w x' ∙ many;
@@ -101,27 +102,27 @@ workers-preserved g c =
 pub returns-clause-reserve : goal.returns-clause-reserve
 returns-clause-reserve g c = λ reserve all w x at.
     let i = c.workers.invariant in
-    let l = get_within c.workers.workers w x at in
+    let l = slice_get_within c.workers.workers w x at in
     let stop = c.workers-test.false in
     i.reserve reserve all w x (omega (arith, l, stop)) at
 
 pub returns-clause-ready : goal.returns-clause-ready
 returns-clause-ready g c = λ w x at.
     let i = c.workers.invariant in
-    let l = get_within c.workers.workers w x at in
+    let l = slice_get_within c.workers.workers w x at in
     let stop = c.workers-test.false in
     i.ready w x (omega (arith, l, stop)) at
 
 pub returns-clause-at : goal.returns-clause-at
 returns-clause-at g c = λ input k behind w x row at on.
     let i = c.workers.invariant in
-    let l = get_within c.workers.workers w x at in
+    let l = slice_get_within c.workers.workers w x at in
     let stop = c.workers-test.false in
     i.at input k behind w x row (omega (arith, l, stop)) at on
 
 pub returns-clause-fewer : goal.returns-clause-fewer
 returns-clause-fewer g c = λ w x y was at.
     let i = c.workers.invariant in
-    let l = get_within c.workers.workers w y at in
+    let l = slice_get_within c.workers.workers w y at in
     let stop = c.workers-test.false in
     i.fewer w x y (omega (arith, l, stop)) was at

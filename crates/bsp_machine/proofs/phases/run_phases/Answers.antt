@@ -1,5 +1,5 @@
 use Rattle.std.proofs.Common.{suc, get_or, sym, ◌∙◌, arith}
-use Rattle.bsp_machine.proofs.ListLemmas.{get_there}
+use Rattle.std.proofs.lemmas.Option.{slice_get-get_or}
 use Rattle.bsp_machine.proofs.LeftLemmas.{all_go_on, still_on}
 use Rattle.bsp_machine.proofs.phases.run_phases.Goals as goal
 
@@ -13,7 +13,7 @@ phase-requires-clause-going g c =
     let first = get_or xs 0 c.index-workers-0.result in
     all_go_on c.args.code.now m c.args.bound c.requires.runnable.map c.requires.opened.input xs many
     (i.running c.requires.opened.input c.requires.opened.running) first
-    (get_there xs 0 c.index-workers-0.result (omega (arith, some, many))) (sym c.is_over.ensures ∙ c.phases-test.true)
+    (slice_get-get_or xs 0 c.index-workers-0.result (omega (arith, some, many))) (sym c.is_over.ensures ∙ c.phases-test.true)
 
 pub phases-preserved : goal.phases-preserved
 phases-preserved g c =
@@ -26,7 +26,7 @@ phases-preserved g c =
     let some = c.requires.runnable.map.lawful.one in
     let many = i.long in
     let first = get_or xs 0 c.index-workers-0.result in
-    let here = get_there xs 0 c.index-workers-0.result (omega (arith, some, many)) in
+    let here = slice_get-get_or xs 0 c.index-workers-0.result (omega (arith, some, many)) in
     record {
       long = e.workers;
       rows = e.rows;

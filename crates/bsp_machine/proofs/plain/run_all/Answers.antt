@@ -2,7 +2,7 @@ use Rattle.std.proofs.Common.{◌≡◌, Some, sym, ap, ◌∙◌, subst, arith}
 use Rattle.std.specs.Prelude.{slice_get}
 use Rattle.worker_exchange.specs.Equipped.{most_words}
 use Rattle.bsp_machine.specs.Workers.{AreSheets}
-use Rattle.bsp_machine.proofs.ListLemmas.{get_there}
+use Rattle.std.proofs.lemmas.Option.{slice_get-get_or}
 use Rattle.bsp_machine.proofs.OpeningLemmas.{fresh_run}
 use Rattle.bsp_machine.proofs.plain.run_all.Goals as goal
 
@@ -15,7 +15,7 @@ under-requires g c =
     let x = c.index.result.now in
     let some = c.requires.runnable.map.lawful.one in
     let many = c.requires.workers in
-    let here : slice_get workers 0 ≡ Some x = get_there workers 0 x (omega (arith, some, many)) ∙ ap (λ y. Some y) (sym c.index.ensures) in
+    let here : slice_get workers 0 ≡ Some x = slice_get-get_or workers 0 x (omega (arith, some, many)) ∙ ap (λ y. Some y) (sym c.index.ensures) in
     let reply = ((o.fresh 0 x here).going c.args.bound).equipped.buffers.reply in
     let most : c.len-most.result ≡ most_words code m = c.len-most.ensures ∙ x.local.buffers.reply.ok.0 ∙ reply in (
       c.rule.ensures.value,

@@ -1,7 +1,8 @@
 use Rattle.std.proofs.Common.{◌≡◌, ◌<◌, ◌≤◌, ◌+◌, Some, length, length-set, sym, ap, ◌∙◌, arith}
 use Rattle.std.specs.Prelude.{slice_get}
 use Rattle.bsp_machine.specs.Opening.{IsFresh}
-use Rattle.bsp_machine.proofs.ListLemmas.{get_there, get_other, get_within, set_each}
+use Rattle.bsp_machine.proofs.ListLemmas.{get_other, set_each}
+use Rattle.std.proofs.lemmas.Option.{slice_get-get_or, slice_get_within}
 use Rattle.workers.proofs.reserving.reserve_each.Goals as goal
 
 pub workers-preserved : goal.workers-preserved
@@ -14,7 +15,7 @@ workers-preserved c =
     let e = c.in_ok-reserve.ensures in
     let test = c.workers-test.true in
     let lt : w < length xs = omega (arith, test) in
-    let here : slice_get xs w ≡ Some y = get_there xs w y lt ∙ ap (λ z. Some z) (sym c.index_mut.ensures.value) in
+    let here : slice_get xs w ≡ Some y = slice_get-get_or xs w y lt ∙ ap (λ z. Some z) (sym c.index_mut.ensures.value) in
     record {
       long = length-set xs w x' ∙ i.long;
       later = λ v low. get_other xs w v x' (λ (same : v ≡ w). omega (arith, same, low)) ∙ i.later v (omega (arith, low));
@@ -30,13 +31,13 @@ workers-preserved c =
 pub returns-clause-given : goal.returns-clause-given
 returns-clause-given c = λ w x at.
     let i = c.workers.invariant in
-    let l = get_within c.workers.workers.items w x at in
+    let l = slice_get_within c.workers.workers.items w x at in
     let stop = c.workers-test.false in
     i.given w x (omega (arith, l, stop)) at
 
 pub returns-clause-fresh : goal.returns-clause-fresh
 returns-clause-fresh c = λ code m input all w x at.
     let i = c.workers.invariant in
-    let l = get_within c.workers.workers.items w x at in
+    let l = slice_get_within c.workers.workers.items w x at in
     let stop = c.workers-test.false in
     i.fresh code m input all w x (omega (arith, l, stop)) at

@@ -9,7 +9,7 @@ use Rattle.bsp_machine.specs.declared.counted.CountedWorker.{CountedWorker}
 use Rattle.run_options.specs.declared.reserve.Reserve.{Reserve}
 use Rattle.bsp_machine.specs.Reserves.{HaveReserve, refusal_for}
 use Rattle.bsp_machine.specs.Opening.{AreFresh}
-use Rattle.bsp_machine.proofs.ListLemmas.{get_there}
+use Rattle.std.proofs.lemmas.Option.{slice_get-get_or}
 use Rattle.workers.specs.Gathered.{HaveEnded}
 use Rattle.workers.specs.Past.{ComesPast, IsRefusalWith, StaysWithin}
 use Rattle.worker_exchange.proofs.OpeningLemmas.{few_words}
@@ -49,7 +49,7 @@ new-requires-2-clause-room g c =
     let parts = accepted.map.modules in
     let few = accepted.few in
     let many = c.in_ok-opened.ensures.count in
-    let here : slice_get workers 0 ≡ Some x = get_there workers 0 x (omega (arith, few, many)) ∙ ap (λ y. Some y) (sym c.index.ensures) in
+    let here : slice_get workers 0 ≡ Some x = slice_get-get_or workers 0 x (omega (arith, few, many)) ∙ ap (λ y. Some y) (sym c.index.ensures) in
     let reply = ((c.in_ok-opened.ensures.opened 0 x here).going c.args.terms.bound).equipped.buffers.reply in
     let most : c.len-most.result ≡ most_words code m = c.len-most.ensures ∙ x.local.buffers.reply.ok.0 ∙ reply in
     let short = few_words code m c.instructions-instructions.ensures.stands (omega (arith, few, parts)) in
@@ -65,7 +65,7 @@ play_all-seats-requires-clause-begin g c κs within =
     let parts = accepted.map.modules in
     let few = accepted.few in
     let many = c.in_ok-opened.ensures.count in
-    let here : slice_get workers 0 ≡ Some x = get_there workers 0 x (omega (arith, few, many)) ∙ ap (λ y. Some y) (sym c.index.ensures) in
+    let here : slice_get workers 0 ≡ Some x = slice_get-get_or workers 0 x (omega (arith, few, many)) ∙ ap (λ y. Some y) (sym c.index.ensures) in
     let goes = (c.in_ok-opened.ensures.opened 0 x here).going c.args.terms.bound in
     let most : c.len-most.result ≡ most_words code m = c.len-most.ensures ∙ x.local.buffers.reply.ok.0 ∙ goes.equipped.buffers.reply in
     let made = c.in-Ok-new.ensures in
@@ -85,7 +85,7 @@ gather-requires-clause-runnable g c =
     let x = c.index.result.now in
     let few = c.in_ok-opened.ensures.accepted.few in
     let many = c.in_ok-opened.ensures.count in
-    let here : slice_get workers 0 ≡ Some x = get_there workers 0 x (omega (arith, few, many)) ∙ ap (λ y. Some y) (sym c.index.ensures) in
+    let here : slice_get workers 0 ≡ Some x = slice_get-get_or workers 0 x (omega (arith, few, many)) ∙ ap (λ y. Some y) (sym c.index.ensures) in
     ((c.in_ok-opened.ensures.opened 0 x here).going c.args.terms.bound).runnable
 
 pub gather-requires-clause-ended : goal.gather-requires-clause-ended

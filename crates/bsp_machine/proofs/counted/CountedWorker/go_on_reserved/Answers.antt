@@ -9,7 +9,8 @@ use Rattle.worker_exchange.specs.Shown.{marked, is_stopped, IsShown, IsAtExchang
 use Rattle.worker_exchange.specs.MessagesWritten.{IsWrittenFor}
 use Rattle.run_options.specs.declared.reserve.Reserve.{Reserve}
 use Rattle.bsp_machine.specs.Reserves.{is_past, own_mark}
-use Rattle.bsp_machine.proofs.MarkLemmas.{going_on, or_false, never}
+use Rattle.bsp_machine.proofs.MarkLemmas.{going_on, never}
+use Rattle.std.proofs.lemmas.Bool.{or_parts}
 use Rattle.bsp_machine.proofs.CountedLemmas.{standing_refused, one_reserve, past_is}
 use Rattle.bsp_machine.proofs.counted.CountedWorker.go_on_reserved.Goals as goal
 
@@ -50,8 +51,8 @@ returns-else-is_past-clause-at g c = λ states told w b.
     let had = b.reserved alive c.args.reserve c.requires.reserve in
     let none = sym c.is_past.ensures ∙ c.if-is_past.false in
     let past = is_past c.args.reserve (length new.steps.uniform.output.items) (length x.counts.items) in
-    let on = or_false (is_stopped new.way) past (or_false (is_stopped new.way || past) _ none).0 in
-    let within = or_false (nat_lt c.args.reserve.items (length new.steps.uniform.output.items)) _ on.1 in
+    let on = or_parts (is_stopped new.way) past (or_parts (is_stopped new.way || past) _ none).0 in
+    let within = or_parts (nat_lt c.args.reserve.items (length new.steps.uniform.output.items)) _ on.1 in
     let few : length new.steps.uniform.output.items ≤ c.args.reserve.items = (let l = within.0 in grind (arith, nat_tests)) in
     record {
       worker = λ h. e.worker h ∙ same;

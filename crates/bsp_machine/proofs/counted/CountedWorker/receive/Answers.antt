@@ -7,7 +7,8 @@ use Rattle.superstep_machine.specs.Purposes.{purpose_is}
 use Rattle.worker_exchange.specs.Shown.{is_stopped, IsShown, IsAtExchange}
 use Rattle.worker_exchange.specs.Received.{is_marked, mark_heard, messages_to}
 use Rattle.bsp_machine.specs.Workers.{share_told, share_at, count_of}
-use Rattle.bsp_machine.proofs.MarkLemmas.{going_on, or_false}
+use Rattle.bsp_machine.proofs.MarkLemmas.{going_on}
+use Rattle.std.proofs.lemmas.Bool.{or_parts}
 use Rattle.bsp_machine.proofs.counted.CountedWorker.receive.Goals as goal
 
 pub returns-clause-behind : goal.returns-clause-behind
@@ -20,7 +21,7 @@ returns-clause-behind g c = λ states told w row at.
     let came = g.C.Column.came c.args.column.now in
     let e = c.receive-progress.ensures in
     let alive : is_stopped new.way ≡ false → is_stopped old.way ≡ false =
-    (λ h. (or_false (is_stopped old.way) (is_marked (mark_heard came)) (sym e.stopped ∙ h)).0) in
+    (λ h. (or_parts (is_stopped old.way) (is_marked (mark_heard came)) (sym e.stopped ∙ h)).0) in
     record {
       worker = λ h. e.worker ∙ at.worker (alive h);
       shown = λ h n low.
