@@ -4,6 +4,26 @@ top=$(cd "$(dirname "${BASH_SOURCE[0]}")/.." && pwd)
 work=$(mktemp -d)
 trap 'rm -rf "$work"' EXIT
 
+# below CRATE..: these crates and all of the repository that they use.
+below() {
+    python3 - "$top/crates.txt" "$@" <<'EOP'
+import sys
+
+used = {}
+for line in open(sys.argv[1]):
+    name, colon, rest = line.split("#")[0].partition(":")
+    if colon:
+        used[name.split()[0]] = rest.split()
+todo, seen = sys.argv[2:], set()
+while todo:
+    name = todo.pop()
+    if name in used and name not in seen:
+        seen.add(name)
+        todo += used[name]
+print(*sorted(seen))
+EOP
+}
+
 # prepare FOLDER CRATE..: lays out the program of that bench, which stands on these crates, and on `libraries` if that is set.
 prepare() {
     here=$top/${bench:-bench}/$1

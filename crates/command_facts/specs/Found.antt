@@ -5,7 +5,7 @@ use Rattle.pram_model.specs.Layout.{total_size}
 use Rattle.pram_check.specs.Checked.{Checked}
 use Rattle.superstep_machine.specs.Trace.{Exchange}
 use Rattle.bsp_verify.specs.WellFormed.{IsWellFormed}
-use Rattle.compiling.specs.Compiled.{IsCompiledFrom}
+use Rattle.program_runs.specs.Compiled.{IsCompiledFrom}
 use Rattle.write_rules.specs.Verdict.{verdict_of, Verdict}
 use Rattle.program_texts.specs.Report.{IsMeaningOf, IsProgramOf}
 use Rattle.program_texts.specs.Status.{status_of}

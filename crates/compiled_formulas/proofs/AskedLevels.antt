@@ -103,7 +103,13 @@ module _ (side : Side) (n : Names) (base : ℕ) (free : IsFree side n base) (s :
     asked_level (Local y) t b q r m = record { stays = λ x h o. refl; known = tt; read = tt; notes = refl; cells = refl }
     asked_level (Read a f) t b q r m = go (nat_eq (nesting f) l) refl
         (let apart = m.apart in
-        asked_level f t b q r (record { shows = m.shows; known = m.known.0; named = m.named; above = m.above; apart = omega (arith, apart) }))
+        asked_level f t b q r (record {
+          shows = m.shows;
+          known = m.known.0;
+          named = m.named;
+          above = m.above;
+          apart = omega (arith, apart);
+        }))
       where
         go : (c : Bool) → nat_eq (nesting f) l ≡ c → Done f t b q r →
             IsAsked side n base free s uniforms memory head at l (Read a f) t b r

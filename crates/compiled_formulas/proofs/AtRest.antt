@@ -46,13 +46,18 @@ module _ (code : SuperstepCode) (base : ℕ) (layout : List SharedEntry) (unifor
 
   rests_by : (side : Side) (i : Instr) (r : Registers) (f : Flat) → IsPart base side i → asked layout uniforms i r ≡ [] → AsksNone f →
       AsksNone (act_at_once code i f)
-  rests_by side i r f (sets d h) e n = by_owns side i r f (sets d h) e n refl refl (λ v. own_reads side i r f.uniform v (f.own v) (sets d h) e)
-  rests_by side i r f (negates d h) e n = by_owns side i r f (negates d h) e n refl refl (λ v. own_reads side i r f.uniform v (f.own v) (negates d h) e)
+  rests_by side i r f (sets d h) e n = by_owns side i r f (sets d h) e n refl refl
+      (λ v. own_reads side i r f.uniform v (f.own v) (sets d h) e)
+  rests_by side i r f (negates d h) e n = by_owns side i r f (negates d h) e n refl refl
+      (λ v. own_reads side i r f.uniform v (f.own v) (negates d h) e)
   rests_by side i r f (calculates d h) e n =
       by_owns side i r f (calculates d h) e n refl refl (λ v. own_reads side i r f.uniform v (f.own v) (calculates d h) e)
-  rests_by side i r f (decides d h) e n = by_owns side i r f (decides d h) e n refl refl (λ v. own_reads side i r f.uniform v (f.own v) (decides d h) e)
-  rests_by side i r f (inverts d h) e n = by_owns side i r f (inverts d h) e n refl refl (λ v. own_reads side i r f.uniform v (f.own v) (inverts d h) e)
-  rests_by side i r f (copies d h) e n = by_owns Private i r f (copies d h) e n refl refl (λ v. own_reads Private i r f.uniform v (f.own v) (copies d h) e)
+  rests_by side i r f (decides d h) e n = by_owns side i r f (decides d h) e n refl refl
+      (λ v. own_reads side i r f.uniform v (f.own v) (decides d h) e)
+  rests_by side i r f (inverts d h) e n = by_owns side i r f (inverts d h) e n refl refl
+      (λ v. own_reads side i r f.uniform v (f.own v) (inverts d h) e)
+  rests_by side i r f (copies d h) e n = by_owns Private i r f (copies d h) e n refl refl
+      (λ v. own_reads Private i r f.uniform v (f.own v) (copies d h) e)
   rests_by side i r f (asks_for d h) e n = cc
 
   left_empty : (xs ys : List (ℕ × Option ℕ)) → xs ++ ys ≡ [] → xs ≡ []
@@ -63,7 +68,8 @@ module _ (code : SuperstepCode) (base : ℕ) (layout : List SharedEntry) (unifor
   right_empty [] ys e = e
   right_empty (x ∷ xs) ys e = cc
 
-  pub stays_at_rest : (side : Side) (is : List Instr) (r : Registers) (f : Flat) → AreParts base side is → asks_in layout uniforms is r ≡ [] →
+  pub stays_at_rest : (side : Side) (is : List Instr) (r : Registers) (f : Flat) → AreParts base side is →
+      asks_in layout uniforms is r ≡ [] →
       AsksNone f → AsksNone (acts_at_once code is f)
   stays_at_rest side [] r f p e n = n
   stays_at_rest side (i ∷ is) r f p e n =

@@ -80,7 +80,8 @@ module _ (code : SuperstepCode) (n : Names) (base : ℕ) (free : IsFree Private 
 
     groups_done : IsBehind code n base free s same e base b named (omega arith) (omega arith) u f.memory active rests.asks rests.awaited
         (0 + nesting e) before
-        (levels_key code n base free s same e base b named (omega arith) (omega arith) u f.memory active rests.asks rests.awaited (nesting e)
+        (levels_key code n base free s same e base b named (omega arith) (omega arith) u f.memory active rests.asks rests.awaited
+        (nesting e)
         0) f
     groups_done =
         more_levels code n base free s same e base b named (omega arith) (omega arith) u f.memory active rests.asks rests.awaited

@@ -49,7 +49,8 @@ use Rattle.compiled_formulas.proofs.AskedLevels.{asked_level}
 use Rattle.compiled_formulas.proofs.Parts.{AreParts, asks_parts, of_parts, of_group}
 use Rattle.compiled_formulas.proofs.Kept.{private_evaluates, private_above, part_keeps_masks, left_by, stands_by}
 use Rattle.compiled_formulas.proofs.OutsideLevels.{answered_rests}
-use Rattle.compiled_formulas.proofs.PrivateSteps.{cells_of, slots_in, with_reads, does_all, keys_by, private_uniform, private_masks, private_own}
+use Rattle.compiled_formulas.proofs.PrivateSteps.{cells_of, slots_in, with_reads, does_all, keys_by, private_uniform, private_masks}
+use Rattle.compiled_formulas.proofs.PrivateSteps.{private_own}
 use Rattle.compiled_formulas.proofs.PrivateSteps.{private_notes, no_cells, zipped}
 use Rattle.compiled_formulas.proofs.Slots.{level_slots, level_count, asks_slots}
 use Rattle.compiled_formulas.proofs.ReadColumns.{conflict_at_read, Agrees}
@@ -168,7 +169,8 @@ module _ (code : SuperstepCode) (n : Names) (base : ℕ) (free : IsFree Private 
           (λ i. least (none_owed code g (ap is_held g_bare.put) i) (if shares_reads code.rule then None else
           (ap (read_conflicts code g 0) g_asks
           ∙ conflicts_of_level code g (heading u) active s column idle l e t 0 0 agrees asks_cells
-          ∙ ap (λ (w : ℕ). at_level (conflict_at_read (heading u) (total_size code.layout) (filter active (range_with_len 0 w)) column) l e 0)
+          ∙ ap (λ (w : ℕ). at_level
+          (conflict_at_read (heading u) (total_size code.layout) (filter active (range_with_len 0 w)) column) l e 0)
           g_width) i))
 
       g_notes : notes code is f ≡ sum_of u.width active (λ v. at_level (own_keys v) l e 0)

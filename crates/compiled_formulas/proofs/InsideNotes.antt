@@ -13,7 +13,8 @@ use Rattle.superstep_machine.specs.Sending.{several, asks_for, put_conflict}
 use Rattle.pram_check.specs.Checked.{Checked}
 use Rattle.pram_meaning.specs.Store.{State, member_of, seen_by}
 use Rattle.statement_evaluation.specs.Rows.{Row, trail}
-use Rattle.statement_evaluation.specs.Noted.{Heading, moment, notes_behind, notes, readers, read_key, reads_noted, verdict, writes_at, writes_noted}
+use Rattle.statement_evaluation.specs.Noted.{Heading, moment, notes_behind, notes, readers, read_key, reads_noted, verdict, writes_at}
+use Rattle.statement_evaluation.specs.Noted.{writes_noted}
 use Rattle.statement_evaluation.specs.Noted.{noted_in}
 use Rattle.plain_form.specs.Formulas.{Formula}
 use Rattle.compiled_formulas.specs.Terms.{steps_in}

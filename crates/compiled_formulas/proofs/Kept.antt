@@ -16,18 +16,16 @@ use Rattle.flat_stretches.specs.Leaving.{IsLeft, evaluates, ReadsAbove, IsReadAb
 use Rattle.flat_stretches.proofs.Leaving.{folds_leave}
 use Rattle.flat_stretches.proofs.Frames.{folds_at_once_stay}
 use Rattle.compiled_formulas.proofs.Parts.{IsPart, sets, negates, calculates, decides, inverts, copies, asks_for}
-
-at_most_test : (base d : ℕ) → base ≤ d → nat_le base d ≡ true
-at_most_test base d h = grind (arith, nat_tests, h)
+use Rattle.std.proofs.lemmas.Bool.{le-leb}
 
 module _ (base : ℕ) where
   pub uniform_evaluates : (i : Instr) → IsPart base Uniform i → evaluates base i ≡ true
-  uniform_evaluates i (sets d h) = at_most_test base d h
-  uniform_evaluates i (negates d h) = at_most_test base d h
-  uniform_evaluates i (calculates d h) = at_most_test base d h
-  uniform_evaluates i (decides d h) = at_most_test base d h
-  uniform_evaluates i (inverts d h) = at_most_test base d h
-  uniform_evaluates i (asks_for d h) = at_most_test base d h
+  uniform_evaluates i (sets d h) = le-leb base d h
+  uniform_evaluates i (negates d h) = le-leb base d h
+  uniform_evaluates i (calculates d h) = le-leb base d h
+  uniform_evaluates i (decides d h) = le-leb base d h
+  uniform_evaluates i (inverts d h) = le-leb base d h
+  uniform_evaluates i (asks_for d h) = le-leb base d h
 
   pub private_evaluates : (any : ℕ) (i : Instr) → IsPart base Private i → evaluates any i ≡ true
   private_evaluates any i (sets d h) = refl
@@ -39,13 +37,13 @@ module _ (base : ℕ) where
   private_evaluates any i (asks_for d h) = refl
 
   pub private_above : (i : Instr) → IsPart base Private i → is_above base i ≡ true
-  private_above i (sets d h) = at_most_test base d h
-  private_above i (negates d h) = at_most_test base d h
-  private_above i (calculates d h) = at_most_test base d h
-  private_above i (decides d h) = at_most_test base d h
-  private_above i (inverts d h) = at_most_test base d h
-  private_above i (copies d h) = at_most_test base d h
-  private_above i (asks_for d h) = at_most_test base d h
+  private_above i (sets d h) = le-leb base d h
+  private_above i (negates d h) = le-leb base d h
+  private_above i (calculates d h) = le-leb base d h
+  private_above i (decides d h) = le-leb base d h
+  private_above i (inverts d h) = le-leb base d h
+  private_above i (copies d h) = le-leb base d h
+  private_above i (asks_for d h) = le-leb base d h
 
   pub uniform_above : (i : Instr) → IsPart base Uniform i → is_above base i ≡ true
   uniform_above i (sets d h) = refl
@@ -53,7 +51,7 @@ module _ (base : ℕ) where
   uniform_above i (calculates d h) = refl
   uniform_above i (decides d h) = refl
   uniform_above i (inverts d h) = refl
-  uniform_above i (asks_for d h) = at_most_test base d h
+  uniform_above i (asks_for d h) = le-leb base d h
 
   pub part_keeps_masks : (side : Side) (i : Instr) → IsPart base side i → keeps_masks i ≡ true
   part_keeps_masks side i (sets d h) = refl

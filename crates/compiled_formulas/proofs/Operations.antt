@@ -19,16 +19,13 @@ use Rattle.pram_meaning.specs.Operation.{operate, operate_before}
 use Rattle.statement_evaluation.specs.Noted.{Heading, note_key}
 use Rattle.plain_form.specs.Regions.{before_code, between_code}
 use Rattle.compiled_formulas.proofs.Lone.{moves, wrongs}
+use Rattle.pram_values.proofs.TruthValues.{is_nonzero-truth}
 
 pub set_here : (d : ℕ) (z : ℤ) (r : Registers) → set_register d z r d ≡ z
 set_here d z r = ap (λ b. cond b z (r d)) (with_itself d)
 
 pub set_there : (d : ℕ) (z : ℤ) (r : Registers) (x : ℕ) → d ≢ x → set_register d z r x ≡ r x
 set_there d z r x n = ap (λ b. cond b z (r x)) (ne_eqb d x n)
-
-truth_is : (b : Bool) → is_nonzero (truth b) ≡ b
-truth_is true = refl
-truth_is false = refl
 
 module _ (layout : List SharedEntry) (uniforms : Registers) (side : Side) (b : ℕ) where
   pub before_value : (o : Prefix) (x q : ℕ) (r : Registers) →
@@ -52,7 +49,7 @@ module _ (layout : List SharedEntry) (uniforms : Registers) (side : Side) (b : �
   between_value Unequal x y q r =
       let z = truth (is_equal (r x) (r y)) in
       set_here b (truth (not (is_nonzero (set_register b z r b)))) (set_register b z r)
-      ∙ ap (λ v. truth (not (is_nonzero v))) (set_here b z r) ∙ ap (λ t. truth (not t)) (truth_is (is_equal (r x) (r y)))
+      ∙ ap (λ v. truth (not (is_nonzero v))) (set_here b z r) ∙ ap (λ t. truth (not t)) (is_nonzero-truth (is_equal (r x) (r y)))
   between_value Or x y q r = set_here b (or_zero (operate Or (r x) (r y))) r
   between_value And x y q r = set_here b (or_zero (operate And (r x) (r y))) r
   between_value Equal x y q r = set_here b (or_zero (operate Equal (r x) (r y))) r

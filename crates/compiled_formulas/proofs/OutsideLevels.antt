@@ -117,7 +117,8 @@ module _ (code : SuperstepCode) (n : Names) (base : ℕ) (free : IsFree Uniform 
         ap (read_conflicts code g 0) asks_are ∙ no_conflicts code base zeros g (heading_of f) is u parts 0 in
         record {
           stage = record {
-            shows = subst (λ (m : ℕ → ℤ). Shows Uniform n s zeros end.uniform.registers m) (sym (let k : end.memory ≡ f.memory = λ i c. whole_left.memory c i in k))
+            shows = subst (λ (m : ℕ → ℤ). Shows Uniform n s zeros end.uniform.registers m)
+                (sym (let k : end.memory ≡ f.memory = λ i c. whole_left.memory c i in k))
                 (still_shows n base Uniform free s zeros u end.uniform.registers f.memory
                 (λ x k. whole_left.registers x (omega (arith, k, above))) h.shows);
             known = still_read s (l + 1) e t (λ d. delivered f.memory d (level_reads s l e t) (w d)) end.uniform.registers

@@ -10,7 +10,8 @@ use Rattle.pram_trees.specs.declared.tree.Prefix.TheVariants as before
 use Rattle.superstep_instructions.specs.declared.instr.Side.{Side}
 use Rattle.superstep_instructions.specs.declared.instr.Side.TheVariants.{Uniform, Private}
 use Rattle.superstep_instructions.specs.declared.instr.Instr.{Instr}
-use Rattle.superstep_instructions.specs.declared.instr.Instr.TheVariants.{Set, Negate, Calculate, Decide, Not, CopyUniform, Ask, Send, Reply}
+use Rattle.superstep_instructions.specs.declared.instr.Instr.TheVariants.{Set, Negate, Calculate, Decide, Not, CopyUniform, Ask, Send}
+use Rattle.superstep_instructions.specs.declared.instr.Instr.TheVariants.{Reply}
 use Rattle.superstep_machine.proofs.MachineWords.{all_joined}
 use Rattle.plain_form.specs.Formulas.{Formula, Zero, Number, Variable, Index, Local, Read, Before, Between, Pair, reads, positions, nesting}
 use Rattle.plain_form.specs.Regions.{place, before_code, between_code, region}

@@ -37,7 +37,8 @@ pub range_last : (q n : ℕ) → range_with_len q (n + 1) ≡ range_with_len q n
 range_last q zero = ap (λ k. k ∷ []) (let e : q ≡ q + 0 = omega arith in e)
 range_last q (suc n) =
     ap (range_with_len q) (let e : suc n + 1 ≡ suc (n + 1) = omega arith in e)
-    ∙ ap (λ xs. q ∷ xs) (range_last (q + 1) n ∙ ap (λ k. range_with_len (q + 1) n ++ k ∷ []) (let e : q + 1 + n ≡ q + suc n = omega arith in e))
+    ∙ ap (λ xs. q ∷ xs) (range_last (q + 1) n
+    ∙ ap (λ k. range_with_len (q + 1) n ++ k ∷ []) (let e : q + 1 + n ≡ q + suc n = omega arith in e))
 
 range_both : (q m n : ℕ) → range_with_len q (m + n) ≡ range_with_len q m ++ range_with_len (q + m) n
 range_both q zero n = (λ i. range_with_len (let e : q ≡ q + 0 = omega arith in e i) (let e : 0 + n ≡ n = omega arith in e i))
@@ -49,7 +50,8 @@ range_both q (suc m) n =
 module _ (h : Heading) (cells : ℕ) (vs : List ℕ) (column : ℕ → ℕ → Option ℕ) where
   -- the conflicts of a column: of the cells of all processors at one position
   abbrev pub column_key : ℕ → Option Key
-  column_key d = total None least (λ c. read_key h (d + 1) c (total None several (λ v. asks_for c (column d v)) vs)) (range_with_len 0 cells)
+  column_key d = total None least (λ c. read_key h (d + 1) c (total None several (λ v. asks_for c (column d v)) vs))
+      (range_with_len 0 cells)
 
   -- at the position behind d others
   abbrev pub position_key : ℕ → Option Key
@@ -111,7 +113,8 @@ module _ (h : Heading) (cells : ℕ) (vs : List ℕ) (column : ℕ → ℕ → O
         ap (total None least column_key) (range_both q m n)
         ∙ total_joined None least keys_are_monoid column_key (range_with_len q m) (range_with_len (q + m) n)
 
-    pub conflicts_of_all : (f : Formula) (q : ℕ) → Agrees q (positions f) (λ v. steps_in (s v) f) → all_of conflict_at_read f q ≡ sums q (positions f)
+    pub conflicts_of_all : (f : Formula) (q : ℕ) → Agrees q (positions f) (λ v. steps_in (s v) f) →
+        all_of conflict_at_read f q ≡ sums q (positions f)
     conflicts_of_all Zero q a = refl
     conflicts_of_all (Number z) q a = refl
     conflicts_of_all (Variable x) q a = refl

@@ -12,9 +12,7 @@ use Rattle.plain_form.specs.Formulas.{Formula, Zero, Number, Variable, Index, Lo
 use Rattle.compiled_formulas.specs.Terms.{term, steps_in}
 use Rattle.compiled_formulas.proofs.Levels.{all_of}
 use Rattle.compiled_formulas.proofs.RegionValues.{own_key_at}
-
-one_more : (xs : List Step) (x : Step) (n : ℕ) → length xs ≡ n → length (xs ++ x ∷ []) ≡ n + 1
-one_more xs x n e = let a = length-append xs (x ∷ []) in omega (arith, a, e)
+use Rattle.statement_evaluation.proofs.Tasks.{one_more}
 
 pub length_steps : (s : View) (f : Formula) → length (steps_in s f) ≡ positions f
 length_steps s Zero = refl

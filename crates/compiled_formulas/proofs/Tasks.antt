@@ -12,7 +12,8 @@ use Rattle.statement_evaluation.specs.Terms.{Gets}
 use Rattle.statement_evaluation.specs.Whole.{reading, testing, value, steps}
 use Rattle.statement_evaluation.specs.Rows.{rows}
 use Rattle.statement_evaluation.specs.Noted.{noted_in}
-use Rattle.plain_form.specs.Formulas.{Formula, Zero, Number, Variable, Index, Local, Read, Before, Between, Pair, formula_of, chained, positions}
+use Rattle.plain_form.specs.Formulas.{Formula, Zero, Number, Variable, Index, Local, Read, Before, Between, Pair, formula_of, chained}
+use Rattle.plain_form.specs.Formulas.{positions}
 use Rattle.compiled_formulas.specs.Terms.{term, steps_in}
 use Rattle.compiled_formulas.specs.Headings.{heading_of}
 use Rattle.compiled_formulas.specs.Inside.{active_ones, row_in}

@@ -19,7 +19,8 @@ use Rattle.statement_evaluation.specs.Terms.{Task, Writes, task_positions}
 use Rattle.statement_evaluation.specs.Whole.{Step, testing, value, steps}
 use Rattle.statement_evaluation.specs.Rows.{Row, row_of, rows, trail}
 use Rattle.statement_evaluation.specs.Noted as evaluation
-use Rattle.statement_evaluation.specs.Noted.{Heading, moment, note_key, notes_behind, readers, read_key, reads_noted, verdict, writes_at, writes_noted}
+use Rattle.statement_evaluation.specs.Noted.{Heading, moment, note_key, notes_behind, readers, read_key, reads_noted, verdict, writes_at}
+use Rattle.statement_evaluation.specs.Noted.{writes_noted}
 use Rattle.plain_form.specs.Formulas.{Formula, Pair, positions}
 use Rattle.compiled_formulas.specs.Terms.{term, steps_in}
 use Rattle.compiled_formulas.specs.Inside.{row_in}
@@ -88,7 +89,8 @@ module _ (p : Checked) (m : State) (entry : ℕ) (d e : Formula) (sd : IsSingle 
       (λ q. total_same None least (λ c. read_key h (q + 1) c (readers q c (rows p m task vs)))
       (λ c. read_key h (q + 1) c (total None several (λ v. asks_for c (whole_column q v)) vs))
       (λ c. ap (read_key h (q + 1) c)
-      (total_map None several (λ (r : Row). asks_for c (get_or (trail r.whole.steps) q None)) (row_of p m task) vs)) (range_with_len 0 size))
+      (total_map None several (λ (r : Row). asks_for c (get_or (trail r.whole.steps) q None)) (row_of p m task) vs))
+      (range_with_len 0 size))
       (range_with_len 0 (count + 1))
       ∙ ap (total None least (column_key h size vs whole_column)) (range_last 0 count)
       ∙ total_joined None least keys_are_monoid (column_key h size vs whole_column) (range_with_len 0 count) ((0 + count) ∷ [])

@@ -43,7 +43,8 @@ use Rattle.compiled_formulas.proofs.Inside.{formulas_are_evaluated_inside, pairs
 use Rattle.compiled_formulas.proofs.Writes.{missed, write_noted}
 
 -- a processor's write to a cell, as evaluation has it
-single_is : (rule : Rule) (c : ℕ) (i : ℤ) (cell : Option ℕ) (value : ℤ) → single_to rule c i (write_to cell value) ≡ entry_by rule c i cell value
+single_is : (rule : Rule) (c : ℕ) (i : ℤ) (cell : Option ℕ) (value : ℤ) →
+    single_to rule c i (write_to cell value) ≡ entry_by rule c i cell value
 single_is rule c i None value = refl
 single_is rule c i (Some x) value = refl
 

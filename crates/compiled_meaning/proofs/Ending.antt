@@ -16,8 +16,8 @@ use Rattle.flat_stretches.specs.Folds.{MayHold}
 use Rattle.flat_stretches.specs.Closes.{ComesOut, close_cost}
 use Rattle.flat_stretches.proofs.Closes.{halts_end}
 use Rattle.exchange_bound.specs.Bound.{one_if}
-use Rattle.statement_runs.specs.Between.{IsRunOf}
-use Rattle.outside_runs.specs.Without.{IsWithout}
+use Rattle.compiled_meaning.specs.Between.{IsRunOf}
+use Rattle.compiled_meaning.specs.Without.{IsWithout}
 
 -- no more exchanges than so many
 pub comes_by : (t : Run) (v : Verdict) (spent more : ℕ) → spent ≤ more → ComesOut t v spent → ComesOut t v more
@@ -40,7 +40,8 @@ module _ (p : Checked) (t : Run) (of : IsRunOf p t) where
   memory_is : (memory : ℕ → ℤ) (xs : List ℤ) → length xs ≡ total_size p.layout → ((c : ℕ) → memory c ≡ get_or xs c (pos 0)) →
       map memory (cells t.code) ≡ xs
   memory_is memory xs long each =
-      let n : length (map memory (cells t.code)) ≡ total_size t.code.layout = length-map-range_with_len memory 0 (total_size t.code.layout) in
+      let n : length (map memory (cells t.code)) ≡ total_size t.code.layout =
+      length-map-range_with_len memory 0 (total_size t.code.layout) in
       ext_get_or (pos 0) (map memory (cells t.code)) xs (n ∙ ap (λ l. total_size l) of.layout ∙ sym long)
       (λ i l. get_or-map-range_with_len memory 0 (total_size t.code.layout) i i (pos 0) (subst (λ k. i < k) n l)
       (let e : 0 + i ≡ i = omega arith in e) ∙ each i)

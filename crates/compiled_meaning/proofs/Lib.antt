@@ -1,3 +1,6 @@
+pub mod Statement
+pub mod Inside
+pub mod Outside
 pub mod Opening
 pub mod Ending
 pub mod Outcomes

@@ -17,8 +17,8 @@ use Rattle.flat_stretches.proofs.Along.{runs_begin}
 use Rattle.flat_stretches.proofs.Applied.{bare_is_applied}
 use Rattle.flat_stretches.proofs.Statements.{runs_begin_at_rest}
 use Rattle.compiled_formulas.specs.Outside.{ShowsOutside}
-use Rattle.statement_runs.specs.Between.{HasSizes}
-use Rattle.outside_runs.specs.Without.{IsWithout}
+use Rattle.compiled_meaning.specs.Between.{HasSizes}
+use Rattle.compiled_meaning.specs.Without.{IsWithout}
 use Rattle.compiled_meaning.specs.PlainForm.{IsInputFor}
 
 -- ---- what stands in a code

@@ -33,9 +33,9 @@ use Rattle.exchange_bound.specs.Events.{Event, events_of}
 use Rattle.exchange_bound.specs.Bound.{one_if, shares, exchange_bound}
 use Rattle.exchange_bound.specs.Spent.{spent, held_behind}
 use Rattle.exchange_bound.proofs.Shared.{spent_is_shared}
-use Rattle.statement_runs.specs.Between.{IsRunOf}
-use Rattle.statement_runs.specs.Follows.{Follows, HoldsBehind}
-use Rattle.outside_runs.specs.Statements.{GoesWithout, StatementsAreFollowed}
+use Rattle.compiled_meaning.specs.Between.{IsRunOf}
+use Rattle.compiled_meaning.specs.Follows.{Follows, HoldsBehind}
+use Rattle.compiled_meaning.specs.Statements.{GoesWithout, StatementsAreFollowed}
 use Rattle.compiled_meaning.specs.PlainForm.{IsInputFor, IsPlainForm}
 use Rattle.compiled_meaning.proofs.Opening.{stands_all, begins}
 use Rattle.compiled_meaning.proofs.Ending.{comes_by, ended}
@@ -68,7 +68,8 @@ module _ (p : Checked) (t : Run) (of : IsRunOf p t) where
       from_out t (GoesOn out) (1 + shares es) (comes_by t (GoesOn out) (0 + (spent es false + one_if (held_behind es false)) + 1)
       (1 + shares es) (omega (arith, a)) h)
 
-module _ (followed : StatementsAreFollowed) (keep : Bool) (p : Checked) (bounded : IsBounded p) (formed : IsWellFormed (form_of keep p)) where
+module _ (followed : StatementsAreFollowed) (keep : Bool) (p : Checked) (bounded : IsBounded p)
+    (formed : IsWellFormed (form_of keep p)) where
   abbrev run : List ℤ → ℕ → Run
   run input n = record { code = form_of keep p; input = input; bound = n }
 

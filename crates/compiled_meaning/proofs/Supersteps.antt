@@ -20,7 +20,7 @@ use Rattle.flat_machine.proofs.Laws.{workers_are_flat, workers_make_listed}
 use Rattle.fusing.specs.Fusing.{Fuses, IsFaultless}
 use Rattle.plain_form.specs.PlainForm.{form_of}
 use Rattle.exchange_bound.specs.Bound.{exchange_bound}
-use Rattle.outside_runs.specs.Statements.{StatementsAreFollowed}
+use Rattle.compiled_meaning.specs.Statements.{StatementsAreFollowed}
 use Rattle.compiled_meaning.specs.PlainForm.{IsInputFor, IsPlainForm}
 use Rattle.compiled_meaning.specs.Supersteps.{KeepsTheBound, IsFusedForm}
 use Rattle.compiled_meaning.proofs.Outcomes.{has_outcome, is_plain}
@@ -71,12 +71,14 @@ module _ (followed : StatementsAreFollowed) (keep : Bool) (p : Checked) (bounded
   as_long : (map : Shape) → IsMapFor code map → (input : List ℤ) (n : ℕ) (v : Verdict) → IsFlatOutcome code input n v →
       (made : List workers.Exchange) → AreBspExchanges code map input n v made → length made ≡ length (exchanges_of code n input)
   as_long shape for input n v o made a =
-      sym (length-map made (λ (e : workers.Exchange). e.purpose)) ∙ ap length ((workers_make_listed code fuses.well_formed shape for input n v o).listed made a)
+      sym (length-map made (λ (e : workers.Exchange). e.purpose))
+      ∙ ap length ((workers_make_listed code fuses.well_formed shape for input n v o).listed made a)
       ∙ length-map (exchanges_of code n input) (λ (e : Exchange). e.purpose)
 
   keeps : KeepsTheBound p code
   keeps shape for input is n v o u made a =
-      let flat : IsFlatOutcome code input n v = (workers_are_flat code shape for input n v).0 ((fused_outcomes shape for input is n v).1 o) in
+      let flat : IsFlatOutcome code input n v =
+      (workers_are_flat code shape for input n v).0 ((fused_outcomes shape for input is n v).1 o) in
       subst (λ k. k ≤ exchange_bound p input n) (sym (as_long shape for input n v flat made a)) (exchanges_few input is n v o u)
 
   pub is_fused : IsFusedForm p code

@@ -1,2 +1,10 @@
+pub mod Between
+pub mod Follows
+pub mod Begins
+pub mod Costs
+pub mod Within
+pub mod Steps
+pub mod Without
+pub mod Statements
 pub mod PlainForm
 pub mod Supersteps

@@ -8,7 +8,8 @@ use Rattle.std.proofs.lemmas.List.{length-append, length-map}
 use Rattle.pram_model.specs.Layout.{total_size, cell_of}
 use Rattle.superstep_instructions.specs.declared.instr.Side.TheVariants.{Uniform, Private}
 use Rattle.superstep_instructions.specs.declared.instr.Instr.{Instr}
-use Rattle.superstep_instructions.specs.declared.instr.Instr.TheVariants.{Mark, CopyUniform, Index, Enter, Leave, Mask, Flip, Unmask, Ask, Put}
+use Rattle.superstep_instructions.specs.declared.instr.Instr.TheVariants.{Mark, CopyUniform, Index, Enter, Leave, Mask, Flip, Unmask, Ask}
+use Rattle.superstep_instructions.specs.declared.instr.Instr.TheVariants.{Put}
 use Rattle.superstep_instructions.specs.declared.instr.Instr.TheVariants.{Print}
 use Rattle.superstep_instructions.specs.Code.{SuperstepCode}
 use Rattle.superstep_instructions.specs.Limits.{IsCode, IsInstr}

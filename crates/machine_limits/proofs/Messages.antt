@@ -40,7 +40,8 @@ use Rattle.machine_limits.specs.Within.{AreValues, share, words_for_each, marked
 use Rattle.machine_limits.specs.Within.{MessagesAreShort}
 use Rattle.machine_limits.proofs.Shares.{some_share}
 use Rattle.machine_limits.proofs.Keeping.{IsReadBelow, IsWriteBelow, IsOwnKept, IsKept, length-filter_map}
-use Rattle.machine_limits.proofs.Runs.{KeptAt, until_kept, ready_kept, all_also, none_kept, keeps, exchange_kept, column_values, opening_kept}
+use Rattle.machine_limits.proofs.Runs.{KeptAt, until_kept, ready_kept, all_also, none_kept, keeps, exchange_kept, column_values}
+use Rattle.machine_limits.proofs.Runs.{opening_kept}
 
 -- ---- lengths
 

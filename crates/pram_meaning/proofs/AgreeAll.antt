@@ -38,16 +38,16 @@ agree_after n g same M b a = record {
   grows = λ m f r. let e = same m in let i = a.grows (g m) f r in omega arith;
 }
 
-write_count : (c : Option ℕ) (v : ℤ) (m : State) → (after_write c v m).count ≡ m.count
+pub write_count : (c : Option ℕ) (v : ℤ) (m : State) → (after_write c v m).count ≡ m.count
 write_count None v m = refl
 write_count (Some c) v m = refl
 
-assigned_count : (x : Target) (g : Effect) (m : State) → (assigned x g m).count ≡ m.count
+pub assigned_count : (x : Target) (g : Effect) (m : State) → (assigned x g m).count ≡ m.count
 assigned_count (target.Uniform x) g m = refl
 assigned_count (target.Cell c) g m = write_count g.cell g.value m
 assigned_count (target.Element a e) g m = write_count g.cell g.value m
 
-set_count : (w : Checked) (x : StepTarget) (xs : List Part) (m : State) → (assigned_by w x xs m).count ≡ m.count
+pub set_count : (w : Checked) (x : StepTarget) (xs : List Part) (m : State) → (assigned_by w x xs m).count ≡ m.count
 set_count w (step_target.Local x) xs m = refl
 set_count w (step_target.Cell c) xs m = refl
 set_count w (step_target.Element a e) xs m = refl

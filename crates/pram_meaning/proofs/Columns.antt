@@ -28,6 +28,7 @@ use Rattle.pram_values.specs.Truth.{is_equal}
 use Rattle.pram_values.specs.declared.kind.Kind.TheVariants.{WriteConflict}
 use Rattle.write_rules.specs.Rule.{common_value, written}
 use Rattle.write_rules.specs.declared.write.Write.{Write}
+use Rattle.pram_values.proofs.TruthValues.{is_equal-true}
 
 -- ---- the last position
 
@@ -191,9 +192,6 @@ any_same r p (x ∷ xs) at =
     ∙ list_any-append (is_other r.processor) (writes_for r.cell (read_at p x.processor (trail_of x.attempt)))
     (writes_for r.cell (reads_at p xs)))
 
-equal_is : (x y : ℤ) → is_equal x y ≡ true → x ≡ y
-equal_is x y h = grind (arith, ints)
-
 equal_turned : (x y : ℤ) → is_equal x y ≡ is_equal y x
 equal_turned x y = grind (arith, ints)
 
@@ -213,7 +211,7 @@ others_by : (i x : ℤ) (w : Write) (ws : List Write) (b c : Bool) →
     is_equal i x ≡ c → (not (is_equal i x) || (is_other i w || list_any (is_other i) ws)) ≡ not
     (is_only_reader i (if b then common_value x ws else Err WriteConflict))
 others_by i x w ws true c rest e f =
-    ap (λ v. not (is_equal i x) || (not (is_equal i v) || list_any (is_other i) ws)) (sym (equal_is x w.value e))
+    ap (λ v. not (is_equal i x) || (not (is_equal i v) || list_any (is_other i) ws)) (sym (is_equal-true x w.value e))
     ∙ or_twice (not (is_equal i x)) (list_any (is_other i) ws) ∙ rest
 others_by i x w ws false true rest e f = λ j. not (f j) || (not (not_both i x w.value e f j) || list_any (is_other i) ws)
 others_by i x w ws false false rest e f = ap (λ b. not b || (is_other i w || list_any (is_other i) ws)) f

@@ -1,7 +1,7 @@
 pub use Rattle.program_runs.specs.Runs
 pub use Rattle.program_runs.specs.Headline
 pub use Rattle.program_runs.specs.Reserved
-pub use Rattle.compiling.specs.Compiled
+pub use Rattle.program_runs.specs.Compiled
 pub use Rattle.program_texts.specs.Report
 pub use Rattle.program_texts.specs.Shown
 pub use Rattle.program_texts.specs.Status

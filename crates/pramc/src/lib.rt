@@ -4,9 +4,10 @@
 
 pub use command_line::command;
 pub use command_text::Terminal;
-pub use compiling::{compile, compile_program};
 pub use exchange_counts::{Count, Counts};
-pub use program_runs::{Report, run_code, run_program, run_text, run_text_reserved};
+pub use program_runs::{
+    Report, compile, compile_program, run_code, run_program, run_text, run_text_reserved,
+};
 pub use program_texts::{
     Refusal, Status, Stop, mean_program, meaning_of_text, read_program, show, write_stop,
 };

@@ -5,26 +5,8 @@ set -eu
 top=$(cd "$(dirname "$0")/../../.." && pwd)
 . "$top/bench/lib.sh"
 bench=crates/program_runs
-# every crate below
-crates=$(python3 - "$top/crates.txt" <<'EOP'
-import sys
-
-below = {}
-for line in open(sys.argv[1]):
-    name, colon, rest = line.split("#")[0].partition(":")
-    if colon:
-        below[name.split()[0]] = rest.split()
-todo, seen = ["pramc"], set()
-while todo:
-    name = todo.pop()
-    if name in below and name not in seen:
-        seen.add(name)
-        todo += below[name]
-print(*sorted(seen))
-EOP
-)
-# shellcheck disable=SC2086
-libraries=crossbeam_utils prepare memory $crates
+# shellcheck disable=SC2046
+libraries=crossbeam_utils prepare memory $(below pramc)
 cd "$program"
 if ! rt run --jobs 1 > "$work/log" 2>&1; then
     tail -n 20 "$work/log"

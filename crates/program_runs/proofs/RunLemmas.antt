@@ -1,5 +1,6 @@
 -- A run of compiled code is the program's.
-use Rattle.std.proofs.Common.{rules, ◌≡◌, ℕ, ◌≤◌, List, length, ℤ, subst, sym, refl, Result, Ok, Err, Option, Some, None, ◌⊎◌, inl, inr, ⊎_elim, ap, IfOk, FitsSigned, w64, slice_index_or, arith, ◌<◌, pos, suc, [], ◌∷◌}
+use Rattle.std.proofs.Common.{rules, ◌≡◌, ℕ, ◌≤◌, List, length, ℤ, subst, sym, refl, Result, Ok, Err, Option, Some, None, ◌⊎◌, inl, inr}
+use Rattle.std.proofs.Common.{⊎_elim, ap, IfOk, FitsSigned, w64, slice_index_or, arith, ◌<◌, pos, suc, [], ◌∷◌}
 use Rattle.std.specs.Prelude.{IfErr}
 use Rattle.pram_model.specs.Layout.{total_size}
 use Rattle.address_map.specs.Lawful.{Shape}
@@ -16,7 +17,7 @@ use Rattle.address_map.specs.declared.fault.MapFault.{MapFault}
 use Rattle.address_map.specs.declared.fault.MapFault.TheVariants as no
 use Rattle.compiled_meaning.specs.PlainForm.{IsInputFor}
 use Rattle.compiled_meaning.specs.Supersteps.{IsFusedForm}
-use Rattle.compiling.specs.Compiled.{IsCodeOf}
+use Rattle.program_runs.specs.Compiled.{IsCodeOf}
 use Rattle.program_texts.specs.Report.{IsMeaningOf, IsProgramOf, IsRunOf}
 use Rattle.run_options.specs.Places.{IsLeastPower}
 use Rattle.run_options.specs.declared.map_choice.MapChoice.{MapChoice}
@@ -29,7 +30,8 @@ use Rattle.program_texts.specs.declared.from_text.Refusal.{Refusal}
 use Rattle.program_texts.specs.declared.from_text.Refusal.TheVariants as refusals
 use Rattle.run_options.specs.declared.reserve.Reserve.{Reserve}
 use Rattle.program_runs.specs.Runs.{IsChoice, IsCodeRun, IsCodeRefused, IsMapOf, IsNoMap, IsProgramRefused, IsProgramRun, IsRunRefused}
-use Rattle.program_runs.specs.Reserved.{IsCodeRunWith, IsProgramRunWith, IsRunByWorkersWith, IsCodeRefusedWith, IsProgramRefusedWith, IsRunRefusedWith}
+use Rattle.program_runs.specs.Reserved.{IsCodeRunWith, IsProgramRunWith, IsRunByWorkersWith, IsCodeRefusedWith, IsProgramRefusedWith}
+use Rattle.program_runs.specs.Reserved.{IsRunRefusedWith}
 
 -- the map of a choice has so many places
 places_of : (choice : MapChoice) (k p : ℕ) (m : Shape) → IsMapOf choice k p m → m.count ≡ k

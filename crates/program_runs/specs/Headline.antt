@@ -8,7 +8,7 @@ use Rattle.superstep_machine.specs.Run.{IsBspOutcome}
 use Rattle.flat_machine.specs.Flatness.{IsMapFor}
 use Rattle.pram_meaning.specs.Values.{AreValues}
 use Rattle.program_texts.specs.Report.{IsRunOf}
-use Rattle.compiling.specs.Compiled.{IsCompiledFrom}
+use Rattle.program_runs.specs.Compiled.{IsCompiledFrom}
 
 -- A verdict is the outcome of a text's code on the workers of any lawful map with a place for each cell, on an input that fits and within
 -- any bound, exactly when it is the outcome of the text's program.

@@ -9,7 +9,7 @@ use Rattle.pram_check.specs.Checked.{Checked}
 use Rattle.program_texts.specs.Report.{IsProgramOf}
 use Rattle.program_texts.specs.declared.from_text.Refusal.{Refusal}
 use Rattle.program_texts.specs.declared.from_text.Refusal.TheVariants.{OutOfReserve}
-use Rattle.compiling.specs.Compiled.{IsCodeOf}
+use Rattle.program_runs.specs.Compiled.{IsCodeOf}
 use Rattle.run_options.specs.declared.reserve.Reserve.{Reserve}
 use Rattle.workers.specs.Past.{ComesPast, StaysWithin}
 use Rattle.run_options.specs.declared.options.Options.{Options}

@@ -17,7 +17,7 @@ use Rattle.pram_tokens.specs.Plain.{IsPlain}
 use Rattle.program_texts.specs.Report.{HasBreach, HasTooFewCells, IsProgramOf, IsTextRefusal}
 use Rattle.program_texts.specs.declared.from_text.Refusal.{Refusal}
 use Rattle.program_texts.specs.declared.from_text.Refusal.TheVariants as refusal
-use Rattle.compiling.specs.Compiled.{IsCodeOf}
+use Rattle.program_runs.specs.Compiled.{IsCodeOf}
 use Rattle.run_options.specs.Places.{IsLeastPower}
 use Rattle.run_options.specs.declared.map_choice.MapChoice.{MapChoice}
 use Rattle.run_options.specs.declared.map_choice.MapChoice.TheVariants as choice
@@ -45,7 +45,8 @@ pub record AreLaidOut (cells : ℕ) (options : Options) (m : Shape) : Type 0 whe
 -- ---- the run
 
 -- Code was run by so many workers, up to that verdict and with these exchanges.
-pub record IsCodeRun (code : SuperstepCode) (input : List ℤ) (options : Options) (verdict : Verdict) (exchanges : List Exchange) : Type 0 where
+pub record IsCodeRun (code : SuperstepCode) (input : List ℤ) (options : Options) (verdict : Verdict)
+    (exchanges : List Exchange) : Type 0 where
   pub shape : Shape
   pub laid_out : AreLaidOut (total_size code.layout) options shape
   pub fits : length input ≤ total_size code.layout
@@ -53,14 +54,16 @@ pub record IsCodeRun (code : SuperstepCode) (input : List ℤ) (options : Option
   pub made : AreBspExchanges code shape input options.bound verdict exchanges
 
 -- So was the code of a program. Where the verdict is no fault there are at most as many exchanges as the program's bound says.
-pub record IsProgramRun (program : Checked) (input : List ℤ) (options : Options) (verdict : Verdict) (exchanges : List Exchange) : Type 0 where
+pub record IsProgramRun (program : Checked) (input : List ℤ) (options : Options) (verdict : Verdict)
+    (exchanges : List Exchange) : Type 0 where
   pub code : SuperstepCode
   pub is_code : IsCodeOf program code
   pub run : IsCodeRun code input options verdict exchanges
   pub few : IsFaultless verdict → length exchanges ≤ exchange_bound program input options.bound
 
 -- So was that of the accepted program of a text.
-pub record IsRunByWorkers (text : List ℕ) (input : List ℤ) (options : Options) (verdict : Verdict) (exchanges : List Exchange) : Type 0 where
+pub record IsRunByWorkers (text : List ℕ) (input : List ℤ) (options : Options) (verdict : Verdict)
+    (exchanges : List Exchange) : Type 0 where
   pub program : Checked
   pub is_program : IsProgramOf text program
   pub ran : IsProgramRun program input options verdict exchanges

@@ -7,8 +7,8 @@ ghost use Rattle.program_texts.specs.Report.{IsMeaningOf, IsProgramOf, IsRunOf};
 ghost use Rattle.program_runs.specs.Runs.{IsRunByWorkers, IsRunRefused};
 ghost use Rattle.program_runs.specs.Reserved.{IsProgramRefusedWith, IsProgramRunWith, IsRunByWorkersWith, IsRunRefusedWith};
 
+use crate::compiler::compile_program;
 use crate::on_map::run_code;
-use compiling::compile_program;
 use exchange_counts::Counts;
 use pram_check::Program;
 use pram_trees::Layout;
@@ -127,8 +127,9 @@ pub fn run_text<R: Threads + Wait + Sync, G: Gate + Sync>(
 }
 
 /// The same by workers that take all their memory before the first exchange, for so many items of output and so many exchanges. It is
-/// refused besides for E18, where nothing else speaks against it and the program's code on these workers prints more items than that, those that
-/// a fault drops counted, or has more exchanges: exactly then. That E16 comes before the first exchange is tested, and no clause says it.
+/// refused besides for E18, where nothing else speaks against it and the program's code on these workers prints more items than that,
+/// those that a fault drops counted, or has more exchanges: exactly then. That E16 comes before the first exchange is tested, and no
+/// clause says it.
 pub fn run_text_reserved<R: Threads + Wait + Sync, G: Gate + Sync>(
     rt: &R,
     alloc: Global,

@@ -1,9 +1,12 @@
-//! From the text of a PRAM program to its outcome: compiled, and run by workers in threads.
+//! Programs compiled from their texts, and run by workers in threads.
 #![tactic(auto)]
 
+pub mod code_laws;
+mod compiler;
 mod from_text;
 pub mod headline;
 mod on_map;
 
+pub use compiler::{compile, compile_program};
 pub use from_text::{Report, run_program, run_text, run_text_reserved};
 pub use on_map::run_code;

@@ -7,9 +7,7 @@ use Rattle.pram_values.specs.Total.{IsMonoid, total}
 use Rattle.pram_values.specs.Truth.{is_equal}
 use Rattle.superstep_machine.specs.Sending.{several, asks_for, is_several}
 use Rattle.statement_evaluation.proofs.Sums.{is_at}
-
-pub equal_self : (i : ℤ) → is_equal i i ≡ true
-equal_self i = grind (arith, ints)
+use Rattle.pram_values.proofs.TruthValues.{is_equal-self}
 
 pub unequal : (i j : ℤ) → i ≢ j → is_equal i j ≡ false
 unequal i j h = grind (arith, ints, h)
@@ -110,7 +108,7 @@ module _ (index : ℕ → ℤ) (cell : ℕ → Option ℕ) (c : ℕ) where
         ∙ go f (reads v) refl
       where
         here : other all v ≡ (f || some vs)
-        here = s.0 ∙ (λ i. f || ((not (equal_self (index v) i) && reads v) || other_some v vs a.0 i))
+        here = s.0 ∙ (λ i. f || ((not (is_equal-self (index v) i) && reads v) || other_some v vs a.0 i))
 
         count : (b : Bool) → reads v ≡ b → askers (v ∷ vs) ≡ several (if b then Some false else None) (askers vs)
         count b h = ap (λ x. several x (askers vs)) (asks_is (cell v) ∙ ap (λ x. if x then Some false else None) h)

@@ -21,7 +21,8 @@ use Rattle.pram_meaning.specs.Together.{parts}
 use Rattle.statement_evaluation.specs.Attempts.{TestPartsAreCut, AssignmentPartsAreCut}
 use Rattle.statement_evaluation.specs.Terms.{Term, Between, term_of, chained}
 use Rattle.statement_evaluation.specs.Whole.{Step, testing, reading, fetched, value, steps, unless_noted, upto}
-use Rattle.statement_evaluation.specs.Attempts.{ExpressionsAreWhole, ValuesAreWhole, AssignmentsAreWhole, InnerAssignmentsAreWhole, BoundsAreWhole}
+use Rattle.statement_evaluation.specs.Attempts.{ExpressionsAreWhole, ValuesAreWhole, AssignmentsAreWhole, InnerAssignmentsAreWhole}
+use Rattle.statement_evaluation.specs.Attempts.{BoundsAreWhole}
 use Rattle.statement_evaluation.specs.Attempts.{RangesAreWhole}
 
 -- one behind the other: the second is asked for where the first gives its value

@@ -27,7 +27,8 @@ use Rattle.pram_meaning.specs.Together.{on_key}
 use Rattle.statement_evaluation.specs.Terms.{Task, Gets, Writes, positions, task_positions}
 use Rattle.statement_evaluation.specs.Whole.{Whole, whole, cut}
 use Rattle.statement_evaluation.specs.Rows.{Row, rows, cut_parts, trail, AreApart}
-use Rattle.statement_evaluation.specs.Noted.{Heading, moment, notes_behind, notes, readers, read_key, reads_noted, verdict, writes_at, writes_noted}
+use Rattle.statement_evaluation.specs.Noted.{Heading, moment, notes_behind, notes, readers, read_key, reads_noted, verdict, writes_at}
+use Rattle.statement_evaluation.specs.Noted.{writes_noted}
 use Rattle.statement_evaluation.specs.Noted.{noted_in, noted}
 use Rattle.statement_evaluation.specs.LeastFaults.{told, unless_told, LeastFaultIsNoted, TogetherIsNoted, NoneDifferInKindAlone}
 use Rattle.statement_evaluation.proofs.Sums.{IsBelow, total_flat}

@@ -19,10 +19,11 @@ use Rattle.statement_evaluation.specs.Whole.{Step, Whole, unless_noted, upto, cu
 use Rattle.statement_evaluation.specs.Rows.{trail}
 use Rattle.statement_evaluation.proofs.Order.{IsOfKind}
 use Rattle.statement_evaluation.proofs.Cuts.{left, left_reads, trail_left}
-use Rattle.statement_evaluation.proofs.Askers.{IsApart, equal_self, unequal}
+use Rattle.statement_evaluation.proofs.Askers.{IsApart, unequal}
 use Rattle.statement_evaluation.proofs.WriteCells.{IsFull, full_whole, put_by}
 use Rattle.statement_evaluation.specs.Noted.{Heading}
 use Rattle.statement_evaluation.proofs.ReadColumns.{part}
+use Rattle.pram_values.proofs.TruthValues.{is_equal-self}
 
 -- ---- lists
 
@@ -78,7 +79,7 @@ module _ (h : Heading) (rule : Rule) (index : ℕ → ℤ) (w : ℕ → Whole Ef
   found : (vs : List ℕ) → IsApart index vs → AllByRecursion (λ v. failing (cut (w v)) ≡ failure vs (index v)) vs
   found [] a = tt
   found (v ∷ vs) a =
-      (sym (ap (λ b. if b then failing (cut (w v)) else failure vs (index v)) (equal_self (index v))), behind vs a.0 (found vs a.1))
+      (sym (ap (λ b. if b then failing (cut (w v)) else failure vs (index v)) (is_equal-self (index v))), behind vs a.0 (found vs a.1))
     where
       behind : (us : List ℕ) → AllByRecursion (λ u. index v ≢ index u) us →
           AllByRecursion (λ u. failing (cut (w u)) ≡ failure vs (index u)) us →

@@ -17,7 +17,7 @@ use Rattle.statement_evaluation.proofs.Cuts.{left, left_after}
 
 -- ---- positions
 
-one_more : (ss : List Step) (x : Step) (n : ℕ) → length ss ≡ n → length (ss ++ x ∷ []) ≡ n + 1
+pub one_more : (ss : List Step) (x : Step) (n : ℕ) → length ss ≡ n → length (ss ++ x ∷ []) ≡ n + 1
 one_more ss x n e = length-append ss (x ∷ []) ∙ ap (λ k. k + 1) e
 
 two_and_one : (ss us : List Step) (x : Step) (m n : ℕ) → length ss ≡ m → length us ≡ n → length (ss ++ (us ++ x ∷ [])) ≡ m + n + 1

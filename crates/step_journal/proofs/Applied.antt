@@ -1,13 +1,12 @@
 -- The difference of two stores, applied to the first, gives the second.
-use Rattle.std.proofs.Common.{◌≡◌, ℤ, Bool, true, false, ◌+◌, List, [], ◌∷◌, ◌++◌, length, set, append_assoc, if◌then◌else◌, refl, ap, sym, ◌∙◌}
+use Rattle.std.proofs.Common.{◌≡◌, ℤ, Bool, true, false, ◌+◌, List, [], ◌∷◌, ◌++◌, length, set, append_assoc, if◌then◌else◌, refl, ap, sym}
+use Rattle.std.proofs.Common.{◌∙◌}
 use Rattle.std.proofs.Common.{arith}
 use Rattle.std.proofs.lemmas.Int.{ints}
 use Rattle.pram_values.specs.Truth.{is_equal}
 use Rattle.step_entries.specs.declared.change.Change.{Change}
 use Rattle.step_journal.specs.Changes.{difference, difference_from, with_changes}
-
-equal_is : (x y : ℤ) → is_equal x y ≡ true → x ≡ y
-equal_is x y h = grind (arith, ints)
+use Rattle.pram_values.proofs.TruthValues.{is_equal-true}
 
 -- behind a beginning
 set_behind : (pre old : List ℤ) (x y : ℤ) → set (pre ++ x ∷ old) (length pre) y ≡ pre ++ y ∷ old
@@ -21,7 +20,7 @@ one_longer (z ∷ pre) y = let e = one_longer pre y in omega (arith, e)
 step_by : (pre old : List ℤ) (x y : ℤ) (ds : List Change) (b : Bool) → is_equal x y ≡ b →
     with_changes ((if b then [] else record { cell = length pre; before = x; after = y } ∷ []) ++ ds) (pre ++ x ∷ old) ≡
     with_changes ds (pre ++ y ∷ old)
-step_by pre old x y ds true e = ap (λ z. with_changes ds (pre ++ z ∷ old)) (equal_is x y e)
+step_by pre old x y ds true e = ap (λ z. with_changes ds (pre ++ z ∷ old)) (is_equal-true x y e)
 step_by pre old x y ds false e = ap (with_changes ds) (set_behind pre old x y)
 
 applied_from : (pre old new : List ℤ) → length new ≡ length old →

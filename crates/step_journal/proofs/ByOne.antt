@@ -20,7 +20,8 @@ use Rattle.pram_meaning.specs.Store.{State, printed, seen}
 use Rattle.pram_meaning.specs.Together.{after_write, alone, assigned}
 use Rattle.step_journal.specs.Acts.{alone_acts}
 use Rattle.step_journal.specs.Kept.{AtBound, Going, HaltsOne, Stopped, Tells, keep, kept, one_more}
-use Rattle.step_journal.specs.Moments.{Left, assign_moment, bounds_moment, by_one, goes_to, nowhere, one_moment, print_moment, range_moment, shown}
+use Rattle.step_journal.specs.Moments.{Left, assign_moment, bounds_moment, by_one, goes_to, nowhere, one_moment, print_moment, range_moment}
+use Rattle.step_journal.specs.Moments.{shown}
 use Rattle.step_journal.specs.Moments.{unchanged, value_moment}
 use Rattle.step_journal.specs.Telling.{Told, tell}
 use Rattle.step_journal.proofs.Kept.{halts, kept_map, then_keep}
@@ -75,7 +76,8 @@ module _ (p : Checked) (n line : ℕ) (e : Expression) (m : State) (t : Told) wh
       IsAttempt {A = ℤ} (Err why) r (attempt (seen p m) e []) → HaltsOne line r why h t late → new ≡ m →
       Tells {A = ℤ} (λ v. v) (Err h) new late (kept t (value_moment p n line e m) (found p n line e m))
   value_fails new late r (failure.Fault k) h b is l s =
-      fails_so n line nowhere unchanged (λ m. attempt (seen p m) e []) m t (λ v. v) new late r k h b is is l (ap (λ (m : State). m.output) s)
+      fails_so n line nowhere unchanged (λ m. attempt (seen p m) e []) m t (λ v. v) new late r k h b is is l
+      (ap (λ (m : State). m.output) s)
   value_fails new late r failure.OutOfMemory h b is l s =
       refused n line nowhere unchanged (λ m. attempt (seen p m) e []) m t (λ v. v) new late r h l
 
@@ -116,7 +118,8 @@ module _ (p : Checked) (n line : ℕ) (e f : Expression) (m : State) (t : Told) 
       Tells {A = ℤ × ℕ} (λ r. (r.0, r.1)) (Err h) new late
       (kept t (range_moment p n line e f m) (evaluated n line (λ m. attempt_range p.procs (seen p m) e f) m))
   range_fails new late r (failure.Fault k) h b is l s =
-      fails_so n line nowhere unchanged (λ m. attempt_range p.procs (seen p m) e f) m t {B = ℤ × ℕ} (λ r. (r.0, r.1)) new late r k h b is is l
+      fails_so n line nowhere unchanged (λ m. attempt_range p.procs (seen p m) e f) m t {B = ℤ × ℕ}
+      (λ r. (r.0, r.1)) new late r k h b is is l
       (ap (λ (m : State). m.output) s)
   range_fails new late r failure.OutOfMemory h b is l s =
       refused n line nowhere unchanged (λ m. attempt_range p.procs (seen p m) e f) m t {B = ℤ × ℕ} (λ r. (r.0, r.1)) new late r h l
@@ -124,23 +127,22 @@ module _ (p : Checked) (n line : ℕ) (e f : Expression) (m : State) (t : Told) 
 -- ---- an assignment
 
 -- it changes nothing by how many statements have run
+recounted_write : (c : Option ℕ) (v : ℤ) (m : State) → one_more (after_write c v m) ≡ after_write c v (one_more m)
+recounted_write None v m = refl
+recounted_write (Some c) v m = refl
+
 recounted : (x : Target) (g : Effect) (m : State) → one_more (assigned x g m) ≡ assigned x g (one_more m)
 recounted (target.Uniform x) g m = refl
-recounted (target.Cell a) g m = written g.cell where
-  written : (c : Option ℕ) → one_more (after_write c g.value m) ≡ after_write c g.value (one_more m)
-  written None = refl
-  written (Some c) = refl
-recounted (target.Element a e) g m = written g.cell where
-  written : (c : Option ℕ) → one_more (after_write c g.value m) ≡ after_write c g.value (one_more m)
-  written None = refl
-  written (Some c) = refl
+recounted (target.Cell a) g m = recounted_write g.cell g.value m
+recounted (target.Element a e) g m = recounted_write g.cell g.value m
 
 module _ (p : Checked) (n line : ℕ) (x : Target) (e : Expression) (m : State) (t : Told) where
   assign_is : kept t (assign_moment p n line x e m) (meaning.assign p n line x e m) ≡
       then_keep (kept t (assign_moment p n line x e m) (evaluated n line (λ m. attempt_assign (seen p m) x e) m))
       (λ g m t. Going tt (assigned x g m) t)
   assign_is =
-      kept_map t (assign_moment p n line x e m) (evaluated n line (λ m. attempt_assign (seen p m) x e) m) (λ g m. tt) (λ g m. assigned x g m)
+      kept_map t (assign_moment p n line x e m) (evaluated n line (λ m. attempt_assign (seen p m) x e) m) (λ g m. tt)
+      (λ g m. assigned x g m)
 
   pub assign_waits : n ≤ m.count → kept t (assign_moment p n line x e m) (meaning.assign p n line x e m) ≡ AtBound m.output t
   assign_waits h = rw (le-ltb m.count n h) refl
@@ -161,13 +163,15 @@ module _ (p : Checked) (n line : ℕ) (x : Target) (e : Expression) (m : State) 
   assign_fails new late r why h b is l s =
       rw assign_is
       (halts {A = rust.Effect.Effect} {C = Unit {0}} effect_is (λ u. u) h new late
-      (kept t (assign_moment p n line x e m) (evaluated n line (λ m. attempt_assign (seen p m) x e) m)) (λ g m t. Going tt (assigned x g m) t)
+      (kept t (assign_moment p n line x e m) (evaluated n line (λ m. attempt_assign (seen p m) x e) m))
+      (λ g m t. Going tt (assigned x g m) t)
       (by why is l)) where
         by : (why : Failure) → IsEffect (Err why) r (attempt_assign (seen p m) x e) → HaltsOne line r why h t late →
             Tells {A = rust.Effect.Effect} effect_is (Err h) new late
             (kept t (assign_moment p n line x e m) (evaluated n line (λ m. attempt_assign (seen p m) x e) m))
         by (failure.Fault k) is l =
-            fails_so n line goes_to (assigned x) (λ m. attempt_assign (seen p m) x e) m t {B = rust.Effect.Effect} effect_is new late r k h b is is l
+            fails_so n line goes_to (assigned x) (λ m. attempt_assign (seen p m) x e) m t {B = rust.Effect.Effect} effect_is new late r k h
+            b is is l
             (ap (λ (m : State). m.output) s)
         by failure.OutOfMemory is l =
             refused n line goes_to (assigned x) (λ m. attempt_assign (seen p m) x e) m t {B = rust.Effect.Effect} effect_is new late r h l
@@ -201,5 +205,6 @@ module _ (p : Checked) (n line : ℕ) (e : Expression) (m : State) (t : Told) wh
         by : (why : Failure) → IsAttempt {A = ℤ} (Err why) r (attempt (seen p m) e []) → HaltsOne line r why h t late →
             Tells {A = ℤ} (λ v. v) (Err h) new late (kept t (print_moment p n line e m) (found p n line e m))
         by (failure.Fault k) is l =
-            fails_so n line nowhere printed (λ m. attempt (seen p m) e []) m t (λ v. v) new late r k h b is is l (ap (λ (m : State). m.output) s)
+            fails_so n line nowhere printed (λ m. attempt (seen p m) e []) m t (λ v. v) new late r k h b is is l
+            (ap (λ (m : State). m.output) s)
         by failure.OutOfMemory is l = refused n line nowhere printed (λ m. attempt (seen p m) e []) m t (λ v. v) new late r h l

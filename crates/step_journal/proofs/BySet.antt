@@ -45,7 +45,8 @@ begins : (p : Checked) (n line : ℕ) (left : List Part → State → State) (a 
     kept t (set_moment p n line left a vs m) (attempted_on p n line a vs m) ≡
     keep (tell (by_set line left m (map part_is xs) k) t) (valued (on_key line k (map part_is xs)) (one_more m))
 begins p n line left a vs m t xs k h is e =
-    let F : List Part → Option Key → Kept (List Part) = λ ys k. keep (tell (by_set line left m ys k) t) (valued (on_key line k ys) (one_more m)) in
+    let F : List Part → Option Key → Kept (List Part) =
+    λ ys k. keep (tell (by_set line left m ys k) t) (valued (on_key line k ys) (one_more m)) in
     rw (lt-ltb m.count n h)
     (ap (λ ys. F ys (least (keys p.rule ys))) (sym is) ∙ ap (F (map part_is xs)) (sym e))
 
@@ -67,7 +68,8 @@ HaltsSet line xs k h old new =
 -- where they fault
 pub set_fails : (p : Checked) (n line : ℕ) (left : List Part → State → State) (a : View → Attempt Effect) (vs : List ℕ) (m new : State)
     (t late : Told) (xs : List part.Part.Part) (k : Key) (h : Halt) → m.count < n → parts_are p xs a vs m → least_is p xs (Some k) →
-    HaltsSet line xs k h t late → new.output ≡ m.output → Tells {A = Vec part.Part.Part Global} (λ xs. map part_is xs.items) (Err h) new late
+    HaltsSet line xs k h t late → new.output ≡ m.output →
+    Tells {A = Vec part.Part.Part Global} (λ xs. map part_is xs.items) (Err h) new late
     (kept t (set_moment p n line left a vs m) (attempted_on p n line a vs m))
 set_fails p n line left a vs m new t late xs k (halt.Fault g) h is e l s =
     begins p n line left a vs m t xs (Some k) h is e ∙ ap (Stopped (fault_on line k) m.output) (sym l.1)
@@ -90,7 +92,8 @@ pub test_goes : (p : Checked) (n line : ℕ) (e : Expression) (vs : List ℕ) (m
     kept t (test_moment p n line e vs m) (tested_on p n line e vs m) ≡ Going (map part_is xs) new late
 test_goes p n line e vs m mid new t half late xs k h is j none a b l s =
     set_gives p n line unchanged (λ s. attempt_value s e) vs m new t late xs h is (sym none ∙ j)
-    (l ∙ ap (λ m. tell (Left line (map act_of (map part_is xs)) (shown m)) half) a ∙ ap (tell (Left line (map act_of (map part_is xs)) (shown m))) b)
+    (l ∙ ap (λ m. tell (Left line (map act_of (map part_is xs)) (shown m)) half) a
+    ∙ ap (tell (Left line (map act_of (map part_is xs)) (shown m))) b)
     (s ∙ ap one_more a)
 
 pub test_fails : (p : Checked) (n line : ℕ) (e : Expression) (vs : List ℕ) (m mid new : State) (t half late : Told)
@@ -175,7 +178,8 @@ cells_told p line x xs acts real cells variables items before after m mid new t 
     let old : State = assigned_by p x xs m in
     let same = only_cells p x xs m in
     entry_told line acts cells variables items (shown old) t late e (l ∙ ap shown (u ∙ ap one_more s))
-    (d ∙ ap (λ xs. difference xs after) (b ∙ ap (λ (s : Shown). s.cells) (sym n)) ∙ ap (difference t.now.cells) (f ∙ ap (λ (m : State). m.cells) s))
+    (d ∙ ap (λ xs. difference xs after) (b ∙ ap (λ (s : Shown). s.cells) (sym n))
+    ∙ ap (difference t.now.cells) (f ∙ ap (λ (m : State). m.cells) s))
     (v ∙ sym (nothing_from 0 m.uniforms) ∙ ap (λ (s : Shown). difference s.uniforms m.uniforms) (sym n)
     ∙ ap (difference t.now.uniforms) same.0)
     (o ∙ sym (no_gain m.output) ∙ ap (λ (s : Shown). drop (length s.output) m.output) (sym n)

@@ -1,5 +1,6 @@
 -- A run's entries are its time steps, one by one, and its fault is the last of them.
-use Rattle.std.proofs.Common.{◌≡◌, ℕ, zero, suc, ◌+◌, ℤ, pos, ◌+ℤ◌, List, [], ◌∷◌, ◌++◌, Bool, true, false, Option, Some, None, if◌then◌else◌}
+use Rattle.std.proofs.Common.{◌≡◌, ℕ, zero, suc, ◌+◌, ℤ, pos, ◌+ℤ◌, List, [], ◌∷◌, ◌++◌, Bool, true, false, Option, Some, None}
+use Rattle.std.proofs.Common.{if◌then◌else◌}
 use Rattle.std.proofs.Common.{append_assoc, append-nil, arith, length, map, nat_lt, refl, ap, sym, ◌∙◌, subst}
 use Rattle.std.specs.List.{AllByRecursion, sum_by}
 use Rattle.std.proofs.lemmas.List.{map-append}
@@ -20,7 +21,8 @@ use Rattle.pram_meaning.specs.declared.key.Key.{Key}
 use Rattle.pram_meaning.specs.Attempt as trying
 use Rattle.pram_meaning.specs.Attempt.{Attempt, Effect, Fails, Trail, attempt, attempt_assign, attempt_bounds, attempt_range, attempt_step}
 use Rattle.pram_meaning.specs.Attempt.{attempt_value}
-use Rattle.pram_meaning.specs.Bounded.{Behaviour, Done, Goes, Reaches, Stops, attempted_on, counted, evaluated, for_turns, found, pardo_done}
+use Rattle.pram_meaning.specs.Bounded.{Behaviour, Done, Goes, Reaches, Stops, attempted_on, counted, evaluated, for_turns, found}
+use Rattle.pram_meaning.specs.Bounded.{pardo_done}
 use Rattle.pram_meaning.specs.Bounded.{perform, perform_list, perform_list_on, perform_on, perform_row, perform_row_on, tested, tested_on}
 use Rattle.pram_meaning.specs.Bounded.{then_do, turns, turns_on, unless_none, valued}
 use Rattle.pram_meaning.specs.Bounded as meaning
@@ -38,7 +40,8 @@ use Rattle.step_journal.specs.Kept.{one_more}
 use Rattle.step_journal.specs.Meeting.{meeting}
 use Rattle.step_journal.specs.Moments.{Fell, Left, Moment, Shown, assign_moment, behind, bounds_moment, by_one, by_set, for_turns_moments}
 use Rattle.step_journal.specs.Moments.{if_any, inner_list_moments, inner_moments, inner_row_moments, list_moments, moments}
-use Rattle.step_journal.specs.Moments.{nowhere, goes_to, one_moment, print_moment, range_moment, row_moments, run_moments, set_assign_moment, set_moment}
+use Rattle.step_journal.specs.Moments.{nowhere, goes_to, one_moment, print_moment, range_moment, row_moments, run_moments}
+use Rattle.step_journal.specs.Moments.{set_assign_moment, set_moment}
 use Rattle.step_journal.specs.Moments.{setting_moment, shown, test_moment, turns_moments, turns_on_moments, value_moment}
 use Rattle.step_journal.proofs.Sound.{done}
 use Rattle.work_time.specs.declared.time_step.TimeStep.{TimeStep}
@@ -58,7 +61,8 @@ HasLeft (Left line acts new) = Unit {0}
 HasLeft (Fell fault acts met) = ⊥
 
 abbrev EndsFallen : Fault → List Moment → Type 0
-EndsFallen k ms = (before : List Moment) × (acts : List Act) × (met : List ℤ) × AllByRecursion HasLeft before × (ms ≡ before ++ Fell k acts met ∷ [])
+EndsFallen k ms = (before : List Moment) × (acts : List Act) × (met : List ℤ) × AllByRecursion HasLeft before ×
+    (ms ≡ before ++ Fell k acts met ∷ [])
 
 abbrev Falls : {A : Type 0} → List Moment → Behaviour A → Type 0
 Falls ms (Goes a m) = AllByRecursion HasLeft ms
@@ -161,7 +165,8 @@ module _ {A : Type 0} (n line : ℕ) (write : A → Option ℕ) (left : A → St
     falls = ([], alone_acts (front (length t) t) None, [], tt, refl);
   }
 
-  one_by : (b : Bool) → IsCosted (if b then by_one line write left m (a m) ∷ [] else []) (if b then cost.by_one line writes (a m) ∷ [] else [])
+  one_by : (b : Bool) → IsCosted (if b then by_one line write left m (a m) ∷ [] else [])
+      (if b then cost.by_one line writes (a m) ∷ [] else [])
       (then_do (if b then Goes done (one_more m) else Reaches m.output) (λ u m. valued (alone line (a m)) m))
   one_by true =
       subst (λ y. IsCosted (by_one line write left m (a m) ∷ []) (cost.by_one line writes (a m) ∷ []) (valued (alone line y) (one_more m)))
@@ -172,7 +177,8 @@ module _ {A : Type 0} (n line : ℕ) (write : A → Option ℕ) (left : A → St
   one_costed = one_by (nat_lt m.count n)
 
 assign_costed : (p : Checked) (n line : ℕ) (x : Target) (e : Expression) (m : State) →
-    IsCosted (assign_moment p n line x e m) (one_step n line effect_writes (λ m. attempt_assign (seen p m) x e) m) (meaning.assign p n line x e m)
+    IsCosted (assign_moment p n line x e m) (one_step n line effect_writes (λ m. attempt_assign (seen p m) x e) m)
+    (meaning.assign p n line x e m)
 assign_costed p n line x e m =
     cost_map (assign_moment p n line x e m) (one_step n line effect_writes (λ m. attempt_assign (seen p m) x e) m)
     (evaluated n line (λ m. attempt_assign (seen p m) x e) m) (λ g m. done) (λ g m. assigned x g m)
@@ -384,7 +390,8 @@ module _ (p : Checked) (n : ℕ) where
         (cost.row_steps p n body) (perform_row p n body) (λ m. tested_costed line e m) (λ m. row_costed body m) m
     costed (If' line e q a r b) m =
         cost_then (value_moment p n line e m) (value_step p n line e m) (tested p n line e m)
-        (λ z m. if z then row_moments p n a m else row_moments p n b m) (λ z m. if z then cost.row_steps p n a m else cost.row_steps p n b m)
+        (λ z m. if z then row_moments p n a m else row_moments p n b m)
+        (λ z m. if z then cost.row_steps p n a m else cost.row_steps p n b m)
         (λ z m. if z then perform_row p n a m else perform_row p n b m) (tested_costed line e m)
         (λ z m. either z (row_moments p n a m) (row_moments p n b m) (cost.row_steps p n a m) (cost.row_steps p n b m)
         (perform_row p n a m) (perform_row p n b m) (row_costed a m) (row_costed b m))
@@ -457,6 +464,7 @@ pub told_steps : (p : Checked) (input : List ℤ) (n : ℕ) (es : List Entry) �
     map step_of es ≡ cost.run_steps p input n
 told_steps p input n es e = ap (map step_of) e ∙ entries_are_time_steps p input n
 
-pub told_last : (p : Checked) (input : List ℤ) (n : ℕ) (v : Verdict) (es : List Entry) → IsOutcome p input n v → es ≡ run_entries p input n →
+pub told_last : (p : Checked) (input : List ℤ) (n : ℕ) (v : Verdict) (es : List Entry) → IsOutcome p input n v →
+    es ≡ run_entries p input n →
     HasItsFault v es
 told_last p input n v es is e = subst (HasItsFault v) (sym e) (the_fault_is_last p input n v is)

@@ -1,5 +1,6 @@
 -- Parts of a run with what is counted of them: each is made of its parts.
-use Rattle.std.proofs.Common.{if◌then◌else◌, Bool, true, false, ◌≡◌, ℕ, suc, ℤ, pos, ◌+ℤ◌, List, [], ◌∷◌, ◌++◌, refl, ap, sym, ◌∙◌, Global, Vec}
+use Rattle.std.proofs.Common.{if◌then◌else◌, Bool, true, false, ◌≡◌, ℕ, suc, ℤ, pos, ◌+ℤ◌, List, [], ◌∷◌, ◌++◌, refl, ap, sym, ◌∙◌, Global}
+use Rattle.std.proofs.Common.{Vec}
 use Rattle.pram_check.specs.Checked.{Checked}
 use Rattle.pram_names.specs.declared.body.Expression.{Expression}
 use Rattle.pram_names.specs.declared.body.Statement.{Row_of-Statement, Statement, end_of-Statement, items-the_row-Statement}
@@ -8,14 +9,16 @@ use Rattle.pram_names.specs.declared.body.Statement.TheBlock.{hidden-the_row-Sta
 use Rattle.pram_names.specs.declared.body.Step.{Row_of-Step, Step, end_of-Step, items-the_row-Step, items_hidden-the_row-Step-0}
 use Rattle.pram_names.specs.declared.body.Step.{more_of-Step}
 use Rattle.pram_names.specs.declared.body.Step.TheBlock.{hidden-the_row-Step-0}
-use Rattle.pram_meaning.specs.Bounded.{Done, Goes, Reaches, Stops, counted, perform, perform_list, perform_list_on, perform_on, tested, tested_on}
+use Rattle.pram_meaning.specs.Bounded.{Done, Goes, Reaches, Stops, counted, perform, perform_list, perform_list_on, perform_on, tested}
+use Rattle.pram_meaning.specs.Bounded.{tested_on}
 use Rattle.pram_meaning.specs.Bounded.{then_do, turns, turns_on, unless_none, for_turns}
 use Rattle.pram_meaning.specs.Conflict.{Part}
 use Rattle.pram_meaning.specs.Store.{State, with_uniform}
 use Rattle.pram_meaning.specs.Together.{those}
 use Rattle.step_journal.specs.Kept.{Going, Kept, kept, setting}
 use Rattle.step_journal.specs.Moments.{Moment, behind, for_turns_moments, if_any, inner_list_moments, inner_row_moments, inner_moments}
-use Rattle.step_journal.specs.Moments.{list_moments, row_moments, moments, setting_moment, test_moment, turns_on_moments, turns_moments, value_moment}
+use Rattle.step_journal.specs.Moments.{list_moments, row_moments, moments, setting_moment, test_moment, turns_on_moments, turns_moments}
+use Rattle.step_journal.specs.Moments.{value_moment}
 use Rattle.step_journal.specs.Telling.{Told}
 use Rattle.step_journal.proofs.Kept.{kept_then, then_keep}
 
@@ -111,7 +114,8 @@ turns_are p n line e body k m t =
 
 abbrev pub told_turns_on : Checked → (n line : ℕ) → Expression → List Step → ℕ → List ℕ → State → Told → Kept (Unit {0})
 told_turns_on p n line e body k vs m t =
-    kept t (turns_on_moments k (test_moment p n line e) (tested_on p n line e) (inner_list_moments p n body) (perform_list_on p n body) vs m)
+    kept t (turns_on_moments k (test_moment p n line e) (tested_on p n line e) (inner_list_moments p n body)
+    (perform_list_on p n body) vs m)
     (turns_on k (tested_on p n line e) (perform_list_on p n body) vs m)
 
 -- what follows a test, by those that go on
@@ -129,7 +133,8 @@ turn_on_is : (p : Checked) (n line : ℕ) (e : Expression) (body : List Step) (k
 turn_on_is p n line e body k [] m t = refl
 turn_on_is p n line e body k (v ∷ vs) m t =
     kept_then t (inner_list_moments p n body (v ∷ vs) m) (perform_list_on p n body (v ∷ vs) m)
-    (λ u. turns_on_moments k (test_moment p n line e) (tested_on p n line e) (inner_list_moments p n body) (perform_list_on p n body) (v ∷ vs))
+    (λ u. turns_on_moments k (test_moment p n line e) (tested_on p n line e) (inner_list_moments p n body) (perform_list_on p n body)
+    (v ∷ vs))
     (λ u. turns_on k (tested_on p n line e) (perform_list_on p n body) (v ∷ vs))
 
 pub turns_on_are : (p : Checked) (n line : ℕ) (e : Expression) (body : List Step) (k : ℕ) (vs : List ℕ) (m : State) (t : Told) →
@@ -173,7 +178,8 @@ for_turns_are p n line k x a body m t =
     (λ u m. list_moments p n body (with_uniform x a m) ++ behind (perform_list p n body (with_uniform x a m))
     (λ u. for_turns_moments n line k x (a +ℤ pos 1) (list_moments p n body) (perform_list p n body)))
     (λ u m. then_do (perform_list p n body (with_uniform x a m)) (λ u. for_turns n k x (a +ℤ pos 1) (perform_list p n body)))
-    ∙ ap (then_keep (kept t (setting_moment n line x a m) (counted n m))) (λ j u m t. kept_then t (list_moments p n body (with_uniform x a m))
+    ∙ ap (then_keep (kept t (setting_moment n line x a m) (counted n m)))
+    (λ j u m t. kept_then t (list_moments p n body (with_uniform x a m))
     (perform_list p n body (with_uniform x a m))
     (λ u. for_turns_moments n line k x (a +ℤ pos 1) (list_moments p n body) (perform_list p n body))
     (λ u. for_turns n k x (a +ℤ pos 1) (perform_list p n body)) j)

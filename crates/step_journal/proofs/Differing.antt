@@ -1,5 +1,6 @@
 -- The difference of two stores on its way, and of stores that differ in one cell at most.
-use Rattle.std.proofs.Common.{◌≡◌, ℕ, ℤ, pos, zero, suc, Bool, true, false, ◌+◌, ◌<◌, ◌≤◌, min, List, [], ◌∷◌, ◌++◌, drop, length, get_or, set}
+use Rattle.std.proofs.Common.{◌≡◌, ℕ, ℤ, pos, zero, suc, Bool, true, false, ◌+◌, ◌<◌, ◌≤◌, min, List, [], ◌∷◌, ◌++◌, drop, length, get_or}
+use Rattle.std.proofs.Common.{set}
 use Rattle.std.proofs.Common.{append_assoc, append-nil, if◌then◌else◌, nat_le, refl, ap, sym, ◌∙◌, arith}
 use Rattle.std.proofs.lemmas.Bool.{leb-true, leb-false}
 use Rattle.std.proofs.lemmas.Int.{ints}
@@ -7,6 +8,7 @@ use Rattle.std.proofs.lemmas.List.{drop_more, drop_all}
 use Rattle.pram_values.specs.Truth.{is_equal}
 use Rattle.step_entries.specs.declared.change.Change.{Change}
 use Rattle.step_journal.specs.Changes.{change_at, difference, difference_from}
+use Rattle.pram_values.proofs.TruthValues.{is_equal-self}
 
 pub record InDifference (old new : List ℤ) (i : ℕ) (now : List Change) : Type 0 where
   pub same : difference old new ≡ now ++ difference_from i (drop i old) (drop i new)
@@ -46,11 +48,8 @@ all_end old new i count now b h c =
 
 -- ---- one cell
 
-equal_self : (x : ℤ) → is_equal x x ≡ true
-equal_self x = grind (arith, ints)
-
 no_change : (c : ℕ) (x : ℤ) → change_at c x x ≡ []
-no_change c x = ap (λ b. if b then [] else record { cell = c; before = x; after = x } ∷ []) (equal_self x)
+no_change c x = ap (λ b. if b then [] else record { cell = c; before = x; after = x } ∷ []) (is_equal-self x)
 
 -- nothing differs
 pub nothing_from : (c : ℕ) (cells : List ℤ) → difference_from c cells cells ≡ []
@@ -80,5 +79,6 @@ one_inside cells c v x now new h u e f =
     f ∙ ap (λ ds. ds ++ change_at c x v) e ∙ ap (λ x. change_at c x v) u
     ∙ ap (λ k. change_at k (get_or cells c (pos 0)) v) (let i : c ≡ 0 + c = omega arith in i) ∙ sym (one_from 0 c cells v h)
 
-pub one_outside : (cells : List ℤ) (c : ℕ) (v : ℤ) (now : List Change) → length cells ≤ c → now ≡ [] → now ≡ difference cells (set cells c v)
+pub one_outside : (cells : List ℤ) (c : ℕ) (v : ℤ) (now : List Change) → length cells ≤ c → now ≡ [] →
+    now ≡ difference cells (set cells c v)
 one_outside cells c v now h e = e ∙ sym (none_from 0 c cells v h)

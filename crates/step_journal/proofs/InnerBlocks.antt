@@ -126,7 +126,8 @@ if_arm w n line s e a b vs m t is =
     (λ j xs m t. both_parts w n a.items b.items (those true xs) (those false xs) m t j)
 
 pub if_halts : (w : Checked) (n line : ℕ) (s : Step) (e : Expression) (a b : Vec Step Global) (vs : List ℕ) (m new : State)
-    (t late : Told) (h : Halt) → s ≡ step.If line e a b → Tells {A = Vec part.Part.Part Global} (λ xs. map part_is xs.items) (Err h) new late
+    (t late : Told) (h : Halt) → s ≡ step.If line e a b →
+    Tells {A = Vec part.Part.Part Global} (λ xs. map part_is xs.items) (Err h) new late
     (told_test_on w n line e vs m t) → Tells {A = Unit {0}} (λ u. u) (Err h) new late (told_on w n s vs m t)
 if_halts w n line s e a b vs m new t late h is f =
     rw (if_arm w n line s e a b vs m t is)

@@ -1,5 +1,6 @@
 -- A set's loop on its way, counted.
-use Rattle.std.proofs.Common.{◌≡◌, ℕ, ℤ, true, List, [], ◌∷◌, zero, suc, ◌+◌, ◌<◌, ◌≤◌, refl, ap, sym, ◌∙◌, length, Err, arith, Global, Vec, map}
+use Rattle.std.proofs.Common.{◌≡◌, ℕ, ℤ, true, List, [], ◌∷◌, zero, suc, ◌+◌, ◌<◌, ◌≤◌, refl, ap, sym, ◌∙◌, length, Err, arith, Global, Vec}
+use Rattle.std.proofs.Common.{map}
 use Rattle.std.proofs.lemmas.Bool.{le-ltb}
 use Rattle.pram_meaning.specs.declared.part as part
 use Rattle.pram_meaning.specs.declared.run.Halt.{Halt}

@@ -79,7 +79,8 @@ halts_at (halt.Fault k) new late out t b at e = cc
 halts_at halt.Bound new late out t b at e = cc
 halts_at halt.OutOfMemory new late out t b at e = tt
 
-test_halts_at : (w : Checked) (n line : ℕ) (e : Expression) (body : List Statement) (now new : State) (till late : Told) (x : Halt) (k : ℕ) →
+test_halts_at : (w : Checked) (n line : ℕ) (e : Expression) (body : List Statement) (now new : State) (till late : Told) (x : Halt)
+    (k : ℕ) →
     n ≤ k + now.count → Tells {A = Bool} (λ b. b) (Err x) new late (told_test w n line e now till) →
     Tells {A = Unit {0}} (λ u. u) (Err x) new late (told_turns w n line e body k now till)
 test_halts_at w n line e body now new till late x zero h t =

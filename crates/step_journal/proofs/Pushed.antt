@@ -1,5 +1,6 @@
 -- What is told, with one entry more.
-use Rattle.std.proofs.Common.{◌≡◌, ℕ, ℤ, List, [], ◌∷◌, ◌++◌, append-nil, Vec, Global, map, drop, length, set as slice_set, refl, ap, sym, ◌∙◌}
+use Rattle.std.proofs.Common.{◌≡◌, ℕ, ℤ, List, [], ◌∷◌, ◌++◌, append-nil, Vec, Global, map, drop, length, set as slice_set, refl, ap, sym}
+use Rattle.std.proofs.Common.{◌∙◌}
 use Rattle.write_rules.specs.declared.fault.Fault.{Fault}
 use Rattle.pram_meaning.specs.Store.{State, printed, with_cell, with_uniform}
 use Rattle.step_entries.specs.declared.act as act
@@ -43,12 +44,14 @@ entry_told line acts cells variables items after t late e s c v o = λ j. record
   now = s j;
 }
 
-pub passed : (line : ℕ) (acts : List Act) (cells variables : List Change) (items : List ℤ) (old new : Journal) → cells ≡ [] → variables ≡ [] →
+pub passed : (line : ℕ) (acts : List Act) (cells variables : List Change) (items : List ℤ) (old new : Journal) → cells ≡ [] →
+    variables ≡ [] →
     items ≡ [] → map entry_is new.entries.items ≡ map entry_is old.entries.items ++ Ran line acts cells variables items ∷ [] →
     state_of new ≡ one_more (state_of old) → told_of new ≡ tell (Left line acts (shown (state_of old))) (told_of old)
 passed line acts cells variables items old new c v o e s =
     entry_told line acts cells variables items (shown (state_of old)) (told_of old) (told_of new) e (ap shown s)
-    (c ∙ sym (nothing_from 0 old.run.cells.items)) (v ∙ sym (nothing_from 0 old.run.uniforms.items)) (o ∙ sym (no_gain old.run.output.items))
+    (c ∙ sym (nothing_from 0 old.run.cells.items)) (v ∙ sym (nothing_from 0 old.run.uniforms.items))
+    (o ∙ sym (no_gain old.run.output.items))
 
 pub fault_pushed : (k : Fault) (acts : Vec act.Act.Act Global) (met : Vec ℤ Global) (old new : Journal) →
     new.entries.items ≡ old.entries.items ++ variant.Faulted k acts met ∷ [] → state_of new ≡ state_of old →
@@ -64,9 +67,11 @@ fault_pushed k acts met old new e s = λ j. record {
 pub left_so : (mid new m : State) → mid ≡ m → new ≡ one_more mid → new ≡ one_more m
 left_so mid new m e s = s ∙ ap one_more e
 
-pub cell_told : (line c : ℕ) (a : ℤ) (acts : List Act) (cells variables : List Change) (items : List ℤ) (m mid new : State) (t late : Told) →
+pub cell_told : (line c : ℕ) (a : ℤ) (acts : List Act) (cells variables : List Change) (items : List ℤ) (m mid new : State)
+    (t late : Told) →
     t.now ≡ shown m → cells ≡ difference m.cells (slice_set m.cells c a) → variables ≡ [] → items ≡ [] →
-    late.entries ≡ t.entries ++ Ran line acts cells variables items ∷ [] → mid ≡ with_cell c a m → new ≡ one_more mid → late.now ≡ shown new →
+    late.entries ≡ t.entries ++ Ran line acts cells variables items ∷ [] → mid ≡ with_cell c a m → new ≡ one_more mid →
+    late.now ≡ shown new →
     late ≡ tell (Left line acts (shown (with_cell c a m))) t
 cell_told line c a acts cells variables items m mid new t late n d v o e s u l =
     entry_told line acts cells variables items (shown (with_cell c a m)) t late e (l ∙ ap shown (u ∙ ap one_more s))
@@ -74,9 +79,11 @@ cell_told line c a acts cells variables items m mid new t late n d v o e s u l =
     (v ∙ sym (nothing_from 0 m.uniforms) ∙ ap (λ (s : Shown). difference s.uniforms m.uniforms) (sym n))
     (o ∙ sym (no_gain m.output) ∙ ap (λ (s : Shown). drop (length s.output) m.output) (sym n))
 
-pub variable_told : (line x : ℕ) (a : ℤ) (acts : List Act) (cells variables : List Change) (items : List ℤ) (m mid new : State) (t late : Told) →
+pub variable_told : (line x : ℕ) (a : ℤ) (acts : List Act) (cells variables : List Change) (items : List ℤ) (m mid new : State)
+    (t late : Told) →
     t.now ≡ shown m → cells ≡ [] → variables ≡ difference m.uniforms (slice_set m.uniforms x a) → items ≡ [] →
-    late.entries ≡ t.entries ++ Ran line acts cells variables items ∷ [] → mid ≡ with_uniform x a m → new ≡ one_more mid → late.now ≡ shown new →
+    late.entries ≡ t.entries ++ Ran line acts cells variables items ∷ [] → mid ≡ with_uniform x a m → new ≡ one_more mid →
+    late.now ≡ shown new →
     late ≡ tell (Left line acts (shown (with_uniform x a m))) t
 variable_told line x a acts cells variables items m mid new t late n d v o e s u l =
     entry_told line acts cells variables items (shown (with_uniform x a m)) t late e (l ∙ ap shown (u ∙ ap one_more s))

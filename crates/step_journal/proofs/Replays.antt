@@ -1,5 +1,6 @@
 -- The changes that are told of a run, applied in order, give its memory, and its items, joined, its output.
-use Rattle.std.proofs.Common.{◌≡◌, ℕ, ℤ, pos, ◌+ℤ◌, zero, suc, Bool, true, false, ◌+◌, List, [], ◌∷◌, ◌++◌, length, if◌then◌else◌, nat_lt, refl, map}
+use Rattle.std.proofs.Common.{◌≡◌, ℕ, ℤ, pos, ◌+ℤ◌, zero, suc, Bool, true, false, ◌+◌, List, [], ◌∷◌, ◌++◌, length, if◌then◌else◌, nat_lt}
+use Rattle.std.proofs.Common.{refl, map}
 use Rattle.std.proofs.Common.{ap, sym, ◌∙◌, subst, append_assoc, append-nil, Option, Some, None}
 use Rattle.std.proofs.lemmas.List.{length-set}
 use Rattle.pram_model.specs.Layout.{width}
@@ -35,16 +36,21 @@ use Rattle.pram_meaning.specs.Together.{after_write, alone, assigned, assigned_b
 use Rattle.pram_meaning.proofs.OneOutcome.{outcome_is_computed}
 use Rattle.step_entries.specs.Entries.{Act, Entry, Faulting}
 use Rattle.step_journal.specs.Acts.{act_before, act_of, alone_acts, front}
-use Rattle.step_journal.specs.Entries.{ChangesGiveTheMemory, HasMemory, ItemsGiveTheOutput, entries_from, items_of, output_of, replay, run_entries}
+use Rattle.step_journal.specs.Entries.{ChangesGiveTheMemory, HasMemory, ItemsGiveTheOutput, entries_from, items_of, output_of, replay}
+use Rattle.step_journal.specs.Entries.{run_entries}
 use Rattle.step_journal.specs.Kept.{one_more, setting}
 use Rattle.step_journal.specs.Meeting.{meeting}
-use Rattle.step_journal.specs.Moments.{Fell, Left, Moment, assign_moment, behind, bounds_moment, by_one, by_set, fault_on, for_turns_moments}
-use Rattle.step_journal.specs.Moments.{goes_to, if_any, inner_list_moments, inner_moments, inner_row_moments, list_moments, moments, nowhere}
+use Rattle.step_journal.specs.Moments.{Fell, Left, Moment, assign_moment, behind, bounds_moment, by_one, by_set, fault_on}
+use Rattle.step_journal.specs.Moments.{for_turns_moments}
+use Rattle.step_journal.specs.Moments.{goes_to, if_any, inner_list_moments, inner_moments, inner_row_moments, list_moments, moments}
+use Rattle.step_journal.specs.Moments.{nowhere}
 use Rattle.step_journal.specs.Moments.{one_moment, print_moment, range_moment, row_moments, run_moments, set_assign_moment, setting_moment}
 use Rattle.step_journal.specs.Moments.{shown, test_moment, turns_moments, turns_on_moments, unchanged, value_moment}
 use Rattle.step_journal.specs.Telling.{Told, ran, tell, tell_all}
-use Rattle.step_journal.proofs.Sound.{Gives, IsSound, done, fell_sound, left_sound, left_stop, none_sound, same_sound, sound_map, sound_then}
+use Rattle.step_journal.proofs.Sound.{Gives, IsSound, done, fell_sound, left_sound, left_stop, none_sound, same_sound, sound_map}
+use Rattle.step_journal.proofs.Sound.{sound_then}
 use Rattle.step_journal.proofs.Sound.{stop_sound, wait_sound}
+use Rattle.pram_meaning.proofs.Overwrites.{length_over}
 
 -- ---- a statement of one processor
 
@@ -119,10 +125,6 @@ assign_sound p n line x e m = by (nat_lt m.count n) where
 
 -- ---- a statement of a set
 
-overwritten_many : (rule : Rule) (xs : List Part) (c : ℕ) (cells : List ℤ) → length (overwritten rule xs c cells) ≡ length cells
-overwritten_many rule xs c [] = refl
-overwritten_many rule xs c (old ∷ cells) = ap suc (overwritten_many rule xs (c + 1) cells)
-
 tested_on_sound : (p : Checked) (n line : ℕ) (e : Expression) (vs : List ℕ) (m : State) →
     IsSound m (test_moment p n line e vs m) (tested_on p n line e vs m)
 tested_on_sound p n line e vs m = by (nat_lt m.count n) where
@@ -143,9 +145,9 @@ assigned_by_sound : (p : Checked) (line : ℕ) (acts : List Act) (x : StepTarget
     IsSound {A = Unit {0}} m (Left line acts (shown (assigned_by p x ys m)) ∷ []) (Goes done (assigned_by p x ys (one_more m)))
 assigned_by_sound p line acts (inner.Local x) ys m = same_sound m (assigned_by p (inner.Local x) ys (one_more m)) line acts done refl refl
 assigned_by_sound p line acts (inner.Cell a) ys m =
-    same_sound m (assigned_by p (inner.Cell a) ys (one_more m)) line acts done (overwritten_many p.rule ys 0 m.cells) refl
+    same_sound m (assigned_by p (inner.Cell a) ys (one_more m)) line acts done (length_over p.rule ys 0 m.cells) refl
 assigned_by_sound p line acts (inner.Element a e) ys m =
-    same_sound m (assigned_by p (inner.Element a e) ys (one_more m)) line acts done (overwritten_many p.rule ys 0 m.cells) refl
+    same_sound m (assigned_by p (inner.Element a e) ys (one_more m)) line acts done (length_over p.rule ys 0 m.cells) refl
 
 assign_on_sound : (p : Checked) (n line : ℕ) (x : StepTarget) (e : Expression) (vs : List ℕ) (m : State) →
     IsSound m (set_assign_moment p n line x e vs m) (assign_on p n line x e vs m)
@@ -366,11 +368,13 @@ items_give_the_output p input n v is =
     ∙ ap output_of (sym ((outcome_is_computed p input n v).0 is))
 
 -- the same where the entries are those that were told
-pub told_memory : (p : Checked) (input : List ℤ) (n : ℕ) (v : Verdict) (es : List Entry) → IsOutcome p input n v → es ≡ run_entries p input n →
+pub told_memory : (p : Checked) (input : List ℤ) (n : ℕ) (v : Verdict) (es : List Entry) → IsOutcome p input n v →
+    es ≡ run_entries p input n →
     HasMemory v (replay es (opening p input).cells)
 told_memory p input n v es is e =
     subst (λ es. HasMemory v (replay es (opening p input).cells)) (sym e) (changes_give_the_memory p input n v is)
 
-pub told_output : (p : Checked) (input : List ℤ) (n : ℕ) (v : Verdict) (es : List Entry) → IsOutcome p input n v → es ≡ run_entries p input n →
+pub told_output : (p : Checked) (input : List ℤ) (n : ℕ) (v : Verdict) (es : List Entry) → IsOutcome p input n v →
+    es ≡ run_entries p input n →
     items_of es ≡ output_of v
 told_output p input n v es is e = ap items_of e ∙ items_give_the_output p input n v is

@@ -26,7 +26,8 @@ pub record Gives (cells : List ℤ) (t : Told) (s : Shown) : Type 0 where
 -- where what was told before a part of a run gives the state there, what is told of it too gives the state behind it, or the output, and
 -- there are as many cells as before
 abbrev pub IsSound : {A : Type 0} → State → List Moment → Behaviour A → Type 0
-IsSound m ms (Goes a new) = (length new.cells ≡ length m.cells) × ((c : List ℤ) (t : Told) → Gives c t (shown m) → Gives c (tell_all ms t) (shown new))
+IsSound m ms (Goes a new) = (length new.cells ≡ length m.cells) ×
+    ((c : List ℤ) (t : Told) → Gives c t (shown m) → Gives c (tell_all ms t) (shown new))
 IsSound m ms (Stops k out) = (c : List ℤ) (t : Told) → Gives c t (shown m) → items_of (tell_all ms t).entries ≡ out
 IsSound m ms (Reaches out) = (c : List ℤ) (t : Told) → Gives c t (shown m) → items_of (tell_all ms t).entries ≡ out
 

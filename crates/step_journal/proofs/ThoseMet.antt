@@ -61,7 +61,8 @@ readers_are at c (x ∷ xs) h =
 
 -- ---- the writers of a cell
 
-writer_to : (c : ℕ) (i : ℤ) (o : Option ℕ) (v : ℤ) → (if is_cell c o then i ∷ [] else []) ≡ map (λ (w : Write). w.processor) (write_to c i o v)
+writer_to : (c : ℕ) (i : ℤ) (o : Option ℕ) (v : ℤ) →
+    (if is_cell c o then i ∷ [] else []) ≡ map (λ (w : Write). w.processor) (write_to c i o v)
 writer_to c i None v = refl
 writer_to c i (Some d) v = by (nat_eq c d) where
   by : (b : Bool) → (if b then i ∷ [] else []) ≡
@@ -119,7 +120,8 @@ many r rs = length (flat_map (reader_at r.at r.cell) rs)
 has : (r : Read) (rs : List Read) (k : ℕ) → k < length rs → get_or rs k r ≡ r → 1 ≤ many r rs
 has r [] k h e = absurd (omega (arith, h))
 has r (z ∷ rs) zero h e =
-    more (reader_at r.at r.cell z) (flat_map (reader_at r.at r.cell) rs) r.processor 0 (ap (reader_at r.at r.cell) e ∙ same_read r) (omega arith)
+    more (reader_at r.at r.cell z) (flat_map (reader_at r.at r.cell) rs) r.processor 0 (ap (reader_at r.at r.cell) e ∙ same_read r)
+    (omega arith)
 has r (z ∷ rs) (suc k) h e =
     also (reader_at r.at r.cell z) (flat_map (reader_at r.at r.cell) rs) 1 (has r rs k (omega (arith, h)) e)
 

@@ -33,6 +33,7 @@ pub fn short(number: usize) -> u16
 }
 
 impl Emitter {
+    /// No instruction yet, and no write held.
     pub fn new(alloc: Global) -> Emitter
         ensures { result ≡ record { instructions = []; held = false } }
     {
@@ -42,6 +43,7 @@ impl Emitter {
         }
     }
 
+    /// Gives out the instructions, when all are there.
     pub fn instructions(self) -> Vec<Instr>
         ensures { result.items ≡ self.instructions }
     {
@@ -52,6 +54,7 @@ impl Emitter {
         instructions
     }
 
+    /// Appends an instruction that holds no write and sends none.
     pub fn push(&mut self, instr: Instr) -> Result<(), AllocError>
         ensures { OnOk result (self.new ≡ added (instr ∷ []) self.old) }
     {

@@ -6,7 +6,8 @@ use Rattle.superstep_instructions.specs.declared.instr.Side.TheVariants.{Uniform
 use Rattle.superstep_instructions.specs.declared.instr.Arithmetic.TheVariants as arithmetic
 use Rattle.superstep_instructions.specs.declared.instr.Truth.TheVariants as truth
 use Rattle.superstep_instructions.specs.declared.instr.Instr.{Instr}
-use Rattle.superstep_instructions.specs.declared.instr.Instr.TheVariants.{Set, Copy, Negate, Calculate, Decide, Not, CopyUniform, Index, Enter}
+use Rattle.superstep_instructions.specs.declared.instr.Instr.TheVariants.{Set, Copy, Negate, Calculate, Decide, Not, CopyUniform, Index}
+use Rattle.superstep_instructions.specs.declared.instr.Instr.TheVariants.{Enter}
 use Rattle.superstep_instructions.specs.declared.instr.Instr.TheVariants.{Mask, Unmask, Ask, Put, Send, Reply, Vote, Print}
 use Rattle.flat_stretches.specs.Folds.{IsFine}
 use Rattle.flat_stretches.proofs.Joins.{fine_joins}

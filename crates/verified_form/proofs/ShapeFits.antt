@@ -4,7 +4,8 @@ use Rattle.std.specs.Prelude.{nat_lt}
 use Rattle.std.proofs.lemmas.Bool.Decides.{nat_tests}
 use Rattle.superstep_instructions.specs.declared.instr.Side.{Side}
 use Rattle.superstep_instructions.specs.declared.instr.Side.TheVariants.{Uniform, Private}
-use Rattle.superstep_instructions.specs.declared.instr.Instr.TheVariants.{Set, Copy, Calculate, Decide, Index, Enter, Mask, Flip, Unmask, Put}
+use Rattle.superstep_instructions.specs.declared.instr.Instr.TheVariants.{Set, Copy, Calculate, Decide, Index, Enter, Mask, Flip, Unmask}
+use Rattle.superstep_instructions.specs.declared.instr.Instr.TheVariants.{Put}
 use Rattle.superstep_instructions.specs.declared.instr.Instr.TheVariants.{Send, Vote, Print}
 use Rattle.superstep_instructions.specs.declared.instr.Arithmetic.TheVariants as arithmetic
 use Rattle.superstep_instructions.specs.declared.instr.Truth.TheVariants as truth

@@ -9,7 +9,8 @@ use Rattle.pram_model.proofs.Truths.{both, unsome}
 use Rattle.superstep_instructions.specs.declared.instr.Side.{Side}
 use Rattle.superstep_instructions.specs.declared.instr.Side.TheVariants.{Uniform, Private}
 use Rattle.superstep_instructions.specs.declared.instr.Instr.{Instr}
-use Rattle.superstep_instructions.specs.declared.instr.Instr.TheVariants.{Mark, Set, Copy, Negate, Calculate, Decide, Not, CopyUniform, Index}
+use Rattle.superstep_instructions.specs.declared.instr.Instr.TheVariants.{Mark, Set, Copy, Negate, Calculate, Decide, Not, CopyUniform}
+use Rattle.superstep_instructions.specs.declared.instr.Instr.TheVariants.{Index}
 use Rattle.superstep_instructions.specs.declared.instr.Instr.TheVariants.{Enter, Leave, Mask, Flip, Unmask, Ask, Put, Send, Reply, Vote}
 use Rattle.superstep_instructions.specs.declared.instr.Instr.TheVariants.{Jump, JumpIfZero, Halt}
 use Rattle.superstep_instructions.specs.declared.instr.Instr.TheVariants as instr

@@ -6,7 +6,8 @@ use Rattle.superstep_instructions.specs.declared.instr.Side.TheVariants.{Uniform
 use Rattle.superstep_instructions.specs.declared.instr.Arithmetic.TheVariants as arithmetic
 use Rattle.superstep_instructions.specs.declared.instr.Truth.TheVariants as truth
 use Rattle.superstep_instructions.specs.declared.instr.Instr.{Instr}
-use Rattle.superstep_instructions.specs.declared.instr.Instr.TheVariants.{Mark, Copy, Calculate, Decide, Index, Enter, Mask, Unmask, Put, Send}
+use Rattle.superstep_instructions.specs.declared.instr.Instr.TheVariants.{Mark, Copy, Calculate, Decide, Index, Enter, Mask, Unmask, Put}
+use Rattle.superstep_instructions.specs.declared.instr.Instr.TheVariants.{Send}
 use Rattle.superstep_instructions.specs.declared.instr.Instr.TheVariants.{Vote, Print}
 use Rattle.flat_stretches.specs.Folds.{IsFine}
 use Rattle.flat_stretches.specs.Leaving.{evaluates}

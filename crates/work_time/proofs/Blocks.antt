@@ -1,5 +1,6 @@
 -- Statements outside pardo, counted, from what their own functions answer.
-use Rattle.std.proofs.Common.{if◌then◌else◌, Bool, true, false, ◌≡◌, ℕ, ℤ, ◌+◌, List, [], ◌∷◌, ◌++◌, ap, sym, ◌∙◌, Global, Vec, Result, Err, subst}
+use Rattle.std.proofs.Common.{if◌then◌else◌, Bool, true, false, ◌≡◌, ℕ, ℤ, ◌+◌, List, [], ◌∷◌, ◌++◌, ap, sym, ◌∙◌, Global, Vec, Result, Err}
+use Rattle.std.proofs.Common.{subst}
 use Rattle.pram_check.specs.Checked.{Checked}
 use Rattle.pram_names.specs.declared.body.Expression.{Expression}
 use Rattle.pram_names.specs.declared.body.Statement.{Assign, For, If, Pardo, Print, Statement, While}
@@ -10,7 +11,8 @@ use Rattle.pram_values.specs.Truth.{is_nonzero}
 use Rattle.pram_meaning.specs.declared.attempt as rust
 use Rattle.pram_meaning.specs.declared.run.Halt.{Halt}
 use Rattle.pram_meaning.specs.Attempt.{Effect, attempt_assign, attempt_bounds, attempt_range}
-use Rattle.pram_meaning.specs.Bounded.{Done, evaluated, for_all, for_turns, found, pardo, pardo_done, perform_list, perform_row, tested, turns}
+use Rattle.pram_meaning.specs.Bounded.{Done, evaluated, for_all, for_turns, found, pardo, pardo_done, perform_list, perform_row, tested}
+use Rattle.pram_meaning.specs.Bounded.{turns}
 use Rattle.pram_meaning.specs.Bounded as meaning
 use Rattle.pram_meaning.specs.Runs.{effect_is}
 use Rattle.pram_meaning.specs.Store.{State, numbers, printed, seen, with_team}
@@ -24,7 +26,8 @@ use Rattle.work_time.specs.Kept.{Going, Kept, Tells, kept, noted}
 use Rattle.work_time.specs.Steps.{effect_writes, for_steps, for_turns_steps, inner_list_steps, list_steps, none_of, one_step}
 use Rattle.work_time.specs.Steps.{row_steps, turns_steps, value_step}
 use Rattle.work_time.specs.Accounts.{Accounts}
-use Rattle.work_time.specs.CountedParts.{bounds, choice, range, told, told_all, told_assign, told_bounds, told_choice, told_closed, told_for}
+use Rattle.work_time.specs.CountedParts.{bounds, choice, range, told, told_all, told_assign, told_bounds, told_choice, told_closed}
+use Rattle.work_time.specs.CountedParts.{told_for}
 use Rattle.work_time.specs.CountedParts.{told_pardo, told_print, told_range, told_team, told_turns, turn}
 use Rattle.work_time.proofs.Kept.{halts, kept_map, noted_then, then_keep}
 use Rattle.work_time.proofs.CountedPartLemmas.{block_events, block_steps}
@@ -72,7 +75,8 @@ assign_halts p q n line x e m new t late h is =
     (halts {A = rust.Effect.Effect} {C = Unit {0}} effect_is (λ u. u) h new late (told_effect p q n line x e m t)
     (λ g m t. Going tt (assigned x g m) t) is)
 
-pub assign_goes : (p : Checked) (q n line : ℕ) (x : Target) (e : Expression) (m mid new : State) (t late : Accounts) (g : rust.Effect.Effect) →
+pub assign_goes : (p : Checked) (q n line : ℕ) (x : Target) (e : Expression) (m mid new : State) (t late : Accounts)
+    (g : rust.Effect.Effect) →
     told_effect p q n line x e m t ≡ Going (effect_is g) mid late → new ≡ assigned x (effect_is g) mid →
     kept q t (one_step n line effect_writes (λ m. attempt_assign (seen p m) x e) m) (meaning.assign p n line x e m) ≡ Going tt new late
 assign_goes p q n line x e m mid new t late g is left =
@@ -117,7 +121,8 @@ pardo_halts p q n line e f locals body m new t late h is =
     (λ r. told_team p q n locals body r.0 r.1) is)
 
 pub pardo_goes : (p : Checked) (q n line : ℕ) (e f : Expression) (locals : ℕ) (body : List Step) (m mid new : State)
-    (t half late : Accounts) (c : ℤ × ℕ) (a : ℤ) (r : Result (Unit {0}) Halt) → told_range p q n line e f m t ≡ Going (c.0, c.1) mid half → a ≡ c.0 →
+    (t half late : Accounts) (c : ℤ × ℕ) (a : ℤ) (r : Result (Unit {0}) Halt) → told_range p q n line e f m t ≡ Going (c.0, c.1) mid half →
+    a ≡ c.0 →
     Tells (λ u. u) r new late (told_team p q n locals body a c.1 mid half) →
     Tells (λ u. u) r new late (told_pardo p q n line e f locals body m t)
 pardo_goes p q n line e f locals body m mid new t half late c a r is u h =

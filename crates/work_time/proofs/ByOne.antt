@@ -48,9 +48,11 @@ gives q n line w a m new t late r v h e f c l s =
     ∙ ap (λ m. Going v m late) (sym s)
 
 -- what is answered where the attempt fails
-fails : {A B : Type 0} (u : B → A) (q n line : ℕ) (w : A → ℕ) (a : State → Attempt A) (m new : State) (t late : Accounts) (r : Trail) (k : Kind) →
+fails : {A B : Type 0} (u : B → A) (q n line : ℕ) (w : A → ℕ) (a : State → Attempt A) (m new : State) (t late : Accounts) (r : Trail)
+    (k : Kind) →
     m.count < n → a m ≡ Fails r k → a (record m { count = m.count + 1 }) ≡ Fails r k →
-    late ≡ entered q (acting line 1) t → new.output ≡ m.output → Tells {A = B} u (Err (halt.Fault (record { kind = k; line = line; place = All })))
+    late ≡ entered q (acting line 1) t → new.output ≡ m.output →
+    Tells {A = B} u (Err (halt.Fault (record { kind = k; line = line; place = All })))
     new late (kept q t (one_step n line w a m) (evaluated n line a m))
 fails u q n line w a m new t late r k h e f l s =
     begins q n line w a m t (Fails r k) h e f
@@ -68,7 +70,8 @@ pub value_goes : (p : Checked) (q n line : ℕ) (e : Expression) (m new : State)
 value_goes p q n line e m new t late r v h is c l s =
     gives q n line none_of (λ m. attempt (seen p m) e []) m new t late r (v) h is is c l s
 
-pub value_fails : (p : Checked) (q n line : ℕ) (e : Expression) (m new : State) (t late : Accounts) (r : Trail) (why : Failure) (h : Halt) → m.count < n →
+pub value_fails : (p : Checked) (q n line : ℕ) (e : Expression) (m new : State) (t late : Accounts) (r : Trail) (why : Failure)
+    (h : Halt) → m.count < n →
     IsAttempt (Err why) r (attempt (seen p m) e []) → Failed line why h → late ≡ entered q (acting line 1) t → new.output ≡ m.output →
     Tells {A = ℤ} (λ v. v) (Err h) new late (kept q t (value_step p n line e m) (found p n line e m))
 value_fails p q n line e m new t late r (failure.Fault k) h b is o l s =
@@ -79,64 +82,98 @@ value_fails p q n line e m new t late r failure.OutOfMemory h b is o l s =
     subst P (sym o) tt
 
 pub effect_waits : (p : Checked) (q n line : ℕ) (x : Target) (e : Expression) (m : State) (t : Accounts) → n ≤ m.count →
-    kept q t (one_step n line effect_writes (λ m. attempt_assign (seen p m) x e) m) (evaluated n line (λ m. attempt_assign (seen p m) x e) m) ≡ AtBound m.output t
+    kept q t (one_step n line effect_writes (λ m. attempt_assign (seen p m) x e) m)
+    (evaluated n line (λ m. attempt_assign (seen p m) x e) m) ≡ AtBound m.output t
 effect_waits p q n line x e m t = waits q n line effect_writes (λ m. attempt_assign (seen p m) x e) m t
 
-pub effect_goes : (p : Checked) (q n line : ℕ) (x : Target) (e : Expression) (m new : State) (t late : Accounts) (r : Trail) (v : rust.Effect.Effect) → m.count < n →
+pub effect_goes : (p : Checked) (q n line : ℕ) (x : Target) (e : Expression) (m new : State) (t late : Accounts) (r : Trail)
+    (v : rust.Effect.Effect) → m.count < n →
     attempt_assign (seen p m) x e ≡ Gives r (effect_is v) → t.all.time ≡ m.count →
     late ≡ entered q (record { line = line; processors = 1; reads = reads_on r; writes = effect_writes (effect_is v) }) t →
-    new ≡ record m { count = late.all.time } → kept q t (one_step n line effect_writes (λ m. attempt_assign (seen p m) x e) m) (evaluated n line (λ m. attempt_assign (seen p m) x e) m) ≡ Going (effect_is v) new late
+    new ≡ record m { count = late.all.time } →
+    kept q t (one_step n line effect_writes (λ m. attempt_assign (seen p m) x e) m)
+    (evaluated n line (λ m. attempt_assign (seen p m) x e) m) ≡ Going (effect_is v) new late
 effect_goes p q n line x e m new t late r v h is c l s =
     gives q n line effect_writes (λ m. attempt_assign (seen p m) x e) m new t late r (effect_is v) h is is c l s
 
-pub effect_fails : (p : Checked) (q n line : ℕ) (x : Target) (e : Expression) (m new : State) (t late : Accounts) (r : Trail) (why : Failure) (h : Halt) → m.count < n →
+pub effect_fails : (p : Checked) (q n line : ℕ) (x : Target) (e : Expression) (m new : State) (t late : Accounts) (r : Trail)
+    (why : Failure) (h : Halt) → m.count < n →
     IsEffect (Err why) r (attempt_assign (seen p m) x e) → Failed line why h → late ≡ entered q (acting line 1) t → new.output ≡ m.output →
-    Tells {A = rust.Effect.Effect} effect_is (Err h) new late (kept q t (one_step n line effect_writes (λ m. attempt_assign (seen p m) x e) m) (evaluated n line (λ m. attempt_assign (seen p m) x e) m))
+    Tells {A = rust.Effect.Effect} effect_is (Err h) new late
+    (kept q t (one_step n line effect_writes (λ m. attempt_assign (seen p m) x e) m)
+    (evaluated n line (λ m. attempt_assign (seen p m) x e) m))
 effect_fails p q n line x e m new t late r (failure.Fault k) h b is o l s =
-    let P : Halt → Type 0 = λ h. Tells {A = rust.Effect.Effect} effect_is (Err h) new late (kept q t (one_step n line effect_writes (λ m. attempt_assign (seen p m) x e) m) (evaluated n line (λ m. attempt_assign (seen p m) x e) m)) in
-    subst P (sym o) (fails {B = rust.Effect.Effect} effect_is q n line effect_writes (λ m. attempt_assign (seen p m) x e) m new t late r k b is is l s)
+    let P : Halt → Type 0 = λ h. Tells {A = rust.Effect.Effect} effect_is (Err h) new late
+    (kept q t (one_step n line effect_writes (λ m. attempt_assign (seen p m) x e) m)
+    (evaluated n line (λ m. attempt_assign (seen p m) x e) m)) in
+    subst P (sym o) (fails {B = rust.Effect.Effect} effect_is q n line effect_writes
+    (λ m. attempt_assign (seen p m) x e) m new t late r k b is is l s)
 effect_fails p q n line x e m new t late r failure.OutOfMemory h b is o l s =
-    let P : Halt → Type 0 = λ h. Tells {A = rust.Effect.Effect} effect_is (Err h) new late (kept q t (one_step n line effect_writes (λ m. attempt_assign (seen p m) x e) m) (evaluated n line (λ m. attempt_assign (seen p m) x e) m)) in
+    let P : Halt → Type 0 = λ h. Tells {A = rust.Effect.Effect} effect_is (Err h) new late
+    (kept q t (one_step n line effect_writes (λ m. attempt_assign (seen p m) x e) m)
+    (evaluated n line (λ m. attempt_assign (seen p m) x e) m)) in
     subst P (sym o) tt
 
 pub bounds_wait : (p : Checked) (q n line : ℕ) (e f : Expression) (m : State) (t : Accounts) → n ≤ m.count →
-    kept q t (one_step n line none_of (λ m. attempt_bounds (seen p m) e f) m) (evaluated n line (λ m. attempt_bounds (seen p m) e f) m) ≡ AtBound m.output t
+    kept q t (one_step n line none_of (λ m. attempt_bounds (seen p m) e f) m)
+    (evaluated n line (λ m. attempt_bounds (seen p m) e f) m) ≡ AtBound m.output t
 bounds_wait p q n line e f m t = waits q n line none_of (λ m. attempt_bounds (seen p m) e f) m t
 
 pub bounds_go : (p : Checked) (q n line : ℕ) (e f : Expression) (m new : State) (t late : Accounts) (r : Trail) (v : ℤ × ℤ) → m.count < n →
     attempt_bounds (seen p m) e f ≡ Gives r ((v.0, v.1)) → t.all.time ≡ m.count →
     late ≡ entered q (record { line = line; processors = 1; reads = reads_on r; writes = 0 }) t →
-    new ≡ record m { count = late.all.time } → kept q t (one_step n line none_of (λ m. attempt_bounds (seen p m) e f) m) (evaluated n line (λ m. attempt_bounds (seen p m) e f) m) ≡ Going ((v.0, v.1)) new late
+    new ≡ record m { count = late.all.time } →
+    kept q t (one_step n line none_of (λ m. attempt_bounds (seen p m) e f) m)
+    (evaluated n line (λ m. attempt_bounds (seen p m) e f) m) ≡ Going ((v.0, v.1)) new late
 bounds_go p q n line e f m new t late r v h is c l s =
     gives q n line none_of (λ m. attempt_bounds (seen p m) e f) m new t late r ((v.0, v.1)) h is is c l s
 
-pub bounds_fail : (p : Checked) (q n line : ℕ) (e f : Expression) (m new : State) (t late : Accounts) (r : Trail) (why : Failure) (h : Halt) → m.count < n →
+pub bounds_fail : (p : Checked) (q n line : ℕ) (e f : Expression) (m new : State) (t late : Accounts) (r : Trail) (why : Failure)
+    (h : Halt) → m.count < n →
     IsPair (Err why) r (attempt_bounds (seen p m) e f) → Failed line why h → late ≡ entered q (acting line 1) t → new.output ≡ m.output →
-    Tells {A = ℤ × ℤ} (λ r. (r.0, r.1)) (Err h) new late (kept q t (one_step n line none_of (λ m. attempt_bounds (seen p m) e f) m) (evaluated n line (λ m. attempt_bounds (seen p m) e f) m))
+    Tells {A = ℤ × ℤ} (λ r. (r.0, r.1)) (Err h) new late
+    (kept q t (one_step n line none_of (λ m. attempt_bounds (seen p m) e f) m)
+    (evaluated n line (λ m. attempt_bounds (seen p m) e f) m))
 bounds_fail p q n line e f m new t late r (failure.Fault k) h b is o l s =
-    let P : Halt → Type 0 = λ h. Tells {A = ℤ × ℤ} (λ r. (r.0, r.1)) (Err h) new late (kept q t (one_step n line none_of (λ m. attempt_bounds (seen p m) e f) m) (evaluated n line (λ m. attempt_bounds (seen p m) e f) m)) in
+    let P : Halt → Type 0 = λ h. Tells {A = ℤ × ℤ} (λ r. (r.0, r.1)) (Err h) new late
+    (kept q t (one_step n line none_of (λ m. attempt_bounds (seen p m) e f) m)
+    (evaluated n line (λ m. attempt_bounds (seen p m) e f) m)) in
     subst P (sym o) (fails {B = ℤ × ℤ} (λ r. (r.0, r.1)) q n line none_of (λ m. attempt_bounds (seen p m) e f) m new t late r k b is is l s)
 bounds_fail p q n line e f m new t late r failure.OutOfMemory h b is o l s =
-    let P : Halt → Type 0 = λ h. Tells {A = ℤ × ℤ} (λ r. (r.0, r.1)) (Err h) new late (kept q t (one_step n line none_of (λ m. attempt_bounds (seen p m) e f) m) (evaluated n line (λ m. attempt_bounds (seen p m) e f) m)) in
+    let P : Halt → Type 0 = λ h. Tells {A = ℤ × ℤ} (λ r. (r.0, r.1)) (Err h) new late
+    (kept q t (one_step n line none_of (λ m. attempt_bounds (seen p m) e f) m)
+    (evaluated n line (λ m. attempt_bounds (seen p m) e f) m)) in
     subst P (sym o) tt
 
 pub range_waits : (p : Checked) (q n line : ℕ) (e f : Expression) (m : State) (t : Accounts) → n ≤ m.count →
-    kept q t (one_step n line none_of (λ m. attempt_range p.procs (seen p m) e f) m) (evaluated n line (λ m. attempt_range p.procs (seen p m) e f) m) ≡ AtBound m.output t
+    kept q t (one_step n line none_of (λ m. attempt_range p.procs (seen p m) e f) m)
+    (evaluated n line (λ m. attempt_range p.procs (seen p m) e f) m) ≡ AtBound m.output t
 range_waits p q n line e f m t = waits q n line none_of (λ m. attempt_range p.procs (seen p m) e f) m t
 
 pub range_goes : (p : Checked) (q n line : ℕ) (e f : Expression) (m new : State) (t late : Accounts) (r : Trail) (v : ℤ × ℕ) → m.count < n →
     attempt_range p.procs (seen p m) e f ≡ Gives r ((v.0, v.1)) → t.all.time ≡ m.count →
     late ≡ entered q (record { line = line; processors = 1; reads = reads_on r; writes = 0 }) t →
-    new ≡ record m { count = late.all.time } → kept q t (one_step n line none_of (λ m. attempt_range p.procs (seen p m) e f) m) (evaluated n line (λ m. attempt_range p.procs (seen p m) e f) m) ≡ Going ((v.0, v.1)) new late
+    new ≡ record m { count = late.all.time } →
+    kept q t (one_step n line none_of (λ m. attempt_range p.procs (seen p m) e f) m)
+    (evaluated n line (λ m. attempt_range p.procs (seen p m) e f) m) ≡ Going ((v.0, v.1)) new late
 range_goes p q n line e f m new t late r v h is c l s =
     gives q n line none_of (λ m. attempt_range p.procs (seen p m) e f) m new t late r ((v.0, v.1)) h is is c l s
 
-pub range_fails : (p : Checked) (q n line : ℕ) (e f : Expression) (m new : State) (t late : Accounts) (r : Trail) (why : Failure) (h : Halt) → m.count < n →
-    IsPair (Err why) r (attempt_range p.procs (seen p m) e f) → Failed line why h → late ≡ entered q (acting line 1) t → new.output ≡ m.output →
-    Tells {A = ℤ × ℕ} (λ r. (r.0, r.1)) (Err h) new late (kept q t (one_step n line none_of (λ m. attempt_range p.procs (seen p m) e f) m) (evaluated n line (λ m. attempt_range p.procs (seen p m) e f) m))
+pub range_fails : (p : Checked) (q n line : ℕ) (e f : Expression) (m new : State) (t late : Accounts) (r : Trail) (why : Failure)
+    (h : Halt) → m.count < n →
+    IsPair (Err why) r (attempt_range p.procs (seen p m) e f) → Failed line why h → late ≡ entered q (acting line 1) t →
+    new.output ≡ m.output →
+    Tells {A = ℤ × ℕ} (λ r. (r.0, r.1)) (Err h) new late
+    (kept q t (one_step n line none_of (λ m. attempt_range p.procs (seen p m) e f) m)
+    (evaluated n line (λ m. attempt_range p.procs (seen p m) e f) m))
 range_fails p q n line e f m new t late r (failure.Fault k) h b is o l s =
-    let P : Halt → Type 0 = λ h. Tells {A = ℤ × ℕ} (λ r. (r.0, r.1)) (Err h) new late (kept q t (one_step n line none_of (λ m. attempt_range p.procs (seen p m) e f) m) (evaluated n line (λ m. attempt_range p.procs (seen p m) e f) m)) in
-    subst P (sym o) (fails {B = ℤ × ℕ} (λ r. (r.0, r.1)) q n line none_of (λ m. attempt_range p.procs (seen p m) e f) m new t late r k b is is l s)
+    let P : Halt → Type 0 = λ h. Tells {A = ℤ × ℕ} (λ r. (r.0, r.1)) (Err h) new late
+    (kept q t (one_step n line none_of (λ m. attempt_range p.procs (seen p m) e f) m)
+    (evaluated n line (λ m. attempt_range p.procs (seen p m) e f) m)) in
+    subst P (sym o) (fails {B = ℤ × ℕ} (λ r. (r.0, r.1)) q n line none_of
+    (λ m. attempt_range p.procs (seen p m) e f) m new t late r k b is is l s)
 range_fails p q n line e f m new t late r failure.OutOfMemory h b is o l s =
-    let P : Halt → Type 0 = λ h. Tells {A = ℤ × ℕ} (λ r. (r.0, r.1)) (Err h) new late (kept q t (one_step n line none_of (λ m. attempt_range p.procs (seen p m) e f) m) (evaluated n line (λ m. attempt_range p.procs (seen p m) e f) m)) in
+    let P : Halt → Type 0 = λ h. Tells {A = ℤ × ℕ} (λ r. (r.0, r.1)) (Err h) new late
+    (kept q t (one_step n line none_of (λ m. attempt_range p.procs (seen p m) e f) m)
+    (evaluated n line (λ m. attempt_range p.procs (seen p m) e f) m)) in
     subst P (sym o) tt

@@ -1,5 +1,6 @@
 -- A set's statement, by what its parts come to.
-use Rattle.std.proofs.Common.{◌≡◌, ℕ, ◌+◌, ◌<◌, ◌≤◌, List, [], ◌∷◌, suc, Option, Some, None, Result, Ok, Err, Global, Vec, length, map, refl, ap, sym, ◌∙◌}
+use Rattle.std.proofs.Common.{◌≡◌, ℕ, ◌+◌, ◌<◌, ◌≤◌, List, [], ◌∷◌, suc, Option, Some, None, Result, Ok, Err, Global, Vec, length, map}
+use Rattle.std.proofs.Common.{refl, ap, sym, ◌∙◌}
 use Rattle.std.proofs.lemmas.Bool.{le-ltb, lt-ltb}
 use Rattle.std.specs.List.{sum_by}
 use Rattle.write_rules.specs.declared.fault.Fault.{Fault}
@@ -76,7 +77,8 @@ set_goes p q n line a vs m new t late xs h e c l s =
 
 pub set_faults : (p : Checked) (q n line : ℕ) (a : View → Attempt Effect) (vs : List ℕ) (m new : State) (t late : Accounts) (h : Halt) →
     m.count < n → IsValue {A = Vec part.Part.Part Global} (λ xs. map part_is xs.items) (Err h) (together p line (parts p m a vs)) →
-    late ≡ entered q (acting line (length vs)) t → new.output ≡ m.output → Tells {A = Vec part.Part.Part Global} (λ xs. map part_is xs.items)
+    late ≡ entered q (acting line (length vs)) t → new.output ≡ m.output →
+    Tells {A = Vec part.Part.Part Global} (λ xs. map part_is xs.items)
     (Err h) new late (kept q t (set_step p n line a vs m) (attempted_on p n line a vs m))
 set_faults p q n line a vs m new t late (halt.Fault k) h e l s =
     begins p q n line a vs m t (Err k) h e
@@ -96,7 +98,8 @@ assigned p q n line x e vs m t =
     kept_map q t (set_step p n line (λ s. attempt_step s x e) vs m) (attempted_on p n line (λ s. attempt_step s x e) vs m)
     (λ xs m. tt) (λ xs m. assigned_by p x xs m)
 
-pub assign_halts : (p : Checked) (q n line : ℕ) (x : StepTarget) (e : Expression) (vs : List ℕ) (m new : State) (t late : Accounts) (h : Halt) →
+pub assign_halts : (p : Checked) (q n line : ℕ) (x : StepTarget) (e : Expression) (vs : List ℕ) (m new : State) (t late : Accounts)
+    (h : Halt) →
     Tells {A = Vec part.Part.Part Global} (λ xs. map part_is xs.items) (Err h) new late
     (kept q t (set_step p n line (λ s. attempt_step s x e) vs m) (attempted_on p n line (λ s. attempt_step s x e) vs m)) →
     Tells {A = Unit {0}} (λ u. u) (Err h) new late

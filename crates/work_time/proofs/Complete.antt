@@ -92,7 +92,8 @@ body_stopped p input n q c m t r h k o e f is =
     (told_list p q n p.body (state_of c) (counts_of c)) in
     (stopped p input n q c k m.output t o (subst P (e ∙ ap Err f) is)).0
 
-pub body_reached : (p : Checked) (input : List ℤ) (n q : ℕ) (c : Counter) (m : State) (t : Accounts) (r : Result (Unit {0}) Halt) (h : Halt) →
+pub body_reached : (p : Checked) (input : List ℤ) (n q : ℕ) (c : Counter) (m : State) (t : Accounts) (r : Result (Unit {0}) Halt)
+    (h : Halt) →
     Opens p input c → r ≡ Err h → h ≡ halt.Bound → Tells {B = Unit {0}} (λ u. u) r m t
     (told_list p q n p.body (state_of c) (counts_of c)) →
     IsOutcome p input n (GoesOn m.output)

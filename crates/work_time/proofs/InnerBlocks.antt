@@ -1,5 +1,6 @@
 -- A set's blocks and choices, counted.
-use Rattle.std.proofs.Common.{◌≡◌, ℕ, true, false, Bool, List, [], ◌∷◌, ◌++◌, ◌+◌, ◌<◌, ◌≤◌, suc, zero, refl, ap, sym, ◌∙◌, Global, Vec, drop}
+use Rattle.std.proofs.Common.{◌≡◌, ℕ, true, false, Bool, List, [], ◌∷◌, ◌++◌, ◌+◌, ◌<◌, ◌≤◌, suc, zero, refl, ap, sym, ◌∙◌, Global, Vec}
+use Rattle.std.proofs.Common.{drop}
 use Rattle.std.proofs.Common.{length, get_or, Result, Ok, Err, subst, arith, ℤ, ◌^◌, if◌then◌else◌, map}
 use Rattle.std.proofs.lemmas.List.{drop_more, drop_all}
 use Rattle.std.proofs.lemmas.List.Concat.{length-flat_map}
@@ -26,7 +27,8 @@ use Rattle.exchange_bound.specs.Events as event
 use Rattle.work_time.specs.Kept.{Going, Kept, Tells, noted}
 use Rattle.work_time.specs.Steps.{behind, inner_list_steps, inner_row_steps, test_step, turns_on_steps}
 use Rattle.work_time.specs.Accounts.{Accounts, met_all}
-use Rattle.work_time.specs.CountedParts.{inner_choice, inner_turn, told_assign_on, told_choice_on, told_list_on, told_on, told_team, told_turns_on}
+use Rattle.work_time.specs.CountedParts.{inner_choice, inner_turn, told_assign_on, told_choice_on, told_list_on, told_on, told_team}
+use Rattle.work_time.specs.CountedParts.{told_turns_on}
 use Rattle.work_time.proofs.Kept.{halts, kept_map, noted_then, then_keep}
 use Rattle.work_time.proofs.CountedPartLemmas.{block_events_on, block_steps_on, list_on_is}
 
@@ -143,7 +145,8 @@ if_arm w q n line s e a b vs m t is =
     (λ j xs m t. both_parts w q n a b (those true xs) (those false xs) m t j)
 
 pub if_halts : (w : Checked) (q n line : ℕ) (s : Step) (e : Expression) (a b : Vec Step Global) (vs : List ℕ) (m new : State)
-    (t late : Accounts) (h : Halt) → s ≡ step.If line e a b → Tells {A = Vec part.Part.Part Global} (λ xs. map part_is xs.items) (Err h) new late
+    (t late : Accounts) (h : Halt) → s ≡ step.If line e a b →
+    Tells {A = Vec part.Part.Part Global} (λ xs. map part_is xs.items) (Err h) new late
     (told_choice_on w q n line e vs m t) → Tells {A = Unit {0}} (λ u. u) (Err h) new late (told_on w q n s vs m t)
 if_halts w q n line s e a b vs m new t late h is f =
     rw (if_arm w q n line s e a b vs m t is)

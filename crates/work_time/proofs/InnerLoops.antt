@@ -1,5 +1,6 @@
 -- A set's loop on its way, counted.
-use Rattle.std.proofs.Common.{◌≡◌, ℕ, ℤ, true, List, [], ◌∷◌, zero, suc, ◌+◌, ◌^◌, ◌<◌, ◌≤◌, refl, ap, sym, ◌∙◌, length, Err, arith, Global, Vec, map}
+use Rattle.std.proofs.Common.{◌≡◌, ℕ, ℤ, true, List, [], ◌∷◌, zero, suc, ◌+◌, ◌^◌, ◌<◌, ◌≤◌, refl, ap, sym, ◌∙◌, length, Err, arith, Global}
+use Rattle.std.proofs.Common.{Vec, map}
 use Rattle.std.proofs.lemmas.Bool.{le-ltb}
 use Rattle.pram_meaning.specs.declared.part as part
 use Rattle.pram_meaning.specs.declared.run.Halt.{Halt}
@@ -48,7 +49,8 @@ halts_at (halt.Fault k) new late out t b at e = cc
 halts_at halt.Bound new late out t b at e = cc
 halts_at halt.OutOfMemory new late out t b at e = tt
 
-test_halts_at : (w : Checked) (q n line : ℕ) (e : Expression) (body : List Step) (us : List ℕ) (now new : State) (till late : Accounts) (x : Halt)
+test_halts_at : (w : Checked) (q n line : ℕ) (e : Expression) (body : List Step) (us : List ℕ) (now new : State) (till late : Accounts)
+    (x : Halt)
     (k : ℕ) → n ≤ k + now.count → Tells {A = Vec part.Part.Part Global} (λ xs. map part_is xs.items) (Err x) new late
     (told_test_on w q n line e us now till) → Tells {A = Unit {0}} (λ u. u) (Err x) new late
     (told_turns_on w q n line e body k us now till)

@@ -42,7 +42,8 @@ block_halts w q n items i s start now new from till late x b h is e =
     rw (next_of w q n items i s start now from till b h is)
     (halts {A = Unit {0}} {C = Unit {0}} (λ u. u) (λ u. u) x new late (told w q n s now till) (λ u. told_list w q n (drop (i + 1) items)) e)
 
-pub block_goes : (w : Checked) (q n : ℕ) (items : List Statement) (i : ℕ) (s : Statement) (start now new : State) (from till late : Accounts) →
+pub block_goes : (w : Checked) (q n : ℕ) (items : List Statement) (i : ℕ) (s : Statement) (start now new : State)
+    (from till late : Accounts) →
     InBlock w q n items i start from now till → i < length items → s ≡ get_or items i s → told w q n s now till ≡ Going tt new late →
     now.count ≤ new.count → InBlock w q n items (i + 1) start from new late
 block_goes w q n items i s start now new from till late b h is e more =
@@ -79,7 +80,8 @@ halts_at (halt.Fault k) new late out t b at e = cc
 halts_at halt.Bound new late out t b at e = cc
 halts_at halt.OutOfMemory new late out t b at e = tt
 
-test_halts_at : (w : Checked) (q n line : ℕ) (e : Expression) (body : List Statement) (now new : State) (till late : Accounts) (x : Halt) (k : ℕ) →
+test_halts_at : (w : Checked) (q n line : ℕ) (e : Expression) (body : List Statement) (now new : State) (till late : Accounts) (x : Halt)
+    (k : ℕ) →
     n ≤ k + now.count → Tells {A = Bool} (λ b. b) (Err x) new late (told_test w q n line e now till) →
     Tells {A = Unit {0}} (λ u. u) (Err x) new late (told_turns w q n line e body k now till)
 test_halts_at w q n line e body now new till late x zero h t =
@@ -89,13 +91,15 @@ test_halts_at w q n line e body now new till late x (suc k) h t =
     (halts {A = Bool} {C = Unit {0}} (λ b. b) (λ u. u) x new late (told_test w q n line e now till) (turn_told w q n line e body k) t)
 
 pub test_halts : (w : Checked) (q n line : ℕ) (e : Expression) (body : List Statement) (start now new : State) (from till late : Accounts)
-    (x : Halt) → InTurns w q n line e body start from now till → Tells {A = Bool} (λ b. b) (Err x) new late (told_test w q n line e now till) →
+    (x : Halt) → InTurns w q n line e body start from now till →
+    Tells {A = Bool} (λ b. b) (Err x) new late (told_test w q n line e now till) →
     Tells {A = Unit {0}} (λ u. u) (Err x) new late (told_turns w q n line e body (n + 1) start from)
 test_halts w q n line e body start now new from till late x i t =
     rw i.same (test_halts_at w q n line e body now new till late x i.left i.enough t)
 
 -- a test with a value, where a turn was left
-test_goes : (w : Checked) (q n line : ℕ) (e : Expression) (body : List Statement) (now m : State) (till half : Accounts) (k : ℕ) (v : Bool) →
+test_goes : (w : Checked) (q n line : ℕ) (e : Expression) (body : List Statement) (now m : State) (till half : Accounts) (k : ℕ)
+    (v : Bool) →
     n ≤ k + now.count → told_test w q n line e now till ≡ Going v m half →
     (j : ℕ) × (k ≡ suc j) × (told_turns w q n line e body k now till ≡ turn_told w q n line e body j v m half)
 test_goes w q n line e body now m till half zero v h t =
@@ -150,11 +154,13 @@ turn_goes w q n line e body start now m new from till half late v i t z b more =
 
 -- ---- the setting of a `for`
 
-pub setting_waits : (q n line : ℕ) (m : State) (t : Accounts) → n ≤ m.count → kept q t (begun n m (acting line 1)) (counted n m) ≡ AtBound m.output t
+pub setting_waits : (q n line : ℕ) (m : State) (t : Accounts) → n ≤ m.count →
+    kept q t (begun n m (acting line 1)) (counted n m) ≡ AtBound m.output t
 setting_waits q n line m t h = rw (le-ltb m.count n h) refl
 
 pub setting_goes : (q n line : ℕ) (m new : State) (t late : Accounts) → m.count < n → t.all.time ≡ m.count →
-    late ≡ entered q (acting line 1) t → new ≡ record m { count = late.all.time } → kept q t (begun n m (acting line 1)) (counted n m) ≡ Going tt new late
+    late ≡ entered q (acting line 1) t → new ≡ record m { count = late.all.time } →
+    kept q t (begun n m (acting line 1)) (counted n m) ≡ Going tt new late
 setting_goes q n line m new t late h c l s =
     rw (lt-ltb m.count n h)
     (ap (Going tt (record m { count = m.count + 1 })) (sym l)

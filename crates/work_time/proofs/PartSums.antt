@@ -25,7 +25,8 @@ pub reads_go : (xs : List part.Part.Part) (i : ℕ) (x : part.Part.Part) (now on
 reads_go xs i x now one new b h is e f g =
     let a : parts_reads xs ≡ now + parts_reads (drop i xs) = b.same in
     let d : parts_reads (drop i xs) ≡ part_reads (part_is x) + parts_reads (drop (i + 1) xs) =
-    ap parts_reads (drop_more xs i x h ∙ ap (λ y. y ∷ drop (i + 1) xs) (sym is)) ∙ sum_by-cons part_reads (part_is x) (map part_is (drop (i + 1) xs)) in
+    ap parts_reads (drop_more xs i x h ∙ ap (λ y. y ∷ drop (i + 1) xs) (sym is))
+    ∙ sum_by-cons part_reads (part_is x) (map part_is (drop (i + 1) xs)) in
     let m : now ≤ i * 2 ^ 64 = b.most in
     record { same = omega (arith, a, d, e, g); most = omega (arith, m, f, g) }
 
@@ -47,7 +48,8 @@ pub writes_go : (xs : List part.Part.Part) (i : ℕ) (x : part.Part.Part) (now o
 writes_go xs i x now one new b h is e f g =
     let a : parts_writes xs ≡ now + parts_writes (drop i xs) = b.same in
     let d : parts_writes (drop i xs) ≡ part_writes (part_is x) + parts_writes (drop (i + 1) xs) =
-    ap parts_writes (drop_more xs i x h ∙ ap (λ y. y ∷ drop (i + 1) xs) (sym is)) ∙ sum_by-cons part_writes (part_is x) (map part_is (drop (i + 1) xs)) in
+    ap parts_writes (drop_more xs i x h ∙ ap (λ y. y ∷ drop (i + 1) xs) (sym is))
+    ∙ sum_by-cons part_writes (part_is x) (map part_is (drop (i + 1) xs)) in
     let m : now ≤ i = b.most in
     record { same = omega (arith, a, d, e, g); most = omega (arith, m, f, g) }
 

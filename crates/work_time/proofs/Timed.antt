@@ -1,5 +1,6 @@
 -- The time of a run is the count of its statements, so it keeps to the bound.
-use Rattle.std.proofs.Common.{◌≡◌, ◌⊎◌, inl, inr, ℕ, zero, suc, ◌+◌, ◌<◌, ◌≤◌, ℤ, pos, ◌+ℤ◌, List, [], ◌∷◌, ◌++◌, Bool, true, false, if◌then◌else◌}
+use Rattle.std.proofs.Common.{◌≡◌, ◌⊎◌, inl, inr, ℕ, zero, suc, ◌+◌, ◌<◌, ◌≤◌, ℤ, pos, ◌+ℤ◌, List, [], ◌∷◌, ◌++◌, Bool, true, false}
+use Rattle.std.proofs.Common.{if◌then◌else◌}
 use Rattle.std.proofs.Common.{Option, Some, None, Result, Ok, Err, arith, length, nat_lt, refl, ◌∙◌, subst}
 use Rattle.std.proofs.lemmas.Bool.{cases_lt, le-ltb, lt-ltb}
 use Rattle.std.proofs.lemmas.List.{length-append}
@@ -18,7 +19,8 @@ use Rattle.pram_values.specs.Truth.{is_nonzero}
 use Rattle.write_rules.specs.declared.fault.Fault.{Fault}
 use Rattle.write_rules.specs.Verdict.{Ended, Faulted, GoesOn, Verdict}
 use Rattle.pram_meaning.specs.Attempt.{Attempt, Effect, attempt, attempt_assign, attempt_bounds, attempt_range, attempt_step, attempt_value}
-use Rattle.pram_meaning.specs.Bounded.{Behaviour, Done, Goes, Reaches, Stops, attempted_on, counted, evaluated, for_turns, found, pardo_done}
+use Rattle.pram_meaning.specs.Bounded.{Behaviour, Done, Goes, Reaches, Stops, attempted_on, counted, evaluated, for_turns, found}
+use Rattle.pram_meaning.specs.Bounded.{pardo_done}
 use Rattle.pram_meaning.specs.Bounded.{perform, perform_list, perform_list_on, perform_on, perform_row, perform_row_on, tested, tested_on}
 use Rattle.pram_meaning.specs.Bounded.{then_do, turns, turns_on, unless_none, valued}
 use Rattle.pram_meaning.specs.Computed.{body_done, verdict_at}
@@ -35,6 +37,7 @@ use Rattle.work_time.specs.Steps.{acting, begun, behind, by_one, by_set, effect_
 use Rattle.work_time.specs.Steps.{inner_list_steps, inner_row_steps, inner_steps, list_steps, none_of, one_step, row_steps, run_steps}
 use Rattle.work_time.specs.Steps.{set_step, steps, test_step, turns_on_steps, turns_steps, value_step}
 use Rattle.work_time.specs.Time.{GoingOnTakesTheBound, IsTimeWithin, TimeIsTheLeastBound, TimeIsWithinTheBound}
+use Rattle.pram_meaning.proofs.AgreeAll.{assigned_count, set_count}
 
 abbrev done : Unit {0}
 done = tt
@@ -109,25 +112,12 @@ moves_map m (Reaches out) f h = tt
 
 -- ---- inside pardo
 
-written_count : (c : Option ℕ) (v : ℤ) (m : State) → (after_write c v m).count ≡ m.count
-written_count None v m = refl
-written_count (Some c) v m = refl
-
-assigned_count : (x : Target) (g : Effect) (m : State) → (assigned x g m).count ≡ m.count
-assigned_count (target.Uniform x) g m = refl
-assigned_count (target.Cell a) g m = written_count g.cell g.value m
-assigned_count (target.Element a e) g m = written_count g.cell g.value m
-
-assigned_by_count : (p : Checked) (x : StepTarget) (xs : List Part) (m : State) → (assigned_by p x xs m).count ≡ m.count
-assigned_by_count p (inner.Local x) xs m = refl
-assigned_by_count p (inner.Cell a) xs m = refl
-assigned_by_count p (inner.Element a e) xs m = refl
-
 turn_on_timed : (n : ℕ) (spent : List ℕ → State → List TimeStep) (body : List ℕ → State → Done) (later : List ℕ → State → List TimeStep)
     (others : List ℕ → State → Done) (m : State) → m.count ≤ n →
     ((vs : List ℕ) → IsTimed n m (spent vs m) (body vs m)) →
     ((vs : List ℕ) (new : State) → m.count ≤ new.count → new.count ≤ n → IsTimed n new (later vs new) (others vs new)) → (us : List ℕ) →
-    IsTimed n m (if_any us (spent us m ++ behind (body us m) (λ w. later us))) (unless_none us (Goes done m) (then_do (body us m) (λ w. others us)))
+    IsTimed n m (if_any us (spent us m ++ behind (body us m) (λ w. later us)))
+    (unless_none us (Goes done m) (then_do (body us m) (λ w. others us)))
 turn_on_timed n spent body later others m l b r [] = none_timed n done m l
 turn_on_timed n spent body later others m l b r (u ∷ us) =
     timed_then n m (spent (u ∷ us) m) (body (u ∷ us) m) (λ w. later (u ∷ us)) (λ w. others (u ∷ us)) (b (u ∷ us))
@@ -164,7 +154,7 @@ module _ (p : Checked) (n : ℕ) where
     inner_timed : (s : Step) (vs : List ℕ) (m : State) → m.count ≤ n → IsTimed n m (inner_steps p n s vs m) (perform_on p n s vs m)
     inner_timed (step.Assign line x e) vs m l =
         timed_map n m (set_step p n line (λ s. attempt_step s x e) vs m) (attempted_on p n line (λ s. attempt_step s x e) vs m)
-        (λ xs m. done) (λ xs m. assigned_by p x xs m) (λ xs m. assigned_by_count p x xs m)
+        (λ xs m. done) (λ xs m. assigned_by p x xs m) (λ xs m. set_count p x xs m)
         (set_timed line (λ s. attempt_step s x e) vs m l)
     inner_timed (step.If' line e q a r b) vs m l =
         timed_then n m (test_step p n line e vs m) (tested_on p n line e vs m)
@@ -202,7 +192,8 @@ either : (n : ℕ) (m : State) (z : Bool) (ss ts : List TimeStep) (a b : Done) �
 either n m true ss ts a b h g = h
 either n m false ss ts a b h g = g
 
-turns_timed : (n k : ℕ) (head : State → List TimeStep) (test : State → Behaviour Bool) (spent : State → List TimeStep) (body : State → Done) →
+turns_timed : (n k : ℕ) (head : State → List TimeStep) (test : State → Behaviour Bool) (spent : State → List TimeStep)
+    (body : State → Done) →
     ((m : State) → m.count ≤ n → IsTimed n m (head m) (test m)) → ((m : State) → Moves m (test m)) →
     ((m : State) → m.count ≤ n → IsTimed n m (spent m) (body m)) → (m : State) → m.count ≤ n → n < m.count + k →
     IsTimed n m (turns_steps k head test spent body m) (turns k test body m)
@@ -342,7 +333,8 @@ going_on n m ss (Reaches o) out z e t = omega (arith, t, z)
 
 pub going_on_takes_the_bound : GoingOnTakesTheBound
 going_on_takes_the_bound p input n output is =
-    going_on n (opening p input) (run_steps p input n) (body_done p input n) output refl ((outcome_is_computed p input n (GoesOn output)).0 is)
+    going_on n (opening p input) (run_steps p input n) (body_done p input n) output refl
+    ((outcome_is_computed p input n (GoesOn output)).0 is)
     (whole p input n)
 
 -- the state in which a run ends has counted its time

@@ -1,5 +1,5 @@
 use Rattle.verified_form.proofs.ProgramsFormed.{forms_are_well_formed}
-use Rattle.outside_runs.proofs.Followed.{statements_are_followed}
+use Rattle.compiled_meaning.proofs.Outside.Followed.{statements_are_followed}
 use Rattle.compiled_meaning.proofs.Outcomes.{is_plain}
 use Rattle.compiled_meaning.proofs.compiled_laws.plain_form_is_right.Goals as goal
 

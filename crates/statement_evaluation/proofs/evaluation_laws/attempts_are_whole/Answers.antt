@@ -1,4 +1,5 @@
-use Rattle.statement_evaluation.proofs.Attempts.{whole_expressions, whole_values, whole_assignments, whole_inner_assignments, whole_bounds_of}
+use Rattle.statement_evaluation.proofs.Attempts.{whole_expressions, whole_values, whole_assignments, whole_inner_assignments}
+use Rattle.statement_evaluation.proofs.Attempts.{whole_bounds_of}
 use Rattle.statement_evaluation.proofs.Attempts.{whole_ranges}
 use Rattle.statement_evaluation.proofs.Attempts.{test_parts, assignment_parts}
 use Rattle.statement_evaluation.proofs.evaluation_laws.attempts_are_whole.Goals as goal

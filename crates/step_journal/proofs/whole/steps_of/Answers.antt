@@ -33,7 +33,8 @@ returns-in-Ok-done-clause-memory c =
     let new = c.run_body-done.new.journal in
     let o = opens c.args.program.now c.args.input.now k c.new-nothing.ensures.items e.count e.output e.uniforms e.cells in
     let b = body_ended c.args.program.now c.args.input.now c.args.bound k (state_of new) (told_of new) o c.in-Ok-done.ensures in
-    told_memory c.args.program.now c.args.input.now c.args.bound (Ended new.run.output.items new.run.cells.items) (told_of new).entries b.0 b.1
+    told_memory c.args.program.now c.args.input.now c.args.bound (Ended new.run.output.items new.run.cells.items)
+    (told_of new).entries b.0 b.1
 
 pub returns-in-Ok-done-clause-output : goal.returns-in-Ok-done-clause-output
 returns-in-Ok-done-clause-output c =
@@ -42,7 +43,8 @@ returns-in-Ok-done-clause-output c =
     let new = c.run_body-done.new.journal in
     let o = opens c.args.program.now c.args.input.now k c.new-nothing.ensures.items e.count e.output e.uniforms e.cells in
     let b = body_ended c.args.program.now c.args.input.now c.args.bound k (state_of new) (told_of new) o c.in-Ok-done.ensures in
-    told_output c.args.program.now c.args.input.now c.args.bound (Ended new.run.output.items new.run.cells.items) (told_of new).entries b.0 b.1
+    told_output c.args.program.now c.args.input.now c.args.bound (Ended new.run.output.items new.run.cells.items)
+    (told_of new).entries b.0 b.1
 
 pub returns-in-Err-Fault-clause-outcome : goal.returns-in-Err-Fault-clause-outcome
 returns-in-Err-Fault-clause-outcome c =
@@ -75,7 +77,8 @@ returns-in-Err-Fault-clause-memory c =
     let f : c.in-Err-Fault.field-0 ≡ halt.Fault c.in-Err-Fault.fault = search (rules, c.in-Err-Fault.field-0-is) in
     let b = body_stopped c.args.program.now c.args.input.now c.args.bound k (state_of new) (told_of new) c.run_body-done.result
     c.in-Err-Fault.field-0 c.in-Err-Fault.fault o c.in-Err-Fault.is f c.run_body-done.ensures in
-    told_memory c.args.program.now c.args.input.now c.args.bound (Faulted c.in-Err-Fault.fault new.run.output.items) (told_of new).entries b.0 b.1
+    told_memory c.args.program.now c.args.input.now c.args.bound (Faulted c.in-Err-Fault.fault new.run.output.items)
+    (told_of new).entries b.0 b.1
 
 pub returns-in-Err-Fault-clause-output : goal.returns-in-Err-Fault-clause-output
 returns-in-Err-Fault-clause-output c =
@@ -86,7 +89,8 @@ returns-in-Err-Fault-clause-output c =
     let f : c.in-Err-Fault.field-0 ≡ halt.Fault c.in-Err-Fault.fault = search (rules, c.in-Err-Fault.field-0-is) in
     let b = body_stopped c.args.program.now c.args.input.now c.args.bound k (state_of new) (told_of new) c.run_body-done.result
     c.in-Err-Fault.field-0 c.in-Err-Fault.fault o c.in-Err-Fault.is f c.run_body-done.ensures in
-    told_output c.args.program.now c.args.input.now c.args.bound (Faulted c.in-Err-Fault.fault new.run.output.items) (told_of new).entries b.0 b.1
+    told_output c.args.program.now c.args.input.now c.args.bound (Faulted c.in-Err-Fault.fault new.run.output.items)
+    (told_of new).entries b.0 b.1
 
 pub returns-in-Err-Bound-clause-outcome : goal.returns-in-Err-Bound-clause-outcome
 returns-in-Err-Bound-clause-outcome c =
@@ -139,7 +143,8 @@ returns-in-Ok-done-clause-last c =
     let new = c.run_body-done.new.journal in
     let o = opens c.args.program.now c.args.input.now k c.new-nothing.ensures.items e.count e.output e.uniforms e.cells in
     let b = body_ended c.args.program.now c.args.input.now c.args.bound k (state_of new) (told_of new) o c.in-Ok-done.ensures in
-    told_last c.args.program.now c.args.input.now c.args.bound (Ended new.run.output.items new.run.cells.items) (told_of new).entries b.0 b.1
+    told_last c.args.program.now c.args.input.now c.args.bound (Ended new.run.output.items new.run.cells.items)
+    (told_of new).entries b.0 b.1
 
 pub returns-in-Ok-done-clause-steps : goal.returns-in-Ok-done-clause-steps
 returns-in-Ok-done-clause-steps c =
@@ -159,7 +164,8 @@ returns-in-Err-Fault-clause-last c =
     let f : c.in-Err-Fault.field-0 ≡ halt.Fault c.in-Err-Fault.fault = search (rules, c.in-Err-Fault.field-0-is) in
     let b = body_stopped c.args.program.now c.args.input.now c.args.bound k (state_of new) (told_of new) c.run_body-done.result
     c.in-Err-Fault.field-0 c.in-Err-Fault.fault o c.in-Err-Fault.is f c.run_body-done.ensures in
-    told_last c.args.program.now c.args.input.now c.args.bound (Faulted c.in-Err-Fault.fault new.run.output.items) (told_of new).entries b.0 b.1
+    told_last c.args.program.now c.args.input.now c.args.bound (Faulted c.in-Err-Fault.fault new.run.output.items)
+    (told_of new).entries b.0 b.1
 
 pub returns-in-Err-Fault-clause-steps : goal.returns-in-Err-Fault-clause-steps
 returns-in-Err-Fault-clause-steps c =

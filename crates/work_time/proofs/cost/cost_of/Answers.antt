@@ -24,7 +24,8 @@ returns-clause-within c =
     let steps = run_steps c.args.program.now c.args.input.now c.args.bound in
     let events = events_of c.args.program.now c.args.input.now c.args.bound in
     let ledger = c.in_ok-outcome.ledger in
-    time_kept c.args.program.now c.args.input.now c.args.bound (verdict_of c.in_ok-outcome.outcome) ledger.all.time c.in_ok-outcome.ensures.outcome
+    time_kept c.args.program.now c.args.input.now c.args.bound
+    (verdict_of c.in_ok-outcome.outcome) ledger.all.time c.in_ok-outcome.ensures.outcome
     (time_is c.args.schedule steps (tally_is ledger.all) (all_told c.args.schedule steps events ledger c.in_ok-outcome.ensures.totals))
 
 pub returns-clause-work : goal.returns-clause-work

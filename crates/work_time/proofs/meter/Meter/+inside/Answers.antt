@@ -12,10 +12,12 @@ pub run_step-returns-in_err-run_block_on-in-If-clause-value :
 run_step-returns-in_err-run_block_on-in-If-clause-value t c =
     let r = c.from_residual-in_err-run_block_on-in-If in
     let p = err_from_is_err_and r.result r.ensures.1 in rw (p.1, p.2)
-    (if_then_halts c.args.self.now.interpreter.program.now c.args.self.now.schedule c.args.self.now.interpreter.bound c.in-If.line c.args.s.now
+    (if_then_halts c.args.self.now.interpreter.program.now c.args.self.now.schedule c.args.self.now.interpreter.bound c.in-If.line
+    c.args.s.now
     c.in-If.test c.in-If.then_part c.in-If.else_part c.args.active.now.items c.in-Ok.chosen.items
     (state_in c.args.counter.now c.args.team.now.items) (state_in c.run_choice_on.new.counter c.args.team.now.items)
-    (state_in c.run_block_on.new.counter c.run_block_on.new.team.items) (counts_of c.args.counter.now) (counts_of c.run_choice_on.new.counter)
+    (state_in c.run_block_on.new.counter c.run_block_on.new.team.items) (counts_of c.args.counter.now)
+    (counts_of c.run_choice_on.new.counter)
     (counts_of c.run_block_on.new.counter) (map part_is c.in_ok-all-in-If.all.items) _
     c.in-If.is c.in_ok-all-in-If.ensures.value c.in-Ok.ensures.chosen c.in_err-run_block_on-in-If.ensures.value)
 
@@ -39,7 +41,8 @@ run_while_on-returns-in_err-run_block_on-clause-value t c =
     let p = err_from_is_err_and r.result r.ensures.1 in
     let z : 0 < length c.in-Ok-choose.chosen.items = grind (arith, common_steps) in
     rw (p.1, p.2)
-    (turn_halts c.args.self.now.interpreter.program.now c.args.self.now.schedule c.args.self.now.interpreter.bound c.args.line c.args.test.now
+    (turn_halts c.args.self.now.interpreter.program.now c.args.self.now.schedule c.args.self.now.interpreter.bound c.args.line
+    c.args.test.now
     c.args.body.now.items c.args.active.now.items c.turns.current.items c.in-Ok-choose.chosen.items
     (state_in c.args.counter.now c.args.team.now.items) (state_in c.turns.counter c.turns.team.items)
     (state_in c.run_test_on.new.counter c.turns.team.items) (state_in c.run_block_on.new.counter c.run_block_on.new.team.items)
@@ -53,7 +56,8 @@ run_while_on-returns-in_err-all-clause-value t c =
     let r = c.from_residual in
     let p = err_from_is_err_and r.result r.ensures.1 in
     rw (p.1, p.2)
-    (test_halts c.args.self.now.interpreter.program.now c.args.self.now.schedule c.args.self.now.interpreter.bound c.args.line c.args.test.now
+    (test_halts c.args.self.now.interpreter.program.now c.args.self.now.schedule c.args.self.now.interpreter.bound c.args.line
+    c.args.test.now
     c.args.body.now.items c.args.active.now.items c.turns.current.items (state_in c.args.counter.now c.args.team.now.items)
     (state_in c.turns.counter c.turns.team.items) (state_in c.run_test_on.new.counter c.turns.team.items)
     (counts_of c.args.counter.now) (counts_of c.turns.counter) (counts_of c.run_test_on.new.counter) _

@@ -21,7 +21,8 @@ run_for-returns-clause-value t c =
     for_goes c.args.self.now.interpreter.program.now c.args.self.now.schedule c.args.self.now.interpreter.bound c.args.line c.args.variable
     c.args.low.now c.args.high.now c.args.body.now.items (state_of c.args.counter.now) (state_of c.find_bounds.new.counter)
     (state_of c.run_turns.new.counter) (counts_of c.args.counter.now) (counts_of c.find_bounds.new.counter)
-    (counts_of c.run_turns.new.counter) (c.in_ok-first.first, c.in_ok-first.last) c.between-numbers.result.next c.between-numbers.result.last
+    (counts_of c.run_turns.new.counter) (c.in_ok-first.first, c.in_ok-first.last) c.between-numbers.result.next
+    c.between-numbers.result.last
     c.run_turns.result c.in_ok-first.ensures.value u v c.run_turns.ensures.value
 
 pub run_statement-returns-then-holds-clause-value : goal.run_statement-returns-then-holds-clause-value
@@ -57,11 +58,13 @@ run_turns-returns-in_err-run_closed-clause-value t c =
     (told_closed c.args.self.now.interpreter.program.now c.args.self.now.schedule c.args.self.now.interpreter.bound c.args.body.now.items
     (state_of c.set_next.new.counter) t) in
     rw (p.1, p.2)
-    (turn_halts c.args.self.now.interpreter.program.now c.args.self.now.schedule c.args.self.now.interpreter.bound c.args.line c.args.variable
+    (turn_halts c.args.self.now.interpreter.program.now c.args.self.now.schedule c.args.self.now.interpreter.bound c.args.line
+    c.args.variable
     c.args.body.now.items c.args.numbers.now.next c.args.numbers.now.last c.turns.left.next c.turns.left.last
     (state_of c.args.counter.now) (state_of c.turns.counter) (state_of c.begin_turn.new.counter) (state_of c.set_next.new.counter)
     (state_of c.run_closed.new.counter) (counts_of c.args.counter.now) (counts_of c.turns.counter) (counts_of c.begin_turn.new.counter)
-    (counts_of c.run_closed.new.counter) c.in_err-run_closed.field-0.0 c.turns.invariant c.in_ok-begin_turn.ensures.value c.set_next.ensures.set
+    (counts_of c.run_closed.new.counter) c.in_err-run_closed.field-0.0 c.turns.invariant c.in_ok-begin_turn.ensures.value
+    c.set_next.ensures.set
     (subst P e c.in_err-run_closed.ensures.value))
 
 pub run_turns-turns-preserved : goal.run_turns-turns-preserved

@@ -1,0 +1,22 @@
+-- Statements inside pardo, on the set of processors that are active.
+pub mod Seen
+pub mod Sets
+pub mod Apart
+pub mod Teams
+pub mod Shown
+pub mod Attempted
+pub mod Passed
+pub mod Parts
+pub mod Evaluated
+pub mod Tests
+pub mod Locals
+pub mod Writes
+pub mod Assigns
+pub mod Grown
+pub mod Left
+pub mod Flags
+pub mod Moves
+pub mod LoopPlaces
+pub mod Loops
+pub mod Branches
+pub mod Steps

@@ -1,0 +1,7 @@
+-- One statement: from its mark through the stretch behind it.
+pub mod Begins
+pub mod Costs
+pub mod Marked
+pub mod Places
+pub mod Joined
+pub mod Valued

@@ -1,0 +1,10 @@
+//! Laws of statements outside pardo on the machine.
+
+ghost use Rattle.compiled_meaning.specs.Statements.{StatementsAreFollowed};
+
+/// The code of statements outside pardo follows their meaning: where the program goes on the run comes to
+/// the same state; its fault is the run's outcome, and so is its bound; by no more exchanges than
+/// the events of the statements have.
+pub fn statements_are_followed()
+    ensures statements { StatementsAreFollowed }
+{}

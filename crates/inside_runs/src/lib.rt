@@ -1,4 +1,0 @@
-//! Statements inside pardo on the machine.
-#![tactic(auto)]
-
-pub mod inside_laws;

@@ -1,4 +1,0 @@
-//! Statements outside pardo on the machine.
-#![tactic(auto)]
-
-pub mod outside_laws;

@@ -1,4 +1,0 @@
-pub mod Between
-pub mod Follows
-pub mod Begins
-pub mod Costs
