@@ -1,4 +1,4 @@
-//! Tests of the language: texts and their trees, and what the program prints for texts and command lines.
+//! Tests of the language: texts and their trees, and the program over writers that fail and on terminals.
 #![tactic(auto)]
 
 #[cfg(test)]

@@ -10,12 +10,10 @@ mod costs;
 #[cfg(test)]
 mod cut_off;
 #[cfg(test)]
+mod no_memory;
+#[cfg(test)]
 mod pictures;
 #[cfg(test)]
-mod refused;
-#[cfg(test)]
 mod statements;
-#[cfg(test)]
-mod told;
 #[cfg(test)]
 mod words;
