@@ -23,7 +23,7 @@ FRONT_DOORS = """write_rules pram_syntax pram_check pram_meaning address_map sup
 HEAD = """# Crates
 
 What each crate is, in its own words, in the order in which a program goes through them. Names in **bold** are front doors, to be read
-first; the others stand behind those that they use. Most have a README. Written by `gate/crates.py`.
+first. Written by `gate/crates.py`.
 """
 
 

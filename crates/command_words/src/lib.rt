@@ -1,4 +1,4 @@
-//! The words behind the program's name, read.
+//! From the words behind the program's name to a request.
 #![tactic(auto)]
 
 mod grammar;

@@ -1,4 +1,4 @@
-//! The code of a formula computes its value and notes what is wrong.
+//! That the code of an expression computes its value and notes its faults, outside pardo and inside.
 #![tactic(auto)]
 
 pub mod formula_laws;

@@ -1,4 +1,4 @@
-//! What the program's commands tell, as JSON: outcomes, accepted programs, refusals, costs, comparisons, statements and exchanges.
+//! What the program's commands tell, as JSON.
 #![tactic(auto)]
 
 mod accepted;

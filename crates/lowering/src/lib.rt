@@ -1,4 +1,4 @@
-//! The code of an accepted program.
+//! From an accepted program to its superstep code, as the compiler writes it.
 #![tactic(auto)]
 
 mod finish;

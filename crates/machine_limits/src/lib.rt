@@ -1,4 +1,4 @@
-//! What runs of code keep within.
+//! That a run of superstep code keeps to its limits: values of 64 bits, and messages of few words that can be sent.
 #![tactic(auto)]
 
 pub mod limit_laws;

@@ -1,4 +1,4 @@
-//! The code of a program, as a definition.
+//! Which superstep code a program is compiled to, as a definition.
 #![tactic(auto)]
 
 pub mod form_laws;

@@ -1,4 +1,4 @@
-//! The language of programs, by its front door: from the bytes of a text to its tree, the tree spelled again, and input texts read.
+//! The language, by its front door: texts, trees and inputs.
 #![tactic(auto)]
 
 pub use pram_model::{Layout, Range, Rule};

@@ -1,5 +1,4 @@
-//! Programs by the front door: compiled, run by workers in threads, shown, and the whole program `pramc` but for the system's files and
-//! streams.
+//! Programs compiled, run and shown, and the whole command, but for the system's files and streams.
 #![tactic(auto)]
 
 pub use command_line::command;

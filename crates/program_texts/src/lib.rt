@@ -1,4 +1,4 @@
-//! Programs from their texts, what they mean by the definition, and the texts of outcomes and refusals.
+//! From the text of a program to the program, to its outcome by definition, and to the text of an outcome or a refusal.
 #![tactic(auto)]
 
 mod from_text;

@@ -1,4 +1,4 @@
-//! A statement's processors, each of which goes on after its fault.
+//! Statements whose processors go on after a fault, as code does, and that the least fault is that of the meaning.
 #![tactic(auto)]
 
 pub mod evaluation_laws;

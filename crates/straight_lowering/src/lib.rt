@@ -1,4 +1,4 @@
-//! The straight parts of the code of statements: what each evaluates, up to where control parts.
+//! The instructions that evaluate one statement, as the compiler writes them: reads, operations and a held write, without jumps.
 #![tactic(auto)]
 
 mod assignment;

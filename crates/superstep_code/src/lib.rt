@@ -1,4 +1,4 @@
-//! Superstep code, by its front door: instructions, code within its limits, and its one text, the listing, written and read.
+//! Superstep code, by its front door: instructions, code, and its listing.
 #![tactic(auto)]
 
 pub use pram_model::{Layout, Range, Rule};

@@ -1,4 +1,4 @@
-//! Tests of what is told of runs and of refusals: their costs, their statements in words and pictures, and JSON beside words.
+//! Tests of what is told of runs and of refusals.
 #![tactic(auto)]
 
 #[cfg(test)]

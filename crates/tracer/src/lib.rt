@@ -1,4 +1,4 @@
-//! The trace of a run, as text and as a picture: a line, or a column with bars, for each of its exchanges.
+//! The trace of a run, as text and as a picture of its exchanges.
 #![tactic(auto)]
 
 mod bars;

@@ -1,4 +1,4 @@
-//! The code of a program is code that can run.
+//! That the code of every accepted program passes the verifier.
 #![tactic(auto)]
 
 pub mod verified_laws;
