@@ -6,7 +6,7 @@ use Rattle.pram_check.specs.Checked.{Checked}
 use Rattle.superstep_instructions.specs.Code.{SuperstepCode}
 use Rattle.pram_meaning.specs.declared.reference.MeaningRefusal.{MeaningRefusal}
 use Rattle.pram_meaning.specs.declared.reference.MeaningRefusal.TheVariants as no_meaning
-use Rattle.program_texts.specs.Report.{IsMeaningRefused}
+use Rattle.program_texts.specs.Report.{IsMeaningRefused, refusal_of_meaning}
 use Rattle.program_texts.specs.declared.from_text.Refusal.{Refusal}
 use Rattle.program_texts.specs.declared.stop.Stop.TheVariants.{Refused}
 use Rattle.bsp_verify.specs.WellFormed.{IsWellFormed}
@@ -17,11 +17,11 @@ use Rattle.command_facts.specs.declared.halted.Halted.{Halted}
 use Rattle.command_facts.specs.declared.loaded.Loaded.{Loaded}
 use Rattle.command_facts.specs.Found.{IsInputFor, IsLoaded}
 use Rattle.command_facts.specs.Held.{IsListingIn}
-use Rattle.command_facts.specs.Refused.{IsRefusedCodeRun, IsRefusedRun, IsRunRefusedBy, IsToldWith, StopsAtCodeRun, StopsAtRun, refusal_of}
+use Rattle.command_facts.specs.Refused.{IsRefusedCodeRun, IsRefusedRun, IsRunRefusedBy, IsToldWith, StopsAtCodeRun, StopsAtRun}
 
 -- by the definition
 pub no_meaning_on : (program : Checked) (input : List ℤ) (r : MeaningRefusal) →
-    (r ≡ no_meaning.InputTooLong) ↔ (total_size program.layout < length input) → IsMeaningRefused program input (refusal_of r)
+    (r ≡ no_meaning.InputTooLong) ↔ (total_size program.layout < length input) → IsMeaningRefused program input (refusal_of_meaning r)
 no_meaning_on program input no_meaning.InputTooLong is = is.0 refl
 no_meaning_on program input no_meaning.OutOfMemory is = few (λ long. differ (is.1 long))
   where

@@ -5,8 +5,6 @@ use Rattle.pram_model.specs.Layout.{total_size}
 use Rattle.pram_check.specs.Checked.{Checked}
 use Rattle.superstep_instructions.specs.Code.{SuperstepCode}
 use Rattle.bsp_verify.specs.WellFormed.{IsWellFormed}
-use Rattle.pram_meaning.specs.declared.reference.MeaningRefusal.{MeaningRefusal}
-use Rattle.pram_meaning.specs.declared.reference.MeaningRefusal.TheVariants as no_meaning
 use Rattle.program_texts.specs.Report.{IsMeaningRefused, IsProgramOf}
 use Rattle.program_texts.specs.declared.from_text.Refusal.{Refusal}
 use Rattle.program_texts.specs.declared.from_text.Refusal.TheVariants as refusal
@@ -37,11 +35,6 @@ IsToldWith refusal.InputTooLong values cells a = AreNumbers a values cells
 IsToldWith _ values cells a = a ≡ about.Nothing
 
 -- ---- runs
-
--- why a program has no meaning on an input, in the words of calls
-abbrev pub refusal_of : MeaningRefusal → Refusal
-refusal_of no_meaning.InputTooLong = refusal.InputTooLong
-refusal_of no_meaning.OutOfMemory = refusal.OutOfMemory
 
 -- why a program's run is refused: by its definition, or by workers
 abbrev pub IsRunRefusedBy : Verb → Checked → List ℤ → RunWords → Refusal → Type 0

@@ -9,10 +9,10 @@ use crate::found::{Found, FoundCode, FoundRun};
 use crate::halted::{Halted, halted_run};
 use crate::loaded::Loaded;
 use crate::loading::{load_input, load_listing, load_program};
-use crate::running::{facts_of, refusal_of};
+use crate::running::facts_of;
 use command_requests::{Request, RunWords, Verb};
 use program_runs::{compile_program, run_code};
-use program_texts::Stop;
+use program_texts::{Refusal, Stop};
 use rule_comparison::{Comparison, compare_rules};
 use std::alloc::Global;
 use std::sync::Wait;
@@ -68,7 +68,7 @@ fn find_comparison<'a, S: Sources>(
     let cells = loaded.program.layout().cells();
     match compare_rules(alloc, loaded.program, &input, words.options.bound) {
         Ok(comparison) => Ok(comparison),
-        Err(refusal) => Err(halted_run(refusal_of(refusal), input.len(), cells)),
+        Err(why) => Err(halted_run(Refusal::from(why), input.len(), cells)),
     }
 }
 

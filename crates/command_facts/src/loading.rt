@@ -94,7 +94,7 @@ pub(crate) fn load_input<'a, S: Sources>(
     match read_input(alloc, &bytes) {
         Ok(values) => Ok(values),
         Err(fault) => Err(Halted {
-            stop: Stop::Refused(Refusal::of_text(fault)),
+            stop: Stop::Refused(Refusal::from(fault)),
             about: About::Text(source_of(Kind::Input, name, bytes)),
         }),
     }

@@ -11,7 +11,6 @@ use crate::found::Facts;
 use command_requests::{CostWords, RunWords, Verb};
 use exchange_counts::Counts;
 use pram_check::Program;
-use pram_meaning::MeaningRefusal;
 use program_runs::run_program;
 use program_texts::{Refusal, mean_program};
 use std::alloc::Global;
@@ -21,16 +20,6 @@ use step_journal::steps_of;
 use work_time::cost_of;
 use workers::OpenGate;
 use write_rules::Outcome;
-
-/// Why a program has no meaning on an input, in the words of calls.
-pub(crate) fn refusal_of(refusal: MeaningRefusal) -> Refusal
-    ensures { result ≡ refused.refusal_of refusal }
-{
-    match refusal {
-        MeaningRefusal::InputTooLong => Refusal::InputTooLong,
-        MeaningRefusal::OutOfMemory => Refusal::OutOfMemory,
-    }
-}
 
 // The outcome by the definition.
 fn mean(
@@ -70,10 +59,8 @@ fn cost(
     ensures stopped { IfErr result (refused.IsRunRefusedBy Verb.Cost program.now input.now words.entry) }
 {
     let schedule = processors_of(words.costs);
-    match cost_of(alloc, program, input, words.options.bound, schedule) {
-        Ok((outcome, cost)) => Ok((outcome, Facts::Cost(cost))),
-        Err(refusal) => Err(refusal_of(refusal)),
-    }
+    let (outcome, cost) = cost_of(alloc, program, input, words.options.bound, schedule)?;
+    Ok((outcome, Facts::Cost(cost)))
 }
 
 // The outcome by the definition, and what is told of that run, statement by statement.
@@ -87,10 +74,8 @@ fn steps(
     ensures facts { IfOk result (λ f. spec.AreFactsOf Verb.Steps program.now input.now words.entry (verdict_of f.0) f.1) }
     ensures stopped { IfErr result (refused.IsRunRefusedBy Verb.Steps program.now input.now words.entry) }
 {
-    match steps_of(alloc, program, input, words.options.bound) {
-        Ok((outcome, entries)) => Ok((outcome, Facts::Steps(entries))),
-        Err(refusal) => Err(refusal_of(refusal)),
-    }
+    let (outcome, entries) = steps_of(alloc, program, input, words.options.bound)?;
+    Ok((outcome, Facts::Steps(entries)))
 }
 
 // The outcome by workers, and the exchanges.

@@ -12,6 +12,8 @@ use Rattle.pram_names.specs.Breaches.{breaches, first}
 use Rattle.pram_check.specs.Checked.{Checked, IsResolved}
 use Rattle.pram_check.specs.Faults.{IsAccepted}
 use Rattle.write_rules.specs.Verdict.{Verdict}
+use Rattle.pram_meaning.specs.declared.reference.MeaningRefusal.{MeaningRefusal}
+use Rattle.pram_meaning.specs.declared.reference.MeaningRefusal.TheVariants as no_meaning
 use Rattle.pram_meaning.specs.Outcome.{IsOutcome}
 use Rattle.program_texts.specs.declared.from_text.Refusal.{Refusal}
 use Rattle.program_texts.specs.declared.from_text.Refusal.TheVariants as refusal
@@ -58,6 +60,11 @@ pub record HasTooFewCells (text : List ℕ) (input : List ℤ) : Type 0 where
 abbrev pub refusal_of : TextFault → Refusal
 refusal_of OutOfMemory = refusal.OutOfMemory
 refusal_of fault = refusal.Text fault
+
+-- why a program has no meaning on an input, in the words of calls
+abbrev pub refusal_of_meaning : MeaningRefusal → Refusal
+refusal_of_meaning no_meaning.InputTooLong = refusal.InputTooLong
+refusal_of_meaning no_meaning.OutOfMemory = refusal.OutOfMemory
 
 -- such a fault of the text, which is no want of memory
 abbrev pub IsTextRefusal : List ℕ → TextFault → Type 0

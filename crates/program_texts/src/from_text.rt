@@ -2,13 +2,14 @@
 
 ghost use Rattle.std.specs.Prelude.{◌≡◌, ℕ, List, IfErr, IfOk};
 ghost use Rattle.write_rules.specs.Verdict.{verdict_of};
-ghost use Rattle.program_texts.specs.Report.{IsMeaningOf, IsMeaningRefused, IsNoProgram, IsProgramOf, IsRefusedRightly, IsRunOf, refusal_of};
+ghost use Rattle.program_texts.specs.Report.{IsMeaningOf, IsMeaningRefused, IsNoProgram, IsProgramOf, IsRefusedRightly, IsRunOf, refusal_of, refusal_of_meaning};
+ghost use Rattle.program_texts.specs.declared.from_text.Refusal.TheVariants.{OutOfMemory};
 
 use pram_check::{Breach, CheckFault, Program, check};
 use pram_meaning::{MeaningRefusal, reference_run};
 use pram_parser::parse;
 use pram_trees::{Layout, TextFault};
-use std::alloc::Global;
+use std::alloc::{AllocError, Global};
 use write_rules::Outcome;
 
 /// Why a text is not run.
@@ -30,15 +31,35 @@ pub enum Refusal {
     OutOfReserve,
 }
 
-impl Refusal {
-    /// What a text, or an input, is refused for. Want of memory has one spelling, whoever asked.
-    pub fn of_text(fault: TextFault) -> Refusal
-        ensures { result ≡ refusal_of fault }
-    {
+// What a text, or an input, is refused for. Want of memory has one spelling, whoever asked.
+impl From<TextFault> for Refusal {
+    ghost from_gives = { λ fault refusal. refusal ≡ refusal_of fault };
+
+    fn from(fault: TextFault) -> Refusal {
         match fault {
             TextFault::OutOfMemory => Refusal::OutOfMemory,
             _ => Refusal::Text(fault),
         }
+    }
+}
+
+// Why a program has no meaning on an input.
+impl From<MeaningRefusal> for Refusal {
+    ghost from_gives = { λ why refusal. refusal ≡ refusal_of_meaning why };
+
+    fn from(why: MeaningRefusal) -> Refusal {
+        match why {
+            MeaningRefusal::InputTooLong => Refusal::InputTooLong,
+            MeaningRefusal::OutOfMemory => Refusal::OutOfMemory,
+        }
+    }
+}
+
+impl From<AllocError> for Refusal {
+    ghost from_gives = { λ _ refusal. refusal ≡ OutOfMemory };
+
+    fn from(_e: AllocError) -> Refusal {
+        Refusal::OutOfMemory
     }
 }
 
@@ -55,10 +76,7 @@ pub fn read_program(alloc: Global, text: &[u8]) -> Result<Program, Refusal>
     ensures program { IfOk result (IsProgramOf text.now) }
     ensures refused { IsNoProgram text.now result }
 {
-    let tree = match parse(alloc, text) {
-        Ok(tree) => tree,
-        Err(fault) => return Err(Refusal::of_text(fault)),
-    };
+    let tree = parse(alloc, text)?;
     match check(alloc, tree) {
         Ok(program) => Ok(program),
         Err((CheckFault::Refused(breach), _tree)) => Err(Refusal::Program(breach)),
@@ -83,11 +101,8 @@ pub fn mean_program(
         IsRunOf text input.now bound program.now.layout (verdict_of o)) }
     ensures refused { (text : List ℕ) → IsProgramOf text program.now → IsRefusedRightly text input.now result }
 {
-    match reference_run(alloc, program, input, bound) {
-        Ok(outcome) => Ok(outcome),
-        Err(MeaningRefusal::InputTooLong) => Err(Refusal::InputTooLong),
-        Err(MeaningRefusal::OutOfMemory) => Err(Refusal::OutOfMemory),
-    }
+    let outcome = reference_run(alloc, program, input, bound)?;
+    Ok(outcome)
 }
 
 /// The outcome, by the definition, of the program of a text on an input, within at most `bound` statements, and the program's shared
@@ -101,15 +116,8 @@ pub fn meaning_of_text(
     ensures outcome { IfOk result (λ r. IsRunOf text.now input.now bound r.layout (verdict_of r.outcome)) }
     ensures refused { IsRefusedRightly text.now input.now result }
 {
-    let program = match read_program(alloc, text) {
-        Ok(program) => program,
-        Err(refusal) => return Err(refusal),
-    };
-    match mean_program(alloc, &program, input, bound) {
-        Ok(outcome) => {
-            let layout = program.into_layout();
-            Ok(TextOutcome { layout, outcome })
-        }
-        Err(refusal) => Err(refusal),
-    }
+    let program = read_program(alloc, text)?;
+    let outcome = mean_program(alloc, &program, input, bound)?;
+    let layout = program.into_layout();
+    Ok(TextOutcome { layout, outcome })
 }

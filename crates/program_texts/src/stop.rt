@@ -16,6 +16,9 @@ use std::fmt;
 use text_out::{Out, WriteFault};
 use thiserror::Error;
 
+// Want of memory has one spelling, whoever asked.
+const OUT_OF_MEMORY: &str = "E16 OutOfMemory";
+
 /// Why a call of the program comes to no end of its own. Its text is what `write_stop` writes, but
 /// for the word `refused` and the end of the line.
 #[derive(Debug, Drop, Error)]
@@ -41,6 +44,14 @@ pub enum Stop<'a> {
     /// E17: standard output failed.
     #[error("E17 WriteFailed")]
     WriteFailed,
+}
+
+impl<'a> From<Refusal> for Stop<'a> {
+    ghost from_gives = { λ refusal stop. stop ≡ Refused refusal };
+
+    fn from(refusal: Refusal) -> Stop<'a> {
+        Stop::Refused(refusal)
+    }
 }
 
 impl<'a> From<AllocError> for Stop<'a> {
@@ -143,7 +154,7 @@ fn words_of(refusal: Refusal) -> (&'static str, Option<u32>)
         Refusal::InputTooLong => ("E11 InputTooLong", None),
         Refusal::BadMap => ("E12 BadMap", None),
         Refusal::BadWorkers => ("E13 BadWorkers", None),
-        Refusal::OutOfMemory => ("E16 OutOfMemory", None),
+        Refusal::OutOfMemory => (OUT_OF_MEMORY, None),
         Refusal::OutOfReserve => ("E18 OutOfReserve", None),
     }
 }
@@ -158,7 +169,7 @@ fn text_words(fault: TextFault) -> (&'static str, Option<u32>)
         TextFault::BadToken(at) => ("E3 BadToken", Some(at)),
         TextFault::Syntax(at) => ("E4 Syntax", Some(at)),
         TextFault::TooDeep(at) => ("E5 TooDeep", Some(at)),
-        TextFault::OutOfMemory => ("E16 OutOfMemory", None),
+        TextFault::OutOfMemory => (OUT_OF_MEMORY, None),
     }
 }
 
