@@ -21,4 +21,4 @@ pub use end_room::EndRoom;
 pub use opening::open_all;
 pub use plain::run_plain;
 pub use superstep_machine::Purpose;
-pub use worker_exchange::{Column, Local, Row, RunRefusal, put_words, row_room};
+pub use worker_exchange::{Column, Local, Progress, Row, RunRefusal, put_words, receive, row_room};

@@ -19,6 +19,7 @@ pub use entry::Entry;
 pub use exclusive::Exclusive;
 pub use fault::Fault;
 pub use outcome::Outcome;
+pub use pram_values::{Kind, Place};
 pub use priority::Priority;
 pub use rule_body::{RuleBody, under};
 pub use summed::Summed;
