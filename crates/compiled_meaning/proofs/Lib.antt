@@ -1,4 +1,4 @@
-pub mod Statement
+pub mod EachStatement
 pub mod Inside
 pub mod Outside
 pub mod Opening

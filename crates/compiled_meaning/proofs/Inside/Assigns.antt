@@ -53,9 +53,9 @@ use Rattle.exchange_bound.specs.Events.{Event, Runs, begun, levels, step_events}
 use Rattle.exchange_bound.specs.Spent as events
 use Rattle.compiled_meaning.specs.Between.{IsRunOf}
 use Rattle.compiled_meaning.specs.Follows.{Follows}
-use Rattle.compiled_meaning.proofs.Statement.Costs.{straight_parts_cost}
-use Rattle.compiled_meaning.proofs.Statement.Places.{ready_to_write}
-use Rattle.compiled_meaning.proofs.Statement.Valued.{value_is}
+use Rattle.compiled_meaning.proofs.EachStatement.Costs.{straight_parts_cost}
+use Rattle.compiled_meaning.proofs.EachStatement.Places.{ready_to_write}
+use Rattle.compiled_meaning.proofs.EachStatement.Valued.{value_is}
 use Rattle.compiled_meaning.specs.Steps.{GoesWithin}
 use Rattle.compiled_meaning.specs.Within.{IsWithin}
 use Rattle.compiled_meaning.proofs.Inside.Attempted.{one_more, attempted}

@@ -36,8 +36,8 @@ use Rattle.exchange_bound.specs.Bound.{one_if}
 use Rattle.compiled_meaning.specs.Between.{IsBetween}
 use Rattle.compiled_meaning.specs.Begins.{begun, done, HasPassed, PassesOrFaults, BeginsOrEnds}
 use Rattle.compiled_meaning.specs.Follows.{Follows}
-use Rattle.compiled_meaning.proofs.Statement.Begins.{statements_go_on}
-use Rattle.compiled_meaning.proofs.Statement.Joined.{comes_out_sooner}
+use Rattle.compiled_meaning.proofs.EachStatement.Begins.{statements_go_on}
+use Rattle.compiled_meaning.proofs.EachStatement.Joined.{comes_out_sooner}
 use Rattle.std.proofs.lemmas.Bool.{ltb-true}
 
 -- one statement more

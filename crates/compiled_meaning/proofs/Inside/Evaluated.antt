@@ -35,7 +35,7 @@ use Rattle.compiled_formulas.proofs.Tasks.{expressions_are_single, values_are_ta
 use Rattle.compiled_formulas.proofs.Terms.{expressions_are_terms, expressions_are_named}
 use Rattle.compiled_meaning.specs.Begins.{begun, done}
 use Rattle.compiled_meaning.specs.Between.{IsRunOf}
-use Rattle.compiled_meaning.proofs.Statement.Marked.{begun_is, begun_bare, evaluation_acts_with, evaluation_notes_with}
+use Rattle.compiled_meaning.proofs.EachStatement.Marked.{begun_is, begun_bare, evaluation_acts_with, evaluation_notes_with}
 use Rattle.compiled_meaning.specs.Within.{IsWithin}
 use Rattle.compiled_meaning.proofs.Inside.Apart.{sets_are_apart}
 use Rattle.compiled_meaning.proofs.Inside.Sets.{tests_agree, active_are_present}

@@ -44,7 +44,7 @@ use Rattle.exchange_bound.specs.Events.{Event, behind, begun, levels}
 use Rattle.compiled_meaning.specs.Begins.{done}
 use Rattle.compiled_meaning.specs.Between.{IsRunOf}
 use Rattle.compiled_meaning.specs.Follows.{Follows}
-use Rattle.compiled_meaning.proofs.Statement.Costs.{straight_parts_cost}
+use Rattle.compiled_meaning.proofs.EachStatement.Costs.{straight_parts_cost}
 use Rattle.compiled_meaning.specs.Within.{IsWithin}
 use Rattle.compiled_meaning.proofs.Inside.Attempted.{one_more, attempted}
 use Rattle.compiled_meaning.proofs.Inside.Evaluated.{marked, end, end_shows, end_left, end_stands, done_is, names, register, tests_are}

@@ -26,7 +26,7 @@ use Rattle.exchange_bound.specs.Events.{steps_events, step_target_levels, is_ste
 use Rattle.exchange_bound.specs.Spent as spent
 use Rattle.exchange_bound.specs.Spent.{held_after, held_behind}
 use Rattle.compiled_meaning.specs.Follows.{HoldsBehind}
-use Rattle.compiled_meaning.proofs.Statement.Joined.{holds_behind, holds_then}
+use Rattle.compiled_meaning.proofs.EachStatement.Joined.{holds_behind, holds_then}
 use Rattle.compiled_meaning.proofs.Inside.Attempted.{one_more}
 use Rattle.compiled_meaning.proofs.Inside.Parts.{behind_nothing}
 

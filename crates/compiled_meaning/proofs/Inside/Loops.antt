@@ -30,8 +30,8 @@ use Rattle.exchange_bound.specs.Events.{Event, Runs, Cut, Votes, behind, begun, 
 use Rattle.exchange_bound.specs.Spent as events
 use Rattle.compiled_meaning.specs.Between.{IsBetween, IsRunOf}
 use Rattle.compiled_meaning.specs.Follows.{Follows, HoldsBehind}
-use Rattle.compiled_meaning.proofs.Statement.Joined.{follows_also, follows_sooner, follows_behind, follows_then, spent_behind}
-use Rattle.compiled_meaning.proofs.Statement.Places.{jump_between, fork_between}
+use Rattle.compiled_meaning.proofs.EachStatement.Joined.{follows_also, follows_sooner, follows_behind, follows_then, spent_behind}
+use Rattle.compiled_meaning.proofs.EachStatement.Places.{jump_between, fork_between}
 use Rattle.compiled_meaning.specs.Steps.{GoesWithin}
 use Rattle.compiled_meaning.specs.Within.{IsWithin}
 use Rattle.compiled_meaning.proofs.Inside.LoopPlaces.{LoopStands}

@@ -21,7 +21,7 @@ use Rattle.plain_form.specs.Registers.{behind_locals}
 use Rattle.plain_form.specs.Shapes.{flush, flagged}
 use Rattle.compiled_formulas.specs.Inside.{ShowsInside}
 use Rattle.exchange_bound.specs.Bound.{one_if}
-use Rattle.compiled_meaning.proofs.Statement.Places.{between_at, work_between, flushed}
+use Rattle.compiled_meaning.proofs.EachStatement.Places.{between_at, work_between, flushed}
 use Rattle.compiled_meaning.specs.Within.{IsWithin}
 use Rattle.compiled_meaning.proofs.Inside.Parts.{within_seen}
 use Rattle.compiled_meaning.proofs.Inside.Locals.{either_same, either_other}

@@ -15,7 +15,7 @@ use Rattle.exchange_bound.specs.Events.{Event, behind}
 use Rattle.exchange_bound.specs.Spent as events
 use Rattle.compiled_meaning.specs.Between.{IsBetween}
 use Rattle.compiled_meaning.specs.Follows.{Follows, HoldsBehind}
-use Rattle.compiled_meaning.proofs.Statement.Joined.{follows_also, follows_then, spent_behind}
+use Rattle.compiled_meaning.proofs.EachStatement.Joined.{follows_also, follows_then, spent_behind}
 use Rattle.compiled_meaning.specs.Steps.{GoesWithin}
 use Rattle.compiled_meaning.specs.Within.{IsWithin}
 use Rattle.compiled_meaning.proofs.Inside.Passed.{goes_from}

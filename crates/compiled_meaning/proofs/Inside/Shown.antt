@@ -14,7 +14,7 @@ use Rattle.compiled_formulas.specs.Environments.{IsFree, Shows}
 use Rattle.compiled_formulas.specs.Inside.{ShowsInside}
 use Rattle.compiled_formulas.proofs.Shown.{still_shows}
 use Rattle.compiled_meaning.specs.Begins.{begun}
-use Rattle.compiled_meaning.proofs.Statement.Marked.{begun_is}
+use Rattle.compiled_meaning.proofs.EachStatement.Marked.{begun_is}
 
 -- other uniform registers with the same variables, and another memory with the same cells
 also_outside : (n : Names) (s : View) (uniforms others : Registers) (memory other : ℕ → ℤ) →

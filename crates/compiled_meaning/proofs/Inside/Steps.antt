@@ -29,7 +29,7 @@ use Rattle.exchange_bound.specs.Events.{Runs, Cut, Votes, begun, levels, turns_o
 use Rattle.exchange_bound.specs.Spent as events
 use Rattle.compiled_meaning.specs.Between.{IsRunOf}
 use Rattle.compiled_meaning.specs.Follows.{Follows}
-use Rattle.compiled_meaning.proofs.Statement.Joined.{follows_also}
+use Rattle.compiled_meaning.proofs.EachStatement.Joined.{follows_also}
 use Rattle.compiled_meaning.specs.Steps.{GoesWithin, StepsAreFollowed}
 use Rattle.compiled_meaning.specs.Within.{IsWithin}
 use Rattle.compiled_meaning.proofs.Inside.Assigns.{assign_followed}

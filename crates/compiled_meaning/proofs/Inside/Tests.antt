@@ -36,7 +36,7 @@ use Rattle.exchange_bound.specs.Events.{Event, Runs, behind, begun, levels}
 use Rattle.compiled_meaning.specs.Begins.{done}
 use Rattle.compiled_meaning.specs.Between.{IsRunOf}
 use Rattle.compiled_meaning.specs.Follows.{Follows}
-use Rattle.compiled_meaning.proofs.Statement.Costs.{straight_parts_cost}
+use Rattle.compiled_meaning.proofs.EachStatement.Costs.{straight_parts_cost}
 use Rattle.compiled_meaning.specs.Steps.{GoesWithin}
 use Rattle.compiled_meaning.specs.Within.{IsWithin}
 use Rattle.compiled_meaning.proofs.Inside.Attempted.{one_more, attempted}

@@ -45,7 +45,7 @@ use Rattle.compiled_formulas.specs.Writes.{write_code, write_rows, IsWrittenInsi
 use Rattle.compiled_formulas.proofs.WritesInside.{writes_are_tasks}
 use Rattle.compiled_meaning.specs.Begins.{done}
 use Rattle.compiled_meaning.specs.Between.{IsRunOf}
-use Rattle.compiled_meaning.proofs.Statement.Valued.{value_fits}
+use Rattle.compiled_meaning.proofs.EachStatement.Valued.{value_fits}
 use Rattle.compiled_meaning.specs.Within.{IsWithin}
 use Rattle.compiled_meaning.proofs.Inside.Apart.{rows_fit, rows_are_writers}
 use Rattle.compiled_meaning.proofs.Inside.Attempted.{one_more}

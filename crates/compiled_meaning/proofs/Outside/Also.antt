@@ -24,7 +24,7 @@ use Rattle.plain_form.specs.Registers.{behind_variables}
 use Rattle.plain_form.specs.Shapes.{flush}
 use Rattle.compiled_formulas.proofs.Operations.{set_here, set_there}
 use Rattle.compiled_formulas.specs.Outside.{ShowsOutside}
-use Rattle.compiled_meaning.proofs.Statement.Marked.{send_stays, send_notes}
+use Rattle.compiled_meaning.proofs.EachStatement.Marked.{send_stays, send_notes}
 use Rattle.compiled_meaning.proofs.Outside.Evaluated.{Leaves}
 use Rattle.flat_stretches.proofs.Statements.{mark_stays}
 use Rattle.compiled_meaning.proofs.Outside.UniformWork.{nothing_either, rests_behind, noted_alone}

@@ -29,7 +29,7 @@ use Rattle.verified_form.proofs.Fine.{straight_parts_are_fine}
 use Rattle.exchange_bound.specs.Events as events
 use Rattle.exchange_bound.specs.Events.{Event, Runs}
 use Rattle.compiled_meaning.specs.Between.{IsRunOf}
-use Rattle.compiled_meaning.proofs.Statement.Costs.{straight_parts_cost}
+use Rattle.compiled_meaning.proofs.EachStatement.Costs.{straight_parts_cost}
 use Rattle.compiled_meaning.specs.Without.{IsWithout}
 use Rattle.compiled_meaning.proofs.Outside.Leads.{Leads, leads_after}
 use Rattle.compiled_meaning.proofs.Outside.Passed.{Passes}

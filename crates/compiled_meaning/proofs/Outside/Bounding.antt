@@ -45,8 +45,8 @@ use Rattle.exchange_bound.specs.Events.{Event, Runs, Cut}
 use Rattle.exchange_bound.specs.Bound.{one_if}
 use Rattle.compiled_meaning.specs.Between.{IsRunOf}
 use Rattle.compiled_meaning.specs.Begins.{begun, done}
-use Rattle.compiled_meaning.proofs.Statement.Costs.{straight_parts_cost}
-use Rattle.compiled_meaning.proofs.Statement.Valued.{value_is}
+use Rattle.compiled_meaning.proofs.EachStatement.Costs.{straight_parts_cost}
+use Rattle.compiled_meaning.proofs.EachStatement.Valued.{value_is}
 use Rattle.compiled_meaning.specs.Without.{IsWithout}
 use Rattle.compiled_meaning.proofs.Outside.Leads.{Leads}
 use Rattle.compiled_meaning.proofs.Outside.Passed.{IsPassed}

@@ -43,9 +43,9 @@ use Rattle.exchange_bound.specs.Events as events
 use Rattle.exchange_bound.specs.Events.{Event, Runs}
 use Rattle.compiled_meaning.specs.Between.{IsBetween, IsRunOf}
 use Rattle.compiled_meaning.specs.Begins.{begun, done, HasPassed}
-use Rattle.compiled_meaning.proofs.Statement.Costs.{straight_parts_cost}
-use Rattle.compiled_meaning.proofs.Statement.Places.{between_at}
-use Rattle.compiled_meaning.proofs.Statement.Valued.{value_is}
+use Rattle.compiled_meaning.proofs.EachStatement.Costs.{straight_parts_cost}
+use Rattle.compiled_meaning.proofs.EachStatement.Places.{between_at}
+use Rattle.compiled_meaning.proofs.EachStatement.Valued.{value_is}
 use Rattle.compiled_meaning.specs.Within.{IsWithin}
 use Rattle.compiled_meaning.specs.Without.{IsWithout}
 use Rattle.compiled_meaning.proofs.Outside.Leads.{Leads}

@@ -24,7 +24,7 @@ use Rattle.compiled_formulas.specs.Outside.{ShowsOutside, IsEvaluatedOutside, Ma
 use Rattle.compiled_formulas.proofs.Outside.{formulas_are_evaluated_outside}
 use Rattle.compiled_meaning.specs.Between.{IsRunOf}
 use Rattle.compiled_meaning.specs.Begins.{begun}
-use Rattle.compiled_meaning.proofs.Statement.Marked.{begun_bare, begun_rests, evaluation_acts_with, evaluation_notes_with}
+use Rattle.compiled_meaning.proofs.EachStatement.Marked.{begun_bare, begun_rests, evaluation_acts_with, evaluation_notes_with}
 use Rattle.compiled_meaning.specs.Without.{IsWithout}
 use Rattle.compiled_meaning.proofs.Inside.Attempted.{one_more}
 

@@ -11,7 +11,7 @@ use Rattle.exchange_bound.specs.Bound.{one_if}
 use Rattle.exchange_bound.specs.Spent.{spent, held_behind}
 use Rattle.exchange_bound.proofs.Shared.{held_joins}
 use Rattle.compiled_meaning.specs.Follows.{in_all, Follows, HoldsBehind}
-use Rattle.compiled_meaning.proofs.Statement.Joined.{in_all_joins, spent_behind}
+use Rattle.compiled_meaning.proofs.EachStatement.Joined.{in_all_joins, spent_behind}
 
 -- `Follows` and `HoldsBehind` for parts that come to a value: `goes` says of that, of what was spent, and of the state what the run comes
 -- to there.

@@ -9,7 +9,7 @@ use Rattle.pram_values.specs.Value.{checked}
 use Rattle.pram_values.proofs.Checked.{checked_some}
 use Rattle.pram_meaning.specs.Values.{IsValue}
 use Rattle.pram_meaning.proofs.SoundValues.{between}
-use Rattle.compiled_meaning.proofs.Statement.Valued.{value_fits}
+use Rattle.compiled_meaning.proofs.EachStatement.Valued.{value_fits}
 
 -- without a number the low bound is the greater one
 pub none_between : (a b : ℤ) → width a b ≡ zero → int_le a b ≡ false

@@ -31,7 +31,7 @@ use Rattle.exchange_bound.specs.Bound.{one_if}
 use Rattle.exchange_bound.specs.Spent.{spent, held_behind}
 use Rattle.compiled_meaning.specs.Between.{IsBetween}
 use Rattle.compiled_meaning.specs.Begins.{begun, done, HasPassed, PassesOrFaults, BeginsOrEnds}
-use Rattle.compiled_meaning.proofs.Statement.Begins.{statements_go_on}
+use Rattle.compiled_meaning.proofs.EachStatement.Begins.{statements_go_on}
 use Rattle.compiled_meaning.proofs.Inside.Attempted.{one_more}
 use Rattle.compiled_meaning.proofs.Outside.Leads.{Leads}
 use Rattle.compiled_formulas.specs.Headings.{heading_of}

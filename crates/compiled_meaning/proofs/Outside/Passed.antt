@@ -13,7 +13,7 @@ use Rattle.plain_form.specs.Shapes.{flush}
 use Rattle.compiled_formulas.specs.Outside.{ShowsOutside}
 use Rattle.exchange_bound.specs.Bound.{one_if}
 use Rattle.compiled_meaning.specs.Between.{IsBetween}
-use Rattle.compiled_meaning.proofs.Statement.Places.{between_at, jump_between, fork_between, flushed}
+use Rattle.compiled_meaning.proofs.EachStatement.Places.{between_at, jump_between, fork_between, flushed}
 use Rattle.compiled_meaning.specs.Without.{IsWithout}
 
 module _ (p : Checked) (t : Run) where

@@ -32,7 +32,7 @@ use Rattle.compiled_formulas.specs.Outside.{ShowsOutside}
 use Rattle.exchange_bound.specs.Events as events
 use Rattle.exchange_bound.specs.Events.{Event, Runs, behind, steps_events}
 use Rattle.compiled_meaning.specs.Between.{IsRunOf}
-use Rattle.compiled_meaning.proofs.Statement.Places.{work_between}
+use Rattle.compiled_meaning.proofs.EachStatement.Places.{work_between}
 use Rattle.compiled_meaning.specs.Within.{IsWithin}
 use Rattle.compiled_meaning.specs.Steps.{GoesWithin}
 use Rattle.compiled_meaning.proofs.Inside.Grown.{Grows, list_grows}

@@ -27,7 +27,7 @@ use Rattle.compiled_formulas.specs.Environments.{IsNamed}
 use Rattle.compiled_formulas.proofs.Terms.{expressions_are_terms, steps_are_steps, expressions_are_named}
 use Rattle.compiled_meaning.specs.Between.{IsRunOf}
 use Rattle.compiled_meaning.specs.Begins.{begun}
-use Rattle.compiled_meaning.proofs.Statement.Valued.{value_is}
+use Rattle.compiled_meaning.proofs.EachStatement.Valued.{value_is}
 use Rattle.compiled_meaning.specs.Without.{IsWithout}
 use Rattle.compiled_meaning.proofs.Inside.Attempted.{one_more}
 use Rattle.compiled_meaning.proofs.Outside.Evaluated.{Leaves, is_valued, valued_leaves, part_acts, part_notes}

@@ -15,7 +15,7 @@ use Rattle.compiled_formulas.specs.Outside.{ShowsOutside}
 use Rattle.compiled_meaning.specs.Between.{IsBetween, IsRunOf, HasSizes}
 use Rattle.compiled_meaning.specs.Begins.{done, HasPassed}
 use Rattle.compiled_meaning.specs.Costs.{Costs}
-use Rattle.compiled_meaning.proofs.Statement.Places.{between_at}
+use Rattle.compiled_meaning.proofs.EachStatement.Places.{between_at}
 use Rattle.compiled_meaning.specs.Without.{IsWithout}
 use Rattle.compiled_meaning.proofs.Inside.Attempted.{one_more}
 use Rattle.compiled_meaning.proofs.Outside.OneStatement.{MayBegin}

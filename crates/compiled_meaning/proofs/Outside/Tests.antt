@@ -34,7 +34,7 @@ use Rattle.exchange_bound.specs.Spent.{held_behind}
 use Rattle.compiled_meaning.specs.Between.{IsRunOf}
 use Rattle.compiled_meaning.specs.Begins.{done}
 use Rattle.compiled_meaning.specs.Costs.{Costs}
-use Rattle.compiled_meaning.proofs.Statement.Costs.{straight_parts_cost}
+use Rattle.compiled_meaning.proofs.EachStatement.Costs.{straight_parts_cost}
 use Rattle.compiled_meaning.specs.Without.{IsWithout}
 use Rattle.compiled_meaning.proofs.Outside.Leads.{Leads, leads_after}
 use Rattle.compiled_meaning.proofs.Outside.Passed.{IsPassed}

@@ -51,8 +51,8 @@ use Rattle.exchange_bound.specs.Bound.{one_if}
 use Rattle.exchange_bound.specs.Spent as exchanged
 use Rattle.compiled_meaning.specs.Between.{IsRunOf}
 use Rattle.compiled_meaning.specs.Begins.{begun, done}
-use Rattle.compiled_meaning.proofs.Statement.Costs.{straight_parts_cost}
-use Rattle.compiled_meaning.proofs.Statement.Valued.{value_is, value_fits}
+use Rattle.compiled_meaning.proofs.EachStatement.Costs.{straight_parts_cost}
+use Rattle.compiled_meaning.proofs.EachStatement.Valued.{value_is, value_fits}
 use Rattle.compiled_meaning.specs.Without.{IsWithout}
 use Rattle.compiled_meaning.proofs.Outside.Leads.{Leads, leads_after}
 use Rattle.compiled_meaning.proofs.Outside.Passed.{IsPassed, Passes, passed_both, passed_there, passed_here, passed_flush}

@@ -1,4 +1,4 @@
-use Rattle.compiled_meaning.proofs.Statement.Begins.{statements_go_on}
+use Rattle.compiled_meaning.proofs.EachStatement.Begins.{statements_go_on}
 use Rattle.compiled_meaning.proofs.statement_laws.statements_go_on.Goals as goal
 
 pub returns : goal.returns

@@ -30,7 +30,7 @@ use Rattle.flat_stretches.proofs.Statements.{marks_begin, marks_hold, statements
 use Rattle.flat_stretches.proofs.Tells.{calm_places_tell}
 use Rattle.exchange_bound.specs.Bound.{one_if}
 use Rattle.compiled_meaning.specs.Between.{IsBetween}
-use Rattle.compiled_meaning.proofs.Statement.Joined.{comes_out_sooner}
+use Rattle.compiled_meaning.proofs.EachStatement.Joined.{comes_out_sooner}
 use Rattle.compiled_meaning.specs.Begins.{begun, done, PassesOrFaults, BeginsOrEnds, StatementsGoOn}
 
 -- a write that is held is sent before the close
