@@ -1,12 +1,10 @@
 -- The state behind a mark, and what a statement evaluates there: an empty send does nothing and notes nothing.
 use Rattle.std.proofs.Common.{◌≡◌, ℕ, ◌+◌, List, [], ◌∷◌, ◌++◌, Bool, true, false, not, ◌&&◌, None, refl, sym, ap, ◌∙◌, subst}
-use Rattle.std.specs.Prelude.{if◌then◌else◌}
 use Rattle.superstep_instructions.specs.declared.instr.Side.{Side}
 use Rattle.superstep_instructions.specs.declared.instr.Instr.{Instr}
 use Rattle.superstep_instructions.specs.declared.instr.Instr.TheVariants.{Send}
 use Rattle.superstep_instructions.specs.Code.{SuperstepCode}
 use Rattle.superstep_machine.specs.Keys.{least}
-use Rattle.superstep_machine.specs.Parts.{PrivatePart}
 use Rattle.superstep_machine.specs.Run.{is_held}
 use Rattle.superstep_machine.specs.Steps.{is_active}
 use Rattle.flat_machine.specs.Flat.{Flat, conflicts}

@@ -1,8 +1,8 @@
 -- The registers of a `for`: what its bounds leave in them, and each setting of its variable; none of that notes anything.
-use Rattle.std.proofs.Common.{◌≡◌, ◌≢◌, ℕ, ◌<◌, ◌≤◌, List, [], ◌∷◌, ◌++◌, Bool, true, false, None, Ok, ℤ, ◌+ℤ◌, int_lt, int_le, refl, ap}
+use Rattle.std.proofs.Common.{◌≡◌, ◌≢◌, ℕ, ◌<◌, ◌≤◌, List, [], ◌∷◌, ◌++◌, Bool, None, Ok, ℤ, ◌+ℤ◌, int_lt, int_le, ap}
 use Rattle.std.proofs.Common.{◌∙◌}
 use Rattle.std.proofs.Common.{subst, arith}
-use Rattle.pram_values.specs.Truth.{truth, is_nonzero}
+use Rattle.pram_values.specs.Truth.{truth}
 use Rattle.pram_values.specs.Value.{checked}
 use Rattle.superstep_instructions.specs.declared.instr.Side.TheVariants.{Uniform}
 use Rattle.superstep_instructions.specs.declared.instr.Arithmetic.TheVariants as arithmetic

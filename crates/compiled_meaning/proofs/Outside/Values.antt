@@ -1,5 +1,5 @@
 -- What a program's state has behind its statements: values of 64 bits, and as many variables and cells as before.
-use Rattle.std.proofs.Common.{◌≡◌, ℕ, [], ◌∷◌, Option, Some, None, ℤ, refl, ◌∙◌}
+use Rattle.std.proofs.Common.{ℕ, [], ◌∷◌, Option, Some, None, ℤ, ◌∙◌}
 use Rattle.std.proofs.lemmas.List.{length-set}
 use Rattle.pram_check.specs.Checked.{Checked}
 use Rattle.pram_meaning.specs.Store.{State, seen, with_uniform, printed}
