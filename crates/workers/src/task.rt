@@ -7,18 +7,21 @@ use crate::deed::Deed;
 use crate::gates::Gate;
 use crate::part::Part;
 use crate::play::work;
-use crate::shared::Shared;
 use address_map::AddressMap;
 use bsp_machine::CountedWorker;
 use std::marker::Model;
 use std::sync::Wait;
-use turnstile::RowSeat;
+use superstep_instructions::Code;
+use turnstile::{RowSeat, Turnstile};
 use write_rules::{WriteRule, under};
 
 /// A worker before the first instruction, its seat, and what all workers of its run share.
 #[derive(Drop)]
 pub(crate) struct Task<'a, M: AddressMap> {
-    run: &'a Shared<'a, M>,
+    turnstile: &'a Turnstile,
+    code: &'a Code,
+    map: &'a M,
+    bound: u32,
     seat: RowSeat,
     worker: CountedWorker,
 }
@@ -28,20 +31,46 @@ impl<'a, M: AddressMap> Model for Task<'a, M> {
 
     ghost Value = { TaskState M };
 
-    ghost view = { λ t. record { run = t.run.now; seat = t.seat; worker = t.worker } };
+    ghost view = { λ t. record {
+      run = record { turnstile = t.turnstile.now; code = t.code.now; map = t.map.now; bound = t.bound };
+      seat = t.seat;
+      worker = t.worker;
+    } };
 
-    ghost invariant = { λ t. IsReady M.shape (record { run = t.run.now; seat = t.seat; worker = t.worker }) };
+    ghost invariant = { λ t. IsReady M.shape (record {
+      run = record { turnstile = t.turnstile.now; code = t.code.now; map = t.map.now; bound = t.bound };
+      seat = t.seat;
+      worker = t.worker;
+    }) };
 }
 
 impl<'a, M: AddressMap> Task<'a, M> {
     /// The task of a worker at its seat.
-    pub(crate) fn new(run: &'a Shared<'a, M>, seat: RowSeat, worker: CountedWorker) -> Task<'a, M>
-        requires { IsReady M.shape (record { run = run.now; seat = seat; worker = worker }) }
-        ensures run { result.run ≡ run.now }
+    pub(crate) fn new(
+        turnstile: &'a Turnstile,
+        code: &'a Code,
+        map: &'a M,
+        bound: u32,
+        seat: RowSeat,
+        worker: CountedWorker,
+    ) -> Task<'a, M>
+        requires { IsReady M.shape (record {
+          run = record { turnstile = turnstile.now; code = code.now; map = map.now; bound = bound };
+          seat = seat;
+          worker = worker;
+        }) }
+        ensures run { result.run ≡ record { turnstile = turnstile.now; code = code.now; map = map.now; bound = bound } }
         ensures seat { result.seat ≡ seat }
         ensures worker { result.worker ≡ worker }
     {
-        Task { run, seat, worker }
+        Task {
+            turnstile,
+            code,
+            map,
+            bound,
+            seat,
+            worker,
+        }
     }
 
     /// The seat of a task that nobody was told.
@@ -49,7 +78,10 @@ impl<'a, M: AddressMap> Task<'a, M> {
         ensures { result ≡ self.entry.seat }
     {
         let Task {
-            run: _,
+            turnstile: _,
+            code: _,
+            map: _,
+            bound: _,
             seat,
             worker: _,
         } = self;
@@ -66,13 +98,14 @@ impl<'a, M: AddressMap> Task<'a, M> {
         requires { W.WriteRule.rule rule.now ≡ self.run.code.rule }
         ensures { HasPlayed M.shape self.entry result.0 result.1 }
     {
-        let Task { run, seat, worker } = self;
-        let Shared {
+        let Task {
             turnstile,
             code,
             map,
             bound,
-        } = *run;
+            seat,
+            worker,
+        } = self;
         work(rt, turnstile, code, rule, map, bound, gate, seat, worker)
     }
 }
@@ -83,7 +116,7 @@ impl<'a, M: AddressMap + Sync> Deed for Task<'a, M> {
     ghost done = { λ t played. HasPlayed M.shape t played.0 played.1 };
 
     fn work_off<R: Wait, G: Gate>(self, rt: &R, gate: &G) -> (RowSeat, CountedWorker) {
-        let rule = self.run.code.rule();
+        let rule = self.code.rule();
         under(
             rule,
             Part {
