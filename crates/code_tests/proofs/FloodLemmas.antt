@@ -2,7 +2,7 @@
 use Rattle.std.proofs.Common.{◌≡◌, ℕ, ◌≤◌, List, ℤ, [], length, map, ap, arith}
 use Rattle.std.specs.Prelude.{vec_len}
 use Rattle.address_map.specs.Lawful.{Shape}
-use Rattle.superstep_instructions.specs.Code.{SuperstepCode}
+use Rattle.superstep_code.specs.Code.{SuperstepCode}
 use Rattle.superstep_machine.specs.Run.{opening, setting}
 use Rattle.bsp_machine.specs.declared.counted.CountedWorker.{CountedWorker}
 use Rattle.bsp_machine.specs.Workers.{share_told}

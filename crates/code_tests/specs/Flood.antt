@@ -1,7 +1,7 @@
 -- A worker to which something comes at every exchange, whatever it is.
 use Rattle.std.specs.Prelude.{◌≡◌, ℕ, ◌≤◌, List, length}
 use Rattle.address_map.specs.Lawful.{Shape}
-use Rattle.superstep_instructions.specs.Code.{SuperstepCode}
+use Rattle.superstep_code.specs.Code.{SuperstepCode}
 use Rattle.superstep_machine.specs.Run.{State}
 use Rattle.worker_exchange.specs.Equipped.{most_words, IsRunnable}
 use Rattle.worker_histories.specs.Shares.{Share}

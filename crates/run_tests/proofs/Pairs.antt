@@ -4,7 +4,7 @@ use Rattle.std.specs.Prelude.{slice_get}
 use Rattle.pram_model.proofs.Truths.{unsome}
 use Rattle.std.proofs.lemmas.List.{length-append}
 use Rattle.address_map.specs.Lawful.{Shape}
-use Rattle.superstep_instructions.specs.Code.{SuperstepCode}
+use Rattle.superstep_code.specs.Code.{SuperstepCode}
 use Rattle.turnstile.specs.Seats.{TurnstileShape, RowState, AreSeatsOf, AreFresh}
 use Rattle.bsp_machine.specs.declared.counted.CountedWorker.{CountedWorker}
 use Rattle.workers.specs.Gathered.{HasEnded, HaveEnded}

@@ -1,7 +1,7 @@
 -- What a caller that runs workers itself knows of each.
 use Rattle.std.specs.Prelude.{◌≡◌, ℕ, List, [], false, ℤ}
 use Rattle.address_map.specs.Lawful.{Shape}
-use Rattle.superstep_instructions.specs.Code.{SuperstepCode}
+use Rattle.superstep_code.specs.Code.{SuperstepCode}
 use Rattle.superstep_machine.specs.Run.{opening, setting}
 use Rattle.worker_exchange.specs.Shown.{is_stopped}
 use Rattle.turnstile.specs.Seats.{TurnstileShape, RowState, IsFresh}
