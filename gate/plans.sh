@@ -7,7 +7,7 @@ bench=gate
 # shellcheck disable=SC2046
 libraries="itoa smallvec thiserror" prepare plans $(below program_runs flat_run superstep_listing system_files)
 cd "$program"
-if ! rt try -- "$top/examples" $(basename -s .pram "$top"/examples/*.pram) > "$work/log" 2>&1; then
+if ! rt try --seconds 300 -- "$top/examples" $(basename -s .pram "$top"/examples/*.pram) > "$work/log" 2>&1; then
     cat "$work/log"
     exit 1
 fi
