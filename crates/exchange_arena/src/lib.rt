@@ -1,4 +1,4 @@
-//! One allocation, cut into pieces that are owned one by one, filled, read, cleared and joined again.
+//! One block of memory for all messages, in pieces that are owned one by one, filled, read, cleared and joined again.
 #![tactic(auto)]
 
 mod block;

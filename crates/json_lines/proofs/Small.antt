@@ -2,6 +2,7 @@
 use Rattle.std.proofs.Common.{◌≡◌, ◌≤◌, ◌∙◌, ℕ, suc, max, Bool, true, false, ◌||◌, ◌++◌, List, [], ◌∷◌}
 use Rattle.std.proofs.Common.{Ordering, Less, Equal, Greater, ap, arith, refl, sym, map}
 use Rattle.std.specs.Prelude.{ℤ}
+use Rattle.std.proofs.lemmas.Bool.{or_parts}
 use Rattle.std.specs.Ordering.{nat_cmp, match_ordering}
 use Rattle.std.specs.Cmp.Lexicographic.{slice_cmp}
 use Rattle.serde_json.specs.Data.{Data, Items, Members, no_members, member, depth, items_depth, members_depth, put}
@@ -84,13 +85,9 @@ either n Less a b c x y z = x
 either n Equal a b c x y z = y
 either n Greater a b c x y z = z
 
-neither : (a b : Bool) → (a || b) ≡ false → (a ≡ false) × (b ≡ false)
-neither true b h = absurd (cc h)
-neither false b h = (refl, h)
-
 first_of_two : (n : ℕ) (k : List ℕ) (d : Data) (ms : Members) → SmallMembers n (member k d ms) → IsSmall n d × SmallMembers n ms
 first_of_two n k d ms h =
-    let floats = neither (has_float d) (members_have_float ms) h.no_float in
+    let floats = or_parts (has_float d) (members_have_float ms) h.no_float in
     let nests : max (depth d) (members_depth ms) ≤ n = h.nests in
     (record { nests = omega arith; no_float = floats.0 }, record { nests = omega arith; no_float = floats.1 })
 

@@ -7,7 +7,6 @@ use Rattle.std.specs.List.{prefix_len}
 use Rattle.std.specs.Option.{option_or}
 use Rattle.std.specs.Prelude.{Option, decimal, nat_lt, ◌||◌, ◌&&◌, if◌then◌else◌}
 use Rattle.std.specs.Fmt.{signed_decimal}
-use Rattle.std.specs.Int.{IsInRange}
 use Rattle.std.proofs.lemmas.Str.Parse.{IsNumeralModel, numerals_by_fold}
 use Rattle.std.proofs.lemmas.Fmt.{digits_decimal, digits_value-decimal, decimal_is_IsNumeral}
 use Rattle.pram_tokens.specs.declared.lexer.Lexeme.{Lexeme}
@@ -22,6 +21,7 @@ use Rattle.pram_tokens.specs.declared.token.Opening.TheVariants as opening
 use Rattle.pram_tokens.specs.declared.token.Token.{Token}
 use Rattle.pram_tokens.specs.declared.token.Token.TheVariants as token
 use Rattle.pram_tokens.specs.declared.words.Fixed.{Fixed}
+use Rattle.pram_tokens.proofs.Digits.{digit_range, range_digit}
 use Rattle.pram_tokens.specs.Lexemes.{is_blank, keyword, largest, lexeme_at, lookup, number_lexeme, operator_words, program_words}
 use Rattle.pram_tokens.specs.Lexemes.{statement_words, value_after, word_lexeme}
 use Rattle.pram_printer.specs.Places.{IsReadBack, start}
@@ -121,12 +121,6 @@ module _ (at : Location) (rest : List ℕ) where
       (length bs)
   read_name [] n = absurd (let h = n.letter in cc)
   read_name (b ∷ bs) n = read_letter b bs n.letter (all_words (b ∷ bs) n.words) (no_keyword (b ∷ bs) n.no_keyword)
-
-  digit_range : (b : ℕ) → is_digit b ≡ true → IsInRange 48 57 b
-  digit_range b h = grind (arith, nat_tests)
-
-  range_digit : (b : ℕ) → IsInRange 48 57 b → is_digit b ≡ true
-  range_digit b h = grind (arith, nat_tests)
 
   digits_model : IsNumeralModel (AllIn is_digit) (value_after 0)
   digits_model =

@@ -4,3 +4,4 @@ pub mod Lexing
 pub mod Scans
 pub mod Inputs
 pub mod Offsets
+pub mod Digits

@@ -1,4 +1,4 @@
-//! The concrete syntax of PRAM programs.
+//! The grammar of PRAM programs: from tokens to a tree, or to the first token that is wrong.
 #![tactic(auto)]
 
 mod front;

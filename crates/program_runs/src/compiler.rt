@@ -36,12 +36,7 @@ pub fn compile(alloc: Global, text: &[u8]) -> Result<Verified, Refusal>
     ensures code { IfOk result (IsCompiledFrom text.now) }
     ensures refused { IsNoProgram text.now result }
 {
-    let program = match read_program(alloc, text) {
-        Ok(program) => program,
-        Err(refusal) => return Err(refusal),
-    };
-    match compile_program(alloc, &program) {
-        Ok(code) => Ok(code),
-        Err(AllocError) => Err(Refusal::OutOfMemory),
-    }
+    let program = read_program(alloc, text)?;
+    let code = compile_program(alloc, &program)?;
+    Ok(code)
 }

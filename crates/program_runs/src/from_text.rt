@@ -63,10 +63,8 @@ pub fn run_program<R: Threads + Wait + Sync, G: Gate + Sync>(
     ensures refused { (text : List ℕ) → IsProgramOf text program.now → IsRunRefusedWith text input.now options reserve result }
 {
     have_64_bits(input);
-    match compile_program(alloc, program) {
-        Ok(code) => run_code(rt, alloc, &code, input, options, reserve, gate),
-        Err(AllocError) => Err(Refusal::OutOfMemory),
-    }
+    let code = compile_program(alloc, program)?;
+    run_code(rt, alloc, &code, input, options, reserve, gate)
 }
 
 // The same from a text, with a reserve or without.
@@ -83,21 +81,13 @@ fn run_text_with<R: Threads + Wait + Sync, G: Gate + Sync>(
     ensures exchanges { IfOk result (λ r. IsRunByWorkersWith text.now input.now options reserve (verdict_of r.outcome) r.counts) }
     ensures refused { IsRunRefusedWith text.now input.now options reserve result }
 {
-    let program = match read_program(alloc, text) {
-        Ok(program) => program,
-        Err(refusal) => return Err(refusal),
-    };
-    match run_program(rt, alloc, &program, input, options, reserve, gate) {
-        Ok((outcome, counts)) => {
-            let layout = program.into_layout();
-            Ok(Report {
-                layout,
-                outcome,
-                counts,
-            })
-        }
-        Err(refusal) => Err(refusal),
-    }
+    let program = read_program(alloc, text)?;
+    let (outcome, counts) = run_program(rt, alloc, &program, input, options, reserve, gate)?;
+    Ok(Report {
+        layout: program.into_layout(),
+        outcome,
+        counts,
+    })
 }
 
 /// Compiles the program of a text and runs its code on an input by workers in threads of their own, which exchange messages at a

@@ -2,14 +2,13 @@
 use Rattle.std.proofs.Common.{◌≡◌, ℕ, ◌<◌, ◌≤◌, ◌^◌, List, [], ◌∷◌, ◌++◌, true, Bool, ◌&&◌, Some, None, if◌then◌else◌, length}
 use Rattle.std.proofs.Common.{codes, refl, ap, ◌∙◌, arith, nat_le}
 use Rattle.std.specs.Prelude.{decimal}
-use Rattle.std.specs.Int.{IsInRange}
 use Rattle.std.proofs.lemmas.Bool.{le-leb}
-use Rattle.std.proofs.lemmas.Bool.Decides.{nat_tests}
 use Rattle.std.proofs.lemmas.Str.Parse.{IsNumeralModel, numerals_by_fold}
 use Rattle.std.proofs.lemmas.Fmt.{digits_decimal, digits_value-decimal, decimal_nonempty}
 use Rattle.pram_model.specs.Names.{is_digit}
 use Rattle.pram_model.proofs.Truths.{both}
 use Rattle.pram_tokens.specs.Lexemes.{value_after}
+use Rattle.pram_tokens.proofs.Digits.{digit_range, range_digit}
 use Rattle.pram_tokens.specs.Input.{are_digits}
 use Rattle.run_options.specs.declared.map_choice.MapChoice.TheVariants.{Affine}
 use Rattle.run_options.specs.Numbers.{most_number, number_of}
@@ -17,12 +16,6 @@ use Rattle.run_options.specs.Maps.{Names}
 
 abbrev AreDigits : List ℕ → Type 0
 AreDigits word = are_digits word ≡ true
-
-digit_range : (b : ℕ) → is_digit b ≡ true → IsInRange 48 57 b
-digit_range b h = grind (arith, nat_tests)
-
-range_digit : (b : ℕ) → IsInRange 48 57 b → is_digit b ≡ true
-range_digit b h = grind (arith, nat_tests)
 
 digits_model : IsNumeralModel AreDigits (value_after 0)
 digits_model =

@@ -1,5 +1,5 @@
 -- Which names are known.
-use Rattle.std.proofs.Common.{◌≡◌, ℕ, List, [], ◌∷◌, ◌++◌, refl, sym, ap, ◌∙◌, Bool, true, false, not, cond, ◌⊎◌, inl, inr}
+use Rattle.std.proofs.Common.{◌≡◌, ℕ, List, [], ◌∷◌, ◌++◌, refl, sym, ap, ◌∙◌, Bool, true, false, not, cond, inl, inr}
 use Rattle.std.specs.List.{list_any}
 use Rattle.std.specs.Prelude.{◌||◌}
 use Rattle.std.specs.Str.{bytes_eq}
@@ -8,7 +8,7 @@ use Rattle.superstep_instructions.specs.Limits.{IsNew, names_of}
 use Rattle.superstep_listing.specs.Names.{AreKnown}
 use Rattle.superstep_listing.proofs.Entries.{names-more}
 use lib.Pointwise.{bytes_decides}
-use Rattle.std.proofs.lemmas.Bool.{not-true, not-false}
+use Rattle.std.proofs.lemmas.Bool.{not-true, not-false, or_cases, or_parts}
 
 pub cond_or : (b c : Bool) → cond b true c ≡ (b || c)
 cond_or true c = refl
@@ -25,18 +25,10 @@ bytes_turned : (a b : List ℕ) → bytes_eq a b ≡ bytes_eq b a
 bytes_turned a b = turned_by a b (bytes_eq a b) (bytes_eq b a) refl refl
 
 -- a name is among others, or new
-either_one : (b c : Bool) → (b || c) ≡ true → (b ≡ true) ⊎ (c ≡ true)
-either_one true c h = inl refl
-either_one false c h = inr h
-
-none_of : (b c : Bool) → (b || c) ≡ false → (b ≡ false) × (c ≡ false)
-none_of true c h = absurd (cc)
-none_of false c h = (refl, h)
-
 among : (names : List (List ℕ)) (name : List ℕ) → list_any (λ other. bytes_eq name other) names ≡ true → IsNew names name → ⊥
 among [] name h new = absurd (cc)
 among (x ∷ names) name h new =
-    elim (either_one (bytes_eq name x) (list_any (λ other. bytes_eq name other) names) h) [
+    elim (or_cases (bytes_eq name x) (list_any (λ other. bytes_eq name other) names) h) [
       | inl is ↦ new.0 ((bytes_decides name x).0 is)
       | inr rest ↦ among names name rest new.1
     ]
@@ -44,7 +36,7 @@ among (x ∷ names) name h new =
 apart_from : (names : List (List ℕ)) (name : List ℕ) → list_any (λ other. bytes_eq name other) names ≡ false → IsNew names name
 apart_from [] name h = tt
 apart_from (x ∷ names) name h =
-    let neither = none_of (bytes_eq name x) (list_any (λ other. bytes_eq name other) names) h in
+    let neither = or_parts (bytes_eq name x) (list_any (λ other. bytes_eq name other) names) h in
     (λ same. absurd (let k : true ≡ false = sym ((bytes_decides name x).1 same) ∙ neither.0 in cc), apart_from names name neither.1)
 
 turned : (a b c : Bool) → (a || (b || c)) ≡ (b || (a || c))

@@ -1,4 +1,5 @@
-//! The machine that runs superstep code on p workers, by its definition: what an exchange is for, keys, headers and words of messages, and the laws of these.
+//! The machine that runs superstep code on p workers, by its definition: what an exchange is for, keys, headers and words of
+//! messages, and the laws of these.
 #![tactic(auto)]
 
 mod collected_law;

@@ -15,6 +15,7 @@ mod reserving;
 mod room;
 mod run;
 pub mod seat_laws;
+mod shared;
 mod task;
 mod threads;
 
