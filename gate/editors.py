@@ -26,7 +26,7 @@ def symbols():
 
 
 def rules():
-    return set(re.findall(r'b"([a-z]+)" => Some\(Rule::', source("pram_trees/src/parse_decl.rt")))
+    return set(re.findall(r'b"([a-z]+)" => Some\(Rule::', source("pram_parser/src/parse_decl.rt")))
 
 
 def commands():

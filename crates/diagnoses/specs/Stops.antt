@@ -5,7 +5,7 @@ use Rattle.pram_tokens.specs.declared.error.TextFault.{TextFault}
 use Rattle.pram_tokens.specs.declared.error.TextFault.TheVariants as fault
 use Rattle.pram_names.specs.declared.fault.Breach.{Breach}
 use Rattle.pram_trees.specs.Program.{ProgramTree}
-use Rattle.pram_parser.specs.Text.{IsTextOf}
+use Rattle.pram_trees.specs.Text.{IsTextOf}
 use Rattle.text_places.specs.Excerpts.{excerpt, line_excerpt}
 use Rattle.program_texts.specs.declared.from_text.Refusal.{Refusal}
 use Rattle.program_texts.specs.declared.from_text.Refusal.TheVariants as refusal

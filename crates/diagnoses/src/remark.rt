@@ -3,7 +3,7 @@
 ghost use Rattle.std.specs.Prelude.{◌≡◌, List, ℕ, IfOk, Err, map};
 ghost use Rattle.std.specs.Option.{option_map};
 ghost use Rattle.pram_trees.specs.Program.{ProgramTree};
-ghost use Rattle.pram_parser.specs.Text.{IsTextOf};
+ghost use Rattle.pram_trees.specs.Text.{IsTextOf};
 ghost use Rattle.scope_names.specs.InScope.{known_is};
 ghost use Rattle.scope_names.specs.InScope as scope;
 ghost use Rattle.diagnoses.specs.Remarks as spec;

@@ -25,7 +25,7 @@ use Rattle.pram_names.specs.Breaches.{token_breaches, most_tokens}
 use Rattle.pram_check.specs.Faults.{IsAccepted, all_at, procs_causes, block_faults, declaration_faults, faults}
 use Rattle.pram_check.specs.Faults.{offset_in, offsets_in, IsBefore}
 use Rattle.pram_check.specs.Faults.{IsLeast}
-use Rattle.pram_parser.specs.Text.{IsTextOf}
+use Rattle.pram_trees.specs.Text.{IsTextOf}
 use Rattle.pram_tokens.proofs.Offsets.{in_order}
 use Rattle.pram_check.proofs.Sublists.{Between, between, increasing}
 use Rattle.pram_tokens.specs.InOrder.{places, StandInOrder}

@@ -3,7 +3,7 @@
 ghost use Rattle.std.specs.Prelude.{◌≡◌, ◌↔◌, ℕ, List, [], length, MatchOption};
 ghost use Rattle.std.specs.List.Sorted.{IsStrictlyIncreasing};
 ghost use Rattle.pram_trees.specs.Program.{ProgramTree};
-ghost use Rattle.pram_parser.specs.Text.{IsTextOf};
+ghost use Rattle.pram_trees.specs.Text.{IsTextOf};
 ghost use Rattle.pram_names.specs.Breaches.{breaches, first};
 ghost use Rattle.pram_check.specs.Faults.{faults, offsets_in, IsAccepted, IsLeast};
 

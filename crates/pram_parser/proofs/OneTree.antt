@@ -3,8 +3,8 @@ use Rattle.std.proofs.Common.{◌∙◌, List, [], Result, Ok, Err, ℕ, ap, sym
 use Rattle.pram_tokens.specs.declared.token.Token.{Token}
 use Rattle.pram_trees.specs.Program.{limit}
 use Rattle.pram_tokens.specs.Scanning.{Cut}
-use Rattle.pram_parser.specs.Text.{HasOneTreeAtMost}
-use Rattle.pram_trees.proofs.Programs.{same_tree}
+use Rattle.pram_trees.specs.Text.{HasOneTreeAtMost}
+use Rattle.pram_parser.proofs.Programs.{same_tree}
 
 abbrev tokens_in : Result Cut ℕ → List Token
 tokens_in (Ok found) = found.tokens

@@ -3,7 +3,7 @@
 ghost use Rattle.std.specs.Prelude.{ℕ, List, length};
 ghost use Rattle.pram_tokens.specs.InOrder.{StandInOrder};
 ghost use Rattle.pram_trees.specs.Program.{ProgramTree, program_tokens};
-ghost use Rattle.pram_parser.specs.Text.{HasOneTreeAtMost, IsTextOf};
+ghost use Rattle.pram_trees.specs.Text.{HasOneTreeAtMost, IsTextOf};
 
 /// No text is that of two trees.
 pub fn one_tree_at_most()

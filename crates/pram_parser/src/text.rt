@@ -4,10 +4,11 @@ ghost use Rattle.std.specs.Prelude.{◌≡◌, ◌<◌, ◌↔◌, Err, length, 
 ghost use Rattle.pram_tokens.specs.declared.error.TextFault.TheVariants.{TextTooLong};
 ghost use Rattle.pram_trees.specs.Program.{ProgramTree};
 ghost use Rattle.pram_tokens.specs.Scanning.{longest};
-ghost use Rattle.pram_parser.specs.Text as spec;
+ghost use Rattle.pram_trees.specs.Text as spec;
 
+use crate::parser::parse_tokens;
 use pram_tokens::{LONGEST, LexError, TextFault, first_other, offset_of, tokenize};
-use pram_trees::{ParseError, Tree, parse_tokens};
+use pram_trees::{ParseError, Tree};
 use std::alloc::Global;
 
 /// What a refusal of the tokens says of the text that they were cut from.

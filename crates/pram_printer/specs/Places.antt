@@ -16,7 +16,7 @@ use Rattle.pram_trees.specs.declared.tree.Stmt.TheFolds.{fold-Stmt}
 use Rattle.pram_trees.specs.Program.{ProgramTree, IsTree, limit, program_tokens}
 use Rattle.pram_tokens.specs.Scanning.{longest}
 use Rattle.pram_printer.specs.Spelling.{spelling}
-use Rattle.pram_parser.specs.Text.{IsTextOf}
+use Rattle.pram_trees.specs.Text.{IsTextOf}
 
 -- one place for everything
 abbrev pub start : Location

@@ -17,7 +17,7 @@ pub use Rattle.pram_trees.specs.Faults
 pub use Rattle.pram_trees.specs.Symbols
 pub use Rattle.pram_trees.specs.Machine
 pub use Rattle.pram_trees.specs.Follows
-pub use Rattle.pram_parser.specs.Text
+pub use Rattle.pram_trees.specs.Text
 pub use Rattle.pram_printer.specs.Spelling
 pub use Rattle.pram_printer.specs.Places
 pub use Rattle.text_out.specs.Out

@@ -6,3 +6,4 @@ pub mod Faults
 pub mod Symbols
 pub mod Machine
 pub mod Follows
+pub mod Text

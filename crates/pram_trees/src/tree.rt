@@ -114,7 +114,7 @@ impl Model for Tree {
 
 impl Tree {
     /// The tree of these parts, which have so many tokens.
-    pub(crate) fn new(
+    pub fn new(
         rule: Rule,
         rule_location: Location,
         procs: Numeral,

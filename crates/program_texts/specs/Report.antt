@@ -6,7 +6,7 @@ use Rattle.pram_tokens.specs.Input.{IsInputFault}
 use Rattle.pram_model.specs.Layout.{SharedEntry, total_size}
 use Rattle.pram_trees.specs.Program.{ProgramTree}
 use Rattle.pram_tokens.specs.Plain.{IsPlain}
-use Rattle.pram_parser.specs.Text.{IsTextOf, IsFaultOf}
+use Rattle.pram_trees.specs.Text.{IsTextOf, IsFaultOf}
 use Rattle.pram_names.specs.declared.fault.Breach.{Breach}
 use Rattle.pram_names.specs.Breaches.{breaches, first}
 use Rattle.pram_check.specs.Checked.{Checked, IsResolved}

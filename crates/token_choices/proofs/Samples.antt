@@ -10,7 +10,7 @@ use Rattle.pram_tokens.proofs.Real.{append_real}
 use Rattle.pram_trees.specs.Faults.{IsSyntaxFault}
 use Rattle.pram_trees.specs.Machine.{Accepted, start, verdict}
 use Rattle.pram_trees.specs.Program.{Begins, IsProgram, limit}
-use Rattle.pram_trees.proofs.Programs.{accepted, syntax_fault}
+use Rattle.pram_parser.proofs.Programs.{accepted, syntax_fault}
 use Rattle.token_choices.specs.declared.choice.Choice.TheVariants as choice
 use Rattle.token_choices.specs.Choices.{CouldStand, SamplesSpeak}
 use Rattle.token_choices.specs.Kinds.{sample, start as beginning}

@@ -8,8 +8,9 @@ ghost use Rattle.token_choices.specs.Choices as spec;
 ghost use Rattle.token_choices.specs.Kinds.{sample as sample_of};
 
 use crate::choice::{Choice, all_choices, sample};
+use pram_parser::parse_tokens;
 use pram_tokens::{LexError, Token, tokenize};
-use pram_trees::{ParseError, parse_tokens};
+use pram_trees::ParseError;
 use std::alloc::{AllocError, Global};
 
 // Whether some program begins with these tokens.
