@@ -107,13 +107,13 @@ def chain(uses, seconds):
     return max(ending.values(), key=lambda it: sum(map(seconds.get, it)))
 
 
-def by_what_waits(uses, seconds):
-    """The crates, first that which the dearest chain of others waits for."""
+def what_waits(uses, seconds):
+    """The seconds of each crate and of the dearest chain of others that waits for it."""
     behind = dict(seconds)
     for crate in reversed([*seconds]):
         for it in set(uses[crate]) & {*seconds}:
             behind[it] = max(behind[it], seconds[it] + behind[crate])
-    return sorted(behind, key=lambda it: -behind[it])
+    return behind
 
 
 def workers():
@@ -195,16 +195,27 @@ def copied(number, crates):
     return copy
 
 
-def prove(uses, order, copies):
-    """Proves the crates and returns the seconds of each, or the one proof that failed."""
-    left, running, seconds = list(order), [], {}
+def jobs_for(crate, idle, others, waits, seconds, number):
+    """In how many jobs a crate is proved: its share of the idle processors, and two at least where a chain that waits for it is longer than
+    what is left takes on all processors, since then the whole build waits for it."""
+    fair = max(1, min(4, idle // others))
+    return max(fair, 2) if waits[crate] > sum(seconds.values()) / number else fair
+
+
+def prove(uses, costs, copies):
+    """Proves the crates and returns the seconds of each, or the one proof that failed. First comes what the dearest chain waits for."""
+    waits = what_waits(uses, costs)
+    left, running, seconds = sorted(waits, key=lambda it: -waits[it]), [], {}
     try:
         while left or running:
             ready = [it for it in left if not {*uses[it]} & {*left, *[proof.crate for proof in running]}]
             for at, crate in enumerate(ready):
                 idle = len(copies) - sum(it.jobs for it in running)
                 free = [it for it in copies if it not in [proof.copy for proof in running]]
-                proof = begin(crate, uses, free[0], max(1, min(4, idle // (len(ready) - at)))) if idle else None
+                proof = None
+                if idle > 0 and free:
+                    jobs = jobs_for(crate, idle, len(ready) - at, waits, {it: costs[it] for it in left}, len(copies))
+                    proof = begin(crate, uses, free[0], jobs)
                 if proof:
                     left.remove(crate)
                     running.append(proof)
@@ -252,7 +263,7 @@ def main():
     print(f"{len(crates)} crates to prove, {number} at a time; the longest chain has {len(longest)}, up to {longest[-1]}", flush=True)
     begun = time.monotonic()
     try:
-        made = prove(uses, by_what_waits(uses, costs), [copied(it, uses) for it in range(number)])
+        made = prove(uses, costs, [copied(it, uses) for it in range(number)])
         if isinstance(made, Proof):
             print(f"{made.log()}\nNOT PROVED: {made.crate}")
             sys.exit(1)
