@@ -14,7 +14,7 @@ use pram_check::Program;
 use pram_trees::Layout;
 use program_texts::{Refusal, read_program};
 use run_options::{Options, Reserve};
-use std::alloc::{AllocError, Global};
+use std::alloc::Global;
 use std::sync::Wait;
 use std::thread::Threads;
 use workers::Gate;
