@@ -1,6 +1,6 @@
 # The crates are proved, built and tested by the toolchain's command `rt`.
 
-.PHONY: all check test examples bench refusals memory hostile unthreaded page-test dist dist-test clean install uninstall
+.PHONY: all check test examples bench refusals fuzz memory hostile unthreaded page-test dist dist-test clean install uninstall
 
 sources := $(shell find crates -name out -prune -o \( -name '*.rt' -o -name '*.antt' \) -print) crates.txt
 
@@ -39,6 +39,14 @@ bench:
 # Shows that callers which must not compile are refused.
 refusals:
 	set -e; for check in crates/*/refusals/check.sh; do bash $$check; done
+
+SEED ?= 1
+COUNT ?= 500
+
+# Compares the program with the interpreter of gate/oracle on COUNT drawn programs and some changed texts and listings; what differs is kept
+# in bin/differs.
+fuzz: bin/pramc
+	python3 gate/oracle/compare.py bin/pramc --seed $(SEED) --count $(COUNT)
 
 # Uses the program as nobody should.
 hostile:
