@@ -71,7 +71,7 @@ pub(crate) fn same_mark(a: Mark, b: Mark) -> bool
 }
 
 /// What is behind a minus sign at the front.
-#[tactic(auto, unfolding(crate::specs::Symbols::enter))]
+#[tactic(auto, unfolding(pram_trees::specs::Symbols::enter))]
 pub(crate) fn behind_minus(tokens: &[Token]) -> Option<&[Token]>
     ensures front { MatchOption result (Skips Level.Unary Level.Atom tokens.now)
         (λ rest. tokens.now ≡ Token.Binary Binary.Subtract ∷ rest.now) }
@@ -83,7 +83,7 @@ pub(crate) fn behind_minus(tokens: &[Token]) -> Option<&[Token]>
 }
 
 /// What is behind a `not` at the front.
-#[tactic(auto, unfolding(crate::specs::Symbols::enter))]
+#[tactic(auto, unfolding(pram_trees::specs::Symbols::enter))]
 pub(crate) fn behind_not(tokens: &[Token]) -> Option<&[Token]>
     ensures front { MatchOption result (Skips Level.Negation Level.Comparison tokens.now)
         (λ rest. tokens.now ≡ Token.Not ∷ rest.now) }

@@ -82,7 +82,7 @@ fn named<'a>(
 
 /// A number, a name, a cell of an array or what stands in parentheses.
 #[cycle(expr)]
-#[tactic(auto, unfolding(crate::specs::Symbols::enter))]
+#[tactic(auto, unfolding(pram_trees::specs::Symbols::enter))]
 fn atom(alloc: Global, tokens: &[Token], depth: u8) -> Result<(Expr, &[Token]), ParseError>
     ensures found { IfOk result (λ f. Found Level.Atom depth tokens.now f.0 f.1.now) }
     ensures follows { Follows (λ k. machine.verdict tokens.now
@@ -128,7 +128,7 @@ fn prefixed(
 
 /// A minus sign before a unary, or an atom.
 #[cycle(expr)]
-#[tactic(auto, unfolding(crate::specs::Symbols::enter))]
+#[tactic(auto, unfolding(pram_trees::specs::Symbols::enter))]
 fn unary(alloc: Global, tokens: &[Token], depth: u8) -> Result<(Expr, &[Token]), ParseError>
     ensures found { IfOk result (λ f. Found Level.Unary depth tokens.now f.0 f.1.now) }
     ensures follows { Follows (λ k. machine.verdict tokens.now
@@ -147,7 +147,7 @@ fn unary(alloc: Global, tokens: &[Token], depth: u8) -> Result<(Expr, &[Token]),
 
 /// A `not` before a negation, or a comparison.
 #[cycle(expr)]
-#[tactic(auto, unfolding(crate::specs::Symbols::enter))]
+#[tactic(auto, unfolding(pram_trees::specs::Symbols::enter))]
 fn negation(alloc: Global, tokens: &[Token], depth: u8) -> Result<(Expr, &[Token]), ParseError>
     ensures found { IfOk result (λ f. Found Level.Negation depth tokens.now f.0 f.1.now) }
     ensures follows { Follows (λ k. machine.verdict tokens.now

@@ -14,7 +14,7 @@ use sqlite_items::Items;
 use std::alloc::Global;
 
 /// A name and `:=` at the front, with what is behind them.
-#[tactic(auto, unfolding(crate::specs::Symbols::enter))]
+#[tactic(auto, unfolding(pram_trees::specs::Symbols::enter))]
 pub(crate) fn loop_name(tokens: &[Token]) -> Option<(&Name, &[Token])>
     ensures front { MatchOption result (IsRange tokens.now)
         (λ f. tokens.now ≡ Token.Name f.0.now ∷ (Token.Mark Mark.Becomes ∷ f.1.now)) }

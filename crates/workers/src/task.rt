@@ -35,7 +35,11 @@ impl<'r, 'a, M: AddressMap> Model for Task<'r, 'a, M> {
 
 impl<'r, 'a, M: AddressMap> Task<'r, 'a, M> {
     /// The task of a worker at its seat.
-    pub(crate) fn new(run: &'r Shared<'a, M>, seat: RowSeat, worker: CountedWorker) -> Task<'r, 'a, M>
+    pub(crate) fn new(
+        run: &'r Shared<'a, M>,
+        seat: RowSeat,
+        worker: CountedWorker,
+    ) -> Task<'r, 'a, M>
         requires { IsReady M.shape (record { run = run.now; seat = seat; worker = worker }) }
         ensures run { result.run ≡ run.now }
         ensures seat { result.seat ≡ seat }
