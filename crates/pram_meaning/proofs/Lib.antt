@@ -27,3 +27,11 @@ pub mod ValuesKept
 pub mod DenotedExpressions
 pub mod DenotedStatements
 pub mod OneTree
+pub mod Telling
+pub mod AloneMoments
+pub mod SetMoments
+pub mod HeardBlocks
+pub mod HeardLoops
+pub mod HeardForLoops
+pub mod HeardSetBlocks
+pub mod HeardSetLoops

@@ -1,22 +1,21 @@
 -- A set's attempts, on their way, and what they come to.
 use Rattle.std.proofs.Common.{◌≡◌, ℕ, ◌+◌, ◌<◌, ◌≤◌, List, [], ◌∷◌, ◌++◌, map, drop, length, get_or, append_assoc, append-nil, refl, ap}
-use Rattle.std.proofs.Common.{sym, ◌∙◌, Option, Some, None, Ok, Err, arith, ℤ, pos, zero, suc, set, subst, Result, Global, Vec}
+use Rattle.std.proofs.Common.{sym, ◌∙◌, Option, Some, None, Ok, Err, arith, ℤ, pos, zero, suc, set}
 use Rattle.std.proofs.lemmas.List.{drop_more, drop_all}
 use Rattle.pram_meaning.specs.declared.run.Halt.TheVariants as halt
 use Rattle.pram_meaning.specs.declared.part as part
 use Rattle.pram_meaning.specs.declared.team as team_member
 use Rattle.pram_check.specs.Checked.{Checked}
 use Rattle.pram_meaning.specs.Attempt.{Attempt, Effect}
-use Rattle.pram_meaning.specs.Bounded.{Behaviour, Goes, attempted_on, counted, then_do, valued}
+use Rattle.pram_meaning.specs.Bounded.{attempted_on, counted, then_do, valued}
 use Rattle.pram_meaning.specs.Conflict.{Part, keys, least}
 use Rattle.pram_meaning.specs.Judging.{part_is}
-use Rattle.pram_meaning.specs.Runs.{IsBehaviour, IsValue}
+use Rattle.pram_meaning.specs.Runs.{IsBehaviour}
 use Rattle.pram_meaning.specs.Sets.{IsParts, member_is}
 use Rattle.pram_meaning.specs.Store.{Member, State, View, with_local}
 use Rattle.pram_meaning.specs.Together.{on_key, part_of, parts, together, value_in, with_locals}
 use Rattle.pram_meaning.specs.declared.key.Key.{Key}
 use Rattle.pram_meaning.specs.declared.run.Halt.{Halt}
-use Rattle.write_rules.specs.declared.fault.Fault.{Fault}
 
 pub record InParts (w : Checked) (m : State) (a : View → Attempt Effect) (vs : List ℕ) (i : ℕ) (now : List part.Part.Part) : Type 0 where
   pub same : parts w m a vs ≡ map part_is now ++ parts w m a (drop i vs)
@@ -52,35 +51,6 @@ pub set_halts : (w : Checked) (n line : ℕ) (a : View → Attempt Effect) (vs :
 set_halts w n line a vs m new (halt.Fault k) e = ap (λ x. then_do x (λ u m. valued (together w line (parts w m a vs)) m)) e
 set_halts w n line a vs m new halt.Bound e = ap (λ x. then_do x (λ u m. valued (together w line (parts w m a vs)) m)) e
 set_halts w n line a vs m new halt.OutOfMemory e = tt
-
-judged : (w : Checked) (line : ℕ) (a : View → Attempt Effect) (vs : List ℕ) (m : State) (xs : List Part) (k : Option Key) →
-    xs ≡ parts w m a vs → k ≡ least (keys w.rule xs) → together w line (parts w m a vs) ≡ on_key line k xs
-judged w line a vs m xs k t l = ap (together w line) (sym t) ∙ ap (λ k. on_key line k xs) (sym l)
-
-pub judged_faults : (w : Checked) (line : ℕ) (a : View → Attempt Effect) (vs : List ℕ) (m : State) (xs : List Part) (k : Key)
-    (o : Option Key) → xs ≡ parts w m a vs → o ≡ least (keys w.rule xs) → o ≡ Some k →
-    together w line (parts w m a vs) ≡ Err (record { kind = k.kind; line = line; place = k.place })
-judged_faults w line a vs m xs k o t l some = judged w line a vs m xs o t l ∙ ap (λ k. on_key line k xs) some
-
-pub judged_goes : (w : Checked) (line : ℕ) (a : View → Attempt Effect) (vs : List ℕ) (m : State) (xs : List Part) (o : Option Key) →
-    xs ≡ parts w m a vs → o ≡ least (keys w.rule xs) → o ≡ None → together w line (parts w m a vs) ≡ Ok xs
-judged_goes w line a vs m xs o t l none = judged w line a vs m xs o t l ∙ ap (λ k. on_key line k xs) none
-
-parts_valued : (r : Result (Vec part.Part.Part Global) Halt) (m : State) (x : Result (List Part) Fault) →
-    IsValue (λ xs. map part_is xs.items) r x → IsParts r m (valued x m)
-parts_valued (Ok xs) m x is = ap (λ x. valued x m) is
-parts_valued (Err (halt.Fault k)) m x is = ap (λ x. valued x m) is
-parts_valued (Err halt.Bound) m x is = absurd is
-parts_valued (Err halt.OutOfMemory) m x is = tt
-
-pub set_judged : (w : Checked) (n line : ℕ) (a : View → Attempt Effect) (vs : List ℕ) (m mid new : State)
-    (r : Result (Vec part.Part.Part Global) Halt) → counted n m ≡ Goes tt mid → new ≡ mid →
-    IsValue (λ xs. map part_is xs.items) r (together w line (parts w mid a vs)) → IsParts r new (attempted_on w n line a vs m)
-set_judged w n line a vs m mid new r e same is =
-    let P : Behaviour (List Part) → Type 0 = IsParts r new in
-    let Q : State → Type 0 = λ m. IsParts r m (valued (together w line (parts w mid a vs)) mid) in
-    subst P (sym (ap (λ x. then_do x (λ u m. valued (together w line (parts w m a vs)) m)) e))
-    (subst Q (sym same) (parts_valued r mid (together w line (parts w mid a vs)) is))
 
 -- ---- what a statement leaves
 

@@ -9,7 +9,7 @@ use Rattle.pram_check.specs.Bounded as bounded
 use Rattle.pram_check.specs.Bounded.{ArePartStatements, ArePartSteps, AreStatements, AreSteps}
 use Rattle.pram_check.specs.Bounded.{IsNamed, IsStatement, IsStep, Names, with_locals}
 use Rattle.pram_check.specs.Checked.{Checked}
-use Rattle.pram_names.specs.declared.body.Expression.{Expression, Uniform, Local, Cell}
+use Rattle.pram_names.specs.declared.body.Expression.{Expression}
 use Rattle.pram_names.specs.declared.body.Statement.{Assign, For', If', Pardo, Print, Row_of-Statement, Statement, While', end_of-Statement}
 use Rattle.pram_names.specs.declared.body.Statement.{more_of-Statement}
 use Rattle.pram_names.specs.declared.body.Step.{Row_of-Step, Step, end_of-Step, more_of-Step}

@@ -1,5 +1,5 @@
 -- What an attempt gives are values of 64 bits, where what the processor sees are.
-use Rattle.std.proofs.Common.{ℕ, ◌-◌, [], Bool, true, false, Ok, Err, ℤ, pos}
+use Rattle.std.proofs.Common.{ℕ, [], Bool, true, false, Ok, Err, ℤ, pos}
 use Rattle.std.proofs.Common.{if◌then◌else◌}
 use Rattle.std.proofs.Common.{Option, Some, None, nat_lt}
 use Rattle.pram_model.specs.Layout.{cell_of, width}
@@ -17,7 +17,7 @@ use Rattle.pram_meaning.specs.Attempt.{Attempt, Effect, Fails, Gives, Trail, and
 use Rattle.pram_meaning.specs.Attempt.{attempt_links, attempt_range, attempt_step, attempt_value, next, operation, ranged, read, unwritten}
 use Rattle.pram_meaning.specs.Attempt.{write}
 use Rattle.pram_meaning.specs.Operation.{operate, operate_before}
-use Rattle.pram_meaning.specs.Store.{View, numbers}
+use Rattle.pram_meaning.specs.Store.{View}
 use Rattle.pram_meaning.specs.Values.{AreValues, IsValue}
 use Rattle.pram_meaning.proofs.SoundValues.{AreNumbers, IsSound, before_sound, number_is}
 use Rattle.pram_meaning.proofs.SoundValues.{operate_sound, value_at, width_values}

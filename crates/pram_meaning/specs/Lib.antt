@@ -13,3 +13,5 @@ pub mod Slates
 pub mod Sets
 pub mod Computed
 pub mod Values
+pub mod Moments
+pub mod Listening

@@ -3,10 +3,14 @@
 ghost use Rattle.std.specs.Prelude.{FitsSigned, ◌+ℤ◌, pos, ◌≡◌, ◌≤◌, ◌-◌, ◌+◌, OnOk};
 ghost use Rattle.std.specs.Int.{w64};
 ghost use Rattle.pram_meaning.specs.Bounded.{perform_on, perform_list_on, turns_on, tested_on, pardo_done};
+ghost use Rattle.pram_meaning.specs.Listening.{UnlessRefused};
+ghost use Rattle.pram_meaning.specs.Moments.{TurnsOn, inner_moments, inner_list_moments, set_test_moment, turns_on_moments};
 ghost use Rattle.pram_meaning.specs.Runs.{state_of, IsBehaviour};
 ghost use Rattle.pram_meaning.specs.Sets.{state_in};
+ghost use Rattle.pram_meaning.specs.Store.{numbers, with_team};
 
 use crate::interpreter::Interpreter;
+use crate::listener::Listener;
 use crate::run::{Halt, Run};
 use crate::team::{Member, gather, numbers_below};
 use crate::together::select;
@@ -15,16 +19,19 @@ use pram_check::{Expression, Step};
 impl<'a> Interpreter<'a> {
     /// A statement of a set, with all that it holds.
     #[cycle(inside)]
-    #[tactic(auto, using(crate::proofs::SetBlocks::assign_arm, crate::proofs::SetBlocks::while_arm, crate::proofs::SetBlocks::if_halts, crate::proofs::SetBlocks::if_then_halts, crate::proofs::SetBlocks::if_goes))]
-    fn run_step(
+    #[tactic(auto, using(crate::proofs::SetBlocks::assign_arm, crate::proofs::SetBlocks::while_arm, crate::proofs::SetBlocks::if_halts, crate::proofs::SetBlocks::if_then_halts, crate::proofs::SetBlocks::if_goes, crate::proofs::HeardSetBlocks::assign_heard, crate::proofs::HeardSetBlocks::while_heard, crate::proofs::HeardSetBlocks::if_halts_heard, crate::proofs::HeardSetBlocks::if_then_halts_heard, crate::proofs::HeardSetBlocks::if_goes_heard))]
+    fn run_step<H: Listener>(
         &self,
         run: &mut Run,
+        listener: &mut H,
         team: &mut Vec<Member>,
         active: &Vec<u32>,
         s: &Step,
     ) -> Result<(), Halt>
         ensures value { IsBehaviour result (state_in run.new team.new.items)
             (perform_on self.now.program.now self.now.bound s.now active.now.items (state_in run.old team.old.items)) }
+        ensures heard { UnlessRefused result (H.hears listener.old (inner_moments self.now.program.now self.now.bound s.now
+            active.now.items (state_in run.old team.old.items)) listener.new) }
         ensures grows { OnOk result (run.old.count ≤ run.new.count) }
     {
         match s {
@@ -32,9 +39,9 @@ impl<'a> Interpreter<'a> {
                 line,
                 target,
                 value,
-            } => self.assign_on(run, team, active, *line, target, value),
+            } => self.assign_on(run, listener, team, active, *line, target, value),
             Step::While { line, test, body } => self.run_while_on(
-                run, team, active, body, *line, test,
+                run, listener, team, active, body, *line, test,
             ),
             Step::If {
                 line,
@@ -42,24 +49,21 @@ impl<'a> Interpreter<'a> {
                 then_part,
                 else_part,
             } => {
-                let all = self.test_on(run, team, active, *line, test)?;
-                let Ok(chosen) = select(self.alloc, true, &all) else {
-                    return Err(Halt::OutOfMemory);
-                };
-                let Ok(others) = select(self.alloc, false, &all) else {
-                    return Err(Halt::OutOfMemory);
-                };
-                self.run_block_on(run, team, &chosen, then_part)?;
-                self.run_block_on(run, team, &others, else_part)
+                let all = self.choice_on(run, listener, team, active, *line, test)?;
+                let chosen = select(self.alloc, true, &all)?;
+                let others = select(self.alloc, false, &all)?;
+                self.run_block_on(run, listener, team, &chosen, then_part)?;
+                self.run_block_on(run, listener, team, &others, else_part)
             }
         }
     }
 
     #[cycle(inside)]
-    #[tactic(auto, using(crate::proofs::SetLoops::turns_start, crate::proofs::SetLoops::test_halts, crate::proofs::SetLoops::turns_end, crate::proofs::SetLoops::turn_halts, crate::proofs::SetLoops::turn_goes))]
-    fn run_while_on(
+    #[tactic(auto, using(crate::proofs::SetLoops::turns_start, crate::proofs::SetLoops::test_halts, crate::proofs::SetLoops::turns_end, crate::proofs::SetLoops::turn_halts, crate::proofs::SetLoops::turn_goes, crate::proofs::HeardSetLoops::heard_start, crate::proofs::HeardSetLoops::test_halts_heard, crate::proofs::HeardSetLoops::turns_end_heard, crate::proofs::HeardSetLoops::turn_halts_heard, crate::proofs::HeardSetLoops::turn_goes_heard))]
+    fn run_while_on<H: Listener>(
         &self,
         run: &mut Run,
+        listener: &mut H,
         team: &mut Vec<Member>,
         active: &Vec<u32>,
         body: &Vec<Step>,
@@ -69,48 +73,54 @@ impl<'a> Interpreter<'a> {
         ensures value { IsBehaviour result (state_in run.new team.new.items)
             (turns_on (self.now.bound + 1) (tested_on self.now.program.now self.now.bound line test.now)
             (perform_list_on self.now.program.now self.now.bound body.now.items) active.now.items (state_in run.old team.old.items)) }
+        ensures heard { UnlessRefused result (H.hears listener.old (turns_on_moments (self.now.bound + 1)
+            (set_test_moment self.now.program.now self.now.bound line (TurnsOn test.now) test.now)
+            (tested_on self.now.program.now self.now.bound line test.now)
+            (inner_list_moments self.now.program.now self.now.bound body.now.items)
+            (perform_list_on self.now.program.now self.now.bound body.now.items) active.now.items (state_in run.old team.old.items))
+            listener.new) }
         ensures grows { OnOk result (run.old.count ≤ run.new.count) }
     {
-        let Ok(mut current) = Vec::from_slice(self.alloc, active) else {
-            return Err(Halt::OutOfMemory);
-        };
+        let mut current = Vec::from_slice(self.alloc, active)?;
         'turns: loop {
-            let all = self.test_on(run, team, &current, line, test)?;
-            let Ok(chosen) = select(self.alloc, true, &all) else {
-                return Err(Halt::OutOfMemory);
-            };
+            let all = self.test_on(run, listener, team, &current, line, test)?;
+            let chosen = select(self.alloc, true, &all)?;
             if chosen.is_empty() {
                 return Ok(());
             }
-            self.run_block_on(run, team, &chosen, body)?;
+            self.run_block_on(run, listener, team, &chosen, body)?;
             current = chosen;
         }
     }
 
     /// The statements of a block, in order.
     #[cycle(inside)]
-    #[tactic(auto, using(crate::proofs::SetBlocks::block_starts, crate::proofs::SetBlocks::block_halts, crate::proofs::SetBlocks::block_goes, crate::proofs::SetBlocks::block_ends))]
-    fn run_block_on(
+    #[tactic(auto, using(crate::proofs::SetBlocks::block_starts, crate::proofs::SetBlocks::block_halts, crate::proofs::SetBlocks::block_goes, crate::proofs::SetBlocks::block_ends, crate::proofs::HeardSetBlocks::heard_starts, crate::proofs::HeardSetBlocks::heard_halts, crate::proofs::HeardSetBlocks::heard_goes, crate::proofs::HeardSetBlocks::heard_ends))]
+    fn run_block_on<H: Listener>(
         &self,
         run: &mut Run,
+        listener: &mut H,
         team: &mut Vec<Member>,
         active: &Vec<u32>,
         body: &Vec<Step>,
     ) -> Result<(), Halt>
         ensures value { IsBehaviour result (state_in run.new team.new.items)
             (perform_list_on self.now.program.now self.now.bound body.now.items active.now.items (state_in run.old team.old.items)) }
+        ensures heard { UnlessRefused result (H.hears listener.old (inner_list_moments self.now.program.now self.now.bound body.now.items
+            active.now.items (state_in run.old team.old.items)) listener.new) }
         ensures grows { OnOk result (run.old.count ≤ run.new.count) }
     {
         for s in body {
-            self.run_step(run, team, active, s)?;
+            self.run_step(run, listener, team, active, s)?;
         }
         Ok(())
     }
 
     /// The body of a pardo, on all its processors.
-    pub fn run_team(
+    pub fn run_team<H: Listener>(
         &self,
         run: &mut Run,
+        listener: &mut H,
         low: i64,
         count: u32,
         locals: usize,
@@ -119,14 +129,12 @@ impl<'a> Interpreter<'a> {
         requires { FitsSigned w64 (low +ℤ pos (count - 1)) }
         ensures value { IsBehaviour result (state_of run.new) (pardo_done self.now.program.now self.now.bound locals body.now.items low
             count (state_of run.old)) }
+        ensures heard { UnlessRefused result (H.hears listener.old (inner_list_moments self.now.program.now self.now.bound body.now.items
+            (numbers 0 count) (with_team low count locals (state_of run.old))) listener.new) }
         ensures grows { OnOk result (run.old.count ≤ run.new.count) }
     {
-        let Ok(mut team) = gather(self.alloc, low, count, locals) else {
-            return Err(Halt::OutOfMemory);
-        };
-        let Ok(active) = numbers_below(self.alloc, count) else {
-            return Err(Halt::OutOfMemory);
-        };
-        self.run_block_on(run, &mut team, &active, body)
+        let mut team = gather(self.alloc, low, count, locals)?;
+        let active = numbers_below(self.alloc, count)?;
+        self.run_block_on(run, listener, &mut team, &active, body)
     }
 }

@@ -1,15 +1,17 @@
 //! The meaning of a checked program, and its reference interpreter.
 //!
-//! How one statement is run is public, for an interpreter that tells more of a run than its outcome.
+//! The interpreter tells each moment of a run to a listener. What a listener is lent of a statement is public, and how that is judged.
 #![tactic(auto)]
 
 mod access;
+pub mod action;
 mod alone;
 pub mod attempt;
 pub mod conflict;
 mod inside;
 pub mod interpreter;
 mod key;
+pub mod listener;
 pub mod meaning_laws;
 pub mod numbers;
 mod operation;
@@ -19,6 +21,7 @@ mod read;
 mod reference;
 mod rule;
 pub mod run;
+pub mod silent;
 pub mod slate;
 pub mod team;
 pub mod together;

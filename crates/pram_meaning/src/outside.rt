@@ -1,18 +1,25 @@
 //! Statements outside pardo.
 
-ghost use Rattle.std.specs.Prelude.{◌≤◌, ◌≡◌, ◌<◌, ◌+◌, OnOk};
+ghost use Rattle.std.specs.Prelude.{◌≤◌, ◌≡◌, ◌<◌, ◌+◌, ◌∷◌, [], None, OnOk};
 ghost use Rattle.pram_model.specs.Layout.{width};
-ghost use Rattle.pram_meaning.specs.Attempt.{attempt_bounds};
-ghost use Rattle.pram_meaning.specs.Store.{seen, with_uniform};
-ghost use Rattle.pram_meaning.specs.Bounded.{counted, evaluated, found, tested, perform, perform_list, turns, for_turns, for_all, pardo};
+ghost use Rattle.pram_meaning.specs.Attempt.{Gives};
+ghost use Rattle.pram_meaning.specs.Store.{with_uniform};
+ghost use Rattle.pram_meaning.specs.Bounded.{counted, tested, perform, perform_list, turns, for_turns, for_all, pardo};
 ghost use Rattle.pram_meaning.specs.Bounded as spec;
+ghost use Rattle.pram_meaning.specs.Listening.{UnlessRefused};
+ghost use Rattle.pram_meaning.specs.Moments.{Alone, Sets, Turns, Chooses, moments, list_moments, turns_moments, for_turns_moments};
+ghost use Rattle.pram_meaning.specs.Moments.{for_moments, pardo_moments, test_moment, print_moment, closing};
 ghost use Rattle.pram_meaning.specs.Runs.{state_of, IsBehaviour};
 
+use crate::action::Action;
+use crate::attempt::Effect;
 use crate::interpreter::Interpreter;
+use crate::listener::Listener;
 use crate::numbers::Numbers;
 use crate::run::{Halt, Run, set_number};
-use pram_check::{Expression, Statement, Step, Target};
+use pram_check::{Expression, Statement, Step};
 use pram_values::is_true;
+use std::alloc::AllocError;
 
 // A uniform variable gets the next number.
 fn set_next(run: &mut Run, variable: usize, numbers: &Numbers)
@@ -21,100 +28,90 @@ fn set_next(run: &mut Run, variable: usize, numbers: &Numbers)
     set_number(&mut run.uniforms, variable, numbers.next);
 }
 
+// Who listens is told of the next number, for which the turn of a `for` counts already.
+fn tell_next<H: Listener>(
+    run: &Run,
+    listener: &mut H,
+    line: u32,
+    variable: usize,
+    numbers: &Numbers,
+) -> Result<(), AllocError>
+    ensures { OnOk result (H.hears listener.old (Alone line (Sets variable) (state_of run.now) (Gives [] None)
+        (with_uniform variable numbers.now.next (state_of run.now)) ∷ []) listener.new) }
+{
+    let effect = Effect {
+        value: numbers.next,
+        cell: None,
+    };
+    listener.acts(run, line, &Action::Sets { variable }, &[], &effect)
+}
+
 impl<'a> Interpreter<'a> {
-    // One statement more.
-    fn begin(&self, run: &mut Run) -> Result<(), Halt>
-        ensures counts { IsBehaviour result (state_of run.new) (counted self.now.bound (state_of run.old)) }
-        ensures more { OnOk result (run.new.count ≡ run.old.count + 1) }
-        ensures below { OnOk result (run.old.count < self.now.bound) }
-    {
-        if self.bound <= run.count {
-            return Err(Halt::Bound);
-        }
-        run.count += 1;
-        Ok(())
-    }
-
-    #[tactic(auto, using(crate::proofs::Halts::halts, crate::proofs::Halts::value_halts, crate::proofs::Halts::then_is))]
-    fn run_value(&self, run: &mut Run, line: u32, e: &Expression) -> Result<i64, Halt>
-        ensures value { IsBehaviour result (state_of run.new) (found self.now.program.now self.now.bound line e.now (state_of run.old)) }
-        ensures more { OnOk result (run.new.count ≡ run.old.count + 1) }
-        ensures below { OnOk result (run.old.count < self.now.bound) }
-    {
-        self.begin(run)?;
-        self.evaluate(run, line, e)
-    }
-
+    // The test of a `while`.
     #[tactic(auto, using(crate::proofs::Halts::halts, crate::proofs::Halts::then_is))]
-    fn run_test(&self, run: &mut Run, line: u32, test: &Expression) -> Result<bool, Halt>
+    fn run_test<H: Listener>(
+        &self,
+        run: &mut Run,
+        listener: &mut H,
+        line: u32,
+        test: &Expression,
+    ) -> Result<bool, Halt>
         ensures value { IsBehaviour result (state_of run.new)
             (tested self.now.program.now self.now.bound line test.now (state_of run.old)) }
+        ensures heard { UnlessRefused result (H.hears listener.old
+            (test_moment self.now.program.now self.now.bound line (Turns test.now) test.now (state_of run.old)) listener.new) }
         ensures more { OnOk result (run.new.count ≡ run.old.count + 1) }
         ensures below { OnOk result (run.old.count < self.now.bound) }
     {
-        let value = self.run_value(run, line, test)?;
+        let value = self.run_value(run, listener, line, &Action::Turns { test }, test)?;
         Ok(is_true(value))
     }
 
-    #[tactic(auto, using(crate::proofs::Halts::halts, crate::proofs::Halts::effect_halts, crate::proofs::Halts::effect_then, crate::proofs::Halts::then_is))]
-    fn assign(
+    // The test of an `if`.
+    #[tactic(auto, using(crate::proofs::Halts::halts, crate::proofs::Halts::then_is))]
+    fn run_choice<H: Listener>(
         &self,
         run: &mut Run,
+        listener: &mut H,
         line: u32,
-        target: &Target,
-        value: &Expression,
-    ) -> Result<(), Halt>
-        ensures value { IsBehaviour result (state_of run.new) (spec.assign self.now.program.now self.now.bound line target.now value.now
-            (state_of run.old)) }
-        ensures grows { OnOk result (run.old.count ≤ run.new.count) }
+        test: &Expression,
+    ) -> Result<bool, Halt>
+        ensures value { IsBehaviour result (state_of run.new)
+            (tested self.now.program.now self.now.bound line test.now (state_of run.old)) }
+        ensures heard { UnlessRefused result (H.hears listener.old
+            (test_moment self.now.program.now self.now.bound line (Chooses test.now) test.now (state_of run.old)) listener.new) }
+        ensures more { OnOk result (run.new.count ≡ run.old.count + 1) }
     {
-        self.begin(run)?;
-        let effect = self.evaluate_assignment(run, line, target, value)?;
-        match target {
-            Target::Uniform(x) => set_number(&mut run.uniforms, *x, effect.value),
-            Target::Cell(_) | Target::Element(_, _) => {
-                if let Some(cell) = effect.cell {
-                    set_number(&mut run.cells, cell as usize, effect.value);
-                }
-            }
-        }
-        Ok(())
+        let value = self.run_value(run, listener, line, &Action::Chooses { test }, test)?;
+        Ok(is_true(value))
     }
 
     #[tactic(auto, using(crate::proofs::Halts::halts, crate::proofs::Halts::then_is))]
-    fn print(&self, run: &mut Run, line: u32, value: &Expression) -> Result<(), Halt>
+    fn print<H: Listener>(
+        &self,
+        run: &mut Run,
+        listener: &mut H,
+        line: u32,
+        value: &Expression,
+    ) -> Result<(), Halt>
         ensures value { IsBehaviour result (state_of run.new) (spec.print self.now.program.now self.now.bound line value.now
             (state_of run.old)) }
+        ensures heard { UnlessRefused result (H.hears listener.old
+            (print_moment self.now.program.now self.now.bound line value.now (state_of run.old)) listener.new) }
         ensures grows { OnOk result (run.old.count ≤ run.new.count) }
     {
-        let item = self.run_value(run, line, value)?;
+        let item = self.run_value(run, listener, line, &Action::Prints { value }, value)?;
         if run.output.push(item).is_err() {
             return Err(Halt::OutOfMemory);
         }
         Ok(())
     }
 
-    // The bounds of a `for`, the low one first.
-    #[tactic(auto, using(crate::proofs::Halts::bounds_halt, crate::proofs::Halts::bounds_then))]
-    fn run_bounds(
+    #[tactic(auto, using(crate::proofs::Halts::halts, crate::proofs::Halts::then_is, crate::proofs::Telling::first_halts, crate::proofs::Telling::first_goes))]
+    fn run_pardo<H: Listener>(
         &self,
         run: &mut Run,
-        line: u32,
-        low: &Expression,
-        high: &Expression,
-    ) -> Result<(i64, i64), Halt>
-        ensures value { IsBehaviour result (state_of run.new)
-            (evaluated self.now.bound line (λ m. attempt_bounds (seen self.now.program.now m) low.now high.now) (state_of run.old)) }
-        ensures more { OnOk result (run.new.count ≡ run.old.count + 1) }
-    {
-        self.begin(run)?;
-        self.evaluate_bounds(run, line, low, high)
-    }
-
-    #[tactic(auto, using(crate::proofs::Halts::halts, crate::proofs::Halts::range_halts, crate::proofs::Halts::range_then, crate::proofs::Halts::then_is))]
-    fn run_pardo(
-        &self,
-        run: &mut Run,
+        listener: &mut H,
         body: &Vec<Step>,
         line: u32,
         low: &Expression,
@@ -123,18 +120,26 @@ impl<'a> Interpreter<'a> {
     ) -> Result<(), Halt>
         ensures value { IsBehaviour result (state_of run.new) (pardo self.now.program.now self.now.bound line low.now high.now locals
             body.now.items (state_of run.old)) }
+        ensures heard { UnlessRefused result (H.hears listener.old (pardo_moments self.now.program.now self.now.bound line low.now high.now
+            locals body.now.items (state_of run.old)) listener.new) }
         ensures grows { OnOk result (run.old.count ≤ run.new.count) }
     {
-        self.begin(run)?;
-        let (first, count) = self.evaluate_range(run, line, low, high)?;
-        self.run_team(run, first, count, locals, body)
+        let (first, count) = self.run_range(run, listener, line, low, high)?;
+        self.run_team(run, listener, first, count, locals, body)
     }
 
     /// One statement outside pardo, with all that it holds.
     #[cycle(outside)]
-    #[tactic(auto, using(crate::proofs::Blocks::assign_arm, crate::proofs::Blocks::print_arm, crate::proofs::Blocks::while_arm, crate::proofs::Blocks::for_arm, crate::proofs::Blocks::pardo_arm, crate::proofs::Blocks::if_halts_arm, crate::proofs::Blocks::then_arm, crate::proofs::Blocks::else_arm))]
-    pub fn run_statement(&self, run: &mut Run, s: &Statement) -> Result<(), Halt>
+    #[tactic(auto, using(crate::proofs::Blocks::assign_arm, crate::proofs::Blocks::print_arm, crate::proofs::Blocks::while_arm, crate::proofs::Blocks::for_arm, crate::proofs::Blocks::pardo_arm, crate::proofs::Blocks::if_halts_arm, crate::proofs::Blocks::then_arm, crate::proofs::Blocks::else_arm, crate::proofs::HeardBlocks::assign_heard, crate::proofs::HeardBlocks::print_heard, crate::proofs::HeardBlocks::while_heard, crate::proofs::HeardBlocks::for_heard, crate::proofs::HeardBlocks::pardo_heard, crate::proofs::HeardBlocks::if_halts_heard, crate::proofs::HeardBlocks::then_heard, crate::proofs::HeardBlocks::else_heard))]
+    pub fn run_statement<H: Listener>(
+        &self,
+        run: &mut Run,
+        listener: &mut H,
+        s: &Statement,
+    ) -> Result<(), Halt>
         ensures value { IsBehaviour result (state_of run.new) (perform self.now.program.now self.now.bound s.now (state_of run.old)) }
+        ensures heard { UnlessRefused result (H.hears listener.old (moments self.now.program.now self.now.bound s.now (state_of run.old))
+            listener.new) }
         ensures grows { OnOk result (run.old.count ≤ run.new.count) }
     {
         match s {
@@ -142,20 +147,22 @@ impl<'a> Interpreter<'a> {
                 line,
                 target,
                 value,
-            } => self.assign(run, *line, target, value),
-            Statement::Print { line, value } => self.print(run, *line, value),
-            Statement::While { line, test, body } => self.run_while(run, body, *line, test),
+            } => self.assign(run, listener, *line, target, value),
+            Statement::Print { line, value } => self.print(run, listener, *line, value),
+            Statement::While { line, test, body } => self.run_while(
+                run, listener, body, *line, test,
+            ),
             Statement::If {
                 line,
                 test,
                 then_part,
                 else_part,
             } => {
-                let holds = self.run_test(run, *line, test)?;
+                let holds = self.run_choice(run, listener, *line, test)?;
                 if holds {
-                    self.run_block(run, then_part)
+                    self.run_closed(run, listener, then_part)
                 } else {
-                    self.run_block(run, else_part)
+                    self.run_closed(run, listener, else_part)
                 }
             }
             Statement::For {
@@ -164,22 +171,23 @@ impl<'a> Interpreter<'a> {
                 low,
                 high,
                 body,
-            } => self.run_for(run, body, *line, *variable, low, high),
+            } => self.run_for(run, listener, body, *line, *variable, low, high),
             Statement::Pardo {
                 line,
                 low,
                 high,
                 locals,
                 body,
-            } => self.run_pardo(run, body, *line, low, high, *locals),
+            } => self.run_pardo(run, listener, body, *line, low, high, *locals),
         }
     }
 
     #[cycle(outside)]
-    #[tactic(auto, using(crate::proofs::Loops::turns_start, crate::proofs::Loops::test_halts, crate::proofs::Loops::turns_end, crate::proofs::Loops::turn_halts, crate::proofs::Loops::turn_goes))]
-    fn run_while(
+    #[tactic(auto, using(crate::proofs::Loops::turns_start, crate::proofs::Loops::test_halts, crate::proofs::Loops::turns_end, crate::proofs::Loops::turn_halts, crate::proofs::Loops::turn_goes, crate::proofs::HeardLoops::heard_start, crate::proofs::HeardLoops::test_halts_heard, crate::proofs::HeardLoops::turns_end_heard, crate::proofs::HeardLoops::turn_halts_heard, crate::proofs::HeardLoops::turn_goes_heard))]
+    fn run_while<H: Listener>(
         &self,
         run: &mut Run,
+        listener: &mut H,
         body: &Vec<Statement>,
         line: u32,
         test: &Expression,
@@ -187,19 +195,25 @@ impl<'a> Interpreter<'a> {
         ensures value { IsBehaviour result (state_of run.new)
             (turns (self.now.bound + 1) (tested self.now.program.now self.now.bound line test.now)
             (perform_list self.now.program.now self.now.bound body.now.items) (state_of run.old)) }
+        ensures heard { UnlessRefused result (H.hears listener.old (turns_moments (self.now.bound + 1)
+            (test_moment self.now.program.now self.now.bound line (Turns test.now) test.now)
+            (tested self.now.program.now self.now.bound line test.now)
+            (list_moments self.now.program.now self.now.bound body.now.items)
+            (perform_list self.now.program.now self.now.bound body.now.items) (state_of run.old)) listener.new) }
         ensures grows { OnOk result (run.old.count ≤ run.new.count) }
     {
-        'turns: while self.run_test(run, line, test)? {
-            self.run_block(run, body)?;
+        'turns: while self.run_test(run, listener, line, test)? {
+            self.run_block(run, listener, body)?;
         }
         Ok(())
     }
 
     #[cycle(outside)]
-    #[tactic(auto, using(crate::proofs::Halts::halts, crate::proofs::Halts::then_is))]
-    fn run_for(
+    #[tactic(auto, using(crate::proofs::Halts::halts, crate::proofs::Halts::then_is, crate::proofs::Telling::first_halts, crate::proofs::Telling::first_goes))]
+    fn run_for<H: Listener>(
         &self,
         run: &mut Run,
+        listener: &mut H,
         body: &Vec<Statement>,
         line: u32,
         variable: usize,
@@ -208,25 +222,34 @@ impl<'a> Interpreter<'a> {
     ) -> Result<(), Halt>
         ensures value { IsBehaviour result (state_of run.new) (for_all self.now.program.now self.now.bound line variable low.now high.now
             (perform_list self.now.program.now self.now.bound body.now.items) (state_of run.old)) }
+        ensures heard { UnlessRefused result (H.hears listener.old (for_moments self.now.program.now self.now.bound line variable low.now
+            high.now (list_moments self.now.program.now self.now.bound body.now.items)
+            (perform_list self.now.program.now self.now.bound body.now.items) (state_of run.old)) listener.new) }
         ensures grows { OnOk result (run.old.count ≤ run.new.count) }
     {
-        let (first, last) = self.run_bounds(run, line, low, high)?;
+        let (first, last) = self.run_bounds(run, listener, line, low, high)?;
         let numbers = Numbers { next: first, last };
-        self.run_turns(run, body, variable, &numbers)
+        self.run_turns(run, listener, body, line, variable, &numbers)
     }
 
     // The turns of a `for`, one for each number.
     #[cycle(outside)]
-    #[tactic(auto, using(crate::proofs::ForLoops::turns_start, crate::proofs::ForLoops::no_turns, crate::proofs::ForLoops::setting_halts, crate::proofs::ForLoops::turn_halts, crate::proofs::ForLoops::turn_goes, crate::proofs::ForLoops::turns_end, crate::proofs::ForLoops::is_left))]
-    fn run_turns(
+    #[tactic(auto, using(crate::proofs::ForLoops::turns_start, crate::proofs::ForLoops::no_turns, crate::proofs::ForLoops::setting_halts, crate::proofs::ForLoops::turn_halts, crate::proofs::ForLoops::turn_goes, crate::proofs::ForLoops::turns_end, crate::proofs::ForLoops::is_left, crate::proofs::HeardForLoops::heard_start, crate::proofs::HeardForLoops::heard_none, crate::proofs::HeardForLoops::setting_halts_heard, crate::proofs::HeardForLoops::turn_halts_heard, crate::proofs::HeardForLoops::turn_goes_heard, crate::proofs::HeardForLoops::turns_end_heard))]
+    fn run_turns<H: Listener>(
         &self,
         run: &mut Run,
+        listener: &mut H,
         body: &Vec<Statement>,
+        line: u32,
         variable: usize,
         numbers: &Numbers,
     ) -> Result<(), Halt>
         ensures value { IsBehaviour result (state_of run.new) (for_turns self.now.bound (width numbers.now.next numbers.now.last) variable
             numbers.now.next (perform_list self.now.program.now self.now.bound body.now.items) (state_of run.old)) }
+        ensures heard { UnlessRefused result (H.hears listener.old (for_turns_moments self.now.bound line
+            (width numbers.now.next numbers.now.last) variable numbers.now.next
+            (list_moments self.now.program.now self.now.bound body.now.items)
+            (perform_list self.now.program.now self.now.bound body.now.items) (state_of run.old)) listener.new) }
         ensures grows { OnOk result (run.old.count ≤ run.new.count) }
     {
         if numbers.is_empty() {
@@ -235,8 +258,9 @@ impl<'a> Interpreter<'a> {
         let mut left = *numbers;
         'turns: loop {
             self.begin(run)?;
+            tell_next(run, listener, line, variable, &left)?;
             set_next(run, variable, &left);
-            self.run_block(run, body)?;
+            self.run_closed(run, listener, body)?;
             if left.is_at_end() {
                 return Ok(());
             }
@@ -244,28 +268,57 @@ impl<'a> Interpreter<'a> {
         }
     }
 
-    /// The statements of a block, in order.
+    // A block that closes, however it came out.
     #[cycle(outside)]
-    #[tactic(auto, using(crate::proofs::Loops::block_starts, crate::proofs::Loops::block_halts, crate::proofs::Loops::block_goes, crate::proofs::Loops::block_ends))]
-    fn run_block(&self, run: &mut Run, body: &Vec<Statement>) -> Result<(), Halt>
+    #[tactic(auto, using(crate::proofs::Telling::closed_heard))]
+    fn run_closed<H: Listener>(
+        &self,
+        run: &mut Run,
+        listener: &mut H,
+        body: &Vec<Statement>,
+    ) -> Result<(), Halt>
         ensures value { IsBehaviour result (state_of run.new) (perform_list self.now.program.now self.now.bound body.now.items
             (state_of run.old)) }
+        ensures heard { UnlessRefused result (H.hears listener.old (closing (list_moments self.now.program.now self.now.bound
+            body.now.items (state_of run.old))) listener.new) }
+        ensures grows { OnOk result (run.old.count ≤ run.new.count) }
+    {
+        let done = self.run_block(run, listener, body);
+        listener.closes()?;
+        done
+    }
+
+    /// The statements of a block, in order.
+    #[cycle(outside)]
+    #[tactic(auto, using(crate::proofs::Loops::block_starts, crate::proofs::Loops::block_halts, crate::proofs::Loops::block_goes, crate::proofs::Loops::block_ends, crate::proofs::HeardBlocks::heard_starts, crate::proofs::HeardBlocks::heard_halts, crate::proofs::HeardBlocks::heard_goes, crate::proofs::HeardBlocks::heard_ends))]
+    fn run_block<H: Listener>(
+        &self,
+        run: &mut Run,
+        listener: &mut H,
+        body: &Vec<Statement>,
+    ) -> Result<(), Halt>
+        ensures value { IsBehaviour result (state_of run.new) (perform_list self.now.program.now self.now.bound body.now.items
+            (state_of run.old)) }
+        ensures heard { UnlessRefused result (H.hears listener.old (list_moments self.now.program.now self.now.bound body.now.items
+            (state_of run.old)) listener.new) }
         ensures grows { OnOk result (run.old.count ≤ run.new.count) }
     {
         for s in body {
-            self.run_statement(run, s)?;
+            self.run_statement(run, listener, s)?;
         }
         Ok(())
     }
 
     /// The whole body of a program.
-    #[tactic(auto, using(crate::proofs::Loops::block_starts, crate::proofs::Loops::block_halts, crate::proofs::Loops::block_goes, crate::proofs::Loops::block_ends))]
-    pub fn run_body(&self, run: &mut Run) -> Result<(), Halt>
-        ensures { IsBehaviour result (state_of run.new) (perform_list self.now.program.now self.now.bound self.now.program.now.body
+    #[tactic(auto, using(crate::proofs::Loops::block_starts, crate::proofs::Loops::block_halts, crate::proofs::Loops::block_goes, crate::proofs::Loops::block_ends, crate::proofs::HeardBlocks::heard_starts, crate::proofs::HeardBlocks::heard_halts, crate::proofs::HeardBlocks::heard_goes, crate::proofs::HeardBlocks::heard_ends))]
+    pub fn run_body<H: Listener>(&self, run: &mut Run, listener: &mut H) -> Result<(), Halt>
+        ensures value { IsBehaviour result (state_of run.new) (perform_list self.now.program.now self.now.bound self.now.program.now.body
             (state_of run.old)) }
+        ensures heard { UnlessRefused result (H.hears listener.old (list_moments self.now.program.now self.now.bound
+            self.now.program.now.body (state_of run.old)) listener.new) }
     {
         for s in self.program.body() {
-            self.run_statement(run, s)?;
+            self.run_statement(run, listener, s)?;
         }
         Ok(())
     }

@@ -7,6 +7,7 @@ ghost use Rattle.pram_meaning.specs.Outcome.{IsOutcome};
 
 use crate::interpreter::Interpreter;
 use crate::run::{Halt, Run, add_zeros, zeros};
+use crate::silent::Silent;
 use crate::slate::Slate;
 use pram_check::Program;
 use std::alloc::{AllocError, Global};
@@ -72,7 +73,7 @@ pub fn reference_run(
         program,
         bound,
     };
-    match interpreter.run_body(&mut run) {
+    match interpreter.run_body(&mut run, &mut Silent {}) {
         Ok(()) => Ok(Outcome::Ended {
             output: run.output,
             memory: run.cells,

@@ -1,6 +1,7 @@
 //! A run between two statements.
 
 ghost use Rattle.std.specs.Prelude.{◌≡◌, ◌++◌, IfOk, OnOk, pos, slice_set, replicate};
+ghost use Rattle.pram_meaning.specs.declared.run.Halt.TheVariants.{OutOfMemory};
 
 use crate::slate::Slate;
 use std::alloc::{AllocError, Global};
@@ -26,6 +27,14 @@ pub enum Halt {
     Bound,
     /// Memory was refused.
     OutOfMemory,
+}
+
+impl From<AllocError> for Halt {
+    ghost from_gives = { λ _ halt. halt ≡ OutOfMemory };
+
+    fn from(_: AllocError) -> Halt {
+        Halt::OutOfMemory
+    }
 }
 
 /// One item gets a value, if it is there.

@@ -2,17 +2,23 @@
 
 ghost use Rattle.std.specs.Prelude.{◌≡◌, IfSome, IfOk, OnOk, ◌++◌, map, ◌<◌, ◌≤◌, ◌+◌};
 ghost use Rattle.pram_meaning.specs.Attempt.{attempt_step};
-ghost use Rattle.pram_meaning.specs.Together.{assigned_by, part_of, parts, overwritten, those, those_of, together};
+ghost use Rattle.pram_meaning.specs.Together.{assigned_by, part_of, parts, overwritten, those, those_of};
 ghost use Rattle.pram_meaning.specs.Bounded.{counted, attempted_on, tested_on};
 ghost use Rattle.pram_meaning.specs.Bounded as spec;
-ghost use Rattle.pram_meaning.specs.Runs.{IsBehaviour, IsValue};
+ghost use Rattle.pram_meaning.specs.Runs.{IsBehaviour};
+ghost use Rattle.pram_meaning.specs.Conflict.{keys, least};
 ghost use Rattle.pram_meaning.specs.Judging.{part_is, with_value};
+ghost use Rattle.pram_meaning.specs.Listening.{step_action_is, done_on, UnlessRefused};
+ghost use Rattle.pram_meaning.specs.Moments.{TurnsOn, ChoosesOn, set_moment, set_assign_moment, set_test_moment};
 ghost use Rattle.pram_meaning.specs.Sets.{state_in, IsParts};
 
 use crate::access::Judged;
+use crate::action::StepAction;
 use crate::attempt::{Failure, step_assignment};
 use crate::conflict::least_key;
 use crate::interpreter::Interpreter;
+use crate::key::Key;
+use crate::listener::Listener;
 use crate::part::Part;
 use crate::run::{Halt, Run, set_number};
 use crate::slate::Slate;
@@ -23,6 +29,17 @@ use pram_trees::Rule;
 use pram_values::is_true;
 use std::alloc::{AllocError, Global};
 use write_rules::Fault;
+
+// A fault of a set.
+fn fault_at(key: Key, line: u32) -> Halt
+    ensures { result ≡ Halt.Fault (record { kind = key.kind; line = line; place = key.place }) }
+{
+    Halt::Fault(Fault {
+        kind: key.kind,
+        line,
+        place: key.place,
+    })
+}
 
 impl<'a> Interpreter<'a> {
     // One processor's attempt at an assignment.
@@ -99,55 +116,64 @@ impl<'a> Interpreter<'a> {
         Ok(())
     }
 
-    /// What a statement of a set comes to, where it has begun: its least fault, or the parts.
-    #[tactic(auto, using(crate::proofs::Sets::judged_faults, crate::proofs::Sets::judged_goes))]
-    pub fn judge_on(
+    // What a statement of a set comes to, where it has begun: its parts, and its least fault, if it has one.
+    fn judge(
         &self,
         run: &mut Run,
         team: &Vec<Member>,
         active: &Vec<u32>,
-        line: u32,
         target: &StepTarget,
         e: &Expression,
-    ) -> Result<Vec<Part>, Halt>
-        ensures value { IsValue (λ xs. map part_is xs.items) result (together self.now.program.now line
-            (parts self.now.program.now (state_in run.old team.now.items) (λ s. attempt_step s target.now e.now) active.now.items)) }
+    ) -> Option<(Vec<Part>, Option<Key>)>
+        ensures parts { IfSome result (λ r. map part_is r.0.items ≡ parts self.now.program.now (state_in run.old team.now.items)
+            (λ s. attempt_step s target.now e.now) active.now.items) }
+        ensures least { IfSome result (λ r. r.1 ≡ least (keys self.now.program.now.rule (map part_is r.0.items))) }
         ensures kept { state_in run.new team.now.items ≡ state_in run.old team.now.items }
         ensures count { run.new.count ≡ run.old.count }
     {
-        let Some(all) = self.parts_in(run, team, active, target, e) else {
-            return Err(Halt::OutOfMemory);
-        };
+        let all = self.parts_in(run, team, active, target, e)?;
         match least_key(self.alloc, &mut run.slate, self.program.rule(), &all) {
-            Err(_) => Err(Halt::OutOfMemory),
-            Ok(Some(key)) => Err(Halt::Fault(Fault {
-                kind: key.kind,
-                line,
-                place: key.place,
-            })),
-            Ok(None) => Ok(all),
+            Ok(key) => Some((all, key)),
+            Err(_) => None,
         }
     }
 
-    // A statement of a set: it counts, and then its least fault, or the parts.
-    #[tactic(auto, using(crate::proofs::Sets::set_halts, crate::proofs::Sets::set_judged))]
-    fn attempt_on(
+    // A statement of a set: it counts, who listens is told of it, and then its least fault, or the parts.
+    #[tactic(auto, using(crate::proofs::Sets::set_halts, crate::proofs::Telling::waits, crate::proofs::SetMoments::set_goes, crate::proofs::SetMoments::set_fails, crate::proofs::SetMoments::told_goes, crate::proofs::SetMoments::told_fails))]
+    fn attempt_on<H: Listener>(
         &self,
         run: &mut Run,
+        listener: &mut H,
         team: &Vec<Member>,
         active: &Vec<u32>,
         line: u32,
+        action: &StepAction,
         target: &StepTarget,
         e: &Expression,
     ) -> Result<Vec<Part>, Halt>
         ensures value { IsParts result (state_in run.new team.now.items)
             (attempted_on self.now.program.now self.now.bound line (λ s. attempt_step s target.now e.now) active.now.items
             (state_in run.old team.now.items)) }
+        ensures heard { UnlessRefused result (H.hears listener.old (set_moment self.now.program.now self.now.bound line
+            (step_action_is action.now) (done_on self.now.program.now (step_action_is action.now)) (λ s. attempt_step s target.now e.now)
+            active.now.items (state_in run.old team.now.items)) listener.new) }
         ensures more { OnOk result (run.new.count ≡ run.old.count + 1) }
         ensures below { OnOk result (run.old.count < self.now.bound) }
     {
         self.begin_on(run, team)?;
-        self.judge_on(run, team, active, line, target, e)
+        let Some((all, key)) = self.judge(run, team, active, target, e) else {
+            return Err(Halt::OutOfMemory);
+        };
+        match key {
+            None => {
+                listener.acts_on(self.program, run, team, line, action, &all)?;
+                Ok(all)
+            }
+            Some(key) => {
+                listener.fails_on(run, team, line, action, &all, key)?;
+                Err(fault_at(key, line))
+            }
+        }
     }
 }
 
@@ -181,9 +207,9 @@ fn write_back(cells: &mut Vec<i64>, said: &Judged)
     }
 }
 
-// The cells get what their writers leave.
+/// The cells get what their writers leave. The error is that memory was refused.
 #[tactic(auto, using(crate::proofs::Overwrites::over_starts, crate::proofs::Overwrites::over_goes, crate::proofs::Overwrites::over_ends))]
-fn overwrite(
+pub fn overwrite(
     alloc: Global,
     slate: &mut Slate,
     rule: Rule,
@@ -227,9 +253,10 @@ impl<'a> Interpreter<'a> {
 
     /// An assignment of a set.
     #[tactic(auto, using(crate::proofs::SetBlocks::assign_halts, crate::proofs::SetBlocks::assign_goes))]
-    pub fn assign_on(
+    pub fn assign_on<H: Listener>(
         &self,
         run: &mut Run,
+        listener: &mut H,
         team: &mut Vec<Member>,
         active: &Vec<u32>,
         line: u32,
@@ -238,19 +265,21 @@ impl<'a> Interpreter<'a> {
     ) -> Result<(), Halt>
         ensures value { IsBehaviour result (state_in run.new team.new.items)
             (spec.assign_on self.now.program.now self.now.bound line target.now e.now active.now.items (state_in run.old team.old.items)) }
+        ensures heard { UnlessRefused result (H.hears listener.old (set_assign_moment self.now.program.now self.now.bound line target.now
+            e.now active.now.items (state_in run.old team.old.items)) listener.new) }
         ensures grows { OnOk result (run.old.count ≤ run.new.count) }
     {
-        let all = self.attempt_on(run, team, active, line, target, e)?;
-        if self.settle_on(run, team, target, &all).is_err() {
-            return Err(Halt::OutOfMemory);
-        }
+        let action = StepAction::Assigns { target, value: e };
+        let all = self.attempt_on(run, listener, team, active, line, &action, target, e)?;
+        self.settle_on(run, team, target, &all)?;
         Ok(())
     }
 
-    /// A test of a set. It is evaluated as what a local gets, and nothing gets it.
-    pub fn test_on(
+    /// The test of a `while` of a set. It is evaluated as what a local gets, and nothing gets it.
+    pub fn test_on<H: Listener>(
         &self,
         run: &mut Run,
+        listener: &mut H,
         team: &Vec<Member>,
         active: &Vec<u32>,
         line: u32,
@@ -258,10 +287,34 @@ impl<'a> Interpreter<'a> {
     ) -> Result<Vec<Part>, Halt>
         ensures value { IsParts result (state_in run.new team.now.items) (tested_on self.now.program.now self.now.bound line test.now
             active.now.items (state_in run.old team.now.items)) }
+        ensures heard { UnlessRefused result (H.hears listener.old (set_test_moment self.now.program.now self.now.bound line
+            (TurnsOn test.now) test.now active.now.items (state_in run.old team.now.items)) listener.new) }
         ensures more { OnOk result (run.new.count ≡ run.old.count + 1) }
         ensures below { OnOk result (run.old.count < self.now.bound) }
     {
         let none = StepTarget::Local(0);
-        self.attempt_on(run, team, active, line, &none, test)
+        let action = StepAction::Turns { test };
+        self.attempt_on(run, listener, team, active, line, &action, &none, test)
+    }
+
+    /// The test of an `if` of a set, likewise.
+    pub fn choice_on<H: Listener>(
+        &self,
+        run: &mut Run,
+        listener: &mut H,
+        team: &Vec<Member>,
+        active: &Vec<u32>,
+        line: u32,
+        test: &Expression,
+    ) -> Result<Vec<Part>, Halt>
+        ensures value { IsParts result (state_in run.new team.now.items) (tested_on self.now.program.now self.now.bound line test.now
+            active.now.items (state_in run.old team.now.items)) }
+        ensures heard { UnlessRefused result (H.hears listener.old (set_test_moment self.now.program.now self.now.bound line
+            (ChoosesOn test.now) test.now active.now.items (state_in run.old team.now.items)) listener.new) }
+        ensures more { OnOk result (run.new.count ≡ run.old.count + 1) }
+    {
+        let none = StepTarget::Local(0);
+        let action = StepAction::Chooses { test };
+        self.attempt_on(run, listener, team, active, line, &action, &none, test)
     }
 }

@@ -2,7 +2,6 @@
 use Rattle.std.proofs.Common.{◌≡◌, ℤ, Bool, true, false, ◌+◌, List, [], ◌∷◌, ◌++◌, length, set, append_assoc, if◌then◌else◌, refl, ap, sym}
 use Rattle.std.proofs.Common.{◌∙◌}
 use Rattle.std.proofs.Common.{arith}
-use Rattle.std.proofs.lemmas.Int.{ints}
 use Rattle.pram_values.specs.Truth.{is_equal}
 use Rattle.step_entries.specs.declared.change.Change.{Change}
 use Rattle.step_journal.specs.Changes.{difference, difference_from, with_changes}

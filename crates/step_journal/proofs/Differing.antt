@@ -3,9 +3,7 @@ use Rattle.std.proofs.Common.{◌≡◌, ℕ, ℤ, pos, zero, suc, Bool, true, f
 use Rattle.std.proofs.Common.{set}
 use Rattle.std.proofs.Common.{append_assoc, append-nil, if◌then◌else◌, nat_le, refl, ap, sym, ◌∙◌, arith}
 use Rattle.std.proofs.lemmas.Bool.{leb-true, leb-false}
-use Rattle.std.proofs.lemmas.Int.{ints}
 use Rattle.std.proofs.lemmas.List.{drop_more, drop_all}
-use Rattle.pram_values.specs.Truth.{is_equal}
 use Rattle.step_entries.specs.declared.change.Change.{Change}
 use Rattle.step_journal.specs.Changes.{change_at, difference, difference_from}
 use Rattle.pram_values.proofs.TruthValues.{is_equal-self}
@@ -52,9 +50,12 @@ no_change : (c : ℕ) (x : ℤ) → change_at c x x ≡ []
 no_change c x = ap (λ b. if b then [] else record { cell = c; before = x; after = x } ∷ []) (is_equal-self x)
 
 -- nothing differs
-pub nothing_from : (c : ℕ) (cells : List ℤ) → difference_from c cells cells ≡ []
+nothing_from : (c : ℕ) (cells : List ℤ) → difference_from c cells cells ≡ []
 nothing_from c [] = refl
 nothing_from c (x ∷ cells) = ap (λ ds. ds ++ difference_from (c + 1) cells cells) (no_change c x) ∙ nothing_from (c + 1) cells
+
+pub none_of_it : (cells : List ℤ) (now : List Change) → now ≡ [] → now ≡ difference cells cells
+none_of_it cells now e = e ∙ sym (nothing_from 0 cells)
 
 one_from : (k c : ℕ) (cells : List ℤ) (v : ℤ) → c < length cells →
     difference_from k cells (set cells c v) ≡ change_at (k + c) (get_or cells c (pos 0)) v

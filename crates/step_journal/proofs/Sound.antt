@@ -1,150 +1,180 @@
--- Parts of a run that are told soundly: what was told gives the state, its cells by the changes and its output by the items.
-use Rattle.std.proofs.Common.{◌≡◌, ℕ, ℤ, List, [], ◌∷◌, ◌++◌, length, refl, ap, sym, ◌∙◌, subst, append_assoc, append-nil, drop}
+-- Parts of a run that are told soundly: what was told of them gives the state behind them, its cells by the changes and its output by the
+-- items, and a fault is the last of it.
+use Rattle.std.proofs.Common.{◌≡◌, ℕ, ◌+◌, ℤ, List, [], ◌∷◌, ◌++◌, Bool, true, false, if◌then◌else◌, length, drop, nat_lt, refl, ap, sym}
+use Rattle.std.proofs.Common.{◌∙◌, subst, append_assoc, append-nil}
+use Rattle.std.specs.List.{AllByRecursion, flat_map}
+use Rattle.std.proofs.lemmas.Grind.{flat_map-append}
 use Rattle.write_rules.specs.declared.fault.Fault.{Fault}
-use Rattle.pram_meaning.specs.Bounded.{Behaviour, Goes, Reaches, Stops, then_do}
+use Rattle.pram_meaning.specs.Bounded.{Behaviour, Done, Goes, Reaches, Stops, counted, then_do}
+use Rattle.pram_meaning.specs.Moments.{Closed, Moment, behind, closing}
 use Rattle.pram_meaning.specs.Store.{State}
-use Rattle.step_entries.specs.declared.change.Change.{Change}
 use Rattle.step_entries.specs.Entries.{Act, Entry, Faulting, Ran}
-use Rattle.step_journal.specs.Changes.{difference, with_changes}
-use Rattle.step_journal.specs.Entries.{items_of, replay}
-use Rattle.step_journal.specs.Moments.{Fell, Left, Moment, Shown, behind, shown}
-use Rattle.step_journal.specs.Telling.{Told, tell_all}
+use Rattle.step_journal.specs.Changes.{with_changes}
+use Rattle.step_journal.specs.Entries.{EndsIn, HasRun, entries_of, items_of, ran, replay}
 use Rattle.step_journal.proofs.Applied.{applied}
-use Rattle.step_journal.proofs.Kept.{told_through}
 use Rattle.step_journal.proofs.Pushed.{gained}
 
 -- the value of a statement
 abbrev pub done : Unit {0}
 done = tt
 
--- what was told since these cells gives what is shown of a state: the changes its cells, the items its output
-pub record Gives (cells : List ℤ) (t : Told) (s : Shown) : Type 0 where
-  pub now : t.now ≡ s
-  pub memory : replay t.entries cells ≡ s.cells
-  pub output : items_of t.entries ≡ s.output
+abbrev pub told : List Moment → List Entry
+told ms = flat_map entries_of ms
 
--- where what was told before a part of a run gives the state there, what is told of it too gives the state behind it, or the output, and
--- there are as many cells as before
-abbrev pub IsSound : {A : Type 0} → State → List Moment → Behaviour A → Type 0
-IsSound m ms (Goes a new) = (length new.cells ≡ length m.cells) ×
-    ((c : List ℤ) (t : Told) → Gives c t (shown m) → Gives c (tell_all ms t) (shown new))
-IsSound m ms (Stops k out) = (c : List ℤ) (t : Told) → Gives c t (shown m) → items_of (tell_all ms t).entries ≡ out
-IsSound m ms (Reaches out) = (c : List ℤ) (t : Told) → Gives c t (shown m) → items_of (tell_all ms t).entries ≡ out
+-- how entries lead from one state to another
+pub record Leads (m : State) (es : List Entry) (new : State) : Type 0 where
+  pub size : length new.cells ≡ length m.cells
+  pub memory : replay es m.cells ≡ new.cells
+  pub output : m.output ++ items_of es ≡ new.output
+  pub all : AllByRecursion HasRun es
 
--- ---- one moment
+-- or to a fault
+pub record Falls (m : State) (es : List Entry) (k : Fault) (out : List ℤ) : Type 0 where
+  pub output : m.output ++ items_of es ≡ out
+  pub ends : EndsIn k es
 
-replay_push : (es : List Entry) (line : ℕ) (acts : List Act) (ds vs : List Change) (items c : List ℤ) →
-    replay (es ++ Ran line acts ds vs items ∷ []) c ≡ with_changes ds (replay es c)
-replay_push [] line acts ds vs items c = refl
-replay_push (Ran l a fs us is ∷ es) line acts ds vs items c = replay_push es line acts ds vs items (with_changes fs c)
-replay_push (Faulting f a w ∷ es) line acts ds vs items c = replay_push es line acts ds vs items c
+-- or to where the bound forbids one statement more
+pub record Waits (m : State) (es : List Entry) (out : List ℤ) : Type 0 where
+  pub output : m.output ++ items_of es ≡ out
+  pub all : AllByRecursion HasRun es
 
-replay_fault : (es : List Entry) (fault : Fault) (acts : List Act) (who c : List ℤ) →
-    replay (es ++ Faulting fault acts who ∷ []) c ≡ replay es c
-replay_fault [] fault acts who c = refl
-replay_fault (Ran l a fs us is ∷ es) fault acts who c = replay_fault es fault acts who (with_changes fs c)
-replay_fault (Faulting f a w ∷ es) fault acts who c = replay_fault es fault acts who c
+abbrev pub IsTold : {A : Type 0} → State → List Entry → Behaviour A → Type 0
+IsTold m es (Goes a new) = Leads m es new
+IsTold m es (Stops k out) = Falls m es k out
+IsTold m es (Reaches out) = Waits m es out
 
-items_push : (es : List Entry) (line : ℕ) (acts : List Act) (ds vs : List Change) (items : List ℤ) →
-    items_of (es ++ Ran line acts ds vs items ∷ []) ≡ items_of es ++ items
-items_push [] line acts ds vs items = append-nil items
-items_push (Ran l a fs us is ∷ es) line acts ds vs items =
-    ap (λ r. is ++ r) (items_push es line acts ds vs items) ∙ sym (append_assoc is (items_of es) items)
-items_push (Faulting f a w ∷ es) line acts ds vs items = items_push es line acts ds vs items
+-- ---- two lists of entries
 
-items_fault : (es : List Entry) (fault : Fault) (acts : List Act) (who : List ℤ) →
-    items_of (es ++ Faulting fault acts who ∷ []) ≡ items_of es
-items_fault [] fault acts who = refl
-items_fault (Ran l a fs us is ∷ es) fault acts who = ap (λ r. is ++ r) (items_fault es fault acts who)
-items_fault (Faulting f a w ∷ es) fault acts who = items_fault es fault acts who
+replay_on : (xs ys : List Entry) (c : List ℤ) → replay (xs ++ ys) c ≡ replay ys (replay xs c)
+replay_on [] ys c = refl
+replay_on (Ran line acts ds vs items ∷ xs) ys c = replay_on xs ys (with_changes ds c)
+replay_on (Faulting fault acts met ∷ xs) ys c = replay_on xs ys c
+
+items_on : (xs ys : List Entry) → items_of (xs ++ ys) ≡ items_of xs ++ items_of ys
+items_on [] ys = refl
+items_on (Ran line acts ds vs items ∷ xs) ys =
+    ap (λ r. items ++ r) (items_on xs ys) ∙ sym (append_assoc items (items_of xs) (items_of ys))
+items_on (Faulting fault acts met ∷ xs) ys = items_on xs ys
+
+all_on : (xs ys : List Entry) → AllByRecursion HasRun xs → AllByRecursion HasRun ys → AllByRecursion HasRun (xs ++ ys)
+all_on [] ys h g = g
+all_on (x ∷ xs) ys h g = (h.0, all_on xs ys h.1 g)
+
+ends_on : (xs ys : List Entry) (k : Fault) → AllByRecursion HasRun xs → EndsIn k ys → EndsIn k (xs ++ ys)
+ends_on xs ys k h g =
+    (xs ++ g.0, g.1, g.2, all_on xs g.0 h g.3, ap (λ zs. xs ++ zs) g.4 ∙ sym (append_assoc xs g.0 (Faulting k g.1 g.2 ∷ [])))
+
+output_on : (m new : State) (xs ys : List Entry) (out : List ℤ) → m.output ++ items_of xs ≡ new.output →
+    new.output ++ items_of ys ≡ out → m.output ++ items_of (xs ++ ys) ≡ out
+output_on m new xs ys out s h =
+    ap (λ r. m.output ++ r) (items_on xs ys) ∙ sym (append_assoc m.output (items_of xs) (items_of ys))
+    ∙ ap (λ o. o ++ items_of ys) s ∙ h
+
+-- ---- one entry
 
 -- a state with as many cells, and with more output
-pub left_sound : {A : Type 0} (m new : State) (line : ℕ) (acts : List Act) (more : List ℤ) (a : A) → length new.cells ≡ length m.cells →
-    new.output ≡ m.output ++ more → IsSound m (Left line acts (shown new) ∷ []) (Goes a new)
-left_sound m new line acts more a l o = (
-  l,
-  λ c t g.
-      let cells : t.now.cells ≡ m.cells = ap (λ (s : Shown). s.cells) g.now in
-      let output : t.now.output ≡ m.output = ap (λ (s : Shown). s.output) g.now in
-      record {
-        now = refl;
-        memory = replay_push t.entries line acts (difference t.now.cells new.cells) (difference t.now.uniforms new.uniforms)
-            (drop (length t.now.output) new.output) c
-            ∙ ap (with_changes (difference t.now.cells new.cells)) g.memory
-            ∙ ap (λ xs. with_changes (difference xs new.cells) m.cells) cells
-            ∙ applied m.cells new.cells l;
-        output = items_push t.entries line acts (difference t.now.cells new.cells) (difference t.now.uniforms new.uniforms)
-            (drop (length t.now.output) new.output)
-            ∙ ap (λ xs. xs ++ drop (length t.now.output) new.output) g.output
-            ∙ ap (λ xs. m.output ++ drop (length xs) new.output) output
-            ∙ ap (λ xs. m.output ++ drop (length m.output) xs) o
-            ∙ ap (λ xs. m.output ++ xs) (gained m.output more)
-            ∙ sym o;
-      },
-)
+pub record Extends (m new : State) : Type 0 where
+  pub size : length new.cells ≡ length m.cells
+  pub more : List ℤ
+  pub output : new.output ≡ m.output ++ more
 
 -- one with the same output
-pub same_sound : {A : Type 0} (m new : State) (line : ℕ) (acts : List Act) (a : A) → length new.cells ≡ length m.cells →
-    new.output ≡ m.output → IsSound m (Left line acts (shown new) ∷ []) (Goes a new)
-same_sound m new line acts a l o = left_sound m new line acts [] a l (o ∙ sym (append-nil m.output))
+pub extends : (m new : State) → length new.cells ≡ length m.cells → new.output ≡ m.output → Extends m new
+extends m new l o = record { size = l; more = []; output = o ∙ sym (append-nil m.output) }
 
-pub fell_sound : {A : Type 0} (m new : State) (k : Fault) (acts : List Act) (who : List ℤ) (a : A) → shown m ≡ shown new →
-    IsSound m (Fell k acts who ∷ []) (Goes a new)
-fell_sound m new k acts who a e = (
-  ap (λ (s : Shown). length s.cells) (sym e),
-  λ c t g. record {
-    now = g.now ∙ e;
-    memory = replay_fault t.entries k acts who c ∙ g.memory ∙ ap (λ (s : Shown). s.cells) e;
-    output = items_fault t.entries k acts who ∙ g.output ∙ ap (λ (s : Shown). s.output) e;
-  },
-)
+pub ran_told : {A : Type 0} (m new : State) (line : ℕ) (acts : List Act) (a : A) → Extends m new →
+    IsTold m (ran line acts m new ∷ []) (Goes a new)
+ran_told m new line acts a h = record {
+  size = h.size;
+  memory = applied m.cells new.cells h.size;
+  output = ap (λ r. m.output ++ r) (append-nil (drop (length m.output) new.output))
+      ∙ ap (λ o. m.output ++ drop (length m.output) o) h.output
+      ∙ ap (λ r. m.output ++ r) (gained m.output h.more)
+      ∙ sym h.output;
+  all = (tt, tt);
+}
 
-pub stop_sound : (m : State) (j k : Fault) (acts : List Act) (who : List ℤ) →
-    IsSound {A = Unit {0}} m (Fell j acts who ∷ []) (Stops k m.output)
-stop_sound m j k acts who c t g = items_fault t.entries j acts who ∙ g.output
+pub fell_told : (m : State) (k : Fault) (acts : List Act) (met : List ℤ) → Falls m (Faulting k acts met ∷ []) k m.output
+fell_told m k acts met = record { output = append-nil m.output; ends = ([], acts, met, tt, refl) }
 
--- a statement that ran before a fault that is told of nothing
-pub left_stop : (m new : State) (line : ℕ) (acts : List Act) (k : Fault) → length new.cells ≡ length m.cells →
-    new.output ≡ m.output → IsSound {A = Unit {0}} m (Left line acts (shown new) ∷ []) (Stops k m.output)
-left_stop m new line acts k l o c t g = ((same_sound {A = Unit {0}} m new line acts done l o).1 c t g).output ∙ o
+-- ---- none
 
-pub wait_sound : (m : State) → IsSound {A = Unit {0}} m [] (Reaches m.output)
-wait_sound m c t g = g.output
+pub none_told : {A : Type 0} (m new : State) (a : A) → new.cells ≡ m.cells → new.output ≡ m.output → IsTold m [] (Goes a new)
+none_told m new a c o = record {
+  size = ap length c;
+  memory = sym c;
+  output = append-nil m.output ∙ sym o;
+  all = tt;
+}
 
-pub none_sound : {A : Type 0} (m : State) (a : A) → IsSound m [] (Goes a m)
-none_sound m a = (refl, λ c t g. g)
+pub wait_told : (m : State) → Waits m [] m.output
+wait_told m = record { output = append-nil m.output; all = tt }
 
--- ---- one behind the other
+pub counted_told : (n : ℕ) (m : State) → IsTold m [] (counted n m)
+counted_told n m = by (nat_lt m.count n) where
+  by : (b : Bool) → IsTold m [] (if b then Goes done (record m { count = m.count + 1 }) else Reaches m.output)
+  by true = none_told m (record m { count = m.count + 1 }) done refl refl
+  by false = wait_told m
 
-joined : {A B : Type 0} (m new : State) (a : A) (xs ys : List Moment) (d : Behaviour B) → IsSound m xs (Goes a new) →
-    IsSound new ys d → IsSound m (xs ++ ys) d
-joined m new a xs ys (Goes b last) s h = (
-  h.0 ∙ s.0,
-  λ c t g. subst (λ t. Gives c t (shown last)) (sym (told_through xs ys t)) (h.1 c (tell_all xs t) (s.1 c t g)),
-)
-joined m new a xs ys (Stops k out) s h =
-    λ c t g. ap (λ (t : Told). items_of t.entries) (told_through xs ys t) ∙ h c (tell_all xs t) (s.1 c t g)
-joined m new a xs ys (Reaches out) s h =
-    λ c t g. ap (λ (t : Told). items_of t.entries) (told_through xs ys t) ∙ h c (tell_all xs t) (s.1 c t g)
+-- ---- one part of a run behind the other
 
-pub sound_then : {A B : Type 0} (m : State) (xs : List Moment) (b : Behaviour A) (f : A → State → List Moment)
-    (g : A → State → Behaviour B) → IsSound m xs b → ((a : A) (new : State) → IsSound new (f a new) (g a new)) →
-    IsSound m (xs ++ behind b f) (then_do b g)
-sound_then m xs (Goes a new) f g s h = joined m new a xs (f a new) (g a new) s (h a new)
-sound_then m xs (Stops k out) f g s h = λ c t e. ap (λ xs. items_of (tell_all xs t).entries) (append-nil xs) ∙ s c t e
-sound_then m xs (Reaches out) f g s h = λ c t e. ap (λ xs. items_of (tell_all xs t).entries) (append-nil xs) ∙ s c t e
+joined : {B : Type 0} (m new : State) (xs ys : List Entry) (d : Behaviour B) → Leads m xs new → IsTold new ys d → IsTold m (xs ++ ys) d
+joined m new xs ys (Goes b last) s h = record {
+  size = h.size ∙ s.size;
+  memory = replay_on xs ys m.cells ∙ ap (replay ys) s.memory ∙ h.memory;
+  output = output_on m new xs ys last.output s.output h.output;
+  all = all_on xs ys s.all h.all;
+}
+joined m new xs ys (Stops k out) s h = record {
+  output = output_on m new xs ys out s.output h.output;
+  ends = ends_on xs ys k s.all h.ends;
+}
+joined m new xs ys (Reaches out) s h = record {
+  output = output_on m new xs ys out s.output h.output;
+  all = all_on xs ys s.all h.all;
+}
 
--- a value and a state of which the same is shown put in place of others
-pub sound_map : {A B : Type 0} (m : State) (xs : List Moment) (b : Behaviour A) (f : A → State → B) (h : A → State → State) →
-    IsSound m xs b → ((a : A) (new : State) → shown new ≡ shown (h a new)) →
-    IsSound m xs (then_do b (λ a m. Goes (f a m) (h a m)))
-sound_map m xs (Goes a new) f h s e = (
-  ap (λ (s : Shown). length s.cells) (sym (e a new)) ∙ s.0,
-  λ c t g. let u = s.1 c t g in record {
-    now = u.now ∙ e a new;
-    memory = u.memory ∙ ap (λ (s : Shown). s.cells) (e a new);
-    output = u.output ∙ ap (λ (s : Shown). s.output) (e a new);
-  },
-)
-sound_map m xs (Stops k out) f h s e = s
-sound_map m xs (Reaches out) f h s e = s
+pub told_then : {A B : Type 0} (m : State) (ms : List Moment) (b : Behaviour A) (f : A → State → List Moment)
+    (g : A → State → Behaviour B) → IsTold m (told ms) b → ((a : A) (new : State) → IsTold new (told (f a new)) (g a new)) →
+    IsTold m (told (ms ++ behind b f)) (then_do b g)
+told_then m ms (Goes a new) f g s h =
+    subst (λ es. IsTold m es (g a new)) (sym (flat_map-append entries_of ms (f a new)))
+    (joined m new (told ms) (told (f a new)) (g a new) s (h a new))
+told_then m ms (Stops k out) f g s h = subst (λ ms. Falls m (told ms) k out) (sym (append-nil ms)) s
+told_then m ms (Reaches out) f g s h = subst (λ ms. Waits m (told ms) out) (sym (append-nil ms)) s
+
+-- where a part of a run begins in another state, with the same cells and output
+pub told_from : {B : Type 0} (m new : State) (ms : List Moment) (d : Behaviour B) → new.cells ≡ m.cells → new.output ≡ m.output →
+    IsTold new (told ms) d → IsTold m (told ms) d
+told_from m new ms d c o h = joined m new [] (told ms) d (none_told m new done c o) h
+
+-- a value and a state put in place of others, with the same cells and output
+pub told_map : {A B : Type 0} (m : State) (es : List Entry) (b : Behaviour A) (f : A → State → B) (h : A → State → State) →
+    IsTold m es b → ((a : A) (new : State) → (h a new).cells ≡ new.cells) → ((a : A) (new : State) → (h a new).output ≡ new.output) →
+    IsTold m es (then_do b (λ a m. Goes (f a m) (h a m)))
+told_map m es (Goes a new) f h s c o = record {
+  size = ap length (c a new) ∙ s.size;
+  memory = s.memory ∙ sym (c a new);
+  output = s.output ∙ sym (o a new);
+  all = s.all;
+}
+told_map m es (Stops k out) f h s c o = s
+told_map m es (Reaches out) f h s c o = s
+
+-- the end of a block tells nothing
+pub closing_told : (m : State) (ms : List Moment) (b : Done) → IsTold m (told ms) b → IsTold m (told (closing ms)) b
+closing_told m ms b h =
+    subst (λ es. IsTold m es b) (sym (flat_map-append entries_of ms (Closed ∷ []) ∙ append-nil (told ms))) h
+
+-- ---- behaviours
+
+pub then_assoc : {A B C : Type 0} (b : Behaviour A) (f : A → State → Behaviour B) (g : B → State → Behaviour C) →
+    then_do (then_do b f) g ≡ then_do b (λ a m. then_do (f a m) g)
+then_assoc (Goes a m) f g = refl
+then_assoc (Stops k out) f g = refl
+then_assoc (Reaches out) f g = refl
+
+pub then_goes : {A : Type 0} (b : Behaviour A) → then_do b (λ a m. Goes a m) ≡ b
+then_goes (Goes a m) = refl
+then_goes (Stops k out) = refl
+then_goes (Reaches out) = refl

@@ -1,24 +1,55 @@
 -- A run told statement by statement: entry k is the k-th statement that ran, counted from 1.
-use Rattle.std.specs.Prelude.{◌≡◌, ℕ, List, [], ◌∷◌, ◌++◌, ℤ, ⊤}
-use Rattle.std.specs.List.{AllByRecursion}
+use Rattle.std.specs.Prelude.{◌≡◌, ℕ, List, [], ◌∷◌, ◌++◌, Option, Some, None, ℤ, drop, length, map, ⊤}
+use Rattle.std.specs.List.{AllByRecursion, flat_map}
 use Rattle.pram_check.specs.Checked.{Checked}
+use Rattle.pram_values.specs.declared.kind.Kind.{Kind}
+use Rattle.pram_values.specs.declared.place.Place.TheVariants.{All}
 use Rattle.write_rules.specs.declared.fault.Fault.{Fault}
 use Rattle.write_rules.specs.Verdict.{Verdict, Ended, Faulted, GoesOn}
+use Rattle.pram_meaning.specs.declared.key.Key.{Key}
+use Rattle.pram_meaning.specs.Attempt.{Attempt, Gives, Fails}
+use Rattle.pram_meaning.specs.Conflict.{Part}
+use Rattle.pram_meaning.specs.Moments.{Moment, Alone, Together, Closed, run_moments}
 use Rattle.pram_meaning.specs.Outcome.{IsOutcome, opening}
+use Rattle.pram_meaning.specs.Store.{State}
 use Rattle.step_entries.specs.Entries.{Act, Entry, Ran, Faulting}
-use Rattle.step_journal.specs.Changes.{with_changes}
-use Rattle.step_journal.specs.Moments.{Moment, Left, Fell, Shown, run_moments, shown}
-use Rattle.step_journal.specs.Telling.{ran}
+use Rattle.step_journal.specs.Acts.{act_before, act_of, alone_acts, front}
+use Rattle.step_journal.specs.Changes.{difference, with_changes}
+use Rattle.step_journal.specs.Meeting.{meeting}
 
--- what is told of the moments of a run of which this is shown before them: each state's difference from the one before it
-abbrev pub entries_from : Shown → List Moment → List Entry
-entries_from old [] = []
-entries_from old (Left line acts new ∷ ms) = ran line acts old new ∷ entries_from new ms
-entries_from old (Fell fault acts met ∷ ms) = Faulting fault acts met ∷ entries_from old ms
+-- the entry of a statement that ran between these two: what differs, and what the output has gained
+abbrev pub ran : ℕ → List Act → (before behind : State) → Entry
+ran line acts before behind =
+    Ran line acts (difference before.cells behind.cells) (difference before.uniforms behind.uniforms)
+    (drop (length before.output) behind.output)
+
+-- the fault of the one processor outside pardo on this line
+abbrev pub fault_alone : ℕ → Kind → Fault
+fault_alone line kind = record { kind = kind; line = line; place = All }
+
+-- a fault of a set's statement on this line
+abbrev pub fault_on : ℕ → Key → Fault
+fault_on line k = record { kind = k.kind; line = line; place = k.place }
+
+-- what is told of the one processor outside pardo, whose attempt this is
+abbrev pub by_one : ℕ → State → Attempt (Option ℕ) → State → Entry
+by_one line before (Gives t c) behind = ran line (alone_acts t c) before behind
+by_one line before (Fails t kind) behind = Faulting (fault_alone line kind) (alone_acts (front (length t) t) None) []
+
+-- what is told of a set, whose statement has this least fault, or none
+abbrev pub by_set : ℕ → State → List Part → Option Key → State → Entry
+by_set line before xs None behind = ran line (map act_of xs) before behind
+by_set line before xs (Some k) behind = Faulting (fault_on line k) (map (act_before k.at) xs) (meeting k xs)
+
+-- what is told of a moment: a statement's difference of the state behind it from the one before it
+abbrev pub entries_of : Moment → List Entry
+entries_of (Alone line act before a behind) = by_one line before a behind ∷ []
+entries_of (Together line act before xs k behind) = by_set line before xs k behind ∷ []
+entries_of Closed = []
 
 -- what is told of a program's run on an input, of at most n statements
 abbrev pub run_entries : Checked → List ℤ → ℕ → List Entry
-run_entries p input n = entries_from (shown (opening p input)) (run_moments p input n)
+run_entries p input n = flat_map entries_of (run_moments p input n)
 
 -- ---- the changes of cells, applied in order
 

@@ -1,9 +1,6 @@
 pub mod Acts
 pub mod Meeting
 pub mod Accesses
-pub mod Moments
 pub mod Changes
 pub mod Entries
 pub mod Costs
-pub mod Telling
-pub mod Kept

@@ -1,11 +1,65 @@
-//! A run between two statements, and what was told of it.
+//! What was told of a run.
 
-use pram_meaning::run::Run;
-use step_entries::Entry;
+ghost use Rattle.std.specs.Prelude.{◌≡◌, ◌++◌, ◌∷◌, [], IfOk, OnOk, map};
+ghost use Rattle.step_entries.specs.Entries.{Faulting, Ran, act_is, entry_is};
 
-/// A run between two statements, and what was told of those before.
+use pram_check::Program;
+use pram_meaning::slate::Slate;
+use std::alloc::{AllocError, Global};
+use step_entries::{Act, Change, Entry};
+use write_rules::Fault;
+
+/// What was told of the statements of a run so far, and what it takes to tell of more: the slate on which what a set writes is worked out.
 #[derive(Drop)]
 pub struct Journal {
-    pub run: Run,
+    pub alloc: Global,
+    pub slate: Slate,
     pub entries: Vec<Entry>,
+}
+
+impl Journal {
+    /// A journal of nothing yet.
+    pub fn new(alloc: Global, program: &Program) -> Result<Journal, AllocError>
+        ensures { IfOk result (λ journal. journal.entries.items ≡ []) }
+    {
+        let slate = Slate::new(alloc, program.layout().cells())?;
+        Ok(Journal {
+            alloc,
+            slate,
+            entries: Vec::new(alloc),
+        })
+    }
+
+    /// A statement has run, has changed these cells and uniform variables, and has printed these items.
+    #[tactic(auto, using(crate::proofs::Pushed::ran_pushed))]
+    pub fn add(
+        &mut self,
+        line: u32,
+        acts: Vec<Act>,
+        cells: Vec<Change>,
+        variables: Vec<Change>,
+        printed: Vec<i64>,
+    ) -> Result<(), AllocError>
+        ensures { OnOk result (map entry_is self.new.entries.items ≡ map entry_is self.old.entries.items
+            ++ Ran line (map act_is acts.items) cells.items variables.items printed.items ∷ []) }
+    {
+        self.entries.push(Entry::Ran {
+            line,
+            acts,
+            cells,
+            variables,
+            printed,
+        })?;
+        Ok(())
+    }
+
+    /// A statement has faulted; these acted, and these met.
+    #[tactic(auto, using(crate::proofs::Pushed::fault_pushed))]
+    pub fn stop(&mut self, fault: Fault, acts: Vec<Act>, met: Vec<i64>) -> Result<(), AllocError>
+        ensures { OnOk result (map entry_is self.new.entries.items ≡ map entry_is self.old.entries.items
+            ++ Faulting fault (map act_is acts.items) met.items ∷ []) }
+    {
+        self.entries.push(Entry::Faulted { fault, acts, met })?;
+        Ok(())
+    }
 }

@@ -6,13 +6,13 @@ ghost use Rattle.step_journal.specs.Entries.{ChangesGiveTheMemory, ItemsGiveTheO
 
 /// The changes that are told of a run, applied in order to its opening memory, give the memory of
 /// its outcome.
-#[tactic(auto, using(crate::proofs::Replays::changes_give_the_memory))]
+#[tactic(auto, using(crate::proofs::Laws::changes_give_the_memory))]
 pub fn changes_give_the_memory()
     ensures { ChangesGiveTheMemory }
 {}
 
 /// The items that are told of a run, joined, are the output of its outcome, whatever it comes to.
-#[tactic(auto, using(crate::proofs::Replays::items_give_the_output))]
+#[tactic(auto, using(crate::proofs::Laws::items_give_the_output))]
 pub fn items_give_the_output()
     ensures { ItemsGiveTheOutput }
 {}
@@ -28,7 +28,7 @@ pub fn those_that_meet_access_the_cell()
 {}
 
 /// The last entry that is told of a run is its fault, exactly where its outcome is one; no other is.
-#[tactic(auto, using(crate::proofs::Costed::the_fault_is_last))]
+#[tactic(auto, using(crate::proofs::Laws::the_fault_is_last))]
 pub fn the_fault_is_last()
     ensures { TheFaultIsLast }
 {}

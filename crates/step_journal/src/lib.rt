@@ -3,17 +3,13 @@
 #![tactic(auto)]
 
 mod acts;
-mod alone;
-mod attempts;
 mod differences;
-mod inside;
+mod effects;
 mod journal;
 pub mod journal_laws;
+mod listening;
 mod meetings;
-mod outside;
-mod set;
-mod teller;
-mod telling;
+mod set_effects;
 mod whole;
 
 pub use whole::steps_of;

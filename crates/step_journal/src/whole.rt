@@ -1,6 +1,6 @@
 //! A whole run.
 
-ghost use Rattle.std.specs.Prelude.{◌≡◌, ◌↔◌, ◌<◌, ◌≤◌, IfOk, length, map};
+ghost use Rattle.std.specs.Prelude.{◌≡◌, ◌↔◌, ◌<◌, ◌≤◌, IfOk, IfSome, length, map};
 ghost use Rattle.pram_model.specs.Layout.{total_size};
 ghost use Rattle.write_rules.specs.Verdict.{verdict_of};
 ghost use Rattle.pram_meaning.specs.Outcome.{IsOutcome, opening};
@@ -10,7 +10,6 @@ ghost use Rattle.step_journal.specs.Entries.{HasItsFault, HasMemory, items_of, o
 ghost use Rattle.work_time.specs.Steps.{run_steps};
 
 use crate::journal::Journal;
-use crate::teller::Teller;
 use pram_check::Program;
 use pram_meaning::interpreter::Interpreter;
 use pram_meaning::run::Halt;
@@ -19,11 +18,54 @@ use std::alloc::Global;
 use step_entries::Entry;
 use write_rules::Outcome;
 
+// A run on an input that fits, told. None only where memory was refused.
+#[tactic(auto, using(pram_meaning::proofs::References::ended, pram_meaning::proofs::References::stopped, pram_meaning::proofs::References::reached, crate::proofs::Complete::all_heard))]
+fn tell_run(
+    alloc: Global,
+    program: &Program,
+    input: &[i64],
+    bound: u32,
+) -> Option<(Outcome, Vec<Entry>)>
+    requires { length input.now ≤ total_size program.now.layout }
+    ensures outcome { IfSome result (λ r. IsOutcome program.now input.now bound (verdict_of r.0)) }
+    ensures entries { IfSome result (λ r. map entry_is r.1.items ≡ run_entries program.now input.now bound) }
+{
+    let Ok(mut run) = open(alloc, program, input) else {
+        return None;
+    };
+    let Ok(mut journal) = Journal::new(alloc, program) else {
+        return None;
+    };
+    let interpreter = Interpreter {
+        alloc,
+        program,
+        bound,
+    };
+    let done = interpreter.run_body(&mut run, &mut journal);
+    let entries = journal.entries;
+    match done {
+        Ok(()) => {
+            let (output, memory) = (run.output, run.cells);
+            Some((Outcome::Ended { output, memory }, entries))
+        }
+        Err(Halt::Fault(fault)) => {
+            let output = run.output;
+            Some((Outcome::Faulted { fault, output }, entries))
+        }
+        Err(Halt::Bound) => {
+            let output = run.output;
+            Some((Outcome::GoesOn { output }, entries))
+        }
+        Err(Halt::OutOfMemory) => None,
+    }
+}
+
 /// Runs a program on an input, for at most `bound` statements, as [`pram_meaning::reference_run`]
 /// does, and tells beside the outcome what each statement did: entry k, counted from 1, is the k-th
 /// statement that ran, with what each processor read and wrote, what it changed and what it printed.
 /// Where the run faults, the last entry is the fault. Its entries are the time steps that `work_time` counts. E11 where there are more
 /// values than cells; E16 only where memory was refused.
+#[tactic(auto, using(crate::proofs::Laws::told_memory, crate::proofs::Laws::told_output, crate::proofs::Laws::told_last, crate::proofs::Costed::told_steps))]
 pub fn steps_of(
     alloc: Global,
     program: &Program,
@@ -47,36 +89,8 @@ pub fn steps_of(
     if input.len() > program.layout().cells() as usize {
         return Err(MeaningRefusal::InputTooLong);
     }
-    let run = match open(alloc, program, input) {
-        Ok(run) => run,
-        Err(_) => return Err(MeaningRefusal::OutOfMemory),
-    };
-    let nothing = Vec::new(alloc);
-    let mut journal = Journal {
-        run,
-        entries: nothing,
-    };
-    let interpreter = Interpreter {
-        alloc,
-        program,
-        bound,
-    };
-    let teller = Teller { interpreter };
-    let done = teller.run_body(&mut journal);
-    let Journal { run, entries } = journal;
-    match done {
-        Ok(()) => {
-            let (output, memory) = (run.output, run.cells);
-            Ok((Outcome::Ended { output, memory }, entries))
-        }
-        Err(Halt::Fault(fault)) => {
-            let output = run.output;
-            Ok((Outcome::Faulted { fault, output }, entries))
-        }
-        Err(Halt::Bound) => {
-            let output = run.output;
-            Ok((Outcome::GoesOn { output }, entries))
-        }
-        Err(Halt::OutOfMemory) => Err(MeaningRefusal::OutOfMemory),
+    match tell_run(alloc, program, input, bound) {
+        Some(told) => Ok(told),
+        None => Err(MeaningRefusal::OutOfMemory),
     }
 }

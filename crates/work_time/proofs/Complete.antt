@@ -1,103 +1,55 @@
--- A whole run, counted, comes to the outcome.
-use Rattle.std.proofs.Common.{◌≡◌, ℕ, ◌-◌, ◌++◌, Result, Err, List, [], ℤ, pos, replicate, length, ap, sym, ◌∙◌, subst}
+-- A whole run that was heard comes to the outcome, and is counted.
+use Rattle.std.proofs.Common.{◌≡◌, ℕ, ◌-◌, ◌++◌, List, [], ℤ, pos, replicate, length, Result, Err, ap, sym, ◌∙◌, subst}
 use Rattle.pram_check.specs.Checked.{Checked}
-use Rattle.pram_meaning.specs.Bounded.{Behaviour, Goes, Reaches, Stops, perform_list}
+use Rattle.pram_meaning.specs.Bounded.{Goes, Reaches, Stops, perform_list}
+use Rattle.pram_meaning.specs.Listening.{UnlessRefused}
+use Rattle.pram_meaning.specs.Moments.{list_moments, run_moments}
 use Rattle.pram_meaning.specs.Outcome.{IsOutcome, opening}
+use Rattle.pram_meaning.specs.Runs.{state_of}
 use Rattle.pram_meaning.specs.Store.{State, no_team}
 use Rattle.pram_meaning.specs.declared.run.Halt.{Halt}
 use Rattle.pram_meaning.specs.declared.run.Halt.TheVariants as halt
+use Rattle.pram_meaning.specs.declared.run.Run.{Run}
 use Rattle.pram_model.specs.Layout.{total_size}
 use Rattle.write_rules.specs.Verdict.{Ended, Faulted, GoesOn}
 use Rattle.write_rules.specs.declared.fault.Fault.{Fault}
 use Rattle.pram_meaning.proofs.OneOutcome.{outcome_is}
-use Rattle.work_time.specs.declared.counter.Counter.{Counter}
+use Rattle.work_time.specs.declared.ledger.Ledger.{Ledger}
+use Rattle.work_time.specs.Accounts.{entered_all, met_all, opened}
 use Rattle.work_time.specs.Counted.{counted}
-use Rattle.work_time.specs.Kept.{AtBound, Going, Kept, Stopped, Tells, keep, state_of, counts_of}
-use Rattle.work_time.specs.CountedParts.{told_list}
-use Rattle.work_time.specs.Accounts.{Accounts, opened}
+use Rattle.work_time.specs.Heard.{with_moments}
+use Rattle.work_time.specs.Ledgers.{ledger_is}
+use Rattle.work_time.specs.Steps.{run_steps}
+use Rattle.work_time.proofs.MomentEvents.{events_are_met}
 
--- how a run opens
-pub record Opens (p : Checked) (input : List ℤ) (c : Counter) : Type 0 where
-  pub totals : counts_of c ≡ opened
-  pub state : state_of c ≡ opening p input
+pub opens : (p : Checked) (input : List ℤ) (run : Run) → run.count ≡ 0 → run.output.items ≡ [] →
+    run.uniforms.items ≡ replicate p.uniforms (pos 0) →
+    run.cells.items ≡ input ++ replicate (total_size p.layout - length input) (pos 0) → state_of run ≡ opening p input
+opens p input run c o u s = λ j. record { count = c j; output = o j; uniforms = u j; cells = s j; team = no_team }
 
-pub opens : (p : Checked) (input : List ℤ) (c : Counter) → counts_of c ≡ opened → c.run.output.items ≡ [] →
-    c.run.uniforms.items ≡ replicate p.uniforms (pos 0) →
-    c.run.cells.items ≡ input ++ replicate (total_size p.layout - length input) (pos 0) → Opens p input c
-opens p input c t o u s = record {
-  totals = t;
-  state = λ j. record { count = (ap (λ (t : Accounts). t.all.time) t) j; output = o j; uniforms = u j; cells = s j; team = no_team };
-}
+pub ended : (p : Checked) (input : List ℤ) (n : ℕ) (run : Run) (m : State) → state_of run ≡ opening p input →
+    perform_list p n p.body (state_of run) ≡ Goes tt m → IsOutcome p input n (Ended m.output m.cells)
+ended p input n run m o is = outcome_is p input n (Goes tt m) (ap (perform_list p n p.body) (sym o) ∙ is)
 
-abbrev whole : Checked → List ℤ → (n q : ℕ) → Kept (Unit {0})
-whole p input n q = told_list p q n p.body (opening p input) opened
+pub stopped : (p : Checked) (input : List ℤ) (n : ℕ) (run : Run) (k : Fault) (out : List ℤ) → state_of run ≡ opening p input →
+    perform_list p n p.body (state_of run) ≡ Stops k out → IsOutcome p input n (Faulted k out)
+stopped p input n run k out o is = outcome_is p input n (Stops k out) (ap (perform_list p n p.body) (sym o) ∙ is)
 
-from_opening : (p : Checked) (input : List ℤ) (n q : ℕ) (c : Counter) (x : Kept (Unit {0})) → Opens p input c →
-    told_list p q n p.body (state_of c) (counts_of c) ≡ x → whole p input n q ≡ x
-from_opening p input n q c x o is =
-    ap (λ m. told_list p q n p.body m opened) (sym o.state) ∙ ap (told_list p q n p.body (state_of c)) (sym o.totals) ∙ is
+pub reached : (p : Checked) (input : List ℤ) (n : ℕ) (run : Run) (out : List ℤ) → state_of run ≡ opening p input →
+    perform_list p n p.body (state_of run) ≡ Reaches out → IsOutcome p input n (GoesOn out)
+reached p input n run out o is = outcome_is p input n (Reaches out) (ap (perform_list p n p.body) (sym o) ∙ is)
 
-went : (t u : Accounts) (b : Behaviour (Unit {0})) (m : State) → keep t b ≡ Going tt m u → (b ≡ Goes tt m) × (t ≡ u)
-went t u (Goes a m') m e = (cc, cc)
-went t u (Stops k out) m e = (cc, cc)
-went t u (Reaches out) m e = (cc, cc)
+pub run_counted : (p : Checked) (input : List ℤ) (n q : ℕ) (run : Run) (old new : Ledger) → state_of run ≡ opening p input →
+    ledger_is old ≡ opened → ledger_is new ≡ with_moments q (list_moments p n p.body (state_of run)) (ledger_is old) →
+    ledger_is new ≡ counted p input n q
+run_counted p input n q run old new o opens is =
+    is ∙ ap (λ m. with_moments q (list_moments p n p.body m) (ledger_is old)) o ∙ ap (with_moments q (run_moments p input n)) opens
+    ∙ ap (λ es. entered_all q (run_steps p input n) (met_all es opened)) (sym (events_are_met p input n))
 
-stopped_so : (t u : Accounts) (b : Behaviour (Unit {0})) (k : Fault) (out : List ℤ) → keep t b ≡ Stopped k out u →
-    (b ≡ Stops k out) × (t ≡ u)
-stopped_so t u (Goes a m') k out e = (cc, cc)
-stopped_so t u (Stops k' out') k out e = (cc, cc)
-stopped_so t u (Reaches out') k out e = (cc, cc)
+-- what was heard of a run that halts, but for want of memory
+pub heard_of_fault : (r : Result (Unit {0}) Halt) (h : Halt) (k : Fault) (P : Type 0) → r ≡ Err h → h ≡ halt.Fault k →
+    UnlessRefused r P → P
+heard_of_fault r h k P e f heard = subst (λ r. UnlessRefused r P) (e ∙ ap Err f) heard
 
-reached_so : (t u : Accounts) (b : Behaviour (Unit {0})) (out : List ℤ) → keep t b ≡ AtBound out u → (b ≡ Reaches out) × (t ≡ u)
-reached_so t u (Goes a m') out e = (cc, cc)
-reached_so t u (Stops k' out') out e = (cc, cc)
-reached_so t u (Reaches out') out e = (cc, cc)
-
-pub ended : (p : Checked) (input : List ℤ) (n q : ℕ) (c : Counter) (m : State) (t : Accounts) → Opens p input c →
-    told_list p q n p.body (state_of c) (counts_of c) ≡ Going tt m t →
-    IsOutcome p input n (Ended m.output m.cells) × (t ≡ counted p input n q)
-ended p input n q c m t o is =
-    let w = went (counted p input n q) t (perform_list p n p.body (opening p input)) m (from_opening p input n q c (Going tt m t) o is) in
-    (outcome_is p input n (Goes tt m) w.0, sym w.1)
-
-pub stopped : (p : Checked) (input : List ℤ) (n q : ℕ) (c : Counter) (k : Fault) (out : List ℤ) (t : Accounts) → Opens p input c →
-    told_list p q n p.body (state_of c) (counts_of c) ≡ Stopped k out t →
-    IsOutcome p input n (Faulted k out) × (t ≡ counted p input n q)
-stopped p input n q c k out t o is =
-    let w = stopped_so (counted p input n q) t (perform_list p n p.body (opening p input)) k out
-    (from_opening p input n q c (Stopped k out t) o is) in
-    (outcome_is p input n (Stops k out) w.0, sym w.1)
-
-pub reached : (p : Checked) (input : List ℤ) (n q : ℕ) (c : Counter) (out : List ℤ) (t : Accounts) → Opens p input c →
-    told_list p q n p.body (state_of c) (counts_of c) ≡ AtBound out t →
-    IsOutcome p input n (GoesOn out) × (t ≡ counted p input n q)
-reached p input n q c out t o is =
-    let w = reached_so (counted p input n q) t (perform_list p n p.body (opening p input)) out
-    (from_opening p input n q c (AtBound out t) o is) in
-    (outcome_is p input n (Reaches out) w.0, sym w.1)
-
--- ---- the same by what the body's run answers
-
-pub body_ended : (p : Checked) (input : List ℤ) (n q : ℕ) (c : Counter) (m : State) (t : Accounts) → Opens p input c →
-    told_list p q n p.body (state_of c) (counts_of c) ≡ Going tt m t →
-    IsOutcome p input n (Ended m.output m.cells)
-body_ended p input n q c m t o is = (ended p input n q c m t o is).0
-
-pub body_stopped : (p : Checked) (input : List ℤ) (n q : ℕ) (c : Counter) (m : State) (t : Accounts) (r : Result (Unit {0}) Halt) (h : Halt)
-    (k : Fault) → Opens p input c → r ≡ Err h → h ≡ halt.Fault k → Tells {B = Unit {0}} (λ u. u) r m t
-    (told_list p q n p.body (state_of c) (counts_of c)) →
-    IsOutcome p input n (Faulted k m.output)
-body_stopped p input n q c m t r h k o e f is =
-    let P : Result (Unit {0}) Halt → Type 0 = λ r. Tells {B = Unit {0}} (λ u. u) r m t
-    (told_list p q n p.body (state_of c) (counts_of c)) in
-    (stopped p input n q c k m.output t o (subst P (e ∙ ap Err f) is)).0
-
-pub body_reached : (p : Checked) (input : List ℤ) (n q : ℕ) (c : Counter) (m : State) (t : Accounts) (r : Result (Unit {0}) Halt)
-    (h : Halt) →
-    Opens p input c → r ≡ Err h → h ≡ halt.Bound → Tells {B = Unit {0}} (λ u. u) r m t
-    (told_list p q n p.body (state_of c) (counts_of c)) →
-    IsOutcome p input n (GoesOn m.output)
-body_reached p input n q c m t r h o e f is =
-    let P : Result (Unit {0}) Halt → Type 0 = λ r. Tells {B = Unit {0}} (λ u. u) r m t
-    (told_list p q n p.body (state_of c) (counts_of c)) in
-    (reached p input n q c m.output t o (subst P (e ∙ ap Err f) is)).0
+pub heard_at_bound : (r : Result (Unit {0}) Halt) (h : Halt) (P : Type 0) → r ≡ Err h → h ≡ halt.Bound → UnlessRefused r P → P
+heard_at_bound r h P e f heard = subst (λ r. UnlessRefused r P) (e ∙ ap Err f) heard

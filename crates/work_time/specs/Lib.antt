@@ -1,11 +1,12 @@
 pub mod Steps
+pub mod MomentEvents
 pub mod Cost
 pub mod Time
 pub mod Totals
 pub mod Spending
 pub mod Accounts
 pub mod Ledgers
-pub mod Kept
-pub mod CountedParts
+pub mod Heard
+pub mod HeardLaws
 pub mod Counted
 pub mod RowCosts

@@ -1,6 +1,6 @@
 //! Entering a statement that ran.
 
-ghost use Rattle.std.specs.Prelude.{◌≡◌, ◌<◌, ◌≤◌, ◌^◌, ◌-◌, OnOk, length};
+ghost use Rattle.std.specs.Prelude.{◌≡◌, ◌<◌, ◌≤◌, ◌^◌, OnOk, length};
 ghost use Rattle.work_time.specs.Accounts.{entered, opened};
 ghost use Rattle.work_time.specs.Ledgers.{ledger_is};
 
@@ -35,14 +35,17 @@ impl Ledger {
         Ok(())
     }
 
-    /// One statement more, whose rounds are those on so many processors. The error is that memory was refused.
+    /// One statement more, whose rounds are those on so many processors. The error is that memory was refused, or no number is left for
+    /// its time.
     #[tactic(auto, using(crate::proofs::Rows::row_entered))]
     pub fn enter(&mut self, schedule: u32, step: &TimeStep) -> Result<(), AllocError>
         requires some { 0 < schedule }
-        requires room { self.old.all.time < 2 ^ 32 - 1 }
         requires few { step.now.reads ≤ 2 ^ 96 }
         ensures { OnOk result (ledger_is self.new ≡ entered schedule step.now (ledger_is self.old)) }
     {
+        if self.all.time == u32::MAX {
+            return Err(AllocError);
+        }
         self.make_row(step.line)?;
         let mut row = self.lines[step.line as usize];
         row.add(schedule, step);

@@ -2,22 +2,19 @@
 //! that it takes.
 #![tactic(auto)]
 
-mod alone;
+mod accesses;
 mod beginning;
 mod cost;
 pub mod cost_laws;
-mod counter;
 mod counting;
 mod entering;
 mod exchanges;
-mod inside;
+mod hearing;
 mod ledger;
 mod levels;
 mod line_cost;
 mod meter;
-mod outside;
 mod row_costs;
-mod set;
 mod spending;
 mod tally;
 mod time_step;

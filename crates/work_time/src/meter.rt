@@ -1,14 +1,13 @@
-//! The counting interpreter.
+//! What counts a run that it hears.
 
 ghost use Rattle.std.specs.Prelude.{◌<◌};
 
-use pram_meaning::interpreter::Interpreter;
+use crate::ledger::Ledger;
 
-/// What stays the same through a run that is counted: how its statements are run, and on how many
-/// processors they are scheduled.
-#[derive(Clone, Copy)]
-pub struct Meter<'a> {
-    pub interpreter: Interpreter<'a>,
+/// What was counted so far of a run that is heard, and on how many processors it is scheduled.
+#[derive(Drop)]
+pub struct Meter {
     pub schedule: u32,
+    pub ledger: Ledger,
     ghost some: { 0 < schedule },
 }

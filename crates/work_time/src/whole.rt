@@ -7,7 +7,6 @@ ghost use Rattle.pram_meaning.specs.Outcome.{IsOutcome};
 ghost use Rattle.work_time.specs.Counted.{counted};
 ghost use Rattle.work_time.specs.Ledgers.{ledger_is};
 
-use crate::counter::Counter;
 use crate::ledger::Ledger;
 use crate::meter::Meter;
 use pram_check::Program;
@@ -18,7 +17,7 @@ use std::alloc::Global;
 use write_rules::Outcome;
 
 /// The outcome of a program on an input, and what was counted of its run.
-#[tactic(auto, using(crate::proofs::Complete::ended, crate::proofs::Complete::stopped, crate::proofs::Complete::reached, crate::proofs::Complete::opens))]
+#[tactic(auto, using(crate::proofs::Complete::opens, crate::proofs::Complete::stopped, crate::proofs::Complete::reached))]
 pub fn run_whole(
     alloc: Global,
     program: &Program,
@@ -35,23 +34,21 @@ pub fn run_whole(
     if input.len() > program.layout().cells() as usize {
         return Err(MeaningRefusal::InputTooLong);
     }
-    let run = match open(alloc, program, input) {
+    let mut run = match open(alloc, program, input) {
         Ok(run) => run,
         Err(_) => return Err(MeaningRefusal::OutOfMemory),
     };
-    let ledger = Ledger::new(alloc);
-    let mut counter = Counter { run, ledger };
+    let mut meter = Meter {
+        schedule,
+        ledger: Ledger::new(alloc),
+    };
     let interpreter = Interpreter {
         alloc,
         program,
         bound,
     };
-    let meter = Meter {
-        interpreter,
-        schedule,
-    };
-    let done = meter.run_body(&mut counter);
-    let Counter { run, ledger } = counter;
+    let done = interpreter.run_body(&mut run, &mut meter);
+    let Meter { ledger, .. } = meter;
     match done {
         Ok(()) => {
             let (output, memory) = (run.output, run.cells);

@@ -6,4 +6,4 @@ pub returns-in-Ok-run_body-clause-outcome : goal.returns-in-Ok-run_body-clause-o
 returns-in-Ok-run_body-clause-outcome c =
     let e = c.in-Ok.ensures in
     ended c.args.program.now c.args.input.now c.args.bound c.in-Ok.run' (state_of c.run_body.new.run) e.count e.output e.uniforms e.cells
-    c.in-Ok-run_body.ensures
+    c.in-Ok-run_body.ensures.value

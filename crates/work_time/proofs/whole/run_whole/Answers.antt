@@ -1,34 +1,37 @@
 use Rattle.std.proofs.Common.{rules, ◌≡◌}
 use Rattle.pram_meaning.specs.declared.run.Halt.TheVariants as halt
-use Rattle.work_time.specs.declared.counter.Counter.{Counter}
-use Rattle.work_time.specs.Kept.{state_of, counts_of}
-use Rattle.work_time.proofs.Complete.{body_ended, body_reached, body_stopped, opens}
+use Rattle.pram_meaning.specs.Runs.{state_of}
+use Rattle.work_time.proofs.Complete.{ended, heard_at_bound, heard_of_fault, opens, run_counted}
 use Rattle.work_time.proofs.whole.run_whole.Goals as goal
 
 pub returns-in-Ok-done-clause-outcome : goal.returns-in-Ok-done-clause-outcome
 returns-in-Ok-done-clause-outcome c =
     let e = c.in-Ok.ensures in
-    let k : Counter = record { run = c.in-Ok.run'; ledger = c.new-ledger.result } in
-    body_ended c.args.program.now c.args.input.now c.args.bound c.args.schedule k (state_of c.run_body-done.new.counter)
-    (counts_of c.run_body-done.new.counter)
-    (opens c.args.program.now c.args.input.now k c.new-ledger.ensures e.output e.uniforms e.cells) c.in-Ok-done.ensures
+    ended c.args.program.now c.args.input.now c.args.bound c.in-Ok.run' (state_of c.run_body-done.new.run)
+    (opens c.args.program.now c.args.input.now c.in-Ok.run' e.count e.output e.uniforms e.cells) c.in-Ok-done.ensures.value
 
-pub returns-in-Err-Fault-clause-outcome : goal.returns-in-Err-Fault-clause-outcome
-returns-in-Err-Fault-clause-outcome c =
+pub returns-in-Ok-done-clause-totals : goal.returns-in-Ok-done-clause-totals
+returns-in-Ok-done-clause-totals c =
     let e = c.in-Ok.ensures in
-    let k : Counter = record { run = c.in-Ok.run'; ledger = c.new-ledger.result } in
+    run_counted c.args.program.now c.args.input.now c.args.bound c.args.schedule c.in-Ok.run' c.new.result
+    c.run_body-done.new.listener.ledger (opens c.args.program.now c.args.input.now c.in-Ok.run' e.count e.output e.uniforms e.cells)
+    c.new.ensures c.in-Ok-done.ensures.heard.1
+
+pub returns-in-Err-Fault-clause-totals : goal.returns-in-Err-Fault-clause-totals
+returns-in-Err-Fault-clause-totals c =
+    let e = c.in-Ok.ensures in
     let f : c.in-Err-Fault.field-0 ≡ halt.Fault c.in-Err-Fault.fault = search (rules, c.in-Err-Fault.field-0-is) in
-    body_stopped c.args.program.now c.args.input.now c.args.bound c.args.schedule k (state_of c.run_body-done.new.counter)
-    (counts_of c.run_body-done.new.counter) c.run_body-done.result c.in-Err-Fault.field-0 c.in-Err-Fault.fault
-    (opens c.args.program.now c.args.input.now k c.new-ledger.ensures e.output e.uniforms e.cells) c.in-Err-Fault.is
-    f c.run_body-done.ensures
+    run_counted c.args.program.now c.args.input.now c.args.bound c.args.schedule c.in-Ok.run' c.new.result
+    c.run_body-done.new.listener.ledger (opens c.args.program.now c.args.input.now c.in-Ok.run' e.count e.output e.uniforms e.cells)
+    c.new.ensures
+    (heard_of_fault c.run_body-done.result c.in-Err-Fault.field-0 c.in-Err-Fault.fault _ c.in-Err-Fault.is f
+    c.run_body-done.ensures.heard).1
 
-pub returns-in-Err-Bound-clause-outcome : goal.returns-in-Err-Bound-clause-outcome
-returns-in-Err-Bound-clause-outcome c =
+pub returns-in-Err-Bound-clause-totals : goal.returns-in-Err-Bound-clause-totals
+returns-in-Err-Bound-clause-totals c =
     let e = c.in-Ok.ensures in
-    let k : Counter = record { run = c.in-Ok.run'; ledger = c.new-ledger.result } in
     let f : c.in-Err-Bound.field-0 ≡ halt.Bound = search (rules, c.in-Err-Bound.field-0-is) in
-    body_reached c.args.program.now c.args.input.now c.args.bound c.args.schedule k (state_of c.run_body-done.new.counter)
-    (counts_of c.run_body-done.new.counter) c.run_body-done.result c.in-Err-Bound.field-0
-    (opens c.args.program.now c.args.input.now k c.new-ledger.ensures e.output e.uniforms e.cells) c.in-Err-Bound.is
-    f c.run_body-done.ensures
+    run_counted c.args.program.now c.args.input.now c.args.bound c.args.schedule c.in-Ok.run' c.new.result
+    c.run_body-done.new.listener.ledger (opens c.args.program.now c.args.input.now c.in-Ok.run' e.count e.output e.uniforms e.cells)
+    c.new.ensures
+    (heard_at_bound c.run_body-done.result c.in-Err-Bound.field-0 _ c.in-Err-Bound.is f c.run_body-done.ensures.heard).1

@@ -1,0 +1,176 @@
+-- A block as it is heard, and a statement of each kind.
+use Rattle.std.proofs.Common.{if◌then◌else◌, Bool, true, false, ◌≡◌, ℕ, ◌+◌, ◌<◌, ◌≤◌, List, [], ◌∷◌, ◌++◌, refl, ap, sym, ◌∙◌, Global, Vec}
+use Rattle.std.proofs.Common.{Result, Err, subst, drop, length, get_or}
+use Rattle.std.proofs.lemmas.List.{drop_more, drop_all}
+use Rattle.pram_check.specs.Checked.{Checked}
+use Rattle.pram_names.specs.declared.body.Expression.{Expression}
+use Rattle.pram_names.specs.declared.body.Statement.{Assign, For, If, Pardo, Print, Row_of-Statement, Statement, While, end_of-Statement}
+use Rattle.pram_names.specs.declared.body.Statement.{items-the_row-Statement, items_hidden-the_row-Statement-0, more_of-Statement}
+use Rattle.pram_names.specs.declared.body.Statement.TheBlock.{hidden-the_row-Statement-0}
+use Rattle.pram_names.specs.declared.body.Step.{Step}
+use Rattle.pram_names.specs.declared.body.Target.{Target}
+use Rattle.pram_meaning.specs.declared.run.Halt.{Halt}
+use Rattle.pram_meaning.specs.Bounded.{Goes, perform, perform_list, perform_row, tested}
+use Rattle.pram_meaning.specs.Listening.{UnlessRefused}
+use Rattle.pram_meaning.specs.Moments.{Chooses, Moment, Turns, assign_moment, behind, closing, for_moments}
+use Rattle.pram_meaning.specs.Moments.{list_moments, moments, pardo_moments, print_moment, row_moments, test_moment, turns_moments}
+use Rattle.pram_meaning.specs.Runs.{IsBehaviour}
+use Rattle.pram_meaning.specs.Store.{State}
+use Rattle.pram_meaning.proofs.Blocks.{block_is}
+use Rattle.pram_meaning.proofs.Telling.{Closes, HearsNothing, HearsOn, closes_halt, closes_on, first_goes, first_halts}
+
+-- ---- a block: what is left of it is to be heard
+
+abbrev pub BlockHeard : {S : Type 0} → (S → List Moment → S → Type 0) → Checked → ℕ → List Statement → ℕ → State → S → State → S → Type 0
+BlockHeard H w n items i start from now till = Closes H from (list_moments w n items start) till (list_moments w n (drop i items) now)
+
+pub heard_starts : {S : Type 0} (H : S → List Moment → S → Type 0) (w : Checked) (n : ℕ) (items : List Statement) (m : State) (from : S) →
+    BlockHeard H w n items 0 m from m from
+heard_starts H w n items m from late h = h
+
+heard_left : {S : Type 0} (H : S → List Moment → S → Type 0) (w : Checked) (n : ℕ) (items : List Statement) (i : ℕ) (s : Statement)
+    (start now : State) (from till : S) → i < length items → s ≡ get_or items i s → BlockHeard H w n items i start from now till →
+    Closes H from (list_moments w n items start) till
+    (moments w n s now ++ behind (perform w n s now) (λ u. list_moments w n (drop (i + 1) items)))
+heard_left H w n items i s start now from till h is c late rest =
+    let p : list_moments w n (drop i items) now ≡ list_moments w n (s ∷ drop (i + 1) items) now =
+    ap (λ xs. list_moments w n xs now) (drop_more items i s h ∙ ap (λ x. x ∷ drop (i + 1) items) (sym is)) in
+    c late (rw p rest)
+
+pub heard_halts : {S : Type 0} (H : S → List Moment → S → Type 0) (w : Checked) (n : ℕ) (items : List Statement) (i : ℕ) (s : Statement)
+    (start now new : State) (from till late : S) (x : Halt) → BlockHeard H w n items i start from now till → i < length items →
+    s ≡ get_or items i s → IsBehaviour {A = Unit {0}} (Err x) new (perform w n s now) →
+    UnlessRefused {A = Unit {0}} (Err x) (H till (moments w n s now) late) →
+    UnlessRefused {A = Unit {0}} (Err x) (H from (list_moments w n items start) late)
+heard_halts H w n items i s start now new from till late x c h is e t =
+    closes_halt H {A = Unit {0}} from till late (list_moments w n items start) (moments w n s now) (perform w n s now)
+    (λ u. list_moments w n (drop (i + 1) items)) x new e (heard_left H w n items i s start now from till h is c) t
+
+pub heard_goes : {S : Type 0} (H : S → List Moment → S → Type 0) → HearsOn H → (w : Checked) (n : ℕ) (items : List Statement) (i : ℕ)
+    (s : Statement) (start now new : State) (from till late : S) → BlockHeard H w n items i start from now till → i < length items →
+    s ≡ get_or items i s → perform w n s now ≡ Goes tt new → H till (moments w n s now) late →
+    BlockHeard H w n items (i + 1) start from new late
+heard_goes H on w n items i s start now new from till late c h is e t =
+    closes_on H on {A = Unit {0}} from till late (list_moments w n items start) (moments w n s now) (perform w n s now)
+    (λ u. list_moments w n (drop (i + 1) items)) tt new e (heard_left H w n items i s start now from till h is c) t
+
+pub heard_ends : {S : Type 0} (H : S → List Moment → S → Type 0) → HearsNothing H → (w : Checked) (n : ℕ) (items : List Statement) (i : ℕ)
+    (start now : State) (from till : S) → BlockHeard H w n items i start from now till → length items ≤ i →
+    H from (list_moments w n items start) till
+heard_ends H nothing w n items i start now from till c h =
+    let p : list_moments w n (drop i items) now ≡ [] = ap (λ xs. list_moments w n xs now) (drop_all i items h) in
+    c till (rw p (nothing till))
+
+-- ---- a block's moments, read at the vector's items
+
+items_are_told : (w : Checked) (n : ℕ) {k : _} (ss : Row_of-Statement k) (m : State) →
+    list_moments w n (items-the_row-Statement k ss) m ≡ row_moments w n ss m
+items_are_told w n end_of-Statement m = refl
+items_are_told w n (more_of-Statement s ss) m =
+    ap (λ f. moments w n s m ++ behind (perform w n s m) f) (λ j u m. items_are_told w n ss m j)
+
+pub told_is : (w : Checked) (n : ℕ) (body : Vec Statement Global) →
+    row_moments w n (hidden-the_row-Statement-0 body) ≡ list_moments w n body.items
+told_is w n body = λ j m. (sym (items_are_told w n (hidden-the_row-Statement-0 body) m)
+    ∙ ap (λ ss. list_moments w n ss m) (items_hidden-the_row-Statement-0 body)) j
+
+-- ---- a statement of each kind
+
+while_told : (w : Checked) (n line : ℕ) (s : Statement) (e : Expression) (body : Vec Statement Global) (m : State) →
+    s ≡ While line e body → moments w n s m ≡ turns_moments (n + 1) (test_moment w n line (Turns e) e) (tested w n line e)
+    (list_moments w n body.items) (perform_list w n body.items) m
+while_told w n line s e body m is =
+    ap (λ s. moments w n s m) is
+    ∙ ap (λ f. turns_moments (n + 1) (test_moment w n line (Turns e) e) (tested w n line e) f
+    (perform_row w n (hidden-the_row-Statement-0 body)) m) (told_is w n body)
+    ∙ ap (λ f. turns_moments (n + 1) (test_moment w n line (Turns e) e) (tested w n line e) (list_moments w n body.items) f m)
+    (block_is w n body)
+
+for_told : (w : Checked) (n line x : ℕ) (s : Statement) (e f : Expression) (body : Vec Statement Global) (m : State) →
+    s ≡ For line x e f body →
+    moments w n s m ≡ for_moments w n line x e f (list_moments w n body.items) (perform_list w n body.items) m
+for_told w n line x s e f body m is =
+    ap (λ s. moments w n s m) is
+    ∙ ap (λ g. for_moments w n line x e f g (perform_row w n (hidden-the_row-Statement-0 body)) m) (told_is w n body)
+    ∙ ap (λ g. for_moments w n line x e f (list_moments w n body.items) g m) (block_is w n body)
+
+if_told : (w : Checked) (n line : ℕ) (s : Statement) (e : Expression) (a b : Vec Statement Global) (m : State) → s ≡ If line e a b →
+    moments w n s m ≡ test_moment w n line (Chooses e) e m ++ behind (tested w n line e m)
+    (λ z m. closing (if z then list_moments w n a.items m else list_moments w n b.items m))
+if_told w n line s e a b m is =
+    ap (λ s. moments w n s m) is
+    ∙ ap (λ f. test_moment w n line (Chooses e) e m ++ behind (tested w n line e m)
+    (λ z m. closing (if z then f m else row_moments w n (hidden-the_row-Statement-0 b) m))) (told_is w n a)
+    ∙ ap (λ f. test_moment w n line (Chooses e) e m ++ behind (tested w n line e m)
+    (λ z m. closing (if z then list_moments w n a.items m else f m))) (told_is w n b)
+
+-- the same, of a function's answer
+
+pub assign_heard : {S : Type 0} (H : S → List Moment → S → Type 0) (from late : S) (w : Checked) (n line : ℕ) (s : Statement)
+    (x : Target) (e : Expression) (m : State) (r : Result (Unit {0}) Halt) → s ≡ Assign line x e →
+    UnlessRefused r (H from (assign_moment w n line x e m) late) → UnlessRefused r (H from (moments w n s m) late)
+assign_heard H from late w n line s x e m r is h = rw is h
+
+pub print_heard : {S : Type 0} (H : S → List Moment → S → Type 0) (from late : S) (w : Checked) (n line : ℕ) (s : Statement)
+    (e : Expression) (m : State) (r : Result (Unit {0}) Halt) → s ≡ Print line e →
+    UnlessRefused r (H from (print_moment w n line e m) late) → UnlessRefused r (H from (moments w n s m) late)
+print_heard H from late w n line s e m r is h = rw is h
+
+pub pardo_heard : {S : Type 0} (H : S → List Moment → S → Type 0) (from late : S) (w : Checked) (n line locals : ℕ) (s : Statement)
+    (e f : Expression) (body : Vec Step Global) (m : State) (r : Result (Unit {0}) Halt) → s ≡ Pardo line e f locals body →
+    UnlessRefused r (H from (pardo_moments w n line e f locals body.items m) late) → UnlessRefused r (H from (moments w n s m) late)
+pardo_heard H from late w n line locals s e f body m r is h = rw is h
+
+pub while_heard : {S : Type 0} (H : S → List Moment → S → Type 0) (from late : S) (w : Checked) (n line : ℕ) (s : Statement)
+    (e : Expression) (body : Vec Statement Global) (m : State) (r : Result (Unit {0}) Halt) → s ≡ While line e body →
+    UnlessRefused r (H from (turns_moments (n + 1) (test_moment w n line (Turns e) e) (tested w n line e)
+    (list_moments w n body.items) (perform_list w n body.items) m) late) → UnlessRefused r (H from (moments w n s m) late)
+while_heard H from late w n line s e body m r is h =
+    let P : List Moment → Type 0 = λ ms. UnlessRefused r (H from ms late) in subst P (sym (while_told w n line s e body m is)) h
+
+pub for_heard : {S : Type 0} (H : S → List Moment → S → Type 0) (from late : S) (w : Checked) (n line x : ℕ) (s : Statement)
+    (e f : Expression) (body : Vec Statement Global) (m : State) (r : Result (Unit {0}) Halt) → s ≡ For line x e f body →
+    UnlessRefused r (H from (for_moments w n line x e f (list_moments w n body.items) (perform_list w n body.items) m) late) →
+    UnlessRefused r (H from (moments w n s m) late)
+for_heard H from late w n line x s e f body m r is h =
+    let P : List Moment → Type 0 = λ ms. UnlessRefused r (H from ms late) in subst P (sym (for_told w n line x s e f body m is)) h
+
+pub if_halts_heard : {S : Type 0} (H : S → List Moment → S → Type 0) (from late : S) (w : Checked) (n line : ℕ) (s : Statement)
+    (e : Expression) (a b : Vec Statement Global) (m new : State) (x : Halt) → s ≡ If line e a b →
+    IsBehaviour {A = Bool} (Err x) new (tested w n line e m) →
+    UnlessRefused {A = Bool} (Err x) (H from (test_moment w n line (Chooses e) e m) late) →
+    UnlessRefused {A = Unit {0}} (Err x) (H from (moments w n s m) late)
+if_halts_heard H from late w n line s e a b m new x is t h =
+    let P : List Moment → Type 0 = λ ms. UnlessRefused {A = Unit {0}} (Err x) (H from ms late) in
+    subst P (sym (if_told w n line s e a b m is))
+    (first_halts H {A = Bool} (Unit {0}) from late (test_moment w n line (Chooses e) e m) (tested w n line e m)
+    (λ z m. closing (if z then list_moments w n a.items m else list_moments w n b.items m)) x new t h)
+
+branch_heard : {S : Type 0} (H : S → List Moment → S → Type 0) → HearsOn H → (from half late : S) (w : Checked) (n line : ℕ)
+    (s : Statement) (e : Expression) (a b : Vec Statement Global) (m mid : State) (v : Bool) (r : Result (Unit {0}) Halt) →
+    s ≡ If line e a b → tested w n line e m ≡ Goes v mid → H from (test_moment w n line (Chooses e) e m) half →
+    UnlessRefused r (H half (closing (if v then list_moments w n a.items mid else list_moments w n b.items mid)) late) →
+    UnlessRefused r (H from (moments w n s m) late)
+branch_heard H on from half late w n line s e a b m mid v r is t h rest =
+    let P : List Moment → Type 0 = λ ms. UnlessRefused r (H from ms late) in
+    subst P (sym (if_told w n line s e a b m is))
+    (first_goes H on {A = Bool} {B = Unit {0}} from half late (test_moment w n line (Chooses e) e m) (tested w n line e m)
+    (λ z m. closing (if z then list_moments w n a.items m else list_moments w n b.items m)) v mid r t h rest)
+
+pub then_heard : {S : Type 0} (H : S → List Moment → S → Type 0) → HearsOn H → (from half late : S) (w : Checked) (n line : ℕ)
+    (s : Statement) (e : Expression) (a b : Vec Statement Global) (m mid : State) (v : Bool) (r : Result (Unit {0}) Halt) →
+    s ≡ If line e a b → tested w n line e m ≡ Goes v mid → v ≡ true → H from (test_moment w n line (Chooses e) e m) half →
+    UnlessRefused r (H half (closing (list_moments w n a.items mid)) late) → UnlessRefused r (H from (moments w n s m) late)
+then_heard H on from half late w n line s e a b m mid v r is t z h rest =
+    let P : Bool → Type 0 = λ v. UnlessRefused r (H half (closing (if v then list_moments w n a.items mid else
+    list_moments w n b.items mid)) late) in
+    branch_heard H on from half late w n line s e a b m mid v r is t h (subst P (sym z) rest)
+
+pub else_heard : {S : Type 0} (H : S → List Moment → S → Type 0) → HearsOn H → (from half late : S) (w : Checked) (n line : ℕ)
+    (s : Statement) (e : Expression) (a b : Vec Statement Global) (m mid : State) (v : Bool) (r : Result (Unit {0}) Halt) →
+    s ≡ If line e a b → tested w n line e m ≡ Goes v mid → v ≡ false → H from (test_moment w n line (Chooses e) e m) half →
+    UnlessRefused r (H half (closing (list_moments w n b.items mid)) late) → UnlessRefused r (H from (moments w n s m) late)
+else_heard H on from half late w n line s e a b m mid v r is t z h rest =
+    let P : Bool → Type 0 = λ v. UnlessRefused r (H half (closing (if v then list_moments w n a.items mid else
+    list_moments w n b.items mid)) late) in
+    branch_heard H on from half late w n line s e a b m mid v r is t h (subst P (sym z) rest)

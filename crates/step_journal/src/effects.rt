@@ -1,0 +1,108 @@
+//! What a statement outside pardo changes and prints.
+
+ghost use Rattle.std.specs.Prelude.{◌≡◌, ◌++◌, ◌∷◌, [], IfOk, OnOk, drop, length, slice_set};
+ghost use Rattle.pram_meaning.specs.Listening.{action_is, done_by};
+ghost use Rattle.pram_meaning.specs.Runs.{effect_is, state_of};
+ghost use Rattle.pram_meaning.specs.Together.{after_write};
+ghost use Rattle.step_journal.specs.Changes.{difference};
+
+use crate::differences::change_of;
+use pram_check::Target;
+use pram_meaning::action::Action;
+use pram_meaning::attempt::Effect;
+use pram_meaning::run::Run;
+use std::alloc::{AllocError, Global};
+use step_entries::Change;
+
+// The cell that an effect writes.
+#[tactic(auto, using(crate::proofs::Differing::none_of_it))]
+fn cell_written(alloc: Global, run: &Run, effect: &Effect) -> Result<Vec<Change>, AllocError>
+    ensures { IfOk result (λ ds. ds.items ≡ difference run.now.cells.items
+        (after_write effect.now.cell effect.now.value (state_of run.now)).cells) }
+{
+    match effect.cell {
+        Some(cell) => change_of(alloc, &run.cells, cell as usize, effect.value),
+        None => Ok(Vec::new(alloc)),
+    }
+}
+
+/// The cells that a statement changes.
+#[tactic(auto, using(crate::proofs::Differing::none_of_it))]
+pub fn cells_changed(
+    alloc: Global,
+    run: &Run,
+    action: &Action,
+    effect: &Effect,
+) -> Result<Vec<Change>, AllocError>
+    ensures { IfOk result (λ ds. ds.items ≡ difference run.now.cells.items
+        (done_by (action_is action.now) (effect_is effect.now) (state_of run.now)).cells) }
+{
+    match action {
+        Action::Assigns { target, .. } => match target {
+            Target::Uniform(_) => Ok(Vec::new(alloc)),
+            Target::Cell(_) | Target::Element(_, _) => cell_written(alloc, run, effect),
+        },
+        Action::Prints { .. }
+        | Action::Turns { .. }
+        | Action::Chooses { .. }
+        | Action::Bounds { .. }
+        | Action::Sets { .. }
+        | Action::Ranges { .. } => Ok(Vec::new(alloc)),
+    }
+}
+
+/// The uniform variables that a statement changes.
+#[tactic(auto, using(crate::proofs::Differing::none_of_it))]
+pub fn variables_changed(
+    alloc: Global,
+    run: &Run,
+    action: &Action,
+    effect: &Effect,
+) -> Result<Vec<Change>, AllocError>
+    ensures { IfOk result (λ ds. ds.items ≡ difference run.now.uniforms.items
+        (done_by (action_is action.now) (effect_is effect.now) (state_of run.now)).uniforms) }
+{
+    match action {
+        Action::Assigns { target, .. } => match target {
+            Target::Uniform(x) => change_of(alloc, &run.uniforms, *x, effect.value),
+            Target::Cell(_) | Target::Element(_, _) => Ok(Vec::new(alloc)),
+        },
+        Action::Sets { variable } => change_of(alloc, &run.uniforms, *variable, effect.value),
+        Action::Prints { .. }
+        | Action::Turns { .. }
+        | Action::Chooses { .. }
+        | Action::Bounds { .. }
+        | Action::Ranges { .. } => Ok(Vec::new(alloc)),
+    }
+}
+
+// One item.
+fn item(alloc: Global, value: i64) -> Result<Vec<i64>, AllocError>
+    ensures { IfOk result (λ items. items.items ≡ value ∷ []) }
+{
+    let mut items = Vec::new(alloc);
+    items.push(value)?;
+    Ok(items)
+}
+
+/// What a statement prints.
+#[tactic(auto, using(crate::proofs::Pushed::item_gained, crate::proofs::Pushed::nothing_gained))]
+pub fn items_printed(
+    alloc: Global,
+    run: &Run,
+    action: &Action,
+    effect: &Effect,
+) -> Result<Vec<i64>, AllocError>
+    ensures { IfOk result (λ items. items.items ≡ drop (length run.now.output.items)
+        (done_by (action_is action.now) (effect_is effect.now) (state_of run.now)).output) }
+{
+    match action {
+        Action::Prints { .. } => item(alloc, effect.value),
+        Action::Assigns { .. }
+        | Action::Turns { .. }
+        | Action::Chooses { .. }
+        | Action::Bounds { .. }
+        | Action::Sets { .. }
+        | Action::Ranges { .. } => Ok(Vec::new(alloc)),
+    }
+}

@@ -1,0 +1,111 @@
+//! A journal listens to a run.
+
+ghost use Rattle.std.specs.Prelude.{◌≡◌, ◌++◌, map};
+ghost use Rattle.std.specs.List.{flat_map};
+ghost use Rattle.std.proofs.Common.{rules};
+ghost use Rattle.std.proofs.lemmas.Grind.{common_steps};
+ghost use Rattle.step_entries.specs.Entries.{entry_is};
+ghost use Rattle.step_journal.specs.Entries.{entries_of};
+
+use crate::acts::{acts_before, acts_of, alone_acts, front};
+use crate::effects::{cells_changed, items_printed, variables_changed};
+use crate::journal::Journal;
+use crate::meetings::meeting;
+use pram_check::Program;
+use pram_meaning::Key;
+use pram_meaning::action::{Action, StepAction};
+use pram_meaning::attempt::Effect;
+use pram_meaning::listener::Listener;
+use pram_meaning::part::Part;
+use pram_meaning::run::Run;
+use pram_meaning::team::Member;
+use pram_values::{Kind, Place};
+use std::alloc::AllocError;
+use write_rules::Fault;
+
+impl Listener for Journal {
+    ghost hears = { λ a ms b. map entry_is b.entries.items ≡ map entry_is a.entries.items ++ flat_map entries_of ms };
+
+    #[tactic(auto, using(crate::proofs::Told::ran_alone))]
+    fn acts(
+        &mut self,
+        run: &Run,
+        line: u32,
+        action: &Action,
+        trail: &[Option<u32>],
+        effect: &Effect,
+    ) -> Result<(), AllocError> {
+        let acts = alone_acts(self.alloc, trail, effect.cell)?;
+        let cells = cells_changed(self.alloc, run, action, effect)?;
+        let variables = variables_changed(self.alloc, run, action, effect)?;
+        let items = items_printed(self.alloc, run, action, effect)?;
+        self.add(line, acts, cells, variables, items)
+    }
+
+    #[tactic(auto, using(crate::proofs::Told::fell_alone))]
+    fn fails(
+        &mut self,
+        _run: &Run,
+        line: u32,
+        _action: &Action,
+        trail: &[Option<u32>],
+        kind: Kind,
+    ) -> Result<(), AllocError> {
+        let acts = alone_acts(self.alloc, front(trail.len(), trail), None)?;
+        let fault = Fault {
+            kind,
+            line,
+            place: Place::All,
+        };
+        self.stop(fault, acts, Vec::new(self.alloc))
+    }
+
+    #[tactic(auto, using(crate::proofs::Told::ran_together))]
+    fn acts_on(
+        &mut self,
+        program: &Program,
+        run: &Run,
+        _team: &Vec<Member>,
+        line: u32,
+        action: &StepAction,
+        parts: &[Part],
+    ) -> Result<(), AllocError> {
+        let acts = acts_of(self.alloc, parts)?;
+        let cells = self.cells_changed_on(program, run, action, parts)?;
+        self.add(
+            line,
+            acts,
+            cells,
+            Vec::new(self.alloc),
+            Vec::new(self.alloc),
+        )
+    }
+
+    #[tactic(auto, using(crate::proofs::Told::fell_together))]
+    fn fails_on(
+        &mut self,
+        _run: &Run,
+        _team: &Vec<Member>,
+        line: u32,
+        _action: &StepAction,
+        parts: &[Part],
+        key: Key,
+    ) -> Result<(), AllocError> {
+        let acts = acts_before(self.alloc, key.at, parts)?;
+        let met = meeting(self.alloc, key, parts)?;
+        let fault = Fault {
+            kind: key.kind,
+            line,
+            place: key.place,
+        };
+        self.stop(fault, acts, met)
+    }
+
+    fn closes(&mut self) -> Result<(), AllocError> {
+        Ok(())
+    }
+
+    ghost hears_nothing = { Prim.search (rules, common_steps) };
+
+    ghost hears_on = { Prim.search (rules, common_steps) };
+}

@@ -1,0 +1,16 @@
+-- What a listener that counts has counted behind moments that it heard.
+use Rattle.std.specs.Prelude.{◌≡◌, ℕ, List}
+use Rattle.std.specs.List.{flat_map}
+use Rattle.pram_meaning.specs.Moments.{Moment}
+use Rattle.work_time.specs.declared.meter.Meter.{Meter}
+use Rattle.work_time.specs.Accounts.{Accounts, entered_all, met_all}
+use Rattle.work_time.specs.Ledgers.{ledger_is}
+use Rattle.work_time.specs.MomentEvents.{events_at}
+use Rattle.work_time.specs.Steps.{steps_of}
+
+-- with the time steps and the events of these moments
+abbrev pub with_moments : ℕ → List Moment → Accounts → Accounts
+with_moments q ms a = entered_all q (flat_map steps_of ms) (met_all (flat_map events_at ms) a)
+
+abbrev pub HasCounted : Meter → List Moment → Meter → Type 0
+HasCounted a ms b = (b.schedule ≡ a.schedule) × (ledger_is b.ledger ≡ with_moments a.schedule ms (ledger_is a.ledger))
