@@ -15,7 +15,6 @@ mod reserving;
 mod room;
 mod run;
 pub mod seat_laws;
-mod shared;
 mod task;
 mod threads;
 

@@ -4,30 +4,39 @@ ghost use Rattle.std.specs.Prelude.{◌≡◌, ◌≤◌, [], length, map, vec_c
 ghost use Rattle.std.specs.List.{AllByRecursion};
 ghost use Rattle.workers.specs.Tasks.{IsReady, tasks_for};
 
-use crate::shared::Shared;
 use crate::task::Task;
 use address_map::AddressMap;
 use bsp_machine::CountedWorker;
 use std::collections::VecDeque;
-use turnstile::RowSeat;
+use superstep_instructions::Code;
+use turnstile::{RowSeat, Turnstile};
 
 /// A task for each worker, at the seat of its place.
-pub(crate) fn tasks_of<'r, 'a, M: AddressMap>(
-    run: &'r Shared<'a, M>,
+pub(crate) fn tasks_of<'a, M: AddressMap>(
+    turnstile: &'a Turnstile,
+    code: &'a Code,
+    map: &'a M,
+    bound: u32,
     seats: Vec<RowSeat>,
     workers: Vec<CountedWorker>,
-    tasks: Vec<Task<'r, 'a, M>>,
-) -> Vec<Task<'r, 'a, M>>
-    requires ready { AllByRecursion (IsReady M.shape) (tasks_for run.now seats.items workers.items) }
+    tasks: Vec<Task<'a, M>>,
+) -> Vec<Task<'a, M>>
+    requires ready { AllByRecursion (IsReady M.shape) (tasks_for (record {
+      turnstile = turnstile.now;
+      code = code.now;
+      map = map.now;
+      bound = bound;
+    }) seats.items workers.items) }
     requires count { length workers.items ≡ length seats.items }
     requires room { (tasks.items ≡ []) × (length seats.items ≤ vec_capacity tasks) }
-    ensures { result.items ≡ tasks_for run.entry.now seats.items workers.items }
+    ensures { result.items ≡ tasks_for (record { turnstile = turnstile.entry.now; code = code.entry.now; map = map.entry.now; bound = bound }) seats.items
+        workers.items }
 {
     let mut tasks = tasks;
     let mut workers = VecDeque::from(workers);
     'seats: for seat in seats {
         let worker = workers.pop_front().unwrap();
-        tasks.push_reserved(Task::new(run, seat, worker));
+        tasks.push_reserved(Task::new(turnstile, code, map, bound, seat, worker));
     }
     tasks
 }
@@ -53,8 +62,8 @@ pub(crate) fn unzipped(
 }
 
 /// The seats of tasks that nobody began.
-pub(crate) fn unused<'r, 'a, M: AddressMap>(
-    tasks: Vec<Task<'r, 'a, M>>,
+pub(crate) fn unused<'a, M: AddressMap>(
+    tasks: Vec<Task<'a, M>>,
     seats: Vec<RowSeat>,
 ) -> Vec<RowSeat>
     requires room { (seats.items ≡ []) × (length tasks.items ≤ vec_capacity seats) }

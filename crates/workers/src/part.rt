@@ -9,13 +9,13 @@ use turnstile::RowSeat;
 use write_rules::{RuleBody, WriteRule};
 
 /// A task that is to be worked off, and what its worker waits with.
-pub(crate) struct Part<'b, 'r, 'a, R: Wait, M: AddressMap, G: Gate> {
+pub(crate) struct Part<'b, 'a, R: Wait, M: AddressMap, G: Gate> {
     pub(crate) rt: &'b R,
     pub(crate) gate: &'b G,
-    pub(crate) task: Task<'r, 'a, M>,
+    pub(crate) task: Task<'a, M>,
 }
 
-impl<'b, 'r, 'a, R: Wait, M: AddressMap, G: Gate> RuleBody for Part<'b, 'r, 'a, R, M, G> {
+impl<'b, 'a, R: Wait, M: AddressMap, G: Gate> RuleBody for Part<'b, 'a, R, M, G> {
     ghost use Rattle.std.specs.Prelude.{◌≡◌};
     ghost use Rattle.workers.specs.Tasks.{HasPlayed};
 

@@ -11,9 +11,9 @@ use turnstile::RowSeat;
 
 /// The crew of a run, and room for its tasks and for the seats and workers that come back.
 #[derive(Drop)]
-pub(crate) struct RunRoom<'r, 'a, M: AddressMap + Sync> {
-    pub(crate) crew: Crew<Task<'r, 'a, M>>,
-    pub(crate) tasks: Vec<Task<'r, 'a, M>>,
+pub(crate) struct RunRoom<'a, M: AddressMap + Sync> {
+    pub(crate) crew: Crew<Task<'a, M>>,
+    pub(crate) tasks: Vec<Task<'a, M>>,
     pub(crate) seats: Vec<RowSeat>,
     pub(crate) workers: Vec<CountedWorker>,
     ghost tasks_room: { (tasks.items ≡ []) × (crew.line.runners ≤ vec_capacity tasks) },
@@ -21,9 +21,9 @@ pub(crate) struct RunRoom<'r, 'a, M: AddressMap + Sync> {
     ghost workers_room: { (workers.items ≡ []) × (crew.line.runners ≤ vec_capacity workers) },
 }
 
-impl<'r, 'a, M: AddressMap + Sync> RunRoom<'r, 'a, M> {
+impl<'a, M: AddressMap + Sync> RunRoom<'a, M> {
     /// For so many workers. The only error is that memory is refused.
-    pub(crate) fn new(alloc: Global, workers: usize) -> Result<RunRoom<'r, 'a, M>, AllocError>
+    pub(crate) fn new(alloc: Global, workers: usize) -> Result<RunRoom<'a, M>, AllocError>
         requires { (0 < workers) × (workers ≤ 32) }
         ensures { IfOk result (λ room. room.crew.line.runners ≡ workers) }
     {

@@ -19,7 +19,6 @@ use crate::gathering::gather;
 use crate::lists::{tasks_of, unused, unzipped};
 use crate::reserving::open_reserved;
 use crate::room::RunRoom;
-use crate::shared::Shared;
 use address_map::AddressMap;
 use bsp_machine::{CountedWorker, EndRoom, RunRefusal};
 use bsp_verify::Verified;
@@ -34,20 +33,23 @@ use write_rules::Outcome;
 
 // All workers play their parts, a thread being started for each. All seats come back, and the workers if they began: where the start of a
 // thread is refused, none does.
-fn play_all<'r, 'a, R: Threads + Wait + Sync, M: AddressMap + Sync, G: Gate + Sync>(
+fn play_all<'a, R: Threads + Wait + Sync, M: AddressMap + Sync, G: Gate + Sync>(
     rt: &R,
-    run: &'r Shared<'a, M>,
+    turnstile: &'a Turnstile,
+    code: &'a Code,
+    map: &'a M,
+    bound: u32,
     gate: &G,
     seats: Vec<RowSeat>,
     workers: Vec<CountedWorker>,
-    room: RunRoom<'r, 'a, M>,
+    room: RunRoom<'a, M>,
 ) -> (Vec<RowSeat>, Option<Vec<CountedWorker>>)
-    requires begin { CanBegin M.shape run.now seats.items workers.items }
+    requires begin { CanBegin M.shape (record { turnstile = turnstile.now; code = code.now; map = map.now; bound = bound }) seats.items
+        workers.items }
     requires room { room.crew.line.runners ≡ length seats.items }
-    ensures seats { AreSeatsOf run.entry.now.turnstile result.0.items }
-    ensures ended { IfSome result.1 (λ ended. (input : List ℤ) →
-        AreFresh run.entry.now.code (M.shape run.entry.now.map) input workers.items →
-        HaveEnded run.entry.now.code (M.shape run.entry.now.map) run.entry.now.bound input result.0.items ended.items) }
+    ensures seats { AreSeatsOf turnstile.entry.now result.0.items }
+    ensures ended { IfSome result.1 (λ ended. (input : List ℤ) → AreFresh code.entry.now (M.shape map.entry.now) input workers.items →
+        HaveEnded code.entry.now (M.shape map.entry.now) bound input result.0.items ended.items) }
     ensures reserve { IfSome result.1 (λ ended. (reserve : Option Given) → HaveReserve reserve workers.items →
         HaveReserve reserve ended.items) }
 {
@@ -57,7 +59,7 @@ fn play_all<'r, 'a, R: Threads + Wait + Sync, M: AddressMap + Sync, G: Gate + Sy
         seats: back,
         workers: ended,
     } = room;
-    let tasks = tasks_of(run, seats, workers, tasks);
+    let tasks = tasks_of(turnstile, code, map, bound, seats, workers, tasks);
     match crew.work_all(rt, tasks, gate) {
         Ok(played) => {
             let (back, ended) = unzipped(played, back, ended);
@@ -84,31 +86,30 @@ fn run_code<R: Threads + Wait + Sync, M: AddressMap + Sync, G: Gate + Sync>(
     ensures outcome { IfOk result (λ found. IsBspOutcome code.now (M.shape map.now) input.now terms.bound (verdict_of found.0)) }
     ensures counts { IfOk result (λ found. AreBspExchanges code.now (M.shape map.now) input.now terms.bound (verdict_of found.0) found.1) }
 {
-    let Terms {
-        workers,
-        bound,
-        reserve,
-    } = terms;
     let _instructions = code.instructions();
-    let opened = open_reserved(alloc, code, map, workers, input, reserve)?;
-    let Ok(end_room) = EndRoom::new(alloc, code, workers) else {
+    let opened = open_reserved(alloc, code, map, terms.workers, input, terms.reserve)?;
+    let Ok(end_room) = EndRoom::new(alloc, code, terms.workers) else {
         return Err(RunRefusal::OutOfMemory);
     };
     let most = opened[0].local.buffers.reply.len();
-    let Ok((turnstile, seats)) = Turnstile::new(alloc, workers as usize, most) else {
+    let Ok((turnstile, seats)) = Turnstile::new(alloc, terms.workers as usize, most) else {
         return Err(RunRefusal::OutOfMemory);
     };
-    let Ok(room) = RunRoom::new(alloc, workers as usize) else {
+    let Ok(room) = RunRoom::new(alloc, terms.workers as usize) else {
         turnstile.close(seats);
         return Err(RunRefusal::OutOfMemory);
     };
-    let shared = Shared {
-        turnstile: &turnstile,
+    let (seats, ended) = play_all(
+        rt,
+        &turnstile,
         code,
         map,
-        bound,
-    };
-    let (seats, ended) = play_all(rt, &shared, gate, seats, opened, room);
+        terms.bound,
+        gate,
+        seats,
+        opened,
+        room,
+    );
     match ended {
         Some(ended) => gather(code, map, turnstile, seats, ended, end_room),
         None => {

@@ -7,45 +7,70 @@ use crate::deed::Deed;
 use crate::gates::Gate;
 use crate::part::Part;
 use crate::play::work;
-use crate::shared::Shared;
 use address_map::AddressMap;
 use bsp_machine::CountedWorker;
 use std::marker::Model;
 use std::sync::Wait;
-use turnstile::RowSeat;
+use superstep_instructions::Code;
+use turnstile::{RowSeat, Turnstile};
 use write_rules::{WriteRule, under};
 
 /// A worker before the first instruction, its seat, and what all workers of its run share.
 #[derive(Drop)]
-pub(crate) struct Task<'r, 'a, M: AddressMap> {
-    run: &'r Shared<'a, M>,
+pub(crate) struct Task<'a, M: AddressMap> {
+    turnstile: &'a Turnstile,
+    code: &'a Code,
+    map: &'a M,
+    bound: u32,
     seat: RowSeat,
     worker: CountedWorker,
 }
 
-impl<'r, 'a, M: AddressMap> Model for Task<'r, 'a, M> {
+impl<'a, M: AddressMap> Model for Task<'a, M> {
     ghost use Rattle.workers.specs.Tasks.{TaskState, IsReady};
 
     ghost Value = { TaskState M };
 
-    ghost view = { λ t. record { run = t.run.now; seat = t.seat; worker = t.worker } };
+    ghost view = { λ t. record {
+      run = record { turnstile = t.turnstile.now; code = t.code.now; map = t.map.now; bound = t.bound };
+      seat = t.seat;
+      worker = t.worker;
+    } };
 
-    ghost invariant = { λ t. IsReady M.shape (record { run = t.run.now; seat = t.seat; worker = t.worker }) };
+    ghost invariant = { λ t. IsReady M.shape (record {
+      run = record { turnstile = t.turnstile.now; code = t.code.now; map = t.map.now; bound = t.bound };
+      seat = t.seat;
+      worker = t.worker;
+    }) };
 }
 
-impl<'r, 'a, M: AddressMap> Task<'r, 'a, M> {
+impl<'a, M: AddressMap> Task<'a, M> {
     /// The task of a worker at its seat.
     pub(crate) fn new(
-        run: &'r Shared<'a, M>,
+        turnstile: &'a Turnstile,
+        code: &'a Code,
+        map: &'a M,
+        bound: u32,
         seat: RowSeat,
         worker: CountedWorker,
-    ) -> Task<'r, 'a, M>
-        requires { IsReady M.shape (record { run = run.now; seat = seat; worker = worker }) }
-        ensures run { result.run ≡ run.now }
+    ) -> Task<'a, M>
+        requires { IsReady M.shape (record {
+          run = record { turnstile = turnstile.now; code = code.now; map = map.now; bound = bound };
+          seat = seat;
+          worker = worker;
+        }) }
+        ensures run { result.run ≡ record { turnstile = turnstile.now; code = code.now; map = map.now; bound = bound } }
         ensures seat { result.seat ≡ seat }
         ensures worker { result.worker ≡ worker }
     {
-        Task { run, seat, worker }
+        Task {
+            turnstile,
+            code,
+            map,
+            bound,
+            seat,
+            worker,
+        }
     }
 
     /// The seat of a task that nobody was told.
@@ -53,7 +78,10 @@ impl<'r, 'a, M: AddressMap> Task<'r, 'a, M> {
         ensures { result ≡ self.entry.seat }
     {
         let Task {
-            run: _,
+            turnstile: _,
+            code: _,
+            map: _,
+            bound: _,
             seat,
             worker: _,
         } = self;
@@ -70,24 +98,25 @@ impl<'r, 'a, M: AddressMap> Task<'r, 'a, M> {
         requires { W.WriteRule.rule rule.now ≡ self.run.code.rule }
         ensures { HasPlayed M.shape self.entry result.0 result.1 }
     {
-        let Task { run, seat, worker } = self;
-        let Shared {
+        let Task {
             turnstile,
             code,
             map,
             bound,
-        } = *run;
+            seat,
+            worker,
+        } = self;
         work(rt, turnstile, code, rule, map, bound, gate, seat, worker)
     }
 }
 
-impl<'r, 'a, M: AddressMap + Sync> Deed for Task<'r, 'a, M> {
+impl<'a, M: AddressMap + Sync> Deed for Task<'a, M> {
     ghost use Rattle.workers.specs.Tasks.{HasPlayed};
 
     ghost done = { λ t played. HasPlayed M.shape t played.0 played.1 };
 
     fn work_off<R: Wait, G: Gate>(self, rt: &R, gate: &G) -> (RowSeat, CountedWorker) {
-        let rule = self.run.code.rule();
+        let rule = self.code.rule();
         under(
             rule,
             Part {
