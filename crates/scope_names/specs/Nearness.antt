@@ -17,8 +17,19 @@ edits a b = levenshtein_row nat_eq a b (length b)
 abbrev pub most_edits : List ℕ → List ℕ → ℕ
 most_edits a b = max (max (length a) (length b) / 3) 1
 
+-- the length of the longer one
+abbrev pub longer : List ℕ → List ℕ → ℕ
+longer a b = max (length a) (length b)
+
+-- Names above this length are not compared, since that takes a step for each two of their letters.
+abbrev pub most_letters : ℕ
+most_letters = 64
+
+-- few enough edits, and fewer than letters: a name of which no letter stays is no guess
 abbrev pub is_near : List ℕ → Known → Bool
-is_near word k = nat_le (edits word k.name) (most_edits word k.name)
+is_near word k =
+    nat_le (longer word k.name) most_letters && nat_le (edits word k.name) (most_edits word k.name)
+    && nat_lt (edits word k.name) (longer word k.name)
 
 -- the nearer of the two: the one so far, unless the other is near enough and nearer
 abbrev pub nearer : List ℕ → Option Known → Known → Option Known

@@ -1,6 +1,6 @@
 //! A name by its word, and the name that is nearest to a word.
 
-ghost use Rattle.std.specs.Prelude.{◌≡◌, IfOk, map};
+ghost use Rattle.std.specs.Prelude.{◌≡◌, ◌&&◌, IfOk, map, nat_le, nat_lt};
 ghost use Rattle.std.specs.Option.{option_map};
 ghost use Rattle.scope_names.specs.InScope as spec;
 ghost use Rattle.scope_names.specs.Nearness as near;
@@ -35,6 +35,17 @@ fn most_edits(word: &[u8], name: &[u8]) -> usize
     (word.len().max(name.len()) / 3).max(1)
 }
 
+/// Names of more letters are not compared.
+const MOST_LETTERS: usize = 64;
+
+// Whether so many edits lead from a word to a name that is near enough.
+fn is_near(word: &[u8], name: &[u8], edits: usize) -> bool
+    requires { edits ≡ near.edits word.now name.now }
+    ensures { result ≡ (nat_le edits (near.most_edits word.now name.now) && nat_lt edits (near.longer word.now name.now)) }
+{
+    edits <= most_edits(word, name) && edits < word.len().max(name.len())
+}
+
 // The nearer of the two: the one so far, unless the other is near enough and nearer.
 fn nearer<'a>(
     alloc: Global,
@@ -45,8 +56,11 @@ fn nearer<'a>(
     ensures { IfOk result (λ k. option_map spec.known_is k
         ≡ near.nearer word.now (option_map spec.known_is so_far.entry) (spec.known_is other.entry)) }
 {
+    if word.len().max(other.name.len()) > MOST_LETTERS {
+        return Ok(so_far);
+    }
     let edits = generic_levenshtein(alloc, word, other.name)?;
-    if edits > most_edits(word, other.name) {
+    if !is_near(word, other.name, edits) {
         return Ok(so_far);
     }
     match so_far {
@@ -61,8 +75,8 @@ fn nearer<'a>(
     }
 }
 
-/// The name that is nearest to a word, by the edits that lead from one to the other: at most a third of the longer one's length, or one.
-/// Of names that are equally near it is the first.
+/// The name that is nearest to a word, by the edits that lead from one to the other: at most a third of the longer one's length, or one,
+/// and fewer than that length. Words and names of more than 64 letters are not compared. Of names that are equally near it is the first.
 pub fn nearest<'a>(
     alloc: Global,
     names: &[Known<'a>],
