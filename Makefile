@@ -60,7 +60,7 @@ memory:
 unthreaded:
 	bash crates/run_tests/unthreaded/check.sh
 
-# Steps through the pages of three runs in Chromium, and compares what they show with the facts in them.
+# Steps through the pages of four runs in Chromium, and compares what they show with the facts in them.
 page-test: bin/pramc
 	python3 gate/page_test.py bin/pramc
 

@@ -1,5 +1,5 @@
 #!/usr/bin/env python3
-"""Steps through the pages of three runs in a browser without a screen, and compares what they show with the facts in them.
+"""Steps through the pages of four runs in a browser without a screen, and compares what they show with the facts in them.
 
 page_test.py PROGRAM: `PROGRAM steps FILE --html` writes the page of a run. A script behind the page's own presses its keys and buttons and
 moves its slider, and notes what is shown; Chromium writes the page that this leaves. The facts in the page are read as JSON, and are those
@@ -16,7 +16,7 @@ from pathlib import Path
 from gallery import EXAMPLES
 
 PROGRAM = Path(sys.argv[1]).resolve()
-RUNS = ["prefix_sums", "common_divisor", "conflict_erew"]
+RUNS = [*[EXAMPLES / it for it in ("prefix_sums", "common_divisor", "conflict_erew")], Path(__file__).resolve().parent / "pages/far_cells"]
 BROWSER = ["chromium", "--headless", "--no-sandbox", "--disable-gpu", "--virtual-time-budget=20000", "--dump-dom"]
 MOST = 256
 
@@ -58,8 +58,8 @@ NOTES = """<script>
 
 
 def written(name, *options):
-    """What the program writes of the steps of an example."""
-    words = ["steps", EXAMPLES / f"{name}.pram", "--input", EXAMPLES / f"{name}.in", *options]
+    """What the program writes of the steps of a program."""
+    words = ["steps", f"{name}.pram", "--input", f"{name}.in", *options]
     done = subprocess.run([PROGRAM, *words], capture_output=True, text=True, timeout=60)
     if done.returncode not in (0, 1) or done.stderr:
         sys.exit(f"{name}: {done.returncode} {done.stderr}")

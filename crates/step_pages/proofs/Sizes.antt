@@ -18,7 +18,7 @@ front_size =
 drawing_size : length drawing ≤ 4000
 drawing_size =
     let whole = length-append DRAWING MOVING in
-    let a : length DRAWING ≡ 2233 = refl in
+    let a : length DRAWING ≡ 2251 = refl in
     let b : length MOVING ≡ 1615 = refl in
     omega (arith, whole, a, b)
 

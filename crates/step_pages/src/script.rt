@@ -1,7 +1,7 @@
 //! The script that steps through the run.
 
 /// The facts are read, and the program, the cells and the variables drawn.
-pub(crate) const DRAWING: [u8; 2233] = *b"</script>
+pub(crate) const DRAWING: [u8; 2251] = *b"</script>
 <script>
 'use strict';
 (function () {
@@ -45,9 +45,9 @@ opening.cells.forEach(function (c) {
   row.setAttribute('role', 'group');
   row.setAttribute('aria-label', c.name);
   if (c.low === undefined) { cell(row, c.name); return; }
-  var low = Number(c.low), high = Number(c.high);
-  for (var i = low; i <= high; i += 1) { cell(i < low + MOST ? row : null, c.name + '[' + i + ']'); }
-  if (high >= low + MOST) { put(row, 'p', 'The cells behind these are not drawn.'); }
+  var low = BigInt(c.low), size = Number(BigInt(c.high) - low) + 1;
+  for (var i = 0; i < size; i += 1) { cell(i < MOST ? row : null, c.name + '[' + (low + BigInt(i)) + ']'); }
+  if (size > MOST) { put(row, 'p', 'The cells behind these are not drawn.'); }
 });
 // The uniform variables.
 var variables = opening.variables.map(function (name) {
