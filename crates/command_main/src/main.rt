@@ -6,6 +6,7 @@ use std::io::IsTerminal;
 use std::process::ExitCode;
 use std::{env, io};
 use system_files::{Stream, SystemFiles};
+use text_out::Out;
 
 // What the streams are. Colours are wanted unless `NO_COLOR` is set and not empty.
 fn terminal(rt: &HostRuntime) -> Terminal {
@@ -21,14 +22,48 @@ fn terminal(rt: &HostRuntime) -> Terminal {
     }
 }
 
-fn main(rt: HostRuntime) -> io::Result<ExitCode> {
-    let alloc = rt.alloc();
-    let words: Vec<String> = env::args(&rt)?.skip(1).collect(alloc)?;
-    let words = words.as_slice();
+// What is told where a word of the command line isn't UTF-8, as the parser of command lines tells the rest of P1.
+const NOT_UTF_8: &[u8] = b"error: invalid UTF-8 was detected in one or more arguments
+
+For more information, try '--help'.
+";
+
+// What is told where memory for the words was refused.
+const NO_MEMORY: &[u8] = b"refused E16 OutOfMemory\n";
+
+// The words behind the program's name, or what is told of them.
+fn words(rt: &HostRuntime) -> Result<Vec<String>, &'static [u8]> {
+    let args = match env::args(rt) {
+        Ok(args) => args,
+        Err(e) if e.kind() == io::ErrorKind::InvalidData => return Err(NOT_UTF_8),
+        Err(_) => return Err(NO_MEMORY),
+    };
+    match args.skip(1).collect(rt.alloc()) {
+        Ok(words) => Ok(words),
+        Err(_) => Err(NO_MEMORY),
+    }
+}
+
+fn main(rt: HostRuntime) -> ExitCode {
+    let mut err = Stream::new(rt.stderr());
+    let words = match words(&rt) {
+        Ok(words) => words,
+        Err(told) => {
+            let _ = err.write_all(told);
+            return ExitCode::from(2);
+        }
+    };
     let terminal = terminal(&rt);
     let mut files = SystemFiles { system: &rt };
     let mut out = Stream::new(rt.stdout());
-    let mut err = Stream::new(rt.stderr());
-    let status = command(&rt, alloc, words, terminal, &mut files, &mut out, &mut err);
-    Ok(ExitCode::from(status.code()))
+    let status = command(
+        &rt,
+        rt.alloc(),
+        words.as_slice(),
+        terminal,
+        &mut files,
+        &mut out,
+        &mut err,
+    );
+    ExitCode::from(status.code())
 }
