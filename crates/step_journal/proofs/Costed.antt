@@ -1,5 +1,5 @@
 -- A run's entries are its time steps, one by one: those of each moment are.
-use Rattle.std.proofs.Common.{◌≡◌, ℕ, suc, ℤ, List, [], ◌∷◌, ◌++◌, Option, Some, None, arith, length, map, refl, ap, ◌∙◌}
+use Rattle.std.proofs.Common.{◌≡◌, ℕ, suc, ℤ, List, [], ◌∷◌, ◌++◌, Some, None, arith, length, map, refl, ap, ◌∙◌}
 use Rattle.std.specs.List.{flat_map, sum_by}
 use Rattle.std.proofs.lemmas.List.{map-append}
 use Rattle.std.proofs.lemmas.List.Sums.{sum_by-cons}
@@ -9,10 +9,9 @@ use Rattle.pram_meaning.specs.Attempt.{Attempt, Effect, Fails, Trail}
 use Rattle.pram_meaning.specs.Conflict.{Part, trail_of}
 use Rattle.pram_meaning.specs.Moments.{Alone, Closed, Moment, Together, run_moments}
 use Rattle.step_entries.specs.Entries.{Act, Entry}
-use Rattle.step_journal.specs.Acts.{act_before, act_of, alone_acts, reads_in, write_of}
+use Rattle.step_journal.specs.Acts.{act_before, act_of, reads_in, write_of}
 use Rattle.step_journal.specs.Costs.{EntriesAreTimeSteps, act_reads, act_writes, step_of}
 use Rattle.step_journal.specs.Entries.{entries_of, run_entries}
-use Rattle.work_time.specs.declared.time_step.TimeStep.{TimeStep}
 use Rattle.work_time.specs.Steps as cost
 use Rattle.work_time.specs.Steps.{acting, attempt_writes, part_reads, part_writes, reads_on, writes_to}
 
