@@ -1,6 +1,6 @@
 -- A set's attempts, on their way, and what they come to.
 use Rattle.std.proofs.Common.{◌≡◌, ℕ, ◌+◌, ◌<◌, ◌≤◌, List, [], ◌∷◌, ◌++◌, map, drop, length, get_or, append_assoc, append-nil, refl, ap}
-use Rattle.std.proofs.Common.{sym, ◌∙◌, Option, Some, None, Ok, Err, arith, ℤ, pos, zero, suc, set}
+use Rattle.std.proofs.Common.{sym, ◌∙◌, Err, arith, ℤ, pos, zero, suc, set}
 use Rattle.std.proofs.lemmas.List.{drop_more, drop_all}
 use Rattle.pram_meaning.specs.declared.run.Halt.TheVariants as halt
 use Rattle.pram_meaning.specs.declared.part as part
@@ -8,13 +8,11 @@ use Rattle.pram_meaning.specs.declared.team as team_member
 use Rattle.pram_check.specs.Checked.{Checked}
 use Rattle.pram_meaning.specs.Attempt.{Attempt, Effect}
 use Rattle.pram_meaning.specs.Bounded.{attempted_on, counted, then_do, valued}
-use Rattle.pram_meaning.specs.Conflict.{Part, keys, least}
 use Rattle.pram_meaning.specs.Judging.{part_is}
 use Rattle.pram_meaning.specs.Runs.{IsBehaviour}
 use Rattle.pram_meaning.specs.Sets.{IsParts, member_is}
 use Rattle.pram_meaning.specs.Store.{Member, State, View, with_local}
-use Rattle.pram_meaning.specs.Together.{on_key, part_of, parts, together, value_in, with_locals}
-use Rattle.pram_meaning.specs.declared.key.Key.{Key}
+use Rattle.pram_meaning.specs.Together.{part_of, parts, together, value_in, with_locals}
 use Rattle.pram_meaning.specs.declared.run.Halt.{Halt}
 
 pub record InParts (w : Checked) (m : State) (a : View → Attempt Effect) (vs : List ℕ) (i : ℕ) (now : List part.Part.Part) : Type 0 where
