@@ -50,6 +50,7 @@ fn main(rt: HostRuntime) -> ExitCode {
         Ok(words) => words,
         Err(told) => {
             let _ = err.write_all(told);
+            let _ = err.flush();
             return ExitCode::from(2);
         }
     };
