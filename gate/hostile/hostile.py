@@ -103,8 +103,8 @@ def refuse_one(words, expected, refused):
     """One allocation or start is refused: the program says so, or does what it does else; in any case it gives its memory back."""
     given, left, *_ = tallied(words, **refused)
     says_so = given == (2, b"", NO_MEMORY_IN_JSON if "json" in words else NO_MEMORY)
-    # memory for the words themselves, before the program is called with them
-    unread = given[:2] == (1, b"") and b"OutOfMemory" in given[2]
+    # memory for the words themselves: before they are read nobody knows whether they ask for JSON
+    unread = given == (2, b"", NO_MEMORY)
     if left or not (says_so or given == expected or (unread and refused.get("REFUSE", "").startswith("0:"))):
         raise Wrong(f"{words} with {refused}: {given}, {left} blocks are left")
     if "REFUSE_START" in refused and not says_so:

@@ -28,7 +28,7 @@ refuse() {
     if [ $status -eq 0 ] && cmp -s "$work/out" "$work/expected" && [ ! -s "$work/err" ]; then
         return
     fi
-    if [ $status -eq 0 ] || [ $status -gt 2 ] || ! grep -q OutOfMemory "$work/err"; then
+    if [ $status -ne 2 ] || ! grep -q OutOfMemory "$work/err"; then
         echo "WRONG: $2 with $1, status $status:"
         cat "$work/out" "$work/err"
         exit 1
