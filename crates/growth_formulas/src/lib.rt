@@ -1,4 +1,4 @@
-//! A formula for a table of numbers by sizes: `4 log n + 5`.
+//! A formula for numbers by sizes: `4 log n + 5`.
 #![tactic(auto)]
 
 mod basis;

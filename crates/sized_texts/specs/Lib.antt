@@ -1,0 +1,9 @@
+pub mod Values
+pub mod Sizes
+pub mod Front
+pub mod Reading
+pub mod Expressions
+pub mod Pieces
+pub mod Faults
+pub mod SizeLines
+pub mod Expansion

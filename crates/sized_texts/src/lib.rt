@@ -1,0 +1,30 @@
+//! One text for every size: `{2*n}` stands for a number.
+#![tactic(auto)]
+
+mod atom;
+mod expanded;
+mod expansion;
+mod expression;
+mod fault;
+mod front;
+mod head;
+mod line;
+mod operation;
+mod pieces;
+mod reason;
+#[cfg(test)]
+mod rows;
+mod size;
+pub mod size_laws;
+mod size_line;
+mod stop;
+
+pub use atom::Atom;
+pub use expanded::Expanded;
+pub use expansion::expand;
+pub use fault::SizeFault;
+pub use line::Line;
+pub use operation::{Function, Operator, applied, called};
+pub use reason::Reason;
+pub use size::Size;
+pub use stop::Wrong;

@@ -1,0 +1,116 @@
+//! Texts with sizes, and what they expand to, each worked by hand.
+
+use crate::expansion::expand;
+use crate::fault::SizeFault;
+use crate::reason::Reason;
+use crate::size::Size;
+use pram_tokens::LONGEST;
+use sqlite_items::Items;
+use std::alloc::{AllocError, Global};
+
+// Texts and their expansions.
+const EXPANDED: [(&str, &str); 8] = [
+    ("# size n = 8\n{n}", "# size n = 8\n8"),
+    (
+        "# size n = 8\n{2 * n + 1} {n - 2 * 3} {(n+1) mod 4}",
+        "# size n = 8\n17 2 1",
+    ),
+    (
+        "# size n = 8\n{log(n)} {root(n)} {pow(2, n)} {100 div n mod 5}",
+        "# size n = 8\n3 2 256 2",
+    ),
+    (
+        "# size n = 8\n# {n}\n{n} # {n\n{n}",
+        "# size n = 8\n# {n}\n8 # {n\n8",
+    ),
+    ("{n} # size n = 8\n", "{n} # size n = 8\n"),
+    ("# size of it\n{", "# size of it\n{"),
+    (
+        "# a\n\n  # size m=3\n# size n = 4 \r\n{m*n}",
+        "# a\n\n  # size m=3\n# size n = 4 \r\n12",
+    ),
+    (
+        "# size n = 9223372036854775807\n{n - 1}",
+        "# size n = 9223372036854775807\n9223372036854775806",
+    ),
+];
+
+// Texts, and where and why they are refused.
+const REFUSED: [(&str, u32, Reason); 17] = [
+    ("# size n = 8\n{n + }", 18, Reason::Unexpected),
+    ("# size n = 8\n{n", 15, Reason::NotClosed),
+    ("# size n = 8\n{n\n}", 15, Reason::NotClosed),
+    ("# size n = 8\n{m}", 14, Reason::UnknownName),
+    ("# size n = 8\n{do}", 14, Reason::Unexpected),
+    ("# size n = 8\n{1 - n}", 16, Reason::OutOfRange),
+    (
+        "# size n = 8\n{n * 9223372036854775807}",
+        16,
+        Reason::OutOfRange,
+    ),
+    ("# size n = 8\n{n div 0}", 16, Reason::ZeroDivisor),
+    ("# size n = 8\n{log(0)}", 14, Reason::LogOfZero),
+    ("# size n = 8\n# size n = 9\n", 13, Reason::Repeated),
+    ("# size do = 8\n", 0, Reason::Keyword),
+    ("# size log = 8", 0, Reason::Keyword),
+    ("# size 3 = 8", 0, Reason::BadLine),
+    ("# size n =", 0, Reason::BadLine),
+    ("# size n = x", 0, Reason::Unexpected),
+    ("# size n = 9223372036854775808", 0, Reason::OutOfRange),
+    ("# size n = 8 9", 0, Reason::BadLine),
+];
+
+// Whether a text expands to that one.
+fn comes_to(alloc: Global, text: &[u8], given: &[Size], wanted: &[u8]) -> bool {
+    if text.len() > LONGEST {
+        return false;
+    }
+    match expand(alloc, text, given) {
+        Ok(found) => found.text.as_slice() == wanted,
+        Err(_) => false,
+    }
+}
+
+// Where and why a text is refused.
+fn refusal(alloc: Global, text: &[u8]) -> Option<(u32, Reason)> {
+    if text.len() > LONGEST {
+        return None;
+    }
+    match expand(alloc, text, &[]) {
+        Err(SizeFault::BadSize(at, reason)) => Some((at, reason)),
+        _ => None,
+    }
+}
+
+// Whether 1024 is taken in the place of 8.
+fn takes_given(alloc: Global) -> Result<bool, AllocError> {
+    let given = [Size {
+        name: Items::from_slice(alloc, b"n")?,
+        value: 1024,
+    }];
+    Ok(comes_to(
+        alloc,
+        b"# size n = 8\n{log(n)}",
+        &given,
+        b"# size n = 8\n10",
+    ))
+}
+
+#[test]
+fn texts_expand(rt: HostRuntime) {
+    for (text, wanted) in &EXPANDED {
+        assert!(rt; comes_to(rt.alloc(), text.as_bytes(), &[], wanted.as_bytes()));
+    }
+}
+
+#[test]
+fn texts_are_refused(rt: HostRuntime) {
+    for (text, at, reason) in &REFUSED {
+        assert_eq!(rt; refusal(rt.alloc(), text.as_bytes()), Some((*at, *reason)));
+    }
+}
+
+#[test]
+fn given_numbers_are_taken(rt: HostRuntime) {
+    assert_eq!(rt; takes_given(rt.alloc()).ok(), Some(true));
+}
