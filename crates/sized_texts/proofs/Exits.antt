@@ -22,7 +22,8 @@ pub leaves : {X Y A B : Type 0} (view : X → B) (look : Y → A) (r : Result X 
     (total : ℕ) (part : Result A Wrong) (whole : Result B Wrong) → Answers look (Err e) (in_text total part) →
     ((w : Wrong) → part ≡ Err w → whole ≡ Err w) → Answers view r (in_text total whole)
 leaves view look (Ok x) e is total part whole fault goes = absurd is
-leaves {Y = Y} {A = A} view look (Err f) e is total part whole fault goes = by f (subst (λ g. Answers look (Err g) (in_text total part)) (sym is) fault)
+leaves {Y = Y} {A = A} view look (Err f) e is total part whole fault goes =
+    by f (subst (λ g. Answers look (Err g) (in_text total part)) (sym is) fault)
   where
     by : (f : SizeFault) → Answers {X = Y} {Y = A} look (Err f) (in_text total part) → Answers view (Err f) (in_text total whole)
     by OutOfMemory h = tt

@@ -52,7 +52,8 @@ module _ (given sizes : List Size) (text : List ℕ) (whole : Result (List Size)
   turn_comment n left comment found dark hash is_n is_comment is_left declared =
       let there : at + 1 + n ≡ at + (1 + n) = omega arith in
       known false true dark (hash_is hash)
-      ∙ ap (λ r. r >>= λ x. head given x (comment_length rest) rest) (ap (λ k. declare given sizes k (line_of (take (comment_length rest) rest)))
+      ∙ ap (λ r. r >>= λ x. head given x (comment_length rest) rest)
+      (ap (λ k. declare given sizes k (line_of (take (comment_length rest) rest)))
       (sym (is_left ∙ left_there))
       ∙ ap (λ c. declare given sizes left (line_of c)) (sym (is_comment ∙ ap (λ k. take k rest) is_n)) ∙ declared)
       ∙ ap (λ k. head given found k rest) (sym is_n) ∙ head-skip given found n rest
@@ -64,7 +65,8 @@ module _ (given sizes : List Size) (text : List ℕ) (whole : Result (List Size)
   unfolding by_kind commented
   turn_wrong n left comment w dark hash is_n is_comment is_left declared =
       known false true dark (hash_is hash)
-      ∙ ap (λ r. r >>= λ x. head given x (comment_length rest) rest) (ap (λ k. declare given sizes k (line_of (take (comment_length rest) rest)))
+      ∙ ap (λ r. r >>= λ x. head given x (comment_length rest) rest)
+      (ap (λ k. declare given sizes k (line_of (take (comment_length rest) rest)))
       (sym (is_left ∙ left_there))
       ∙ ap (λ c. declare given sizes left (line_of c)) (sym (is_comment ∙ ap (λ k. take k rest) is_n)) ∙ declared)
 

@@ -6,3 +6,4 @@ pub mod Turns
 pub mod Heads
 pub mod Exits
 pub mod NoSizes
+pub mod Sound

@@ -7,3 +7,4 @@ pub mod Pieces
 pub mod Faults
 pub mod SizeLines
 pub mod Expansion
+pub mod Grammar
