@@ -5,17 +5,11 @@ use Rattle.pram_model.specs.Layout.{total_size}
 use Rattle.pram_check.specs.Checked.{Checked}
 use Rattle.pram_meaning.specs.declared.run.Run.{Run}
 use Rattle.pram_meaning.specs.Moments.{list_moments}
-use Rattle.pram_meaning.specs.Outcome.{opening}
 use Rattle.pram_meaning.specs.Runs.{state_of}
-use Rattle.pram_meaning.specs.Store.{no_team}
 use Rattle.step_entries.specs.declared.entry.Entry.{Entry}
 use Rattle.step_entries.specs.Entries.{entry_is}
 use Rattle.step_journal.specs.Entries.{entries_of, run_entries}
-
-opens : (p : Checked) (input : List ℤ) (run : Run) → run.count ≡ 0 → run.output.items ≡ [] →
-    run.uniforms.items ≡ replicate p.uniforms (pos 0) → run.cells.items ≡ input ++ replicate (total_size p.layout - length input) (pos 0) →
-    state_of run ≡ opening p input
-opens p input run a b c d = λ j. record { count = a j; output = b j; uniforms = c j; cells = d j; team = no_team }
+use Rattle.work_time.proofs.Complete.{opens}
 
 pub all_heard : (p : Checked) (input : List ℤ) (n : ℕ) (run : Run) (old new : List Entry) → run.count ≡ 0 → run.output.items ≡ [] →
     run.uniforms.items ≡ replicate p.uniforms (pos 0) → run.cells.items ≡ input ++ replicate (total_size p.layout - length input) (pos 0) →
