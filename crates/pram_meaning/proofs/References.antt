@@ -11,7 +11,7 @@ use Rattle.write_rules.specs.Verdict.{Ended, Faulted, GoesOn}
 use Rattle.write_rules.specs.declared.fault.Fault.{Fault}
 use Rattle.pram_meaning.proofs.OneOutcome.{outcome_is}
 
-opens : (p : Checked) (input : List ℤ) (run : Run) → run.count ≡ 0 → run.output.items ≡ [] →
+pub opens : (p : Checked) (input : List ℤ) (run : Run) → run.count ≡ 0 → run.output.items ≡ [] →
     run.uniforms.items ≡ replicate p.uniforms (pos 0) → run.cells.items ≡ input ++ replicate (total_size p.layout - length input) (pos 0) →
     state_of run ≡ opening p input
 opens p input run a b c d = λ j. record { count = a j; output = b j; uniforms = c j; cells = d j; team = no_team }

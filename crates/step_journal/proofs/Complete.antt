@@ -9,7 +9,7 @@ use Rattle.pram_meaning.specs.Runs.{state_of}
 use Rattle.step_entries.specs.declared.entry.Entry.{Entry}
 use Rattle.step_entries.specs.Entries.{entry_is}
 use Rattle.step_journal.specs.Entries.{entries_of, run_entries}
-use Rattle.work_time.proofs.Complete.{opens}
+use Rattle.pram_meaning.proofs.References.{opens}
 
 pub all_heard : (p : Checked) (input : List ℤ) (n : ℕ) (run : Run) (old new : List Entry) → run.count ≡ 0 → run.output.items ≡ [] →
     run.uniforms.items ≡ replicate p.uniforms (pos 0) → run.cells.items ≡ input ++ replicate (total_size p.layout - length input) (pos 0) →

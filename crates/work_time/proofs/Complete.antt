@@ -1,19 +1,19 @@
 -- A whole run that was heard comes to the outcome, and is counted.
-use Rattle.std.proofs.Common.{◌≡◌, ℕ, ◌-◌, ◌++◌, List, [], ℤ, pos, replicate, length, Result, Err, ap, sym, ◌∙◌, subst}
+use Rattle.std.proofs.Common.{◌≡◌, ℕ, List, ℤ, Result, Err, ap, sym, ◌∙◌, subst}
 use Rattle.pram_check.specs.Checked.{Checked}
 use Rattle.pram_meaning.specs.Bounded.{Goes, Reaches, Stops, perform_list}
 use Rattle.pram_meaning.specs.Listening.{UnlessRefused}
 use Rattle.pram_meaning.specs.Moments.{list_moments, run_moments}
 use Rattle.pram_meaning.specs.Outcome.{IsOutcome, opening}
 use Rattle.pram_meaning.specs.Runs.{state_of}
-use Rattle.pram_meaning.specs.Store.{State, no_team}
+use Rattle.pram_meaning.specs.Store.{State}
 use Rattle.pram_meaning.specs.declared.run.Halt.{Halt}
 use Rattle.pram_meaning.specs.declared.run.Halt.TheVariants as halt
 use Rattle.pram_meaning.specs.declared.run.Run.{Run}
-use Rattle.pram_model.specs.Layout.{total_size}
 use Rattle.write_rules.specs.Verdict.{Ended, Faulted, GoesOn}
 use Rattle.write_rules.specs.declared.fault.Fault.{Fault}
 use Rattle.pram_meaning.proofs.OneOutcome.{outcome_is}
+use Rattle.pram_meaning.proofs.References.{opens}
 use Rattle.work_time.specs.declared.ledger.Ledger.{Ledger}
 use Rattle.work_time.specs.Accounts.{entered_all, met_all, opened}
 use Rattle.work_time.specs.Counted.{counted}
@@ -21,11 +21,6 @@ use Rattle.work_time.specs.Heard.{with_moments}
 use Rattle.work_time.specs.Ledgers.{ledger_is}
 use Rattle.work_time.specs.Steps.{run_steps}
 use Rattle.work_time.proofs.MomentEvents.{events_are_met}
-
-pub opens : (p : Checked) (input : List ℤ) (run : Run) → run.count ≡ 0 → run.output.items ≡ [] →
-    run.uniforms.items ≡ replicate p.uniforms (pos 0) →
-    run.cells.items ≡ input ++ replicate (total_size p.layout - length input) (pos 0) → state_of run ≡ opening p input
-opens p input run c o u s = λ j. record { count = c j; output = o j; uniforms = u j; cells = s j; team = no_team }
 
 pub ended : (p : Checked) (input : List ℤ) (n : ℕ) (run : Run) (m : State) → state_of run ≡ opening p input →
     perform_list p n p.body (state_of run) ≡ Goes tt m → IsOutcome p input n (Ended m.output m.cells)

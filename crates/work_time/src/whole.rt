@@ -17,7 +17,7 @@ use std::alloc::Global;
 use write_rules::Outcome;
 
 /// The outcome of a program on an input, and what was counted of its run.
-#[tactic(auto, using(crate::proofs::Complete::opens, crate::proofs::Complete::stopped, crate::proofs::Complete::reached))]
+#[tactic(auto, using(pram_meaning::proofs::References::opens, crate::proofs::Complete::stopped, crate::proofs::Complete::reached))]
 pub fn run_whole(
     alloc: Global,
     program: &Program,

@@ -1,7 +1,8 @@
 use Rattle.std.proofs.Common.{rules, ◌≡◌}
 use Rattle.pram_meaning.specs.declared.run.Halt.TheVariants as halt
 use Rattle.pram_meaning.specs.Runs.{state_of}
-use Rattle.work_time.proofs.Complete.{ended, heard_at_bound, heard_of_fault, opens, run_counted}
+use Rattle.pram_meaning.proofs.References.{opens}
+use Rattle.work_time.proofs.Complete.{ended, heard_at_bound, heard_of_fault, run_counted}
 use Rattle.work_time.proofs.whole.run_whole.Goals as goal
 
 pub returns-in-Ok-done-clause-outcome : goal.returns-in-Ok-done-clause-outcome
