@@ -14,6 +14,7 @@ use Rattle.text_places.specs.Excerpts.{excerpt}
 use Rattle.diagnoses.specs.declared.source.Source.{Source}
 use Rattle.diagnoses.specs.Places.{quoted, token_at}
 use Rattle.diagnoses.specs.Remarks.{Remark, Nothing, Nearest, Declared, Expected}
+use Rattle.diagnoses.specs.Sources.{spot_as_it_stands, text_in}
 
 abbrev pub sort_text : Sort → List ℕ
 sort_text sort.Cell = codes "a shared cell"
@@ -89,8 +90,13 @@ abbrev pub offset_of : List ℕ → Spot → ℕ
 offset_of text (spot.Offset at) = at
 offset_of text spot.TextEnd = length text
 
--- what is said of the first thing that is wrong with the program of a text, by what there is to say of its name
+-- the word or symbol there
+abbrev pub word_at : List ℕ → Spot → List ℕ
+word_at text s = token_at text (offset_of text s)
+
+-- what is said of the first thing that is wrong with the program of a text: its place in the file, and of the word there by what there is
+-- to say of its name
 abbrev pub breach_diagnosis : Source → Breach → Remark → List ℕ
 breach_diagnosis s b r =
-    let at = offset_of s.bytes.items b.spot in
-    excerpt s.name.now s.bytes.items at ++ breach_sentence (token_at s.bytes.items at) b.cause r
+    excerpt s.name.now s.bytes.items (offset_of s.bytes.items (spot_as_it_stands s b.spot))
+    ++ breach_sentence (word_at (text_in s) b.spot) b.cause r

@@ -1,7 +1,10 @@
+pub mod Sources
+pub mod RefusedLines
 pub mod Places
 pub mod TextFaults
 pub mod Remarks
 pub mod Breaches
+pub mod SizeFaults
 pub mod Stops
 pub mod Met
 pub mod FaultTexts

@@ -6,6 +6,7 @@ use Rattle.pram_tokens.specs.declared.error.TextFault.TheVariants as fault
 use Rattle.pram_names.specs.declared.fault.Breach.{Breach}
 use Rattle.pram_trees.specs.Program.{ProgramTree}
 use Rattle.pram_trees.specs.Text.{IsTextOf}
+use Rattle.sized_texts.specs.declared.reason.Reason.{Reason}
 use Rattle.text_places.specs.Excerpts.{excerpt, line_excerpt}
 use Rattle.program_texts.specs.declared.from_text.Refusal.{Refusal}
 use Rattle.program_texts.specs.declared.from_text.Refusal.TheVariants as refusal
@@ -15,6 +16,8 @@ use Rattle.diagnoses.specs.declared.source.Source.{Source}
 use Rattle.diagnoses.specs.declared.about.About.{About}
 use Rattle.diagnoses.specs.declared.about.About.TheVariants as about
 use Rattle.diagnoses.specs.Remarks.{Remark, IsExpectation, IsRemark, Nothing}
+use Rattle.diagnoses.specs.Sources.{text_in}
+use Rattle.diagnoses.specs.SizeFaults.{size_fault}
 use Rattle.diagnoses.specs.TextFaults.{no_memory, text_diagnosis}
 use Rattle.diagnoses.specs.Breaches.{breach_diagnosis}
 
@@ -90,6 +93,13 @@ meant_line (about.Values values cells) = []
 abbrev pub of_code : ℕ → List ℕ → About → List ℕ
 of_code at word a = meant_line a ++ instruction_fault at word
 
+-- a text with sizes that has no expansion
+abbrev pub of_size : ℕ → Reason → About → List ℕ
+of_size at r about.Nothing = []
+of_size at r (about.Text s) = size_fault s at r
+of_size at r (about.Line s line) = []
+of_size at r (about.Values values cells) = []
+
 -- what is said behind the line, by what is known besides, and by what there is to say of a name or of a token
 abbrev pub stop_diagnosis : Stop → About → Remark → List ℕ
 stop_diagnosis (stop.Words text) a r = []
@@ -99,18 +109,19 @@ stop_diagnosis (stop.Refused refusal) a r = of_refusal refusal a r
 stop_diagnosis (stop.NotVerified at word) a r = of_code at word.now a
 stop_diagnosis (stop.BadListing at) a r = of_listing at a
 stop_diagnosis stop.WriteFailed a r = codes "standard output failed: what stands there is a beginning of the text\n"
+stop_diagnosis (stop.BadSize at reason) a r = of_size at reason a
 
 -- what there is to say of a name, of a program whose text is at hand; of anything else nothing
 abbrev pub IsRemarkIn : Breach → About → Remark → Type 0
 IsRemarkIn b about.Nothing r = r ≡ Nothing
-IsRemarkIn b (about.Text s) r = (tree : ProgramTree) → IsTextOf s.bytes.items tree → IsRemark s.bytes.items tree b r
+IsRemarkIn b (about.Text s) r = (tree : ProgramTree) → IsTextOf (text_in s) tree → IsRemark (text_in s) tree b r
 IsRemarkIn b (about.Line s line) r = r ≡ Nothing
 IsRemarkIn b (about.Values values cells) r = r ≡ Nothing
 
 -- and of a token with which no program goes on
 abbrev pub IsExpectationIn : ℕ → About → Remark → Type 0
 IsExpectationIn at about.Nothing r = r ≡ Nothing
-IsExpectationIn at (about.Text s) r = IsExpectation s.bytes.items at r
+IsExpectationIn at (about.Text s) r = IsExpectation (text_in s) at r
 IsExpectationIn at (about.Line s line) r = r ≡ Nothing
 IsExpectationIn at (about.Values values cells) r = r ≡ Nothing
 

@@ -11,6 +11,7 @@ use Rattle.diagnoses.specs.declared.source.Kind.TheVariants as kind
 use Rattle.diagnoses.specs.declared.source.Source.{Source}
 use Rattle.diagnoses.specs.Places.{quoted, token_at}
 use Rattle.diagnoses.specs.Remarks.{Remark, Nothing, Nearest, Declared, Expected}
+use Rattle.diagnoses.specs.Sources.{origin, text_in}
 
 abbrev pub not_ascii : ℕ → List ℕ
 not_ascii byte = codes "byte " ++ (decimal byte ++ codes " is no ASCII: a text has bytes from 0 to 127 alone, in comments too\n")
@@ -75,14 +76,14 @@ abbrev pub no_memory : List ℕ
 no_memory = codes "memory was refused: nothing is said of the text or the run, and with more memory it may go well\n"
 
 abbrev pub text_sentence : Source → TextFault → Remark → List ℕ
-text_sentence s (fault.NotAscii at) r = not_ascii (slice_index s.bytes.items at)
+text_sentence s (fault.NotAscii at) r = not_ascii (slice_index (text_in s) at)
 text_sentence s fault.TextTooLong r = too_long s.kind
-text_sentence s (fault.BadToken at) r = bad_token s.kind (slice_index s.bytes.items at)
-text_sentence s (fault.Syntax at) r = bad_syntax s.bytes.items at r
+text_sentence s (fault.BadToken at) r = bad_token s.kind (slice_index (text_in s) at)
+text_sentence s (fault.Syntax at) r = bad_syntax (text_in s) at r
 text_sentence s (fault.TooDeep at) r = too_deep
 text_sentence s fault.OutOfMemory r = no_memory
 
--- the place, if there is one, and the sentence
+-- the place in the file, if there is one, and the sentence
 abbrev pub text_place : TextFault → Option ℕ
 text_place (fault.NotAscii at) = Some at
 text_place fault.TextTooLong = None
@@ -93,7 +94,7 @@ text_place fault.OutOfMemory = None
 
 abbrev pub placed : Source → Option ℕ → List ℕ → List ℕ
 placed s None sentence = sentence
-placed s (Some at) sentence = excerpt s.name.now s.bytes.items at ++ sentence
+placed s (Some at) sentence = excerpt s.name.now s.bytes.items (origin s at) ++ sentence
 
 -- what is said of such a fault of a text, by what could stand at the place of E4
 abbrev pub text_diagnosis : Source → TextFault → Remark → List ℕ

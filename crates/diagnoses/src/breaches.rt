@@ -4,10 +4,12 @@ ghost use Rattle.std.specs.Prelude.{◌≡◌, ◌++◌, ◌<◌, ◌^◌};
 ghost use Rattle.text_out.specs.Out.{Writes};
 ghost use Rattle.diagnoses.specs.Remarks.{remark_is};
 ghost use Rattle.diagnoses.specs.Breaches as spec;
+ghost use Rattle.diagnoses.specs.Sources.{spot_as_it_stands};
 
 use crate::places::{token_at, write_quoted};
 use crate::remark::Remark;
 use crate::source::Source;
+use crate::standing::spot_as_it_stands;
 use itoa::Buffer;
 use pram_check::{Breach, Cause, Limit, Spot};
 use scope_names::Sort;
@@ -178,7 +180,21 @@ fn offset_of(text: &[u8], spot: Spot) -> usize
     }
 }
 
-/// Writes what is said of the first thing that is wrong with a program (E6 to E10): where, with the line and a caret, and a sentence on the
+// The word or symbol at a place.
+fn word_at(text: &[u8], spot: Spot) -> &[u8]
+    ensures { result.now ≡ spec.word_at text.now spot }
+{
+    token_at(text, offset_of(text, spot))
+}
+
+// The offset of a place in the file.
+fn offset_in(source: &Source<'_>, spot: Spot) -> usize
+    ensures { result ≡ spec.offset_of source.now.bytes.items (spot_as_it_stands source.now spot) }
+{
+    offset_of(source.bytes.as_slice(), spot_as_it_stands(source, spot))
+}
+
+/// Writes what is said of the first thing that is wrong with a program (E6 to E10): where in the file, with the line and a caret, and a sentence on the
 /// name there by what there is to say of it, or on the limit. The error is that the writer failed (E17).
 pub fn write_breach<W: Out>(
     out: &mut W,
@@ -189,8 +205,16 @@ pub fn write_breach<W: Out>(
     requires counted { (W.Out.state out.old).failures < 2 ^ 63 }
     ensures written { Writes (W.Out.state out.old) (W.Out.state out.new) (spec.breach_diagnosis source.now breach (remark_is remark.now)) result }
 {
-    let text = source.bytes.as_slice();
-    let at = offset_of(text, breach.spot);
-    write_excerpt(out, source.name.as_bytes(), text, at)?;
-    write_sentence(out, token_at(text, at), breach.cause, remark)
+    write_excerpt(
+        out,
+        source.name.as_bytes(),
+        source.bytes.as_slice(),
+        offset_in(source, breach.spot),
+    )?;
+    write_sentence(
+        out,
+        word_at(source.text(), breach.spot),
+        breach.cause,
+        remark,
+    )
 }

@@ -7,7 +7,9 @@ mod fault_text;
 mod met;
 mod places;
 mod remark;
+mod size_faults;
 mod source;
+mod standing;
 mod stops;
 mod text_faults;
 
@@ -17,5 +19,6 @@ pub use fault_text::{write_fault_sentence, write_run_fault};
 pub use met::who_met;
 pub use remark::{Remark, expected_at, remark_of};
 pub use source::{Kind, Source};
+pub use standing::{as_it_stands, refusal_as_it_stands, write_refused_line};
 pub use stops::write_stop_diagnosis;
 pub use text_faults::write_text_fault;

@@ -9,12 +9,14 @@ ghost use Rattle.diagnoses.specs.Stops as spec;
 use crate::about::About;
 use crate::breaches::write_breach;
 use crate::remark::{Remark, expected_at, remark_of};
+use crate::size_faults::write_size_fault;
 use crate::source::Source;
 use crate::text_faults::write_text_fault;
 use itoa::Buffer;
 use pram_check::Breach;
 use pram_trees::TextFault;
 use program_texts::{Refusal, Stop};
+use sized_texts::Reason;
 use std::alloc::Global;
 use text_out::{Out, WriteFault};
 use text_places::{write_excerpt, write_line_excerpt};
@@ -205,6 +207,24 @@ fn write_code<W: Out>(
     write_instruction_fault(out, at, word)
 }
 
+// A text with sizes that has no expansion.
+fn write_size<W: Out>(
+    out: &mut W,
+    at: u32,
+    reason: Reason,
+    about: &About<'_>,
+) -> Result<(), WriteFault>
+    requires counted { (W.Out.state out.old).failures < 2 ^ 63 }
+    ensures written { Writes (W.Out.state out.old) (W.Out.state out.new) (spec.of_size at reason about.now) result }
+{
+    match about {
+        About::Text(source) => write_size_fault(out, source, at, reason),
+        About::Nothing => out.write_all(b""),
+        About::Line { .. } => out.write_all(b""),
+        About::Values { .. } => out.write_all(b""),
+    }
+}
+
 // What is said, by what there is to say of a name or of a token.
 fn write_said<W: Out>(
     out: &mut W,
@@ -225,6 +245,7 @@ fn write_said<W: Out>(
         Stop::WriteFailed => {
             out.write_all(b"standard output failed: what stands there is a beginning of the text\n")
         }
+        Stop::BadSize(at, reason) => write_size(out, *at, *reason, about),
     }
 }
 
@@ -233,7 +254,7 @@ fn remark_in(alloc: Global, breach: Breach, about: &About<'_>) -> Remark
     ensures { spec.IsRemarkIn breach about.now (remark_is result) }
 {
     match about {
-        About::Text(source) => remark_of(alloc, source.bytes.as_slice(), breach),
+        About::Text(source) => remark_of(alloc, source.text(), breach),
         About::Nothing => Remark::Nothing,
         About::Line { .. } => Remark::Nothing,
         About::Values { .. } => Remark::Nothing,
@@ -245,7 +266,7 @@ fn expected_in(alloc: Global, at: u32, about: &About<'_>) -> Remark
     ensures { spec.IsExpectationIn at about.now (remark_is result) }
 {
     match about {
-        About::Text(source) => expected_at(alloc, source.bytes.as_slice(), at),
+        About::Text(source) => expected_at(alloc, source.text(), at),
         About::Nothing => Remark::Nothing,
         About::Line { .. } => Remark::Nothing,
         About::Values { .. } => Remark::Nothing,

@@ -159,7 +159,7 @@ fn write_sentence<W: Out>(
     ensures written { Writes (W.Out.state out.old) (W.Out.state out.new)
         (spec.text_sentence source.now fault (remark_is remark.now)) result }
 {
-    let text = source.bytes.as_slice();
+    let text = source.text();
     match fault {
         TextFault::NotAscii(at) => write_not_ascii(out, byte_at(text, at as usize)),
         TextFault::TextTooLong => out.write_all(too_long(source.kind)),
@@ -194,7 +194,7 @@ fn text_place(fault: TextFault) -> Option<u32>
     }
 }
 
-// The place and its line, and then the sentence.
+// The place in the file and its line, and then the sentence.
 fn write_placed<W: Out>(
     out: &mut W,
     source: &Source<'_>,
@@ -210,7 +210,7 @@ fn write_placed<W: Out>(
         out,
         source.name.as_bytes(),
         source.bytes.as_slice(),
-        at as usize,
+        source.origin(at) as usize,
     )?;
     write_sentence(out, source, fault, remark)
 }

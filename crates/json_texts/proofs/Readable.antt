@@ -110,6 +110,7 @@ small_stop source (stop.Refused r) =
 small_stop source (stop.NotVerified at reason) = (small_word 3 _, (small_word 3 _, (small_count 3 at, (small_word 3 _, tt))))
 small_stop source (stop.BadListing at) = (small_word 3 _, (small_word 3 _, small_place source (Some at)))
 small_stop source stop.WriteFailed = (small_word 3 _, (small_word 3 _, tt))
+small_stop source (stop.BadSize at r) = (small_word 3 _, (small_word 3 _, (small_word 3 _, small_place source (Some at))))
 
 pub readable_stop : (source : List ℕ) (why : Stop) → IsReadable (stop_facts source why)
 readable_stop source why = readable (stop_fields source why) (small_stop source why)

@@ -8,6 +8,8 @@ use Rattle.pram_names.specs.declared.fault.Cause.{Cause}
 use Rattle.pram_names.specs.declared.fault.Cause.TheVariants as cause
 use Rattle.pram_names.specs.declared.fault.Limit.{Limit}
 use Rattle.pram_names.specs.declared.fault.Limit.TheVariants as limit
+use Rattle.sized_texts.specs.declared.reason.Reason.{Reason}
+use Rattle.sized_texts.specs.Reasons.{reason_word}
 use Rattle.program_texts.specs.declared.from_text.Refusal.{Refusal}
 use Rattle.program_texts.specs.declared.from_text.Refusal.TheVariants as refusal
 use Rattle.program_texts.specs.declared.stop.Stop.{Stop}
@@ -66,6 +68,11 @@ unverified_fields at reason =
     (codes "refused", word (codes "E14")) ∷ (codes "name", word (codes "NotVerified")) ∷ (codes "instruction", count at)
     ∷ (codes "reason", word reason) ∷ []
 
+-- a text with sizes that has no expansion
+abbrev pub size_fields : List ℕ → ℕ → Reason → List Field
+size_fields source at r =
+    named (codes "E19") (codes "BadSize") ++ ((codes "reason", word (reason_word r)) ∷ place_fields source (Some at))
+
 -- why a call stops, where this text was refused
 abbrev pub stop_fields : List ℕ → Stop → List Field
 stop_fields source (stop.Words message) = about (codes "P1") (codes "message") message.bytes.items
@@ -75,6 +82,7 @@ stop_fields source (stop.Refused r) = reason_fields r ++ place_fields source (re
 stop_fields source (stop.NotVerified at reason) = unverified_fields at reason.now
 stop_fields source (stop.BadListing at) = named (codes "E15") (codes "BadListing") ++ place_fields source (Some at)
 stop_fields source stop.WriteFailed = named (codes "E17") (codes "WriteFailed")
+stop_fields source (stop.BadSize at r) = size_fields source at r
 
 abbrev pub stop_facts : List ℕ → Stop → Data
 stop_facts source why = object_of (stop_fields source why)

@@ -11,6 +11,7 @@ use json_lines::{Object, line_of};
 use pram_check::{Breach, Cause, Limit, Spot};
 use pram_trees::TextFault;
 use program_texts::{Refusal, Stop};
+use sized_texts::{Reason, reason_word};
 use std::alloc::{AllocError, Global};
 use text_places::place_of;
 
@@ -157,6 +158,14 @@ fn put_bad_listing(object: &mut Object, source: &[u8], at: u32) -> Result<(), Al
     put_offset(object, source, at)
 }
 
+fn put_bad_size(object: &mut Object, source: &[u8], at: u32, reason: Reason) -> Result<(), AllocError>
+    ensures { OnOk result (shown object.new ≡ with_fields (spec.size_fields source.now at reason) (shown object.old)) }
+{
+    put_named(object, "E19", "BadSize")?;
+    object.put_word("reason", reason_word(reason))?;
+    put_offset(object, source, at)
+}
+
 // A word of the command line, or a file, that was refused.
 fn put_about(object: &mut Object, number: &str, name: &str, word: &str) -> Result<(), AllocError>
     ensures { OnOk result (shown object.new ≡ with_fields (spec.about number.now name.now word.now) (shown object.old)) }
@@ -176,6 +185,7 @@ fn put_stop(object: &mut Object, source: &[u8], stop: &Stop<'_>) -> Result<(), A
         Stop::NotVerified(at, reason) => put_unverified(object, *at, reason),
         Stop::BadListing(at) => put_bad_listing(object, source, *at),
         Stop::WriteFailed => put_named(object, "E17", "WriteFailed"),
+        Stop::BadSize(at, reason) => put_bad_size(object, source, *at, *reason),
     }
 }
 

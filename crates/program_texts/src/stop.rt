@@ -3,7 +3,7 @@
 ghost use Rattle.std.specs.Prelude.{◌≡◌, ◌<◌, ◌^◌};
 ghost use Rattle.text_out.specs.Out.{Writes};
 ghost use Rattle.program_texts.specs.Stopped as stopped;
-ghost use Rattle.program_texts.specs.StoppedFields.{stop_text, unverified_line};
+ghost use Rattle.program_texts.specs.StoppedFields.{bad_size_line, stop_text, unverified_line};
 ghost use Rattle.program_texts.specs.declared.stop.Stop.TheVariants.{Refused, WriteFailed};
 ghost use Rattle.program_texts.specs.declared.from_text.Refusal.TheVariants.{OutOfMemory};
 
@@ -11,6 +11,7 @@ use crate::from_text::Refusal;
 use itoa::Buffer;
 use pram_check::{Breach, Cause, Limit, Spot};
 use pram_trees::TextFault;
+use sized_texts::{Reason, reason_word};
 use std::alloc::AllocError;
 use std::fmt;
 use text_out::{Out, WriteFault};
@@ -44,6 +45,9 @@ pub enum Stop<'a> {
     /// E17: standard output failed.
     #[error("E17 WriteFailed")]
     WriteFailed,
+    /// E19: a text with sizes that has no expansion, by the offset of what is wrong, and why.
+    #[error("E19 BadSize at {0} {1}")]
+    BadSize(u32, Reason),
 }
 
 impl<'a> From<Refusal> for Stop<'a> {
@@ -83,6 +87,7 @@ pub fn write_stop<W: Out>(out: &mut W, stop: &Stop<'_>) -> Result<(), WriteFault
         Stop::NotVerified(at, reason) => write_unverified(out, *at, reason),
         Stop::BadListing(at) => write_refused(out, "E15 BadListing", Some(*at)),
         Stop::WriteFailed => out.write_all(b"refused E17 WriteFailed\n"),
+        Stop::BadSize(at, reason) => write_bad_size(out, *at, *reason),
     }
 }
 
@@ -97,6 +102,21 @@ fn write_unverified<W: Out>(out: &mut W, at: u32, reason: &str) -> Result<(), Wr
         digits.format(at).as_bytes(),
         b" ",
         reason.as_bytes(),
+        b"\n",
+    ])
+}
+
+// `refused E19 BadSize at 12 unknown`.
+fn write_bad_size<W: Out>(out: &mut W, at: u32, reason: Reason) -> Result<(), WriteFault>
+    requires counted { (W.Out.state out.old).failures < 2 ^ 63 }
+    ensures written { Writes (W.Out.state out.old) (W.Out.state out.new) (bad_size_line at reason) result }
+{
+    let mut digits = Buffer::new();
+    out.write_parts(&[
+        b"refused E19 BadSize at ",
+        digits.format(at).as_bytes(),
+        b" ",
+        reason_word(reason).as_bytes(),
         b"\n",
     ])
 }

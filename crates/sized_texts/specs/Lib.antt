@@ -8,3 +8,5 @@ pub mod Faults
 pub mod SizeLines
 pub mod Expansion
 pub mod Grammar
+pub mod Reasons
+pub mod SizeWords

@@ -11,7 +11,7 @@ use thiserror::Error;
 #[derive(Debug, Drop, Error)]
 pub enum SizeFault {
     /// A size line or an expression is wrong there (E19).
-    #[error("E19 BadSize at {0}")]
+    #[error("E19 BadSize at {0} {1}")]
     BadSize(u32, Reason),
     /// The expansion has more than 1,048,576 bytes (E2).
     #[error("E2 TextTooLong")]

@@ -46,8 +46,8 @@ pub(crate) fn past_spaces(text: &[u8]) -> &[u8]
     rest
 }
 
-// How many bytes at the front are letters, digits and `_`.
-fn word_len(text: &[u8]) -> usize
+/// How many bytes at the front are letters, digits and `_`.
+pub(crate) fn word_len(text: &[u8]) -> usize
     ensures value { result ≡ prefix_len is_word text.now }
     ensures within { result ≤ length text.now }
 {

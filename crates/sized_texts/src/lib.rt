@@ -17,6 +17,7 @@ mod rows;
 mod size;
 pub mod size_laws;
 mod size_line;
+mod size_word;
 mod stop;
 
 pub use atom::Atom;
@@ -25,6 +26,7 @@ pub use expansion::expand;
 pub use fault::SizeFault;
 pub use line::Line;
 pub use operation::{Function, Operator, applied, called};
-pub use reason::Reason;
+pub use reason::{Reason, reason_word};
 pub use size::Size;
+pub use size_word::read_size;
 pub use stop::Wrong;

@@ -1,5 +1,10 @@
 //! What is wrong with a size line or with what stands between braces.
 
+ghost use Rattle.std.specs.Prelude.{◌≡◌};
+ghost use Rattle.sized_texts.specs.Reasons as spec;
+
+use std::fmt;
+
 /// Why a text with sizes is refused (E19).
 #[derive(Clone, Copy, Debug, PartialEq, Eq)]
 pub enum Reason {
@@ -23,4 +28,28 @@ pub enum Reason {
     LogOfZero,
     /// The 65th level of an expression opens here.
     TooDeep,
+}
+
+/// The word for a reason, as it stands behind the place of a refusal: `unknown`.
+pub fn reason_word(reason: Reason) -> &'static str
+    ensures { result.now ≡ spec.reason_word reason }
+{
+    match reason {
+        Reason::BadLine => "line",
+        Reason::Keyword => "keyword",
+        Reason::Repeated => "repeated",
+        Reason::UnknownName => "unknown",
+        Reason::Unexpected => "token",
+        Reason::NotClosed => "brace",
+        Reason::OutOfRange => "value",
+        Reason::ZeroDivisor => "divisor",
+        Reason::LogOfZero => "log",
+        Reason::TooDeep => "depth",
+    }
+}
+
+impl fmt::Display for Reason {
+    fn fmt<W: fmt::Write>(&self, f: &mut fmt::Formatter<W>) -> fmt::Result {
+        write!(f, "{}", reason_word(*self))
+    }
 }
