@@ -22,7 +22,7 @@ _pramc() {
             exec) words="--bound --input --workers --map --reserve --explain --help" ;;
             trace) words="--bound --input --workers --map --reserve --svg --format --explain --help" ;;
             explain)
-                words="$(echo E{1..18}) P1 P2 overflow divide-by-zero out-of-range too-wide read-conflict write-conflict --help"
+                words="$(echo E{1..19}) P1 P2 overflow divide-by-zero out-of-range too-wide read-conflict write-conflict --help"
                 ;;
             *) return ;;
             esac

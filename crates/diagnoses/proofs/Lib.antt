@@ -1,1 +1,2 @@
 pub mod BreachSentences
+pub mod FaultSentences

@@ -2,7 +2,7 @@
 use Rattle.std.specs.Prelude.{◌≡◌, ℕ, List, codes}
 use Rattle.explanations.specs.declared.subject.Subject.{Subject}
 use Rattle.explanations.specs.declared.subject.Subject.TheVariants as subject
-use Rattle.explanations.specs.declared.texts.TheConstants.{NOT_ASCII, TEXT_TOO_LONG, BAD_TOKEN, SYNTAX, TOO_DEEP}
+use Rattle.explanations.specs.declared.texts.TheConstants.{NOT_ASCII, TEXT_TOO_LONG, BAD_TOKEN, SYNTAX, TOO_DEEP, BAD_SIZE}
 use Rattle.explanations.specs.declared.names.TheConstants.{UNKNOWN_NAME, DOUBLE_NAME, WRONG_KIND, ASSIGNED_LOOP_VARIABLE, LIMIT}
 use Rattle.explanations.specs.declared.runs.TheConstants.{INPUT_TOO_LONG, BAD_MAP, BAD_WORKERS, NOT_VERIFIED, BAD_LISTING}
 use Rattle.explanations.specs.declared.runs.TheConstants.{OUT_OF_MEMORY, WRITE_FAILED, OUT_OF_RESERVE, COMMAND_LINE, UNREADABLE_FILE}
@@ -28,6 +28,7 @@ subject_word subject.BadListing = codes "E15"
 subject_word subject.OutOfMemory = codes "E16"
 subject_word subject.WriteFailed = codes "E17"
 subject_word subject.OutOfReserve = codes "E18"
+subject_word subject.BadSize = codes "E19"
 subject_word subject.CommandLine = codes "P1"
 subject_word subject.UnreadableFile = codes "P2"
 subject_word subject.Overflow = codes "overflow"
@@ -61,6 +62,7 @@ explanation subject.BadListing = BAD_LISTING
 explanation subject.OutOfMemory = OUT_OF_MEMORY
 explanation subject.WriteFailed = WRITE_FAILED
 explanation subject.OutOfReserve = OUT_OF_RESERVE
+explanation subject.BadSize = BAD_SIZE
 explanation subject.CommandLine = COMMAND_LINE
 explanation subject.UnreadableFile = UNREADABLE_FILE
 explanation subject.Overflow = OVERFLOW

@@ -13,7 +13,7 @@ use crate::runs::{
     OUT_OF_RESERVE, UNREADABLE_FILE, WRITE_FAILED,
 };
 use crate::subject::Subject;
-use crate::texts::{BAD_TOKEN, NOT_ASCII, SYNTAX, TEXT_TOO_LONG, TOO_DEEP};
+use crate::texts::{BAD_SIZE, BAD_TOKEN, NOT_ASCII, SYNTAX, TEXT_TOO_LONG, TOO_DEEP};
 use text_out::{Out, WriteFault};
 
 fn explanation_of(subject: Subject) -> &'static [u8]
@@ -38,6 +38,7 @@ fn explanation_of(subject: Subject) -> &'static [u8]
         Subject::OutOfMemory => &OUT_OF_MEMORY,
         Subject::WriteFailed => &WRITE_FAILED,
         Subject::OutOfReserve => &OUT_OF_RESERVE,
+        Subject::BadSize => &BAD_SIZE,
         Subject::CommandLine => &COMMAND_LINE,
         Subject::UnreadableFile => &UNREADABLE_FILE,
         Subject::Overflow => &OVERFLOW,

@@ -42,6 +42,8 @@ pub enum Subject {
     WriteFailed,
     /// `E18`.
     OutOfReserve,
+    /// `E19`.
+    BadSize,
     /// `P1`.
     CommandLine,
     /// `P2`.
@@ -60,7 +62,7 @@ pub enum Subject {
     WriteConflict,
 }
 
-const SUBJECTS: [Subject; 26] = [
+const SUBJECTS: [Subject; 27] = [
     Subject::NotAscii,
     Subject::TextTooLong,
     Subject::BadToken,
@@ -79,6 +81,7 @@ const SUBJECTS: [Subject; 26] = [
     Subject::OutOfMemory,
     Subject::WriteFailed,
     Subject::OutOfReserve,
+    Subject::BadSize,
     Subject::CommandLine,
     Subject::UnreadableFile,
     Subject::Overflow,
@@ -112,6 +115,7 @@ fn word_of(subject: Subject) -> &'static str
         Subject::OutOfMemory => "E16",
         Subject::WriteFailed => "E17",
         Subject::OutOfReserve => "E18",
+        Subject::BadSize => "E19",
         Subject::CommandLine => "P1",
         Subject::UnreadableFile => "P2",
         Subject::Overflow => "overflow",
@@ -123,7 +127,7 @@ fn word_of(subject: Subject) -> &'static str
     }
 }
 
-/// The subject that a word names: the number of a refusal, `E1` to `E18`, `P1` or `P2`, or the name of a fault, as `read-conflict`.
+/// The subject that a word names: the number of a refusal, `E1` to `E19`, `P1` or `P2`, or the name of a fault, as `read-conflict`.
 /// `None`: it names none.
 pub fn subject_of(word: &str) -> Option<Subject>
     ensures named { IfSome result (λ subject. word.now ≡ subject_word subject) }

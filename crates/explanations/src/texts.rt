@@ -106,3 +106,30 @@ begin
   print (((((((((((((((((((((((((((((((((x)))))))))))))))))))))))))))))))));
 end
 ";
+
+pub(crate) const BAD_SIZE: [u8; 845] = *b"E19 BadSize: a size line or an expression of sizes that is wrong.
+
+A text with a line like `# size n = 8` before its first token is expanded before it is read: `{2*n}` outside
+of comments stands for the number that it comes to. The place is that of the first thing that is wrong, which
+of a size line is its `#`. Behind it stands why: line (the form of a size line), keyword, repeated (a second
+line of one name), unknown (a name of no size), token (what can't stand there), brace (not closed in its
+line), value (below 0 or above 9223372036854775807), divisor (0), log (of 0) or depth (the 65th level).
+
+This has it:
+
+# size n = 8
+rule crew; procs {n};
+shared a[1..{m}];
+begin
+  for 1 <= i <= {n} pardo a[i] := i; end
+end
+
+This is mended:
+
+# size n = 8
+rule crew; procs {n};
+shared a[1..{n}];
+begin
+  for 1 <= i <= {n} pardo a[i] := i; end
+end
+";

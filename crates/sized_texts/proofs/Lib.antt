@@ -7,3 +7,4 @@ pub mod Heads
 pub mod Exits
 pub mod NoSizes
 pub mod Sound
+pub mod SizeWords

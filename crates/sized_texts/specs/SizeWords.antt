@@ -1,11 +1,11 @@
 -- Sizes as words of a command line: `NAME=VALUE`.
 use Rattle.std.specs.Prelude.{◌≡◌, ℕ, ◌<◌, ◌==◌, true, if◌then◌else◌, List, [], ◌∷◌, ◌++◌, length, take, drop}
-use Rattle.std.specs.Prelude.{Option, Some, None, Result, Ok, Err}
+use Rattle.std.specs.Prelude.{Option, Some, None}
 use Rattle.std.specs.List.{prefix_len}
+use Rattle.std.specs.Result.{result_ok}
 use Rattle.pram_model.specs.Names.{are_words, is_word}
 use Rattle.pram_tokens.specs.Input.{is_value}
 use Rattle.pram_tokens.specs.Lexemes.{largest, value_after}
-use Rattle.sized_texts.specs.declared.reason.Reason.{Reason}
 use Rattle.sized_texts.specs.declared.size.Size.{Size}
 use Rattle.sized_texts.specs.Front.{number_of}
 
@@ -24,15 +24,10 @@ abbrev pub IsSizeOf : List ℕ → Option Size → Type 0
 IsSizeOf word (Some size) = IsSizeWord word size
 IsSizeOf word None = (size : Size) → ¬ (IsSizeWord word size)
 
--- a number, if there is one
-abbrev pub found : Result ℕ Reason → Option ℕ
-found (Ok n) = Some n
-found (Err r) = None
-
 -- the number of a text that is digits alone, one at least
 abbrev pub digits_value : List ℕ → Option ℕ
 digits_value [] = None
-digits_value (b ∷ rest) = found (number_of (b ∷ rest))
+digits_value (b ∷ rest) = result_ok (number_of (b ∷ rest))
 
 -- the number behind the `=` that a text begins with
 abbrev pub equals_value : List ℕ → Option ℕ
