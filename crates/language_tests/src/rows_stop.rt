@@ -3,6 +3,7 @@
 use pram_check::{Breach, Cause, CheckFault, Limit, Spot};
 use pram_syntax::{Buffer, OutFailed, TextFault, WriteFault};
 use pramc::{Refusal, Stop, write_stop};
+use sized_texts::Reason;
 use std::alloc::{AllocError, Global};
 use std::test::Fail;
 
@@ -91,6 +92,10 @@ fn any_other_stop_is_written_by_its_text(rt: HostRuntime) -> Result<(), Fail> {
         (
             Stop::Refused(Refusal::OutOfReserve),
             "refused E18 OutOfReserve\n",
+        ),
+        (
+            Stop::BadSize(48, Reason::UnknownName),
+            "refused E19 BadSize at 48 unknown\n",
         ),
         (Stop::Number("1x"), "refused P1 1x\n"),
         (Stop::Unreadable("nowhere"), "refused P2 nowhere\n"),
