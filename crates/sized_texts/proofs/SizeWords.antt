@@ -1,6 +1,6 @@
 -- A word is read as a size exactly where it is that size's word.
 use Rattle.std.proofs.Common.{◌≡◌, ℕ, suc, ◌+◌, ◌<◌, ◌==◌, Bool, true, false, cond, ◌&&◌, List, [], ◌∷◌, ◌++◌, length, take}
-use Rattle.std.proofs.Common.{Some, None, Ok, Err, refl, sym, ap, ◌∙◌, arith}
+use Rattle.std.proofs.Common.{Option, Some, None, Ok, Err, refl, sym, ap, ◌∙◌, subst, arith}
 use Rattle.std.specs.Prelude.{if◌then◌else◌, nat_le}
 use Rattle.std.specs.List.{prefix_len}
 use Rattle.std.specs.Result.{result_ok}
@@ -107,3 +107,21 @@ is_read word size w =
     ap rest_of w.parts ∙ drop_at size.name behind (prefix_len is_word (size.name ++ behind)) end in
     ap (λ n. value_by n (rest_of word)) name ∙ ap (value_by size.name) rest ∙ value_is size.name behind w.named
     ∙ digits_are w.digits w.number ∙ ap Some (sym w.value)
+
+-- ---- a word by its parts
+
+module _ (word text name rest : List ℕ) (found : Option ℕ) (same : text ≡ word) (named : name ≡ name_of text) (rested : rest ≡ rest_of text)
+    (is : found ≡ value_by name rest) where
+  of_word : found ≡ value_by (name_of word) (rest_of word)
+  of_word =
+      is ∙ ap (λ n. value_by n rest) (named ∙ ap name_of same) ∙ ap (value_by (name_of word)) (rested ∙ ap rest_of same)
+
+  pub word_read : (v : ℕ) (held : List ℕ) → found ≡ Some v → held ≡ name → IsSizeWord word (record { name = held; value = v })
+  word_read v held some kept =
+      subst (λ n. IsSizeWord word (record { name = n; value = v })) (sym (kept ∙ (named ∙ ap name_of same)))
+      (is_size_word word v (sym of_word ∙ some))
+
+  pub word_not_read : found ≡ None → (size : Size) → IsSizeWord word size → ⊥
+  word_not_read none size w =
+      let some : found ≡ Some size.value = of_word ∙ is_read word size w in
+      absurd (cc)

@@ -24,7 +24,13 @@ fn equals_value(text: &[u8]) -> Option<u64>
 {
     match text {
         [] => None,
-        [b, digits @ ..] => { if *b == b'=' { digits_value(digits) } else { None } }
+        [b, digits @ ..] => {
+            if *b == b'=' {
+                digits_value(digits)
+            } else {
+                None
+            }
+        }
     }
 }
 
