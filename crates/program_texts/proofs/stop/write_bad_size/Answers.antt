@@ -1,7 +1,6 @@
 use Rattle.std.proofs.Common.{ℕ, List, ◌++◌, ◌∙◌, subst}
 use Rattle.std.specs.Prelude.{codes, decimal}
 use Rattle.text_out.specs.Out.{Writes}
-use Rattle.sized_texts.specs.Reasons.{reason_word}
 use Rattle.program_texts.proofs.stop.write_bad_size.Goals as goal
 
 -- the parts are the number and the word that are written
