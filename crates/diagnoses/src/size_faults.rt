@@ -30,7 +30,8 @@ fn size_sentence(reason: Reason) -> &'static [u8]
         Reason::OutOfRange => b"this comes to a number below 0 or above 9223372036854775807\n",
         Reason::ZeroDivisor => b"here a number is divided by 0\n",
         Reason::LogOfZero => b"0 has no logarithm\n",
-        Reason::TooDeep => b"this is one level too many: expressions of sizes nest at most 64 deep\n",
+        Reason::TooDeep =>
+            b"this is one level too many: expressions of sizes nest at most 64 deep\n",
     }
 }
 
@@ -39,7 +40,9 @@ fn write_unknown_size<W: Out>(out: &mut W, word: &[u8]) -> Result<(), WriteFault
     ensures written { Writes (W.Out.state out.old) (W.Out.state out.new) (spec.unknown_size word.now) result }
 {
     write_quoted(out, word)?;
-    out.write_all(b" is no size: no line \"# size NAME = VALUE\" before the program has this name\n")
+    out.write_all(
+        b" is no size: no line \"# size NAME = VALUE\" before the program has this name\n",
+    )
 }
 
 // Why, where that word stands.
