@@ -158,7 +158,12 @@ fn put_bad_listing(object: &mut Object, source: &[u8], at: u32) -> Result<(), Al
     put_offset(object, source, at)
 }
 
-fn put_bad_size(object: &mut Object, source: &[u8], at: u32, reason: Reason) -> Result<(), AllocError>
+fn put_bad_size(
+    object: &mut Object,
+    source: &[u8],
+    at: u32,
+    reason: Reason,
+) -> Result<(), AllocError>
     ensures { OnOk result (shown object.new ≡ with_fields (spec.size_fields source.now at reason) (shown object.old)) }
 {
     put_named(object, "E19", "BadSize")?;
