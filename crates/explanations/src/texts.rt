@@ -107,7 +107,8 @@ begin
 end
 ";
 
-pub(crate) const BAD_SIZE: [u8; 845] = *b"E19 BadSize: a size line or an expression of sizes that is wrong.
+pub(crate) const BAD_SIZE: [u8; 845] =
+    *b"E19 BadSize: a size line or an expression of sizes that is wrong.
 
 A text with a line like `# size n = 8` before its first token is expanded before it is read: `{2*n}` outside
 of comments stands for the number that it comes to. The place is that of the first thing that is wrong, which
