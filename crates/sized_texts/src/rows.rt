@@ -4,6 +4,7 @@ use crate::expansion::expand;
 use crate::fault::SizeFault;
 use crate::reason::Reason;
 use crate::size::Size;
+use crate::size_word::read_size;
 use pram_tokens::LONGEST;
 use sqlite_items::Items;
 use std::alloc::{AllocError, Global};
@@ -60,6 +61,19 @@ const REFUSED: [(&str, u32, Reason); 17] = [
     ("# size n = 8 9", 0, Reason::BadLine),
 ];
 
+// Words of a command line, and the sizes that they are.
+const WORDS: [(&str, Option<(&str, u64)>); 9] = [
+    ("n=1024", Some(("n", 1024))),
+    ("1_a=07", Some(("1_a", 7))),
+    ("n=9223372036854775807", Some(("n", 9223372036854775807))),
+    ("n=9223372036854775808", None),
+    ("n", None),
+    ("n=", None),
+    ("=8", None),
+    ("n=8 ", None),
+    ("n =8", None),
+];
+
 // Whether a text expands to that one.
 fn comes_to(alloc: Global, text: &[u8], given: &[Size], wanted: &[u8]) -> bool {
     if text.len() > LONGEST {
@@ -96,6 +110,17 @@ fn takes_given(alloc: Global) -> Result<bool, AllocError> {
     ))
 }
 
+// Whether a word is that size, or none.
+fn is_read(alloc: Global, word: &str, wanted: &Option<(&str, u64)>) -> bool {
+    match (read_size(alloc, word), wanted) {
+        (Ok(Some(size)), Some((name, value))) => {
+            size.name.as_slice() == name.as_bytes() && size.value == *value
+        }
+        (Ok(None), None) => true,
+        _ => false,
+    }
+}
+
 #[test]
 fn texts_expand(rt: HostRuntime) {
     for (text, wanted) in &EXPANDED {
@@ -113,4 +138,11 @@ fn texts_are_refused(rt: HostRuntime) {
 #[test]
 fn given_numbers_are_taken(rt: HostRuntime) {
     assert_eq!(rt; takes_given(rt.alloc()).ok(), Some(true));
+}
+
+#[test]
+fn words_are_read(rt: HostRuntime) {
+    for (word, wanted) in &WORDS {
+        assert!(rt; is_read(rt.alloc(), word, wanted));
+    }
 }
