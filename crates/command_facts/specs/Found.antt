@@ -33,6 +33,11 @@ use Rattle.command_facts.specs.declared.found.Found.TheVariants as found
 use Rattle.command_facts.specs.declared.found.FoundCode.{FoundCode}
 use Rattle.command_facts.specs.declared.found.FoundRun.{FoundRun}
 use Rattle.command_facts.specs.declared.loaded.Loaded.{Loaded}
+use Rattle.diagnoses.specs.Sources.{text_in}
+use Rattle.sized_texts.specs.Pieces.{Expansion}
+use Rattle.command_requests.specs.declared.request.ProgramFile.{ProgramFile}
+use Rattle.command_facts.specs.Expanded.{IsExpansionIn, IsTextIn}
+use Rattle.command_facts.specs.Given.{size_words}
 use Rattle.command_facts.specs.Held.{IsInputIn, IsListingIn}
 
 -- ---- costs
@@ -60,9 +65,9 @@ IsCostOf program input n schedule c =
 
 -- ---- files
 
--- a program with its text, which is all that the file holds
-abbrev pub IsLoaded : (Option (List ℕ) → Type 0) → Loaded → Type 0
-IsLoaded holds l = holds (Some l.source.bytes.items) × IsProgramOf l.source.bytes.items l.program
+-- a program with its text, which is all that the file holds, and with what that comes to by the sizes of the words
+abbrev pub IsLoaded : (Option (List ℕ) → Type 0) → ProgramFile → Loaded → Type 0
+IsLoaded holds file l = IsTextIn holds (size_words file) l.source × IsProgramOf (text_in l.source) l.program
 
 -- the values of a call's input: those of all that the named file holds, and none where none is named
 abbrev pub IsInputFor : (List ℕ → Option (List ℕ) → Type 0) → RunWords → List ℤ → Type 0
@@ -83,20 +88,23 @@ AreFactsOf verb.Meaning program input words v facts.Nothing = Unit {0}
 AreFactsOf verb.Check program input words v facts.Nothing = Unit {0}
 AreFactsOf verb.Plan program input words v facts.Nothing = Unit {0}
 AreFactsOf verb.Rules program input words v facts.Nothing = Unit {0}
+AreFactsOf verb.Expand program input words v facts.Nothing = Unit {0}
 AreFactsOf _ program input words v _ = ⊥
 
 -- the outcome of the file's program on the call's input, within its bound, and what is found beside it
-pub record IsRunFound (holds : List ℕ → Option (List ℕ) → Type 0) (verb : Verb) (file : List ℕ) (words : RunWords) (r : FoundRun) : Type 0 where
-  pub loaded : IsLoaded (holds file) r.loaded
+pub record IsRunFound (holds : List ℕ → Option (List ℕ) → Type 0) (verb : Verb) (file : ProgramFile) (words : RunWords) (r : FoundRun)
+    : Type 0 where
+  pub loaded : IsLoaded (holds file.name.now) file r.loaded
   pub given : IsInputFor holds words r.input.items
   pub asked : r.words ≡ words
   pub meaning : IsMeaningOf r.loaded.program r.input.items words.options.bound (verdict_of r.outcome)
   pub facts : AreFactsOf verb r.loaded.program r.input.items words (verdict_of r.outcome) r.facts
 
 -- how the file's program comes out under each rule, on the call's input within its bound
-pub record IsComparisonFound (holds : List ℕ → Option (List ℕ) → Type 0) (file : List ℕ) (words : RunWords) (c : Comparison) : Type 0 where
+pub record IsComparisonFound (holds : List ℕ → Option (List ℕ) → Type 0) (file : ProgramFile) (words : RunWords) (c : Comparison)
+    : Type 0 where
   pub loaded : Loaded
-  pub is_loaded : IsLoaded (holds file) loaded
+  pub is_loaded : IsLoaded (holds file.name.now) file loaded
   pub input : List ℤ
   pub given : IsInputFor holds words input
   pub declared : c.layout ≡ loaded.program.layout
@@ -113,10 +121,12 @@ pub record IsCodeFound (holds : List ℕ → Option (List ℕ) → Type 0) (file
 
 -- ---- calls
 
--- What a call over a program's file finds. Its code is compiled from all that the file holds.
-abbrev pub FindsOf : (List ℕ → Option (List ℕ) → Type 0) → Verb → List ℕ → RunWords → Found → Type 0
-FindsOf holds verb.Check file words (found.Accepted l) = IsLoaded (holds file) l
-FindsOf holds verb.Plan file words (found.Planned code) = (text : List ℕ) × holds file (Some text) × IsCompiledFrom text code
+-- What a call over a program's file finds. Its code is compiled from what all that the file holds comes to by the sizes of the words.
+abbrev pub FindsOf : (List ℕ → Option (List ℕ) → Type 0) → Verb → ProgramFile → RunWords → Found → Type 0
+FindsOf holds verb.Check file words (found.Accepted l) = IsLoaded (holds file.name.now) file l
+FindsOf holds verb.Expand file words (found.Expanded s) = IsTextIn (holds file.name.now) (size_words file) s
+FindsOf holds verb.Plan file words (found.Planned code) =
+    (e : Expansion) × IsExpansionIn (holds file.name.now) (size_words file) e × IsCompiledFrom e.text code
 FindsOf holds verb.Rules file words (found.Compared c) = IsComparisonFound holds file words c
 FindsOf holds verb.Meaning file words (found.Run r) = IsRunFound holds verb.Meaning file words r
 FindsOf holds verb.Cost file words (found.Run r) = IsRunFound holds verb.Cost file words r
@@ -129,7 +139,7 @@ FindsOf holds _ file words _ = ⊥
 abbrev pub Finds : (List ℕ → Option (List ℕ) → Type 0) → Request → Found → Type 0
 Finds holds request.Version found.Version = Unit {0}
 Finds holds (request.Explanation subject) (found.Explanation told) = told ≡ subject
-Finds holds (request.Program verb file words) f = FindsOf holds verb file.now words f
+Finds holds (request.Program verb file words) f = FindsOf holds verb file words f
 Finds holds (request.Listing file words) (found.Executed c) = IsCodeFound holds file.now words c
 Finds holds _ _ = ⊥
 

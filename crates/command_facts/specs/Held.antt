@@ -1,5 +1,5 @@
 -- What the files of a call hold, and which file a refusal speaks of.
-use Rattle.std.specs.Prelude.{◌≡◌, ℕ, ℤ, List, Option, Some, None, Err}
+use Rattle.std.specs.Prelude.{◌≡◌, ◌⊎◌, ℕ, ℤ, List, Option, Some, None, Err}
 use Rattle.pram_tokens.specs.Input.{IsInputOf}
 use Rattle.pram_tokens.specs.Plain.{IsPlain}
 use Rattle.pram_tokens.specs.Scanning.{longest}
@@ -15,6 +15,10 @@ use Rattle.program_texts.specs.declared.stop.Stop.TheVariants as stop
 use Rattle.diagnoses.specs.declared.about.About.{About}
 use Rattle.diagnoses.specs.declared.about.About.TheVariants as about
 use Rattle.command_facts.specs.declared.halted.Halted.{Halted}
+use Rattle.diagnoses.specs.Sources.{text_in}
+use Rattle.command_requests.specs.declared.request.ProgramFile.{ProgramFile}
+use Rattle.command_facts.specs.Expanded.{HasNoExpansion, IsTextIn}
+use Rattle.command_facts.specs.Given.{IsOfSizes, size_words}
 use Rattle.command_facts.specs.Listings.{IsOfListing, IsUnverifiedText}
 
 -- the file holds an input of these values
@@ -31,18 +35,31 @@ IsUnread holds name (stop.Unreadable word) = (word.now ≡ name) × holds None
 IsUnread holds name (stop.Refused refusal.OutOfMemory) = Unit {0}
 IsUnread holds name _ = ⊥
 
--- A call stops at a file: it wasn't read; or what it holds, as far as it was read, has what is told.
+-- A call stops at a file that stands for itself: it wasn't read; or what it holds, as far as it was read, has what is told.
 abbrev pub IsAtFile : (Option (List ℕ) → Type 0) → List ℕ → (most : ℕ) → (Stop → List ℕ → Type 0) → Stop → About → Type 0
 IsAtFile holds name most Has why about.Nothing = IsUnread holds name why
-IsAtFile holds name most Has why (about.Text s) = IsReadFrom holds most s.bytes.items × Has why s.bytes.items
+IsAtFile holds name most Has why (about.Text s) = IsReadFrom holds most s.bytes.items × (s.expansion ≡ None) × Has why s.bytes.items
 IsAtFile holds name most Has (stop.NotVerified at word) (about.Line s line) =
-    IsReadFrom holds most s.bytes.items × IsUnverifiedText at word.now s.bytes.items line
+    IsReadFrom holds most s.bytes.items × (s.expansion ≡ None) × IsUnverifiedText at word.now s.bytes.items line
 IsAtFile holds name most Has why _ = ⊥
+
+-- A call stops at the text of a program: a word gives no size; or the file wasn't read; or what it holds, as far as it was read, has no
+-- expansion by the sizes of the words.
+abbrev pub IsAtText : (Option (List ℕ) → Type 0) → ProgramFile → Stop → About → Type 0
+IsAtText holds file why about.Nothing = IsOfSizes (size_words file) why ⊎ IsUnread holds file.name.now why
+IsAtText holds file why (about.Text s) =
+    IsReadFrom holds longest s.bytes.items × (s.expansion ≡ None) × HasNoExpansion (size_words file) s.bytes.items why
+IsAtText holds file why _ = ⊥
 
 -- the text of a program is refused for that
 abbrev pub IsOfProgram : Stop → List ℕ → Type 0
 IsOfProgram (stop.Refused r) text = IsNoProgram {X = Checked} text (Err r)
 IsOfProgram _ text = ⊥
+
+-- what the text of a file comes to is refused for that
+abbrev pub IsAtProgram : (Option (List ℕ) → Type 0) → ProgramFile → Stop → About → Type 0
+IsAtProgram holds file why (about.Text s) = IsTextIn holds (size_words file) s × IsOfProgram why (text_in s)
+IsAtProgram holds file why _ = ⊥
 
 -- the text of an input is
 abbrev pub IsOfInput : Stop → List ℕ → Type 0
@@ -53,13 +70,16 @@ IsOfInput _ text = ⊥
 -- the code of a listing is refused for the line that is told, or for want of memory
 abbrev pub IsOfCodeIn : List ℕ → Stop → About → Type 0
 IsOfCodeIn text (stop.NotVerified at word) (about.Line s line) =
-    (s.bytes.items ≡ text) × IsUnverifiedText at word.now s.bytes.items line
+    (s.bytes.items ≡ text) × (s.expansion ≡ None) × IsUnverifiedText at word.now s.bytes.items line
 IsOfCodeIn text (stop.Refused refusal.OutOfMemory) about.Nothing = Unit {0}
 IsOfCodeIn text _ _ = ⊥
 
--- the call stops at the file of a program, of an input, of a listing
-abbrev pub StopsAtProgram : (Option (List ℕ) → Type 0) → List ℕ → Halted → Type 0
-StopsAtProgram holds name h = IsAtFile holds name longest IsOfProgram h.stop h.about
+-- the call stops at the text of a program; there, or at what it comes to; at the file of an input, of a listing
+abbrev pub StopsAtText : (Option (List ℕ) → Type 0) → ProgramFile → Halted → Type 0
+StopsAtText holds file h = IsAtText holds file h.stop h.about
+
+abbrev pub StopsAtProgram : (Option (List ℕ) → Type 0) → ProgramFile → Halted → Type 0
+StopsAtProgram holds file h = StopsAtText holds file h ⊎ IsAtProgram holds file h.stop h.about
 
 abbrev pub StopsAtInput : (Option (List ℕ) → Type 0) → List ℕ → Halted → Type 0
 StopsAtInput holds name h = IsAtFile holds name longest IsOfInput h.stop h.about

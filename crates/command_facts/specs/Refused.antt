@@ -20,7 +20,11 @@ use Rattle.command_requests.specs.declared.request.Verb.{Verb}
 use Rattle.command_requests.specs.declared.request.Verb.TheVariants as verb
 use Rattle.command_facts.specs.declared.halted.Halted.{Halted}
 use Rattle.command_facts.specs.Found.{IsInputFor}
-use Rattle.command_facts.specs.Held.{IsListingIn, StopsAtInput, StopsAtListing, StopsAtProgram}
+use Rattle.sized_texts.specs.Pieces.{Expansion}
+use Rattle.command_requests.specs.declared.request.ProgramFile.{ProgramFile}
+use Rattle.command_facts.specs.Expanded.{IsExpansionIn}
+use Rattle.command_facts.specs.Given.{size_words}
+use Rattle.command_facts.specs.Held.{IsListingIn, StopsAtInput, StopsAtListing, StopsAtProgram, StopsAtText}
 
 -- ---- what is told of a run that is refused
 
@@ -42,11 +46,11 @@ IsRunRefusedBy verb.Run program input words r = IsProgramRefusedWith program inp
 IsRunRefusedBy verb.Trace program input words r = IsProgramRefusedWith program input words.options words.reserve r
 IsRunRefusedBy _ program input words r = IsMeaningRefused program input r
 
--- the program is that of all that its file holds
-pub record IsProgramIn (holds : Option (List ℕ) → Type 0) (program : Checked) : Type 0 where
-  pub text : List ℕ
-  pub held : holds (Some text)
-  pub is_program : IsProgramOf text program
+-- the program is that of what all that its file holds comes to by the sizes of the words
+pub record IsProgramIn (holds : List ℕ → Option (List ℕ) → Type 0) (file : ProgramFile) (program : Checked) : Type 0 where
+  pub expansion : Expansion
+  pub is_expansion : IsExpansionIn (holds file.name.now) (size_words file) expansion
+  pub is_program : IsProgramOf expansion.text program
 
 -- the run of a program on an input is refused for that
 abbrev pub IsRefusedRun : Verb → Checked → List ℤ → RunWords → Stop → About → Type 0
@@ -61,9 +65,10 @@ IsRefusedCodeRun code input words (stop.Refused r) a =
 IsRefusedCodeRun code input words _ a = ⊥
 
 -- that of the file's program on the call's input
-pub record StopsAtRun (holds : List ℕ → Option (List ℕ) → Type 0) (verb : Verb) (file : List ℕ) (words : RunWords) (h : Halted) : Type 0 where
+pub record StopsAtRun (holds : List ℕ → Option (List ℕ) → Type 0) (verb : Verb) (file : ProgramFile) (words : RunWords) (h : Halted)
+    : Type 0 where
   pub program : Checked
-  pub is : IsProgramIn (holds file) program
+  pub is : IsProgramIn holds file program
   pub input : List ℤ
   pub given : IsInputFor holds words input
   pub refused : IsRefusedRun verb program input words h.stop h.about
@@ -84,22 +89,22 @@ abbrev pub StopsAtInputFor : (List ℕ → Option (List ℕ) → Type 0) → Run
 StopsAtInputFor holds words h = IsSomeAnd words.input (λ name. StopsAtInput (holds name.now) name.now h)
 
 -- it stops at that file behind the program's file, or behind the listing's
-abbrev pub StopsBehindProgram : (List ℕ → Option (List ℕ) → Type 0) → List ℕ → RunWords → Halted → Type 0
-StopsBehindProgram holds file words h = ((program : Checked) × IsProgramIn (holds file) program) × StopsAtInputFor holds words h
+abbrev pub StopsBehindProgram : (List ℕ → Option (List ℕ) → Type 0) → ProgramFile → RunWords → Halted → Type 0
+StopsBehindProgram holds file words h = ((program : Checked) × IsProgramIn holds file program) × StopsAtInputFor holds words h
 
 abbrev pub StopsBehindListing : (List ℕ → Option (List ℕ) → Type 0) → List ℕ → RunWords → Halted → Type 0
 StopsBehindListing holds file words h =
     ((code : SuperstepCode) × IsListingIn (holds file) code × IsWellFormed code) × StopsAtInputFor holds words h
 
 -- The code of a file's program is not compiled, for want of memory.
-abbrev pub StopsAtCode : (Option (List ℕ) → Type 0) → Halted → Type 0
-StopsAtCode holds h =
-    ((program : Checked) × IsProgramIn holds program) × (h.stop ≡ stop.Refused refusal.OutOfMemory) × (h.about ≡ about.Nothing)
+abbrev pub StopsAtCode : (List ℕ → Option (List ℕ) → Type 0) → ProgramFile → Halted → Type 0
+StopsAtCode holds file h =
+    ((program : Checked) × IsProgramIn holds file program) × (h.stop ≡ stop.Refused refusal.OutOfMemory) × (h.about ≡ about.Nothing)
 
 -- Why a run of a file's program finds nothing, in this order: its file; the file of the input; the run.
-abbrev pub RefusesRun : (List ℕ → Option (List ℕ) → Type 0) → Verb → List ℕ → RunWords → Halted → Type 0
+abbrev pub RefusesRun : (List ℕ → Option (List ℕ) → Type 0) → Verb → ProgramFile → RunWords → Halted → Type 0
 RefusesRun holds verb file words h =
-    StopsAtProgram (holds file) file h ⊎ (StopsBehindProgram holds file words h ⊎ StopsAtRun holds verb file words h)
+    StopsAtProgram (holds file.name.now) file h ⊎ (StopsBehindProgram holds file words h ⊎ StopsAtRun holds verb file words h)
 
 -- why a run of a file's code does
 abbrev pub RefusesCodeRun : (List ℕ → Option (List ℕ) → Type 0) → List ℕ → RunWords → Halted → Type 0
@@ -107,16 +112,17 @@ RefusesCodeRun holds file words h =
     StopsAtListing (holds file) file h ⊎ (StopsBehindListing holds file words h ⊎ StopsAtCodeRun holds file words h)
 
 -- why a call over a program does
-abbrev pub RefusesOf : (List ℕ → Option (List ℕ) → Type 0) → Verb → List ℕ → RunWords → Halted → Type 0
-RefusesOf holds verb.Check file words h = StopsAtProgram (holds file) file h
-RefusesOf holds verb.Plan file words h = StopsAtProgram (holds file) file h ⊎ StopsAtCode (holds file) h
+abbrev pub RefusesOf : (List ℕ → Option (List ℕ) → Type 0) → Verb → ProgramFile → RunWords → Halted → Type 0
+RefusesOf holds verb.Check file words h = StopsAtProgram (holds file.name.now) file h
+RefusesOf holds verb.Expand file words h = StopsAtText (holds file.name.now) file h
+RefusesOf holds verb.Plan file words h = StopsAtProgram (holds file.name.now) file h ⊎ StopsAtCode holds file h
 RefusesOf holds verb file words h = RefusesRun holds verb file words h
 
 -- why a call finds nothing
 abbrev pub Refuses : (List ℕ → Option (List ℕ) → Type 0) → Request → Halted → Type 0
 Refuses holds request.Version h = ⊥
 Refuses holds (request.Explanation subject) h = ⊥
-Refuses holds (request.Program verb file words) h = RefusesOf holds verb file.now words h
+Refuses holds (request.Program verb file words) h = RefusesOf holds verb file words h
 Refuses holds (request.Listing file words) h = RefusesCodeRun holds file.now words h
 
 -- why a request is refused: its words are, or nothing is found

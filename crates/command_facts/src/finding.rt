@@ -8,9 +8,9 @@ ghost use Rattle.command_facts.specs.Held.{StopsAtProgram};
 use crate::found::{Found, FoundCode, FoundRun};
 use crate::halted::{Halted, halted_run};
 use crate::loaded::Loaded;
-use crate::loading::{load_input, load_listing, load_program};
+use crate::loading::{load_input, load_listing, load_program, load_text};
 use crate::running::facts_of;
-use command_requests::{Request, RunWords, Verb};
+use command_requests::{ProgramFile, Request, RunWords, Verb};
 use program_runs::{compile_program, run_code};
 use program_texts::{Refusal, Stop};
 use rule_comparison::{Comparison, compare_rules};
@@ -23,13 +23,13 @@ use workers::OpenGate;
 // The program of a file, and behind it the values of the call's input.
 fn load_given<'a, S: Sources>(
     alloc: Global,
-    file: &'a str,
+    file: &ProgramFile<'a>,
     words: RunWords<'a>,
     sources: &mut S,
 ) -> Result<(Loaded<'a>, Vec<i64>), Halted<'a>>
-    ensures loaded { IfOk result (λ given. IsLoaded (S.Sources.holds sources.old file.now) given.0) }
+    ensures loaded { IfOk result (λ given. IsLoaded (S.Sources.holds sources.old file.now.name.now) file.now given.0) }
     ensures input { IfOk result (λ given. IsInputFor (S.Sources.holds sources.old) words.entry given.1.items) }
-    ensures refused { IfErr result (λ h. StopsAtProgram (S.Sources.holds sources.old file.now) file.now h
+    ensures refused { IfErr result (λ h. StopsAtProgram (S.Sources.holds sources.old file.now.name.now) file.now h
         ⊎ StopsBehindProgram (S.Sources.holds sources.old) file.now words.entry h) }
 {
     let loaded = load_program(alloc, sources, file)?;
@@ -40,7 +40,7 @@ fn load_given<'a, S: Sources>(
 // The code of the file's program.
 fn find_code<'a, S: Sources>(
     alloc: Global,
-    file: &'a str,
+    file: &ProgramFile<'a>,
     words: RunWords<'a>,
     sources: &mut S,
 ) -> Result<Found<'a>, Halted<'a>>
@@ -57,7 +57,7 @@ fn find_code<'a, S: Sources>(
 // How the file's program comes out under each rule.
 fn find_comparison<'a, S: Sources>(
     alloc: Global,
-    file: &'a str,
+    file: &ProgramFile<'a>,
     words: RunWords<'a>,
     sources: &mut S,
 ) -> Result<Comparison, Halted<'a>>
@@ -77,7 +77,7 @@ fn find_run<'a, R: Threads + Wait + Sync, S: Sources>(
     rt: &R,
     alloc: Global,
     verb: Verb,
-    file: &'a str,
+    file: &ProgramFile<'a>,
     words: RunWords<'a>,
     sources: &mut S,
 ) -> Result<FoundRun<'a>, Halted<'a>>
@@ -128,7 +128,7 @@ fn find_of<'a, R: Threads + Wait + Sync, S: Sources>(
     rt: &R,
     alloc: Global,
     verb: Verb,
-    file: &'a str,
+    file: &ProgramFile<'a>,
     words: RunWords<'a>,
     sources: &mut S,
 ) -> Result<Found<'a>, Halted<'a>>
@@ -137,6 +137,7 @@ fn find_of<'a, R: Threads + Wait + Sync, S: Sources>(
 {
     match verb {
         Verb::Check => Ok(Found::Accepted(load_program(alloc, sources, file)?)),
+        Verb::Expand => Ok(Found::Expanded(load_text(alloc, sources, file)?)),
         Verb::Plan => find_code(alloc, file, words, sources),
         Verb::Rules => {
             let comparison = find_comparison(alloc, file, words, sources)?;
@@ -151,9 +152,10 @@ fn find_of<'a, R: Threads + Wait + Sync, S: Sources>(
 
 /// What a call finds, before anything is written of it.
 ///
-/// A refusal is judged in this order: the file and its text (P2, E1 to E10; of a listing E2, E15, E14); the input's file and its text (P2, E1
-/// to E3); the number of workers (E13), the map (E12), and the number of the input's values (E11); and with a reserve whether the run comes
-/// past it (E18). E16 comes where memory was refused.
+/// A refusal is judged in this order: of a program the words that give sizes (P1), its file and its text as it stands (P2, E2, E1), its
+/// sizes (E19, P1 for one that the text doesn't declare, E2), and what it comes to by them (E3 to E10); of a listing P2, E2, E15, E14; the
+/// input's file and its text (P2, E1 to E3); the number of workers (E13), the map (E12), and the number of the input's values (E11); and with
+/// a reserve whether the run comes past it (E18). E16 comes where memory was refused.
 pub fn find<'a, R: Threads + Wait + Sync, S: Sources>(
     rt: &R,
     alloc: Global,
@@ -167,7 +169,7 @@ pub fn find<'a, R: Threads + Wait + Sync, S: Sources>(
     match request {
         Request::Version => Ok(Found::Version),
         Request::Explanation(subject) => Ok(Found::Explanation(subject)),
-        Request::Program { verb, file, words } => find_of(rt, alloc, verb, file, words, sources),
+        Request::Program { verb, file, words } => find_of(rt, alloc, verb, &file, words, sources),
         Request::Listing { file, words } => {
             let run = find_code_run(rt, alloc, file, words, sources)?;
             Ok(Found::Executed(run))

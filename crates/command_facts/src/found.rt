@@ -3,6 +3,7 @@
 use crate::loaded::Loaded;
 use bsp_verify::Verified;
 use command_requests::RunWords;
+use diagnoses::Source;
 use exchange_counts::Counts;
 use explanations::Subject;
 use rule_comparison::Comparison;
@@ -49,6 +50,8 @@ pub enum Found<'a> {
     Explanation(Subject),
     /// A program is accepted.
     Accepted(Loaded<'a>),
+    /// A program's text, with what it comes to by its sizes.
+    Expanded(Source<'a>),
     /// The code of a program.
     Planned(Verified),
     /// How a program comes out under each rule.

@@ -8,14 +8,19 @@ ghost use Rattle.superstep_listing.specs.Text.{IsFaultOf, IsListing};
 ghost use Rattle.bsp_verify.specs.WellFormed.{IsWellFormed};
 ghost use Rattle.bsp_verify.specs.FirstFault.{IsRefusal};
 ghost use Rattle.system_files.specs.Files.{IsReadFrom, IsSame};
-ghost use Rattle.program_texts.specs.Report.{IsProgramOf};
-ghost use Rattle.command_facts.specs.Held.{IsInputIn, IsListingIn, IsOfCodeIn, IsUnread, StopsAtInput, StopsAtListing, StopsAtProgram};
+ghost use Rattle.command_facts.specs.Expanded.{IsTextIn};
+ghost use Rattle.command_facts.specs.Found.{IsLoaded};
+ghost use Rattle.command_facts.specs.Given.{size_words};
+ghost use Rattle.command_facts.specs.Held.{IsInputIn, IsListingIn, IsOfCodeIn, IsUnread, StopsAtInput, StopsAtListing, StopsAtProgram, StopsAtText};
 ghost use Rattle.command_facts.specs.Listings.{IsOfListing, line_of_instruction};
 ghost use Rattle.command_facts.specs.Listings.{reason_word as spec_reason_word};
 
+use crate::expanding::expanded;
 use crate::halted::Halted;
 use crate::loaded::Loaded;
+use crate::sizing::sizes_of;
 use bsp_verify::{Reason, Verified, VerifyFault, verify};
+use command_requests::ProgramFile;
 use diagnoses::{About, Kind, Source};
 use pram_tokens::LONGEST;
 use pram_trees::{TextFault, read_input};
@@ -43,35 +48,64 @@ fn load<'a, S: Sources>(
     }
 }
 
-/// The program of a file.
-pub(crate) fn load_program<'a, S: Sources>(
+/// The text of a program's file, with what it comes to by its sizes.
+pub(crate) fn load_text<'a, S: Sources>(
     alloc: Global,
     sources: &mut S,
-    name: &'a str,
-) -> Result<Loaded<'a>, Halted<'a>>
-    ensures program { IfOk result (λ l. IsProgramOf l.source.bytes.items l.program) }
-    // Its text is all that the file of that name holds.
-    ensures held { IfOk result (λ l. S.Sources.holds sources.old name.now (Some l.source.bytes.items)) }
-    ensures of_file { IfErr result (StopsAtProgram (S.Sources.holds sources.old name.now) name.now) }
+    file: &ProgramFile<'a>,
+) -> Result<Source<'a>, Halted<'a>>
+    // It is all that the file of that name holds.
+    ensures text { IfOk result (IsTextIn (S.Sources.holds sources.old file.now.name.now) (size_words file.now)) }
+    ensures refused { IfErr result (StopsAtText (S.Sources.holds sources.old file.now.name.now) file.now) }
     ensures same { IsSame (S.Sources.holds sources.new) (S.Sources.holds sources.old) }
 {
-    let bytes = load(alloc, sources, name, LONGEST as u32)?;
-    match read_program(alloc, &bytes) {
-        Ok(program) => {
-            let source = source_of(Kind::Program, name, bytes);
-            Ok(Loaded { source, program })
-        }
-        Err(refusal) => Err(Halted {
-            stop: Stop::Refused(refusal),
-            about: About::Text(source_of(Kind::Program, name, bytes)),
+    let sizes = sizes_of(alloc, &file.sizes)?;
+    let bytes = load(alloc, sources, file.name, LONGEST as u32)?;
+    match expanded(alloc, &bytes, &file.sizes, &sizes) {
+        Ok(expansion) => Ok(Source {
+            kind: Kind::Program,
+            name: file.name,
+            bytes,
+            expansion: Some(expansion),
+        }),
+        Err(stop) => Err(Halted {
+            stop,
+            about: About::Text(source_of(Kind::Program, file.name, bytes)),
         }),
     }
 }
 
-fn source_of<'a>(kind: Kind, name: &'a str, bytes: Vec<u8>) -> Source<'a>
-    ensures { result.bytes.items ≡ bytes.items }
+/// The program of a file.
+pub(crate) fn load_program<'a, S: Sources>(
+    alloc: Global,
+    sources: &mut S,
+    file: &ProgramFile<'a>,
+) -> Result<Loaded<'a>, Halted<'a>>
+    ensures loaded { IfOk result (IsLoaded (S.Sources.holds sources.old file.now.name.now) file.now) }
+    ensures refused { IfErr result (StopsAtProgram (S.Sources.holds sources.old file.now.name.now) file.now) }
+    ensures same { IsSame (S.Sources.holds sources.new) (S.Sources.holds sources.old) }
 {
-    Source { kind, name, bytes }
+    let source = load_text(alloc, sources, file)?;
+    match read_program(alloc, source.text()) {
+        Ok(program) => Ok(Loaded { source, program }),
+        Err(refusal) => Err(Halted {
+            stop: Stop::Refused(refusal),
+            about: About::Text(source),
+        }),
+    }
+}
+
+// A text that stands for itself.
+fn source_of<'a>(kind: Kind, name: &'a str, bytes: Vec<u8>) -> Source<'a>
+    ensures bytes { result.bytes.items ≡ bytes.items }
+    ensures itself { result.expansion ≡ None }
+{
+    Source {
+        kind,
+        name,
+        bytes,
+        expansion: None,
+    }
 }
 
 /// The values of the input's file, and none where there is no file.
@@ -138,6 +172,7 @@ fn line_of(code: &Code, at: u32) -> usize
 // Why the code of a listing is not run, and the line where it is wrong.
 fn halted_listing<'a>(fault: VerifyFault, code: &Code, source: Source<'a>) -> Halted<'a>
     requires listing { IsListing source.bytes.items code.now }
+    requires itself { source.expansion ≡ None }
     requires refused { IsRefusal code.now fault }
     ensures of_text { IsOfCodeIn source.entry.bytes.items result.stop result.about }
 {

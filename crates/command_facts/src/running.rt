@@ -118,7 +118,7 @@ pub(crate) fn facts_of<R: Threads + Wait + Sync>(
             let (outcome, counts) = by_workers(rt, alloc, program, input, words)?;
             Ok((outcome, Facts::Exchanges(counts)))
         }
-        Verb::Meaning | Verb::Check | Verb::Plan | Verb::Rules => {
+        Verb::Meaning | Verb::Check | Verb::Plan | Verb::Rules | Verb::Expand => {
             mean(alloc, program, input, words)
         }
     }

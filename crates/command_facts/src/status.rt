@@ -16,6 +16,7 @@ pub fn status_of(found: &Found<'_>) -> Status
         Found::Version => Status::Done,
         Found::Explanation(_) => Status::Done,
         Found::Accepted(_) => Status::Done,
+        Found::Expanded(_) => Status::Done,
         Found::Planned(_) => Status::Done,
         Found::Compared(_) => Status::Done,
     }

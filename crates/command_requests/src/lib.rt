@@ -12,6 +12,6 @@ mod version;
 pub use cost_words::CostWords;
 pub use explain_word::asks_to_explain;
 pub use format_word::asks_for_json;
-pub use request::{Request, RunWords, Verb};
+pub use request::{ProgramFile, Request, RunWords, Verb};
 pub use step_words::StepWords;
 pub use version::{VERSION, asks_for_version};

@@ -24,6 +24,16 @@ pub enum Verb {
     Run,
     /// The exchanges of that run are shown.
     Trace,
+    /// The text of the language that it stands for is written, whether or not that is a program.
+    Expand,
+}
+
+/// The text of a program: the file that it stands in, and the words by which numbers are given for its sizes.
+#[derive(Debug, Drop)]
+pub struct ProgramFile<'a> {
+    pub name: &'a str,
+    /// The words, each of which is to be `NAME=VALUE`, in the order of the command line.
+    pub sizes: Vec<&'a str>,
 }
 
 /// How something is run.
@@ -43,7 +53,7 @@ pub struct RunWords<'a> {
 }
 
 /// One call of the program.
-#[derive(Clone, Copy, Debug)]
+#[derive(Debug, Drop)]
 pub enum Request<'a> {
     /// For the version.
     Version,
@@ -52,7 +62,7 @@ pub enum Request<'a> {
     /// Over the text of a program.
     Program {
         verb: Verb,
-        file: &'a str,
+        file: ProgramFile<'a>,
         words: RunWords<'a>,
     },
     /// A listing is run.

@@ -32,6 +32,8 @@ pub(crate) const HTML: &str = "html";
 
 pub(crate) const FORMAT: &str = "format";
 
+pub(crate) const SIZE: &str = "size";
+
 const EXPLAINED: &str = "explain";
 
 // What the help of a subcommand says.
@@ -103,6 +105,13 @@ const TRACE: Subcommand = Subcommand {
     example: "Example: pramc trace examples/tree_sum.pram --input examples/tree_sum.in --workers 2",
 };
 
+const EXPAND: Subcommand = Subcommand {
+    name: "expand",
+    about: "Writes the text that its sizes give",
+    over: PROGRAM,
+    example: "Example: pramc expand examples/sized_sum.pram --size n=16",
+};
+
 const EXEC: Subcommand = Subcommand {
     name: "exec",
     about: "Runs a listing",
@@ -140,6 +149,16 @@ fn over_file<'a>(alloc: Global, words: &Subcommand) -> Result<Command<'a>, Alloc
         .arg(explained)
 }
 
+// With numbers for the sizes of a program's text.
+fn sized<'a>(alloc: Global, command: Command<'a>) -> Result<Command<'a>, AllocError> {
+    let size = Arg::new(alloc, SIZE)
+        .long(SIZE)
+        .value_name("NAME=VALUE")
+        .action(ArgAction::Append)
+        .help("A number for a size of the text, in place of its default");
+    command.arg(size)
+}
+
 // With the choice of how it tells what it does.
 fn in_formats<'a>(alloc: Global, command: Command<'a>) -> Result<Command<'a>, AllocError> {
     let format = Arg::new(alloc, FORMAT)
@@ -148,6 +167,11 @@ fn in_formats<'a>(alloc: Global, command: Command<'a>) -> Result<Command<'a>, Al
         .default_value("text")
         .help("How it is told: text, or json for programs that read");
     command.arg(format)
+}
+
+// With both.
+fn of_program<'a>(alloc: Global, command: Command<'a>) -> Result<Command<'a>, AllocError> {
+    in_formats(alloc, sized(alloc, command)?)
 }
 
 // A subcommand that runs what is in a file.
@@ -241,14 +265,15 @@ pub(crate) fn grammar<'a>(alloc: Global) -> Result<Command<'a>, AllocError> {
         .subcommand_required(true)
         .version(VERSION)
         .bin_name("pramc")?
-        .subcommand(in_formats(alloc, over_file(alloc, &CHECK)?)?)?
-        .subcommand(over_file(alloc, &PLAN)?)?
-        .subcommand(in_formats(alloc, over_run(alloc, &MEANING)?)?)?
-        .subcommand(in_formats(alloc, over_cost(alloc, &COST)?)?)?
-        .subcommand(in_formats(alloc, over_steps(alloc, &STEPS)?)?)?
-        .subcommand(in_formats(alloc, over_run(alloc, &RULES)?)?)?
-        .subcommand(in_formats(alloc, over_workers(alloc, &RUN)?)?)?
-        .subcommand(in_formats(alloc, over_trace(alloc, &TRACE)?)?)?
+        .subcommand(of_program(alloc, over_file(alloc, &CHECK)?)?)?
+        .subcommand(sized(alloc, over_file(alloc, &PLAN)?)?)?
+        .subcommand(of_program(alloc, over_run(alloc, &MEANING)?)?)?
+        .subcommand(of_program(alloc, over_cost(alloc, &COST)?)?)?
+        .subcommand(of_program(alloc, over_steps(alloc, &STEPS)?)?)?
+        .subcommand(of_program(alloc, over_run(alloc, &RULES)?)?)?
+        .subcommand(of_program(alloc, over_workers(alloc, &RUN)?)?)?
+        .subcommand(of_program(alloc, over_trace(alloc, &TRACE)?)?)?
+        .subcommand(sized(alloc, over_file(alloc, &EXPAND)?)?)?
         .subcommand(over_workers(alloc, &EXEC)?)?
         .subcommand(over_word(alloc, &EXPLAIN)?)
 }

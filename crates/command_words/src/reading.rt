@@ -6,16 +6,18 @@ ghost use Rattle.std.specs.String.{string_bytes};
 ghost use Rattle.command_requests.specs.Words.{AsksForVersion, IsOfWords};
 
 use crate::grammar::{
-    BOUND, FILE, FORMAT, FROM, HTML, INPUT, LINES, MAP, RESERVE, SCHEDULE, SVG, TO, WORD, WORKERS,
-    grammar,
+    BOUND, FILE, FORMAT, FROM, HTML, INPUT, LINES, MAP, RESERVE, SCHEDULE, SIZE, SVG, TO, WORD,
+    WORKERS, grammar,
 };
 use clap::ArgMatches;
 use clap::error::ErrorKind;
-use command_requests::{CostWords, Request, RunWords, StepWords, Verb, asks_for_version};
+use command_requests::{
+    CostWords, ProgramFile, Request, RunWords, StepWords, Verb, asks_for_version,
+};
 use explanations::subject_of;
 use program_texts::{Refusal, Stop};
 use run_options::{MapChoice, Options, Reserve, read_map, read_number, read_pair};
-use std::alloc::Global;
+use std::alloc::{AllocError, Global};
 
 // The number of an option, and 0 where the command has no such option.
 fn number_of<'a>(words: &ArgMatches<'a>, option: &str) -> Result<u32, Stop<'a>>
@@ -130,12 +132,30 @@ fn check_format<'a>(words: &ArgMatches<'a>) -> Result<(), Stop<'a>>
     Ok(())
 }
 
-fn asked<'a>(verb: Verb, matches: &ArgMatches<'a>) -> Result<Request<'a>, Stop<'a>>
+// The words that give sizes, in their order.
+fn size_words<'a>(alloc: Global, matches: &ArgMatches<'a>) -> Result<Vec<&'a str>, AllocError> {
+    let mut sizes = Vec::new(alloc);
+    if let Some(words) = matches.get_strs(SIZE) {
+        for word in words {
+            sizes.push(*word)?;
+        }
+    }
+    Ok(sizes)
+}
+
+fn asked<'a>(
+    alloc: Global,
+    verb: Verb,
+    matches: &ArgMatches<'a>,
+) -> Result<Request<'a>, Stop<'a>>
     ensures { IfErr result IsOfWords }
 {
     check_format(matches)?;
     let words = run_words(matches)?;
-    let file = matches.get_str(FILE).unwrap_or("");
+    let file = ProgramFile {
+        name: matches.get_str(FILE).unwrap_or(""),
+        sizes: size_words(alloc, matches)?,
+    };
     Ok(Request::Program { verb, file, words })
 }
 
@@ -194,14 +214,15 @@ pub fn read_words<'a>(alloc: Global, words: &'a [String]) -> Result<Request<'a>,
         Err(error) => return unmatched(alloc, error),
     };
     match matches.subcommand() {
-        Some(("check", inner)) => asked(Verb::Check, inner),
-        Some(("plan", inner)) => asked(Verb::Plan, inner),
-        Some(("meaning", inner)) => asked(Verb::Meaning, inner),
-        Some(("cost", inner)) => asked(Verb::Cost, inner),
-        Some(("steps", inner)) => asked(Verb::Steps, inner),
-        Some(("rules", inner)) => asked(Verb::Rules, inner),
-        Some(("run", inner)) => asked(Verb::Run, inner),
-        Some(("trace", inner)) => asked(Verb::Trace, inner),
+        Some(("check", inner)) => asked(alloc, Verb::Check, inner),
+        Some(("plan", inner)) => asked(alloc, Verb::Plan, inner),
+        Some(("meaning", inner)) => asked(alloc, Verb::Meaning, inner),
+        Some(("cost", inner)) => asked(alloc, Verb::Cost, inner),
+        Some(("steps", inner)) => asked(alloc, Verb::Steps, inner),
+        Some(("rules", inner)) => asked(alloc, Verb::Rules, inner),
+        Some(("run", inner)) => asked(alloc, Verb::Run, inner),
+        Some(("trace", inner)) => asked(alloc, Verb::Trace, inner),
+        Some(("expand", inner)) => asked(alloc, Verb::Expand, inner),
         Some(("exec", inner)) => asked_listing(inner),
         Some((_, inner)) => asked_subject(inner),
         None => Err(Stop::Number("")),

@@ -1,0 +1,57 @@
+//! The sizes that the words of a call give.
+
+ghost use Rattle.std.specs.Prelude.{◌≡◌, IfOk, IfErr, map};
+ghost use Rattle.pram_model.specs.Names.{same_text};
+ghost use Rattle.command_facts.specs.Given as spec;
+
+use program_texts::Stop;
+use sized_texts::{Size, read_size};
+use std::alloc::Global;
+
+fn is_same(a: &[u8], b: &[u8]) -> bool
+    ensures { result ≡ same_text a.now b.now }
+{
+    a == b
+}
+
+// Whether one of the sizes has that name.
+fn has_name(sizes: &[Size], name: &[u8]) -> bool
+    ensures { result ≡ spec.has_name sizes.now name.now }
+{
+    for size in sizes {
+        if is_same(size.name.as_slice(), name) {
+            return true;
+        }
+    }
+    false
+}
+
+// The size of a word, of a name that none of these has.
+fn new_size<'a>(alloc: Global, sizes: &[Size], word: &'a str) -> Result<Size, Stop<'a>>
+    ensures size { IfOk result (spec.IsNewSize sizes.now word.now) }
+    ensures refused { IfErr result (spec.IsWordRefused sizes.now word.now) }
+{
+    match read_size(alloc, word)? {
+        None => Err(Stop::Number(word)),
+        Some(size) => {
+            if has_name(sizes, size.name.as_slice()) {
+                Err(Stop::Number(word))
+            } else {
+                Ok(size)
+            }
+        }
+    }
+}
+
+/// The sizes of words, each of which is to give one of a name of its own. The first word that doesn't is refused (P1).
+pub(crate) fn sizes_of<'a>(alloc: Global, words: &[&'a str]) -> Result<Vec<Size>, Stop<'a>>
+    ensures sizes { IfOk result (λ sizes. spec.AreSizesOf (map (λ w. w.now) words.now) sizes.items) }
+    ensures refused { IfErr result (spec.IsOfSizes (map (λ w. w.now) words.now)) }
+{
+    let mut sizes = Vec::new(alloc);
+    for word in words {
+        let size = new_size(alloc, &sizes, word)?;
+        sizes.push(size)?;
+    }
+    Ok(sizes)
+}
