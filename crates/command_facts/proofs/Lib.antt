@@ -3,6 +3,8 @@ pub mod Writing
 pub mod Layouts
 pub mod Files
 pub mod Same
+pub mod Programs
+pub mod Sizes
 pub mod Refusals
 pub mod Comparisons
 pub mod Alone

@@ -11,12 +11,14 @@ use Rattle.program_texts.specs.declared.from_text.Refusal.{Refusal}
 use Rattle.program_texts.specs.declared.stop.Stop.TheVariants.{Refused}
 use Rattle.bsp_verify.specs.WellFormed.{IsWellFormed}
 use Rattle.program_runs.specs.Reserved.{IsCodeRefusedWith}
+use Rattle.command_requests.specs.declared.request.ProgramFile.{ProgramFile}
 use Rattle.command_requests.specs.declared.request.RunWords.{RunWords}
 use Rattle.command_requests.specs.declared.request.Verb.{Verb}
 use Rattle.command_facts.specs.declared.halted.Halted.{Halted}
 use Rattle.command_facts.specs.declared.loaded.Loaded.{Loaded}
 use Rattle.command_facts.specs.Found.{IsInputFor, IsLoaded}
 use Rattle.command_facts.specs.Held.{IsListingIn}
+use Rattle.command_facts.proofs.Programs.{program_in}
 use Rattle.command_facts.specs.Refused.{IsRefusedCodeRun, IsRefusedRun, IsRunRefusedBy, IsToldWith, StopsAtCodeRun, StopsAtRun}
 
 -- by the definition
@@ -46,18 +48,18 @@ code_run_refused code input words r h why is told = subst (λ s. IsRefusedCodeRu
 
 -- ---- over files
 
-module _ (holds : List ℕ → Option (List ℕ) → Type 0) (file : List ℕ) (words : RunWords) (input given : List ℤ) (same : given ≡ input)
+module _ (holds : List ℕ → Option (List ℕ) → Type 0) (words : RunWords) (input given : List ℤ) (same : given ≡ input)
     (is_input : IsInputFor holds words input) (values cells : ℕ) (r : Refusal) (h : Halted) (stops : h.stop ≡ Refused r)
     (told : IsToldWith r values cells h.about) where
   told_with : (n m : ℕ) → values ≡ n → cells ≡ m → IsToldWith r n m h.about
   told_with n m v c = subst (λ (x : ℕ). IsToldWith r x m h.about) v (subst (λ (x : ℕ). IsToldWith r values x h.about) c told)
 
   -- the run of the file's program
-  pub stops_at_run : (verb : Verb) (l : Loaded) → IsLoaded (holds file) l → values ≡ length input → cells ≡ total_size l.program.layout →
+  pub stops_at_run : (verb : Verb) (file : ProgramFile) (l : Loaded) → IsLoaded (holds file.name.now) file l → values ≡ length input → cells ≡ total_size l.program.layout →
       IsRunRefusedBy verb l.program given words r → StopsAtRun holds verb file words h
-  stops_at_run verb l is v c why = record {
+  stops_at_run verb file l is v c why = record {
     program = l.program;
-    is = record { text = l.source.bytes.items; held = is.0; is_program = is.1 };
+    is = program_in holds file l is;
     input = input;
     given = is_input;
     refused = run_refused verb l.program input words r h (subst (λ (i : List ℤ). IsRunRefusedBy verb l.program i words r) same why) stops
@@ -65,9 +67,9 @@ module _ (holds : List ℕ → Option (List ℕ) → Type 0) (file : List ℕ) (
   }
 
   -- the run of its code
-  pub stops_at_code_run : (code : SuperstepCode) → IsListingIn (holds file) code → IsWellFormed code → values ≡ length input →
+  pub stops_at_code_run : (file : List ℕ) (code : SuperstepCode) → IsListingIn (holds file) code → IsWellFormed code → values ≡ length input →
       cells ≡ total_size code.layout → IsCodeRefusedWith code given words.options words.reserve r → StopsAtCodeRun holds file words h
-  stops_at_code_run code is verified v c why = record {
+  stops_at_code_run file code is verified v c why = record {
     code = code;
     is = is;
     verified = verified;

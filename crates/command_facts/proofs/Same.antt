@@ -49,18 +49,20 @@ module _ (now before : List ℕ → Option (List ℕ) → Type 0) (same : IsSame
   unread name (stop.NotVerified at word) h = absurd h
   unread name (stop.BadListing at) h = absurd h
   unread name stop.WriteFailed h = absurd h
+  unread name (stop.BadSize at reason) h = absurd h
 
   at_file : (name : List ℕ) (most : ℕ) (Has : Stop → List ℕ → Type 0) (why : Stop) (a : About) → IsAtFile (now name) name most Has why a →
       IsAtFile (before name) name most Has why a
   at_file name most Has why about.Nothing h = unread name why h
-  at_file name most Has why (about.Text s) h = (read_from name most s.bytes.items h.0, h.1)
-  at_file name most Has (stop.NotVerified at word) (about.Line s line) h = (read_from name most s.bytes.items h.0, h.1)
+  at_file name most Has why (about.Text s) h = (read_from name most s.bytes.items h.0, h.1, h.2)
+  at_file name most Has (stop.NotVerified at word) (about.Line s line) h = (read_from name most s.bytes.items h.0, h.1, h.2)
   at_file name most Has (stop.Words text) (about.Line s line) h = absurd h
   at_file name most Has (stop.Number word) (about.Line s line) h = absurd h
   at_file name most Has (stop.Unreadable word) (about.Line s line) h = absurd h
   at_file name most Has (stop.Refused r) (about.Line s line) h = absurd h
   at_file name most Has (stop.BadListing at) (about.Line s line) h = absurd h
   at_file name most Has stop.WriteFailed (about.Line s line) h = absurd h
+  at_file name most Has (stop.BadSize at reason) (about.Line s line) h = absurd h
   at_file name most Has why (about.Values values cells) h = absurd h
 
   -- that its file is refused

@@ -31,7 +31,7 @@ run_facts r (facts.Steps entries) =
     steps_facts r.loaded.program.layout (verdict_of r.outcome) (map entry_is entries.items) r.words.steps.from r.words.steps.to
 run_facts r (facts.Exchanges exchanges) = trace_facts exchanges (verdict_of r.outcome)
 
--- the facts of what was found; code, what comes of a listing, explanations and the version are not told as JSON
+-- the facts of what was found; texts, code, what comes of a listing, explanations and the version are not told as JSON
 abbrev pub AreFactsOf : Found → List Data → Type 0
 AreFactsOf (found.Accepted l) told = told ≡ accepted_facts l.program ∷ []
 AreFactsOf (found.Compared c) told = told ≡ comparison_facts c ∷ []
@@ -46,6 +46,7 @@ IsJsonOf f text = (told : List Data) × AreFactsOf f told × IsJson told text
 abbrev pub IsUntold : Found → Type 0
 IsUntold found.Version = Unit {0}
 IsUntold (found.Explanation subject) = Unit {0}
+IsUntold (found.Expanded s) = Unit {0}
 IsUntold (found.Planned code) = Unit {0}
 IsUntold (found.Executed c) = Unit {0}
 IsUntold _ = ⊥

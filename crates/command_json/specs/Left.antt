@@ -4,6 +4,7 @@ use Rattle.json_lines.specs.Lines.{IsJson}
 use Rattle.text_out.specs.Out.{OutState, with_bytes}
 use Rattle.diagnoses.specs.declared.about.About.{About}
 use Rattle.diagnoses.specs.declared.about.About.TheVariants as about
+use Rattle.diagnoses.specs.RefusedLines.{stop_as_it_stands}
 use Rattle.program_texts.specs.declared.from_text.Refusal.TheVariants as refusal
 use Rattle.program_texts.specs.declared.status.Status.{Status}
 use Rattle.program_texts.specs.declared.status.Status.TheVariants as status
@@ -20,17 +21,17 @@ use Rattle.command_json.specs.Facts.{IsJsonOf, WritesFound}
 
 -- ---- standard error
 
--- the text that was refused, and none where it is not of a text
+-- all that the file of the text holds that was refused, and nothing where it is not of a text
 abbrev pub text_of : About → List ℕ
 text_of about.Nothing = []
 text_of (about.Text s) = s.bytes.items
 text_of (about.Line s line) = []
 text_of (about.Values values cells) = []
 
--- The line of a refusal stands there, as far as it is taken: its facts, with its place in the text that was refused.
+-- The line of a refusal stands there, as far as it is taken: its facts, with its place in the file of the text that was refused.
 pub record IsRefusalTold (why : Stop) (a : About) (old new : OutState) : Type 0 where
   pub line : List ℕ
-  pub json : IsJson (stop_facts (text_of a) why ∷ []) line
+  pub json : IsJson (stop_facts (text_of a) (stop_as_it_stands a why) ∷ []) line
   pub reported : IsReported old new line
 
 -- so it is; or memory for its line was refused, and that is told

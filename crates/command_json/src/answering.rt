@@ -56,7 +56,8 @@ fn answer_request<R: Threads + Wait + Sync, S: Sources, O: Out, E: Out>(
 ///
 /// `check`, `meaning`, `cost`, `rules` and `run` write one object; `steps` and `trace` an object a line, and on the last line how the run
 /// came out. What is refused is one object on `err`, and there nothing else is written: what [`find`](command_facts::find) refuses, E17
-/// where standard output failed, and E16 where memory was refused. `plan`, `exec`, `explain` and the version are not told as JSON (P1).
+/// where standard output failed, and E16 where memory was refused. `expand`, `plan`, `exec`, `explain` and the version are not told as JSON
+/// (P1).
 pub fn answer_in_json<'a, R: Threads + Wait + Sync, S: Sources, O: Out, E: Out>(
     rt: &R,
     alloc: Global,

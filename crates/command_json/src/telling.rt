@@ -47,6 +47,7 @@ fn text_of<'a>(alloc: Global, found: &Found<'_>) -> Result<String, Stop<'a>>
         Found::Run(run) => Ok(run_text(alloc, run)?),
         Found::Version => Err(Stop::Number(JSON)),
         Found::Explanation(_) => Err(Stop::Number(JSON)),
+        Found::Expanded(_) => Err(Stop::Number(JSON)),
         Found::Planned(_) => Err(Stop::Number(JSON)),
         Found::Executed(_) => Err(Stop::Number(JSON)),
     }

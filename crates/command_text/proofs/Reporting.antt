@@ -4,13 +4,13 @@ use Rattle.std.specs.Prelude.{Bool, true, false, Result, IsErrAnd}
 use Rattle.text_out.specs.Out.{OutState, StopsIn, Writes, with_bytes}
 use Rattle.text_out.proofs.Writing.{writes_stopped}
 use Rattle.text_places.proofs.Pieces.{both, stops_in_first}
-use Rattle.program_texts.specs.StoppedFields.{stop_text}
 use Rattle.program_texts.specs.declared.from_text.Refusal.TheVariants as refusal
 use Rattle.program_texts.specs.declared.stop.Stop.{Stop}
 use Rattle.program_texts.specs.declared.stop.Stop.TheVariants as stop
 use Rattle.pram_names.specs.declared.fault.Breach.{Breach}
 use Rattle.diagnoses.specs.declared.about.About.{About}
 use Rattle.diagnoses.specs.declared.about.About.TheVariants as about
+use Rattle.diagnoses.specs.RefusedLines.{stop_line}
 use Rattle.diagnoses.specs.Remarks.{Remark, Nothing}
 use Rattle.diagnoses.specs.Stops.{HasRemark, IsExpectationIn, IsRemarkIn, stop_diagnosis}
 use Rattle.pram_tokens.specs.declared.error.TextFault.{TextFault}
@@ -52,17 +52,18 @@ nothing_said (stop.Refused refusal.OutOfReserve) a = refl
 nothing_said (stop.NotVerified at reason) a = refl
 nothing_said (stop.BadListing at) a = refl
 nothing_said stop.WriteFailed a = refl
+nothing_said (stop.BadSize at reason) a = refl
 
 -- the stream failed within the line
 pub line_cut_off : {E : Type 0} (explains : Bool) (why : Stop) (a : About) (r : Remark) (old new : OutState) (res : Result Unit E) (P : E → Type 0) →
-    IsErrAnd res P → StopsIn old new (stop_text why) → Writes old new (refusal_text explains why a r) res
-line_cut_off false why a r old new res P is s = writes_stopped old new (stop_text why) res P is s
-line_cut_off true why a r old new res P is s = stops_in_first old new _ (stop_text why) (stop_diagnosis why a r) res P refl is s
+    IsErrAnd res P → StopsIn old new (stop_line why a) → Writes old new (refusal_text explains why a r) res
+line_cut_off false why a r old new res P is s = writes_stopped old new (stop_line why a) res P is s
+line_cut_off true why a r old new res P is s = stops_in_first old new _ (stop_line why a) (stop_diagnosis why a r) res P refl is s
 
 -- the line, and what is said behind it
 pub said_behind : {E : Type 0} (explains : Bool) (why : Stop) (a : About) (r : Remark) (old mid new : OutState) (res : Result Unit E) →
-    explains ≡ true → mid ≡ with_bytes old (stop_text why) → Writes mid new (stop_diagnosis why a r) res →
+    explains ≡ true → mid ≡ with_bytes old (stop_line why a) → Writes mid new (stop_diagnosis why a r) res →
     Writes old new (refusal_text explains why a r) res
 said_behind explains why a r old mid new res on first second =
     subst (λ b. Writes old new (refusal_text b why a r) res) (sym on)
-    (both old mid new _ (stop_text why) (stop_diagnosis why a r) res refl first second)
+    (both old mid new _ (stop_line why a) (stop_diagnosis why a r) res refl first second)

@@ -7,6 +7,7 @@ use Rattle.program_texts.specs.declared.from_text.Refusal.TheVariants as refusal
 use Rattle.program_texts.specs.declared.status.Status.{Status}
 use Rattle.program_texts.specs.declared.stop.Stop.{Stop}
 use Rattle.program_texts.specs.declared.stop.Stop.TheVariants as stop
+use Rattle.diagnoses.specs.Sources.{text_in}
 use Rattle.step_pictures.specs.Picture.{picture}
 use Rattle.command_facts.specs.declared.found.FoundRun.{FoundRun}
 use Rattle.command_facts.specs.Written.{Wrote, WroteSome}
@@ -37,10 +38,10 @@ module _ (on : Terminal) (run : FoundRun) (entries : List Entry) (svg html : Boo
 
   -- as a page
   pub wrote_page : svg ≡ false → html ≡ true → WroteSome ends (Unit {0})
-      (IsPage run.loaded.source.bytes.items run.loaded.program run.input.items run.outcome entries) old new r →
+      (IsPage (text_in run.loaded.source) run.loaded.program run.input.items run.outcome entries) old new r →
       WroteSome ends (IsAPage svg html) (AreStepsText svg html on run entries) old new r
   wrote_page drawn paged w = wrote_of ends (Unit {0}) (IsAPage svg html)
-      (IsPage run.loaded.source.bytes.items run.loaded.program run.input.items run.outcome entries) (AreStepsText svg html on run entries)
+      (IsPage (text_in run.loaded.source) run.loaded.program run.input.items run.outcome entries) (AreStepsText svg html on run entries)
       old new r (λ _. (drawn, paged)) (λ text is. as_asked text drawn true paged is) w
 
   -- in words

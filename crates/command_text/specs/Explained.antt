@@ -3,11 +3,11 @@ use Rattle.std.specs.Prelude.{◌≡◌, ◌⊎◌, ℕ, ℤ, List, [], ◌++◌
 use Rattle.text_out.specs.Out.{OutState}
 use Rattle.write_rules.specs.declared.outcome.Outcome.{Outcome}
 use Rattle.write_rules.specs.declared.outcome.Outcome.TheVariants.{Faulted}
-use Rattle.program_texts.specs.StoppedFields.{stop_text}
 use Rattle.program_texts.specs.declared.stop.Stop.{Stop}
 use Rattle.diagnoses.specs.declared.about.About.{About}
 use Rattle.diagnoses.specs.FaultTexts.{fault_diagnosis, fault_sentence}
 use Rattle.diagnoses.specs.Met.{who_met}
+use Rattle.diagnoses.specs.RefusedLines.{stop_line}
 use Rattle.diagnoses.specs.Remarks.{Remark}
 use Rattle.diagnoses.specs.Stops.{HasRemark, stop_diagnosis}
 use Rattle.command_facts.specs.declared.found.Found.{Found}
@@ -18,10 +18,10 @@ use Rattle.command_facts.specs.Written.{IsReported}
 
 -- ---- refusals
 
--- the line of a refusal, and where it is asked for what is said behind it
+-- the line of a refusal, with its offset in the file, and where it is asked for what is said behind it
 abbrev pub refusal_text : Bool → Stop → About → Remark → List ℕ
-refusal_text false why a r = stop_text why
-refusal_text true why a r = stop_text why ++ stop_diagnosis why a r
+refusal_text false why a r = stop_line why a
+refusal_text true why a r = stop_line why a ++ stop_diagnosis why a r
 
 -- That stands on standard error, as far as it takes it.
 pub record IsRefusalReported (explains : Bool) (why : Stop) (a : About) (old new : OutState) : Type 0 where

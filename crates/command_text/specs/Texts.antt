@@ -10,6 +10,7 @@ use Rattle.tracer.specs.Picture as trace
 use Rattle.step_pictures.specs.Picture as steps
 use Rattle.write_rules.specs.Verdict.{verdict_of}
 use Rattle.program_texts.specs.Shown.{line, shown}
+use Rattle.diagnoses.specs.Sources.{text_in}
 use Rattle.explanations.specs.Explained.{explanation}
 use Rattle.rule_comparison.specs.ComparisonText.{comparison_text}
 use Rattle.step_entries.specs.Entries.{Entry, entry_is}
@@ -41,15 +42,16 @@ counts_text true exchanges = trace.picture exchanges
 abbrev pub outcome_text : FoundRun → List ℕ
 outcome_text r = shown r.loaded.program.layout (verdict_of r.outcome)
 
--- a run statement by statement: in words, between the numbers that are asked for, and then its outcome
+-- a run statement by statement: in words, between the numbers that are asked for, beside the text as it stands in its file, and then its
+-- outcome
 abbrev pub IsInWords : Terminal → FoundRun → List Entry → List ℕ → Type 0
 IsInWords on r entries text = (manner : Manner) × IsManner on r.loaded.source.bytes.items manner
     × (text ≡ told_text r.loaded.program.layout manner r.outcome entries r.words.steps.from r.words.steps.to)
 
--- drawn, or as a page, where that is asked for
+-- drawn, or as a page with the text that its sizes give, where that is asked for
 abbrev pub AreStepsText : (svg html : Bool) → Terminal → FoundRun → List Entry → List ℕ → Type 0
 AreStepsText true html on r entries text = text ≡ steps.picture r.loaded.program.layout entries
-AreStepsText false true on r entries text = IsPage r.loaded.source.bytes.items r.loaded.program r.input.items r.outcome entries text
+AreStepsText false true on r entries text = IsPage (text_in r.loaded.source) r.loaded.program r.input.items r.outcome entries text
 AreStepsText false false on r entries text = IsInWords on r entries text
 
 -- the text of a run, by what was found beside its outcome
@@ -65,6 +67,7 @@ abbrev pub IsTextOf : Terminal → Found → List ℕ → Type 0
 IsTextOf on found.Version text = text ≡ version_text
 IsTextOf on (found.Explanation subject) text = text ≡ explanation subject
 IsTextOf on (found.Accepted l) text = text ≡ accepted_line l.program
+IsTextOf on (found.Expanded s) text = text ≡ text_in s
 IsTextOf on (found.Planned code) text = text ≡ spelling code
 IsTextOf on (found.Compared c) text = text ≡ comparison_text c
 IsTextOf on (found.Run r) text = IsRunText on r r.facts text

@@ -10,10 +10,11 @@ ghost use Rattle.command_facts.specs.Written.{IsReported};
 ghost use Rattle.command_text.specs.Explained as spec;
 
 use command_facts::{Found, FoundCode, FoundRun, Halted};
-use diagnoses::{who_met, write_fault_sentence, write_run_fault, write_stop_diagnosis};
+use diagnoses::{
+    who_met, write_fault_sentence, write_refused_line, write_run_fault, write_stop_diagnosis,
+};
 use pram_check::Program;
 use pram_values::Place;
-use program_texts::write_stop;
 use std::alloc::Global;
 use text_out::{Out, WriteFault};
 use write_rules::{Fault, Outcome};
@@ -29,7 +30,7 @@ fn write_halt<E: Out>(
     ensures written { (r : Remark) × HasRemark halted.now.stop halted.now.about r × Writes (E.Out.state err.old) (E.Out.state err.new)
         (spec.refusal_text explains halted.now.stop halted.now.about r) result }
 {
-    write_stop(err, &halted.stop)?;
+    write_refused_line(err, &halted.stop, &halted.about)?;
     if explains {
         write_stop_diagnosis(alloc, err, &halted.stop, &halted.about)
     } else {
@@ -123,6 +124,7 @@ pub(crate) fn explain<E: Out>(alloc: Global, err: &mut E, found: &Found<'_>, exp
         Found::Version => {}
         Found::Explanation(_) => {}
         Found::Accepted(_) => {}
+        Found::Expanded(_) => {}
         Found::Planned(_) => {}
         Found::Compared(_) => {}
     }

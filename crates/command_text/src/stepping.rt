@@ -3,6 +3,7 @@
 ghost use Rattle.std.specs.Prelude.{◌<◌, ◌^◌, ℕ, IfOk, List, map};
 ghost use Rattle.std.specs.String.{string_bytes};
 ghost use Rattle.text_out.specs.Out.{Writes};
+ghost use Rattle.diagnoses.specs.Sources.{text_in};
 ghost use Rattle.command_facts.specs.Written.{Wrote, WroteSome};
 ghost use Rattle.program_texts.specs.Status.{status_of};
 ghost use Rattle.step_entries.specs.Entries.{entry_is};
@@ -107,13 +108,14 @@ fn write_pictured<'a, O: Out>(
     finish(out, Status::of(outcome))
 }
 
-// The facts of a run, for its page: what is known before the first statement, all entries, and the outcome.
+// The facts of a run, for its page: what is known before the first statement, all entries, and the outcome. Their offsets are of the text
+// that was read as a program.
 fn page_facts(alloc: Global, run: &FoundRun<'_>, entries: &[Entry]) -> Result<String, AllocError>
-    ensures facts { IfOk result (λ facts. spec.AreFacts run.now.loaded.source.bytes.items run.now.loaded.program run.now.input.items
+    ensures facts { IfOk result (λ facts. spec.AreFacts (text_in run.now.loaded.source) run.now.loaded.program run.now.input.items
         run.now.outcome (map entry_is entries.now) (string_bytes facts)) }
 {
     let program = &run.loaded.program;
-    let text = run.loaded.source.bytes.as_slice();
+    let text = run.loaded.source.text();
     let mut facts = opening_line(alloc, text, program.tree(), &run.input)?;
     let last = entries.len();
     let lines = json_steps(alloc, program.layout(), &run.outcome, entries, 1, last)?;
@@ -139,7 +141,7 @@ fn write_as_page<'a, O: Out>(
     out: &mut O,
 ) -> Result<Status, Stop<'a>>
     requires out { (O.Out.state out.old).failures < 2 ^ 62 }
-    ensures written { WroteSome (status_of run.now.outcome) (Unit {0}) (spec.IsPage run.now.loaded.source.bytes.items
+    ensures written { WroteSome (status_of run.now.outcome) (Unit {0}) (spec.IsPage (text_in run.now.loaded.source)
         run.now.loaded.program run.now.input.items run.now.outcome (map entry_is entries.now)) (O.Out.state out.old) (O.Out.state out.new) result }
 {
     let facts = page_facts(alloc, run, entries)?;

@@ -10,7 +10,7 @@ use crate::stepping::write_steps_of;
 use crate::terminal::Terminal;
 use crate::writing::{
     write_accepted, write_costs, write_drawn, write_exchanges, write_outcome, write_plan,
-    write_rules, write_subject, write_version,
+    write_rules, write_subject, write_text, write_version,
 };
 use command_facts::{Facts, Found, FoundRun};
 use exchange_counts::Counts;
@@ -71,6 +71,7 @@ pub(crate) fn write_found<'a, O: Out>(
         Found::Version => write_version(out),
         Found::Explanation(subject) => write_subject(out, *subject),
         Found::Accepted(loaded) => write_accepted(out, &loaded.program),
+        Found::Expanded(source) => write_text(out, source.text()),
         Found::Planned(code) => write_plan(out, code.code()),
         Found::Compared(comparison) => write_rules(out, comparison),
         Found::Run(run) => write_run(alloc, on, run, out),

@@ -138,6 +138,15 @@ pub(crate) fn write_drawn<'a, O: Out>(
     finish(out, Status::of(outcome))
 }
 
+/// Writes a text as it is.
+pub(crate) fn write_text<'a, O: Out>(out: &mut O, text: &[u8]) -> Result<Status, Stop<'a>>
+    requires out { (O.Out.state out.old).failures < 2 ^ 62 }
+    ensures written { Wrote Done text.now (O.Out.state out.old) (O.Out.state out.new) result }
+{
+    out.write_all(text)?;
+    finish(out, Status::Done)
+}
+
 /// Writes the listing of a program's code.
 pub(crate) fn write_plan<'a, O: Out>(out: &mut O, code: &Code) -> Result<Status, Stop<'a>>
     requires out { (O.Out.state out.old).failures < 2 ^ 62 }

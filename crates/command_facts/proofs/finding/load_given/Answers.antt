@@ -1,4 +1,5 @@
 use Rattle.std.proofs.Common.{inr}
+use Rattle.command_facts.proofs.Programs.{program_in}
 use Rattle.command_facts.proofs.Same.{hands_on, input_held, input_stops}
 use Rattle.command_facts.proofs.finding.load_given.Goals as goal
 
@@ -6,7 +7,7 @@ pub returns-in_err-input-clause-refused : goal.returns-in_err-input-clause-refus
 returns-in_err-input-clause-refused g c =
     let loaded = c.in_ok-loaded.loaded in
     hands_on _ c.in_err-input.field-0.0 _ c.from_residual-in_err-input.ensures.1 (inr (
-      (loaded.program, record { text = loaded.source.bytes.items; held = c.in_ok-loaded.ensures.held; is_program = c.in_ok-loaded.ensures.program }),
+      (loaded.program, program_in (g.S.Sources.holds c.args.sources.now) c.args.file.now loaded c.in_ok-loaded.ensures.loaded),
       input_stops _ _ c.in_ok-loaded.ensures.same c.args.words _ c.in_err-input.ensures.of_file,
     ))
 

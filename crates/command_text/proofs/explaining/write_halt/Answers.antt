@@ -2,14 +2,14 @@ use Rattle.diagnoses.specs.Remarks.{Nothing}
 use Rattle.command_text.proofs.Reporting.{line_cut_off, nothing_said, said_behind}
 use Rattle.command_text.proofs.explaining.write_halt.Goals as goal
 
-pub returns-in_err-write_stop : goal.returns-in_err-write_stop
-returns-in_err-write_stop g c =
+pub returns-in_err-write_refused_line : goal.returns-in_err-write_refused_line
+returns-in_err-write_refused_line g c =
     let h = c.args.halted.now in
     record {
       written = (
         Nothing,
         nothing_said h.stop h.about,
-        line_cut_off c.args.explains h.stop h.about Nothing _ _ c.from_residual.result _ c.from_residual.ensures.1 c.in_err-write_stop.ensures.written,
+        line_cut_off c.args.explains h.stop h.about Nothing _ _ c.from_residual.result _ c.from_residual.ensures.1 c.in_err-write_refused_line.ensures.written,
       );
     }
 
@@ -21,6 +21,6 @@ returns-then-explains g c =
       written = (
         w.0,
         w.1,
-        said_behind c.args.explains h.stop h.about w.0 _ _ _ c.write_stop_diagnosis.result c.if-explains.true c.in_ok-write_stop.ensures.written w.2,
+        said_behind c.args.explains h.stop h.about w.0 _ _ _ c.write_stop_diagnosis.result c.if-explains.true c.in_ok-write_refused_line.ensures.written w.2,
       );
     }

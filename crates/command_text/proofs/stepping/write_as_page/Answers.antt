@@ -1,4 +1,5 @@
 use Rattle.std.proofs.Common.{List, ℕ, map, refl, subst, sym}
+use Rattle.diagnoses.specs.Sources.{text_in}
 use Rattle.step_entries.specs.Entries.{entry_is}
 use Rattle.command_facts.proofs.Writing.{wrote_some}
 use Rattle.command_text.specs.Steps.{AreFacts}
@@ -11,7 +12,7 @@ returns g c =
     record {
       written = wrote_some _ _ _ _ _ _ c.write_paged.result (record {
         facts = c.as_bytes.result.now;
-        are = subst (λ (f : List ℕ). AreFacts run.loaded.source.bytes.items run.loaded.program run.input.items run.outcome
+        are = subst (λ (f : List ℕ). AreFacts (text_in run.loaded.source) run.loaded.program run.input.items run.outcome
             (map entry_is c.args.entries.now) f) (sym c.as_bytes.ensures.value) c.in_ok-facts.ensures.facts;
         kept = w.0;
         cut = w.1;

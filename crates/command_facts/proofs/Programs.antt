@@ -1,0 +1,39 @@
+-- Programs that were loaded are those of their files.
+use Rattle.std.proofs.Common.{◌≡◌, ℕ, List}
+use Rattle.std.specs.Prelude.{Option, Some, None}
+use Rattle.sized_texts.specs.Faults.{shown}
+use Rattle.sized_texts.specs.Pieces.{Expansion}
+use Rattle.sized_texts.specs.declared.expanded.Expanded.{Expanded}
+use Rattle.superstep_instructions.specs.Code.{SuperstepCode}
+use Rattle.compiled_meaning.specs.Supersteps.{IsFusedForm}
+use Rattle.program_runs.specs.Compiled.{IsCodeOf, IsCompiledFrom}
+use Rattle.program_texts.specs.Report.{IsProgramOf}
+use Rattle.diagnoses.specs.Sources.{text_by}
+use Rattle.command_requests.specs.declared.request.ProgramFile.{ProgramFile}
+use Rattle.command_facts.specs.declared.loaded.Loaded.{Loaded}
+use Rattle.command_facts.specs.Expanded.{HasExpansion, IsExpansionIn}
+use Rattle.command_facts.specs.Found.{IsLoaded}
+use Rattle.command_facts.specs.Given.{size_words}
+use Rattle.command_facts.specs.Refused.{IsProgramIn}
+
+-- what is so of the text that a source gives is so of the expansion of what its file holds
+expansion_in : (holds : Option (List ℕ) → Type 0) (words : List (List ℕ)) (bytes : List ℕ) (x : Option Expanded) (Is : List ℕ → Type 0) →
+    holds (Some bytes) → HasExpansion words bytes x → Is (text_by x bytes) → (e : Expansion) × IsExpansionIn holds words e × Is e.text
+expansion_in holds words bytes None Is held has is = absurd has
+expansion_in holds words bytes (Some e) Is held has is = (shown e, (bytes, held, has), is)
+
+pub program_in : (holds : List ℕ → Option (List ℕ) → Type 0) (file : ProgramFile) (l : Loaded) → IsLoaded (holds file.name.now) file l →
+    IsProgramIn holds file l.program
+program_in holds file l is =
+    let found = expansion_in (holds file.name.now) (size_words file) l.source.bytes.items l.source.expansion
+        (λ (t : List ℕ). IsProgramOf t l.program) is.0.0 is.0.1 is.1 in
+    record { expansion = found.0; is_expansion = found.1; is_program = found.2 }
+
+-- so is their code
+pub code_in : (holds : List ℕ → Option (List ℕ) → Type 0) (file : ProgramFile) (l : Loaded) (code : SuperstepCode) →
+    IsLoaded (holds file.name.now) file l → IsCodeOf l.program code → IsFusedForm l.program code →
+    (e : Expansion) × IsExpansionIn (holds file.name.now) (size_words file) e × IsCompiledFrom e.text code
+code_in holds file l code is is_code means =
+    let found = program_in holds file l is in
+    (found.expansion, found.is_expansion,
+      record { program = l.program; is_program = found.is_program; is_code = is_code; means = means })
