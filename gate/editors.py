@@ -37,9 +37,10 @@ def commands():
     makers = {}
     for maker, body in re.findall(r"^(?:pub\(crate\) )?fn (\w+)<'a>\(.*?\{\n(.*?)^\}", text, re.M | re.S):
         found = re.findall(r'\.long\((\w+)\)(?:\s*\.value_name\("([^"]*)"\))?', body)
-        options = {words[option]: value for option, value in found}
-        below = next((makers[it] for it in makers if f"{it}(alloc, words)" in body), {})
-        makers[maker] = {**below, **options}
+        below = [makers[it] for it in makers if f"{it}(alloc, " in body]
+        makers[maker] = {words[option]: value for option, value in found}
+        for it in below:
+            makers[maker].update(it)
     found = re.findall(r"\.subcommand\((?:(\w+)\(alloc, )?(\w+)\(alloc, &(\w+)\)\?\)", text)
     return {names[of]: {**makers.get(around, {}), **makers[maker]} for around, maker, of in found}
 
