@@ -3,6 +3,7 @@ pub mod Writing
 pub mod Layouts
 pub mod Files
 pub mod Same
+pub mod Texts
 pub mod Programs
 pub mod Sizes
 pub mod Refusals

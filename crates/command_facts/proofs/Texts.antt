@@ -1,0 +1,45 @@
+-- Texts that were read, with their expansions or without.
+use Rattle.std.proofs.Common.{◌≡◌, ℕ, List, subst, sym}
+use Rattle.std.specs.Prelude.{◌⊎◌, Option, Some, None}
+use Rattle.pram_tokens.specs.Scanning.{longest}
+use Rattle.sized_texts.specs.Faults.{shown}
+use Rattle.sized_texts.specs.declared.expanded.Expanded.{Expanded}
+use Rattle.system_files.specs.Files.{IsReadFrom}
+use Rattle.program_texts.specs.declared.stop.Stop.{Stop}
+use Rattle.diagnoses.specs.declared.about.About.{About}
+use Rattle.diagnoses.specs.declared.about.About.TheVariants as about
+use Rattle.diagnoses.specs.declared.source.Source.{Source}
+use Rattle.command_requests.specs.declared.request.ProgramFile.{ProgramFile}
+use Rattle.command_facts.specs.declared.halted.Halted.{Halted}
+use Rattle.command_facts.specs.Expanded.{HasExpansion, HasNoExpansion, IsExpandedBy}
+use Rattle.command_facts.specs.Given.{IsOfSizes, size_words}
+use Rattle.command_facts.specs.Held.{IsAtText, IsUnread, StopsAtText}
+use Rattle.command_facts.proofs.Files.{read_whole}
+
+module _ (holds : Option (List ℕ) → Type 0) (file : ProgramFile) where
+  -- a word gives no size, or the file wasn't read
+  pub stops_before_text : (h : Halted) (why : Stop) → (h.stop ≡ why) × (h.about ≡ about.Nothing) →
+      IsOfSizes (size_words file) why ⊎ IsUnread holds file.name.now why → StopsAtText holds file h
+  stops_before_text h why is said = subst (λ (a : About). IsAtText holds file h.stop a) (sym is.1)
+      (subst (λ (s : Stop). IsOfSizes (size_words file) s ⊎ IsUnread holds file.name.now s) (sym is.0) said)
+
+  -- the text has no expansion
+  pub stops_at_text : (s : Source) (bytes text : List ℕ) (words : List (List ℕ)) (why : Stop) → s.bytes.items ≡ bytes → s.expansion ≡ None →
+      text ≡ bytes → words ≡ size_words file → IsReadFrom holds longest bytes → HasNoExpansion words text why →
+      IsAtText holds file why (about.Text s)
+  stops_at_text s bytes text words why are itself same given read has = (
+    subst (IsReadFrom holds longest) (sym are) read,
+    itself,
+    subst (λ (t : List ℕ). HasNoExpansion (size_words file) t why) (sym are)
+        (subst (λ (t : List ℕ). HasNoExpansion (size_words file) t why) same
+        (subst (λ (ws : List (List ℕ)). HasNoExpansion ws text why) given has)),
+  )
+
+  -- it has one
+  pub text_held : (bytes text : List ℕ) (words : List (List ℕ)) (e : Expanded) → text ≡ bytes → words ≡ size_words file →
+      IsReadFrom holds longest bytes → IsExpandedBy words text (shown e) →
+      holds (Some bytes) × HasExpansion (size_words file) bytes (Some e)
+  text_held bytes text words e same given read is =
+      let has = subst (λ (t : List ℕ). IsExpandedBy (size_words file) t (shown e)) same
+          (subst (λ (ws : List (List ℕ)). IsExpandedBy ws text (shown e)) given is) in
+      (read_whole holds longest bytes has.plain.fits read, has)
