@@ -1,12 +1,12 @@
 //! The sizes that the words of a call give.
 
-ghost use Rattle.std.specs.Prelude.{◌≡◌, IfOk, IfErr, map};
+ghost use Rattle.std.specs.Prelude.{◌≡◌, ◌++◌, ◌∷◌, [], IfOk, IfErr, OnOk, map};
 ghost use Rattle.pram_model.specs.Names.{same_text};
 ghost use Rattle.command_facts.specs.Given as spec;
 
 use program_texts::Stop;
 use sized_texts::{Size, read_size};
-use std::alloc::Global;
+use std::alloc::{AllocError, Global};
 
 fn is_same(a: &[u8], b: &[u8]) -> bool
     ensures { result ≡ same_text a.now b.now }
@@ -43,6 +43,14 @@ fn new_size<'a>(alloc: Global, sizes: &[Size], word: &'a str) -> Result<Size, St
     }
 }
 
+// Puts a size behind others.
+fn add_size(sizes: &mut Vec<Size>, size: Size) -> Result<(), AllocError>
+    ensures { OnOk result (sizes.new.items ≡ sizes.old.items ++ size ∷ []) }
+{
+    sizes.push(size)?;
+    Ok(())
+}
+
 /// The sizes of words, each of which is to give one of a name of its own. The first word that doesn't is refused (P1).
 pub(crate) fn sizes_of<'a>(alloc: Global, words: &[&'a str]) -> Result<Vec<Size>, Stop<'a>>
     ensures sizes { IfOk result (λ sizes. spec.AreSizesOf (map (λ w. w.now) words.now) sizes.items) }
@@ -51,7 +59,7 @@ pub(crate) fn sizes_of<'a>(alloc: Global, words: &[&'a str]) -> Result<Vec<Size>
     let mut sizes = Vec::new(alloc);
     for word in words {
         let size = new_size(alloc, &sizes, word)?;
-        sizes.push(size)?;
+        add_size(&mut sizes, size)?;
     }
     Ok(sizes)
 }
