@@ -5,7 +5,6 @@ pub mod Files
 pub mod Same
 pub mod Texts
 pub mod Programs
-pub mod Sizes
 pub mod Refusals
 pub mod Comparisons
 pub mod Alone

@@ -11,9 +11,10 @@ use Rattle.program_texts.specs.Report.{IsProgramOf}
 use Rattle.diagnoses.specs.Sources.{text_by}
 use Rattle.command_requests.specs.declared.request.ProgramFile.{ProgramFile}
 use Rattle.command_facts.specs.declared.loaded.Loaded.{Loaded}
-use Rattle.command_facts.specs.Expanded.{HasExpansion, IsExpansionIn}
+use Rattle.command_sizes.specs.Expanded.{HasExpansion}
 use Rattle.command_facts.specs.Found.{IsLoaded}
-use Rattle.command_facts.specs.Given.{size_words}
+use Rattle.command_sizes.specs.Given.{size_words}
+use Rattle.command_facts.specs.Held.{IsExpansionIn}
 use Rattle.command_facts.specs.Refused.{IsProgramIn}
 
 -- what is so of the text that a source gives is so of the expansion of what its file holds

@@ -11,8 +11,8 @@ use Rattle.diagnoses.specs.declared.about.About.TheVariants as about
 use Rattle.diagnoses.specs.declared.source.Source.{Source}
 use Rattle.command_requests.specs.declared.request.ProgramFile.{ProgramFile}
 use Rattle.command_facts.specs.declared.halted.Halted.{Halted}
-use Rattle.command_facts.specs.Expanded.{HasExpansion, HasNoExpansion, IsExpandedBy}
-use Rattle.command_facts.specs.Given.{IsOfSizes, size_words}
+use Rattle.command_sizes.specs.Expanded.{HasExpansion, HasNoExpansion, IsExpandedBy}
+use Rattle.command_sizes.specs.Given.{IsOfSizes, size_words}
 use Rattle.command_facts.specs.Held.{IsAtText, IsUnread, StopsAtText}
 use Rattle.command_facts.proofs.Files.{read_whole}
 

@@ -36,9 +36,8 @@ use Rattle.command_facts.specs.declared.loaded.Loaded.{Loaded}
 use Rattle.diagnoses.specs.Sources.{text_in}
 use Rattle.sized_texts.specs.Pieces.{Expansion}
 use Rattle.command_requests.specs.declared.request.ProgramFile.{ProgramFile}
-use Rattle.command_facts.specs.Expanded.{IsExpansionIn, IsTextIn}
-use Rattle.command_facts.specs.Given.{size_words}
-use Rattle.command_facts.specs.Held.{IsInputIn, IsListingIn}
+use Rattle.command_sizes.specs.Given.{size_words}
+use Rattle.command_facts.specs.Held.{IsExpansionIn, IsInputIn, IsListingIn, IsTextIn}
 
 -- ---- costs
 

@@ -17,8 +17,10 @@ use Rattle.diagnoses.specs.declared.about.About.TheVariants as about
 use Rattle.command_facts.specs.declared.halted.Halted.{Halted}
 use Rattle.diagnoses.specs.Sources.{text_in}
 use Rattle.command_requests.specs.declared.request.ProgramFile.{ProgramFile}
-use Rattle.command_facts.specs.Expanded.{HasNoExpansion, IsTextIn}
-use Rattle.command_facts.specs.Given.{IsOfSizes, size_words}
+use Rattle.diagnoses.specs.declared.source.Source.{Source}
+use Rattle.sized_texts.specs.Pieces.{Expansion}
+use Rattle.command_sizes.specs.Expanded.{HasExpansion, HasNoExpansion, IsExpandedBy}
+use Rattle.command_sizes.specs.Given.{IsOfSizes, size_words}
 use Rattle.command_facts.specs.Listings.{IsOfListing, IsUnverifiedText}
 
 -- the file holds an input of these values
@@ -34,6 +36,14 @@ abbrev pub IsUnread : (Option (List ℕ) → Type 0) → List ℕ → Stop → T
 IsUnread holds name (stop.Unreadable word) = (word.now ≡ name) × holds None
 IsUnread holds name (stop.Refused refusal.OutOfMemory) = Unit {0}
 IsUnread holds name _ = ⊥
+
+-- a text that was read is all that the file holds, and has its expansion by the sizes of the words
+abbrev pub IsTextIn : (Option (List ℕ) → Type 0) → (words : List (List ℕ)) → Source → Type 0
+IsTextIn holds words s = holds (Some s.bytes.items) × HasExpansion words s.bytes.items s.expansion
+
+-- what all that the file holds comes to by the sizes of the words
+abbrev pub IsExpansionIn : (Option (List ℕ) → Type 0) → (words : List (List ℕ)) → Expansion → Type 0
+IsExpansionIn holds words e = (text : List ℕ) × holds (Some text) × IsExpandedBy words text e
 
 -- A call stops at a file that stands for itself: it wasn't read; or what it holds, as far as it was read, has what is told.
 abbrev pub IsAtFile : (Option (List ℕ) → Type 0) → List ℕ → (most : ℕ) → (Stop → List ℕ → Type 0) → Stop → About → Type 0

@@ -22,9 +22,8 @@ use Rattle.command_facts.specs.declared.halted.Halted.{Halted}
 use Rattle.command_facts.specs.Found.{IsInputFor}
 use Rattle.sized_texts.specs.Pieces.{Expansion}
 use Rattle.command_requests.specs.declared.request.ProgramFile.{ProgramFile}
-use Rattle.command_facts.specs.Expanded.{IsExpansionIn}
-use Rattle.command_facts.specs.Given.{size_words}
-use Rattle.command_facts.specs.Held.{IsListingIn, StopsAtInput, StopsAtListing, StopsAtProgram, StopsAtText}
+use Rattle.command_sizes.specs.Given.{size_words}
+use Rattle.command_facts.specs.Held.{IsExpansionIn, IsListingIn, StopsAtInput, StopsAtListing, StopsAtProgram, StopsAtText}
 
 -- ---- what is told of a run that is refused
 

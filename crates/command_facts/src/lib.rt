@@ -1,14 +1,12 @@
 //! What a call of the program finds in its files, and of their programs' runs, before anything is written of it.
 #![tactic(auto)]
 
-mod expanding;
 mod finding;
 mod found;
 mod halted;
 mod loaded;
 mod loading;
 mod running;
-mod sizing;
 mod status;
 
 pub use finding::find;

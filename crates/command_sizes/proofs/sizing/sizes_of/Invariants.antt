@@ -1,6 +1,6 @@
 use Rattle.std.proofs.Common.{map, take}
-use Rattle.command_facts.specs.Given.{AreSizesOf}
-use Rattle.command_facts.proofs.sizing.sizes_of.Given as goal
+use Rattle.command_sizes.specs.Given.{AreSizesOf}
+use Rattle.command_sizes.proofs.sizing.sizes_of.Given as goal
 
 -- the sizes so far are those of the words so far
 abbrev pub invariant-loop-word : goal.invariant-loop-word

@@ -1,8 +1,9 @@
 -- The sizes that words give, word by word, and the words of sizes that a text doesn't declare.
-use Rattle.std.proofs.Common.{◌≡◌, ◌∙◌, ◌+◌, ◌<◌, ℕ, List, [], ◌∷◌, ◌++◌, length, map, get_or, ap, arith, length-append, refl, subst}
-use Rattle.std.proofs.lemmas.List.{position-Some}
+use Rattle.std.proofs.Common.{◌≡◌, ◌∙◌, ◌+◌, ◌<◌, ℕ, List, [], ◌∷◌, ◌++◌, length, map, take, drop, get_or, ap, arith, length-append, refl, subst, sym}
+use Rattle.std.proofs.lemmas.List.{drop_more, map-append, map_more, take-append-drop}
+use Rattle.std.proofs.lemmas.List.Quantifiers.{position-Some}
 use Rattle.std.proofs.lemmas.Option.{slice_get-map, slice_get_read}
-use Rattle.std.specs.Prelude.{Bool, true, false, if◌then◌else◌, nat_lt, Option, Some, None, Result, Ok, Err}
+use Rattle.std.specs.Prelude.{Bool, true, false, if◌then◌else◌, nat_lt, Option, Some, None, Result, Ok, Err, IfErr, IsErrAnd}
 use Rattle.std.specs.List.{position, slice_get}
 use Rattle.std.specs.Option.{option_map}
 use Rattle.pram_tokens.specs.Scanning.{longest}
@@ -16,7 +17,10 @@ use Rattle.sized_texts.specs.declared.fault.SizeFault.{SizeFault}
 use Rattle.sized_texts.specs.declared.fault.SizeFault.TheVariants.{NotDeclared, TooLong}
 use Rattle.sized_texts.specs.declared.size.Size.{Size}
 use Rattle.sized_texts.specs.declared.stop.Wrong.{Wrong}
-use Rattle.command_facts.specs.Given.{AreSizesOf, GiveSizes, IsNewSize}
+use Rattle.program_texts.specs.declared.from_text.Refusal.TheVariants as refusal
+use Rattle.program_texts.specs.declared.stop.Stop.{Stop}
+use Rattle.program_texts.specs.declared.stop.Stop.TheVariants as stop
+use Rattle.command_sizes.specs.Given.{AreSizesOf, GiveSizes, IsFirstWrong, IsNewSize, IsNoNewSize, IsOfSizes, IsWordRefused}
 
 -- ---- word by word
 
@@ -37,7 +41,56 @@ as_many before (w ∷ words) all given =
 
 -- there are as many sizes as words
 pub one_each : (words : List (List ℕ)) (all : List Size) → AreSizesOf words all → length all ≡ length words
-one_each words all given = as_many [] words all given
+one_each words all given = let many = as_many [] words all given in omega (arith, many)
+
+module _ {A : Type 0} (v : A → List ℕ) (words : List A) (i : ℕ) (d : A) (inside : i < length words) (sizes : List Size)
+    (given : AreSizesOf (map v (take i words)) sizes) where
+  -- so the next word does, if it gives one
+  pub one_more : (before all : List Size) (s : Size) → before ≡ sizes → IsNewSize before (v (get_or words i d)) s → all ≡ sizes ++ s ∷ [] →
+      AreSizesOf (map v (take (i + 1) words)) all
+  one_more before all s same new is =
+      let more = behind [] (map v (take i words)) sizes (v (get_or words i d)) s given
+          (subst (λ (m : List Size). IsNewSize m (v (get_or words i d)) s) same new) in
+      subst (λ (ws : List (List ℕ)). AreSizesOf ws all) (sym (map_more v words i d inside)) (subst (AreSizesOf _) (sym is) more)
+
+  whole_of : map v words ≡ map v (take i words) ++ v (get_or words i d) ∷ map v (drop (i + 1) words)
+  whole_of =
+      ap (map v) (sym (take-append-drop i words)) ∙ map-append v (take i words) (drop i words)
+      ∙ ap (λ (rest : List A). map v (take i words) ++ map v rest) (drop_more words i d inside)
+
+  -- and if it doesn't, it is the first one
+  first_wrong : (before : List Size) (told : List ℕ) → before ≡ sizes → told ≡ v (get_or words i d) → IsNoNewSize before (v (get_or words i d)) →
+      IsFirstWrong (map v words) told
+  first_wrong before told same is wrong = record {
+    front = map v (take i words);
+    back = map v (drop (i + 1) words);
+    whole = whole_of ∙ ap (λ (w : List ℕ). map v (take i words) ++ w ∷ map v (drop (i + 1) words)) (sym is);
+    sizes = sizes;
+    given = given;
+    wrong = subst (IsNoNewSize sizes) (sym is) (subst (λ (m : List Size). IsNoNewSize m (v (get_or words i d))) same wrong);
+  }
+
+  pub refused_at : (before : List Size) (why : Stop) → before ≡ sizes → IsWordRefused before (v (get_or words i d)) why →
+      IsOfSizes (map v words) why
+  refused_at before (stop.Number word) same h = first_wrong before word.now same h.0 h.1
+  refused_at before (stop.Refused refusal.OutOfMemory) same h = tt
+  refused_at before (stop.Refused (refusal.Text fault)) same h = absurd h
+  refused_at before (stop.Refused (refusal.Program breach)) same h = absurd h
+  refused_at before (stop.Refused refusal.InputTooLong) same h = absurd h
+  refused_at before (stop.Refused refusal.BadMap) same h = absurd h
+  refused_at before (stop.Refused refusal.BadWorkers) same h = absurd h
+  refused_at before (stop.Refused refusal.OutOfReserve) same h = absurd h
+  refused_at before (stop.Words text) same h = absurd h
+  refused_at before (stop.Unreadable name) same h = absurd h
+  refused_at before (stop.NotVerified at reason) same h = absurd h
+  refused_at before (stop.BadListing at) same h = absurd h
+  refused_at before stop.WriteFailed same h = absurd h
+  refused_at before (stop.BadSize at reason) same h = absurd h
+
+-- what an answer hands on
+pub hands_on : {X E : Type 0} (r : Result X E) (e : E) (P : E → Type 0) → IsErrAnd r (λ x. x ≡ e) → P e → IfErr r P
+hands_on (Ok x) e P is h = absurd is
+hands_on (Err x) e P is h = subst P (sym is) h
 
 -- ---- sizes that a text doesn't declare
 

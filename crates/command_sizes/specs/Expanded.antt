@@ -14,8 +14,7 @@ use Rattle.sized_texts.specs.declared.size.Size.{Size}
 use Rattle.program_texts.specs.declared.from_text.Refusal.TheVariants as refusal
 use Rattle.program_texts.specs.declared.stop.Stop.{Stop}
 use Rattle.program_texts.specs.declared.stop.Stop.TheVariants as stop
-use Rattle.diagnoses.specs.declared.source.Source.{Source}
-use Rattle.command_facts.specs.Given.{AreSizesOf}
+use Rattle.command_sizes.specs.Given.{AreSizesOf}
 
 -- the text has that expansion by the sizes of the words
 pub record IsExpandedBy (words : List (List ℕ)) (text : List ℕ) (e : Expansion) : Type 0 where
@@ -28,14 +27,6 @@ pub record IsExpandedBy (words : List (List ℕ)) (text : List ℕ) (e : Expansi
 abbrev pub HasExpansion : (words : List (List ℕ)) → (text : List ℕ) → Option Expanded → Type 0
 HasExpansion words text None = ⊥
 HasExpansion words text (Some e) = IsExpandedBy words text (shown e)
-
--- a text that was read is all that the file holds, and has its expansion by the sizes of the words
-abbrev pub IsTextIn : (Option (List ℕ) → Type 0) → (words : List (List ℕ)) → Source → Type 0
-IsTextIn holds words s = holds (Some s.bytes.items) × HasExpansion words s.bytes.items s.expansion
-
--- what all that the file holds comes to by the sizes of the words
-abbrev pub IsExpansionIn : (Option (List ℕ) → Type 0) → (words : List (List ℕ)) → Expansion → Type 0
-IsExpansionIn holds words e = (text : List ℕ) × holds (Some text) × IsExpandedBy words text e
 
 -- ---- texts without an expansion
 

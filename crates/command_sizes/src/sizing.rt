@@ -2,7 +2,7 @@
 
 ghost use Rattle.std.specs.Prelude.{◌≡◌, ◌++◌, ◌∷◌, [], IfOk, IfErr, OnOk, map};
 ghost use Rattle.pram_model.specs.Names.{same_text};
-ghost use Rattle.command_facts.specs.Given as spec;
+ghost use Rattle.command_sizes.specs.Given as spec;
 
 use program_texts::Stop;
 use sized_texts::{Size, read_size};
@@ -52,7 +52,7 @@ fn add_size(sizes: &mut Vec<Size>, size: Size) -> Result<(), AllocError>
 }
 
 /// The sizes of words, each of which is to give one of a name of its own. The first word that doesn't is refused (P1).
-pub(crate) fn sizes_of<'a>(alloc: Global, words: &[&'a str]) -> Result<Vec<Size>, Stop<'a>>
+pub fn sizes_of<'a>(alloc: Global, words: &[&'a str]) -> Result<Vec<Size>, Stop<'a>>
     ensures sizes { IfOk result (λ sizes. spec.AreSizesOf (map (λ w. w.now) words.now) sizes.items) }
     ensures refused { IfErr result (spec.IsOfSizes (map (λ w. w.now) words.now)) }
 {

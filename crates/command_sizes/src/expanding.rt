@@ -7,8 +7,8 @@ ghost use Rattle.sized_texts.specs.Expansion.{expansion};
 ghost use Rattle.sized_texts.specs.Faults.{Answers, shown};
 ghost use Rattle.sized_texts.specs.declared.fault.SizeFault.TheVariants.{NotDeclared};
 ghost use Rattle.sized_texts.specs.declared.size.Size.{Size as SizeOf};
-ghost use Rattle.command_facts.specs.Given.{AreSizesOf};
-ghost use Rattle.command_facts.specs.Expanded as spec;
+ghost use Rattle.command_sizes.specs.Given.{AreSizesOf};
+ghost use Rattle.command_sizes.specs.Expanded as spec;
 
 use pram_tokens::{LONGEST, first_other};
 use pram_trees::TextFault;
@@ -48,7 +48,7 @@ fn stop_of_sizes<'a>(fault: SizeFault, words: &[&'a str]) -> Stop<'a>
 ///
 /// A text of more than 1,048,576 bytes is E2, then the first byte of 128 or more E1. Then come the first bad place of its sizes (E19), the
 /// first word of a size that the text doesn't declare (P1), and an expansion that is too long (E2).
-pub(crate) fn expanded<'a>(
+pub fn expanded<'a>(
     alloc: Global,
     text: &[u8],
     words: &[&'a str],
