@@ -5,8 +5,7 @@ use Rattle.sized_texts.specs.Faults.{shown}
 use Rattle.sized_texts.specs.Pieces.{Expansion}
 use Rattle.sized_texts.specs.declared.expanded.Expanded.{Expanded}
 use Rattle.superstep_instructions.specs.Code.{SuperstepCode}
-use Rattle.compiled_meaning.specs.Supersteps.{IsFusedForm}
-use Rattle.program_runs.specs.Compiled.{IsCodeOf, IsCompiledFrom}
+use Rattle.program_runs.specs.Compiled.{IsCompiledFrom}
 use Rattle.program_texts.specs.Report.{IsProgramOf}
 use Rattle.diagnoses.specs.Sources.{text_by}
 use Rattle.command_requests.specs.declared.request.ProgramFile.{ProgramFile}
@@ -32,9 +31,7 @@ program_in holds file l is =
 
 -- so is their code
 pub code_in : (holds : List ℕ → Option (List ℕ) → Type 0) (file : ProgramFile) (l : Loaded) (code : SuperstepCode) →
-    IsLoaded (holds file.name.now) file l → IsCodeOf l.program code → IsFusedForm l.program code →
+    IsLoaded (holds file.name.now) file l → ((text : List ℕ) → IsProgramOf text l.program → IsCompiledFrom text code) →
     (e : Expansion) × IsExpansionIn (holds file.name.now) (size_words file) e × IsCompiledFrom e.text code
-code_in holds file l code is is_code means =
-    let found = program_in holds file l is in
-    (found.expansion, found.is_expansion,
-      record { program = l.program; is_program = found.is_program; is_code = is_code; means = means })
+code_in holds file l code is compiled =
+    let found = program_in holds file l is in (found.expansion, found.is_expansion, compiled found.expansion.text found.is_program)

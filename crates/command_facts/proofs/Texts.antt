@@ -1,6 +1,6 @@
 -- Texts that were read, with their expansions or without.
 use Rattle.std.proofs.Common.{◌≡◌, ℕ, List, subst, sym}
-use Rattle.std.specs.Prelude.{◌⊎◌, Option, Some, None}
+use Rattle.std.specs.Prelude.{◌⊎◌, Option, Some, None, Result, Ok, Err, IfErr, IsErrAnd}
 use Rattle.pram_tokens.specs.Scanning.{longest}
 use Rattle.sized_texts.specs.Faults.{shown}
 use Rattle.sized_texts.specs.declared.expanded.Expanded.{Expanded}
@@ -22,6 +22,12 @@ module _ (holds : Option (List ℕ) → Type 0) (file : ProgramFile) where
       IsOfSizes (size_words file) why ⊎ IsUnread holds file.name.now why → StopsAtText holds file h
   stops_before_text h why is said = subst (λ (a : About). IsAtText holds file h.stop a) (sym is.1)
       (subst (λ (s : Stop). IsOfSizes (size_words file) s ⊎ IsUnread holds file.name.now s) (sym is.0) said)
+
+  -- so says an answer
+  pub stops_with : {X : Type 0} (r : Result X Halted) (why : Stop) → IsErrAnd r (λ h. (h.stop ≡ why) × (h.about ≡ about.Nothing)) →
+      IsOfSizes (size_words file) why ⊎ IsUnread holds file.name.now why → IfErr r (StopsAtText holds file)
+  stops_with (Ok x) why is said = absurd is
+  stops_with (Err h) why is said = stops_before_text h why is said
 
   -- the text has no expansion
   pub stops_at_text : (s : Source) (bytes text : List ℕ) (words : List (List ℕ)) (why : Stop) → s.bytes.items ≡ bytes → s.expansion ≡ None →

@@ -38,7 +38,6 @@ fn load_given<'a, S: Sources>(
 }
 
 // The code of the file's program.
-#[tactic(auto, using(crate::proofs::Programs::program_in, crate::proofs::Programs::code_in))]
 fn find_code<'a, S: Sources>(
     alloc: Global,
     file: &ProgramFile<'a>,
