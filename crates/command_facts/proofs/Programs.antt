@@ -26,7 +26,7 @@ pub program_in : (holds : List ℕ → Option (List ℕ) → Type 0) (file : Pro
     IsProgramIn holds file l.program
 program_in holds file l is =
     let found = expansion_in (holds file.name.now) (size_words file) l.source.bytes.items l.source.expansion
-        (λ (t : List ℕ). IsProgramOf t l.program) is.0.0 is.0.1 is.1 in
+    (λ (t : List ℕ). IsProgramOf t l.program) is.0.0 is.0.1 is.1 in
     record { expansion = found.0; is_expansion = found.1; is_program = found.2 }
 
 -- so is their code

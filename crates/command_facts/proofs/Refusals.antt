@@ -1,6 +1,6 @@
 -- Why a run is refused, put together from its reason and from what is told besides.
-use Rattle.std.proofs.Common.{◌≡◌, ◌≤◌, ◌<◌, ℕ, ℤ, List, arith, refl, subst, sym}
-use Rattle.std.specs.Prelude.{◌↔◌, Option, length}
+use Rattle.std.proofs.Common.{◌≡◌, ◌∙◌, ◌≤◌, ◌<◌, ℕ, ℤ, List, ap, arith, refl, subst, sym}
+use Rattle.std.specs.Prelude.{◌↔◌, Option, length, Result, Err}
 use Rattle.pram_model.specs.Layout.{total_size}
 use Rattle.pram_check.specs.Checked.{Checked}
 use Rattle.superstep_instructions.specs.Code.{SuperstepCode}
@@ -32,6 +32,14 @@ no_meaning_on program input no_meaning.OutOfMemory is = few (λ long. differ (is
 
     few : (total_size program.layout < length input → ⊥) → length input ≤ total_size program.layout
     few h = omega (arith, h)
+
+-- so an answer says
+pub no_meaning_by : {X : Type 0} (program : Checked) (input : List ℤ) (why : MeaningRefusal) (r : Result X MeaningRefusal) → r ≡ Err why →
+    (r ≡ Err no_meaning.InputTooLong) ↔ (total_size program.layout < length input) → IsMeaningRefused program input (refusal_of_meaning why)
+no_meaning_by {X} program input why r is long = no_meaning_on program input why (λ e. long.0 (is ∙ ap Err e), λ h. same r is (long.1 h))
+  where
+    same : (r : Result X MeaningRefusal) → r ≡ Err why → r ≡ Err no_meaning.InputTooLong → why ≡ no_meaning.InputTooLong
+    same r is e = cc
 
 -- a program's run
 pub run_refused : (verb : Verb) (program : Checked) (input : List ℤ) (words : RunWords) (r : Refusal) (h : Halted) →

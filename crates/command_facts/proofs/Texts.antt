@@ -47,5 +47,5 @@ module _ (holds : Option (List ℕ) → Type 0) (file : ProgramFile) where
       holds (Some bytes) × HasExpansion (size_words file) bytes (Some e)
   text_held bytes text words e same given read is =
       let has = subst (λ (t : List ℕ). IsExpandedBy (size_words file) t (shown e)) same
-          (subst (λ (ws : List (List ℕ)). IsExpandedBy ws text (shown e)) given is) in
+      (subst (λ (ws : List (List ℕ)). IsExpandedBy ws text (shown e)) given is) in
       (read_whole holds longest bytes has.plain.fits read, has)

@@ -27,11 +27,7 @@ fn text_of<'a>(about: &'a About<'_>) -> &'a [u8]
 }
 
 // The line of a refusal, with its offset in the file.
-fn refusal_line(
-    alloc: Global,
-    stop: &Stop<'_>,
-    about: &About<'_>,
-) -> Result<String, AllocError>
+fn refusal_line(alloc: Global, stop: &Stop<'_>, about: &About<'_>) -> Result<String, AllocError>
     ensures told { IfOk result (λ line. IsJson (stop_facts (spec.text_of about.now) (stop_as_it_stands about.now stop.now) ∷ [])
         (string_bytes line)) }
 {

@@ -50,7 +50,7 @@ module _ {A : Type 0} (v : A → List ℕ) (words : List A) (i : ℕ) (d : A) (i
       AreSizesOf (map v (take (i + 1) words)) all
   one_more before all s same new is =
       let more = behind [] (map v (take i words)) sizes (v (get_or words i d)) s given
-          (subst (λ (m : List Size). IsNewSize m (v (get_or words i d)) s) same new) in
+      (subst (λ (m : List Size). IsNewSize m (v (get_or words i d)) s) same new) in
       subst (λ (ws : List (List ℕ)). AreSizesOf ws all) (sym (map_more v words i d inside)) (subst (AreSizesOf _) (sym is) more)
 
   whole_of : map v words ≡ map v (take i words) ++ v (get_or words i d) ∷ map v (drop (i + 1) words)

@@ -143,11 +143,7 @@ fn size_words<'a>(alloc: Global, matches: &ArgMatches<'a>) -> Result<Vec<&'a str
     Ok(sizes)
 }
 
-fn asked<'a>(
-    alloc: Global,
-    verb: Verb,
-    matches: &ArgMatches<'a>,
-) -> Result<Request<'a>, Stop<'a>>
+fn asked<'a>(alloc: Global, verb: Verb, matches: &ArgMatches<'a>) -> Result<Request<'a>, Stop<'a>>
     ensures { IfErr result IsOfWords }
 {
     check_format(matches)?;

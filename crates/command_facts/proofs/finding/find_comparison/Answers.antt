@@ -1,9 +1,9 @@
-use Rattle.std.proofs.Common.{◌∙◌, ap, inr, subst, sym}
+use Rattle.std.proofs.Common.{◌∙◌, ap, inr, refl, subst, sym}
 use Rattle.pram_model.specs.Layout.{total_size}
 use Rattle.program_texts.specs.Report.{IsMeaningRefused}
 use Rattle.program_texts.specs.declared.from_text.Refusal.{Refusal}
 use Rattle.command_requests.specs.declared.request.Verb.TheVariants as verb
-use Rattle.command_facts.proofs.Refusals.{no_meaning_on, stops_at_run}
+use Rattle.command_facts.proofs.Refusals.{no_meaning_by, stops_at_run}
 use Rattle.command_facts.proofs.Comparisons.{comparison_found}
 use Rattle.command_facts.proofs.finding.find_comparison.Goals as goal
 
@@ -17,7 +17,7 @@ pub returns-clause-refused : goal.returns-clause-refused
 returns-clause-refused g c =
     let program = c.in_ok-loaded.loaded.program in
     let why = subst (λ (r : Refusal). IsMeaningRefused program c.deref.result.now r) (sym c.from.ensures)
-        (no_meaning_on program c.deref.result.now c.in-Err.why c.in-Err.ensures.too_long) in
+    (no_meaning_by program c.deref.result.now c.in-Err.why _ refl c.in-Err.ensures.too_long) in
     inr (inr (stops_at_run (g.S.Sources.holds c.args.sources.now) c.args.words c.in_ok-loaded.input.items _ c.deref.ensures.value
     c.in_ok-loaded.ensures.input c.len.result _ c.from.result c.halted_run.result c.halted_run.ensures.stop c.halted_run.ensures.about
     verb.Rules c.args.file.now c.in_ok-loaded.loaded c.in_ok-loaded.ensures.loaded (c.len.ensures ∙ c.in_ok-loaded.input.ok.0)

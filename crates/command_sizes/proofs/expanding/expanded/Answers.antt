@@ -12,6 +12,6 @@ stop_of_sizes-requires c = record {
   numbered = λ number is.
       let same = one_each _ c.args.sizes.now c.requires.given in
       let inside = within c.args.sizes.now c.args.text.now number
-          (subst (λ (f : SizeFault). Answers shown (Err f) (expansion c.args.sizes.now c.args.text.now)) is c.in-Err.ensures.answers) in
+      (subst (λ (f : SizeFault). Answers shown (Err f) (expansion c.args.sizes.now c.args.text.now)) is c.in-Err.ensures.answers) in
       grind (arith, same, inside, length-map);
 }
