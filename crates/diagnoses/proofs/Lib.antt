@@ -1,1 +1,3 @@
 pub mod BreachSentences
+pub mod CauseLemmas
+pub mod LastReason

@@ -3,5 +3,5 @@ pub mod TextFaults
 pub mod Remarks
 pub mod Breaches
 pub mod Stops
-pub mod Met
+pub mod Reasons
 pub mod FaultTexts

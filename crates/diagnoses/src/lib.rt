@@ -3,9 +3,11 @@
 
 mod about;
 mod breaches;
+mod cause_text;
+mod event_text;
 mod fault_text;
-mod met;
 mod places;
+mod reason;
 mod remark;
 mod source;
 mod stops;
@@ -14,7 +16,7 @@ mod text_faults;
 pub use about::About;
 pub use breaches::write_breach;
 pub use fault_text::{write_fault_sentence, write_run_fault};
-pub use met::who_met;
+pub use reason::{Reason, run_reason};
 pub use remark::{Remark, expected_at, remark_of};
 pub use source::{Kind, Source};
 pub use stops::write_stop_diagnosis;
