@@ -54,7 +54,11 @@ fn write_count<W: Out>(out: &mut W, more: usize) -> Result<(), WriteFault>
         out.write_all(b" met there\n")
     } else {
         let mut count = Buffer::new();
-        out.write_parts(&[b" and ", count.format(more).as_bytes(), b" more met there\n"])
+        out.write_parts(&[
+            b" and ",
+            count.format(more).as_bytes(),
+            b" more met there\n",
+        ])
     }
 }
 
