@@ -1,12 +1,12 @@
 -- What is said on standard error.
-use Rattle.std.specs.Prelude.{◌≡◌, ◌⊎◌, ℕ, ℤ, List, [], ◌++◌, Bool, true, false}
+use Rattle.std.specs.Prelude.{◌≡◌, ◌⊎◌, ℕ, List, ◌++◌, Bool, true, false}
 use Rattle.text_out.specs.Out.{OutState}
 use Rattle.write_rules.specs.declared.outcome.Outcome.{Outcome}
 use Rattle.write_rules.specs.declared.outcome.Outcome.TheVariants.{Faulted}
 use Rattle.program_texts.specs.declared.stop.Stop.{Stop}
 use Rattle.diagnoses.specs.declared.about.About.{About}
 use Rattle.diagnoses.specs.FaultTexts.{fault_diagnosis, fault_sentence}
-use Rattle.diagnoses.specs.Met.{who_met}
+use Rattle.diagnoses.specs.Reasons.{Reason, run_reason, unknown}
 use Rattle.diagnoses.specs.RefusedLines.{stop_line}
 use Rattle.diagnoses.specs.Remarks.{Remark}
 use Rattle.diagnoses.specs.Stops.{HasRemark, stop_diagnosis}
@@ -31,19 +31,19 @@ pub record IsRefusalReported (explains : Bool) (why : Stop) (a : About) (old new
 
 -- ---- faults
 
--- those that met at a run's fault are told, or none, where memory for them was refused
-abbrev pub HaveMet : FoundRun → List ℤ → Type 0
-HaveMet r who = (who ≡ who_met r.loaded.program r.input.items r.words.options.bound) ⊎ (who ≡ [])
+-- why a run faults is told, or nothing of it, where memory for that was refused
+abbrev pub IsReasonOf : FoundRun → Reason → Type 0
+IsReasonOf r why = (why ≡ run_reason r.loaded.program r.input.items r.words.options.bound) ⊎ (why ≡ unknown)
 
--- of a program's run a fault is explained with its line of the text
+-- of a program's run a fault is explained with its line of the text, and with why it came
 abbrev pub IsRunExplained : Bool → FoundRun → Outcome → OutState → OutState → Type 0
 IsRunExplained true r (Faulted fault output) old new =
-    (who : List ℤ) × HaveMet r who × IsReported old new (fault_diagnosis r.loaded.source r.loaded.program.layout fault who)
+    (why : Reason) × IsReasonOf r why × IsReported old new (fault_diagnosis r.loaded.source r.loaded.program.layout fault why)
 IsRunExplained _ r o old new = new ≡ old
 
 -- of a listing's code what happened is said, since its lines aren't the program's
 abbrev pub IsCodeExplained : Bool → FoundCode → Outcome → OutState → OutState → Type 0
-IsCodeExplained true c (Faulted fault output) old new = IsReported old new (fault_sentence c.code.layout fault [])
+IsCodeExplained true c (Faulted fault output) old new = IsReported old new (fault_sentence c.code.layout fault unknown)
 IsCodeExplained _ c o old new = new ≡ old
 
 -- Where that is asked for, the fault of what was found is explained; and nothing is said where there is none.

@@ -1,9 +1,9 @@
 //! What a call writes to standard error.
 
-ghost use Rattle.std.specs.Prelude.{◌≡◌, ◌⊎◌, ◌<◌, ◌^◌, [], ℤ, List};
+ghost use Rattle.std.specs.Prelude.{◌≡◌, ◌⊎◌, ◌<◌, ◌^◌};
 ghost use Rattle.text_out.specs.Out.{Writes};
 ghost use Rattle.diagnoses.specs.FaultTexts.{fault_diagnosis, fault_sentence};
-ghost use Rattle.diagnoses.specs.Met.{who_met as those_met};
+ghost use Rattle.diagnoses.specs.Reasons.{Reason as Why, reason_is, run_reason as why, unknown};
 ghost use Rattle.diagnoses.specs.Remarks.{Remark};
 ghost use Rattle.diagnoses.specs.Stops.{HasRemark};
 ghost use Rattle.command_facts.specs.Written.{IsReported};
@@ -11,10 +11,9 @@ ghost use Rattle.command_text.specs.Explained as spec;
 
 use command_facts::{Found, FoundCode, FoundRun, Halted};
 use diagnoses::{
-    who_met, write_fault_sentence, write_refused_line, write_run_fault, write_stop_diagnosis,
+    Reason, run_reason, write_fault_sentence, write_refused_line, write_run_fault, write_stop_diagnosis,
 };
 use pram_check::Program;
-use pram_values::Place;
 use std::alloc::Global;
 use text_out::{Out, WriteFault};
 use write_rules::{Fault, Outcome};
@@ -48,29 +47,26 @@ pub(crate) fn report<E: Out>(alloc: Global, err: &mut E, halted: &Halted<'_>, ex
     }
 }
 
-// Those that met at the fault of a run, at a cell; the meaning is run again for that.
-fn meeting(alloc: Global, program: &Program, input: &[i64], bound: u32, place: Place) -> Vec<i64>
-    ensures { (result.items ≡ those_met program.now input.now bound) ⊎ (result.items ≡ []) }
+// Why a run faults, for which the meaning is run again; unknown where memory for that was refused.
+fn find_reason(alloc: Global, program: &Program, input: &[i64], bound: u32) -> Reason
+    ensures { (reason_is result ≡ why program.now input.now bound) ⊎ (reason_is result ≡ unknown) }
 {
-    match place {
-        Place::Cell(_) => match who_met(alloc, program, input, bound) {
-            Some(who) => who,
-            None => Vec::new(alloc),
-        },
-        Place::Processor(_) | Place::All => Vec::new(alloc),
+    match run_reason(alloc, program, input, bound) {
+        Some(reason) => reason,
+        None => Reason::unknown(alloc),
     }
 }
 
 // Writes what is said of a run's fault.
 fn say_run_fault<E: Out>(alloc: Global, err: &mut E, run: &FoundRun<'_>, fault: &Fault)
     requires err { (E.Out.state err.old).failures < 2 ^ 62 }
-    ensures written { (who : List ℤ) × spec.HaveMet run.now who × IsReported (E.Out.state err.old) (E.Out.state err.new)
-        (fault_diagnosis run.now.loaded.source run.now.loaded.program.layout fault.now who) }
+    ensures written { (why : Why) × spec.IsReasonOf run.now why × IsReported (E.Out.state err.old) (E.Out.state err.new)
+        (fault_diagnosis run.now.loaded.source run.now.loaded.program.layout fault.now why) }
 {
     let program = &run.loaded.program;
     let bound = run.words.options.bound;
-    let who = meeting(alloc, program, &run.input, bound, fault.place);
-    if write_run_fault(err, &run.loaded.source, program.layout(), fault, &who).is_ok() {
+    let reason = find_reason(alloc, program, &run.input, bound);
+    if write_run_fault(err, &run.loaded.source, program.layout(), fault, &reason).is_ok() {
         let _ = err.flush();
     }
 }
@@ -90,16 +86,17 @@ fn explain_run<E: Out>(alloc: Global, err: &mut E, run: &FoundRun<'_>, explains:
 }
 
 // Writes what is said of the fault of code.
-fn say_code_fault<E: Out>(err: &mut E, run: &FoundCode, fault: &Fault)
+fn say_code_fault<E: Out>(alloc: Global, err: &mut E, run: &FoundCode, fault: &Fault)
     requires err { (E.Out.state err.old).failures < 2 ^ 62 }
-    ensures written { IsReported (E.Out.state err.old) (E.Out.state err.new) (fault_sentence run.now.code.layout fault.now []) }
+    ensures written { IsReported (E.Out.state err.old) (E.Out.state err.new) (fault_sentence run.now.code.layout fault.now unknown) }
 {
-    if write_fault_sentence(err, run.code.code().layout(), fault, &[]).is_ok() {
+    let reason = Reason::unknown(alloc);
+    if write_fault_sentence(err, run.code.code().layout(), fault, &reason).is_ok() {
         let _ = err.flush();
     }
 }
 
-fn explain_code<E: Out>(err: &mut E, run: &FoundCode, explains: bool)
+fn explain_code<E: Out>(alloc: Global, err: &mut E, run: &FoundCode, explains: bool)
     requires err { (E.Out.state err.old).failures < 2 ^ 62 }
     ensures left { spec.IsCodeExplained explains run.now run.now.outcome (E.Out.state err.old) (E.Out.state err.new) }
 {
@@ -109,7 +106,7 @@ fn explain_code<E: Out>(err: &mut E, run: &FoundCode, explains: bool)
     match &run.outcome {
         Outcome::Ended { .. } => {}
         Outcome::GoesOn { .. } => {}
-        Outcome::Faulted { fault, .. } => say_code_fault(err, run, fault),
+        Outcome::Faulted { fault, .. } => say_code_fault(alloc, err, run, fault),
     }
 }
 
@@ -120,7 +117,7 @@ pub(crate) fn explain<E: Out>(alloc: Global, err: &mut E, found: &Found<'_>, exp
 {
     match found {
         Found::Run(run) => explain_run(alloc, err, run, explains),
-        Found::Executed(run) => explain_code(err, run, explains),
+        Found::Executed(run) => explain_code(alloc, err, run, explains),
         Found::Version => {}
         Found::Explanation(_) => {}
         Found::Accepted(_) => {}

@@ -6,5 +6,5 @@ pub mod Remarks
 pub mod Breaches
 pub mod SizeFaults
 pub mod Stops
-pub mod Met
+pub mod Reasons
 pub mod FaultTexts

@@ -3,9 +3,11 @@
 
 mod about;
 mod breaches;
+mod cause_text;
+mod event_text;
 mod fault_text;
-mod met;
 mod places;
+mod reason;
 mod remark;
 mod size_faults;
 mod source;
@@ -16,7 +18,7 @@ mod text_faults;
 pub use about::About;
 pub use breaches::write_breach;
 pub use fault_text::{write_fault_sentence, write_run_fault};
-pub use met::who_met;
+pub use reason::{Reason, run_reason};
 pub use remark::{Remark, expected_at, remark_of};
 pub use source::{Kind, Source};
 pub use standing::{as_it_stands, refusal_as_it_stands, write_refused_line};

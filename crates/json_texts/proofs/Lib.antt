@@ -1,3 +1,4 @@
+pub mod CauseLemmas
 pub mod DeclarationFacts
 pub mod EntryFacts
 pub mod ExchangeFacts

@@ -1,7 +1,7 @@
 -- What is told can be read: it has no float, and nests five levels at most.
 use Rattle.std.proofs.Common.{ℕ, List, [], ◌∷◌, length, lit≤, map, take, drop, arith, refl}
-use Rattle.std.specs.Prelude.{Bool, true, false, ℤ, Option, Some, None, codes}
-use Rattle.json_lines.specs.Facts.{Field, list, object_of}
+use Rattle.std.specs.Prelude.{Bool, true, false, ℤ, Option, Some, None, codes, slice_get}
+use Rattle.json_lines.specs.Facts.{Field, list, object_of, value}
 use Rattle.json_lines.specs.Small.{IsReadable, IsSmall}
 use Rattle.json_lines.proofs.Small.{AreSmall, HasSmall, has_all, small_count, small_flag, small_large, small_letters}
 use Rattle.json_lines.proofs.Small.{small_list, small_map, small_object, small_value, small_values, small_word, smaller}
@@ -9,7 +9,7 @@ use Rattle.pram_tokens.specs.declared.error.TextFault.{TextFault}
 use Rattle.pram_tokens.specs.declared.error.TextFault.TheVariants as text
 use Rattle.pram_names.specs.declared.fault.Cause.{Cause}
 use Rattle.pram_names.specs.declared.fault.Cause.TheVariants as cause
-use Rattle.pram_model.specs.Layout.{SharedEntry, size}
+use Rattle.pram_model.specs.Layout.{SharedEntry, size, subscripts}
 use Rattle.pram_model.specs.declared.rule.Rule.{Rule}
 use Rattle.pram_check.specs.Checked.{Checked}
 use Rattle.write_rules.specs.declared.fault.Fault.{Fault}
@@ -25,7 +25,9 @@ use Rattle.rule_comparison.specs.Compared.{finding_of, rules}
 use Rattle.rule_comparison.specs.declared.comparison.Comparison.{Comparison}
 use Rattle.rule_comparison.specs.declared.finding.Finding.{Finding}
 use Rattle.rule_comparison.specs.declared.finding.Finding.TheVariants as finding
+use Rattle.write_rules.specs.declared.write.Write.{Write}
 use Rattle.step_entries.specs.declared.change.Change.{Change}
+use Rattle.step_entries.specs.Causes as told
 use Rattle.step_entries.specs.Entries.{Act, Entry, Faulting, Ran}
 use Rattle.json_texts.specs.AcceptedFacts.{accepted_facts, accepted_fields}
 use Rattle.json_texts.specs.CostFacts.{bound_fields, cost_facts, cost_fields, line_facts, line_fields, round_fields}
@@ -33,6 +35,7 @@ use Rattle.json_texts.specs.OutcomeFacts.{bounds_fields, entry_facts, fault_fiel
 use Rattle.json_texts.specs.RefusalFacts.{cause_fields, place_fields, reason_fields, stop_facts, stop_fields, text_fields}
 use Rattle.json_texts.specs.RuleFacts.{comparison_facts, finding_fields, rule_facts}
 use Rattle.json_texts.specs.ActFacts.{act_facts, cell_fact, processor_fact, write_fact}
+use Rattle.json_texts.specs.CauseFacts.{beyond_fields, known_fields, why_fields, write_facts}
 use Rattle.json_texts.specs.StepFacts.{change_facts, step_facts, told_fields, variable_facts}
 
 -- ---- outcomes
@@ -205,6 +208,29 @@ small_act layout a =
 small_acts : (layout : List SharedEntry) (acts : List Act) → IsSmall 3 (list (map (act_facts layout) acts))
 small_acts layout acts = small_list 2 (map (act_facts layout) acts) (small_map 2 (act_facts layout) (small_act layout) acts)
 
+small_write_facts : (w : Write) → IsSmall 1 (write_facts w)
+small_write_facts w =
+    small_object 0 ((codes "processor", value w.processor) ∷ (codes "value", value w.value) ∷ [])
+    (small_value 0 w.processor, (small_value 0 w.value, tt))
+
+small_beyond : (z : ℤ) (e : Option SharedEntry) → HasSmall 3 (beyond_fields z e)
+small_beyond z None = tt
+small_beyond z (Some e) =
+    (small_letters 3 e.name, (small_value 3 z, (small_value 3 (subscripts e.bounds).0, (small_value 3 (subscripts e.bounds).1, tt))))
+
+small_cause_of : (layout : List SharedEntry) (c : told.Cause) → HasSmall 3 (why_fields layout c)
+small_cause_of layout (told.Between x o y) = (small_letters 3 _, (small_values 2 (x ∷ y ∷ []), tt))
+small_cause_of layout (told.Before o x) = (small_letters 3 _, (small_values 2 (x ∷ []), tt))
+small_cause_of layout (told.Beyond a z) = small_beyond z (slice_get layout a)
+small_cause_of layout (told.Wide a b procs) = (small_value 3 a, (small_value 3 b, (small_count 3 procs, tt)))
+small_cause_of layout told.Meeting = tt
+small_cause_of layout (told.Writing ws) =
+    (smaller 2 3 _ (lit≤ tt) (small_list 1 (map write_facts ws) (small_map 1 write_facts small_write_facts ws)), tt)
+
+small_known : (layout : List SharedEntry) (c : Option told.Cause) → HasSmall 3 (known_fields layout c)
+small_known layout None = tt
+small_known layout (Some c) = small_cause_of layout c
+
 small_told : (layout : List SharedEntry) (e : Entry) → HasSmall 3 (told_fields layout e)
 small_told layout (Ran at acts cells variables items) = (
   small_count 3 at,
@@ -223,7 +249,10 @@ small_told layout (Ran at acts cells variables items) = (
     ),
   ),
 )
-small_told layout (Faulting fault acts met) = (small_values 2 met, (small_acts layout acts, small_fault 3 layout fault))
+small_told layout (Faulting fault cause acts met) = (
+  small_values 2 met,
+  (small_acts layout acts, has_all 3 (fault_fields layout fault) (known_fields layout cause) (small_fault 3 layout fault) (small_known layout cause)),
+)
 
 pub readable_step : (layout : List SharedEntry) (number : ℕ) (e : Entry) → IsReadable (step_facts layout number e)
 readable_step layout number e = readable ((codes "step", _) ∷ told_fields layout e) (small_count 3 number, small_told layout e)

@@ -4,5 +4,6 @@ pub mod RefusalFacts
 pub mod CostFacts
 pub mod RuleFacts
 pub mod ActFacts
+pub mod CauseFacts
 pub mod StepFacts
 pub mod TraceFacts

@@ -8,6 +8,7 @@ use Rattle.step_entries.specs.declared.change.Change.{Change}
 use Rattle.step_entries.specs.Entries.{Entry, Faulting, Ran}
 use Rattle.write_rules.specs.Verdict.{Verdict}
 use Rattle.json_texts.specs.ActFacts.{act_facts}
+use Rattle.json_texts.specs.CauseFacts.{known_fields}
 use Rattle.json_texts.specs.OutcomeFacts.{fault_fields, outcome_facts}
 
 -- a cell's value before the statement and behind it
@@ -21,14 +22,14 @@ variable_facts d =
     object_of ((codes "variable", count d.cell) ∷ (codes "before", value d.before) ∷ (codes "after", value d.after) ∷ [])
 
 -- what is told of a statement: its line, how many processors executed it and what each did, the cells and the uniform variables that
--- changed, and what it printed; or its fault, what each did up to there, and who met at its cell
+-- changed, and what it printed; or its fault, what each did up to there, who met at its cell, and why it faulted
 abbrev pub told_fields : List SharedEntry → Entry → List Field
 told_fields layout (Ran at acts cells variables items) =
     (codes "line", count at) ∷ (codes "processors", count (length acts)) ∷ (codes "acts", list (map (act_facts layout) acts))
     ∷ (codes "changes", list (map (change_facts layout) cells)) ∷ (codes "variables", list (map variable_facts variables))
     ∷ (codes "printed", values items) ∷ []
-told_fields layout (Faulting fault acts met) =
-    (codes "met", values met) ∷ (codes "acts", list (map (act_facts layout) acts)) ∷ fault_fields layout fault
+told_fields layout (Faulting fault cause acts met) =
+    (codes "met", values met) ∷ (codes "acts", list (map (act_facts layout) acts)) ∷ (fault_fields layout fault ++ known_fields layout cause)
 
 abbrev pub step_facts : List SharedEntry → ℕ → Entry → Data
 step_facts layout number e = object_of ((codes "step", count number) ∷ told_fields layout e)

@@ -3,6 +3,7 @@
 
 mod accepted;
 mod acts;
+mod cause;
 mod cost;
 mod exchange;
 mod fault;

@@ -5,6 +5,7 @@ ghost use Rattle.serde_json.specs.View.{view};
 ghost use Rattle.json_lines.specs.Facts.{with_fields};
 ghost use Rattle.json_lines.specs.Lines.{Adds, IsJson};
 ghost use Rattle.json_lines.specs.Shown.{shown};
+ghost use Rattle.step_entries.specs.Causes.{known_cause};
 ghost use Rattle.step_entries.specs.Entries.{act_is, entry_is};
 ghost use Rattle.step_entries.specs.Entries as entry;
 ghost use Rattle.write_rules.specs.Verdict.{verdict_of};
@@ -12,12 +13,13 @@ ghost use Rattle.json_texts.specs.OutcomeFacts.{outcome_facts};
 ghost use Rattle.json_texts.specs.StepFacts as spec;
 
 use crate::acts::acts_facts;
+use crate::cause::put_known;
 use crate::fault::{cell_text, put_fault};
 use crate::outcome::outcome_value;
 use json_lines::{Object, Value, push_line};
 use pram_trees::Layout;
 use std::alloc::{AllocError, Global};
-use step_entries::{Act, Change, Entry};
+use step_entries::{Act, Cause, Change, Entry};
 use write_rules::{Fault, Outcome};
 
 // A cell's value before and behind.
@@ -98,22 +100,24 @@ fn put_ran(
     object.put_values("printed", ran.printed)
 }
 
-// A statement that faulted, what each did up to there, and who met.
+// A statement that faulted, why, what each did up to there, and who met.
 fn put_faulting(
     alloc: Global,
     object: &mut Object,
     layout: &Layout,
     fault: &Fault,
+    cause: &Option<Cause>,
     acts: &[Act],
     met: &[i64],
 ) -> Result<(), AllocError>
     ensures { OnOk result (shown object.new ≡ with_fields
-        (spec.told_fields layout.now (entry.Faulting fault.now (map act_is acts.now) met.now)) (shown object.old)) }
+        (spec.told_fields layout.now (entry.Faulting fault.now (known_cause cause.now) (map act_is acts.now) met.now)) (shown object.old)) }
 {
     let acts = acts_facts(alloc, layout, acts)?;
     object.put_values("met", met)?;
     object.put_list("acts", acts)?;
-    put_fault(alloc, object, layout, fault)
+    put_fault(alloc, object, layout, fault)?;
+    put_known(alloc, object, layout, cause)
 }
 
 fn put_told(
@@ -141,9 +145,12 @@ fn put_told(
             };
             put_ran(alloc, object, layout, &ran)
         }
-        Entry::Faulted { fault, acts, met } => {
-            put_faulting(alloc, object, layout, fault, acts, met)
-        }
+        Entry::Faulted {
+            fault,
+            cause,
+            acts,
+            met,
+        } => put_faulting(alloc, object, layout, fault, cause, acts, met),
     }
 }
 
@@ -222,7 +229,8 @@ fn push_outcome(
 /// `{"acts":[{"processor":"3","reads":["a[3]"],"write":"a[3]"}],"changes":[{"after":"7","before":"4","cell":"a[3]"}],"line":9,"printed":[],`
 /// `"processors":1,"step":5,"variables":[]}`, where `processor` is null of the one outside pardo and `write` where it writes no cell, and a
 /// variable goes by its number in the order of declarations; or at a fault
-/// `{"acts":[..],"kind":"read-conflict","line":4,"met":["1","3"],"place":"a[1]","step":6}`.
+/// `{"acts":[..],"kind":"read-conflict","line":4,"met":["1","3"],"place":"a[1]","step":6}`, with what there is to say of why: `array`,
+/// `subscript`, `low` and `high`; `operator` and `operands`; `low`, `high` and `procs`; or `writers`.
 pub fn json_steps(
     alloc: Global,
     layout: &Layout,

@@ -9,6 +9,8 @@ use Rattle.pram_tokens.specs.declared.token.Opening.{Opening}
 use Rattle.pram_tokens.specs.declared.token.Opening.TheVariants as opening
 use Rattle.pram_tokens.specs.declared.token.Token.{Token}
 use Rattle.pram_tokens.specs.declared.token.Token.TheVariants as token
+use Rattle.pram_trees.specs.declared.tree.Prefix.{Prefix}
+use Rattle.pram_trees.specs.declared.tree.Prefix.TheVariants.{Negate, Not}
 
 abbrev pub binary_text : Binary → List ℕ
 binary_text op.Or = codes "or"
@@ -24,6 +26,10 @@ binary_text op.Subtract = codes "-"
 binary_text op.Multiply = codes "*"
 binary_text op.Divide = codes "div"
 binary_text op.Remainder = codes "mod"
+
+abbrev pub prefix_text : Prefix → List ℕ
+prefix_text Negate = codes "-"
+prefix_text Not = codes "not"
 
 abbrev pub opening_text : Opening → List ℕ
 opening_text opening.Print = codes "print"

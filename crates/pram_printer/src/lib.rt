@@ -7,4 +7,4 @@ pub mod printing_laws;
 mod spell;
 
 pub use print::print_tree;
-pub use spell::{binary_text, mark_text, opening_text};
+pub use spell::{binary_text, mark_text, opening_text, prefix_text};

@@ -6,6 +6,7 @@ ghost use Rattle.pram_printer.specs.Spelling as spec;
 
 use pram_model::Rule;
 use pram_tokens::{Binary, Mark, Opening};
+use pram_trees::Prefix;
 
 pub(crate) fn rule_text(rule: Rule) -> &'static [u8]
     ensures text { result.now ≡ rules.rule_word rule }
@@ -37,6 +38,16 @@ pub fn binary_text(op: Binary) -> &'static [u8]
         Binary::Multiply => b"*",
         Binary::Divide => b"div",
         Binary::Remainder => b"mod",
+    }
+}
+
+/// The word or the symbol of an operation on the operand behind it.
+pub fn prefix_text(op: Prefix) -> &'static [u8]
+    ensures text { result.now ≡ spec.prefix_text op }
+{
+    match op {
+        Prefix::Negate => b"-",
+        Prefix::Not => b"not",
     }
 }
 

@@ -5,6 +5,7 @@ use Rattle.step_entries.specs.declared.act as rust_act
 use Rattle.step_entries.specs.declared.change.Change.{Change}
 use Rattle.step_entries.specs.declared.entry as rust_entry
 use Rattle.step_entries.specs.declared.entry.Entry.TheVariants as variant
+use Rattle.step_entries.specs.Causes.{Cause, known_cause}
 
 -- what one processor did in a statement: its index, or none of the one outside pardo; the cells that it read, in order, one for each read;
 -- and the cell that it wrote
@@ -14,14 +15,15 @@ pub record Act : Type 0 where
   pub write : Option ℕ
 
 -- A statement that ran: its line, what each of those did that executed it, the cells and the uniform variables whose value differs behind it,
--- and what it printed. Or one that faulted: its fault, what each did before its position, and the indices of those that met at its cell.
+-- and what it printed. Or one that faulted: its fault and its cause, what each did before its position, and the indices of those that met
+-- at its cell.
 pub data Entry : Type 0 where
   Ran : (line : ℕ) → List Act → (cells variables : List Change) → (printed : List ℤ) → Entry
-  Faulting : Fault → List Act → (met : List ℤ) → Entry
+  Faulting : Fault → Option Cause → List Act → (met : List ℤ) → Entry
 
 abbrev pub act_is : rust_act.Act.Act → Act
 act_is a = record { processor = a.processor; reads = a.reads.items; write = a.write }
 
 abbrev pub entry_is : rust_entry.Entry.Entry → Entry
 entry_is (variant.Ran line acts cells variables printed) = Ran line (map act_is acts.items) cells.items variables.items printed.items
-entry_is (variant.Faulted fault acts met) = Faulting fault (map act_is acts.items) met.items
+entry_is (variant.Faulted fault cause acts met) = Faulting fault (known_cause cause) (map act_is acts.items) met.items

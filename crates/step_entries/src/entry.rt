@@ -1,6 +1,7 @@
 //! Entries: what is told of each statement.
 
 use crate::act::Act;
+use crate::cause::Cause;
 use crate::change::Change;
 use write_rules::Fault;
 
@@ -17,10 +18,11 @@ pub enum Entry {
         variables: Vec<Change>,
         printed: Vec<i64>,
     },
-    /// It faulted: its fault; what each processor had read before the fault's position, and no write;
-    /// and at a cell the indices of the processors that met there.
+    /// It faulted: its fault, and why; what each processor had read before the fault's position, and no
+    /// write; and at a cell the indices of the processors that met there.
     Faulted {
         fault: Fault,
+        cause: Option<Cause>,
         acts: Vec<Act>,
         met: Vec<i64>,
     },

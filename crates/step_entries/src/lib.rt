@@ -2,9 +2,11 @@
 #![tactic(auto)]
 
 mod act;
+mod cause;
 mod change;
 mod entry;
 
 pub use act::Act;
+pub use cause::Cause;
 pub use change::Change;
 pub use entry::Entry;

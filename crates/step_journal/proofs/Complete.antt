@@ -11,10 +11,11 @@ use Rattle.step_entries.specs.Entries.{entry_is}
 use Rattle.step_journal.specs.Entries.{entries_of, run_entries}
 use Rattle.pram_meaning.proofs.References.{opens}
 
-pub all_heard : (p : Checked) (input : List ℤ) (n : ℕ) (run : Run) (old new : List Entry) → run.count ≡ 0 → run.output.items ≡ [] →
+pub all_heard : (p q : Checked) (input : List ℤ) (n : ℕ) (run : Run) (old new : List Entry) → run.count ≡ 0 → run.output.items ≡ [] →
     run.uniforms.items ≡ replicate p.uniforms (pos 0) → run.cells.items ≡ input ++ replicate (total_size p.layout - length input) (pos 0) →
-    old ≡ [] → map entry_is new ≡ map entry_is old ++ flat_map entries_of (list_moments p n p.body (state_of run)) →
+    q ≡ p → old ≡ [] → map entry_is new ≡ map entry_is old ++ flat_map (entries_of q) (list_moments p n p.body (state_of run)) →
     map entry_is new ≡ run_entries p input n
-all_heard p input n run old new a b c d o h =
-    h ∙ ap (λ es. map entry_is es ++ flat_map entries_of (list_moments p n p.body (state_of run))) o
-    ∙ ap (λ m. flat_map entries_of (list_moments p n p.body m)) (opens p input run a b c d)
+all_heard p q input n run old new a b c d s o h =
+    h ∙ ap (λ es. map entry_is es ++ flat_map (entries_of q) (list_moments p n p.body (state_of run))) o
+    ∙ ap (λ q. flat_map (entries_of q) (list_moments p n p.body (state_of run))) s
+    ∙ ap (λ m. flat_map (entries_of p) (list_moments p n p.body m)) (opens p input run a b c d)

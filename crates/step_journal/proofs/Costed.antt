@@ -47,31 +47,32 @@ all_writes (x ∷ xs) =
 
 -- ---- a moment
 
-moment_steps : (x : Moment) → map step_of (entries_of x) ≡ cost.steps_of x
-moment_steps (Alone line act before (trying.Gives t c) behind) = ap (λ s. s ∷ []) (λ i. record {
+moment_steps : (p : Checked) (x : Moment) → map step_of (entries_of p x) ≡ cost.steps_of x
+moment_steps p (Alone line act before (trying.Gives t c) behind) = ap (λ s. s ∷ []) (λ i. record {
   line = line;
   processors = 1;
   reads = (one_sum act_reads (record { processor = None; reads = reads_in t; write = c }) ∙ reads_many t) i;
   writes = one_sum act_writes (record { processor = None; reads = reads_in t; write = c }) i;
 })
-moment_steps (Alone line act before (Fails t k) behind) = refl
-moment_steps (Together line act before xs None behind) = ap (λ s. s ∷ []) (λ i. record {
+moment_steps p (Alone line act before (Fails t k) behind) = refl
+moment_steps p (Together line act before xs None behind) = ap (λ s. s ∷ []) (λ i. record {
   line = line;
   processors = many act_of xs i;
   reads = all_reads xs i;
   writes = all_writes xs i;
 })
-moment_steps (Together line act before xs (Some k) behind) = ap (λ n. acting line n ∷ []) (many (act_before k.at) xs)
-moment_steps Closed = refl
+moment_steps p (Together line act before xs (Some k) behind) = ap (λ n. acting line n ∷ []) (many (act_before k.at) xs)
+moment_steps p Closed = refl
 
-all_steps : (ms : List Moment) → map step_of (flat_map entries_of ms) ≡ flat_map cost.steps_of ms
-all_steps [] = refl
-all_steps (x ∷ ms) =
-    map-append step_of (entries_of x) (flat_map entries_of ms) ∙ ap (λ ss. ss ++ map step_of (flat_map entries_of ms)) (moment_steps x)
-    ∙ ap (λ ss. cost.steps_of x ++ ss) (all_steps ms)
+all_steps : (p : Checked) (ms : List Moment) → map step_of (flat_map (entries_of p) ms) ≡ flat_map cost.steps_of ms
+all_steps p [] = refl
+all_steps p (x ∷ ms) =
+    map-append step_of (entries_of p x) (flat_map (entries_of p) ms)
+    ∙ ap (λ ss. ss ++ map step_of (flat_map (entries_of p) ms)) (moment_steps p x)
+    ∙ ap (λ ss. cost.steps_of x ++ ss) (all_steps p ms)
 
 pub entries_are_time_steps : EntriesAreTimeSteps
-entries_are_time_steps p input n = all_steps (run_moments p input n)
+entries_are_time_steps p input n = all_steps p (run_moments p input n)
 
 -- the same where the entries are those that were told
 pub told_steps : (p : Checked) (input : List ℤ) (n : ℕ) (es : List Entry) → es ≡ run_entries p input n →

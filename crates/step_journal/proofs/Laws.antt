@@ -13,38 +13,38 @@ use Rattle.step_journal.specs.Entries.{output_of, replay, run_entries}
 use Rattle.step_journal.proofs.Parts.{list_told}
 use Rattle.step_journal.proofs.Sound.{IsTold}
 
-memory_of : (m : State) (es : List Entry) (b : Done) → IsTold m es b → HasMemory (verdict_at b) (replay es m.cells)
-memory_of m es (Goes u new) s = s.memory
-memory_of m es (Stops k out) s = tt
-memory_of m es (Reaches out) s = tt
+memory_of : (p : Checked) (m : State) (es : List Entry) (b : Done) → IsTold p m es b → HasMemory (verdict_at b) (replay es m.cells)
+memory_of p m es (Goes u new) s = s.memory
+memory_of p m es (Stops k out) s = tt
+memory_of p m es (Reaches out) s = tt
 
-output_by : (m : State) (es : List Entry) (b : Done) → IsTold m es b → m.output ++ items_of es ≡ output_of (verdict_at b)
-output_by m es (Goes u new) s = s.output
-output_by m es (Stops k out) s = s.output
-output_by m es (Reaches out) s = s.output
+output_by : (p : Checked) (m : State) (es : List Entry) (b : Done) → IsTold p m es b → m.output ++ items_of es ≡ output_of (verdict_at b)
+output_by p m es (Goes u new) s = s.output
+output_by p m es (Stops k out) s = s.output
+output_by p m es (Reaches out) s = s.output
 
-last_of : (m : State) (es : List Entry) (b : Done) → IsTold m es b → HasItsFault (verdict_at b) es
-last_of m es (Goes u new) s = s.all
-last_of m es (Stops k out) s = s.ends
-last_of m es (Reaches out) s = s.all
+last_of : (p : Checked) (m : State) (es : List Entry) (b : Done) → IsTold p m es b → HasItsFault p (verdict_at b) es
+last_of p m es (Goes u new) s = s.all
+last_of p m es (Stops k out) s = s.ends
+last_of p m es (Reaches out) s = s.all
 
-whole : (p : Checked) (input : List ℤ) (n : ℕ) → IsTold (opening p input) (run_entries p input n) (body_done p input n)
+whole : (p : Checked) (input : List ℤ) (n : ℕ) → IsTold p (opening p input) (run_entries p input n) (body_done p input n)
 whole p input n = list_told p n p.body (opening p input)
 
 pub changes_give_the_memory : ChangesGiveTheMemory
 changes_give_the_memory p input n v is =
     subst (λ v. HasMemory v (replay (run_entries p input n) (opening p input).cells)) (sym ((outcome_is_computed p input n v).0 is))
-    (memory_of (opening p input) (run_entries p input n) (body_done p input n) (whole p input n))
+    (memory_of p (opening p input) (run_entries p input n) (body_done p input n) (whole p input n))
 
 pub items_give_the_output : ItemsGiveTheOutput
 items_give_the_output p input n v is =
-    output_by (opening p input) (run_entries p input n) (body_done p input n) (whole p input n)
+    output_by p (opening p input) (run_entries p input n) (body_done p input n) (whole p input n)
     ∙ ap output_of (sym ((outcome_is_computed p input n v).0 is))
 
 pub the_fault_is_last : TheFaultIsLast
 the_fault_is_last p input n v is =
-    subst (λ v. HasItsFault v (run_entries p input n)) (sym ((outcome_is_computed p input n v).0 is))
-    (last_of (opening p input) (run_entries p input n) (body_done p input n) (whole p input n))
+    subst (λ v. HasItsFault p v (run_entries p input n)) (sym ((outcome_is_computed p input n v).0 is))
+    (last_of p (opening p input) (run_entries p input n) (body_done p input n) (whole p input n))
 
 -- ---- the same where the entries are those that were told
 
@@ -58,5 +58,5 @@ pub told_output : (p : Checked) (input : List ℤ) (n : ℕ) (v : Verdict) (es :
 told_output p input n v es is e = ap items_of e ∙ items_give_the_output p input n v is
 
 pub told_last : (p : Checked) (input : List ℤ) (n : ℕ) (v : Verdict) (es : List Entry) → IsOutcome p input n v →
-    es ≡ run_entries p input n → HasItsFault v es
-told_last p input n v es is e = subst (HasItsFault v) (sym e) (the_fault_is_last p input n v is)
+    es ≡ run_entries p input n → HasItsFault p v es
+told_last p input n v es is e = subst (HasItsFault p v) (sym e) (the_fault_is_last p input n v is)

@@ -1,10 +1,12 @@
 -- What is told, with one entry more, and lists that gain items.
-use Rattle.std.proofs.Common.{◌≡◌, ℕ, ℤ, List, [], ◌∷◌, ◌++◌, append-nil, Vec, Global, map, drop, length, refl, ap, sym, ◌∙◌}
+use Rattle.std.proofs.Common.{◌≡◌, ℕ, ℤ, List, [], ◌∷◌, ◌++◌, append-nil, Option, Vec, Global, map, drop, length, refl, ap, sym, ◌∙◌}
 use Rattle.write_rules.specs.declared.fault.Fault.{Fault}
 use Rattle.step_entries.specs.declared.act as act
+use Rattle.step_entries.specs.declared.cause as cause
 use Rattle.step_entries.specs.declared.change.Change.{Change}
 use Rattle.step_entries.specs.declared.entry as rust
 use Rattle.step_entries.specs.declared.entry.Entry.TheVariants as variant
+use Rattle.step_entries.specs.Causes.{known_cause}
 use Rattle.step_entries.specs.Entries.{Faulting, Ran, act_is, entry_is}
 
 map_push : (now : List rust.Entry.Entry) (x : rust.Entry.Entry) → map entry_is (now ++ x ∷ []) ≡ map entry_is now ++ entry_is x ∷ []
@@ -16,10 +18,10 @@ pub ran_pushed : (line : ℕ) (acts : Vec act.Act.Act Global) (cells variables :
     map entry_is new ≡ map entry_is now ++ Ran line (map act_is acts.items) cells.items variables.items items.items ∷ []
 ran_pushed line acts cells variables items now new e = ap (map entry_is) e ∙ map_push now (variant.Ran line acts cells variables items)
 
-pub fault_pushed : (k : Fault) (acts : Vec act.Act.Act Global) (met : Vec ℤ Global) (now new : List rust.Entry.Entry) →
-    new ≡ now ++ variant.Faulted k acts met ∷ [] →
-    map entry_is new ≡ map entry_is now ++ Faulting k (map act_is acts.items) met.items ∷ []
-fault_pushed k acts met now new e = ap (map entry_is) e ∙ map_push now (variant.Faulted k acts met)
+pub fault_pushed : (k : Fault) (why : Option cause.Cause.Cause) (acts : Vec act.Act.Act Global) (met : Vec ℤ Global)
+    (now new : List rust.Entry.Entry) → new ≡ now ++ variant.Faulted k why acts met ∷ [] →
+    map entry_is new ≡ map entry_is now ++ Faulting k (known_cause why) (map act_is acts.items) met.items ∷ []
+fault_pushed k why acts met now new e = ap (map entry_is) e ∙ map_push now (variant.Faulted k why acts met)
 
 -- a list has gained what stands behind it
 pub gained : (xs more : List ℤ) → drop (length xs) (xs ++ more) ≡ more

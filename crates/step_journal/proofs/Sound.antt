@@ -1,14 +1,17 @@
 -- Parts of a run that are told soundly: what was told of them gives the state behind them, its cells by the changes and its output by the
 -- items, and a fault is the last of it.
 use Rattle.std.proofs.Common.{◌≡◌, ℕ, ◌+◌, ℤ, List, [], ◌∷◌, ◌++◌, Bool, true, false, if◌then◌else◌, length, drop, nat_lt, refl, ap, sym}
-use Rattle.std.proofs.Common.{◌∙◌, subst, append_assoc, append-nil}
+use Rattle.std.proofs.Common.{◌∙◌, subst, append_assoc, append-nil, Option}
 use Rattle.std.specs.List.{AllByRecursion, flat_map}
 use Rattle.std.proofs.lemmas.Grind.{flat_map-append}
 use Rattle.write_rules.specs.declared.fault.Fault.{Fault}
+use Rattle.pram_check.specs.Checked.{Checked}
 use Rattle.pram_meaning.specs.Bounded.{Behaviour, Done, Goes, Reaches, Stops, counted, then_do}
 use Rattle.pram_meaning.specs.Moments.{Closed, Moment, behind, closing}
 use Rattle.pram_meaning.specs.Store.{State}
+use Rattle.step_entries.specs.Causes.{Cause}
 use Rattle.step_entries.specs.Entries.{Act, Entry, Faulting, Ran}
+use Rattle.fault_causes.specs.Faults.{IsExplained}
 use Rattle.step_journal.specs.Changes.{with_changes}
 use Rattle.step_journal.specs.Entries.{EndsIn, HasRun, entries_of, items_of, ran, replay}
 use Rattle.step_journal.proofs.Applied.{applied}
@@ -18,8 +21,8 @@ use Rattle.step_journal.proofs.Pushed.{gained}
 abbrev pub done : Unit {0}
 done = tt
 
-abbrev pub told : List Moment → List Entry
-told ms = flat_map entries_of ms
+abbrev pub told : Checked → List Moment → List Entry
+told p ms = flat_map (entries_of p) ms
 
 -- how entries lead from one state to another
 pub record Leads (m : State) (es : List Entry) (new : State) : Type 0 where
@@ -29,40 +32,47 @@ pub record Leads (m : State) (es : List Entry) (new : State) : Type 0 where
   pub all : AllByRecursion HasRun es
 
 -- or to a fault
-pub record Falls (m : State) (es : List Entry) (k : Fault) (out : List ℤ) : Type 0 where
+pub record Falls (p : Checked) (m : State) (es : List Entry) (k : Fault) (out : List ℤ) : Type 0 where
   pub output : m.output ++ items_of es ≡ out
-  pub ends : EndsIn k es
+  pub ends : EndsIn p k es
 
 -- or to where the bound forbids one statement more
 pub record Waits (m : State) (es : List Entry) (out : List ℤ) : Type 0 where
   pub output : m.output ++ items_of es ≡ out
   pub all : AllByRecursion HasRun es
 
-abbrev pub IsTold : {A : Type 0} → State → List Entry → Behaviour A → Type 0
-IsTold m es (Goes a new) = Leads m es new
-IsTold m es (Stops k out) = Falls m es k out
-IsTold m es (Reaches out) = Waits m es out
+abbrev pub IsTold : {A : Type 0} → Checked → State → List Entry → Behaviour A → Type 0
+IsTold p m es (Goes a new) = Leads m es new
+IsTold p m es (Stops k out) = Falls p m es k out
+IsTold p m es (Reaches out) = Waits m es out
 
 -- ---- two lists of entries
 
 replay_on : (xs ys : List Entry) (c : List ℤ) → replay (xs ++ ys) c ≡ replay ys (replay xs c)
 replay_on [] ys c = refl
 replay_on (Ran line acts ds vs items ∷ xs) ys c = replay_on xs ys (with_changes ds c)
-replay_on (Faulting fault acts met ∷ xs) ys c = replay_on xs ys c
+replay_on (Faulting fault cause acts met ∷ xs) ys c = replay_on xs ys c
 
 items_on : (xs ys : List Entry) → items_of (xs ++ ys) ≡ items_of xs ++ items_of ys
 items_on [] ys = refl
 items_on (Ran line acts ds vs items ∷ xs) ys =
     ap (λ r. items ++ r) (items_on xs ys) ∙ sym (append_assoc items (items_of xs) (items_of ys))
-items_on (Faulting fault acts met ∷ xs) ys = items_on xs ys
+items_on (Faulting fault cause acts met ∷ xs) ys = items_on xs ys
 
 all_on : (xs ys : List Entry) → AllByRecursion HasRun xs → AllByRecursion HasRun ys → AllByRecursion HasRun (xs ++ ys)
 all_on [] ys h g = g
 all_on (x ∷ xs) ys h g = (h.0, all_on xs ys h.1 g)
 
-ends_on : (xs ys : List Entry) (k : Fault) → AllByRecursion HasRun xs → EndsIn k ys → EndsIn k (xs ++ ys)
-ends_on xs ys k h g =
-    (xs ++ g.0, g.1, g.2, all_on xs g.0 h g.3, ap (λ zs. xs ++ zs) g.4 ∙ sym (append_assoc xs g.0 (Faulting k g.1 g.2 ∷ [])))
+ends_on : (p : Checked) (xs ys : List Entry) (k : Fault) → AllByRecursion HasRun xs → EndsIn p k ys → EndsIn p k (xs ++ ys)
+ends_on p xs ys k h (front, cause, acts, met, all, why, is) = (
+  xs ++ front,
+  cause,
+  acts,
+  met,
+  all_on xs front h all,
+  why,
+  ap (λ zs. xs ++ zs) is ∙ sym (append_assoc xs front (Faulting k cause acts met ∷ [])),
+)
 
 output_on : (m new : State) (xs ys : List Entry) (out : List ℤ) → m.output ++ items_of xs ≡ new.output →
     new.output ++ items_of ys ≡ out → m.output ++ items_of (xs ++ ys) ≡ out
@@ -82,9 +92,9 @@ pub record Extends (m new : State) : Type 0 where
 pub extends : (m new : State) → length new.cells ≡ length m.cells → new.output ≡ m.output → Extends m new
 extends m new l o = record { size = l; more = []; output = o ∙ sym (append-nil m.output) }
 
-pub ran_told : {A : Type 0} (m new : State) (line : ℕ) (acts : List Act) (a : A) → Extends m new →
-    IsTold m (ran line acts m new ∷ []) (Goes a new)
-ran_told m new line acts a h = record {
+pub ran_told : {A : Type 0} (p : Checked) (m new : State) (line : ℕ) (acts : List Act) (a : A) → Extends m new →
+    IsTold p m (ran line acts m new ∷ []) (Goes a new)
+ran_told p m new line acts a h = record {
   size = h.size;
   memory = applied m.cells new.cells h.size;
   output = ap (λ r. m.output ++ r) (append-nil (drop (length m.output) new.output))
@@ -94,13 +104,14 @@ ran_told m new line acts a h = record {
   all = (tt, tt);
 }
 
-pub fell_told : (m : State) (k : Fault) (acts : List Act) (met : List ℤ) → Falls m (Faulting k acts met ∷ []) k m.output
-fell_told m k acts met = record { output = append-nil m.output; ends = ([], acts, met, tt, refl) }
+pub fell_told : (p : Checked) (m : State) (k : Fault) (cause : Option Cause) (acts : List Act) (met : List ℤ) →
+    IsExplained p k.kind cause → Falls p m (Faulting k cause acts met ∷ []) k m.output
+fell_told p m k cause acts met why = record { output = append-nil m.output; ends = ([], cause, acts, met, tt, why, refl) }
 
 -- ---- none
 
-pub none_told : {A : Type 0} (m new : State) (a : A) → new.cells ≡ m.cells → new.output ≡ m.output → IsTold m [] (Goes a new)
-none_told m new a c o = record {
+pub none_told : {A : Type 0} (p : Checked) (m new : State) (a : A) → new.cells ≡ m.cells → new.output ≡ m.output → IsTold p m [] (Goes a new)
+none_told p m new a c o = record {
   size = ap length c;
   memory = sym c;
   output = append-nil m.output ∙ sym o;
@@ -110,61 +121,61 @@ none_told m new a c o = record {
 pub wait_told : (m : State) → Waits m [] m.output
 wait_told m = record { output = append-nil m.output; all = tt }
 
-pub counted_told : (n : ℕ) (m : State) → IsTold m [] (counted n m)
-counted_told n m = by (nat_lt m.count n) where
-  by : (b : Bool) → IsTold m [] (if b then Goes done (record m { count = m.count + 1 }) else Reaches m.output)
-  by true = none_told m (record m { count = m.count + 1 }) done refl refl
+pub counted_told : (p : Checked) (n : ℕ) (m : State) → IsTold p m [] (counted n m)
+counted_told p n m = by (nat_lt m.count n) where
+  by : (b : Bool) → IsTold p m [] (if b then Goes done (record m { count = m.count + 1 }) else Reaches m.output)
+  by true = none_told p m (record m { count = m.count + 1 }) done refl refl
   by false = wait_told m
 
 -- ---- one part of a run behind the other
 
-joined : {B : Type 0} (m new : State) (xs ys : List Entry) (d : Behaviour B) → Leads m xs new → IsTold new ys d → IsTold m (xs ++ ys) d
-joined m new xs ys (Goes b last) s h = record {
+joined : {B : Type 0} (p : Checked) (m new : State) (xs ys : List Entry) (d : Behaviour B) → Leads m xs new → IsTold p new ys d → IsTold p m (xs ++ ys) d
+joined p m new xs ys (Goes b last) s h = record {
   size = h.size ∙ s.size;
   memory = replay_on xs ys m.cells ∙ ap (replay ys) s.memory ∙ h.memory;
   output = output_on m new xs ys last.output s.output h.output;
   all = all_on xs ys s.all h.all;
 }
-joined m new xs ys (Stops k out) s h = record {
+joined p m new xs ys (Stops k out) s h = record {
   output = output_on m new xs ys out s.output h.output;
-  ends = ends_on xs ys k s.all h.ends;
+  ends = ends_on p xs ys k s.all h.ends;
 }
-joined m new xs ys (Reaches out) s h = record {
+joined p m new xs ys (Reaches out) s h = record {
   output = output_on m new xs ys out s.output h.output;
   all = all_on xs ys s.all h.all;
 }
 
-pub told_then : {A B : Type 0} (m : State) (ms : List Moment) (b : Behaviour A) (f : A → State → List Moment)
-    (g : A → State → Behaviour B) → IsTold m (told ms) b → ((a : A) (new : State) → IsTold new (told (f a new)) (g a new)) →
-    IsTold m (told (ms ++ behind b f)) (then_do b g)
-told_then m ms (Goes a new) f g s h =
-    subst (λ es. IsTold m es (g a new)) (sym (flat_map-append entries_of ms (f a new)))
-    (joined m new (told ms) (told (f a new)) (g a new) s (h a new))
-told_then m ms (Stops k out) f g s h = subst (λ ms. Falls m (told ms) k out) (sym (append-nil ms)) s
-told_then m ms (Reaches out) f g s h = subst (λ ms. Waits m (told ms) out) (sym (append-nil ms)) s
+pub told_then : {A B : Type 0} (p : Checked) (m : State) (ms : List Moment) (b : Behaviour A) (f : A → State → List Moment)
+    (g : A → State → Behaviour B) → IsTold p m (told p ms) b → ((a : A) (new : State) → IsTold p new (told p (f a new)) (g a new)) →
+    IsTold p m (told p (ms ++ behind b f)) (then_do b g)
+told_then p m ms (Goes a new) f g s h =
+    subst (λ es. IsTold p m es (g a new)) (sym (flat_map-append (entries_of p) ms (f a new)))
+    (joined p m new (told p ms) (told p (f a new)) (g a new) s (h a new))
+told_then p m ms (Stops k out) f g s h = subst (λ ms. Falls p m (told p ms) k out) (sym (append-nil ms)) s
+told_then p m ms (Reaches out) f g s h = subst (λ ms. Waits m (told p ms) out) (sym (append-nil ms)) s
 
 -- where a part of a run begins in another state, with the same cells and output
-pub told_from : {B : Type 0} (m new : State) (ms : List Moment) (d : Behaviour B) → new.cells ≡ m.cells → new.output ≡ m.output →
-    IsTold new (told ms) d → IsTold m (told ms) d
-told_from m new ms d c o h = joined m new [] (told ms) d (none_told m new done c o) h
+pub told_from : {B : Type 0} (p : Checked) (m new : State) (ms : List Moment) (d : Behaviour B) → new.cells ≡ m.cells → new.output ≡ m.output →
+    IsTold p new (told p ms) d → IsTold p m (told p ms) d
+told_from p m new ms d c o h = joined p m new [] (told p ms) d (none_told p m new done c o) h
 
 -- a value and a state put in place of others, with the same cells and output
-pub told_map : {A B : Type 0} (m : State) (es : List Entry) (b : Behaviour A) (f : A → State → B) (h : A → State → State) →
-    IsTold m es b → ((a : A) (new : State) → (h a new).cells ≡ new.cells) → ((a : A) (new : State) → (h a new).output ≡ new.output) →
-    IsTold m es (then_do b (λ a m. Goes (f a m) (h a m)))
-told_map m es (Goes a new) f h s c o = record {
+pub told_map : {A B : Type 0} (p : Checked) (m : State) (es : List Entry) (b : Behaviour A) (f : A → State → B) (h : A → State → State) →
+    IsTold p m es b → ((a : A) (new : State) → (h a new).cells ≡ new.cells) → ((a : A) (new : State) → (h a new).output ≡ new.output) →
+    IsTold p m es (then_do b (λ a m. Goes (f a m) (h a m)))
+told_map p m es (Goes a new) f h s c o = record {
   size = ap length (c a new) ∙ s.size;
   memory = s.memory ∙ sym (c a new);
   output = s.output ∙ sym (o a new);
   all = s.all;
 }
-told_map m es (Stops k out) f h s c o = s
-told_map m es (Reaches out) f h s c o = s
+told_map p m es (Stops k out) f h s c o = s
+told_map p m es (Reaches out) f h s c o = s
 
 -- the end of a block tells nothing
-pub closing_told : (m : State) (ms : List Moment) (b : Done) → IsTold m (told ms) b → IsTold m (told (closing ms)) b
-closing_told m ms b h =
-    subst (λ es. IsTold m es b) (sym (flat_map-append entries_of ms (Closed ∷ []) ∙ append-nil (told ms))) h
+pub closing_told : (p : Checked) (m : State) (ms : List Moment) (b : Done) → IsTold p m (told p ms) b → IsTold p m (told p (closing ms)) b
+closing_told p m ms b h =
+    subst (λ es. IsTold p m es b) (sym (flat_map-append (entries_of p) ms (Closed ∷ []) ∙ append-nil (told p ms))) h
 
 -- ---- behaviours
 

@@ -6,7 +6,6 @@ use Rattle.std.specs.List.{AllByRecursion, list_any}
 use Rattle.std.proofs.lemmas.Grind.{flat_map-append}
 use Rattle.std.proofs.lemmas.Int.{ints}
 use Rattle.std.proofs.lemmas.List.{map-append}
-use Rattle.std.proofs.lemmas.List.Elements.{Contains-append_cases}
 use Rattle.pram_model.specs.declared.rule.Rule.{Rule}
 use Rattle.pram_model.specs.declared.rule.Rule.TheVariants.{Common, Crew, Erew, Priority, Sum}
 use Rattle.pram_model.proofs.Truths.{either}
@@ -16,13 +15,12 @@ use Rattle.pram_values.specs.declared.place.Place.TheVariants.{Cell}
 use Rattle.pram_values.specs.Truth.{is_equal}
 use Rattle.pram_values.specs.Value.{Value, fits}
 use Rattle.write_rules.specs.declared.write.Write.{Write}
-use Rattle.write_rules.specs.Rule.{common_value, shares_reads, sum_of, written}
+use Rattle.write_rules.specs.Rule.{written}
 use Rattle.pram_meaning.specs.declared.key.Key.{Key}
 use Rattle.pram_meaning.specs.declared.read.Read.{Read}
 use Rattle.pram_meaning.specs.Attempt.{Attempt, Effect, Fails, Gives, Trail}
-use Rattle.pram_meaning.specs.Conflict.{IsLeast, Part, cell_conflict, conflict_of, fault_of, is_conflict, keys, read_conflicts, read_key}
-use Rattle.pram_meaning.specs.Conflict.{reads_of, reads_on, trail_of, value_key, write_conflict, write_to, writes_by, writes_to}
-use Rattle.pram_meaning.proofs.LeastKey.{least_is_least}
+use Rattle.pram_meaning.specs.Conflict.{Part, fault_of, is_conflict, reads_of, reads_on, trail_of, write_to, writes_by, writes_to}
+use Rattle.fault_causes.proofs.CellFaults.{IsOwn, IsReadConflict, IsWriteConflict, found, in_one, nothing_in, whose, written_kind}
 use Rattle.step_journal.specs.Accesses.{FaultsAt, ReadersMeet, TwoMeet, WritersMeet, reader_at}
 use Rattle.step_journal.specs.Meeting.{is_cell, meeting, met_at, met_in, readers, writer, writers}
 
@@ -156,25 +154,6 @@ first_at i b (None ∷ t) r k h e = first_at i (b + 1) t r k h e
 first_at i b (Some c ∷ t) r zero h e = let a : b + 1 ≡ r.at = ap (λ (r : Read). r.at) e in omega (arith, a)
 first_at i b (Some c ∷ t) r (suc k) h e = first_at i (b + 1) t r k (omega (arith, h)) e
 
--- ---- what is in a list that is made of others
-
-found : {X Y : Type 0} (f : X → List Y) (xs : List X) (y : Y) → Contains (flat_map f xs) y → (x : X) × Contains xs x × Contains (f x) y
-found f [] y c = absurd (let l = c.1 in omega (arith, l))
-found f (x ∷ xs) y c = elim (Contains-append_cases (f x) (flat_map f xs) y c) [
-  | inl h ↦ (x, (0, omega arith, refl), h)
-  | inr h ↦ let r = found f xs y h in let l = r.1.1 in (r.0, (suc r.1.0, omega (arith, l), r.1.2), r.2)
-]
-
-nothing_in : {Y : Type 0} (y : Y) → Contains [] y → ⊥
-nothing_in y c = let l = c.1 in omega (arith, l)
-
-at_first : {Y : Type 0} (y z : Y) (n : ℕ) → n < 1 → get_or (y ∷ []) n z ≡ z → z ≡ y
-at_first y z zero h e = sym e
-at_first y z (suc n) h e = absurd (omega (arith, h))
-
-in_one : {Y : Type 0} (y z : Y) → Contains (y ∷ []) z → z ≡ y
-in_one y z c = at_first y z c.0 c.1 c.2
-
 -- ---- what is told at a cell
 
 own : (i : ℤ) (a : Attempt Effect) (k : Key) (c : ℕ) → Contains (fault_of i a) k → k.place ≡ Cell c → ⊥
@@ -187,102 +166,40 @@ pub record AreRead (xs : List Part) (k : Key) : Type 0 where
   pub at : 1 ≤ k.at
   pub two : (c : ℕ) → k.place ≡ Cell c → 2 ≤ length (flat_map (reader_at k.at c) (reads_of xs))
 
-in_reads : (xs : List Part) (r : Read) (k : Key) → Contains (reads_of xs) r → Contains (conflict_of (reads_of xs) r) k → AreRead xs k
-in_reads xs r k m h = by (either (list_any (is_conflict r) (reads_of xs))) where
-  at_least : 1 ≤ r.at
-  at_least =
-      let f = found (λ (x : Part). reads_on x.processor 0 (trail_of x.attempt)) xs r m in
-      first_at f.0.processor 0 (trail_of f.0.attempt) r f.2.0 f.2.1 f.2.2
+at_least : (xs : List Part) (r : Read) → Contains (reads_of xs) r → 1 ≤ r.at
+at_least xs r m =
+    let f = found (λ (x : Part). reads_on x.processor 0 (trail_of x.attempt)) xs r m in
+    first_at f.0.processor 0 (trail_of f.0.attempt) r f.2.0 f.2.1 f.2.2
 
-  told : k ≡ read_key r → list_any (is_conflict r) (reads_of xs) ≡ true → AreRead xs k
-  told e a = record {
-    kind = ap (λ (k : Key). k.kind) e;
-    at = let s : k.at ≡ r.at = ap (λ (k : Key). k.at) e in let l = at_least in omega (arith, s, l);
-    two = λ c p.
-        let q : r.cell ≡ c = let s : k.place ≡ Cell r.cell = ap (λ (k : Key). k.place) e in cc (s, p) in
-        subst (λ c. 2 ≤ length (flat_map (reader_at k.at c) (reads_of xs))) q
-        (subst (λ n. 2 ≤ length (flat_map (reader_at n r.cell) (reads_of xs))) (sym (ap (λ (k : Key). k.at) e))
-        (two r (reads_of xs) m.0 m.1 m.2 a));
-  }
-
-  by : (list_any (is_conflict r) (reads_of xs) ≡ true) ⊎ (list_any (is_conflict r) (reads_of xs) ≡ false) → AreRead xs k
-  by (inl a) = told (in_one (read_key r) k (subst (λ b. Contains (if b then read_key r ∷ [] else []) k) a h)) a
-  by (inr a) = absurd (nothing_in k (subst (λ b. Contains (if b then read_key r ∷ [] else []) k) a h))
+in_reads : (rule : Rule) (xs : List Part) (k : Key) → IsReadConflict rule (reads_of xs) k → AreRead xs k
+in_reads rule xs k h =
+    let r = h.read in
+    record {
+      kind = ap (λ (k : Key). k.kind) h.told;
+      at = let s : k.at ≡ r.at = ap (λ (k : Key). k.at) h.told in let l = at_least xs r h.among in omega (arith, s, l);
+      two = λ c p.
+          let q : r.cell ≡ c = let s : k.place ≡ Cell r.cell = ap (λ (k : Key). k.place) h.told in cc (s, p) in
+          subst (λ c. 2 ≤ length (flat_map (reader_at k.at c) (reads_of xs))) q
+          (subst (λ n. 2 ≤ length (flat_map (reader_at n r.cell) (reads_of xs))) (sym (ap (λ (k : Key). k.at) h.told))
+          (two r (reads_of xs) h.among.0 h.among.1 h.among.2 h.met));
+    }
 
 -- the rule has something against the writers of the cell
 abbrev AreWritten : Rule → List Part → Key → Type 0
 AreWritten rule xs k = (c : ℕ) → k.place ≡ Cell c → written rule (pos 0) (writes_to c xs) ≡ Err k.kind
 
-in_value : (rule : Rule) (xs : List Part) (at c : ℕ) (k : Key) (v : Value) → written rule (pos 0) (writes_to c xs) ≡ v →
-    Contains (value_key at c v) k → AreWritten rule xs k
-in_value rule xs at c k (Ok v) e h = absurd (nothing_in k h)
-in_value rule xs at c k (Err d) e h = λ c' p.
-    let s = in_one _ k h in
-    let q : c ≡ c' = let s : k.place ≡ Cell c = ap (λ (k : Key). k.place) s in cc (s, p) in
-    ap (λ c. written rule (pos 0) (writes_to c xs)) (sym q) ∙ e ∙ ap (λ (k : Key). Err k.kind) (sym s)
-
-in_cell : (rule : Rule) (xs : List Part) (at : ℕ) (o : Option ℕ) (k : Key) → Contains (cell_conflict rule xs at o) k → AreWritten rule xs k
-in_cell rule xs at None k h = absurd (nothing_in k h)
-in_cell rule xs at (Some c) k h = in_value rule xs at c k (written rule (pos 0) (writes_to c xs)) refl h
-
-in_write : (rule : Rule) (xs : List Part) (a : Attempt Effect) (k : Key) → Contains (write_conflict rule xs a) k → AreWritten rule xs k
-in_write rule xs (Gives t g) k h = in_cell rule xs (length t) g.cell k h
-in_write rule xs (Fails t d) k h = absurd (nothing_in k h)
-
-in_read_conflicts : (rule : Rule) (xs : List Part) (k : Key) → Contains (read_conflicts rule (reads_of xs)) k → AreRead xs k
-in_read_conflicts rule xs k h = by (shares_reads rule) h where
-  by : (b : Bool) → Contains (if b then [] else flat_map (conflict_of (reads_of xs)) (reads_of xs)) k → AreRead xs k
-  by true h = absurd (nothing_in k h)
-  by false h = let f = found (conflict_of (reads_of xs)) (reads_of xs) k h in in_reads xs f.0 k f.1 f.2
+in_writes : (rule : Rule) (xs : List Part) (k : Key) → IsWriteConflict rule xs k → AreWritten rule xs k
+in_writes rule xs k w = λ c p.
+    let q : w.cell ≡ c = let s = w.place in cc (s, p) in ap (λ c. written rule (pos 0) (writes_to c xs)) (sym q) ∙ w.against
 
 of_cell : (rule : Rule) (xs : List Part) (k : Key) (c : ℕ) → FaultsAt rule xs k c → AreRead xs k ⊎ AreWritten rule xs k
-of_cell rule xs k c f =
-    by (Contains-append_cases (owns ++ reads) writes k (subst (IsLeast (keys rule xs)) f.told (least_is_least (keys rule xs))).0)
-  where
-    owns : List Key
-    owns = flat_map (λ (x : Part). fault_of x.processor x.attempt) xs
-
-    reads : List Key
-    reads = read_conflicts rule (reads_of xs)
-
-    writes : List Key
-    writes = flat_map (λ (x : Part). write_conflict rule xs x.attempt) xs
-
-    among : Contains owns k ⊎ Contains reads k → AreRead xs k ⊎ AreWritten rule xs k
-    among (inl h) =
-        let o = found (λ (x : Part). fault_of x.processor x.attempt) xs k h in
-        absurd (own o.0.processor o.0.attempt k c o.2 f.cell)
-    among (inr h) = inl (in_read_conflicts rule xs k h)
-
-    by : Contains (owns ++ reads) k ⊎ Contains writes k → AreRead xs k ⊎ AreWritten rule xs k
-    by (inl h) = among (Contains-append_cases owns reads k h)
-    by (inr h) =
-        let w = found (λ (x : Part). write_conflict rule xs x.attempt) xs k h in inr (in_write rule xs w.0.attempt k w.2)
+of_cell rule xs k c f = by (whose rule xs k f.told) where
+  by : IsOwn xs k ⊎ (IsReadConflict rule (reads_of xs) k ⊎ IsWriteConflict rule xs k) → AreRead xs k ⊎ AreWritten rule xs k
+  by (inl o) = absurd (own o.0.processor o.0.attempt k c o.2 f.cell)
+  by (inr (inl r)) = inl (in_reads rule xs k r)
+  by (inr (inr w)) = inr (in_writes rule xs k w)
 
 -- ---- what a rule has against writers
-
-common_by : (b : Bool) (v : Value) (d : Kind) → (v ≡ Err d → d ≡ WriteConflict) → (if b then v else Err WriteConflict) ≡ Err d →
-    d ≡ WriteConflict
-common_by true v d rest e = rest e
-common_by false v d rest e = cc e
-
-common_kind : (x : ℤ) (ws : List Write) (d : Kind) → common_value x ws ≡ Err d → d ≡ WriteConflict
-common_kind x [] d e = absurd (cc e)
-common_kind x (w ∷ ws) d e = common_by (is_equal x w.value) (common_value x ws) d (common_kind x ws d) e
-
-checked_kind : (b : Bool) (z : ℤ) (d : Kind) → ◌≡◌ {A = Value} (if b then Ok z else Err Overflow) (Err d) → d ≡ Overflow
-checked_kind true z d e = absurd (cc e)
-checked_kind false z d e = cc e
-
-written_kind : (rule : Rule) (ws : List Write) (d : Kind) → written rule (pos 0) ws ≡ Err d → (d ≡ WriteConflict) ⊎ (d ≡ Overflow)
-written_kind rule [] d e = absurd (cc e)
-written_kind Erew (w ∷ []) d e = absurd (cc e)
-written_kind Erew (w ∷ v ∷ ws) d e = inl (cc e)
-written_kind Crew (w ∷ []) d e = absurd (cc e)
-written_kind Crew (w ∷ v ∷ ws) d e = inl (cc e)
-written_kind Common (w ∷ ws) d e = inl (common_kind w.value ws d e)
-written_kind Priority (w ∷ ws) d e = absurd (cc e)
-written_kind Sum (w ∷ ws) d e = inr (checked_kind (fits (sum_of (w ∷ ws))) (sum_of (w ∷ ws)) d e)
 
 fits_alone : (z : ℤ) → fits z ≡ true → fits (z +ℤ pos 0) ≡ true
 fits_alone z h = let e : z +ℤ pos 0 ≡ z = grind (arith, ints) in ap fits e ∙ h

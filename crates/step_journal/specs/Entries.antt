@@ -9,10 +9,13 @@ use Rattle.write_rules.specs.Verdict.{Verdict, Ended, Faulted, GoesOn}
 use Rattle.pram_meaning.specs.declared.key.Key.{Key}
 use Rattle.pram_meaning.specs.Attempt.{Attempt, Gives, Fails}
 use Rattle.pram_meaning.specs.Conflict.{Part}
-use Rattle.pram_meaning.specs.Moments.{Moment, Alone, Together, Closed, run_moments}
+use Rattle.pram_meaning.specs.Moments.{Action, StepAction, Moment, Alone, Together, Closed, run_moments}
 use Rattle.pram_meaning.specs.Outcome.{IsOutcome, opening}
-use Rattle.pram_meaning.specs.Store.{State}
+use Rattle.pram_meaning.specs.Store.{State, seen}
+use Rattle.step_entries.specs.Causes.{Cause}
 use Rattle.step_entries.specs.Entries.{Act, Entry, Ran, Faulting}
+use Rattle.fault_causes.specs.Causes.{cause_alone, cause_on}
+use Rattle.fault_causes.specs.Faults.{IsExplained}
 use Rattle.step_journal.specs.Acts.{act_before, act_of, alone_acts, front}
 use Rattle.step_journal.specs.Changes.{difference, with_changes}
 use Rattle.step_journal.specs.Meeting.{meeting}
@@ -31,25 +34,32 @@ fault_alone line kind = record { kind = kind; line = line; place = All }
 abbrev pub fault_on : ℕ → Key → Fault
 fault_on line k = record { kind = k.kind; line = line; place = k.place }
 
+-- why a statement outside pardo faults
+abbrev pub why_alone : Checked → State → Action → Option Cause
+why_alone p before act = cause_alone p.procs (seen p before) act
+
 -- what is told of the one processor outside pardo, whose attempt this is
-abbrev pub by_one : ℕ → State → Attempt (Option ℕ) → State → Entry
-by_one line before (Gives t c) behind = ran line (alone_acts t c) before behind
-by_one line before (Fails t kind) behind = Faulting (fault_alone line kind) (alone_acts (front (length t) t) None) []
+abbrev pub by_one : Checked → ℕ → Action → State → Attempt (Option ℕ) → State → Entry
+by_one p line act before (Gives t c) behind = ran line (alone_acts t c) before behind
+by_one p line act before (Fails t kind) behind =
+    Faulting (fault_alone line kind) (why_alone p before act) (alone_acts (front (length t) t) None) []
 
 -- what is told of a set, whose statement has this least fault, or none
-abbrev pub by_set : ℕ → State → List Part → Option Key → State → Entry
-by_set line before xs None behind = ran line (map act_of xs) before behind
-by_set line before xs (Some k) behind = Faulting (fault_on line k) (map (act_before k.at) xs) (meeting k xs)
+abbrev pub by_set : Checked → ℕ → StepAction → State → List Part → Option Key → State → Entry
+by_set p line act before xs None behind = ran line (map act_of xs) before behind
+by_set p line act before xs (Some k) behind =
+    Faulting (fault_on line k) (cause_on p before act k xs) (map (act_before k.at) xs) (meeting k xs)
 
--- what is told of a moment: a statement's difference of the state behind it from the one before it
-abbrev pub entries_of : Moment → List Entry
-entries_of (Alone line act before a behind) = by_one line before a behind ∷ []
-entries_of (Together line act before xs k behind) = by_set line before xs k behind ∷ []
-entries_of Closed = []
+-- what is told of a moment of a program's run: a statement's difference of the state behind it from the one before it, or its fault and why
+-- it came
+abbrev pub entries_of : Checked → Moment → List Entry
+entries_of p (Alone line act before a behind) = by_one p line act before a behind ∷ []
+entries_of p (Together line act before xs k behind) = by_set p line act before xs k behind ∷ []
+entries_of p Closed = []
 
 -- what is told of a program's run on an input, of at most n statements
 abbrev pub run_entries : Checked → List ℤ → ℕ → List Entry
-run_entries p input n = flat_map entries_of (run_moments p input n)
+run_entries p input n = flat_map (entries_of p) (run_moments p input n)
 
 -- ---- the changes of cells, applied in order
 
@@ -57,7 +67,7 @@ run_entries p input n = flat_map entries_of (run_moments p input n)
 abbrev pub replay : List Entry → List ℤ → List ℤ
 replay [] cells = cells
 replay (Ran line acts changed variables items ∷ es) cells = replay es (with_changes changed cells)
-replay (Faulting fault acts met ∷ es) cells = replay es cells
+replay (Faulting fault cause acts met ∷ es) cells = replay es cells
 
 -- the memory of an outcome that has one
 abbrev pub HasMemory : Verdict → List ℤ → Type 0
@@ -76,7 +86,7 @@ ChangesGiveTheMemory =
 abbrev pub items_of : List Entry → List ℤ
 items_of [] = []
 items_of (Ran line acts changed variables items ∷ es) = items ++ items_of es
-items_of (Faulting fault acts met ∷ es) = items_of es
+items_of (Faulting fault cause acts met ∷ es) = items_of es
 
 abbrev pub output_of : Verdict → List ℤ
 output_of (Ended output memory) = output
@@ -93,19 +103,19 @@ ItemsGiveTheOutput =
 -- a statement that didn't fault
 abbrev pub HasRun : Entry → Type 0
 HasRun (Ran line acts changed variables items) = ⊤
-HasRun (Faulting fault acts met) = ⊥
+HasRun (Faulting fault cause acts met) = ⊥
 
--- the last entry is this fault, and no other is a fault
-abbrev pub EndsIn : Fault → List Entry → Type 0
-EndsIn fault es = (front : List Entry) × (acts : List Act) × (met : List ℤ) × AllByRecursion HasRun front
-    × (es ≡ front ++ Faulting fault acts met ∷ [])
+-- the last entry is this fault with a cause that has it, and no other is a fault
+abbrev pub EndsIn : Checked → Fault → List Entry → Type 0
+EndsIn p fault es = (front : List Entry) × (cause : Option Cause) × (acts : List Act) × (met : List ℤ) × AllByRecursion HasRun front
+    × IsExplained p fault.kind cause × (es ≡ front ++ Faulting fault cause acts met ∷ [])
 
-abbrev pub HasItsFault : Verdict → List Entry → Type 0
-HasItsFault (Ended output memory) es = AllByRecursion HasRun es
-HasItsFault (Faulted fault output) es = EndsIn fault es
-HasItsFault (GoesOn output) es = AllByRecursion HasRun es
+abbrev pub HasItsFault : Checked → Verdict → List Entry → Type 0
+HasItsFault p (Ended output memory) es = AllByRecursion HasRun es
+HasItsFault p (Faulted fault output) es = EndsIn p fault es
+HasItsFault p (GoesOn output) es = AllByRecursion HasRun es
 
--- The last entry that is told of a run is its fault, exactly where its outcome is one; no other is a fault.
+-- The last entry that is told of a run is its fault, exactly where its outcome is one, and its cause has it; no other is a fault.
 abbrev pub TheFaultIsLast : Type 0
 TheFaultIsLast =
-    (p : Checked) (input : List ℤ) (n : ℕ) (v : Verdict) → IsOutcome p input n v → HasItsFault v (run_entries p input n)
+    (p : Checked) (input : List ℤ) (n : ℕ) (v : Verdict) → IsOutcome p input n v → HasItsFault p v (run_entries p input n)

@@ -4,3 +4,4 @@ pub mod Accesses
 pub mod Changes
 pub mod Entries
 pub mod Costs
+pub mod HeardLaws

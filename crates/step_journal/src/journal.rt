@@ -1,30 +1,35 @@
 //! What was told of a run.
 
 ghost use Rattle.std.specs.Prelude.{◌≡◌, ◌++◌, ◌∷◌, [], IfOk, OnOk, map};
+ghost use Rattle.step_entries.specs.Causes.{known_cause};
 ghost use Rattle.step_entries.specs.Entries.{Faulting, Ran, act_is, entry_is};
 
 use pram_check::Program;
 use pram_meaning::slate::Slate;
 use std::alloc::{AllocError, Global};
-use step_entries::{Act, Change, Entry};
+use step_entries::{Act, Cause, Change, Entry};
 use write_rules::Fault;
 
-/// What was told of the statements of a run so far, and what it takes to tell of more: the slate on which what a set writes is worked out.
+/// What was told of the statements of a program's run so far, and what it takes to tell of more: the slate on which what a set writes is
+/// worked out.
 #[derive(Drop)]
-pub struct Journal {
+pub struct Journal<'a> {
     pub alloc: Global,
+    pub program: &'a Program,
     pub slate: Slate,
     pub entries: Vec<Entry>,
 }
 
-impl Journal {
+impl<'a> Journal<'a> {
     /// A journal of nothing yet.
-    pub fn new(alloc: Global, program: &Program) -> Result<Journal, AllocError>
-        ensures { IfOk result (λ journal. journal.entries.items ≡ []) }
+    pub fn new(alloc: Global, program: &'a Program) -> Result<Journal<'a>, AllocError>
+        ensures nothing { IfOk result (λ journal. journal.entries.items ≡ []) }
+        ensures program { IfOk result (λ journal. journal.program.now ≡ program.now) }
     {
         let slate = Slate::new(alloc, program.layout().cells())?;
         Ok(Journal {
             alloc,
+            program,
             slate,
             entries: Vec::new(alloc),
         })
@@ -40,8 +45,9 @@ impl Journal {
         variables: Vec<Change>,
         printed: Vec<i64>,
     ) -> Result<(), AllocError>
-        ensures { OnOk result (map entry_is self.new.entries.items ≡ map entry_is self.old.entries.items
+        ensures added { OnOk result (map entry_is self.new.entries.items ≡ map entry_is self.old.entries.items
             ++ Ran line (map act_is acts.items) cells.items variables.items printed.items ∷ []) }
+        ensures program { self.new.program.now ≡ self.old.program.now }
     {
         self.entries.push(Entry::Ran {
             line,
@@ -53,13 +59,25 @@ impl Journal {
         Ok(())
     }
 
-    /// A statement has faulted; these acted, and these met.
+    /// A statement has faulted, for this cause if it is known; these acted, and these met.
     #[tactic(auto, using(crate::proofs::Pushed::fault_pushed))]
-    pub fn stop(&mut self, fault: Fault, acts: Vec<Act>, met: Vec<i64>) -> Result<(), AllocError>
-        ensures { OnOk result (map entry_is self.new.entries.items ≡ map entry_is self.old.entries.items
-            ++ Faulting fault (map act_is acts.items) met.items ∷ []) }
+    pub fn stop(
+        &mut self,
+        fault: Fault,
+        cause: Option<Cause>,
+        acts: Vec<Act>,
+        met: Vec<i64>,
+    ) -> Result<(), AllocError>
+        ensures added { OnOk result (map entry_is self.new.entries.items ≡ map entry_is self.old.entries.items
+            ++ Faulting fault (known_cause cause) (map act_is acts.items) met.items ∷ []) }
+        ensures program { self.new.program.now ≡ self.old.program.now }
     {
-        self.entries.push(Entry::Faulted { fault, acts, met })?;
+        self.entries.push(Entry::Faulted {
+            fault,
+            cause,
+            acts,
+            met,
+        })?;
         Ok(())
     }
 }

@@ -27,7 +27,7 @@ pub fn those_that_meet_access_the_cell()
     ensures two { TwoMeet }
 {}
 
-/// The last entry that is told of a run is its fault, exactly where its outcome is one; no other is.
+/// The last entry that is told of a run is its fault, exactly where its outcome is one, with a cause that has that fault; no other is.
 #[tactic(auto, using(crate::proofs::Laws::the_fault_is_last))]
 pub fn the_fault_is_last()
     ensures { TheFaultIsLast }

@@ -1,5 +1,5 @@
 //! A run told statement by statement: what each processor reads and writes, what each statement
-//! changes and prints, and who met at a fault.
+//! changes and prints, and at a fault why it came and who met.
 #![tactic(auto)]
 
 mod acts;

@@ -1,16 +1,14 @@
 //! A journal listens to a run.
 
-ghost use Rattle.std.specs.Prelude.{◌≡◌, ◌++◌, map};
-ghost use Rattle.std.specs.List.{flat_map};
-ghost use Rattle.std.proofs.Common.{rules};
-ghost use Rattle.std.proofs.lemmas.Grind.{common_steps};
+ghost use Rattle.std.specs.Prelude.{map};
 ghost use Rattle.step_entries.specs.Entries.{entry_is};
-ghost use Rattle.step_journal.specs.Entries.{entries_of};
+ghost use Rattle.step_journal.specs.HeardLaws.{Heard, heard_nothing, heard_on};
 
 use crate::acts::{acts_before, acts_of, alone_acts, front};
 use crate::effects::{cells_changed, items_printed, variables_changed};
 use crate::journal::Journal;
 use crate::meetings::meeting;
+use fault_causes::{cause_alone, cause_on};
 use pram_check::Program;
 use pram_meaning::Key;
 use pram_meaning::action::{Action, StepAction};
@@ -23,8 +21,9 @@ use pram_values::{Kind, Place};
 use std::alloc::AllocError;
 use write_rules::Fault;
 
-impl Listener for Journal {
-    ghost hears = { λ a ms b. map entry_is b.entries.items ≡ map entry_is a.entries.items ++ flat_map entries_of ms };
+impl<'a> Listener for Journal<'a> {
+    ghost hears = { λ a ms b.
+        Heard a.program.now b.program.now (map entry_is a.entries.items) (map entry_is b.entries.items) ms };
 
     #[tactic(auto, using(crate::proofs::Told::ran_alone))]
     fn acts(
@@ -45,9 +44,9 @@ impl Listener for Journal {
     #[tactic(auto, using(crate::proofs::Told::fell_alone))]
     fn fails(
         &mut self,
-        _run: &Run,
+        run: &Run,
         line: u32,
-        _action: &Action,
+        action: &Action,
         trail: &[Option<u32>],
         kind: Kind,
     ) -> Result<(), AllocError> {
@@ -57,7 +56,8 @@ impl Listener for Journal {
             line,
             place: Place::All,
         };
-        self.stop(fault, acts, Vec::new(self.alloc))
+        let cause = cause_alone(self.alloc, self.program, run, action);
+        self.stop(fault, cause, acts, Vec::new(self.alloc))
     }
 
     #[tactic(auto, using(crate::proofs::Told::ran_together))]
@@ -84,28 +84,30 @@ impl Listener for Journal {
     #[tactic(auto, using(crate::proofs::Told::fell_together))]
     fn fails_on(
         &mut self,
-        _run: &Run,
-        _team: &Vec<Member>,
+        run: &Run,
+        team: &Vec<Member>,
         line: u32,
-        _action: &StepAction,
+        action: &StepAction,
         parts: &[Part],
         key: Key,
     ) -> Result<(), AllocError> {
         let acts = acts_before(self.alloc, key.at, parts)?;
         let met = meeting(self.alloc, key, parts)?;
+        let cause = cause_on(self.alloc, self.program, run, team, action, parts, key)?;
         let fault = Fault {
             kind: key.kind,
             line,
             place: key.place,
         };
-        self.stop(fault, acts, met)
+        self.stop(fault, cause, acts, met)
     }
 
     fn closes(&mut self) -> Result<(), AllocError> {
         Ok(())
     }
 
-    ghost hears_nothing = { Prim.search (rules, common_steps) };
+    ghost hears_nothing = { λ l. heard_nothing l.program.now (map entry_is l.entries.items) };
 
-    ghost hears_on = { Prim.search (rules, common_steps) };
+    ghost hears_on = { λ a b c ms ns. heard_on a.program.now b.program.now c.program.now (map entry_is a.entries.items)
+        (map entry_is b.entries.items) (map entry_is c.entries.items) ms ns };
 }

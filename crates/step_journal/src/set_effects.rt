@@ -18,7 +18,7 @@ use pram_meaning::together::overwrite;
 use std::alloc::AllocError;
 use step_entries::Change;
 
-impl Journal {
+impl<'a> Journal<'a> {
     // The cells that writes change, by the cells that they leave in a copy.
     fn cells_overwritten(
         &mut self,
@@ -29,6 +29,7 @@ impl Journal {
         ensures changed { IfOk result (λ ds. ds.items ≡ difference run.now.cells.items
             (overwritten program.now.rule (map part_is parts.now) 0 run.now.cells.items)) }
         ensures kept { self.new.entries ≡ self.old.entries }
+        ensures program { self.new.program.now ≡ self.old.program.now }
     {
         let mut cells = Vec::from_slice(self.alloc, &run.cells)?;
         overwrite(
@@ -53,6 +54,7 @@ impl Journal {
         ensures changed { IfOk result (λ ds. (ms : List Member) → ds.items ≡ difference run.now.cells.items
             (done_on program.now (step_action_is action.now) (map part_is parts.now) (state_in run.now ms)).cells) }
         ensures kept { self.new.entries ≡ self.old.entries }
+        ensures program { self.new.program.now ≡ self.old.program.now }
     {
         match action {
             StepAction::Assigns { target, .. } => match target {

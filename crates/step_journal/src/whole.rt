@@ -63,7 +63,7 @@ fn tell_run(
 /// Runs a program on an input, for at most `bound` statements, as [`pram_meaning::reference_run`]
 /// does, and tells beside the outcome what each statement did: entry k, counted from 1, is the k-th
 /// statement that ran, with what each processor read and wrote, what it changed and what it printed.
-/// Where the run faults, the last entry is the fault. Its entries are the time steps that `work_time` counts. E11 where there are more
+/// Where the run faults, the last entry is the fault, with its cause. Its entries are the time steps that `work_time` counts. E11 where there are more
 /// values than cells; E16 only where memory was refused.
 #[tactic(auto, using(crate::proofs::Laws::told_memory, crate::proofs::Laws::told_output, crate::proofs::Laws::told_last, crate::proofs::Costed::told_steps))]
 pub fn steps_of(
@@ -81,8 +81,8 @@ pub fn steps_of(
         (replay (map entry_is r.1.items) (opening program.now input.now).cells)) }
     // The items that were printed, joined, are the output of the outcome.
     ensures output { IfOk result (λ r. items_of (map entry_is r.1.items) ≡ output_of (verdict_of r.0)) }
-    // The last entry is the fault exactly where the outcome is one, and no other is.
-    ensures last { IfOk result (λ r. HasItsFault (verdict_of r.0) (map entry_is r.1.items)) }
+    // The last entry is the fault exactly where the outcome is one, with a cause that has it, and no other is.
+    ensures last { IfOk result (λ r. HasItsFault program.now (verdict_of r.0) (map entry_is r.1.items)) }
     // They are the time steps by which the run's cost is counted, one by one.
     ensures steps { IfOk result (λ r. map step_of (map entry_is r.1.items) ≡ run_steps program.now input.now bound) }
 {

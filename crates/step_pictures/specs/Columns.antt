@@ -56,7 +56,7 @@ fault_column layout g x k f acts met = heading x k f.line ++ (acts_drawn layout 
 
 abbrev pub column : List SharedEntry → Grid → (x k : ℕ) → Entry → List ℕ
 column layout g x k (Ran line acts cells variables items) = ran_column layout g x k line acts
-column layout g x k (Faulting f acts met) = fault_column layout g x k f acts met
+column layout g x k (Faulting f cause acts met) = fault_column layout g x k f acts met
 
 -- those of entries that are numbered from k on
 abbrev pub columns_from : List SharedEntry → Grid → (k : ℕ) → List Entry → List ℕ

@@ -12,7 +12,7 @@ drawn = take 100
 
 abbrev pub acts_in : Entry → List Act
 acts_in (Ran line acts cells variables items) = acts
-acts_in (Faulting fault acts met) = acts
+acts_in (Faulting fault cause acts met) = acts
 
 -- ---- the indices of the processors that act, from the least to the greatest
 

@@ -240,9 +240,12 @@ fn write_column<W: Out>(
 {
     match entry {
         Entry::Ran { line, acts, .. } => write_ran(out, layout, grid, at, *line, acts),
-        Entry::Faulted { fault, acts, met } => {
-            write_faulted(out, layout, grid, at, fault, acts, met)
-        }
+        Entry::Faulted {
+            fault,
+            acts,
+            met,
+            ..
+        } => write_faulted(out, layout, grid, at, fault, acts, met),
     }
 }
 

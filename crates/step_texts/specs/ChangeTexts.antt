@@ -38,7 +38,7 @@ faulting_text layout fault who = fault_text layout fault ++ meeting_text who
 
 abbrev pub told_text : List SharedEntry → Entry → List ℕ
 told_text layout (Ran at acts cells variables items) = ran_text layout at (length acts) cells
-told_text layout (Faulting fault acts met) = faulting_text layout fault met
+told_text layout (Faulting fault cause acts met) = faulting_text layout fault met
 
 abbrev pub number_text : ℕ → List ℕ
 number_text number = decimal number ++ codes " "

@@ -1,6 +1,6 @@
 use Rattle.std.proofs.Common.{refl}
 use Rattle.text_places.proofs.Pieces.{both, stops_in_first}
-use Rattle.diagnoses.proofs.fault_text.write_some.Goals as goal
+use Rattle.diagnoses.proofs.event_text.write_some.Goals as goal
 
 pub returns-in_err-write_all : goal.returns-in_err-write_all
 returns-in_err-write_all g c = record {

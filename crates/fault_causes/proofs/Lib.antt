@@ -1,0 +1,5 @@
+pub mod Links
+pub mod OwnParts
+pub mod Explained
+pub mod CellFaults
+pub mod SetFaults
