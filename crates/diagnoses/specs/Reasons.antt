@@ -20,8 +20,8 @@ reason_is r = record { cause = known_cause r.cause; met = r.met.items }
 
 -- what an entry tells of it
 abbrev pub reason_of : Entry → Reason
-reason_of (Ran line acts cells variables items) = unknown
-reason_of (Faulting fault cause acts met) = record { cause = cause; met = met }
+reason_of (Ran here acts cells variables locals items) = unknown
+reason_of (Faulting here fault cause acts met) = record { cause = cause; met = met }
 
 -- what the last of these does, or this one
 abbrev pub last_reason : Reason → List Entry → Reason

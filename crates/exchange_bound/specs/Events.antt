@@ -83,13 +83,13 @@ turns_on_events (suc k) head test body inside vs m =
 abbrev mutual
   -- a statement inside pardo, on the members vs: it is one whether anybody executes it or not
   pub step_events : Checked → ℕ → Step → List ℕ → State → List Event
-  step_events p n (step.Assign line x e) vs m = begun n m (Runs (max (step_target_levels x) (levels e)) (is_step_shared x) ∷ [])
-  step_events p n (step.If' line e q then_part r else_part) vs m =
-      begun n m (Runs (levels e) false ∷ []) ++ behind (tested_on p n line e vs m) (λ xs m.
+  step_events p n (step.Assign here x e) vs m = begun n m (Runs (max (step_target_levels x) (levels e)) (is_step_shared x) ∷ [])
+  step_events p n (step.If' here e q then_part r else_part) vs m =
+      begun n m (Runs (levels e) false ∷ []) ++ behind (tested_on p n here.line e vs m) (λ xs m.
       step_row_events p n then_part (those true xs) m
       ++ behind (perform_row_on p n then_part (those true xs) m) (λ u. step_row_events p n else_part (those false xs)))
-  step_events p n (step.While' line e q body) vs m =
-      turns_on_events (n + 1) (λ m. begun n m (Cut ∷ Runs (levels e) false ∷ Cut ∷ Votes ∷ [])) (tested_on p n line e)
+  step_events p n (step.While' here e q body) vs m =
+      turns_on_events (n + 1) (λ m. begun n m (Cut ∷ Runs (levels e) false ∷ Cut ∷ Votes ∷ [])) (tested_on p n here.line e)
       (perform_row_on p n body) (step_row_events p n body) vs m
 
   -- statements in order
@@ -121,21 +121,21 @@ for_events n (suc k) x a body inside m =
 abbrev mutual
   -- a statement outside pardo
   pub events : Checked → ℕ → Statement → State → List Event
-  events p n (Assign line x e) m = begun n m (Runs (max (target_levels x) (levels e)) (is_shared x) ∷ [])
-  events p n (Print line e) m = begun n m (Runs (levels e) false ∷ [])
-  events p n (While' line e q body) m =
-      turns_events (n + 1) (λ m. begun n m (Cut ∷ Runs (levels e) false ∷ Cut ∷ [])) (tested p n line e) (perform_row p n body)
+  events p n (Assign here x e) m = begun n m (Runs (max (target_levels x) (levels e)) (is_shared x) ∷ [])
+  events p n (Print here e) m = begun n m (Runs (levels e) false ∷ [])
+  events p n (While' here e q body) m =
+      turns_events (n + 1) (λ m. begun n m (Cut ∷ Runs (levels e) false ∷ Cut ∷ [])) (tested p n here.line e) (perform_row p n body)
       (row_events p n body) m
-  events p n (If' line e q then_part r else_part) m =
-      begun n m (Runs (levels e) false ∷ Cut ∷ []) ++ behind (tested p n line e m) (λ b m.
+  events p n (If' here e q then_part r else_part) m =
+      begun n m (Runs (levels e) false ∷ Cut ∷ []) ++ behind (tested p n here.line e m) (λ b m.
       (if b then row_events p n then_part m else row_events p n else_part m) ++ Cut ∷ [])
-  events p n (For' line x e f q body) m =
+  events p n (For' here x e f q body) m =
       begun n m (Runs (max (levels e) (levels f)) false ∷ Cut ∷ [])
-      ++ behind (evaluated n line (λ m. attempt_bounds (seen p m) e f) m) (λ r.
+      ++ behind (evaluated n here.line (λ m. attempt_bounds (seen p m) e f) m) (λ r.
       for_events n (width r.0 r.1) x r.0 (perform_row p n body) (row_events p n body))
-  events p n (Pardo line e f locals body) m =
+  events p n (Pardo here e f locals body) m =
       begun n m (Runs (max (levels e) (levels f)) false ∷ [])
-      ++ behind (evaluated n line (λ m. attempt_range p.procs (seen p m) e f) m) (λ r m.
+      ++ behind (evaluated n here.line (λ m. attempt_range p.procs (seen p m) e f) m) (λ r m.
       steps_events p n body.items (numbers 0 r.1) (with_team r.0 r.1 locals m))
 
   -- statements in order

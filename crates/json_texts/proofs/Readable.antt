@@ -232,7 +232,7 @@ small_known layout None = tt
 small_known layout (Some c) = small_cause_of layout c
 
 small_told : (layout : List SharedEntry) (e : Entry) → HasSmall 3 (told_fields layout e)
-small_told layout (Ran at acts cells variables items) = (
+small_told layout (Ran here acts cells variables locals items) = (
   small_count 3 at,
   (
     small_count 3 (length acts),
@@ -249,7 +249,7 @@ small_told layout (Ran at acts cells variables items) = (
     ),
   ),
 )
-small_told layout (Faulting fault cause acts met) = (
+small_told layout (Faulting here fault cause acts met) = (
   small_values 2 met,
   (small_acts layout acts, has_all 3 (fault_fields layout fault) (known_fields layout cause) (small_fault 3 layout fault) (small_known layout cause)),
 )

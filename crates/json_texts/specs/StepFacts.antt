@@ -24,11 +24,11 @@ variable_facts d =
 -- what is told of a statement: its line, how many processors executed it and what each did, the cells and the uniform variables that
 -- changed, and what it printed; or its fault, what each did up to there, who met at its cell, and why it faulted
 abbrev pub told_fields : List SharedEntry → Entry → List Field
-told_fields layout (Ran at acts cells variables items) =
-    (codes "line", count at) ∷ (codes "processors", count (length acts)) ∷ (codes "acts", list (map (act_facts layout) acts))
+told_fields layout (Ran here acts cells variables locals items) =
+    (codes "line", count here.line) ∷ (codes "processors", count (length acts)) ∷ (codes "acts", list (map (act_facts layout) acts))
     ∷ (codes "changes", list (map (change_facts layout) cells)) ∷ (codes "variables", list (map variable_facts variables))
     ∷ (codes "printed", values items) ∷ []
-told_fields layout (Faulting fault cause acts met) =
+told_fields layout (Faulting here fault cause acts met) =
     (codes "met", values met) ∷ (codes "acts", list (map (act_facts layout) acts)) ∷ (fault_fields layout fault ++ known_fields layout cause)
 
 abbrev pub step_facts : List SharedEntry → ℕ → Entry → Data

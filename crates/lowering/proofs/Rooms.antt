@@ -135,10 +135,10 @@ module _ (s : Names) (few : s.uniforms + 1 ≤ 2 ^ 16) (fewer : local_count s.lo
 
   mutual
     step_room : (base : ℕ) (x : Step) → IsStep s x → base + step_depth x + step_size x + 10 ≤ 2 ^ 16 → StepHasRoom base x
-    step_room base (step.Assign line x e) h m = inner_assign_room base x e h (omega (arith, m))
-    step_room base (step.If' line e q a r b) h m =
+    step_room base (step.Assign here x e) h m = inner_assign_room base x e h (omega (arith, m))
+    step_room base (step.If' here e q a r b) h m =
         (sole_room base e h.0 (omega (arith, m)), part_room base a h.1 (omega (arith, m)), part_room base b h.2 (omega (arith, m)))
-    step_room base (step.While' line e q a) h m =
+    step_room base (step.While' here e q a) h m =
         (omega (arith, m), sole_room (base + 1) e h.0 (omega (arith, m)), part_room (base + 1) a h.1 (omega (arith, m)))
 
     part_room : (base : ℕ) {k : _} (xs : Row_of-Step k) → ArePartSteps s xs →
@@ -163,23 +163,23 @@ module _ (s : Names) (few : s.uniforms + 1 ≤ 2 ^ 16) (fewer : local_count s.lo
 
   mutual
     statement_room : (free : ℕ) (x : Statement) → IsStatement s x → free + 3 * depth x + size x + 10 ≤ 2 ^ 16 → StatementHasRoom free x
-    statement_room free (Assign line x e) h m = assign_room free x e h (omega (arith, m))
-    statement_room free (Print line e) h m = sole_room s few fewer short free e h (omega (arith, m))
-    statement_room free (While' line e q a) h m =
+    statement_room free (Assign here x e) h m = assign_room free x e h (omega (arith, m))
+    statement_room free (Print here e) h m = sole_room s few fewer short free e h (omega (arith, m))
+    statement_room free (While' here e q a) h m =
         (sole_room s few fewer short free e h.0 (omega (arith, m)), block_room free a h.1 (omega (arith, m)))
-    statement_room free (If' line e q a r b) h m = (
+    statement_room free (If' here e q a r b) h m = (
       sole_room s few fewer short free e h.0 (omega (arith, m)),
       block_room free a h.1 (omega (arith, m)),
       block_room free b h.2 (omega (arith, m)),
     )
-    statement_room free (For' line x e f q a) h m =
+    statement_room free (For' here x e f q a) h m =
         let k = h.0 in (
           omega (arith, m),
           omega (arith, k, few),
           pair_room s few fewer short (behind_turns free) e f h.1 (omega (arith, m)),
           block_room (behind_turns free) a h.2 (omega (arith, m)),
         )
-    statement_room free (Pardo line e f count body) h m = (
+    statement_room free (Pardo here e f count body) h m = (
       pair_room s few fewer short free e f h.0 (omega (arith, m)),
       omega (arith, m),
       steps_room (with_locals count s) few (omega (arith, m)) short (behind_locals count) body.items h.1 (omega (arith, m)),

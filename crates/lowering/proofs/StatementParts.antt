@@ -2,6 +2,7 @@
 use Rattle.std.proofs.Common.{◌≡◌, ℕ, ◌+◌, Bool, true, false, List, [], ◌∷◌, ◌++◌, length, take, get_or, ◌<◌, ap, ◌∙◌, sym, refl}
 use Rattle.std.proofs.Common.{append_assoc, length-append, arith, Global, Vec}
 use Rattle.std.proofs.lemmas.List.{append-nil, take_more}
+use Rattle.pram_tokens.specs.declared.token.Location.{Location}
 use Rattle.superstep_instructions.specs.declared.instr.Side.TheVariants.{Uniform}
 use Rattle.superstep_instructions.specs.declared.instr.Instr.{Instr}
 use Rattle.superstep_instructions.specs.declared.instr.Instr.TheVariants.{Halt}
@@ -102,43 +103,43 @@ statements_more free items i s w0 w1 w2 e1 h is e2 =
 abbrev Lowered : ℕ → Statement → Written → Written → Type 0
 Lowered free s w u = u ≡ wrote (code true free (length w.instructions) w.held s) (left w.held s) w
 
-pub while_is : (free line : ℕ) (s : Statement) (e : Expression) (body : Vec Statement Global) (w u : Written) → s
-    ≡ statement.While line e body →
-    u ≡ wrote (while_loop free (length w.instructions) w.held line (formula_of e) body.items) false w → Lowered free s w u
-while_is free line s e body w u is h =
-    h ∙ sym (ap (λ p. wrote (while_code true w.held (length w.instructions) line free (formula_of e) p) false w) (part_is free body))
+pub while_is : (free : ℕ) (here : Location) (s : Statement) (e : Expression) (body : Vec Statement Global) (w u : Written) → s
+    ≡ statement.While here e body →
+    u ≡ wrote (while_loop free (length w.instructions) w.held here.line (formula_of e) body.items) false w → Lowered free s w u
+while_is free here s e body w u is h =
+    h ∙ sym (ap (λ p. wrote (while_code true w.held (length w.instructions) here.line free (formula_of e) p) false w) (part_is free body))
     ∙ ap (λ s. wrote (code true free (length w.instructions) w.held s) (left w.held s) w) (sym is)
 
-pub for_is : (free line x : ℕ) (s : Statement) (e f : Expression) (body : Vec Statement Global) (t : Turns) (w0 w1 w2 : Written) →
-    s ≡ statement.For line x e f body →
+pub for_is : (free : ℕ) (here : Location) (x : ℕ) (s : Statement) (e f : Expression) (body : Vec Statement Global) (t : Turns) (w0 w1 w2 : Written) →
+    s ≡ statement.For here x e f body →
     t ≡ record { turn = turn free; high = high free; more = more free; behind = behind_turns free } →
-    w1 ≡ wrote (bounds w0.held line t (formula_of e) (formula_of f)) false w0 →
-    w2 ≡ wrote (for_turns (length w1.instructions) w1.held line t x body.items) false w1 → Lowered free s w0 w2
-for_is free line x s e f body t w0 w1 w2 is ts h1 h2 =
+    w1 ≡ wrote (bounds w0.held here.line t (formula_of e) (formula_of f)) false w0 →
+    w2 ≡ wrote (for_turns (length w1.instructions) w1.held here.line t x body.items) false w1 → Lowered free s w0 w2
+for_is free here x s e f body t w0 w1 w2 is ts h1 h2 =
     let n = length w0.instructions in
-    wrote_then (bounds w0.held line t (formula_of e) (formula_of f)) false (λ n h. for_turns n h line t x body.items)
+    wrote_then (bounds w0.held here.line t (formula_of e) (formula_of f)) false (λ n h. for_turns n h here.line t x body.items)
     (λ h. false) w0 w1 w2 h1 h2
-    ∙ ap (λ t. wrote (bounds w0.held line t (formula_of e) (formula_of f)
-    ++ for_turns (n + length (bounds w0.held line t (formula_of e) (formula_of f))) false line t x body.items) false w0) ts
-    ∙ sym (ap (λ p. wrote (for_code true w0.held n line free x (formula_of e) (formula_of f) p) false w0) (part_is
+    ∙ ap (λ t. wrote (bounds w0.held here.line t (formula_of e) (formula_of f)
+    ++ for_turns (n + length (bounds w0.held here.line t (formula_of e) (formula_of f))) false here.line t x body.items) false w0) ts
+    ∙ sym (ap (λ p. wrote (for_code true w0.held n here.line free x (formula_of e) (formula_of f) p) false w0) (part_is
     (behind_turns free) body))
     ∙ ap (λ s. wrote (code true free n w0.held s) (left w0.held s) w0) (sym is)
 
-pub if_is : (free line source over : ℕ) (s : Statement) (e : Expression) (a b : Vec Statement Global) (w0 w1 w2 w3 w4 : Written) →
-    s ≡ statement.If line e a b → source ≡ value_at Uniform free (formula_of e) → w1 ≡ wrote (parted w0.held line free
+pub if_is : (free : ℕ) (here : Location) (source over : ℕ) (s : Statement) (e : Expression) (a b : Vec Statement Global) (w0 w1 w2 w3 w4 : Written) →
+    s ≡ statement.If here e a b → source ≡ value_at Uniform free (formula_of e) → w1 ≡ wrote (parted w0.held here.line free
     (formula_of e)) false w0 →
     over ≡ length w1.instructions → w2 ≡ added (Halt ∷ []) w1 →
     w3 ≡ wrote (part free w2.held a.items (length w2.instructions)) false w2 → w4 ≡ joined over source free b.items w3 →
     Lowered free s w0 w4
-if_is free line source over s e a b w0 w1 w2 w3 w4 is src h1 o h2 h3 h4 =
+if_is free here source over s e a b w0 w1 w2 w3 w4 is src h1 o h2 h3 h4 =
     let n = length w0.instructions in
     let f = formula_of e in
-    joined_is (parted w0.held line free f) source over free (λ start h. part free h a.items start) b.items w0 w1 w2 w3 w4 h1 o h2 h3 h4
-    ∙ ap (λ r. wrote (parted w0.held line free f ++ chosen (n + length (parted w0.held line free f)) r
-    (part free false a.items (n + length (parted w0.held line free f) + 1)) (are_some b.items) (part free false b.items)) false w0) src
-    ∙ sym (ap (λ p. wrote (if_code true w0.held n line free f p (are_some b.items) (part free false b.items)) false w0) (part_is free a))
-    ∙ sym (ap (λ x. wrote (if_code true w0.held n line free f (row_part free a) x (part free false b.items)) false w0) (some_of_part b))
-    ∙ sym (ap (λ p. wrote (if_code true w0.held n line free f (row_part free a) (has_part (hidden-the_row-Statement-0 b)) p) false w0)
+    joined_is (parted w0.held here.line free f) source over free (λ start h. part free h a.items start) b.items w0 w1 w2 w3 w4 h1 o h2 h3 h4
+    ∙ ap (λ r. wrote (parted w0.held here.line free f ++ chosen (n + length (parted w0.held here.line free f)) r
+    (part free false a.items (n + length (parted w0.held here.line free f) + 1)) (are_some b.items) (part free false b.items)) false w0) src
+    ∙ sym (ap (λ p. wrote (if_code true w0.held n here.line free f p (are_some b.items) (part free false b.items)) false w0) (part_is free a))
+    ∙ sym (ap (λ x. wrote (if_code true w0.held n here.line free f (row_part free a) x (part free false b.items)) false w0) (some_of_part b))
+    ∙ sym (ap (λ p. wrote (if_code true w0.held n here.line free f (row_part free a) (has_part (hidden-the_row-Statement-0 b)) p) false w0)
     (part_is free b))
     ∙ ap (λ s. wrote (code true free n w0.held s) (left w0.held s) w0) (sym is)
 

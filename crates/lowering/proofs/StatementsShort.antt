@@ -1,6 +1,7 @@
 -- The statements inside a statement outside pardo have room, and places, where it has.
 use Rattle.std.proofs.Common.{◌≡◌, ℕ, zero, suc, ◌+◌, ◌<◌, ◌≤◌, ◌^◌, Bool, true, false, List, [], ◌∷◌, length, take, get_or, ap, sym}
 use Rattle.std.proofs.Common.{refl, subst, length-append, arith, Global, Vec}
+use Rattle.pram_tokens.specs.declared.token.Location.{Location}
 use Rattle.superstep_instructions.specs.declared.instr.Side.TheVariants.{Uniform}
 use Rattle.superstep_instructions.specs.declared.instr.Instr.TheVariants.{Halt}
 use Rattle.pram_names.specs.declared.body.Expression.{Expression}
@@ -44,19 +45,19 @@ pub room_of_each : (free : ℕ) (items all : List Statement) (i : ℕ) (s : Stat
     s ≡ get_or items i s → StatementsHaveRoom free all → StatementHasRoom free s
 room_of_each free items all i s same h e r = room_at free items i s h e (subst (StatementsHaveRoom free) (sym same) r)
 
-pub while_room : (free line : ℕ) (s : Statement) (e : Expression) (body : Vec Statement Global) → s ≡ statement.While line e body →
+pub while_room : (free : ℕ) (here : Location) (s : Statement) (e : Expression) (body : Vec Statement Global) → s ≡ statement.While here e body →
     StatementHasRoom free s → IsRoomFor (formula_of e) free × StatementsHaveRoom free body.items
-while_room free line s e body is h = let r = subst (StatementHasRoom free) is h in (r.0, room_of_block free body r.1)
+while_room free here s e body is h = let r = subst (StatementHasRoom free) is h in (r.0, room_of_block free body r.1)
 
-pub if_room : (free line : ℕ) (s : Statement) (e : Expression) (a b : Vec Statement Global) → s ≡ statement.If line e a b →
+pub if_room : (free : ℕ) (here : Location) (s : Statement) (e : Expression) (a b : Vec Statement Global) → s ≡ statement.If here e a b →
     StatementHasRoom free s → IsRoomFor (formula_of e) free × StatementsHaveRoom free a.items × StatementsHaveRoom free b.items
-if_room free line s e a b is h =
+if_room free here s e a b is h =
     let r = subst (StatementHasRoom free) is h in (r.0, room_of_block free a r.1, room_of_block free b r.2)
 
-pub for_room : (free line x : ℕ) (s : Statement) (e f : Expression) (body : Vec Statement Global) → s ≡ statement.For line x e f body →
+pub for_room : (free : ℕ) (here : Location) (x : ℕ) (s : Statement) (e f : Expression) (body : Vec Statement Global) → s ≡ statement.For here x e f body →
     StatementHasRoom free s → (free + 3 < 2 ^ 16) × (x + 1 < 2 ^ 16) × IsRoomFor (Pair (formula_of e) (formula_of f)) (behind_turns free)
     × StatementsHaveRoom (behind_turns free) body.items
-for_room free line x s e f body is h =
+for_room free here x s e f body is h =
     let r = subst (StatementHasRoom free) is h in (r.0, r.1, r.2, room_of_block (behind_turns free) body r.3)
 
 -- ---- places
@@ -65,44 +66,44 @@ for_room free line x s e f body is h =
 abbrev IsShort : ℕ → Statement → Written → Type 0
 IsShort free s w = length w.instructions + length (code true free (length w.instructions) w.held s) < 2 ^ 16
 
-pub while_short : (free line : ℕ) (s : Statement) (e : Expression) (body : Vec Statement Global) (w : Written) →
-    s ≡ statement.While line e body → IsShort free s w →
-    length w.instructions + length (while_loop free (length w.instructions) w.held line (formula_of e) body.items) < 2 ^ 16
-while_short free line s e body w is h =
+pub while_short : (free : ℕ) (here : Location) (s : Statement) (e : Expression) (body : Vec Statement Global) (w : Written) →
+    s ≡ statement.While here e body → IsShort free s w →
+    length w.instructions + length (while_loop free (length w.instructions) w.held here.line (formula_of e) body.items) < 2 ^ 16
+while_short free here s e body w is h =
     let n = length w.instructions in
-    let loop = while_loop free n w.held line (formula_of e) body.items in
-    let l = as_long loop (code true free n w.held s) false (left w.held s) w (while_is free line s e body w (wrote loop false w) is refl) in
+    let loop = while_loop free n w.held here.line (formula_of e) body.items in
+    let l = as_long loop (code true free n w.held s) false (left w.held s) w (while_is free here s e body w (wrote loop false w) is refl) in
     omega (arith, l, h)
 
-pub for_short : (free line x : ℕ) (s : Statement) (e f : Expression) (body : Vec Statement Global) (t : Turns) (w0 w1 : Written) →
-    s ≡ statement.For line x e f body →
+pub for_short : (free : ℕ) (here : Location) (x : ℕ) (s : Statement) (e f : Expression) (body : Vec Statement Global) (t : Turns) (w0 w1 : Written) →
+    s ≡ statement.For here x e f body →
     t ≡ record { turn = turn free; high = high free; more = more free; behind = behind_turns free } →
-    w1 ≡ wrote (bounds w0.held line t (formula_of e) (formula_of f)) false w0 → IsShort free s w0 →
-    length w1.instructions + length (for_turns (length w1.instructions) w1.held line t x body.items) < 2 ^ 16
-for_short free line x s e f body t w0 w1 is ts h1 h =
-    let turns = for_turns (length w1.instructions) w1.held line t x body.items in
+    w1 ≡ wrote (bounds w0.held here.line t (formula_of e) (formula_of f)) false w0 → IsShort free s w0 →
+    length w1.instructions + length (for_turns (length w1.instructions) w1.held here.line t x body.items) < 2 ^ 16
+for_short free here x s e f body t w0 w1 is ts h1 h =
+    let turns = for_turns (length w1.instructions) w1.held here.line t x body.items in
     let l = length_of (code true free (length w0.instructions) w0.held s) (left w0.held s) w0 (wrote turns false w1)
-    (for_is free line x s e f body t w0 w1 (wrote turns false w1) is ts h1 refl) in
+    (for_is free here x s e f body t w0 w1 (wrote turns false w1) is ts h1 refl) in
     let m = length-append w1.instructions turns in
     omega (arith, l, m, h)
 
-if_end : (free line source over : ℕ) (s : Statement) (e : Expression) (a b : Vec Statement Global) (w0 w1 w2 w3 : Written) →
-    s ≡ statement.If line e a b → source ≡ value_at Uniform free (formula_of e) →
-    w1 ≡ wrote (parted w0.held line free (formula_of e)) false w0 → over ≡ length w1.instructions → w2 ≡ added (Halt ∷ []) w1 →
+if_end : (free : ℕ) (here : Location) (source over : ℕ) (s : Statement) (e : Expression) (a b : Vec Statement Global) (w0 w1 w2 w3 : Written) →
+    s ≡ statement.If here e a b → source ≡ value_at Uniform free (formula_of e) →
+    w1 ≡ wrote (parted w0.held here.line free (formula_of e)) false w0 → over ≡ length w1.instructions → w2 ≡ added (Halt ∷ []) w1 →
     w3 ≡ wrote (part free w2.held a.items (length w2.instructions)) false w2 →
     length (joined over source free b.items w3).instructions
     ≡ length w0.instructions + length (code true free (length w0.instructions) w0.held s)
-if_end free line source over s e a b w0 w1 w2 w3 is src h1 o h2 h3 =
+if_end free here source over s e a b w0 w1 w2 w3 is src h1 o h2 h3 =
     length_of (code true free (length w0.instructions) w0.held s) (left w0.held s) w0 (joined over source free b.items w3)
-    (if_is free line source over s e a b w0 w1 w2 w3 (joined over source free b.items w3) is src h1 o h2 h3 refl)
+    (if_is free here source over s e a b w0 w1 w2 w3 (joined over source free b.items w3) is src h1 o h2 h3 refl)
 
-pub joined_short : (free line source over : ℕ) (s : Statement) (e : Expression) (a b : Vec Statement Global) (w0 w1 w2 w3 : Written) →
-    s ≡ statement.If line e a b → source ≡ value_at Uniform free (formula_of e) →
-    w1 ≡ wrote (parted w0.held line free (formula_of e)) false w0 → over ≡ length w1.instructions → w2 ≡ added (Halt ∷ []) w1 →
+pub joined_short : (free : ℕ) (here : Location) (source over : ℕ) (s : Statement) (e : Expression) (a b : Vec Statement Global) (w0 w1 w2 w3 : Written) →
+    s ≡ statement.If here e a b → source ≡ value_at Uniform free (formula_of e) →
+    w1 ≡ wrote (parted w0.held here.line free (formula_of e)) false w0 → over ≡ length w1.instructions → w2 ≡ added (Halt ∷ []) w1 →
     w3 ≡ wrote (part free w2.held a.items (length w2.instructions)) false w2 → IsShort free s w0 →
     length (joined over source free b.items w3).instructions < 2 ^ 16
-joined_short free line source over s e a b w0 w1 w2 w3 is src h1 o h2 h3 h =
-    let l = if_end free line source over s e a b w0 w1 w2 w3 is src h1 o h2 h3 in omega (arith, l, h)
+joined_short free here source over s e a b w0 w1 w2 w3 is src h1 o h2 h3 h =
+    let l = if_end free here source over s e a b w0 w1 w2 w3 is src h1 o h2 h3 in omega (arith, l, h)
 
 -- the jump over the first part stands in what is written behind that
 pub over_inside : (free over : ℕ) (a : List Statement) (w1 w2 w3 : Written) → over ≡ length w1.instructions → w2 ≡ added (Halt ∷ []) w1 →
@@ -112,15 +113,15 @@ over_inside free over a w1 w2 w3 o h2 h3 =
     let m = length_of (part free w2.held a (length w2.instructions)) false w2 w3 h3 in
     omega (arith, o, l, m)
 
-pub then_short : (free line source : ℕ) (s : Statement) (e : Expression) (a b : Vec Statement Global) (w0 w1 w2 : Written) →
-    s ≡ statement.If line e a b → source ≡ value_at Uniform free (formula_of e) →
-    w1 ≡ wrote (parted w0.held line free (formula_of e)) false w0 → w2 ≡ added (Halt ∷ []) w1 → IsShort free s w0 →
+pub then_short : (free : ℕ) (here : Location) (source : ℕ) (s : Statement) (e : Expression) (a b : Vec Statement Global) (w0 w1 w2 : Written) →
+    s ≡ statement.If here e a b → source ≡ value_at Uniform free (formula_of e) →
+    w1 ≡ wrote (parted w0.held here.line free (formula_of e)) false w0 → w2 ≡ added (Halt ∷ []) w1 → IsShort free s w0 →
     length w2.instructions + length (part free w2.held a.items (length w2.instructions)) < 2 ^ 16
-then_short free line source s e a b w0 w1 w2 is src h1 h2 h =
+then_short free here source s e a b w0 w1 w2 is src h1 h2 h =
     let first = part free w2.held a.items (length w2.instructions) in
     let w3 = wrote first false w2 in
     let over = length w1.instructions in
-    let l = if_end free line source over s e a b w0 w1 w2 w3 is src h1 refl h2 refl in
+    let l = if_end free here source over s e a b w0 w1 w2 w3 is src h1 refl h2 refl in
     let k = before_else over source free b.items w3 in
     let m = length-append w2.instructions first in
     omega (arith, l, k, m, h)

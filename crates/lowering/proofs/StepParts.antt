@@ -2,6 +2,7 @@
 use Rattle.std.proofs.Common.{◌≡◌, ℕ, ◌+◌, Bool, true, false, List, [], ◌∷◌, ◌++◌, length, take, get_or, ◌<◌, ap, ◌∙◌, sym, refl}
 use Rattle.std.proofs.Common.{append_assoc, length-append, arith, Global, Vec}
 use Rattle.std.proofs.lemmas.List.{append-nil, take_more}
+use Rattle.pram_tokens.specs.declared.token.Location.{Location}
 use Rattle.superstep_instructions.specs.declared.instr.Instr.TheVariants.{Unmask}
 use Rattle.pram_names.specs.declared.body.Expression.{Expression}
 use Rattle.pram_names.specs.declared.body.Step as step
@@ -80,49 +81,49 @@ steps_more v base items i s w0 w1 w2 e1 h is e2 =
 
 -- ---- a statement of each kind
 
-pub while_is : (v base : ℕ) (line : ℕ) (s : Step) (e : Expression) (body : Vec Step Global) (w u : Written) → s ≡ step.While line e body →
-    u ≡ wrote (step_while v base (length w.instructions) w.held line (formula_of e) body.items) false w →
+pub while_is : (v base : ℕ) (here : Location) (s : Step) (e : Expression) (body : Vec Step Global) (w u : Written) → s ≡ step.While here e body →
+    u ≡ wrote (step_while v base (length w.instructions) w.held here.line (formula_of e) body.items) false w →
     u ≡ wrote (step_code (frame v) base (length w.instructions) w.held s) (step_left w.held s) w
-while_is v base line s e body w u is h =
+while_is v base here s e body w u is h =
     let a = length w.instructions in
     let f = formula_of e in
     let before = flagged w.held base in
     h
-    ∙ sym (ap (λ part. wrote (before ++ looped (a + length before) (flags false line v base (base + 1) f) v part
+    ∙ sym (ap (λ part. wrote (before ++ looped (a + length before) (flags false here.line v base (base + 1) f) v part
     ++ (Unmask ∷ [])) false w) (λ j start. sent (code_of_part (frame v) (base + 1) start false body j) (left_of_part false body j)))
     ∙ ap (λ s. wrote (step_code (frame v) base a w.held s) (step_left w.held s) w) (sym is)
 
-pub if_is : (v base : ℕ) (line : ℕ) (s : Step) (e : Expression) (a b : Vec Step Global) (w0 w1 w2 w3 w4 : Written) → s
-    ≡ step.If line e a b →
-    w1 ≡ wrote (masked w0.held line base (formula_of e)) (still w0.held (formula_of e)) w0 →
+pub if_is : (v base : ℕ) (here : Location) (s : Step) (e : Expression) (a b : Vec Step Global) (w0 w1 w2 w3 w4 : Written) → s
+    ≡ step.If here e a b →
+    w1 ≡ wrote (masked w0.held here.line base (formula_of e)) (still w0.held (formula_of e)) w0 →
     w2 ≡ wrote (steps_code (frame v) base (length w1.instructions) w1.held a.items) (steps_left w1.held a.items) w1 →
     w3 ≡ wrote (step_else v base (length w2.instructions) w2.held b.items) (steps_left w2.held b.items) w2 →
     w4 ≡ wrote (Unmask ∷ []) w3.held w3 →
     w4 ≡ wrote (step_code (frame v) base (length w0.instructions) w0.held s) (step_left w0.held s) w0
-if_is v base line s e a b w0 w1 w2 w3 w4 is h1 h2 h3 h4 =
+if_is v base here s e a b w0 w1 w2 w3 w4 is h1 h2 h3 h4 =
     let n = length w0.instructions in
     let f = formula_of e in
     let h = still w0.held f in
-    let test = masked w0.held line base f in
+    let test = masked w0.held here.line base f in
     let k = steps_left h a.items in
     let first = steps_code (frame v) base (n + length test) h a.items in
     let one : w2 ≡ wrote (test ++ first) k w0 =
     wrote_then test h (λ n h. steps_code (frame v) base n h a.items) (λ h. steps_left h a.items) w0 w1 w2 h1 h2 in
     let two = wrote_then (test ++ first) k (λ n h. step_else v base n h b.items) (λ h. steps_left h b.items) w0 w2 w3 one h3 in
     let three = wrote_then _ (steps_left k b.items) (λ n h. Unmask ∷ []) (λ h. h) w0 w3 w4 two h4 in
-    let parts : step_code (frame v) base n w0.held (step.If line e a b)
-    ≡ inner_if_code true w0.held n line base f (λ start. steps_code (frame v) base start h a.items) (are_some b.items)
+    let parts : step_code (frame v) base n w0.held (step.If here e a b)
+    ≡ inner_if_code true w0.held n here.line base f (λ start. steps_code (frame v) base start h a.items) (are_some b.items)
     (λ start. steps_code (frame v) base start k b.items) =
-    ap (λ p. inner_if_code true w0.held n line base f p (has_part (hidden-the_row-Step-0 b))
+    ap (λ p. inner_if_code true w0.held n here.line base f p (has_part (hidden-the_row-Step-0 b))
     (λ start. part_code (frame v) base start (part_left h (hidden-the_row-Step-0 a)) (hidden-the_row-Step-0 b)))
     (λ j start. code_of_part (frame v) base start h a j)
-    ∙ ap (λ x. inner_if_code true w0.held n line base f (λ start. steps_code (frame v) base start h a.items) x
+    ∙ ap (λ x. inner_if_code true w0.held n here.line base f (λ start. steps_code (frame v) base start h a.items) x
     (λ start. part_code (frame v) base start (part_left h (hidden-the_row-Step-0 a)) (hidden-the_row-Step-0 b))) (some_of_part b)
-    ∙ ap (inner_if_code true w0.held n line base f (λ start. steps_code (frame v) base start h a.items) (are_some b.items))
+    ∙ ap (inner_if_code true w0.held n here.line base f (λ start. steps_code (frame v) base start h a.items) (are_some b.items))
     ((λ j start. part_code (frame v) base start (left_of_part h a j) (hidden-the_row-Step-0 b))
     ∙ (λ j start. code_of_part (frame v) base start k b j)) in
-    let left : step_left w0.held (step.If line e a b) ≡ steps_left k b.items =
+    let left : step_left w0.held (step.If here e a b) ≡ steps_left k b.items =
     left_of_part (part_left h (hidden-the_row-Step-0 a)) b ∙ ap (λ k. steps_left k b.items) (left_of_part h a) in
     three ∙ ap (λ l. wrote l (steps_left k b.items) w0) (sym parts)
-    ∙ ap (λ k. wrote (step_code (frame v) base n w0.held (step.If line e a b)) k w0) (sym left)
+    ∙ ap (λ k. wrote (step_code (frame v) base n w0.held (step.If here e a b)) k w0) (sym left)
     ∙ ap (λ s. wrote (step_code (frame v) base n w0.held s) (step_left w0.held s) w0) (sym is)

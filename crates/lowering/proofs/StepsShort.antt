@@ -1,6 +1,7 @@
 -- The statements inside a statement inside pardo have room, and places, where it has.
 use Rattle.std.proofs.Common.{◌≡◌, ℕ, zero, suc, ◌+◌, ◌<◌, ◌≤◌, ◌^◌, Bool, false, List, [], ◌∷◌, length, take, get_or, ap, sym, refl}
 use Rattle.std.proofs.Common.{subst, length-append, arith, Global, Vec}
+use Rattle.pram_tokens.specs.declared.token.Location.{Location}
 use Rattle.superstep_instructions.specs.declared.instr.Instr.TheVariants.{Unmask}
 use Rattle.pram_names.specs.declared.body.Expression.{Expression}
 use Rattle.pram_names.specs.declared.body.Step as step
@@ -40,14 +41,14 @@ pub room_of_each : (base : ℕ) (items all : List Step) (i : ℕ) (s : Step) →
     StepsHaveRoom base all → StepHasRoom base s
 room_of_each base items all i s same h e r = room_at base items i s h e (subst (StepsHaveRoom base) (sym same) r)
 
-pub while_room : (base line : ℕ) (s : Step) (e : Expression) (body : Vec Step Global) → s ≡ step.While line e body → StepHasRoom base s →
+pub while_room : (base : ℕ) (here : Location) (s : Step) (e : Expression) (body : Vec Step Global) → s ≡ step.While here e body → StepHasRoom base s →
     (base + 1 < 2 ^ 16) × IsRoomFor (formula_of e) (base + 1) × StepsHaveRoom (base + 1) body.items
-while_room base line s e body is h =
+while_room base here s e body is h =
     let r = subst (StepHasRoom base) is h in (r.0, r.1, room_of_part (base + 1) body r.2)
 
-pub if_room : (base line : ℕ) (s : Step) (e : Expression) (a b : Vec Step Global) → s ≡ step.If line e a b → StepHasRoom base s →
+pub if_room : (base : ℕ) (here : Location) (s : Step) (e : Expression) (a b : Vec Step Global) → s ≡ step.If here e a b → StepHasRoom base s →
     IsRoomFor (formula_of e) base × StepsHaveRoom base a.items × StepsHaveRoom base b.items
-if_room base line s e a b is h =
+if_room base here s e a b is h =
     let r = subst (StepHasRoom base) is h in (r.0, room_of_part base a r.1, room_of_part base b r.2)
 
 -- ---- places
@@ -56,44 +57,44 @@ if_room base line s e a b is h =
 abbrev IsShort : (v base : ℕ) → Step → Written → Type 0
 IsShort v base s w = length w.instructions + length (step_code (frame v) base (length w.instructions) w.held s) < 2 ^ 16
 
-pub while_short : (v base line : ℕ) (s : Step) (e : Expression) (body : Vec Step Global) (w : Written) → s ≡ step.While line e body →
+pub while_short : (v base : ℕ) (here : Location) (s : Step) (e : Expression) (body : Vec Step Global) (w : Written) → s ≡ step.While here e body →
     IsShort v base s w →
-    length w.instructions + length (step_while v base (length w.instructions) w.held line (formula_of e) body.items) < 2 ^ 16
-while_short v base line s e body w is h =
+    length w.instructions + length (step_while v base (length w.instructions) w.held here.line (formula_of e) body.items) < 2 ^ 16
+while_short v base here s e body w is h =
     let n = length w.instructions in
-    let code = step_while v base n w.held line (formula_of e) body.items in
+    let code = step_while v base n w.held here.line (formula_of e) body.items in
     let l = as_long code (step_code (frame v) base n w.held s) false (step_left w.held s) w
-    (while_is v base line s e body w (wrote code false w) is refl) in
+    (while_is v base here s e body w (wrote code false w) is refl) in
     omega (arith, l, h)
 
-if_end : (v base line : ℕ) (s : Step) (e : Expression) (a b : Vec Step Global) (w0 w1 w2 : Written) → s ≡ step.If line e a b →
-    w1 ≡ wrote (masked w0.held line base (formula_of e)) (still w0.held (formula_of e)) w0 →
+if_end : (v base : ℕ) (here : Location) (s : Step) (e : Expression) (a b : Vec Step Global) (w0 w1 w2 : Written) → s ≡ step.If here e a b →
+    w1 ≡ wrote (masked w0.held here.line base (formula_of e)) (still w0.held (formula_of e)) w0 →
     w2 ≡ wrote (steps_code (frame v) base (length w1.instructions) w1.held a.items) (steps_left w1.held a.items) w1 →
     length w2.instructions + length (step_else v base (length w2.instructions) w2.held b.items) + 1
     ≡ length w0.instructions + length (step_code (frame v) base (length w0.instructions) w0.held s)
-if_end v base line s e a b w0 w1 w2 is h1 h2 =
+if_end v base here s e a b w0 w1 w2 is h1 h2 =
     let other = step_else v base (length w2.instructions) w2.held b.items in
     let w3 = wrote other (steps_left w2.held b.items) w2 in
     let w4 = wrote (Unmask ∷ []) w3.held w3 in
     let l = length_of (step_code (frame v) base (length w0.instructions) w0.held s) (step_left w0.held s) w0 w4
-    (if_is v base line s e a b w0 w1 w2 w3 w4 is h1 h2 refl refl) in
+    (if_is v base here s e a b w0 w1 w2 w3 w4 is h1 h2 refl refl) in
     let m = length-append w2.instructions other in
     let n = length-append w3.instructions (Unmask ∷ []) in
     omega (arith, l, m, n)
 
-pub else_short : (v base line : ℕ) (s : Step) (e : Expression) (a b : Vec Step Global) (w0 w1 w2 : Written) → s ≡ step.If line e a b →
-    w1 ≡ wrote (masked w0.held line base (formula_of e)) (still w0.held (formula_of e)) w0 →
+pub else_short : (v base : ℕ) (here : Location) (s : Step) (e : Expression) (a b : Vec Step Global) (w0 w1 w2 : Written) → s ≡ step.If here e a b →
+    w1 ≡ wrote (masked w0.held here.line base (formula_of e)) (still w0.held (formula_of e)) w0 →
     w2 ≡ wrote (steps_code (frame v) base (length w1.instructions) w1.held a.items) (steps_left w1.held a.items) w1 → IsShort v base s w0 →
     length w2.instructions + length (step_else v base (length w2.instructions) w2.held b.items) < 2 ^ 16
-else_short v base line s e a b w0 w1 w2 is h1 h2 h = let l = if_end v base line s e a b w0 w1 w2 is h1 h2 in omega (arith, l, h)
+else_short v base here s e a b w0 w1 w2 is h1 h2 h = let l = if_end v base here s e a b w0 w1 w2 is h1 h2 in omega (arith, l, h)
 
-pub then_short : (v base line : ℕ) (s : Step) (e : Expression) (a b : Vec Step Global) (w0 w1 : Written) → s ≡ step.If line e a b →
-    w1 ≡ wrote (masked w0.held line base (formula_of e)) (still w0.held (formula_of e)) w0 → IsShort v base s w0 →
+pub then_short : (v base : ℕ) (here : Location) (s : Step) (e : Expression) (a b : Vec Step Global) (w0 w1 : Written) → s ≡ step.If here e a b →
+    w1 ≡ wrote (masked w0.held here.line base (formula_of e)) (still w0.held (formula_of e)) w0 → IsShort v base s w0 →
     length w1.instructions + length (steps_code (frame v) base (length w1.instructions) w1.held a.items) < 2 ^ 16
-then_short v base line s e a b w0 w1 is h1 h =
+then_short v base here s e a b w0 w1 is h1 h =
     let first = steps_code (frame v) base (length w1.instructions) w1.held a.items in
     let w2 = wrote first (steps_left w1.held a.items) w1 in
-    let l = if_end v base line s e a b w0 w1 w2 is h1 refl in
+    let l = if_end v base here s e a b w0 w1 w2 is h1 refl in
     let m = length-append w1.instructions first in
     omega (arith, l, m, h)
 

@@ -11,10 +11,10 @@ use Rattle.straight_lowering.specs.Room.{IsRoomFor, IsAssignRoom, IsInnerAssignR
 abbrev mutual
   -- of a statement inside pardo whose registers begin at base
   pub StepHasRoom : ℕ → Step → Type 0
-  StepHasRoom base (step.Assign line x e) = IsInnerAssignRoom x (formula_of e) base
-  StepHasRoom base (step.If' line e q then_part r else_part) =
+  StepHasRoom base (step.Assign here x e) = IsInnerAssignRoom x (formula_of e) base
+  StepHasRoom base (step.If' here e q then_part r else_part) =
       IsRoomFor (formula_of e) base × PartHasRoom base then_part × PartHasRoom base else_part
-  StepHasRoom base (step.While' line e q body) = (base + 1 < 2 ^ 16) × IsRoomFor (formula_of e) (base + 1) × PartHasRoom (base + 1) body
+  StepHasRoom base (step.While' here e q body) = (base + 1 < 2 ^ 16) × IsRoomFor (formula_of e) (base + 1) × PartHasRoom (base + 1) body
 
   pub PartHasRoom : ℕ → {k : _} → Row_of-Step k → Type 0
   PartHasRoom base end_of-Step = Unit {0}
@@ -28,15 +28,15 @@ StepsHaveRoom base (s ∷ ss) = StepHasRoom base s × StepsHaveRoom base ss
 abbrev mutual
   -- of a statement outside pardo whose registers begin at free
   pub StatementHasRoom : ℕ → Statement → Type 0
-  StatementHasRoom free (Assign line x e) = IsAssignRoom x (formula_of e) free
-  StatementHasRoom free (Print line e) = IsRoomFor (formula_of e) free
-  StatementHasRoom free (While' line e q body) = IsRoomFor (formula_of e) free × BlockHasRoom free body
-  StatementHasRoom free (If' line e q then_part r else_part) =
+  StatementHasRoom free (Assign here x e) = IsAssignRoom x (formula_of e) free
+  StatementHasRoom free (Print here e) = IsRoomFor (formula_of e) free
+  StatementHasRoom free (While' here e q body) = IsRoomFor (formula_of e) free × BlockHasRoom free body
+  StatementHasRoom free (If' here e q then_part r else_part) =
       IsRoomFor (formula_of e) free × BlockHasRoom free then_part × BlockHasRoom free else_part
-  StatementHasRoom free (For' line x e f q body) =
+  StatementHasRoom free (For' here x e f q body) =
       (free + 3 < 2 ^ 16) × (x + 1 < 2 ^ 16) × IsRoomFor (Pair (formula_of e) (formula_of f)) (behind_turns free)
       × BlockHasRoom (behind_turns free) body
-  StatementHasRoom free (Pardo line e f locals body) =
+  StatementHasRoom free (Pardo here e f locals body) =
       IsRoomFor (Pair (formula_of e) (formula_of f)) free × (locals + 2 < 2 ^ 16) × StepsHaveRoom (behind_locals locals) body.items
 
   pub BlockHasRoom : ℕ → {k : _} → Row_of-Statement k → Type 0

@@ -28,18 +28,18 @@ fn step(out: &mut Emitter, s: &Step, vote: u16, base: u16) -> Result<(), AllocEr
 {
     match s {
         Step::Assign {
-            line,
+            location,
             target,
             value,
-        } => step_assign(out, *line, target, value, base),
-        Step::While { line, test, body } => step_while(out, body, *line, test, vote, base),
+        } => step_assign(out, location.line, target, value, base),
+        Step::While { location, test, body } => step_while(out, body, location.line, test, vote, base),
         Step::If {
-            line,
+            location,
             test,
             then_part,
             else_part,
         } => {
-            masked(out, *line, test, base)?;
+            masked(out, location.line, test, base)?;
             steps(out, then_part, vote, base)?;
             step_else(out, else_part, vote, base)?;
             out.push(Instr::Unmask)

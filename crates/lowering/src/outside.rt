@@ -57,41 +57,41 @@ pub(crate) fn statement(out: &mut Emitter, s: &Statement, free: u16) -> Result<(
 {
     match s {
         Statement::Assign {
-            line,
+            location,
             target,
             value,
-        } => assign(out, *line, target, value, free),
-        Statement::Print { line, value } => print(out, *line, value, free),
-        Statement::While { line, test, body } => while_loop(out, body, *line, test, free),
+        } => assign(out, location.line, target, value, free),
+        Statement::Print { location, value } => print(out, location.line, value, free),
+        Statement::While { location, test, body } => while_loop(out, body, location.line, test, free),
         Statement::If {
-            line,
+            location,
             test,
             then_part,
             else_part,
         } => {
-            let source = parted(out, *line, test, free)?;
+            let source = parted(out, location.line, test, free)?;
             let over = out.gap()?;
             part(out, then_part, free)?;
             joined(out, else_part, over, source, free)
         }
         Statement::For {
-            line,
+            location,
             variable,
             low,
             high,
             body,
         } => {
             let turns = turns_from(free);
-            bounds(out, *line, low, high, turns)?;
-            for_turns(out, body, *line, *variable, turns)
+            bounds(out, location.line, low, high, turns)?;
+            for_turns(out, body, location.line, *variable, turns)
         }
         Statement::Pardo {
-            line,
+            location,
             low,
             high,
             locals,
             body,
-        } => pardo(out, *line, low, high, *locals, body, free),
+        } => pardo(out, location.line, low, high, *locals, body, free),
     }
 }
 

@@ -157,35 +157,35 @@ short_sent_part keep free start ss h =
 
 mutual
   short_code : (keep : Bool) (free start : ℕ) (held : Bool) (s : Statement) → length (code keep free start held s) ≤ 4 * words s
-  short_code keep free start held (Assign line x e) = short_assign keep held line free x e
-  short_code keep free start held (statement.Print line e) = short_print keep held line free e
-  short_code keep free start held (While' line e q a) =
+  short_code keep free start held (Assign here x e) = short_assign keep held here.line free x e
+  short_code keep free start held (statement.Print here e) = short_print keep held here.line free e
+  short_code keep free start held (While' here e q a) =
       let f = formula_of e in
       let n : width f ≡ nodes e = width_of e in
-      let h = short_while keep held start line free f (λ start. sent (part_code keep free start false a) (part_left false a))
+      let h = short_while keep held start here.line free f (λ start. sent (part_code keep free start false a) (part_left false a))
       (4 * part_words a + 1) (λ n. short_sent_part keep free n a (short_part keep free n false a)) in
       omega (arith, n, h)
-  short_code keep free start held (If' line e q a r b) =
+  short_code keep free start held (If' here e q a r b) =
       let f = formula_of e in
       let n : width f ≡ nodes e = width_of e in
-      let h = short_if keep held start line free f (λ start. sent (part_code keep free start false a) (part_left false a)) (has_part b)
+      let h = short_if keep held start here.line free f (λ start. sent (part_code keep free start false a) (part_left false a)) (has_part b)
       (λ start. sent (part_code keep free start false b) (part_left false b)) (4 * part_words a + 1) (4 * part_words b + 1)
       (λ n. short_sent_part keep free n a (short_part keep free n false a))
       (λ n. short_sent_part keep free n b (short_part keep free n false b)) in
       omega (arith, n, h)
-  short_code keep free start held (For' line x e f q a) =
+  short_code keep free start held (For' here x e f q a) =
       let n : width (formula_of e) ≡ nodes e = width_of e in
       let m : width (formula_of f) ≡ nodes f = width_of f in
-      let h = short_for keep held start line free x (formula_of e) (formula_of f)
+      let h = short_for keep held start here.line free x (formula_of e) (formula_of f)
       (λ start. sent (part_code keep (behind_turns free) start false a) (part_left false a)) (4 * part_words a + 1)
       (λ n. short_sent_part keep (behind_turns free) n a (short_part keep (behind_turns free) n false a)) in
       omega (arith, n, m, h)
-  short_code keep free start held (Pardo line e f locals a) =
+  short_code keep free start held (Pardo here e f locals a) =
       let n : width (formula_of e) ≡ nodes e = width_of e in
       let m : width (formula_of f) ≡ nodes f = width_of f in
       let w : Frame = record { keep = keep; vote = free } in
       let k = still held (Pair (formula_of e) (formula_of f)) in
-      let h = short_pardo keep held start line free (formula_of e) (formula_of f)
+      let h = short_pardo keep held start here.line free (formula_of e) (formula_of f)
       (λ start. steps_code w (behind_locals locals) start k a.items) (4 * steps_words a.items)
       (λ n. short_steps w (behind_locals locals) n k a.items) in
       omega (arith, n, m, h)

@@ -148,18 +148,18 @@ short_sent_part w base start ss h =
 
 mutual
   pub short_step : (w : Frame) (base start : ℕ) (held : Bool) (s : Step) → length (step_code w base start held s) ≤ 4 * step_words s
-  short_step w base start held (step.Assign line x e) = short_assign w held line base x e
-  short_step w base start held (step.If' line e q a r b) =
+  short_step w base start held (step.Assign here x e) = short_assign w held here.line base x e
+  short_step w base start held (step.If' here e q a r b) =
       let f = formula_of e in
       let n : width f ≡ nodes e = width_of e in
-      let h = short_if w.keep held start line base f (λ start. part_code w base start (still held f) a) (has_part b)
+      let h = short_if w.keep held start here.line base f (λ start. part_code w base start (still held f) a) (has_part b)
       (λ start. part_code w base start (part_left (still held f) a) b) (4 * part_step_words a) (4 * part_step_words b)
       (λ n. short_part w base n (still held f) a) (λ n. short_part w base n (part_left (still held f) a) b) in
       omega (arith, n, h)
-  short_step w base start held (step.While' line e q a) =
+  short_step w base start held (step.While' here e q a) =
       let f = formula_of e in
       let n : width f ≡ nodes e = width_of e in
-      let h = short_while w.keep held start line w.vote base (base + 1) f
+      let h = short_while w.keep held start here.line w.vote base (base + 1) f
       (λ start. sent (part_code w (base + 1) start false a) (part_left false a)) (4 * part_step_words a + 1)
       (λ n. short_sent_part w (base + 1) n a (short_part w (base + 1) n false a)) in
       let some = some_node e in

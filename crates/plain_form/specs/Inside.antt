@@ -29,9 +29,9 @@ inner_assign_left held (inner.Element a i) f = true
 abbrev mutual
   -- whether a write is held behind a statement
   pub step_left : Bool → Step → Bool
-  step_left held (step.Assign line x e) = inner_assign_left held x (formula_of e)
-  step_left held (step.If' line e q then_part r else_part) = part_left (part_left (still held (formula_of e)) then_part) else_part
-  step_left held (step.While' line e q body) = false
+  step_left held (step.Assign here x e) = inner_assign_left held x (formula_of e)
+  step_left held (step.If' here e q then_part r else_part) = part_left (part_left (still held (formula_of e)) then_part) else_part
+  step_left held (step.While' here e q body) = false
 
   pub part_left : Bool → {n : _} → Row_of-Step n → Bool
   part_left held end_of-Step = held
@@ -50,13 +50,13 @@ has_part (more_of-Step s ss) = true
 abbrev mutual
   -- the code of a statement, from where it begins on
   pub step_code : Frame → (base start : ℕ) → Bool → Step → List Instr
-  step_code w base start held (step.Assign line x e) = inner_assign w held line base x (formula_of e)
-  step_code w base start held (step.If' line e q then_part r else_part) =
-      inner_if_code w.keep held start line base (formula_of e)
+  step_code w base start held (step.Assign here x e) = inner_assign w held here.line base x (formula_of e)
+  step_code w base start held (step.If' here e q then_part r else_part) =
+      inner_if_code w.keep held start here.line base (formula_of e)
       (λ start. part_code w base start (still held (formula_of e)) then_part) (has_part else_part)
       (λ start. part_code w base start (part_left (still held (formula_of e)) then_part) else_part)
-  step_code w base start held (step.While' line e q body) =
-      inner_while_code w.keep held start line w.vote base (base + 1) (formula_of e)
+  step_code w base start held (step.While' here e q body) =
+      inner_while_code w.keep held start here.line w.vote base (base + 1) (formula_of e)
       (λ start. sent (part_code w (base + 1) start false body) (part_left false body))
 
   pub part_code : Frame → (base start : ℕ) → Bool → {n : _} → Row_of-Step n → List Instr

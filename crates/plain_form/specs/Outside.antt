@@ -24,12 +24,12 @@ assign_left held (target.Element a i) f = true
 
 -- whether a write is held behind a statement
 abbrev pub left : Bool → Statement → Bool
-left held (Assign line x e) = assign_left held x (formula_of e)
-left held (Print line e) = still held (formula_of e)
-left held (While' line e q body) = false
-left held (If' line e q then_part r else_part) = false
-left held (For' line x e f q body) = false
-left held (Pardo line e f locals body) = steps_left (still held (Pair (formula_of e) (formula_of f))) body.items
+left held (Assign here x e) = assign_left held x (formula_of e)
+left held (Print here e) = still held (formula_of e)
+left held (While' here e q body) = false
+left held (If' here e q then_part r else_part) = false
+left held (For' here x e f q body) = false
+left held (Pardo here e f locals body) = steps_left (still held (Pair (formula_of e) (formula_of f))) body.items
 
 abbrev pub part_left : Bool → {n : _} → Row_of-Statement n → Bool
 part_left held end_of-Statement = held
@@ -48,19 +48,19 @@ has_part (more_of-Statement s ss) = true
 abbrev mutual
   -- the code of a statement, from where it begins on
   pub code : Bool → (free start : ℕ) → Bool → Statement → List Instr
-  code keep free start held (Assign line x e) = assign keep held line free x (formula_of e)
-  code keep free start held (Print line e) = prints keep held line free (formula_of e)
-  code keep free start held (While' line e q body) =
-      while_code keep held start line free (formula_of e) (λ start. sent (part_code keep free start false body) (part_left false body))
-  code keep free start held (If' line e q then_part r else_part) =
-      if_code keep held start line free (formula_of e)
+  code keep free start held (Assign here x e) = assign keep held here.line free x (formula_of e)
+  code keep free start held (Print here e) = prints keep held here.line free (formula_of e)
+  code keep free start held (While' here e q body) =
+      while_code keep held start here.line free (formula_of e) (λ start. sent (part_code keep free start false body) (part_left false body))
+  code keep free start held (If' here e q then_part r else_part) =
+      if_code keep held start here.line free (formula_of e)
       (λ start. sent (part_code keep free start false then_part) (part_left false then_part))
       (has_part else_part) (λ start. sent (part_code keep free start false else_part) (part_left false else_part))
-  code keep free start held (For' line x e f q body) =
-      for_code keep held start line free x (formula_of e) (formula_of f)
+  code keep free start held (For' here x e f q body) =
+      for_code keep held start here.line free x (formula_of e) (formula_of f)
       (λ start. sent (part_code keep (behind_turns free) start false body) (part_left false body))
-  code keep free start held (Pardo line e f locals body) =
-      pardo_code keep held start line free (formula_of e) (formula_of f)
+  code keep free start held (Pardo here e f locals body) =
+      pardo_code keep held start here.line free (formula_of e) (formula_of f)
       (λ start. steps_code (record { keep = keep; vote = free }) (behind_locals locals) start
       (still held (Pair (formula_of e) (formula_of f))) body.items)
 

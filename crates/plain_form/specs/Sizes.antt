@@ -14,9 +14,9 @@ use Rattle.plain_form.specs.PlainForm.{instructions_of}
 abbrev mutual
   -- the words and signs of a statement inside pardo, but for brackets and `else`
   pub step_words : Step → ℕ
-  step_words (step.Assign line x e) = 2 + inner_target_nodes x + nodes e
-  step_words (step.If' line e q then_part r else_part) = 3 + nodes e + part_step_words then_part + part_step_words else_part
-  step_words (step.While' line e q body) = 3 + nodes e + part_step_words body
+  step_words (step.Assign here x e) = 2 + inner_target_nodes x + nodes e
+  step_words (step.If' here e q then_part r else_part) = 3 + nodes e + part_step_words then_part + part_step_words else_part
+  step_words (step.While' here e q body) = 3 + nodes e + part_step_words body
 
   pub part_step_words : {k : _} → Row_of-Step k → ℕ
   part_step_words end_of-Step = 0
@@ -30,12 +30,12 @@ steps_words (s ∷ ss) = step_words s + steps_words ss
 abbrev mutual
   -- the words and signs of a statement, but for brackets, `else` and the declarations of locals
   pub words : Statement → ℕ
-  words (Assign line x e) = 2 + target_nodes x + nodes e
-  words (Print line e) = 2 + nodes e
-  words (While' line e q body) = 3 + nodes e + part_words body
-  words (If' line e q then_part r else_part) = 3 + nodes e + part_words then_part + part_words else_part
-  words (For' line x e f q body) = 6 + nodes e + nodes f + part_words body
-  words (Pardo line e f locals body) = 6 + nodes e + nodes f + steps_words body.items
+  words (Assign here x e) = 2 + target_nodes x + nodes e
+  words (Print here e) = 2 + nodes e
+  words (While' here e q body) = 3 + nodes e + part_words body
+  words (If' here e q then_part r else_part) = 3 + nodes e + part_words then_part + part_words else_part
+  words (For' here x e f q body) = 6 + nodes e + nodes f + part_words body
+  words (Pardo here e f locals body) = 6 + nodes e + nodes f + steps_words body.items
 
   pub part_words : {k : _} → Row_of-Statement k → ℕ
   part_words end_of-Statement = 0

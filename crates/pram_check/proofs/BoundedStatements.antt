@@ -118,7 +118,7 @@ module _ (layout : List SharedEntry) (uniforms : ℕ) (scope : Scope) (there : A
 
     an_assign : (x : Name) (v : Expr) (t : Target) (y : Expression) → SaysTarget scope x t → Says scope v y →
         statement_breaches (st.Assign x v) c ≡ [] →
-        AreReal (statement_tokens (st.Assign x v)) → StatementWithin s (st.Assign x v) (statement.Assign x.location.line t y)
+        AreReal (statement_tokens (st.Assign x v)) → StatementWithin s (st.Assign x v) (statement.Assign x.location t y)
     an_assign x v t y to said none real =
         let p = assign_parts x v real in
         let w = within s scope there v y said p.first in
@@ -133,7 +133,7 @@ module _ (layout : List SharedEntry) (uniforms : ℕ) (scope : Scope) (there : A
     an_element : (x : Name) (i v : Expr) (k : ℕ) (j y : Expression) → IsArray s k → Says scope i j → Says scope v y →
         statement_breaches (st.AssignElement x i v) c ≡ [] →
         AreReal (statement_tokens (st.AssignElement x i v)) → StatementWithin s (st.AssignElement x i v)
-        (statement.Assign x.location.line (target.Element k j) y)
+        (statement.Assign x.location (target.Element k j) y)
     an_element x i v k j y array sub said none real =
         let p = element_parts x i v real in
         let a = within s scope there i j sub p.first in
@@ -150,7 +150,7 @@ module _ (layout : List SharedEntry) (uniforms : ℕ) (scope : Scope) (there : A
 
     a_print : (l : Location) (v : Expr) (y : Expression) → Says scope v y → statement_breaches (st.Print l v) c ≡ [] →
         AreReal (statement_tokens (st.Print l v)) →
-        StatementWithin s (st.Print l v) (statement.Print l.line y)
+        StatementWithin s (st.Print l v) (statement.Print l y)
     a_print l v y said none real =
         let shape = sym (append-nil (statement_tokens (st.Print l v))) ∙ spell_print [] l v in
         let p = two_parts (statement_tokens (st.Print l v)) (token.Opening opening.Print l ∷ []) (tokens v) [] []
@@ -165,7 +165,7 @@ module _ (layout : List SharedEntry) (uniforms : ℕ) (scope : Scope) (there : A
   a_while : (l : Location) (test : Expr) (body : List Stmt) (y : Expression) (inside : Vec Statement Global) → Within s scope test y →
       use_breaches scope 0 (uses test) ≡ [] →
       AreParts (statement_tokens (st.While l test body)) 1 (tokens test) (block_tokens body) → StatementsWithin s body inside.items →
-      StatementWithin s (st.While l test body) (statement.While l.line y inside)
+      StatementWithin s (st.While l test body) (statement.While l y inside)
   a_while l test body y inside w none p h =
       let row = hidden-the_row-Statement-0 inside in
       let items = items_hidden-the_row-Statement-0 inside in
@@ -182,7 +182,7 @@ module _ (layout : List SharedEntry) (uniforms : ℕ) (scope : Scope) (there : A
       use_breaches scope 0 (uses test) ≡ [] → AreParts (statement_tokens (st.If l test body other)) 1 (tokens test)
       (block_tokens body ++ else_tokens other) →
       StatementsWithin s body inside.items → OtherWithin s other others.items →
-      StatementWithin s (st.If l test body other) (statement.If l.line y inside others)
+      StatementWithin s (st.If l test body other) (statement.If l y inside others)
   an_if l test body other y inside others w none p h behind =
       let row = hidden-the_row-Statement-0 inside in
       let items = items_hidden-the_row-Statement-0 inside in
@@ -228,7 +228,7 @@ module _ (layout : List SharedEntry) (uniforms : ℕ) (scope : Scope) (there : A
       k < uniforms → Within s scope low a → Within s scope high b →
       use_breaches scope 0 (uses low ++ uses high) ≡ [] → AreParts (statement_tokens (st.For l x low high body)) 2 (tokens low)
       (tokens high ++ (token.Mark mark.Do ∷ block_tokens body)) →
-      StatementsWithin s body inside.items → StatementWithin s (st.For l x low high body) (statement.For l.line k a b inside)
+      StatementsWithin s body inside.items → StatementWithin s (st.For l x low high body) (statement.For l k a b inside)
   a_for l x low high body k a b inside below v w none p h =
       let row = hidden-the_row-Statement-0 inside in
       let items = items_hidden-the_row-Statement-0 inside in
@@ -289,7 +289,7 @@ module _ (layout : List SharedEntry) (uniforms : ℕ) (scope : Scope) (there : A
       Says scope low a → Says scope high b → SaySteps (inner_scope scope x locals) body steps.items → NothingWrong low x high locals body →
       AreParts (statement_tokens (st.Pardo l low x high locals body)) 2 (tokens low)
       (tokens high ++ (token.Mark mark.Pardo ∷ (local_tokens locals ++ block_tokens body))) →
-      StatementWithin s (st.Pardo l low x high locals body) (statement.Pardo l.line a b (length locals) steps)
+      StatementWithin s (st.Pardo l low x high locals body) (statement.Pardo l a b (length locals) steps)
   a_pardo l low x high locals body a b steps first second inside none p =
       let n = length locals in
       let rest = token.Mark mark.Pardo ∷ (local_tokens locals ++ block_tokens body) in

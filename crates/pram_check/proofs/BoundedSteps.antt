@@ -177,7 +177,7 @@ module _ (s : Names) (scope : Scope) (there : AreThere s scope) where
 
   step_assign : (x : Name) (v : Expr) (t : StepTarget) (y : Expression) → SaysInner scope x t → Says scope v y →
       statement_breaches (st.Assign x v) c ≡ [] →
-      AreReal (statement_tokens (st.Assign x v)) → StepWithin s (st.Assign x v) (step.Assign x.location.line t y)
+      AreReal (statement_tokens (st.Assign x v)) → StepWithin s (st.Assign x v) (step.Assign x.location t y)
   step_assign x v t y to said none real =
       let p = assign_parts x v real in
       let w = within s scope there v y said p.first in
@@ -192,7 +192,7 @@ module _ (s : Names) (scope : Scope) (there : AreThere s scope) where
   step_element : (x : Name) (i v : Expr) (k : ℕ) (j y : Expression) → IsArray s k → Says scope i j → Says scope v y →
       statement_breaches (st.AssignElement x i v) c ≡ [] →
       AreReal (statement_tokens (st.AssignElement x i v)) → StepWithin s (st.AssignElement x i v)
-      (step.Assign x.location.line (inner.Element k j) y)
+      (step.Assign x.location (inner.Element k j) y)
   step_element x i v k j y array sub said none real =
       let p = element_parts x i v real in
       let a = within s scope there i j sub p.first in
@@ -210,7 +210,7 @@ module _ (s : Names) (scope : Scope) (there : AreThere s scope) where
   step_while : (l : Location) (test : Expr) (body : List Stmt) (y : Expression) (steps : Vec Step Global) → Within s scope test y →
       use_breaches scope 0 (uses test) ≡ [] →
       AreParts (statement_tokens (st.While l test body)) 1 (tokens test) (block_tokens body) → StepsWithin s body steps.items →
-      StepWithin s (st.While l test body) (step.While l.line y steps)
+      StepWithin s (st.While l test body) (step.While l y steps)
   step_while l test body y steps w none p inside =
       let row = hidden-the_row-Step-0 steps in
       let items = items_hidden-the_row-Step-0 steps in
@@ -227,7 +227,7 @@ module _ (s : Names) (scope : Scope) (there : AreThere s scope) where
       use_breaches scope 0 (uses test) ≡ [] → AreParts (statement_tokens (st.If l test body other)) 1 (tokens test)
       (block_tokens body ++ else_tokens other) →
       StepsWithin s body steps.items → ElseWithin s other others.items →
-      StepWithin s (st.If l test body other) (step.If l.line y steps others)
+      StepWithin s (st.If l test body other) (step.If l y steps others)
   step_if l test body other y steps others w none p inside behind =
       let row = hidden-the_row-Step-0 steps in
       let items = items_hidden-the_row-Step-0 steps in

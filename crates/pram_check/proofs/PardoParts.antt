@@ -65,7 +65,7 @@ module _ (scope : Scope) (loops : List ℕ) (l : Location) (low : Expr) (t : Nam
       pub good_pardo : (a b : Expression) (steps : Vec Step Global) → Says scope low a → Says scope high b →
           first (block_breaches body (inside_of s3)) ≡ None → SaySteps s3 body steps.items →
           (first (statement_breaches (s.Pardo l low t high locals body) (outside_of scope loops)) ≡ None)
-          × SaysStatement scope (s.Pardo l low t high locals body) (statement.Pardo l.line a b (length locals) steps)
+          × SaysStatement scope (s.Pardo l low t high locals body) (statement.Pardo l a b (length locals) steps)
       good_pardo a b steps x y h k = (
         ap first pardo_whole ∙ (first_behind range_breaches (names_breaches ++ body_breaches) none
             ∙ (first_behind names_breaches body_breaches no_name

@@ -22,23 +22,23 @@ use Rattle.pram_check.proofs.Parts.{for_parts}
 
 module _ (scope : Scope) where
   pub said_print : (x : Stmt) (l : Location) (v : Expr) (y : Expression) → x ≡ s.Print l v → Says scope v y →
-      SaysStatement scope x (statement.Print l.line y)
-  said_print x l v y is h = subst (λ z. SaysStatement scope z (statement.Print l.line y)) (sym is) (says.print l v y h)
+      SaysStatement scope x (statement.Print l y)
+  said_print x l v y is h = subst (λ z. SaysStatement scope z (statement.Print l y)) (sym is) (says.print l v y h)
 
   pub said_while : (x : Stmt) (l : Location) (v : Expr) (body given : List Stmt) (y : Expression) (inside : Vec Statement Global) →
       x ≡ s.While l v body → given ≡ body →
-      Says scope v y → SayStatements scope given inside.items → SaysStatement scope x (statement.While l.line y inside)
+      Says scope v y → SayStatements scope given inside.items → SaysStatement scope x (statement.While l y inside)
   said_while x l v body given y inside is same h k =
-      subst (λ z. SaysStatement scope z (statement.While l.line y inside)) (sym is)
+      subst (λ z. SaysStatement scope z (statement.While l y inside)) (sym is)
       (says.while l v body y inside h (subst (λ b. SayStatements scope b inside.items) same k))
 
   pub said_if : (x : Stmt) (l : Location) (v : Expr) (body given : List Stmt) (other else_given : Option (List Stmt)) (y : Expression)
       (inside others : Vec Statement Global) →
       x ≡ s.If l v body other → given ≡ body → else_given ≡ other → Says scope v y → SayStatements scope given inside.items →
       SayOther scope else_given others.items →
-      SaysStatement scope x (statement.If l.line y inside others)
+      SaysStatement scope x (statement.If l y inside others)
   said_if x l v body given other else_given y inside others is same also h k m =
-      subst (λ z. SaysStatement scope z (statement.If l.line y inside others)) (sym is)
+      subst (λ z. SaysStatement scope z (statement.If l y inside others)) (sym is)
       (says.if_else l v body other y inside others h (subst (λ b. SayStatements scope b inside.items) same k)
       (subst (λ o. SayOther scope o others.items) also m))
 
@@ -46,9 +46,9 @@ module _ (scope : Scope) where
       (inside : Vec Statement Global) →
       x ≡ s.For l t low high body → given ≡ body → meaning_of scope t.text ≡ Some (meaning.Uniform k) → Says scope low a →
       Says scope high b →
-      SayStatements scope given inside.items → SaysStatement scope x (statement.For l.line k a b inside)
+      SayStatements scope given inside.items → SaysStatement scope x (statement.For l k a b inside)
   said_for x l t low high body given k a b inside is same m h j g =
-      subst (λ z. SaysStatement scope z (statement.For l.line k a b inside)) (sym is)
+      subst (λ z. SaysStatement scope z (statement.For l k a b inside)) (sym is)
       (says.for_to l t low high body k a b inside m h j (subst (λ y. SayStatements scope y inside.items) same g))
 
   statements_snoc : (xs : List Stmt) (ys : List Statement) (d : Stmt) (y : Statement) → SayStatements scope xs ys →

@@ -17,18 +17,18 @@ use Rattle.pram_names.specs.Resolved as says
 module _ (scope : Scope) where
   pub said_while : (x : Stmt) (l : Location) (v : Expr) (body given : List Stmt) (y : Expression) (steps : Vec Step Global) →
       x ≡ s.While l v body → given ≡ body →
-      Says scope v y → SaySteps scope given steps.items → SaysStep scope x (step.While l.line y steps)
+      Says scope v y → SaySteps scope given steps.items → SaysStep scope x (step.While l y steps)
   said_while x l v body given y steps is same h k =
-      subst (λ z. SaysStep scope z (step.While l.line y steps)) (sym is)
+      subst (λ z. SaysStep scope z (step.While l y steps)) (sym is)
       (says.while l v body y steps h (subst (λ b. SaySteps scope b steps.items) same k))
 
   pub said_if : (x : Stmt) (l : Location) (v : Expr) (body given : List Stmt) (other else_given : Option (List Stmt)) (y : Expression)
       (steps others : Vec Step Global) →
       x ≡ s.If l v body other → given ≡ body → else_given ≡ other → Says scope v y → SaySteps scope given steps.items →
       SayElse scope else_given others.items →
-      SaysStep scope x (step.If l.line y steps others)
+      SaysStep scope x (step.If l y steps others)
   said_if x l v body given other else_given y steps others is same also h k m =
-      subst (λ z. SaysStep scope z (step.If l.line y steps others)) (sym is)
+      subst (λ z. SaysStep scope z (step.If l y steps others)) (sym is)
       (says.if_else l v body other y steps others h (subst (λ b. SaySteps scope b steps.items) same k)
       (subst (λ o. SayElse scope o others.items) also m))
 

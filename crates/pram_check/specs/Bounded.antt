@@ -98,9 +98,9 @@ IsAssign s (target.Element a i) e = IsArray s a × ArePair s i e
 abbrev mutual
   -- a statement inside pardo: all that it names is declared, and no statement in it has more than eight shared reads
   pub IsStep : Names → Step → Type 0
-  IsStep s (step.Assign line x e) = IsInnerAssign s x e
-  IsStep s (step.If' line e q then_part r else_part) = IsSole s e × ArePartSteps s then_part × ArePartSteps s else_part
-  IsStep s (step.While' line e q body) = IsSole s e × ArePartSteps s body
+  IsStep s (step.Assign here x e) = IsInnerAssign s x e
+  IsStep s (step.If' here e q then_part r else_part) = IsSole s e × ArePartSteps s then_part × ArePartSteps s else_part
+  IsStep s (step.While' here e q body) = IsSole s e × ArePartSteps s body
 
   pub ArePartSteps : Names → {k : _} → Row_of-Step k → Type 0
   ArePartSteps s end_of-Step = Unit {0}
@@ -118,12 +118,12 @@ with_locals n s = record s { locals = Some n }
 abbrev mutual
   -- a statement outside pardo: all that it names is declared, and no statement in it has more than eight shared reads
   pub IsStatement : Names → Statement → Type 0
-  IsStatement s (Assign line x e) = IsAssign s x e
-  IsStatement s (Print line e) = IsSole s e
-  IsStatement s (While' line e q body) = IsSole s e × ArePartStatements s body
-  IsStatement s (If' line e q then_part r else_part) = IsSole s e × ArePartStatements s then_part × ArePartStatements s else_part
-  IsStatement s (For' line x e f q body) = (x < s.uniforms) × ArePair s e f × ArePartStatements s body
-  IsStatement s (Pardo line e f locals body) = ArePair s e f × AreSteps (with_locals locals s) body.items
+  IsStatement s (Assign here x e) = IsAssign s x e
+  IsStatement s (Print here e) = IsSole s e
+  IsStatement s (While' here e q body) = IsSole s e × ArePartStatements s body
+  IsStatement s (If' here e q then_part r else_part) = IsSole s e × ArePartStatements s then_part × ArePartStatements s else_part
+  IsStatement s (For' here x e f q body) = (x < s.uniforms) × ArePair s e f × ArePartStatements s body
+  IsStatement s (Pardo here e f locals body) = ArePair s e f × AreSteps (with_locals locals s) body.items
 
   pub ArePartStatements : Names → {k : _} → Row_of-Statement k → Type 0
   ArePartStatements s end_of-Statement = Unit {0}
@@ -139,9 +139,9 @@ AreStatements s (x ∷ xs) = IsStatement s x × AreStatements s xs
 abbrev mutual
   -- how deep `if` and `while` nest in a statement inside pardo
   pub step_depth : Step → ℕ
-  step_depth (step.Assign line x e) = 0
-  step_depth (step.If' line e q then_part r else_part) = 1 + max (part_step_depth then_part) (part_step_depth else_part)
-  step_depth (step.While' line e q body) = 1 + part_step_depth body
+  step_depth (step.Assign here x e) = 0
+  step_depth (step.If' here e q then_part r else_part) = 1 + max (part_step_depth then_part) (part_step_depth else_part)
+  step_depth (step.While' here e q body) = 1 + part_step_depth body
 
   pub part_step_depth : {k : _} → Row_of-Step k → ℕ
   part_step_depth end_of-Step = 0
@@ -155,12 +155,12 @@ steps_depth (x ∷ xs) = max (step_depth x) (steps_depth xs)
 abbrev mutual
   -- how deep `if`, `while`, `for` and pardo nest in a statement
   pub depth : Statement → ℕ
-  depth (Assign line x e) = 0
-  depth (Print line e) = 0
-  depth (While' line e q body) = 1 + part_depth body
-  depth (If' line e q then_part r else_part) = 1 + max (part_depth then_part) (part_depth else_part)
-  depth (For' line x e f q body) = 1 + part_depth body
-  depth (Pardo line e f locals body) = 1 + steps_depth body.items
+  depth (Assign here x e) = 0
+  depth (Print here e) = 0
+  depth (While' here e q body) = 1 + part_depth body
+  depth (If' here e q then_part r else_part) = 1 + max (part_depth then_part) (part_depth else_part)
+  depth (For' here x e f q body) = 1 + part_depth body
+  depth (Pardo here e f locals body) = 1 + steps_depth body.items
 
   pub part_depth : {k : _} → Row_of-Statement k → ℕ
   part_depth end_of-Statement = 0
@@ -202,9 +202,9 @@ target_nodes (target.Element a i) = 1 + nodes i
 abbrev mutual
   -- the size of a statement inside pardo: itself, the nodes of its expressions, and the statements in it
   pub step_size : Step → ℕ
-  step_size (step.Assign line x e) = 1 + inner_target_nodes x + nodes e
-  step_size (step.If' line e q then_part r else_part) = 1 + nodes e + part_step_size then_part + part_step_size else_part
-  step_size (step.While' line e q body) = 1 + nodes e + part_step_size body
+  step_size (step.Assign here x e) = 1 + inner_target_nodes x + nodes e
+  step_size (step.If' here e q then_part r else_part) = 1 + nodes e + part_step_size then_part + part_step_size else_part
+  step_size (step.While' here e q body) = 1 + nodes e + part_step_size body
 
   pub part_step_size : {k : _} → Row_of-Step k → ℕ
   part_step_size end_of-Step = 0
@@ -218,12 +218,12 @@ steps_size (x ∷ xs) = step_size x + steps_size xs
 abbrev mutual
   -- the size of a statement; a pardo has one more for its index and each local
   pub size : Statement → ℕ
-  size (Assign line x e) = 1 + target_nodes x + nodes e
-  size (Print line e) = 1 + nodes e
-  size (While' line e q body) = 1 + nodes e + part_size body
-  size (If' line e q then_part r else_part) = 1 + nodes e + part_size then_part + part_size else_part
-  size (For' line x e f q body) = 2 + nodes e + nodes f + part_size body
-  size (Pardo line e f locals body) = 2 + nodes e + nodes f + locals + steps_size body.items
+  size (Assign here x e) = 1 + target_nodes x + nodes e
+  size (Print here e) = 1 + nodes e
+  size (While' here e q body) = 1 + nodes e + part_size body
+  size (If' here e q then_part r else_part) = 1 + nodes e + part_size then_part + part_size else_part
+  size (For' here x e f q body) = 2 + nodes e + nodes f + part_size body
+  size (Pardo here e f locals body) = 2 + nodes e + nodes f + locals + steps_size body.items
 
   pub part_size : {k : _} → Row_of-Statement k → ℕ
   part_size end_of-Statement = 0

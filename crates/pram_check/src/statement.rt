@@ -28,7 +28,7 @@ fn assign(
     let cell = target(scope, loops, x)?;
     let value = value(alloc, scope, e)?;
     Ok(Statement::Assign {
-        line: x.location.line,
+        location: x.location,
         target: cell,
         value,
     })
@@ -49,7 +49,7 @@ fn assign_element(
     let array = element_target(scope, x)?;
     let (subscript, value) = values(alloc, scope, subscript, e)?;
     Ok(Statement::Assign {
-        line: x.location.line,
+        location: x.location,
         target: Target::Element(array, subscript),
         value,
     })
@@ -78,7 +78,7 @@ fn pardo<'a>(
     let steps = steps(alloc, scope, body)?;
     scope.truncate(names);
     Ok(Statement::Pardo {
-        line: location.line,
+        location,
         low: first,
         high: last,
         locals: locals.len(),
@@ -108,7 +108,7 @@ fn statement<'a>(
         Stmt::Print { location, value: e } => {
             let item = value(alloc, scope, e)?;
             Ok(Statement::Print {
-                line: location.line,
+                location: *location,
                 value: item,
             })
         }
@@ -120,7 +120,7 @@ fn statement<'a>(
             let test = value(alloc, scope, test)?;
             let body = statements(alloc, scope, loops, body.as_slice())?;
             Ok(Statement::While {
-                line: location.line,
+                location: *location,
                 test,
                 body,
             })
@@ -135,7 +135,7 @@ fn statement<'a>(
             let then_part = statements(alloc, scope, loops, then_part.as_slice())?;
             match else_part {
                 None => Ok(Statement::If {
-                    line: location.line,
+                    location: *location,
                     test,
                     then_part,
                     else_part: Vec::new(alloc),
@@ -143,7 +143,7 @@ fn statement<'a>(
                 Some(other) => {
                     let other = statements(alloc, scope, loops, other.as_slice())?;
                     Ok(Statement::If {
-                        line: location.line,
+                        location: *location,
                         test,
                         then_part,
                         else_part: other,
@@ -164,7 +164,7 @@ fn statement<'a>(
             inner.push(variable)?;
             let body = statements(alloc, scope, inner.as_slice(), body.as_slice())?;
             Ok(Statement::For {
-                line: location.line,
+                location: *location,
                 variable,
                 low,
                 high,

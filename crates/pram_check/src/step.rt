@@ -19,7 +19,7 @@ fn assign(alloc: Global, scope: &Scope, target: &Name, e: &Expr) -> Result<Step,
     let cell = inner_target(scope, target)?;
     let value = value(alloc, scope, e)?;
     Ok(Step::Assign {
-        line: target.location.line,
+        location: target.location,
         target: cell,
         value,
     })
@@ -39,7 +39,7 @@ fn assign_element(
     let array = element_target(scope, target)?;
     let (subscript, value) = values(alloc, scope, subscript, e)?;
     Ok(Step::Assign {
-        line: target.location.line,
+        location: target.location,
         target: StepTarget::Element(array, subscript),
         value,
     })
@@ -67,7 +67,7 @@ fn step(alloc: Global, scope: &Scope, statement: &Stmt) -> Result<Step, CheckFau
             let test = value(alloc, scope, test)?;
             let body = steps(alloc, scope, body.as_slice())?;
             Ok(Step::While {
-                line: location.line,
+                location: *location,
                 test,
                 body,
             })
@@ -82,7 +82,7 @@ fn step(alloc: Global, scope: &Scope, statement: &Stmt) -> Result<Step, CheckFau
             let then_part = steps(alloc, scope, then_part.as_slice())?;
             match else_part {
                 None => Ok(Step::If {
-                    line: location.line,
+                    location: *location,
                     test,
                     then_part,
                     else_part: Vec::new(alloc),
@@ -90,7 +90,7 @@ fn step(alloc: Global, scope: &Scope, statement: &Stmt) -> Result<Step, CheckFau
                 Some(other) => {
                     let other = steps(alloc, scope, other.as_slice())?;
                     Ok(Step::If {
-                        line: location.line,
+                        location: *location,
                         test,
                         then_part,
                         else_part: other,

@@ -209,22 +209,22 @@ tested_counts w line e m k z r = tested_at w line e m (Ends z k) r tt
 
 mutual
   agree_on : (w : Checked) (n : ℕ) (s : Step) (vs : List ℕ) → Agree (Unit {0}) n (MeansOn w s vs) (perform_on w n s vs)
-  agree_on w n (step.Assign line x e) vs =
-      agree_then n (AttemptedOn w line (λ s. attempt_step s x e) vs) (λ xs m. IsEnd tt (assigned_by w x xs m))
-      (attempted_on w n line (λ s. attempt_step s x e) vs) (λ xs m. Goes tt (assigned_by w x xs m))
-      (agree_attempted w n line (λ s. attempt_step s x e) vs) (λ xs. agree_end n (λ m. tt) (assigned_by w x xs) (set_count w x xs))
-  agree_on w n (step.If' line e q a r b) vs =
-      agree_then n (AttemptedOn w line (λ s. attempt_value s e) vs) (λ xs m. Then (Unit {0}) (Unit {0}) (MeansRowOn w a (those true xs) m)
+  agree_on w n (step.Assign here x e) vs =
+      agree_then n (AttemptedOn w here.line (λ s. attempt_step s x e) vs) (λ xs m. IsEnd tt (assigned_by w x xs m))
+      (attempted_on w n here.line (λ s. attempt_step s x e) vs) (λ xs m. Goes tt (assigned_by w x xs m))
+      (agree_attempted w n here.line (λ s. attempt_step s x e) vs) (λ xs. agree_end n (λ m. tt) (assigned_by w x xs) (set_count w x xs))
+  agree_on w n (step.If' here e q a r b) vs =
+      agree_then n (AttemptedOn w here.line (λ s. attempt_value s e) vs) (λ xs m. Then (Unit {0}) (Unit {0}) (MeansRowOn w a (those true xs) m)
       (λ u. MeansRowOn w b (those false xs)))
-      (attempted_on w n line (λ s. attempt_value s e) vs)
+      (attempted_on w n here.line (λ s. attempt_value s e) vs)
       (λ xs m. then_do (perform_row_on w n a (those true xs) m) (λ u. perform_row_on w n b (those false xs)))
-      (agree_attempted w n line (λ s. attempt_value s e) vs)
+      (agree_attempted w n here.line (λ s. attempt_value s e) vs)
       (λ xs. agree_then n (MeansRowOn w a (those true xs)) (λ u. MeansRowOn w b (those false xs)) (perform_row_on w n a (those true xs))
       (λ u. perform_row_on w n b (those false xs)) (agree_row_on w n a (those true xs)) (λ u. agree_row_on w n b (those false xs)))
-  agree_on w n (step.While' line e q body) vs =
-      agree_loop_on n (AttemptedOn w line (λ s. attempt_value s e)) (MeansRowOn w body) (attempted_on w n line (λ s. attempt_value s e))
+  agree_on w n (step.While' here e q body) vs =
+      agree_loop_on n (AttemptedOn w here.line (λ s. attempt_value s e)) (MeansRowOn w body) (attempted_on w n here.line (λ s. attempt_value s e))
       (perform_row_on w n body)
-      (agree_attempted w n line (λ s. attempt_value s e)) (agree_row_on w n body) (attempted_counts w line (λ s. attempt_value s e)) vs
+      (agree_attempted w n here.line (λ s. attempt_value s e)) (agree_row_on w n body) (attempted_counts w here.line (λ s. attempt_value s e)) vs
 
   agree_row_on : (w : Checked) (n : ℕ) {k : _} (ss : Row_of-Step k) (vs : List ℕ) → Agree (Unit {0}) n (MeansRowOn w ss vs)
       (perform_row_on w n ss vs)
@@ -250,31 +250,31 @@ agree_pardo w n locals body a k =
 
 mutual
   agree : (w : Checked) (n : ℕ) (s : Statement) → Agree (Unit {0}) n (Means w s) (perform w n s)
-  agree w n (Assign line x e) =
-      agree_then n (Evaluated line (λ m. attempt_assign (seen w m) x e)) (λ g m. IsEnd tt (assigned x g m))
-      (evaluated n line (λ m. attempt_assign (seen w m) x e)) (λ g m. Goes tt (assigned x g m))
-      (agree_evaluated n line (λ m. attempt_assign (seen w m) x e)) (λ g. agree_end n (λ m. tt) (assigned x g) (assigned_count x g))
-  agree w n (Print line e) =
-      agree_then n (Evaluated line (λ m. attempt (seen w m) e [])) (λ v m. IsEnd tt (printed v m)) (found w n line e)
+  agree w n (Assign here x e) =
+      agree_then n (Evaluated here.line (λ m. attempt_assign (seen w m) x e)) (λ g m. IsEnd tt (assigned x g m))
+      (evaluated n here.line (λ m. attempt_assign (seen w m) x e)) (λ g m. Goes tt (assigned x g m))
+      (agree_evaluated n here.line (λ m. attempt_assign (seen w m) x e)) (λ g. agree_end n (λ m. tt) (assigned x g) (assigned_count x g))
+  agree w n (Print here e) =
+      agree_then n (Evaluated here.line (λ m. attempt (seen w m) e [])) (λ v m. IsEnd tt (printed v m)) (found w n here.line e)
       (λ v m. Goes tt (printed v m))
-      (agree_evaluated n line (λ m. attempt (seen w m) e [])) (λ v. agree_end n (λ m. tt) (printed v) (λ m. refl))
-  agree w n (While' line e q body) =
-      agree_loop n (Tested w line e) (MeansRow w body) (tested w n line e) (perform_row w n body) (agree_tested w n line e)
-      (agree_row w n body) (tested_counts w line e)
-  agree w n (If' line e q a r b) =
-      agree_then n (Tested w line e) (λ z m. Either z (MeansRow w a m) (MeansRow w b m)) (tested w n line e)
+      (agree_evaluated n here.line (λ m. attempt (seen w m) e [])) (λ v. agree_end n (λ m. tt) (printed v) (λ m. refl))
+  agree w n (While' here e q body) =
+      agree_loop n (Tested w here.line e) (MeansRow w body) (tested w n here.line e) (perform_row w n body) (agree_tested w n here.line e)
+      (agree_row w n body) (tested_counts w here.line e)
+  agree w n (If' here e q a r b) =
+      agree_then n (Tested w here.line e) (λ z m. Either z (MeansRow w a m) (MeansRow w b m)) (tested w n here.line e)
       (λ z m. if z then perform_row w n a m else perform_row w n b m)
-      (agree_tested w n line e) (λ z. agree_either n z (MeansRow w a) (MeansRow w b) (perform_row w n a) (perform_row w n b)
+      (agree_tested w n here.line e) (λ z. agree_either n z (MeansRow w a) (MeansRow w b) (perform_row w n a) (perform_row w n b)
       (agree_row w n a) (agree_row w n b))
-  agree w n (For' line x e g q body) =
-      agree_then n (Evaluated line (λ m. attempt_bounds (seen w m) e g)) (λ r. ForTurns (width r.0 r.1) x r.0 (MeansRow w body))
-      (evaluated n line (λ m. attempt_bounds (seen w m) e g)) (λ r. for_turns n (width r.0 r.1) x r.0 (perform_row w n body))
-      (agree_evaluated n line (λ m. attempt_bounds (seen w m) e g))
+  agree w n (For' here x e g q body) =
+      agree_then n (Evaluated here.line (λ m. attempt_bounds (seen w m) e g)) (λ r. ForTurns (width r.0 r.1) x r.0 (MeansRow w body))
+      (evaluated n here.line (λ m. attempt_bounds (seen w m) e g)) (λ r. for_turns n (width r.0 r.1) x r.0 (perform_row w n body))
+      (agree_evaluated n here.line (λ m. attempt_bounds (seen w m) e g))
       (λ r. agree_for n (width r.0 r.1) x r.0 (MeansRow w body) (perform_row w n body) (agree_row w n body))
-  agree w n (Pardo line e g locals body) =
-      agree_then n (Evaluated line (λ m. attempt_range w.procs (seen w m) e g)) (λ r. PardoDone w locals body.items r.0 r.1)
-      (evaluated n line (λ m. attempt_range w.procs (seen w m) e g)) (λ r. pardo_done w n locals body.items r.0 r.1)
-      (agree_evaluated n line (λ m. attempt_range w.procs (seen w m) e g)) (λ r. agree_pardo w n locals body.items r.0 r.1)
+  agree w n (Pardo here e g locals body) =
+      agree_then n (Evaluated here.line (λ m. attempt_range w.procs (seen w m) e g)) (λ r. PardoDone w locals body.items r.0 r.1)
+      (evaluated n here.line (λ m. attempt_range w.procs (seen w m) e g)) (λ r. pardo_done w n locals body.items r.0 r.1)
+      (agree_evaluated n here.line (λ m. attempt_range w.procs (seen w m) e g)) (λ r. agree_pardo w n locals body.items r.0 r.1)
 
   agree_row : (w : Checked) (n : ℕ) {k : _} (ss : Row_of-Statement k) → Agree (Unit {0}) n (MeansRow w ss) (perform_row w n ss)
   agree_row w n end_of-Statement = agree_end n (λ m. tt) (λ m. m) (λ m. refl)

@@ -1,5 +1,6 @@
 -- A statement of the one processor, from what its attempt gives.
 use Rattle.std.proofs.Common.{◌≡◌, ℕ, List, [], ◌∷◌, Option, ap, sym, ◌∙◌, subst}
+use Rattle.pram_tokens.specs.declared.token.Location.{Location}
 use Rattle.pram_values.specs.declared.kind.Kind.{Kind}
 use Rattle.pram_values.specs.declared.place.Place.TheVariants.{All}
 use Rattle.pram_meaning.specs.Attempt.{Attempt, Fails, Gives, Trail}
@@ -25,25 +26,25 @@ value_fails n line a m mid t k is at = attempted n line a m mid (Fails t k) is a
 
 -- ---- what is told of it
 
-told : {A : Type 0} (n line : ℕ) (act : Action) (write : A → Option ℕ) (left : A → State → State) (a : State → Attempt A)
+told : {A : Type 0} (n : ℕ) (here : Location) (act : Action) (write : A → Option ℕ) (left : A → State → State) (a : State → Attempt A)
     (m mid : State) (x : Attempt A) → counted n m ≡ Goes tt mid → a mid ≡ x →
-    alone_moment n line act write left a m ≡ Alone line act mid (writing write x) (left_by left x mid) ∷ []
-told n line act write left a m mid x is at =
-    ap (λ b. behind b (λ u m. Alone line act m (writing write (a m)) (left_by left (a m) m) ∷ [])) is
-    ∙ ap (λ x. Alone line act mid (writing write x) (left_by left x mid) ∷ []) at
+    alone_moment n here act write left a m ≡ Alone here act mid (writing write x) (left_by left x mid) ∷ []
+told n here act write left a m mid x is at =
+    ap (λ b. behind b (λ u m. Alone here act m (writing write (a m)) (left_by left (a m) m) ∷ [])) is
+    ∙ ap (λ x. Alone here act mid (writing write x) (left_by left x mid) ∷ []) at
 
-pub told_goes : {S : Type 0} (H : S → List Moment → S → Type 0) {A : Type 0} (n line : ℕ) (act : Action) (write : A → Option ℕ)
+pub told_goes : {S : Type 0} (H : S → List Moment → S → Type 0) {A : Type 0} (n : ℕ) (here : Location) (act : Action) (write : A → Option ℕ)
     (left : A → State → State) (a : State → Attempt A) (m mid : State) (t : Trail) (v : A) (from late : S) →
-    counted n m ≡ Goes tt mid → a mid ≡ Gives t v → H from (Alone line act mid (Gives t (write v)) (left v mid) ∷ []) late →
-    H from (alone_moment n line act write left a m) late
-told_goes H n line act write left a m mid t v from late is at h =
+    counted n m ≡ Goes tt mid → a mid ≡ Gives t v → H from (Alone here act mid (Gives t (write v)) (left v mid) ∷ []) late →
+    H from (alone_moment n here act write left a m) late
+told_goes H n here act write left a m mid t v from late is at h =
     let P : List Moment → Type 0 = λ ms. H from ms late in
-    subst P (sym (told n line act write left a m mid (Gives t v) is at)) h
+    subst P (sym (told n here act write left a m mid (Gives t v) is at)) h
 
-pub told_fails : {S : Type 0} (H : S → List Moment → S → Type 0) {A : Type 0} (n line : ℕ) (act : Action) (write : A → Option ℕ)
+pub told_fails : {S : Type 0} (H : S → List Moment → S → Type 0) {A : Type 0} (n : ℕ) (here : Location) (act : Action) (write : A → Option ℕ)
     (left : A → State → State) (a : State → Attempt A) (m mid : State) (t : Trail) (k : Kind) (from late : S) →
-    counted n m ≡ Goes tt mid → a mid ≡ Fails t k → H from (Alone line act mid (Fails t k) mid ∷ []) late →
-    H from (alone_moment n line act write left a m) late
-told_fails H n line act write left a m mid t k from late is at h =
+    counted n m ≡ Goes tt mid → a mid ≡ Fails t k → H from (Alone here act mid (Fails t k) mid ∷ []) late →
+    H from (alone_moment n here act write left a m) late
+told_fails H n here act write left a m mid t k from late is at h =
     let P : List Moment → Type 0 = λ ms. H from ms late in
-    subst P (sym (told n line act write left a m mid (Fails t k) is at)) h
+    subst P (sym (told n here act write left a m mid (Fails t k) is at)) h

@@ -289,21 +289,21 @@ module _ (p : Checked) (n : ℕ) where
     element_said k i v z y first said = λ j s. and_then (value_said scope s i z first [] j)
         (λ t z. and_then (value_said scope s v y said t j) (write (cell_of s.layout k z)))
 
-    inner_said : (x : Name) (v : Expr) (t : StepTarget) (y : Expression) (line : ℕ) → SaysInner scope x t → Says scope v y →
+    inner_said : (x : Name) (v : Expr) (t : StepTarget) (y : Expression) (here : Location) → SaysInner scope x t → Says scope v y →
         (vs : List ℕ) (m : State) →
-        perform_on p n (step.Assign line t y) vs m ≡ assign_by (meaning_of scope x.text) line (value_by scope v) vs m
-    inner_said x v _ y line (says.local k is) said vs m =
-        ap (λ (a : View → Attempt Effect). then_do (attempted_on p n line a vs m) (λ xs m. Goes tt (set_on (Some (Local k)) xs m)))
+        perform_on p n (step.Assign here t y) vs m ≡ assign_by (meaning_of scope x.text) here.line (value_by scope v) vs m
+    inner_said x v _ y here (says.local k is) said vs m =
+        ap (λ (a : View → Attempt Effect). then_do (attempted_on p n here.line a vs m) (λ xs m. Goes tt (set_on (Some (Local k)) xs m)))
         (plain_said v y said)
-        ∙ sym (ap (λ o. assign_by o line (value_by scope v) vs m) is)
-    inner_said x v _ y line (says.cell k is) said vs m =
-        ap (λ (a : View → Attempt Effect). then_do (attempted_on p n line a vs m) (λ xs m. Goes tt (set_on (Some (Cell k)) xs m)))
+        ∙ sym (ap (λ o. assign_by o here.line (value_by scope v) vs m) is)
+    inner_said x v _ y here (says.cell k is) said vs m =
+        ap (λ (a : View → Attempt Effect). then_do (attempted_on p n here.line a vs m) (λ xs m. Goes tt (set_on (Some (Cell k)) xs m)))
         (cell_said k v y said)
-        ∙ sym (ap (λ o. assign_by o line (value_by scope v) vs m) is)
+        ∙ sym (ap (λ o. assign_by o here.line (value_by scope v) vs m) is)
 
     mutual
       step_said : (x : Stmt) (y : Step) → SaysStep scope x y → (vs : List ℕ) (m : State) → perform_on p n y vs m ≡ (doing x).on scope vs m
-      step_said _ _ (says.assign x v t y to said) vs m = inner_said x v t y x.location.line to said vs m
+      step_said _ _ (says.assign x v t y to said) vs m = inner_said x v t y x.location to said vs m
           ∙ sym (ap (λ (d : Doing). d.on scope vs m) (do-Assign x v))
       step_said _ _ (says.assign_element x i v k z y is first said) vs m =
           ap (λ (a : View → Attempt Effect). then_do (attempted_on p n x.location.line a vs m)
@@ -348,16 +348,16 @@ module _ (p : Checked) (n : ℕ) where
   -- ---- what is said, outside
 
   module _ (scope : Scope) where
-    outer_said : (x : Name) (v : Expr) (t : Target) (y : Expression) (line : ℕ) → SaysTarget scope x t → Says scope v y → (m : State) →
-        perform p n (statement.Assign line t y) m ≡ assign_one (meaning_of scope x.text) line (value_by scope v) m
-    outer_said x v _ y line (says.uniform k is) said m =
-        ap (λ (a : View → Attempt Effect). then_do (evaluated n line (λ m. a (seen p m)) m)
+    outer_said : (x : Name) (v : Expr) (t : Target) (y : Expression) (here : Location) → SaysTarget scope x t → Says scope v y → (m : State) →
+        perform p n (statement.Assign here t y) m ≡ assign_one (meaning_of scope x.text) here.line (value_by scope v) m
+    outer_said x v _ y here (says.uniform k is) said m =
+        ap (λ (a : View → Attempt Effect). then_do (evaluated n here.line (λ m. a (seen p m)) m)
         (λ g m. Goes tt (set_one (Some (Uniform k)) g m))) (plain_said scope v y said)
-        ∙ sym (ap (λ o. assign_one o line (value_by scope v) m) is)
-    outer_said x v _ y line (says.cell k is) said m =
-        ap (λ (a : View → Attempt Effect). then_do (evaluated n line (λ m. a (seen p m)) m) (λ g m. Goes tt (set_one (Some (Cell k)) g m)))
+        ∙ sym (ap (λ o. assign_one o here.line (value_by scope v) m) is)
+    outer_said x v _ y here (says.cell k is) said m =
+        ap (λ (a : View → Attempt Effect). then_do (evaluated n here.line (λ m. a (seen p m)) m) (λ g m. Goes tt (set_one (Some (Cell k)) g m)))
         (cell_said scope k v y said)
-        ∙ sym (ap (λ o. assign_one o line (value_by scope v) m) is)
+        ∙ sym (ap (λ o. assign_one o here.line (value_by scope v) m) is)
 
     test_said : (c : Expr) (y : Expression) (line : ℕ) → Says scope c y → tested p n line y ≡ test_of line (value_by scope c)
     test_said c y line said = λ j m. then_do (evaluated n line (λ m. value_said scope (seen p m) c y said [] j) m)
@@ -375,7 +375,7 @@ module _ (p : Checked) (n : ℕ) where
 
     mutual
       statement_said : (x : Stmt) (y : Statement) → SaysStatement scope x y → (m : State) → perform p n y m ≡ (doing x).alone scope m
-      statement_said _ _ (says.assign x v t y to said) m = outer_said x v t y x.location.line to said m
+      statement_said _ _ (says.assign x v t y to said) m = outer_said x v t y x.location to said m
           ∙ sym (ap (λ (d : Doing). d.alone scope m) (do-Assign x v))
       statement_said _ _ (says.assign_element x i v k z y is first said) m =
           ap (λ (a : View → Attempt Effect). then_do (evaluated n x.location.line (λ m. a (seen p m)) m)
@@ -386,14 +386,14 @@ module _ (p : Checked) (n : ℕ) where
           (λ j. then_do (evaluated n l.line (λ m. value_said scope (seen p m) v y said [] j) m) (λ v m. Goes tt (printed v m)))
           ∙ sym (ap (λ (d : Doing). d.alone scope m) (do-Print l v))
       statement_said _ _ (says.while l c body y inside said h) m =
-          outside.while_is p n l.line y inside m
+          outside.while_is p n l y inside m
           ∙ ap (λ (t : State → Behaviour Bool). turns (n + 1) t (perform_list p n inside.items) m) (test_said c y l.line said)
           ∙ ap (λ (f : State → Done). turns (n + 1) (test_of l.line (value_by scope c)) f m)
           (λ j m. statements_said body inside.items h m j)
           ∙ sym (ap (λ (d : Doing). d.alone scope m) (do-While l c body)
           ∙ ap (λ (f : Scope → State → Done). turns (n + 1) (test_of l.line (value_by scope c)) (f scope) m) (each_alone body))
       statement_said _ _ (says.if_else l c body other y inside others said h g) m =
-          outside.if_is p n l.line y inside others m
+          outside.if_is p n l y inside others m
           ∙ ap (λ (t : State → Behaviour Bool). then_do (t m) (λ z m. if z then perform_list p n inside.items m else perform_list p n
           others.items m)) (test_said c y l.line said)
           ∙ ap (λ (f : State → Done). then_do (test_of l.line (value_by scope c) m)

@@ -3,6 +3,7 @@ use Rattle.std.proofs.Common.{if◌then◌else◌, Bool, true, false, ◌≡◌,
 use Rattle.std.proofs.Common.{Result, Err, subst, drop, length, get_or}
 use Rattle.std.proofs.lemmas.List.{drop_more, drop_all}
 use Rattle.pram_check.specs.Checked.{Checked}
+use Rattle.pram_tokens.specs.declared.token.Location.{Location}
 use Rattle.pram_names.specs.declared.body.Expression.{Expression}
 use Rattle.pram_names.specs.declared.body.Statement.{Assign, For, If, Pardo, Print, Row_of-Statement, Statement, While, end_of-Statement}
 use Rattle.pram_names.specs.declared.body.Statement.{items-the_row-Statement, items_hidden-the_row-Statement-0, more_of-Statement}
@@ -76,101 +77,101 @@ told_is w n body = λ j m. (sym (items_are_told w n (hidden-the_row-Statement-0 
 
 -- ---- a statement of each kind
 
-while_told : (w : Checked) (n line : ℕ) (s : Statement) (e : Expression) (body : Vec Statement Global) (m : State) →
-    s ≡ While line e body → moments w n s m ≡ turns_moments (n + 1) (test_moment w n line (Turns e) e) (tested w n line e)
+while_told : (w : Checked) (n : ℕ) (here : Location) (s : Statement) (e : Expression) (body : Vec Statement Global) (m : State) →
+    s ≡ While here e body → moments w n s m ≡ turns_moments (n + 1) (test_moment w n here (Turns e) e) (tested w n here.line e)
     (list_moments w n body.items) (perform_list w n body.items) m
-while_told w n line s e body m is =
+while_told w n here s e body m is =
     ap (λ s. moments w n s m) is
-    ∙ ap (λ f. turns_moments (n + 1) (test_moment w n line (Turns e) e) (tested w n line e) f
+    ∙ ap (λ f. turns_moments (n + 1) (test_moment w n here (Turns e) e) (tested w n here.line e) f
     (perform_row w n (hidden-the_row-Statement-0 body)) m) (told_is w n body)
-    ∙ ap (λ f. turns_moments (n + 1) (test_moment w n line (Turns e) e) (tested w n line e) (list_moments w n body.items) f m)
+    ∙ ap (λ f. turns_moments (n + 1) (test_moment w n here (Turns e) e) (tested w n here.line e) (list_moments w n body.items) f m)
     (block_is w n body)
 
-for_told : (w : Checked) (n line x : ℕ) (s : Statement) (e f : Expression) (body : Vec Statement Global) (m : State) →
-    s ≡ For line x e f body →
-    moments w n s m ≡ for_moments w n line x e f (list_moments w n body.items) (perform_list w n body.items) m
-for_told w n line x s e f body m is =
+for_told : (w : Checked) (n : ℕ) (here : Location) (x : ℕ) (s : Statement) (e f : Expression) (body : Vec Statement Global) (m : State) →
+    s ≡ For here x e f body →
+    moments w n s m ≡ for_moments w n here x e f (list_moments w n body.items) (perform_list w n body.items) m
+for_told w n here x s e f body m is =
     ap (λ s. moments w n s m) is
-    ∙ ap (λ g. for_moments w n line x e f g (perform_row w n (hidden-the_row-Statement-0 body)) m) (told_is w n body)
-    ∙ ap (λ g. for_moments w n line x e f (list_moments w n body.items) g m) (block_is w n body)
+    ∙ ap (λ g. for_moments w n here x e f g (perform_row w n (hidden-the_row-Statement-0 body)) m) (told_is w n body)
+    ∙ ap (λ g. for_moments w n here x e f (list_moments w n body.items) g m) (block_is w n body)
 
-if_told : (w : Checked) (n line : ℕ) (s : Statement) (e : Expression) (a b : Vec Statement Global) (m : State) → s ≡ If line e a b →
-    moments w n s m ≡ test_moment w n line (Chooses e) e m ++ behind (tested w n line e m)
+if_told : (w : Checked) (n : ℕ) (here : Location) (s : Statement) (e : Expression) (a b : Vec Statement Global) (m : State) → s ≡ If here e a b →
+    moments w n s m ≡ test_moment w n here (Chooses e) e m ++ behind (tested w n here.line e m)
     (λ z m. closing (if z then list_moments w n a.items m else list_moments w n b.items m))
-if_told w n line s e a b m is =
+if_told w n here s e a b m is =
     ap (λ s. moments w n s m) is
-    ∙ ap (λ f. test_moment w n line (Chooses e) e m ++ behind (tested w n line e m)
+    ∙ ap (λ f. test_moment w n here (Chooses e) e m ++ behind (tested w n here.line e m)
     (λ z m. closing (if z then f m else row_moments w n (hidden-the_row-Statement-0 b) m))) (told_is w n a)
-    ∙ ap (λ f. test_moment w n line (Chooses e) e m ++ behind (tested w n line e m)
+    ∙ ap (λ f. test_moment w n here (Chooses e) e m ++ behind (tested w n here.line e m)
     (λ z m. closing (if z then list_moments w n a.items m else f m))) (told_is w n b)
 
 -- the same, of a function's answer
 
-pub assign_heard : {S : Type 0} (H : S → List Moment → S → Type 0) (from late : S) (w : Checked) (n line : ℕ) (s : Statement)
-    (x : Target) (e : Expression) (m : State) (r : Result (Unit {0}) Halt) → s ≡ Assign line x e →
-    UnlessRefused r (H from (assign_moment w n line x e m) late) → UnlessRefused r (H from (moments w n s m) late)
-assign_heard H from late w n line s x e m r is h = rw is h
+pub assign_heard : {S : Type 0} (H : S → List Moment → S → Type 0) (from late : S) (w : Checked) (n : ℕ) (here : Location) (s : Statement)
+    (x : Target) (e : Expression) (m : State) (r : Result (Unit {0}) Halt) → s ≡ Assign here x e →
+    UnlessRefused r (H from (assign_moment w n here x e m) late) → UnlessRefused r (H from (moments w n s m) late)
+assign_heard H from late w n here s x e m r is h = rw is h
 
-pub print_heard : {S : Type 0} (H : S → List Moment → S → Type 0) (from late : S) (w : Checked) (n line : ℕ) (s : Statement)
-    (e : Expression) (m : State) (r : Result (Unit {0}) Halt) → s ≡ Print line e →
-    UnlessRefused r (H from (print_moment w n line e m) late) → UnlessRefused r (H from (moments w n s m) late)
-print_heard H from late w n line s e m r is h = rw is h
+pub print_heard : {S : Type 0} (H : S → List Moment → S → Type 0) (from late : S) (w : Checked) (n : ℕ) (here : Location) (s : Statement)
+    (e : Expression) (m : State) (r : Result (Unit {0}) Halt) → s ≡ Print here e →
+    UnlessRefused r (H from (print_moment w n here e m) late) → UnlessRefused r (H from (moments w n s m) late)
+print_heard H from late w n here s e m r is h = rw is h
 
-pub pardo_heard : {S : Type 0} (H : S → List Moment → S → Type 0) (from late : S) (w : Checked) (n line locals : ℕ) (s : Statement)
-    (e f : Expression) (body : Vec Step Global) (m : State) (r : Result (Unit {0}) Halt) → s ≡ Pardo line e f locals body →
-    UnlessRefused r (H from (pardo_moments w n line e f locals body.items m) late) → UnlessRefused r (H from (moments w n s m) late)
-pardo_heard H from late w n line locals s e f body m r is h = rw is h
+pub pardo_heard : {S : Type 0} (H : S → List Moment → S → Type 0) (from late : S) (w : Checked) (n : ℕ) (here : Location) (locals : ℕ) (s : Statement)
+    (e f : Expression) (body : Vec Step Global) (m : State) (r : Result (Unit {0}) Halt) → s ≡ Pardo here e f locals body →
+    UnlessRefused r (H from (pardo_moments w n here e f locals body.items m) late) → UnlessRefused r (H from (moments w n s m) late)
+pardo_heard H from late w n here locals s e f body m r is h = rw is h
 
-pub while_heard : {S : Type 0} (H : S → List Moment → S → Type 0) (from late : S) (w : Checked) (n line : ℕ) (s : Statement)
-    (e : Expression) (body : Vec Statement Global) (m : State) (r : Result (Unit {0}) Halt) → s ≡ While line e body →
-    UnlessRefused r (H from (turns_moments (n + 1) (test_moment w n line (Turns e) e) (tested w n line e)
+pub while_heard : {S : Type 0} (H : S → List Moment → S → Type 0) (from late : S) (w : Checked) (n : ℕ) (here : Location) (s : Statement)
+    (e : Expression) (body : Vec Statement Global) (m : State) (r : Result (Unit {0}) Halt) → s ≡ While here e body →
+    UnlessRefused r (H from (turns_moments (n + 1) (test_moment w n here (Turns e) e) (tested w n here.line e)
     (list_moments w n body.items) (perform_list w n body.items) m) late) → UnlessRefused r (H from (moments w n s m) late)
-while_heard H from late w n line s e body m r is h =
-    let P : List Moment → Type 0 = λ ms. UnlessRefused r (H from ms late) in subst P (sym (while_told w n line s e body m is)) h
+while_heard H from late w n here s e body m r is h =
+    let P : List Moment → Type 0 = λ ms. UnlessRefused r (H from ms late) in subst P (sym (while_told w n here s e body m is)) h
 
-pub for_heard : {S : Type 0} (H : S → List Moment → S → Type 0) (from late : S) (w : Checked) (n line x : ℕ) (s : Statement)
-    (e f : Expression) (body : Vec Statement Global) (m : State) (r : Result (Unit {0}) Halt) → s ≡ For line x e f body →
-    UnlessRefused r (H from (for_moments w n line x e f (list_moments w n body.items) (perform_list w n body.items) m) late) →
+pub for_heard : {S : Type 0} (H : S → List Moment → S → Type 0) (from late : S) (w : Checked) (n : ℕ) (here : Location) (x : ℕ) (s : Statement)
+    (e f : Expression) (body : Vec Statement Global) (m : State) (r : Result (Unit {0}) Halt) → s ≡ For here x e f body →
+    UnlessRefused r (H from (for_moments w n here x e f (list_moments w n body.items) (perform_list w n body.items) m) late) →
     UnlessRefused r (H from (moments w n s m) late)
-for_heard H from late w n line x s e f body m r is h =
-    let P : List Moment → Type 0 = λ ms. UnlessRefused r (H from ms late) in subst P (sym (for_told w n line x s e f body m is)) h
+for_heard H from late w n here x s e f body m r is h =
+    let P : List Moment → Type 0 = λ ms. UnlessRefused r (H from ms late) in subst P (sym (for_told w n here x s e f body m is)) h
 
-pub if_halts_heard : {S : Type 0} (H : S → List Moment → S → Type 0) (from late : S) (w : Checked) (n line : ℕ) (s : Statement)
-    (e : Expression) (a b : Vec Statement Global) (m new : State) (x : Halt) → s ≡ If line e a b →
-    IsBehaviour {A = Bool} (Err x) new (tested w n line e m) →
-    UnlessRefused {A = Bool} (Err x) (H from (test_moment w n line (Chooses e) e m) late) →
+pub if_halts_heard : {S : Type 0} (H : S → List Moment → S → Type 0) (from late : S) (w : Checked) (n : ℕ) (here : Location) (s : Statement)
+    (e : Expression) (a b : Vec Statement Global) (m new : State) (x : Halt) → s ≡ If here e a b →
+    IsBehaviour {A = Bool} (Err x) new (tested w n here.line e m) →
+    UnlessRefused {A = Bool} (Err x) (H from (test_moment w n here (Chooses e) e m) late) →
     UnlessRefused {A = Unit {0}} (Err x) (H from (moments w n s m) late)
-if_halts_heard H from late w n line s e a b m new x is t h =
+if_halts_heard H from late w n here s e a b m new x is t h =
     let P : List Moment → Type 0 = λ ms. UnlessRefused {A = Unit {0}} (Err x) (H from ms late) in
-    subst P (sym (if_told w n line s e a b m is))
-    (first_halts H {A = Bool} (Unit {0}) from late (test_moment w n line (Chooses e) e m) (tested w n line e m)
+    subst P (sym (if_told w n here s e a b m is))
+    (first_halts H {A = Bool} (Unit {0}) from late (test_moment w n here (Chooses e) e m) (tested w n here.line e m)
     (λ z m. closing (if z then list_moments w n a.items m else list_moments w n b.items m)) x new t h)
 
-branch_heard : {S : Type 0} (H : S → List Moment → S → Type 0) → HearsOn H → (from half late : S) (w : Checked) (n line : ℕ)
+branch_heard : {S : Type 0} (H : S → List Moment → S → Type 0) → HearsOn H → (from half late : S) (w : Checked) (n : ℕ) (here : Location)
     (s : Statement) (e : Expression) (a b : Vec Statement Global) (m mid : State) (v : Bool) (r : Result (Unit {0}) Halt) →
-    s ≡ If line e a b → tested w n line e m ≡ Goes v mid → H from (test_moment w n line (Chooses e) e m) half →
+    s ≡ If here e a b → tested w n here.line e m ≡ Goes v mid → H from (test_moment w n here (Chooses e) e m) half →
     UnlessRefused r (H half (closing (if v then list_moments w n a.items mid else list_moments w n b.items mid)) late) →
     UnlessRefused r (H from (moments w n s m) late)
-branch_heard H on from half late w n line s e a b m mid v r is t h rest =
+branch_heard H on from half late w n here s e a b m mid v r is t h rest =
     let P : List Moment → Type 0 = λ ms. UnlessRefused r (H from ms late) in
-    subst P (sym (if_told w n line s e a b m is))
-    (first_goes H on {A = Bool} {B = Unit {0}} from half late (test_moment w n line (Chooses e) e m) (tested w n line e m)
+    subst P (sym (if_told w n here s e a b m is))
+    (first_goes H on {A = Bool} {B = Unit {0}} from half late (test_moment w n here (Chooses e) e m) (tested w n here.line e m)
     (λ z m. closing (if z then list_moments w n a.items m else list_moments w n b.items m)) v mid r t h rest)
 
-pub then_heard : {S : Type 0} (H : S → List Moment → S → Type 0) → HearsOn H → (from half late : S) (w : Checked) (n line : ℕ)
+pub then_heard : {S : Type 0} (H : S → List Moment → S → Type 0) → HearsOn H → (from half late : S) (w : Checked) (n : ℕ) (here : Location)
     (s : Statement) (e : Expression) (a b : Vec Statement Global) (m mid : State) (v : Bool) (r : Result (Unit {0}) Halt) →
-    s ≡ If line e a b → tested w n line e m ≡ Goes v mid → v ≡ true → H from (test_moment w n line (Chooses e) e m) half →
+    s ≡ If here e a b → tested w n here.line e m ≡ Goes v mid → v ≡ true → H from (test_moment w n here (Chooses e) e m) half →
     UnlessRefused r (H half (closing (list_moments w n a.items mid)) late) → UnlessRefused r (H from (moments w n s m) late)
-then_heard H on from half late w n line s e a b m mid v r is t z h rest =
+then_heard H on from half late w n here s e a b m mid v r is t z h rest =
     let P : Bool → Type 0 = λ v. UnlessRefused r (H half (closing (if v then list_moments w n a.items mid else
     list_moments w n b.items mid)) late) in
-    branch_heard H on from half late w n line s e a b m mid v r is t h (subst P (sym z) rest)
+    branch_heard H on from half late w n here s e a b m mid v r is t h (subst P (sym z) rest)
 
-pub else_heard : {S : Type 0} (H : S → List Moment → S → Type 0) → HearsOn H → (from half late : S) (w : Checked) (n line : ℕ)
+pub else_heard : {S : Type 0} (H : S → List Moment → S → Type 0) → HearsOn H → (from half late : S) (w : Checked) (n : ℕ) (here : Location)
     (s : Statement) (e : Expression) (a b : Vec Statement Global) (m mid : State) (v : Bool) (r : Result (Unit {0}) Halt) →
-    s ≡ If line e a b → tested w n line e m ≡ Goes v mid → v ≡ false → H from (test_moment w n line (Chooses e) e m) half →
+    s ≡ If here e a b → tested w n here.line e m ≡ Goes v mid → v ≡ false → H from (test_moment w n here (Chooses e) e m) half →
     UnlessRefused r (H half (closing (list_moments w n b.items mid)) late) → UnlessRefused r (H from (moments w n s m) late)
-else_heard H on from half late w n line s e a b m mid v r is t z h rest =
+else_heard H on from half late w n here s e a b m mid v r is t z h rest =
     let P : Bool → Type 0 = λ v. UnlessRefused r (H half (closing (if v then list_moments w n a.items mid else
     list_moments w n b.items mid)) late) in
-    branch_heard H on from half late w n line s e a b m mid v r is t h (subst P (sym z) rest)
+    branch_heard H on from half late w n here s e a b m mid v r is t h (subst P (sym z) rest)

@@ -3,6 +3,7 @@ use Rattle.std.proofs.Common.{true, false, ◌≡◌, ℕ, ◌+◌, ◌<◌, ◌
 use Rattle.std.proofs.Common.{length, get_or}
 use Rattle.std.proofs.lemmas.List.{append-nil, drop_more, drop_all}
 use Rattle.pram_check.specs.Checked.{Checked}
+use Rattle.pram_tokens.specs.declared.token.Location.{Location}
 use Rattle.pram_names.specs.declared.body.Expression.{Expression}
 use Rattle.pram_names.specs.declared.body.Step as step
 use Rattle.pram_names.specs.declared.body.Step.{Row_of-Step, Step, end_of-Step, items-the_row-Step, items_hidden-the_row-Step-0}
@@ -95,14 +96,14 @@ parts_halt_heard H A B from late ms b f halt.Bound m is h =
     let p : ms ++ behind b f ≡ ms = ap (λ b. ms ++ behind b f) is ∙ append-nil ms in rw p h
 parts_halt_heard H A B from late ms b f halt.OutOfMemory m is h = tt
 
-while_told : (w : Checked) (n line : ℕ) (s : Step) (e : Expression) (body : Vec Step Global) (vs : List ℕ) (m : State) →
-    s ≡ step.While line e body → inner_moments w n s vs m ≡ turns_on_moments (n + 1) (set_test_moment w n line (TurnsOn e) e)
-    (tested_on w n line e) (inner_list_moments w n body.items) (perform_list_on w n body.items) vs m
-while_told w n line s e body vs m is =
+while_told : (w : Checked) (n : ℕ) (here : Location) (s : Step) (e : Expression) (body : Vec Step Global) (vs : List ℕ) (m : State) →
+    s ≡ step.While here e body → inner_moments w n s vs m ≡ turns_on_moments (n + 1) (set_test_moment w n here (TurnsOn e) e)
+    (tested_on w n here.line e) (inner_list_moments w n body.items) (perform_list_on w n body.items) vs m
+while_told w n here s e body vs m is =
     ap (λ s. inner_moments w n s vs m) is
-    ∙ ap (λ f. turns_on_moments (n + 1) (set_test_moment w n line (TurnsOn e) e) (tested_on w n line e) f
+    ∙ ap (λ f. turns_on_moments (n + 1) (set_test_moment w n here (TurnsOn e) e) (tested_on w n here.line e) f
     (perform_row_on w n (hidden-the_row-Step-0 body)) vs m) (told_is w n body)
-    ∙ ap (λ f. turns_on_moments (n + 1) (set_test_moment w n line (TurnsOn e) e) (tested_on w n line e)
+    ∙ ap (λ f. turns_on_moments (n + 1) (set_test_moment w n here (TurnsOn e) e) (tested_on w n here.line e)
     (inner_list_moments w n body.items) f vs m) (block_is w n body)
 
 -- what is told of the branches of an `if`
@@ -110,80 +111,80 @@ abbrev branches : Checked → ℕ → List Step → List Step → List ℕ → L
 branches w n a b us ws m =
     inner_list_moments w n a us m ++ behind (perform_list_on w n a us m) (λ u. inner_list_moments w n b ws)
 
-if_told : (w : Checked) (n line : ℕ) (s : Step) (e : Expression) (a b : Vec Step Global) (vs : List ℕ) (m : State) →
-    s ≡ step.If line e a b → inner_moments w n s vs m ≡ set_test_moment w n line (ChoosesOn e) e vs m
-    ++ behind (tested_on w n line e vs m) (λ xs m. branches w n a.items b.items (those true xs) (those false xs) m)
-if_told w n line s e a b vs m is =
+if_told : (w : Checked) (n : ℕ) (here : Location) (s : Step) (e : Expression) (a b : Vec Step Global) (vs : List ℕ) (m : State) →
+    s ≡ step.If here e a b → inner_moments w n s vs m ≡ set_test_moment w n here (ChoosesOn e) e vs m
+    ++ behind (tested_on w n here.line e vs m) (λ xs m. branches w n a.items b.items (those true xs) (those false xs) m)
+if_told w n here s e a b vs m is =
     ap (λ s. inner_moments w n s vs m) is
-    ∙ ap (λ f. set_test_moment w n line (ChoosesOn e) e vs m ++ behind (tested_on w n line e vs m) (λ xs m. f (those true xs) m
+    ∙ ap (λ f. set_test_moment w n here (ChoosesOn e) e vs m ++ behind (tested_on w n here.line e vs m) (λ xs m. f (those true xs) m
     ++ behind (perform_row_on w n (hidden-the_row-Step-0 a) (those true xs) m)
     (λ u. inner_row_moments w n (hidden-the_row-Step-0 b) (those false xs)))) (told_is w n a)
-    ∙ ap (λ f. set_test_moment w n line (ChoosesOn e) e vs m ++ behind (tested_on w n line e vs m)
+    ∙ ap (λ f. set_test_moment w n here (ChoosesOn e) e vs m ++ behind (tested_on w n here.line e vs m)
     (λ xs m. inner_list_moments w n a.items (those true xs) m ++ behind (f (those true xs) m)
     (λ u. inner_row_moments w n (hidden-the_row-Step-0 b) (those false xs)))) (block_is w n a)
-    ∙ ap (λ f. set_test_moment w n line (ChoosesOn e) e vs m ++ behind (tested_on w n line e vs m)
+    ∙ ap (λ f. set_test_moment w n here (ChoosesOn e) e vs m ++ behind (tested_on w n here.line e vs m)
     (λ xs m. inner_list_moments w n a.items (those true xs) m ++ behind (perform_list_on w n a.items (those true xs) m)
     (λ u. f (those false xs)))) (told_is w n b)
 
-pub assign_heard : {S : Type 0} (H : S → List Moment → S → Type 0) (from late : S) (w : Checked) (n line : ℕ) (s : Step)
-    (x : StepTarget) (e : Expression) (vs : List ℕ) (m : State) (r : Result (Unit {0}) Halt) → s ≡ step.Assign line x e →
-    UnlessRefused r (H from (set_assign_moment w n line x e vs m) late) → UnlessRefused r (H from (inner_moments w n s vs m) late)
-assign_heard H from late w n line s x e vs m r is h = rw is h
+pub assign_heard : {S : Type 0} (H : S → List Moment → S → Type 0) (from late : S) (w : Checked) (n : ℕ) (here : Location) (s : Step)
+    (x : StepTarget) (e : Expression) (vs : List ℕ) (m : State) (r : Result (Unit {0}) Halt) → s ≡ step.Assign here x e →
+    UnlessRefused r (H from (set_assign_moment w n here x e vs m) late) → UnlessRefused r (H from (inner_moments w n s vs m) late)
+assign_heard H from late w n here s x e vs m r is h = rw is h
 
-pub while_heard : {S : Type 0} (H : S → List Moment → S → Type 0) (from late : S) (w : Checked) (n line : ℕ) (s : Step)
-    (e : Expression) (body : Vec Step Global) (vs : List ℕ) (m : State) (r : Result (Unit {0}) Halt) → s ≡ step.While line e body →
-    UnlessRefused r (H from (turns_on_moments (n + 1) (set_test_moment w n line (TurnsOn e) e) (tested_on w n line e)
+pub while_heard : {S : Type 0} (H : S → List Moment → S → Type 0) (from late : S) (w : Checked) (n : ℕ) (here : Location) (s : Step)
+    (e : Expression) (body : Vec Step Global) (vs : List ℕ) (m : State) (r : Result (Unit {0}) Halt) → s ≡ step.While here e body →
+    UnlessRefused r (H from (turns_on_moments (n + 1) (set_test_moment w n here (TurnsOn e) e) (tested_on w n here.line e)
     (inner_list_moments w n body.items) (perform_list_on w n body.items) vs m) late) →
     UnlessRefused r (H from (inner_moments w n s vs m) late)
-while_heard H from late w n line s e body vs m r is h =
-    let P : List Moment → Type 0 = λ ms. UnlessRefused r (H from ms late) in subst P (sym (while_told w n line s e body vs m is)) h
+while_heard H from late w n here s e body vs m r is h =
+    let P : List Moment → Type 0 = λ ms. UnlessRefused r (H from ms late) in subst P (sym (while_told w n here s e body vs m is)) h
 
-pub if_halts_heard : {S : Type 0} (H : S → List Moment → S → Type 0) (from late : S) (w : Checked) (n line : ℕ) (s : Step)
-    (e : Expression) (a b : Vec Step Global) (vs : List ℕ) (m new : State) (x : Halt) → s ≡ step.If line e a b →
-    IsParts (Err x) new (tested_on w n line e vs m) →
-    UnlessRefused {A = Vec part.Part.Part Global} (Err x) (H from (set_test_moment w n line (ChoosesOn e) e vs m) late) →
+pub if_halts_heard : {S : Type 0} (H : S → List Moment → S → Type 0) (from late : S) (w : Checked) (n : ℕ) (here : Location) (s : Step)
+    (e : Expression) (a b : Vec Step Global) (vs : List ℕ) (m new : State) (x : Halt) → s ≡ step.If here e a b →
+    IsParts (Err x) new (tested_on w n here.line e vs m) →
+    UnlessRefused {A = Vec part.Part.Part Global} (Err x) (H from (set_test_moment w n here (ChoosesOn e) e vs m) late) →
     UnlessRefused {A = Unit {0}} (Err x) (H from (inner_moments w n s vs m) late)
-if_halts_heard H from late w n line s e a b vs m new x is t h =
+if_halts_heard H from late w n here s e a b vs m new x is t h =
     let P : List Moment → Type 0 = λ ms. UnlessRefused {A = Unit {0}} (Err x) (H from ms late) in
-    subst P (sym (if_told w n line s e a b vs m is))
-    (parts_halt_heard H (Vec part.Part.Part Global) (Unit {0}) from late (set_test_moment w n line (ChoosesOn e) e vs m)
-    (tested_on w n line e vs m)
+    subst P (sym (if_told w n here s e a b vs m is))
+    (parts_halt_heard H (Vec part.Part.Part Global) (Unit {0}) from late (set_test_moment w n here (ChoosesOn e) e vs m)
+    (tested_on w n here.line e vs m)
     (λ xs m. branches w n a.items b.items (those true xs) (those false xs) m) x new t h)
 
 -- the test of an `if` was heard
-tested_heard : {S : Type 0} (H : S → List Moment → S → Type 0) → HearsOn H → (from half late : S) (w : Checked) (n line : ℕ) (s : Step)
+tested_heard : {S : Type 0} (H : S → List Moment → S → Type 0) → HearsOn H → (from half late : S) (w : Checked) (n : ℕ) (here : Location) (s : Step)
     (e : Expression) (a b : Vec Step Global) (vs us : List ℕ) (m mid : State) (xs : List Part) (r : Result (Unit {0}) Halt) →
-    s ≡ step.If line e a b → tested_on w n line e vs m ≡ Goes xs mid → us ≡ those true xs →
-    H from (set_test_moment w n line (ChoosesOn e) e vs m) half →
+    s ≡ step.If here e a b → tested_on w n here.line e vs m ≡ Goes xs mid → us ≡ those true xs →
+    H from (set_test_moment w n here (ChoosesOn e) e vs m) half →
     UnlessRefused r (H half (branches w n a.items b.items us (those false xs) mid) late) →
     UnlessRefused r (H from (inner_moments w n s vs m) late)
-tested_heard H on from half late w n line s e a b vs us m mid xs r is t u h rest =
+tested_heard H on from half late w n here s e a b vs us m mid xs r is t u h rest =
     let P : List Moment → Type 0 = λ ms. UnlessRefused r (H from ms late) in
     let Q : List ℕ → Type 0 = λ us. UnlessRefused r (H half (branches w n a.items b.items us (those false xs) mid) late) in
-    subst P (sym (if_told w n line s e a b vs m is))
-    (first_goes H on {A = List Part} {B = Unit {0}} from half late (set_test_moment w n line (ChoosesOn e) e vs m)
-    (tested_on w n line e vs m) (λ xs m. branches w n a.items b.items (those true xs) (those false xs) m) xs mid r t h (subst Q u rest))
+    subst P (sym (if_told w n here s e a b vs m is))
+    (first_goes H on {A = List Part} {B = Unit {0}} from half late (set_test_moment w n here (ChoosesOn e) e vs m)
+    (tested_on w n here.line e vs m) (λ xs m. branches w n a.items b.items (those true xs) (those false xs) m) xs mid r t h (subst Q u rest))
 
-pub if_then_halts_heard : {S : Type 0} (H : S → List Moment → S → Type 0) → HearsOn H → (from half late : S) (w : Checked) (n line : ℕ)
+pub if_then_halts_heard : {S : Type 0} (H : S → List Moment → S → Type 0) → HearsOn H → (from half late : S) (w : Checked) (n : ℕ) (here : Location)
     (s : Step) (e : Expression) (a b : Vec Step Global) (vs us : List ℕ) (m mid new : State) (xs : List Part) (x : Halt) →
-    s ≡ step.If line e a b → tested_on w n line e vs m ≡ Goes xs mid → us ≡ those true xs →
-    H from (set_test_moment w n line (ChoosesOn e) e vs m) half →
+    s ≡ step.If here e a b → tested_on w n here.line e vs m ≡ Goes xs mid → us ≡ those true xs →
+    H from (set_test_moment w n here (ChoosesOn e) e vs m) half →
     IsBehaviour {A = Unit {0}} (Err x) new (perform_list_on w n a.items us mid) →
     UnlessRefused {A = Unit {0}} (Err x) (H half (inner_list_moments w n a.items us mid) late) →
     UnlessRefused {A = Unit {0}} (Err x) (H from (inner_moments w n s vs m) late)
-if_then_halts_heard H on from half late w n line s e a b vs us m mid new xs x is t u h f told =
-    tested_heard H on from half late w n line s e a b vs us m mid xs (Err x) is t u h
+if_then_halts_heard H on from half late w n here s e a b vs us m mid new xs x is t u h f told =
+    tested_heard H on from half late w n here s e a b vs us m mid xs (Err x) is t u h
     (first_halts H {A = Unit {0}} (Unit {0}) half late (inner_list_moments w n a.items us mid) (perform_list_on w n a.items us mid)
     (λ u. inner_list_moments w n b.items (those false xs)) x new f told)
 
-pub if_goes_heard : {S : Type 0} (H : S → List Moment → S → Type 0) → HearsOn H → (from half then late : S) (w : Checked) (n line : ℕ)
+pub if_goes_heard : {S : Type 0} (H : S → List Moment → S → Type 0) → HearsOn H → (from half then late : S) (w : Checked) (n : ℕ) (here : Location)
     (s : Step) (e : Expression) (a b : Vec Step Global) (vs us ws : List ℕ) (m mid end : State) (xs : List Part)
-    (r : Result (Unit {0}) Halt) → s ≡ step.If line e a b → tested_on w n line e vs m ≡ Goes xs mid → us ≡ those true xs →
-    ws ≡ those false xs → H from (set_test_moment w n line (ChoosesOn e) e vs m) half →
+    (r : Result (Unit {0}) Halt) → s ≡ step.If here e a b → tested_on w n here.line e vs m ≡ Goes xs mid → us ≡ those true xs →
+    ws ≡ those false xs → H from (set_test_moment w n here (ChoosesOn e) e vs m) half →
     perform_list_on w n a.items us mid ≡ Goes tt end → H half (inner_list_moments w n a.items us mid) then →
     UnlessRefused r (H then (inner_list_moments w n b.items ws end) late) → UnlessRefused r (H from (inner_moments w n s vs m) late)
-if_goes_heard H on from half then late w n line s e a b vs us ws m mid end xs r is t u v h f told rest =
+if_goes_heard H on from half then late w n here s e a b vs us ws m mid end xs r is t u v h f told rest =
     let P : List ℕ → Type 0 = λ ws. UnlessRefused r (H then (inner_list_moments w n b.items ws end) late) in
-    tested_heard H on from half late w n line s e a b vs us m mid xs r is t u h
+    tested_heard H on from half late w n here s e a b vs us m mid xs r is t u h
     (first_goes H on {A = Unit {0}} {B = Unit {0}} half then late (inner_list_moments w n a.items us mid)
     (perform_list_on w n a.items us mid) (λ u. inner_list_moments w n b.items (those false xs)) tt end r f told (subst P v rest))

@@ -5,6 +5,7 @@ use Rattle.std.proofs.lemmas.List.{drop_more, drop_all}
 use Rattle.pram_meaning.specs.declared.run.Halt.TheVariants as halt
 use Rattle.pram_names.specs.declared.body.Step as step
 use Rattle.pram_check.specs.Checked.{Checked}
+use Rattle.pram_tokens.specs.declared.token.Location.{Location}
 use Rattle.pram_names.specs.declared.body.Expression.{Expression}
 use Rattle.pram_names.specs.declared.body.Step.{Row_of-Step, Step, end_of-Step, items-the_row-Step, items_hidden-the_row-Step-0}
 use Rattle.pram_names.specs.declared.body.Step.{more_of-Step}
@@ -89,61 +90,61 @@ block_ends w n items vs i start now b h = b.same ∙ ap (λ xs. perform_list_on 
 
 -- ---- a statement of each kind
 
-pub assign_arm : (w : Checked) (n line : ℕ) (s : Step) (x : StepTarget) (e : Expression) (vs : List ℕ) (m new : State)
-    (r : Result (Unit {0}) Halt) → s ≡ step.Assign line x e →
-    IsBehaviour r new (then_do (attempted_on w n line (λ s. attempt_step s x e) vs m) (λ xs m. Goes tt (assigned_by w x xs m))) →
+pub assign_arm : (w : Checked) (n : ℕ) (here : Location) (s : Step) (x : StepTarget) (e : Expression) (vs : List ℕ) (m new : State)
+    (r : Result (Unit {0}) Halt) → s ≡ step.Assign here x e →
+    IsBehaviour r new (then_do (attempted_on w n here.line (λ s. attempt_step s x e) vs m) (λ xs m. Goes tt (assigned_by w x xs m))) →
     IsBehaviour r new (perform_on w n s vs m)
-assign_arm w n line s x e vs m new r is h = rw is h
+assign_arm w n here s x e vs m new r is h = rw is h
 
-pub while_arm : (w : Checked) (n line : ℕ) (s : Step) (e : Expression) (body : Vec Step Global) (vs : List ℕ) (m new : State)
-    (r : Result (Unit {0}) Halt) → s ≡ step.While line e body →
-    IsBehaviour r new (turns_on (n + 1) (tested_on w n line e) (perform_list_on w n body.items) vs m) →
+pub while_arm : (w : Checked) (n : ℕ) (here : Location) (s : Step) (e : Expression) (body : Vec Step Global) (vs : List ℕ) (m new : State)
+    (r : Result (Unit {0}) Halt) → s ≡ step.While here e body →
+    IsBehaviour r new (turns_on (n + 1) (tested_on w n here.line e) (perform_list_on w n body.items) vs m) →
     IsBehaviour r new (perform_on w n s vs m)
-while_arm w n line s e body vs m new r is h =
+while_arm w n here s e body vs m new r is h =
     let P : Done → Type 0 = IsBehaviour r new in
-    subst P (sym (ap (λ s. perform_on w n s vs m) is ∙ ap (λ f. turns_on (n + 1) (tested_on w n line e) f vs m) (block_is w n body))) h
+    subst P (sym (ap (λ s. perform_on w n s vs m) is ∙ ap (λ f. turns_on (n + 1) (tested_on w n here.line e) f vs m) (block_is w n body))) h
 
-if_arm : (w : Checked) (n line : ℕ) (s : Step) (e : Expression) (a b : Vec Step Global) (vs : List ℕ) (m : State) → s ≡ step.If line e a b →
-    perform_on w n s vs m ≡ then_do (tested_on w n line e vs m) (λ xs m. then_do (perform_list_on w n a.items (those true xs) m)
+if_arm : (w : Checked) (n : ℕ) (here : Location) (s : Step) (e : Expression) (a b : Vec Step Global) (vs : List ℕ) (m : State) → s ≡ step.If here e a b →
+    perform_on w n s vs m ≡ then_do (tested_on w n here.line e vs m) (λ xs m. then_do (perform_list_on w n a.items (those true xs) m)
     (λ u. perform_list_on w n b.items (those false xs)))
-if_arm w n line s e a b vs m is =
+if_arm w n here s e a b vs m is =
     ap (λ s. perform_on w n s vs m) is
-    ∙ ap (λ f. then_do (tested_on w n line e vs m)
+    ∙ ap (λ f. then_do (tested_on w n here.line e vs m)
     (λ xs m. then_do (f (those true xs) m) (λ u. perform_row_on w n (hidden-the_row-Step-0 b) (those false xs)))) (block_is w n a)
-    ∙ ap (λ f. then_do (tested_on w n line e vs m) (λ xs m. then_do (perform_list_on w n a.items (those true xs) m)
+    ∙ ap (λ f. then_do (tested_on w n here.line e vs m) (λ xs m. then_do (perform_list_on w n a.items (those true xs) m)
     (λ u. f (those false xs)))) (block_is w n b)
 
-pub if_halts : (w : Checked) (n line : ℕ) (s : Step) (e : Expression) (a b : Vec Step Global) (vs : List ℕ) (m new : State) (h : Halt) →
-    s ≡ step.If line e a b → IsParts (Err h) new (tested_on w n line e vs m) → IsBehaviour {A = Unit {0}}
+pub if_halts : (w : Checked) (n : ℕ) (here : Location) (s : Step) (e : Expression) (a b : Vec Step Global) (vs : List ℕ) (m new : State) (h : Halt) →
+    s ≡ step.If here e a b → IsParts (Err h) new (tested_on w n here.line e vs m) → IsBehaviour {A = Unit {0}}
     (Err h) new (perform_on w n s vs m)
-if_halts w n line s e a b vs m new h is t =
-    rw (if_arm w n line s e a b vs m is)
-    (parts_halt h new (tested_on w n line e vs m) (λ xs m. then_do (perform_list_on w n a.items (those true xs) m)
+if_halts w n here s e a b vs m new h is t =
+    rw (if_arm w n here s e a b vs m is)
+    (parts_halt h new (tested_on w n here.line e vs m) (λ xs m. then_do (perform_list_on w n a.items (those true xs) m)
     (λ u. perform_list_on w n b.items (those false xs))) t)
 
-if_tested : (w : Checked) (n line : ℕ) (s : Step) (e : Expression) (a b : Vec Step Global) (vs us : List ℕ) (m mid : State)
-    (xs : List Part) → s ≡ step.If line e a b → tested_on w n line e vs m ≡ Goes xs mid → us ≡ those true xs →
+if_tested : (w : Checked) (n : ℕ) (here : Location) (s : Step) (e : Expression) (a b : Vec Step Global) (vs us : List ℕ) (m mid : State)
+    (xs : List Part) → s ≡ step.If here e a b → tested_on w n here.line e vs m ≡ Goes xs mid → us ≡ those true xs →
     perform_on w n s vs m ≡ then_do (perform_list_on w n a.items us mid) (λ u. perform_list_on w n b.items (those false xs))
-if_tested w n line s e a b vs us m mid xs is t u =
-    if_arm w n line s e a b vs m is
+if_tested w n here s e a b vs us m mid xs is t u =
+    if_arm w n here s e a b vs m is
     ∙ ap (λ y. then_do y (λ xs m. then_do (perform_list_on w n a.items (those true xs) m)
     (λ u. perform_list_on w n b.items (those false xs)))) t
     ∙ ap (λ us. then_do (perform_list_on w n a.items us mid) (λ u. perform_list_on w n b.items (those false xs))) (sym u)
 
-pub if_then_halts : (w : Checked) (n line : ℕ) (s : Step) (e : Expression) (a b : Vec Step Global) (vs us : List ℕ) (m mid new : State)
-    (xs : List Part) (h : Halt) → s ≡ step.If line e a b → tested_on w n line e vs m ≡ Goes xs mid → us ≡ those true xs →
+pub if_then_halts : (w : Checked) (n : ℕ) (here : Location) (s : Step) (e : Expression) (a b : Vec Step Global) (vs us : List ℕ) (m mid new : State)
+    (xs : List Part) (h : Halt) → s ≡ step.If here e a b → tested_on w n here.line e vs m ≡ Goes xs mid → us ≡ those true xs →
     IsBehaviour {A = Unit {0}} (Err h) new (perform_list_on w n a.items us mid) → IsBehaviour {A = Unit {0}}
     (Err h) new (perform_on w n s vs m)
-if_then_halts w n line s e a b vs us m mid new xs h is t u r =
-    rw (if_tested w n line s e a b vs us m mid xs is t u)
+if_then_halts w n here s e a b vs us m mid new xs h is t u r =
+    rw (if_tested w n here s e a b vs us m mid xs is t u)
     (halts h new (perform_list_on w n a.items us mid) (λ u. perform_list_on w n b.items (those false xs)) r)
 
-pub if_goes : (w : Checked) (n line : ℕ) (s : Step) (e : Expression) (a b : Vec Step Global) (vs us ws : List ℕ) (m mid late new : State)
-    (xs : List Part) (r : Result (Unit {0}) Halt) → s ≡ step.If line e a b → tested_on w n line e vs m ≡ Goes xs mid → us ≡ those true xs →
+pub if_goes : (w : Checked) (n : ℕ) (here : Location) (s : Step) (e : Expression) (a b : Vec Step Global) (vs us ws : List ℕ) (m mid late new : State)
+    (xs : List Part) (r : Result (Unit {0}) Halt) → s ≡ step.If here e a b → tested_on w n here.line e vs m ≡ Goes xs mid → us ≡ those true xs →
     ws ≡ those false xs → perform_list_on w n a.items us mid ≡ Goes tt late → IsBehaviour r new (perform_list_on w n b.items ws late) →
     IsBehaviour r new (perform_on w n s vs m)
-if_goes w n line s e a b vs us ws m mid late new xs r is t u v f g =
+if_goes w n here s e a b vs us ws m mid late new xs r is t u v f g =
     let P : Done → Type 0 = IsBehaviour r new in
-    subst P (sym (if_tested w n line s e a b vs us m mid xs is t u
+    subst P (sym (if_tested w n here s e a b vs us m mid xs is t u
     ∙ ap (λ y. then_do y (λ u. perform_list_on w n b.items (those false xs))) f
     ∙ ap (λ ws. perform_list_on w n b.items ws late) (sym v))) g

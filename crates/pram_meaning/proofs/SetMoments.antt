@@ -1,6 +1,7 @@
 -- A statement of a set, from its parts and its least fault.
 use Rattle.std.proofs.Common.{◌≡◌, ℕ, List, [], ◌∷◌, Option, Some, None, ap, sym, ◌∙◌, subst}
 use Rattle.pram_check.specs.Checked.{Checked}
+use Rattle.pram_tokens.specs.declared.token.Location.{Location}
 use Rattle.pram_meaning.specs.declared.key.Key.{Key}
 use Rattle.pram_meaning.specs.Attempt.{Attempt, Effect}
 use Rattle.pram_meaning.specs.Bounded.{Goes, Stops, attempted_on, counted, then_do, valued}
@@ -34,28 +35,28 @@ set_fails w n line a vs m mid new xs o k is kept same l some =
 
 -- ---- what is told of it
 
-told : (w : Checked) (n line : ℕ) (act : StepAction) (left : List Part → State → State) (a : View → Attempt Effect) (vs : List ℕ)
+told : (w : Checked) (n : ℕ) (here : Location) (act : StepAction) (left : List Part → State → State) (a : View → Attempt Effect) (vs : List ℕ)
     (m mid : State) (xs : List Part) (o : Option Key) → counted n m ≡ Goes tt mid → xs ≡ parts w mid a vs →
-    o ≡ least (keys w.rule xs) → set_moment w n line act left a vs m ≡ by_set line act left mid xs o ∷ []
-told w n line act left a vs m mid xs o is same l =
-    ap (λ b. behind b (λ u m. by_set line act left m (parts w m a vs) (least (keys w.rule (parts w m a vs))) ∷ [])) is
-    ∙ ap (λ xs. by_set line act left mid xs (least (keys w.rule xs)) ∷ []) (sym same)
-    ∙ ap (λ o. by_set line act left mid xs o ∷ []) (sym l)
+    o ≡ least (keys w.rule xs) → set_moment w n here act left a vs m ≡ by_set here act left mid xs o ∷ []
+told w n here act left a vs m mid xs o is same l =
+    ap (λ b. behind b (λ u m. by_set here act left m (parts w m a vs) (least (keys w.rule (parts w m a vs))) ∷ [])) is
+    ∙ ap (λ xs. by_set here act left mid xs (least (keys w.rule xs)) ∷ []) (sym same)
+    ∙ ap (λ o. by_set here act left mid xs o ∷ []) (sym l)
 
-pub told_goes : {S : Type 0} (H : S → List Moment → S → Type 0) (w : Checked) (n line : ℕ) (act : StepAction)
+pub told_goes : {S : Type 0} (H : S → List Moment → S → Type 0) (w : Checked) (n : ℕ) (here : Location) (act : StepAction)
     (left : List Part → State → State) (a : View → Attempt Effect) (vs : List ℕ) (m mid new : State) (xs : List Part) (o : Option Key)
     (from late : S) → counted n m ≡ Goes tt mid → new ≡ mid → xs ≡ parts w mid a vs → o ≡ least (keys w.rule xs) → o ≡ None →
-    H from (Together line act new xs None (left xs new) ∷ []) late → H from (set_moment w n line act left a vs m) late
-told_goes H w n line act left a vs m mid new xs o from late is kept same l none h =
+    H from (Together here act new xs None (left xs new) ∷ []) late → H from (set_moment w n here act left a vs m) late
+told_goes H w n here act left a vs m mid new xs o from late is kept same l none h =
     let P : List Moment → Type 0 = λ ms. H from ms late in
-    subst P (sym (told w n line act left a vs m mid xs o is same l ∙ ap (λ o. by_set line act left mid xs o ∷ []) none
-    ∙ ap (λ m. Together line act m xs None (left xs m) ∷ []) (sym kept))) h
+    subst P (sym (told w n here act left a vs m mid xs o is same l ∙ ap (λ o. by_set here act left mid xs o ∷ []) none
+    ∙ ap (λ m. Together here act m xs None (left xs m) ∷ []) (sym kept))) h
 
-pub told_fails : {S : Type 0} (H : S → List Moment → S → Type 0) (w : Checked) (n line : ℕ) (act : StepAction)
+pub told_fails : {S : Type 0} (H : S → List Moment → S → Type 0) (w : Checked) (n : ℕ) (here : Location) (act : StepAction)
     (left : List Part → State → State) (a : View → Attempt Effect) (vs : List ℕ) (m mid new : State) (xs : List Part) (o : Option Key)
     (k : Key) (from late : S) → counted n m ≡ Goes tt mid → new ≡ mid → xs ≡ parts w mid a vs → o ≡ least (keys w.rule xs) →
-    o ≡ Some k → H from (Together line act new xs (Some k) new ∷ []) late → H from (set_moment w n line act left a vs m) late
-told_fails H w n line act left a vs m mid new xs o k from late is kept same l some h =
+    o ≡ Some k → H from (Together here act new xs (Some k) new ∷ []) late → H from (set_moment w n here act left a vs m) late
+told_fails H w n here act left a vs m mid new xs o k from late is kept same l some h =
     let P : List Moment → Type 0 = λ ms. H from ms late in
-    subst P (sym (told w n line act left a vs m mid xs o is same l ∙ ap (λ o. by_set line act left mid xs o ∷ []) some
-    ∙ ap (λ m. Together line act m xs (Some k) m ∷ []) (sym kept))) h
+    subst P (sym (told w n here act left a vs m mid xs o is same l ∙ ap (λ o. by_set here act left mid xs o ∷ []) some
+    ∙ ap (λ m. Together here act m xs (Some k) m ∷ []) (sym kept))) h

@@ -252,20 +252,20 @@ module _ (p : Checked) (n : ℕ) (names : Names) where
 
   mutual
     perform_on_goes : (x : Step) → IsStep names x → (vs : List ℕ) (m : State) → HasValues m → IfGoes IsDone (perform_on p n x vs m)
-    perform_on_goes (step.Assign line x e) h vs m g =
-        goes_then (AllByRecursion IsPart) IsDone (attempted_on p n line (λ s. attempt_step s x e) vs m)
+    perform_on_goes (step.Assign here x e) h vs m g =
+        goes_then (AllByRecursion IsPart) IsDone (attempted_on p n here.line (λ s. attempt_step s x e) vs m)
         (λ xs m. Goes tt (assigned_by p x xs m))
-        (attempted_goes p n line (λ s. attempt_step s x e) vs m g (λ s i. step_gives names s i x e h))
+        (attempted_goes p n here.line (λ s. attempt_step s x e) vs m g (λ s i. step_gives names s i x e h))
         (λ xs m i j. (tt, assigned_by_has p x xs m i j))
-    perform_on_goes (step.If' line e q a r b) h vs m g =
-        goes_then (AllByRecursion IsPart) IsDone (tested_on p n line e vs m)
+    perform_on_goes (step.If' here e q a r b) h vs m g =
+        goes_then (AllByRecursion IsPart) IsDone (tested_on p n here.line e vs m)
         (λ xs m. then_do (perform_row_on p n a (those true xs) m) (λ u. perform_row_on p n b (those false xs)))
-        (tested_on_goes line e h.0.0 vs m g)
+        (tested_on_goes here.line e h.0.0 vs m g)
         (λ xs m i j. goes_then IsDone IsDone (perform_row_on p n a (those true xs) m) (λ u. perform_row_on p n b (those false xs))
         (row_on_goes a h.1 (those true xs) m j)
         (λ u m k l. row_on_goes b h.2 (those false xs) m l))
-    perform_on_goes (step.While' line e q body) h vs m g =
-        turns_on_goes (n + 1) (tested_on p n line e) (perform_row_on p n body) (λ vs m i. tested_on_goes line e h.0.0 vs m i)
+    perform_on_goes (step.While' here e q body) h vs m g =
+        turns_on_goes (n + 1) (tested_on p n here.line e) (perform_row_on p n body) (λ vs m i. tested_on_goes here.line e h.0.0 vs m i)
         (λ vs m i. row_on_goes body h.1 vs m i) vs m g
 
     row_on_goes : {k : _} (xs : Row_of-Step k) → ArePartSteps names xs → (vs : List ℕ) (m : State) → HasValues m →
@@ -331,14 +331,14 @@ module _ (p : Checked) (n : ℕ) where
 
     mutual
       perform_goes : (x : Statement) → IsStatement names x → (m : State) → HasValues m → IfGoes IsDone (perform p n x m)
-      perform_goes (Assign line x e) h m g =
-          goes_then (λ g. IsValue g.value) IsDone (evaluated n line (λ m. attempt_assign (seen p m) x e) m)
+      perform_goes (Assign here x e) h m g =
+          goes_then (λ g. IsValue g.value) IsDone (evaluated n here.line (λ m. attempt_assign (seen p m) x e) m)
           (λ g m. Goes tt (assigned x g m))
-          (evaluated_goes (λ g. IsValue g.value) n line (λ m. attempt_assign (seen p m) x e) m g
+          (evaluated_goes (λ g. IsValue g.value) n here.line (λ m. attempt_assign (seen p m) x e) m g
           (λ m i. assign_gives names (seen p m) (sees_one p m i) x e h))
           (λ f m i j. (tt, assigned_has x f m i j))
-      perform_goes (Print line e) h m g =
-          goes_then IsValue IsDone (found p n line e m) (λ v m. Goes tt (printed v m)) (found_goes line e h.0 m g)
+      perform_goes (Print here e) h m g =
+          goes_then IsValue IsDone (found p n here.line e m) (λ v m. Goes tt (printed v m)) (found_goes here.line e h.0 m g)
           (λ v m i j. (
             tt,
             record {
@@ -349,23 +349,23 @@ module _ (p : Checked) (n : ℕ) where
               team = j.team;
             },
           ))
-      perform_goes (While' line e q body) h m g =
-          turns_goes (n + 1) (tested p n line e) (perform_row p n body) (λ m i. tested_goes line e h.0.0 m i)
+      perform_goes (While' here e q body) h m g =
+          turns_goes (n + 1) (tested p n here.line e) (perform_row p n body) (λ m i. tested_goes here.line e h.0.0 m i)
           (λ m i. row_goes body h.1 m i) m g
-      perform_goes (If' line e q a r b) h m g =
-          goes_then IsAny IsDone (tested p n line e m) (λ z m. if z then perform_row p n a m else perform_row p n b m)
-          (tested_goes line e h.0.0 m g)
+      perform_goes (If' here e q a r b) h m g =
+          goes_then IsAny IsDone (tested p n here.line e m) (λ z m. if z then perform_row p n a m else perform_row p n b m)
+          (tested_goes here.line e h.0.0 m g)
           (λ z m i j. either z (perform_row p n a m) (perform_row p n b m) (row_goes a h.1 m j) (row_goes b h.2 m j))
-      perform_goes (For' line x e f q body) h m g =
-          goes_then _ IsDone (evaluated n line (λ m. attempt_bounds (seen p m) e f) m)
+      perform_goes (For' here x e f q body) h m g =
+          goes_then _ IsDone (evaluated n here.line (λ m. attempt_bounds (seen p m) e f) m)
           (λ r. for_turns n (width r.0 r.1) x r.0 (perform_row p n body))
-          (evaluated_goes (λ (r : ℤ × ℤ). AreNumbers r.0 (width r.0 r.1)) n line (λ m. attempt_bounds (seen p m) e f) m g
+          (evaluated_goes (λ (r : ℤ × ℤ). AreNumbers r.0 (width r.0 r.1)) n here.line (λ m. attempt_bounds (seen p m) e f) m g
           (λ m i. bounds_give names (seen p m) (sees_one p m i) e f h.1.0 h.1.1))
           (λ r m i j. for_goes n (width r.0 r.1) x r.0 (perform_row p n body) i (λ m k. row_goes body h.2 m k) m j)
-      perform_goes (Pardo line e f locals body) h m g =
-          goes_then _ IsDone (evaluated n line (λ m. attempt_range p.procs (seen p m) e f) m)
+      perform_goes (Pardo here e f locals body) h m g =
+          goes_then _ IsDone (evaluated n here.line (λ m. attempt_range p.procs (seen p m) e f) m)
           (λ r. pardo_done p n locals body.items r.0 r.1)
-          (evaluated_goes (λ (r : ℤ × ℕ). AreNumbers r.0 r.1) n line (λ m. attempt_range p.procs (seen p m) e f) m g
+          (evaluated_goes (λ (r : ℤ × ℕ). AreNumbers r.0 r.1) n here.line (λ m. attempt_range p.procs (seen p m) e f) m g
           (λ m i. range_gives names (seen p m) (sees_one p m i) p.procs e f h.0.0 h.0.1))
           (λ r m i j. pardo_goes (with_locals locals names) locals body.items r.0 r.1 h.1 i m j)
 

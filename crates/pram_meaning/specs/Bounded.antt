@@ -93,11 +93,11 @@ assign_on p n line x e vs m =
 abbrev mutual
   -- a statement inside pardo, on the members vs
   pub perform_on : Checked → ℕ → Step → List ℕ → State → Done
-  perform_on p n (step.Assign line x e) vs m = assign_on p n line x e vs m
-  perform_on p n (step.If' line e q then_part r else_part) vs m =
-      then_do (tested_on p n line e vs m) (λ xs m.
+  perform_on p n (step.Assign here x e) vs m = assign_on p n here.line x e vs m
+  perform_on p n (step.If' here e q then_part r else_part) vs m =
+      then_do (tested_on p n here.line e vs m) (λ xs m.
       then_do (perform_row_on p n then_part (those true xs) m) (λ u. perform_row_on p n else_part (those false xs)))
-  perform_on p n (step.While' line e q body) vs m = turns_on (n + 1) (tested_on p n line e) (perform_row_on p n body) vs m
+  perform_on p n (step.While' here e q body) vs m = turns_on (n + 1) (tested_on p n here.line e) (perform_row_on p n body) vs m
 
   -- statements in order
   pub perform_row_on : Checked → ℕ → {k : _} → Row_of-Step k → List ℕ → State → Done
@@ -134,13 +134,13 @@ pardo p n line e f locals body m =
 abbrev mutual
   -- a statement outside pardo
   pub perform : Checked → ℕ → Statement → State → Done
-  perform p n (Assign line x e) m = assign p n line x e m
-  perform p n (Print line e) m = print p n line e m
-  perform p n (While' line e q body) m = turns (n + 1) (tested p n line e) (perform_row p n body) m
-  perform p n (If' line e q then_part r else_part) m =
-      then_do (tested p n line e m) (λ b m. if b then perform_row p n then_part m else perform_row p n else_part m)
-  perform p n (For' line x e f q body) m = for_all p n line x e f (perform_row p n body) m
-  perform p n (Pardo line e f locals body) m = pardo p n line e f locals body.items m
+  perform p n (Assign here x e) m = assign p n here.line x e m
+  perform p n (Print here e) m = print p n here.line e m
+  perform p n (While' here e q body) m = turns (n + 1) (tested p n here.line e) (perform_row p n body) m
+  perform p n (If' here e q then_part r else_part) m =
+      then_do (tested p n here.line e m) (λ b m. if b then perform_row p n then_part m else perform_row p n else_part m)
+  perform p n (For' here x e f q body) m = for_all p n here.line x e f (perform_row p n body) m
+  perform p n (Pardo here e f locals body) m = pardo p n here.line e f locals body.items m
 
   -- statements in order
   pub perform_row : Checked → ℕ → {k : _} → Row_of-Statement k → State → Done

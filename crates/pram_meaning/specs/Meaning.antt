@@ -96,13 +96,13 @@ TurnsOn (suc k) Test Body vs m =
 abbrev mutual
   -- a statement inside pardo, on the members vs
   pub MeansOn : Checked → Step → List ℕ → State → Does
-  MeansOn p (step.Assign line x e) vs m =
-      Then (List Part) (Unit {0}) (AttemptedOn p line (λ s. attempt_step s x e) vs m) (λ xs m. IsEnd tt (assigned_by p x xs m))
-  MeansOn p (step.If' line e q then_part r else_part) vs m =
-      Then (List Part) (Unit {0}) (AttemptedOn p line (λ s. attempt_value s e) vs m) (λ xs m.
+  MeansOn p (step.Assign here x e) vs m =
+      Then (List Part) (Unit {0}) (AttemptedOn p here.line (λ s. attempt_step s x e) vs m) (λ xs m. IsEnd tt (assigned_by p x xs m))
+  MeansOn p (step.If' here e q then_part r else_part) vs m =
+      Then (List Part) (Unit {0}) (AttemptedOn p here.line (λ s. attempt_value s e) vs m) (λ xs m.
       Then (Unit {0}) (Unit {0}) (MeansRowOn p then_part (those true xs) m) (λ u. MeansRowOn p else_part (those false xs)))
-  MeansOn p (step.While' line e q body) vs m = λ f. (k : ℕ)
-      × TurnsOn k (AttemptedOn p line (λ s. attempt_value s e)) (MeansRowOn p body) vs m f
+  MeansOn p (step.While' here e q body) vs m = λ f. (k : ℕ)
+      × TurnsOn k (AttemptedOn p here.line (λ s. attempt_value s e)) (MeansRowOn p body) vs m f
 
   -- statements in order
   pub MeansRowOn : Checked → {k : _} → Row_of-Step k → List ℕ → State → Does
@@ -122,17 +122,17 @@ PardoDone p locals body a k m =
 abbrev mutual
   -- a statement outside pardo
   pub Means : Checked → Statement → State → Does
-  Means p (Assign line x e) m = Then Effect (Unit {0}) (Evaluated line (λ m. attempt_assign (seen p m) x e) m)
+  Means p (Assign here x e) m = Then Effect (Unit {0}) (Evaluated here.line (λ m. attempt_assign (seen p m) x e) m)
       (λ g m. IsEnd tt (assigned x g m))
-  Means p (Print line e) m = Then ℤ (Unit {0}) (Evaluated line (λ m. attempt (seen p m) e []) m) (λ v m. IsEnd tt (printed v m))
-  Means p (While' line e q body) m = λ f. (k : ℕ) × Turns k (Tested p line e) (MeansRow p body) m f
-  Means p (If' line e q then_part r else_part) m =
-      Then Bool (Unit {0}) (Tested p line e m) (λ z m. Either z (MeansRow p then_part m) (MeansRow p else_part m))
-  Means p (For' line x e f q body) m =
-      Then (ℤ × ℤ) (Unit {0}) (Evaluated line (λ m. attempt_bounds (seen p m) e f) m)
+  Means p (Print here e) m = Then ℤ (Unit {0}) (Evaluated here.line (λ m. attempt (seen p m) e []) m) (λ v m. IsEnd tt (printed v m))
+  Means p (While' here e q body) m = λ f. (k : ℕ) × Turns k (Tested p here.line e) (MeansRow p body) m f
+  Means p (If' here e q then_part r else_part) m =
+      Then Bool (Unit {0}) (Tested p here.line e m) (λ z m. Either z (MeansRow p then_part m) (MeansRow p else_part m))
+  Means p (For' here x e f q body) m =
+      Then (ℤ × ℤ) (Unit {0}) (Evaluated here.line (λ m. attempt_bounds (seen p m) e f) m)
       (λ r. ForTurns (width r.0 r.1) x r.0 (MeansRow p body))
-  Means p (Pardo line e f locals body) m =
-      Then (ℤ × ℕ) (Unit {0}) (Evaluated line (λ m. attempt_range p.procs (seen p m) e f) m) (λ r. PardoDone p locals body.items r.0 r.1)
+  Means p (Pardo here e f locals body) m =
+      Then (ℤ × ℕ) (Unit {0}) (Evaluated here.line (λ m. attempt_range p.procs (seen p m) e f) m) (λ r. PardoDone p locals body.items r.0 r.1)
 
   -- statements in order
   pub MeansRow : Checked → {k : _} → Row_of-Statement k → State → Does

@@ -4,6 +4,7 @@
 -- work-time presentation). What counts as one statement is this project's own profile.
 use Rattle.std.specs.Prelude.{ℕ, zero, suc, ◌+◌, List, [], ◌∷◌, ◌++◌, Bool, true, false, if◌then◌else◌, Option, Some, None, ℤ, pos, ◌+ℤ◌}
 use Rattle.pram_model.specs.Layout.{width}
+use Rattle.pram_tokens.specs.declared.token.Location.{Location}
 use Rattle.pram_check.specs.Checked.{Checked}
 use Rattle.pram_names.specs.declared.body.Expression.{Expression}
 use Rattle.pram_names.specs.declared.body.Statement.{Statement, Assign, Print, While', If', For', Pardo, Row_of-Statement, end_of-Statement}
@@ -39,12 +40,12 @@ pub data StepAction : Type 0 where
   TurnsOn : Expression → StepAction
   ChoosesOn : Expression → StepAction
 
--- A statement of the one processor outside pardo: its line, what it does, the state before it, in which it counts, the attempt with the
+-- A statement of the one processor outside pardo: where it stands, what it does, the state before it, in which it counts, the attempt with the
 -- cell that it writes, and the state behind it. Or one of a set: the parts of its members, its least fault, if there is one, and the state
 -- behind it. Or the end of a branch of an `if`, or of a turn of a `for`. Behind a fault the state is the one before it.
 pub data Moment : Type 0 where
-  Alone : (line : ℕ) → Action → (before : State) → Attempt (Option ℕ) → (behind : State) → Moment
-  Together : (line : ℕ) → StepAction → (before : State) → List Part → Option Key → (behind : State) → Moment
+  Alone : (here : Location) → Action → (before : State) → Attempt (Option ℕ) → (behind : State) → Moment
+  Together : (here : Location) → StepAction → (before : State) → List Part → Option Key → (behind : State) → Moment
   Closed : Moment
 
 -- those behind a part of a run that goes on
@@ -81,47 +82,47 @@ abbrev pub left_by : {A : Type 0} → (A → State → State) → Attempt A → 
 left_by left (Gives t a) m = left a m
 left_by left (Fails t k) m = m
 
-abbrev pub alone_moment : {A : Type 0} → ℕ → ℕ → Action → (A → Option ℕ) → (A → State → State) → (State → Attempt A) → State → List Moment
-alone_moment n line act write left a m = begun n m (λ m. Alone line act m (writing write (a m)) (left_by left (a m) m))
+abbrev pub alone_moment : {A : Type 0} → ℕ → Location → Action → (A → Option ℕ) → (A → State → State) → (State → Attempt A) → State → List Moment
+alone_moment n here act write left a m = begun n m (λ m. Alone here act m (writing write (a m)) (left_by left (a m) m))
 
 -- that of a test
-abbrev pub test_moment : Checked → ℕ → ℕ → Action → Expression → State → List Moment
-test_moment p n line act e = alone_moment n line act nowhere unchanged (λ m. attempt (seen p m) e [])
+abbrev pub test_moment : Checked → ℕ → Location → Action → Expression → State → List Moment
+test_moment p n here act e = alone_moment n here act nowhere unchanged (λ m. attempt (seen p m) e [])
 
 -- that of a print
-abbrev pub print_moment : Checked → ℕ → ℕ → Expression → State → List Moment
-print_moment p n line e = alone_moment n line (Prints e) nowhere printed (λ m. attempt (seen p m) e [])
+abbrev pub print_moment : Checked → ℕ → Location → Expression → State → List Moment
+print_moment p n here e = alone_moment n here (Prints e) nowhere printed (λ m. attempt (seen p m) e [])
 
 -- that of an assignment
-abbrev pub assign_moment : Checked → ℕ → ℕ → Target → Expression → State → List Moment
-assign_moment p n line x e = alone_moment n line (Assigns x e) goes_to (assigned x) (λ m. attempt_assign (seen p m) x e)
+abbrev pub assign_moment : Checked → ℕ → Location → Target → Expression → State → List Moment
+assign_moment p n here x e = alone_moment n here (Assigns x e) goes_to (assigned x) (λ m. attempt_assign (seen p m) x e)
 
 -- that of the bounds of a `for`
-abbrev pub bounds_moment : Checked → ℕ → ℕ → Expression → Expression → State → List Moment
-bounds_moment p n line e f = alone_moment n line (Bounds e f) nowhere unchanged (λ m. attempt_bounds (seen p m) e f)
+abbrev pub bounds_moment : Checked → ℕ → Location → Expression → Expression → State → List Moment
+bounds_moment p n here e f = alone_moment n here (Bounds e f) nowhere unchanged (λ m. attempt_bounds (seen p m) e f)
 
 -- that of the setting of its variable
-abbrev pub setting_moment : ℕ → (line x : ℕ) → ℤ → State → List Moment
-setting_moment n line x a m = begun n m (λ m. Alone line (Sets x) m (Gives [] None) (with_uniform x a m))
+abbrev pub setting_moment : ℕ → Location → (x : ℕ) → ℤ → State → List Moment
+setting_moment n here x a m = begun n m (λ m. Alone here (Sets x) m (Gives [] None) (with_uniform x a m))
 
 -- that of the range of a pardo
-abbrev pub range_moment : Checked → ℕ → ℕ → Expression → Expression → State → List Moment
-range_moment p n line e f = alone_moment n line (Ranges e f) nowhere unchanged (λ m. attempt_range p.procs (seen p m) e f)
+abbrev pub range_moment : Checked → ℕ → Location → Expression → Expression → State → List Moment
+range_moment p n here e f = alone_moment n here (Ranges e f) nowhere unchanged (λ m. attempt_range p.procs (seen p m) e f)
 
 -- ---- inside pardo: a set of processors acts
 
-abbrev pub by_set : ℕ → StepAction → (List Part → State → State) → State → List Part → Option Key → Moment
-by_set line act left m xs None = Together line act m xs None (left xs m)
-by_set line act left m xs (Some k) = Together line act m xs (Some k) m
+abbrev pub by_set : Location → StepAction → (List Part → State → State) → State → List Part → Option Key → Moment
+by_set here act left m xs None = Together here act m xs None (left xs m)
+by_set here act left m xs (Some k) = Together here act m xs (Some k) m
 
-abbrev pub set_moment : Checked → ℕ → ℕ → StepAction → (List Part → State → State) → (View → Attempt Effect) → List ℕ → State → List Moment
-set_moment p n line act left a vs m = begun n m (λ m. by_set line act left m (parts p m a vs) (least (keys p.rule (parts p m a vs))))
+abbrev pub set_moment : Checked → ℕ → Location → StepAction → (List Part → State → State) → (View → Attempt Effect) → List ℕ → State → List Moment
+set_moment p n here act left a vs m = begun n m (λ m. by_set here act left m (parts p m a vs) (least (keys p.rule (parts p m a vs))))
 
-abbrev pub set_test_moment : Checked → ℕ → ℕ → StepAction → Expression → List ℕ → State → List Moment
-set_test_moment p n line act e = set_moment p n line act unchanged (λ s. attempt_value s e)
+abbrev pub set_test_moment : Checked → ℕ → Location → StepAction → Expression → List ℕ → State → List Moment
+set_test_moment p n here act e = set_moment p n here act unchanged (λ s. attempt_value s e)
 
-abbrev pub set_assign_moment : Checked → ℕ → ℕ → StepTarget → Expression → List ℕ → State → List Moment
-set_assign_moment p n line x e = set_moment p n line (AssignsOn x e) (assigned_by p x) (λ s. attempt_step s x e)
+abbrev pub set_assign_moment : Checked → ℕ → Location → StepTarget → Expression → List ℕ → State → List Moment
+set_assign_moment p n here x e = set_moment p n here (AssignsOn x e) (assigned_by p x) (λ s. attempt_step s x e)
 
 abbrev pub if_any : List ℕ → List Moment → List Moment
 if_any [] ms = []
@@ -138,13 +139,13 @@ turns_on_moments (suc k) head test inside body vs m =
 abbrev mutual
   -- those of a statement inside pardo, on the members vs: one of nobody is a moment too
   pub inner_moments : Checked → ℕ → Step → List ℕ → State → List Moment
-  inner_moments p n (step.Assign line x e) vs m = set_assign_moment p n line x e vs m
-  inner_moments p n (step.If' line e q then_part r else_part) vs m =
-      set_test_moment p n line (ChoosesOn e) e vs m ++ behind (tested_on p n line e vs m) (λ xs m.
+  inner_moments p n (step.Assign here x e) vs m = set_assign_moment p n here x e vs m
+  inner_moments p n (step.If' here e q then_part r else_part) vs m =
+      set_test_moment p n here (ChoosesOn e) e vs m ++ behind (tested_on p n here.line e vs m) (λ xs m.
       inner_row_moments p n then_part (those true xs) m
       ++ behind (perform_row_on p n then_part (those true xs) m) (λ u. inner_row_moments p n else_part (those false xs)))
-  inner_moments p n (step.While' line e q body) vs m =
-      turns_on_moments (n + 1) (set_test_moment p n line (TurnsOn e) e) (tested_on p n line e) (inner_row_moments p n body)
+  inner_moments p n (step.While' here e q body) vs m =
+      turns_on_moments (n + 1) (set_test_moment p n here (TurnsOn e) e) (tested_on p n here.line e) (inner_row_moments p n body)
       (perform_row_on p n body) vs m
 
   -- those of statements in order
@@ -172,36 +173,36 @@ abbrev pub closing : List Moment → List Moment
 closing ms = ms ++ Closed ∷ []
 
 -- those of the turns of a `for`: setting its variable is one each time
-abbrev pub for_turns_moments : ℕ → ℕ → ℕ → ℕ → ℤ → (State → List Moment) → (State → Done) → State → List Moment
-for_turns_moments n line zero x a inside body m = []
-for_turns_moments n line (suc k) x a inside body m =
-    setting_moment n line x a m ++ behind (counted n m) (λ u m. closing (inside (with_uniform x a m))
-    ++ behind (body (with_uniform x a m)) (λ u. for_turns_moments n line k x (a +ℤ pos 1) inside body))
+abbrev pub for_turns_moments : ℕ → Location → ℕ → ℕ → ℤ → (State → List Moment) → (State → Done) → State → List Moment
+for_turns_moments n here zero x a inside body m = []
+for_turns_moments n here (suc k) x a inside body m =
+    setting_moment n here x a m ++ behind (counted n m) (λ u m. closing (inside (with_uniform x a m))
+    ++ behind (body (with_uniform x a m)) (λ u. for_turns_moments n here k x (a +ℤ pos 1) inside body))
 
-abbrev pub for_moments : Checked → ℕ → (line x : ℕ) → Expression → Expression → (State → List Moment) → (State → Done) → State →
+abbrev pub for_moments : Checked → ℕ → Location → (x : ℕ) → Expression → Expression → (State → List Moment) → (State → Done) → State →
     List Moment
-for_moments p n line x e f inside body m =
-    bounds_moment p n line e f m
-    ++ behind (evaluated n line (λ m. attempt_bounds (seen p m) e f) m) (λ r. for_turns_moments n line (width r.0 r.1) x r.0 inside body)
+for_moments p n here x e f inside body m =
+    bounds_moment p n here e f m
+    ++ behind (evaluated n here.line (λ m. attempt_bounds (seen p m) e f) m) (λ r. for_turns_moments n here (width r.0 r.1) x r.0 inside body)
 
-abbrev pub pardo_moments : Checked → ℕ → ℕ → Expression → Expression → ℕ → List Step → State → List Moment
-pardo_moments p n line e f locals body m =
-    range_moment p n line e f m
-    ++ behind (evaluated n line (λ m. attempt_range p.procs (seen p m) e f) m) (λ r m.
+abbrev pub pardo_moments : Checked → ℕ → Location → Expression → Expression → ℕ → List Step → State → List Moment
+pardo_moments p n here e f locals body m =
+    range_moment p n here e f m
+    ++ behind (evaluated n here.line (λ m. attempt_range p.procs (seen p m) e f) m) (λ r m.
     inner_list_moments p n body (numbers 0 r.1) (with_team r.0 r.1 locals m))
 
 abbrev mutual
   -- those of a statement outside pardo
   pub moments : Checked → ℕ → Statement → State → List Moment
-  moments p n (Assign line x e) m = assign_moment p n line x e m
-  moments p n (Print line e) m = print_moment p n line e m
-  moments p n (While' line e q body) m =
-      turns_moments (n + 1) (test_moment p n line (Turns e) e) (tested p n line e) (row_moments p n body) (perform_row p n body) m
-  moments p n (If' line e q then_part r else_part) m =
-      test_moment p n line (Chooses e) e m ++ behind (tested p n line e m) (λ b m.
+  moments p n (Assign here x e) m = assign_moment p n here x e m
+  moments p n (Print here e) m = print_moment p n here e m
+  moments p n (While' here e q body) m =
+      turns_moments (n + 1) (test_moment p n here (Turns e) e) (tested p n here.line e) (row_moments p n body) (perform_row p n body) m
+  moments p n (If' here e q then_part r else_part) m =
+      test_moment p n here (Chooses e) e m ++ behind (tested p n here.line e m) (λ b m.
       closing (if b then row_moments p n then_part m else row_moments p n else_part m))
-  moments p n (For' line x e f q body) m = for_moments p n line x e f (row_moments p n body) (perform_row p n body) m
-  moments p n (Pardo line e f locals body) m = pardo_moments p n line e f locals body.items m
+  moments p n (For' here x e f q body) m = for_moments p n here x e f (row_moments p n body) (perform_row p n body) m
+  moments p n (Pardo here e f locals body) m = pardo_moments p n here e f locals body.items m
 
   -- those of statements in order
   pub row_moments : Checked → ℕ → {k : _} → Row_of-Statement k → State → List Moment

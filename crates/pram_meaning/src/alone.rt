@@ -18,6 +18,7 @@ use crate::listener::Listener;
 use crate::run::{Halt, Run, set_number};
 use crate::view::View;
 use pram_check::{Expression, Program, Target};
+use pram_tokens::Location;
 use pram_values::{Kind, Place};
 use write_rules::Fault;
 
@@ -36,12 +37,12 @@ fn view_of<'a>(program: &'a Program, run: &'a Run, no_locals: &'a Vec<i64>) -> V
 }
 
 // A fault of the one processor.
-fn fault_at(kind: Kind, line: u32) -> Halt
-    ensures { result ≡ Halt.Fault (record { kind = kind; line = line; place = Place.All }) }
+fn fault_at(kind: Kind, location: Location) -> Halt
+    ensures { result ≡ Halt.Fault (record { kind = kind; line = location.line; place = Place.All }) }
 {
     Halt::Fault(Fault {
         kind,
-        line,
+        line: location.line,
         place: Place::All,
     })
 }
@@ -148,12 +149,12 @@ impl<'a> Interpreter<'a> {
         &self,
         run: &mut Run,
         listener: &mut H,
-        line: u32,
+        location: Location,
         action: &Action,
         e: &Expression,
     ) -> Result<i64, Halt>
-        ensures value { IsBehaviour result (state_of run.new) (found self.now.program.now self.now.bound line e.now (state_of run.old)) }
-        ensures heard { UnlessRefused result (H.hears listener.old (alone_moment self.now.bound line (action_is action.now) nowhere
+        ensures value { IsBehaviour result (state_of run.new) (found self.now.program.now self.now.bound location.line e.now (state_of run.old)) }
+        ensures heard { UnlessRefused result (H.hears listener.old (alone_moment self.now.bound location (action_is action.now) nowhere
             (λ v. done_by (action_is action.now) (record { value = v; cell = None }))
             (λ m. attempt (seen self.now.program.now m) e.now []) (state_of run.old)) listener.new) }
         ensures more { OnOk result (run.new.count ≡ run.old.count + 1) }
@@ -163,12 +164,12 @@ impl<'a> Interpreter<'a> {
         let mut trail = Vec::new(self.alloc);
         match self.try_value(run, e, &mut trail) {
             Ok(value) => {
-                listener.acts(run, line, action, &trail, &Effect { value, cell: None })?;
+                listener.acts(run, location, action, &trail, &Effect { value, cell: None })?;
                 Ok(value)
             }
             Err(Failure::Fault(kind)) => {
-                listener.fails(run, line, action, &trail, kind)?;
-                Err(fault_at(kind, line))
+                listener.fails(run, location, action, &trail, kind)?;
+                Err(fault_at(kind, location))
             }
             Err(Failure::OutOfMemory) => Err(Halt::OutOfMemory),
         }
@@ -180,14 +181,14 @@ impl<'a> Interpreter<'a> {
         &self,
         run: &mut Run,
         listener: &mut H,
-        line: u32,
+        location: Location,
         target: &Target,
         value: &Expression,
     ) -> Result<(), Halt>
-        ensures value { IsBehaviour result (state_of run.new) (spec.assign self.now.program.now self.now.bound line target.now value.now
+        ensures value { IsBehaviour result (state_of run.new) (spec.assign self.now.program.now self.now.bound location.line target.now value.now
             (state_of run.old)) }
         ensures heard { UnlessRefused result (H.hears listener.old
-            (assign_moment self.now.program.now self.now.bound line target.now value.now (state_of run.old)) listener.new) }
+            (assign_moment self.now.program.now self.now.bound location target.now value.now (state_of run.old)) listener.new) }
         ensures grows { OnOk result (run.old.count ≤ run.new.count) }
     {
         self.begin(run)?;
@@ -195,13 +196,13 @@ impl<'a> Interpreter<'a> {
         let mut trail = Vec::new(self.alloc);
         match self.try_effect(run, target, value, &mut trail) {
             Ok(effect) => {
-                listener.acts(run, line, &action, &trail, &effect)?;
+                listener.acts(run, location, &action, &trail, &effect)?;
                 store(run, target, &effect);
                 Ok(())
             }
             Err(Failure::Fault(kind)) => {
-                listener.fails(run, line, &action, &trail, kind)?;
-                Err(fault_at(kind, line))
+                listener.fails(run, location, &action, &trail, kind)?;
+                Err(fault_at(kind, location))
             }
             Err(Failure::OutOfMemory) => Err(Halt::OutOfMemory),
         }
@@ -213,14 +214,14 @@ impl<'a> Interpreter<'a> {
         &self,
         run: &mut Run,
         listener: &mut H,
-        line: u32,
+        location: Location,
         low: &Expression,
         high: &Expression,
     ) -> Result<(i64, i64), Halt>
         ensures value { IsBehaviour result (state_of run.new)
-            (evaluated self.now.bound line (λ m. attempt_bounds (seen self.now.program.now m) low.now high.now) (state_of run.old)) }
+            (evaluated self.now.bound location.line (λ m. attempt_bounds (seen self.now.program.now m) low.now high.now) (state_of run.old)) }
         ensures heard { UnlessRefused result (H.hears listener.old
-            (bounds_moment self.now.program.now self.now.bound line low.now high.now (state_of run.old)) listener.new) }
+            (bounds_moment self.now.program.now self.now.bound location low.now high.now (state_of run.old)) listener.new) }
         ensures more { OnOk result (run.new.count ≡ run.old.count + 1) }
     {
         self.begin(run)?;
@@ -232,12 +233,12 @@ impl<'a> Interpreter<'a> {
                     value: first,
                     cell: None,
                 };
-                listener.acts(run, line, &action, &trail, &effect)?;
+                listener.acts(run, location, &action, &trail, &effect)?;
                 Ok((first, last))
             }
             Err(Failure::Fault(kind)) => {
-                listener.fails(run, line, &action, &trail, kind)?;
-                Err(fault_at(kind, line))
+                listener.fails(run, location, &action, &trail, kind)?;
+                Err(fault_at(kind, location))
             }
             Err(Failure::OutOfMemory) => Err(Halt::OutOfMemory),
         }
@@ -249,14 +250,14 @@ impl<'a> Interpreter<'a> {
         &self,
         run: &mut Run,
         listener: &mut H,
-        line: u32,
+        location: Location,
         low: &Expression,
         high: &Expression,
     ) -> Result<(i64, u32), Halt>
-        ensures value { IsBehaviour result (state_of run.new) (evaluated self.now.bound line
+        ensures value { IsBehaviour result (state_of run.new) (evaluated self.now.bound location.line
             (λ m. attempt_range self.now.program.now.procs (seen self.now.program.now m) low.now high.now) (state_of run.old)) }
         ensures heard { UnlessRefused result (H.hears listener.old
-            (range_moment self.now.program.now self.now.bound line low.now high.now (state_of run.old)) listener.new) }
+            (range_moment self.now.program.now self.now.bound location low.now high.now (state_of run.old)) listener.new) }
         ensures more { OnOk result (run.new.count ≡ run.old.count + 1) }
         // The last index is an i64.
         ensures fits { IfOk result (λ r. FitsSigned w64 (r.0 +ℤ pos (r.1 - 1))) }
@@ -270,12 +271,12 @@ impl<'a> Interpreter<'a> {
                     value: first,
                     cell: None,
                 };
-                listener.acts(run, line, &action, &trail, &effect)?;
+                listener.acts(run, location, &action, &trail, &effect)?;
                 Ok((first, count))
             }
             Err(Failure::Fault(kind)) => {
-                listener.fails(run, line, &action, &trail, kind)?;
-                Err(fault_at(kind, line))
+                listener.fails(run, location, &action, &trail, kind)?;
+                Err(fault_at(kind, location))
             }
             Err(Failure::OutOfMemory) => Err(Halt::OutOfMemory),
         }

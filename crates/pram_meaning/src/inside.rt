@@ -15,6 +15,7 @@ use crate::run::{Halt, Run};
 use crate::team::{Member, gather, numbers_below};
 use crate::together::select;
 use pram_check::{Expression, Step};
+use pram_tokens::Location;
 
 impl<'a> Interpreter<'a> {
     /// A statement of a set, with all that it holds.
@@ -36,20 +37,20 @@ impl<'a> Interpreter<'a> {
     {
         match s {
             Step::Assign {
-                line,
+                location,
                 target,
                 value,
-            } => self.assign_on(run, listener, team, active, *line, target, value),
-            Step::While { line, test, body } => self.run_while_on(
-                run, listener, team, active, body, *line, test,
+            } => self.assign_on(run, listener, team, active, *location, target, value),
+            Step::While { location, test, body } => self.run_while_on(
+                run, listener, team, active, body, *location, test,
             ),
             Step::If {
-                line,
+                location,
                 test,
                 then_part,
                 else_part,
             } => {
-                let all = self.choice_on(run, listener, team, active, *line, test)?;
+                let all = self.choice_on(run, listener, team, active, *location, test)?;
                 let chosen = select(self.alloc, true, &all)?;
                 let others = select(self.alloc, false, &all)?;
                 self.run_block_on(run, listener, team, &chosen, then_part)?;
@@ -67,15 +68,15 @@ impl<'a> Interpreter<'a> {
         team: &mut Vec<Member>,
         active: &Vec<u32>,
         body: &Vec<Step>,
-        line: u32,
+        location: Location,
         test: &Expression,
     ) -> Result<(), Halt>
         ensures value { IsBehaviour result (state_in run.new team.new.items)
-            (turns_on (self.now.bound + 1) (tested_on self.now.program.now self.now.bound line test.now)
+            (turns_on (self.now.bound + 1) (tested_on self.now.program.now self.now.bound location.line test.now)
             (perform_list_on self.now.program.now self.now.bound body.now.items) active.now.items (state_in run.old team.old.items)) }
         ensures heard { UnlessRefused result (H.hears listener.old (turns_on_moments (self.now.bound + 1)
-            (set_test_moment self.now.program.now self.now.bound line (TurnsOn test.now) test.now)
-            (tested_on self.now.program.now self.now.bound line test.now)
+            (set_test_moment self.now.program.now self.now.bound location (TurnsOn test.now) test.now)
+            (tested_on self.now.program.now self.now.bound location.line test.now)
             (inner_list_moments self.now.program.now self.now.bound body.now.items)
             (perform_list_on self.now.program.now self.now.bound body.now.items) active.now.items (state_in run.old team.old.items))
             listener.new) }
@@ -83,7 +84,7 @@ impl<'a> Interpreter<'a> {
     {
         let mut current = Vec::from_slice(self.alloc, active)?;
         'turns: loop {
-            let all = self.test_on(run, listener, team, &current, line, test)?;
+            let all = self.test_on(run, listener, team, &current, location, test)?;
             let chosen = select(self.alloc, true, &all)?;
             if chosen.is_empty() {
                 return Ok(());

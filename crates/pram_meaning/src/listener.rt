@@ -15,6 +15,7 @@ use crate::part::Part;
 use crate::run::Run;
 use crate::team::Member;
 use pram_check::Program;
+use pram_tokens::Location;
 use pram_values::Kind;
 use std::alloc::AllocError;
 
@@ -29,24 +30,24 @@ pub trait Listener {
     fn acts(
         &mut self,
         run: &Run,
-        line: u32,
+        location: Location,
         action: &Action,
         trail: &[Option<u32>],
         effect: &Effect,
     ) -> Result<(), AllocError>
-        ensures { OnOk result (hears self.old (Alone line (action_is action.now) (state_of run.now) (Gives trail.now effect.now.cell)
+        ensures { OnOk result (hears self.old (Alone location (action_is action.now) (state_of run.now) (Gives trail.now effect.now.cell)
             (done_by (action_is action.now) (effect_is effect.now) (state_of run.now)) ∷ []) self.new) };
 
     /// Its statement faults, at the last position of the trail.
     fn fails(
         &mut self,
         run: &Run,
-        line: u32,
+        location: Location,
         action: &Action,
         trail: &[Option<u32>],
         kind: Kind,
     ) -> Result<(), AllocError>
-        ensures { OnOk result (hears self.old (Alone line (action_is action.now) (state_of run.now) (Fails trail.now kind)
+        ensures { OnOk result (hears self.old (Alone location (action_is action.now) (state_of run.now) (Fails trail.now kind)
             (state_of run.now) ∷ []) self.new) };
 
     /// A set of processors executes a statement, which counts already: the parts of all of them.
@@ -55,11 +56,11 @@ pub trait Listener {
         program: &Program,
         run: &Run,
         team: &Vec<Member>,
-        line: u32,
+        location: Location,
         action: &StepAction,
         parts: &[Part],
     ) -> Result<(), AllocError>
-        ensures { OnOk result (hears self.old (Together line (step_action_is action.now) (state_in run.now team.now.items)
+        ensures { OnOk result (hears self.old (Together location (step_action_is action.now) (state_in run.now team.now.items)
             (map part_is parts.now) None
             (done_on program.now (step_action_is action.now) (map part_is parts.now) (state_in run.now team.now.items)) ∷ []) self.new) };
 
@@ -68,12 +69,12 @@ pub trait Listener {
         &mut self,
         run: &Run,
         team: &Vec<Member>,
-        line: u32,
+        location: Location,
         action: &StepAction,
         parts: &[Part],
         key: Key,
     ) -> Result<(), AllocError>
-        ensures { OnOk result (hears self.old (Together line (step_action_is action.now) (state_in run.now team.now.items)
+        ensures { OnOk result (hears self.old (Together location (step_action_is action.now) (state_in run.now team.now.items)
             (map part_is parts.now) (Some key) (state_in run.now team.now.items) ∷ []) self.new) };
 
     /// A branch of an `if` outside pardo closes, or a turn of a `for`, however it came out.

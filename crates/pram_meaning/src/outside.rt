@@ -18,6 +18,7 @@ use crate::listener::Listener;
 use crate::numbers::Numbers;
 use crate::run::{Halt, Run, set_number};
 use pram_check::{Expression, Statement, Step};
+use pram_tokens::Location;
 use pram_values::is_true;
 use std::alloc::AllocError;
 
@@ -32,18 +33,18 @@ fn set_next(run: &mut Run, variable: usize, numbers: &Numbers)
 fn tell_next<H: Listener>(
     run: &Run,
     listener: &mut H,
-    line: u32,
+    location: Location,
     variable: usize,
     numbers: &Numbers,
 ) -> Result<(), AllocError>
-    ensures { OnOk result (H.hears listener.old (Alone line (Sets variable) (state_of run.now) (Gives [] None)
+    ensures { OnOk result (H.hears listener.old (Alone location (Sets variable) (state_of run.now) (Gives [] None)
         (with_uniform variable numbers.now.next (state_of run.now)) ∷ []) listener.new) }
 {
     let effect = Effect {
         value: numbers.next,
         cell: None,
     };
-    listener.acts(run, line, &Action::Sets { variable }, &[], &effect)
+    listener.acts(run, location, &Action::Sets { variable }, &[], &effect)
 }
 
 impl<'a> Interpreter<'a> {
@@ -53,17 +54,17 @@ impl<'a> Interpreter<'a> {
         &self,
         run: &mut Run,
         listener: &mut H,
-        line: u32,
+        location: Location,
         test: &Expression,
     ) -> Result<bool, Halt>
         ensures value { IsBehaviour result (state_of run.new)
-            (tested self.now.program.now self.now.bound line test.now (state_of run.old)) }
+            (tested self.now.program.now self.now.bound location.line test.now (state_of run.old)) }
         ensures heard { UnlessRefused result (H.hears listener.old
-            (test_moment self.now.program.now self.now.bound line (Turns test.now) test.now (state_of run.old)) listener.new) }
+            (test_moment self.now.program.now self.now.bound location (Turns test.now) test.now (state_of run.old)) listener.new) }
         ensures more { OnOk result (run.new.count ≡ run.old.count + 1) }
         ensures below { OnOk result (run.old.count < self.now.bound) }
     {
-        let value = self.run_value(run, listener, line, &Action::Turns { test }, test)?;
+        let value = self.run_value(run, listener, location, &Action::Turns { test }, test)?;
         Ok(is_true(value))
     }
 
@@ -73,16 +74,16 @@ impl<'a> Interpreter<'a> {
         &self,
         run: &mut Run,
         listener: &mut H,
-        line: u32,
+        location: Location,
         test: &Expression,
     ) -> Result<bool, Halt>
         ensures value { IsBehaviour result (state_of run.new)
-            (tested self.now.program.now self.now.bound line test.now (state_of run.old)) }
+            (tested self.now.program.now self.now.bound location.line test.now (state_of run.old)) }
         ensures heard { UnlessRefused result (H.hears listener.old
-            (test_moment self.now.program.now self.now.bound line (Chooses test.now) test.now (state_of run.old)) listener.new) }
+            (test_moment self.now.program.now self.now.bound location (Chooses test.now) test.now (state_of run.old)) listener.new) }
         ensures more { OnOk result (run.new.count ≡ run.old.count + 1) }
     {
-        let value = self.run_value(run, listener, line, &Action::Chooses { test }, test)?;
+        let value = self.run_value(run, listener, location, &Action::Chooses { test }, test)?;
         Ok(is_true(value))
     }
 
@@ -91,16 +92,16 @@ impl<'a> Interpreter<'a> {
         &self,
         run: &mut Run,
         listener: &mut H,
-        line: u32,
+        location: Location,
         value: &Expression,
     ) -> Result<(), Halt>
-        ensures value { IsBehaviour result (state_of run.new) (spec.print self.now.program.now self.now.bound line value.now
+        ensures value { IsBehaviour result (state_of run.new) (spec.print self.now.program.now self.now.bound location.line value.now
             (state_of run.old)) }
         ensures heard { UnlessRefused result (H.hears listener.old
-            (print_moment self.now.program.now self.now.bound line value.now (state_of run.old)) listener.new) }
+            (print_moment self.now.program.now self.now.bound location value.now (state_of run.old)) listener.new) }
         ensures grows { OnOk result (run.old.count ≤ run.new.count) }
     {
-        let item = self.run_value(run, listener, line, &Action::Prints { value }, value)?;
+        let item = self.run_value(run, listener, location, &Action::Prints { value }, value)?;
         if run.output.push(item).is_err() {
             return Err(Halt::OutOfMemory);
         }
@@ -113,18 +114,18 @@ impl<'a> Interpreter<'a> {
         run: &mut Run,
         listener: &mut H,
         body: &Vec<Step>,
-        line: u32,
+        location: Location,
         low: &Expression,
         high: &Expression,
         locals: usize,
     ) -> Result<(), Halt>
-        ensures value { IsBehaviour result (state_of run.new) (pardo self.now.program.now self.now.bound line low.now high.now locals
+        ensures value { IsBehaviour result (state_of run.new) (pardo self.now.program.now self.now.bound location.line low.now high.now locals
             body.now.items (state_of run.old)) }
-        ensures heard { UnlessRefused result (H.hears listener.old (pardo_moments self.now.program.now self.now.bound line low.now high.now
+        ensures heard { UnlessRefused result (H.hears listener.old (pardo_moments self.now.program.now self.now.bound location low.now high.now
             locals body.now.items (state_of run.old)) listener.new) }
         ensures grows { OnOk result (run.old.count ≤ run.new.count) }
     {
-        let (first, count) = self.run_range(run, listener, line, low, high)?;
+        let (first, count) = self.run_range(run, listener, location, low, high)?;
         self.run_team(run, listener, first, count, locals, body)
     }
 
@@ -144,21 +145,21 @@ impl<'a> Interpreter<'a> {
     {
         match s {
             Statement::Assign {
-                line,
+                location,
                 target,
                 value,
-            } => self.assign(run, listener, *line, target, value),
-            Statement::Print { line, value } => self.print(run, listener, *line, value),
-            Statement::While { line, test, body } => self.run_while(
-                run, listener, body, *line, test,
+            } => self.assign(run, listener, *location, target, value),
+            Statement::Print { location, value } => self.print(run, listener, *location, value),
+            Statement::While { location, test, body } => self.run_while(
+                run, listener, body, *location, test,
             ),
             Statement::If {
-                line,
+                location,
                 test,
                 then_part,
                 else_part,
             } => {
-                let holds = self.run_choice(run, listener, *line, test)?;
+                let holds = self.run_choice(run, listener, *location, test)?;
                 if holds {
                     self.run_closed(run, listener, then_part)
                 } else {
@@ -166,19 +167,19 @@ impl<'a> Interpreter<'a> {
                 }
             }
             Statement::For {
-                line,
+                location,
                 variable,
                 low,
                 high,
                 body,
-            } => self.run_for(run, listener, body, *line, *variable, low, high),
+            } => self.run_for(run, listener, body, *location, *variable, low, high),
             Statement::Pardo {
-                line,
+                location,
                 low,
                 high,
                 locals,
                 body,
-            } => self.run_pardo(run, listener, body, *line, low, high, *locals),
+            } => self.run_pardo(run, listener, body, *location, low, high, *locals),
         }
     }
 
@@ -189,20 +190,20 @@ impl<'a> Interpreter<'a> {
         run: &mut Run,
         listener: &mut H,
         body: &Vec<Statement>,
-        line: u32,
+        location: Location,
         test: &Expression,
     ) -> Result<(), Halt>
         ensures value { IsBehaviour result (state_of run.new)
-            (turns (self.now.bound + 1) (tested self.now.program.now self.now.bound line test.now)
+            (turns (self.now.bound + 1) (tested self.now.program.now self.now.bound location.line test.now)
             (perform_list self.now.program.now self.now.bound body.now.items) (state_of run.old)) }
         ensures heard { UnlessRefused result (H.hears listener.old (turns_moments (self.now.bound + 1)
-            (test_moment self.now.program.now self.now.bound line (Turns test.now) test.now)
-            (tested self.now.program.now self.now.bound line test.now)
+            (test_moment self.now.program.now self.now.bound location (Turns test.now) test.now)
+            (tested self.now.program.now self.now.bound location.line test.now)
             (list_moments self.now.program.now self.now.bound body.now.items)
             (perform_list self.now.program.now self.now.bound body.now.items) (state_of run.old)) listener.new) }
         ensures grows { OnOk result (run.old.count ≤ run.new.count) }
     {
-        'turns: while self.run_test(run, listener, line, test)? {
+        'turns: while self.run_test(run, listener, location, test)? {
             self.run_block(run, listener, body)?;
         }
         Ok(())
@@ -215,21 +216,21 @@ impl<'a> Interpreter<'a> {
         run: &mut Run,
         listener: &mut H,
         body: &Vec<Statement>,
-        line: u32,
+        location: Location,
         variable: usize,
         low: &Expression,
         high: &Expression,
     ) -> Result<(), Halt>
-        ensures value { IsBehaviour result (state_of run.new) (for_all self.now.program.now self.now.bound line variable low.now high.now
+        ensures value { IsBehaviour result (state_of run.new) (for_all self.now.program.now self.now.bound location.line variable low.now high.now
             (perform_list self.now.program.now self.now.bound body.now.items) (state_of run.old)) }
-        ensures heard { UnlessRefused result (H.hears listener.old (for_moments self.now.program.now self.now.bound line variable low.now
+        ensures heard { UnlessRefused result (H.hears listener.old (for_moments self.now.program.now self.now.bound location variable low.now
             high.now (list_moments self.now.program.now self.now.bound body.now.items)
             (perform_list self.now.program.now self.now.bound body.now.items) (state_of run.old)) listener.new) }
         ensures grows { OnOk result (run.old.count ≤ run.new.count) }
     {
-        let (first, last) = self.run_bounds(run, listener, line, low, high)?;
+        let (first, last) = self.run_bounds(run, listener, location, low, high)?;
         let numbers = Numbers { next: first, last };
-        self.run_turns(run, listener, body, line, variable, &numbers)
+        self.run_turns(run, listener, body, location, variable, &numbers)
     }
 
     // The turns of a `for`, one for each number.
@@ -240,13 +241,13 @@ impl<'a> Interpreter<'a> {
         run: &mut Run,
         listener: &mut H,
         body: &Vec<Statement>,
-        line: u32,
+        location: Location,
         variable: usize,
         numbers: &Numbers,
     ) -> Result<(), Halt>
         ensures value { IsBehaviour result (state_of run.new) (for_turns self.now.bound (width numbers.now.next numbers.now.last) variable
             numbers.now.next (perform_list self.now.program.now self.now.bound body.now.items) (state_of run.old)) }
-        ensures heard { UnlessRefused result (H.hears listener.old (for_turns_moments self.now.bound line
+        ensures heard { UnlessRefused result (H.hears listener.old (for_turns_moments self.now.bound location
             (width numbers.now.next numbers.now.last) variable numbers.now.next
             (list_moments self.now.program.now self.now.bound body.now.items)
             (perform_list self.now.program.now self.now.bound body.now.items) (state_of run.old)) listener.new) }
@@ -258,7 +259,7 @@ impl<'a> Interpreter<'a> {
         let mut left = *numbers;
         'turns: loop {
             self.begin(run)?;
-            tell_next(run, listener, line, variable, &left)?;
+            tell_next(run, listener, location, variable, &left)?;
             set_next(run, variable, &left);
             self.run_closed(run, listener, body)?;
             if left.is_at_end() {

@@ -10,6 +10,7 @@ use crate::part::Part;
 use crate::run::Run;
 use crate::team::Member;
 use pram_check::Program;
+use pram_tokens::Location;
 use pram_values::Kind;
 use std::alloc::AllocError;
 
@@ -23,7 +24,7 @@ impl Listener for Silent {
     fn acts(
         &mut self,
         _run: &Run,
-        _line: u32,
+        _location: Location,
         _action: &Action,
         _trail: &[Option<u32>],
         _effect: &Effect,
@@ -34,7 +35,7 @@ impl Listener for Silent {
     fn fails(
         &mut self,
         _run: &Run,
-        _line: u32,
+        _location: Location,
         _action: &Action,
         _trail: &[Option<u32>],
         _kind: Kind,
@@ -47,7 +48,7 @@ impl Listener for Silent {
         _program: &Program,
         _run: &Run,
         _team: &Vec<Member>,
-        _line: u32,
+        _location: Location,
         _action: &StepAction,
         _parts: &[Part],
     ) -> Result<(), AllocError> {
@@ -58,7 +59,7 @@ impl Listener for Silent {
         &mut self,
         _run: &Run,
         _team: &Vec<Member>,
-        _line: u32,
+        _location: Location,
         _action: &StepAction,
         _parts: &[Part],
         _key: Key,

@@ -25,18 +25,19 @@ use crate::slate::Slate;
 use crate::team::{Member, set_locals, value_in};
 use crate::view::View;
 use pram_check::{Expression, StepTarget};
+use pram_tokens::Location;
 use pram_trees::Rule;
 use pram_values::is_true;
 use std::alloc::{AllocError, Global};
 use write_rules::Fault;
 
 // A fault of a set.
-fn fault_at(key: Key, line: u32) -> Halt
-    ensures { result ≡ Halt.Fault (record { kind = key.kind; line = line; place = key.place }) }
+fn fault_at(key: Key, location: Location) -> Halt
+    ensures { result ≡ Halt.Fault (record { kind = key.kind; line = location.line; place = key.place }) }
 {
     Halt::Fault(Fault {
         kind: key.kind,
-        line,
+        line: location.line,
         place: key.place,
     })
 }
@@ -146,15 +147,15 @@ impl<'a> Interpreter<'a> {
         listener: &mut H,
         team: &Vec<Member>,
         active: &Vec<u32>,
-        line: u32,
+        location: Location,
         action: &StepAction,
         target: &StepTarget,
         e: &Expression,
     ) -> Result<Vec<Part>, Halt>
         ensures value { IsParts result (state_in run.new team.now.items)
-            (attempted_on self.now.program.now self.now.bound line (λ s. attempt_step s target.now e.now) active.now.items
+            (attempted_on self.now.program.now self.now.bound location.line (λ s. attempt_step s target.now e.now) active.now.items
             (state_in run.old team.now.items)) }
-        ensures heard { UnlessRefused result (H.hears listener.old (set_moment self.now.program.now self.now.bound line
+        ensures heard { UnlessRefused result (H.hears listener.old (set_moment self.now.program.now self.now.bound location
             (step_action_is action.now) (done_on self.now.program.now (step_action_is action.now)) (λ s. attempt_step s target.now e.now)
             active.now.items (state_in run.old team.now.items)) listener.new) }
         ensures more { OnOk result (run.new.count ≡ run.old.count + 1) }
@@ -166,12 +167,12 @@ impl<'a> Interpreter<'a> {
         };
         match key {
             None => {
-                listener.acts_on(self.program, run, team, line, action, &all)?;
+                listener.acts_on(self.program, run, team, location, action, &all)?;
                 Ok(all)
             }
             Some(key) => {
-                listener.fails_on(run, team, line, action, &all, key)?;
-                Err(fault_at(key, line))
+                listener.fails_on(run, team, location, action, &all, key)?;
+                Err(fault_at(key, location))
             }
         }
     }
@@ -259,18 +260,18 @@ impl<'a> Interpreter<'a> {
         listener: &mut H,
         team: &mut Vec<Member>,
         active: &Vec<u32>,
-        line: u32,
+        location: Location,
         target: &StepTarget,
         e: &Expression,
     ) -> Result<(), Halt>
         ensures value { IsBehaviour result (state_in run.new team.new.items)
-            (spec.assign_on self.now.program.now self.now.bound line target.now e.now active.now.items (state_in run.old team.old.items)) }
-        ensures heard { UnlessRefused result (H.hears listener.old (set_assign_moment self.now.program.now self.now.bound line target.now
+            (spec.assign_on self.now.program.now self.now.bound location.line target.now e.now active.now.items (state_in run.old team.old.items)) }
+        ensures heard { UnlessRefused result (H.hears listener.old (set_assign_moment self.now.program.now self.now.bound location target.now
             e.now active.now.items (state_in run.old team.old.items)) listener.new) }
         ensures grows { OnOk result (run.old.count ≤ run.new.count) }
     {
         let action = StepAction::Assigns { target, value: e };
-        let all = self.attempt_on(run, listener, team, active, line, &action, target, e)?;
+        let all = self.attempt_on(run, listener, team, active, location, &action, target, e)?;
         self.settle_on(run, team, target, &all)?;
         Ok(())
     }
@@ -282,19 +283,19 @@ impl<'a> Interpreter<'a> {
         listener: &mut H,
         team: &Vec<Member>,
         active: &Vec<u32>,
-        line: u32,
+        location: Location,
         test: &Expression,
     ) -> Result<Vec<Part>, Halt>
-        ensures value { IsParts result (state_in run.new team.now.items) (tested_on self.now.program.now self.now.bound line test.now
+        ensures value { IsParts result (state_in run.new team.now.items) (tested_on self.now.program.now self.now.bound location.line test.now
             active.now.items (state_in run.old team.now.items)) }
-        ensures heard { UnlessRefused result (H.hears listener.old (set_test_moment self.now.program.now self.now.bound line
+        ensures heard { UnlessRefused result (H.hears listener.old (set_test_moment self.now.program.now self.now.bound location
             (TurnsOn test.now) test.now active.now.items (state_in run.old team.now.items)) listener.new) }
         ensures more { OnOk result (run.new.count ≡ run.old.count + 1) }
         ensures below { OnOk result (run.old.count < self.now.bound) }
     {
         let none = StepTarget::Local(0);
         let action = StepAction::Turns { test };
-        self.attempt_on(run, listener, team, active, line, &action, &none, test)
+        self.attempt_on(run, listener, team, active, location, &action, &none, test)
     }
 
     /// The test of an `if` of a set, likewise.
@@ -304,17 +305,17 @@ impl<'a> Interpreter<'a> {
         listener: &mut H,
         team: &Vec<Member>,
         active: &Vec<u32>,
-        line: u32,
+        location: Location,
         test: &Expression,
     ) -> Result<Vec<Part>, Halt>
-        ensures value { IsParts result (state_in run.new team.now.items) (tested_on self.now.program.now self.now.bound line test.now
+        ensures value { IsParts result (state_in run.new team.now.items) (tested_on self.now.program.now self.now.bound location.line test.now
             active.now.items (state_in run.old team.now.items)) }
-        ensures heard { UnlessRefused result (H.hears listener.old (set_test_moment self.now.program.now self.now.bound line
+        ensures heard { UnlessRefused result (H.hears listener.old (set_test_moment self.now.program.now self.now.bound location
             (ChoosesOn test.now) test.now active.now.items (state_in run.old team.now.items)) listener.new) }
         ensures more { OnOk result (run.new.count ≡ run.old.count + 1) }
     {
         let none = StepTarget::Local(0);
         let action = StepAction::Chooses { test };
-        self.attempt_on(run, listener, team, active, line, &action, &none, test)
+        self.attempt_on(run, listener, team, active, location, &action, &none, test)
     }
 }

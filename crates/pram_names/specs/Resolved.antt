@@ -67,17 +67,17 @@ mutual
   -- the statement that a tree says inside pardo
   pub data SaysStep (scope : Scope) : Stmt → Step → Type 0 where
     assign : (x : Name) (v : Expr) (t : StepTarget) (y : Expression) → SaysInner scope x t → Says scope v y →
-        SaysStep scope (s.Assign x v) (step.Assign x.location.line t y)
+        SaysStep scope (s.Assign x v) (step.Assign x.location t y)
     assign_element : (x : Name) (i v : Expr) (k : ℕ) (j y : Expression) →
         meaning_of scope x.text ≡ Some (meaning.Array k) → Says scope i j → Says scope v y →
-        SaysStep scope (s.AssignElement x i v) (step.Assign x.location.line (inner.Element k j) y)
+        SaysStep scope (s.AssignElement x i v) (step.Assign x.location (inner.Element k j) y)
     while : (l : Location) (test : Expr) (body : List Stmt) (y : Expression) (steps : Vec Step Global) →
         Says scope test y → SaySteps scope body steps.items →
-        SaysStep scope (s.While l test body) (step.While l.line y steps)
+        SaysStep scope (s.While l test body) (step.While l y steps)
     if_else : (l : Location) (test : Expr) (body : List Stmt) (other : Option (List Stmt)) (y : Expression)
         (steps others : Vec Step Global) → Says scope test y →
         SaySteps scope body steps.items → SayElse scope other others.items →
-        SaysStep scope (s.If l test body other) (step.If l.line y steps others)
+        SaysStep scope (s.If l test body other) (step.If l y steps others)
 
   -- an `else` part, or none
   pub data SayElse (scope : Scope) : Option (List Stmt) → List Step → Type 0 where
@@ -93,29 +93,29 @@ mutual
   -- the statement that a tree says outside pardo
   pub data SaysStatement (scope : Scope) : Stmt → Statement → Type 0 where
     assign : (x : Name) (v : Expr) (t : Target) (y : Expression) → SaysTarget scope x t → Says scope v y →
-        SaysStatement scope (s.Assign x v) (statement.Assign x.location.line t y)
+        SaysStatement scope (s.Assign x v) (statement.Assign x.location t y)
     assign_element : (x : Name) (i v : Expr) (k : ℕ) (j y : Expression) →
         meaning_of scope x.text ≡ Some (meaning.Array k) → Says scope i j → Says scope v y →
-        SaysStatement scope (s.AssignElement x i v) (statement.Assign x.location.line (target.Element k j) y)
+        SaysStatement scope (s.AssignElement x i v) (statement.Assign x.location (target.Element k j) y)
     print : (l : Location) (v : Expr) (y : Expression) → Says scope v y →
-        SaysStatement scope (s.Print l v) (statement.Print l.line y)
+        SaysStatement scope (s.Print l v) (statement.Print l y)
     while : (l : Location) (test : Expr) (body : List Stmt) (y : Expression) (inside : Vec Statement Global) →
         Says scope test y →
         SayStatements scope body inside.items →
-        SaysStatement scope (s.While l test body) (statement.While l.line y inside)
+        SaysStatement scope (s.While l test body) (statement.While l y inside)
     if_else : (l : Location) (test : Expr) (body : List Stmt) (other : Option (List Stmt)) (y : Expression)
         (inside others : Vec Statement Global) → Says scope test y →
         SayStatements scope body inside.items → SayOther scope other others.items →
-        SaysStatement scope (s.If l test body other) (statement.If l.line y inside others)
+        SaysStatement scope (s.If l test body other) (statement.If l y inside others)
     for_to : (l : Location) (x : Name) (low high : Expr) (body : List Stmt) (k : ℕ) (a b : Expression)
         (inside : Vec Statement Global) →
         meaning_of scope x.text ≡ Some (meaning.Uniform k) → Says scope low a → Says scope high b →
         SayStatements scope body inside.items →
-        SaysStatement scope (s.For l x low high body) (statement.For l.line k a b inside)
+        SaysStatement scope (s.For l x low high body) (statement.For l k a b inside)
     pardo : (l : Location) (low : Expr) (x : Name) (high : Expr) (locals : List Name) (body : List Stmt)
         (a b : Expression) (steps : Vec Step Global) →
         Says scope low a → Says scope high b → SaySteps (inner_scope scope x locals) body steps.items →
-        SaysStatement scope (s.Pardo l low x high locals body) (statement.Pardo l.line a b (length locals) steps)
+        SaysStatement scope (s.Pardo l low x high locals body) (statement.Pardo l a b (length locals) steps)
 
   -- an `else` part, or none
   pub data SayOther (scope : Scope) : Option (List Stmt) → List Statement → Type 0 where

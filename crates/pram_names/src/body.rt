@@ -1,7 +1,7 @@
 //! The body of a checked program: names are numbers here, and statements outside and inside pardo
 //! are of two types.
 
-use pram_trees::{Binary, Prefix};
+use pram_trees::{Binary, Location, Prefix};
 
 /// An expression. A uniform variable, a local or a shared declaration goes by its number, counted
 /// from 0 in the order of declaration. Parentheses are gone: they change no value.
@@ -46,52 +46,52 @@ pub enum StepTarget {
     Element(usize, Expression),
 }
 
-/// A statement inside pardo, with the line of its first token.
+/// A statement inside pardo, with the place of its first word.
 #[derive(Drop)]
 pub enum Step {
     Assign {
-        line: u32,
+        location: Location,
         target: StepTarget,
         value: Expression,
     },
     If {
-        line: u32,
+        location: Location,
         test: Expression,
         then_part: Vec<Step>,
         else_part: Vec<Step>,
     },
     While {
-        line: u32,
+        location: Location,
         test: Expression,
         body: Vec<Step>,
     },
 }
 
-/// A statement outside pardo, with the line of its first token. A missing `else` is an empty one.
+/// A statement outside pardo, with the place of its first word. A missing `else` is an empty one.
 #[derive(Drop)]
 pub enum Statement {
     Assign {
-        line: u32,
+        location: Location,
         target: Target,
         value: Expression,
     },
     Print {
-        line: u32,
+        location: Location,
         value: Expression,
     },
     While {
-        line: u32,
+        location: Location,
         test: Expression,
         body: Vec<Statement>,
     },
     If {
-        line: u32,
+        location: Location,
         test: Expression,
         then_part: Vec<Statement>,
         else_part: Vec<Statement>,
     },
     For {
-        line: u32,
+        location: Location,
         variable: usize,
         low: Expression,
         high: Expression,
@@ -99,7 +99,7 @@ pub enum Statement {
     },
     /// With the number of the locals of its body.
     Pardo {
-        line: u32,
+        location: Location,
         low: Expression,
         high: Expression,
         locals: usize,

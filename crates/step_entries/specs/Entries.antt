@@ -2,7 +2,9 @@
 use Rattle.std.specs.Prelude.{ℕ, List, ℤ, Option, map}
 use Rattle.write_rules.specs.declared.fault.Fault.{Fault}
 use Rattle.step_entries.specs.declared.act as rust_act
+use Rattle.pram_tokens.specs.declared.token.Location.{Location}
 use Rattle.step_entries.specs.declared.change.Change.{Change}
+use Rattle.step_entries.specs.declared.local_change.LocalChange.{LocalChange}
 use Rattle.step_entries.specs.declared.entry as rust_entry
 use Rattle.step_entries.specs.declared.entry.Entry.TheVariants as variant
 use Rattle.step_entries.specs.Causes.{Cause, known_cause}
@@ -14,16 +16,17 @@ pub record Act : Type 0 where
   pub reads : List ℕ
   pub write : Option ℕ
 
--- A statement that ran: its line, what each of those did that executed it, the cells and the uniform variables whose value differs behind it,
--- and what it printed. Or one that faulted: its fault and its cause, what each did before its position, and the indices of those that met
+-- A statement that ran: where it stands, what each of those did that executed it, the cells, the uniform variables and the locals of
+-- processors whose value differs behind it, and what it printed. Or one that faulted: where it stands, its fault and its cause, what each did before its position, and the indices of those that met
 -- at its cell.
 pub data Entry : Type 0 where
-  Ran : (line : ℕ) → List Act → (cells variables : List Change) → (printed : List ℤ) → Entry
-  Faulting : Fault → Option Cause → List Act → (met : List ℤ) → Entry
+  Ran : (here : Location) → List Act → (cells variables : List Change) → (locals : List LocalChange) → (printed : List ℤ) → Entry
+  Faulting : (here : Location) → Fault → Option Cause → List Act → (met : List ℤ) → Entry
 
 abbrev pub act_is : rust_act.Act.Act → Act
 act_is a = record { processor = a.processor; reads = a.reads.items; write = a.write }
 
 abbrev pub entry_is : rust_entry.Entry.Entry → Entry
-entry_is (variant.Ran line acts cells variables printed) = Ran line (map act_is acts.items) cells.items variables.items printed.items
-entry_is (variant.Faulted fault cause acts met) = Faulting fault (known_cause cause) (map act_is acts.items) met.items
+entry_is (variant.Ran here acts cells variables locals printed) =
+    Ran here (map act_is acts.items) cells.items variables.items locals.items printed.items
+entry_is (variant.Faulted here fault cause acts met) = Faulting here fault (known_cause cause) (map act_is acts.items) met.items

@@ -5,8 +5,10 @@ mod act;
 mod cause;
 mod change;
 mod entry;
+mod local_change;
 
 pub use act::Act;
 pub use cause::Cause;
 pub use change::Change;
 pub use entry::Entry;
+pub use local_change::LocalChange;

@@ -48,20 +48,20 @@ all_writes (x ∷ xs) =
 -- ---- a moment
 
 moment_steps : (p : Checked) (x : Moment) → map step_of (entries_of p x) ≡ cost.steps_of x
-moment_steps p (Alone line act before (trying.Gives t c) behind) = ap (λ s. s ∷ []) (λ i. record {
-  line = line;
+moment_steps p (Alone here act before (trying.Gives t c) behind) = ap (λ s. s ∷ []) (λ i. record {
+  line = here.line;
   processors = 1;
   reads = (one_sum act_reads (record { processor = None; reads = reads_in t; write = c }) ∙ reads_many t) i;
   writes = one_sum act_writes (record { processor = None; reads = reads_in t; write = c }) i;
 })
-moment_steps p (Alone line act before (Fails t k) behind) = refl
-moment_steps p (Together line act before xs None behind) = ap (λ s. s ∷ []) (λ i. record {
-  line = line;
+moment_steps p (Alone here act before (Fails t k) behind) = refl
+moment_steps p (Together here act before xs None behind) = ap (λ s. s ∷ []) (λ i. record {
+  line = here.line;
   processors = many act_of xs i;
   reads = all_reads xs i;
   writes = all_writes xs i;
 })
-moment_steps p (Together line act before xs (Some k) behind) = ap (λ n. acting line n ∷ []) (many (act_before k.at) xs)
+moment_steps p (Together here act before xs (Some k) behind) = ap (λ n. acting here.line n ∷ []) (many (act_before k.at) xs)
 moment_steps p Closed = refl
 
 all_steps : (p : Checked) (ms : List Moment) → map step_of (flat_map (entries_of p) ms) ≡ flat_map cost.steps_of ms

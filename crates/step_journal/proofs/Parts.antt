@@ -3,6 +3,7 @@ use Rattle.std.proofs.Common.{ℕ, ℤ, pos, ◌+ℤ◌, zero, suc, Bool, true, 
 use Rattle.std.proofs.Common.{refl, map, sym, subst, ◌≡◌, Option, Some, None}
 use Rattle.std.proofs.lemmas.List.{length-set}
 use Rattle.std.specs.Bool.{⊤}
+use Rattle.pram_tokens.specs.declared.token.Location.{Location}
 use Rattle.pram_model.specs.Layout.{width}
 use Rattle.pram_check.specs.Checked.{Checked}
 use Rattle.pram_names.specs.declared.body.Expression.{Expression}
@@ -40,51 +41,52 @@ use Rattle.fault_causes.proofs.Explained.{bounds_told, member_told, range_told, 
 use Rattle.fault_causes.proofs.SetFaults as SetFaults
 use Rattle.step_journal.specs.Acts.{act_before, act_of, alone_acts, front}
 use Rattle.step_journal.specs.Entries.{fault_alone, fault_on, why_alone}
+use Rattle.step_journal.specs.Locals.{locals_changed}
 use Rattle.step_journal.specs.Meeting.{meeting}
 use Rattle.step_journal.proofs.Sound.{Extends, IsTold, closing_told, counted_told, done, extends, fell_told, none_told, ran_told}
 use Rattle.step_journal.proofs.Sound.{then_assoc, then_goes, told, told_from, told_map, told_then, wait_told}
 
 -- ---- a statement of one processor
 
-module _ {A B : Type 0} (p : Checked) (line : ℕ) (act : Action) (write : A → Option ℕ) (left : A → State → State) (f : A → B)
+module _ {A B : Type 0} (p : Checked) (here : Location) (act : Action) (write : A → Option ℕ) (left : A → State → State) (f : A → B)
     (kept : (a : A) (m : State) → Extends m (left a m)) where
-  come : (x : Attempt A) (m : State) → Explains p x (why_alone p m act) → IsTold p m (told p (Alone line act m (writing write x) (left_by left x m) ∷ []))
-      (then_do (valued (alone line x) m) (λ v m. Goes (f v) (left v m)))
-  come (trying.Gives t v) m why = ran_told p m (left v m) line (alone_acts t (write v)) (f v) (kept v m)
-  come (Fails t k) m why = fell_told p m (fault_alone line k) (why_alone p m act) (alone_acts (front (length t) t) None) [] why
+  come : (x : Attempt A) (m : State) → Explains p x (why_alone p m act) → IsTold p m (told p (Alone here act m (writing write x) (left_by left x m) ∷ []))
+      (then_do (valued (alone here.line x) m) (λ v m. Goes (f v) (left v m)))
+  come (trying.Gives t v) m why = ran_told p m (left v m) here (alone_acts t (write v)) [] (f v) (kept v m)
+  come (Fails t k) m why = fell_told p m here (fault_alone here.line k) (why_alone p m act) (alone_acts (front (length t) t) None) [] refl why
 
   alone_told : (n : ℕ) (a : State → Attempt A) → ((m : State) → Explains p (a m) (why_alone p m act)) → (m : State) →
-      IsTold p m (told p (alone_moment n line act write left a m))
-      (then_do (evaluated n line a m) (λ v m. Goes (f v) (left v m)))
+      IsTold p m (told p (alone_moment n here act write left a m))
+      (then_do (evaluated n here.line a m) (λ v m. Goes (f v) (left v m)))
   alone_told n a why m =
-      let here : State → List Moment = λ m. Alone line act m (writing write (a m)) (left_by left (a m) m) ∷ [] in
+      let told_there : State → List Moment = λ m. Alone here act m (writing write (a m)) (left_by left (a m) m) ∷ [] in
       let goes : A → State → Behaviour B = λ v m. Goes (f v) (left v m) in
-      subst (IsTold p m (told p (alone_moment n line act write left a m)))
-      (sym (then_assoc (counted n m) (λ u m. valued (alone line (a m)) m) goes))
-      (told_then p m [] (counted n m) (λ u. here) (λ u m. then_do (valued (alone line (a m)) m) goes) (counted_told p n m)
+      subst (IsTold p m (told p (alone_moment n here act write left a m)))
+      (sym (then_assoc (counted n m) (λ u m. valued (alone here.line (a m)) m) goes))
+      (told_then p m [] (counted n m) (λ u. told_there) (λ u m. then_do (valued (alone here.line (a m)) m) goes) (counted_told p n m)
       (λ u m. come (a m) m (why m)))
 
 as_it_is : {A : Type 0} (a : A) (m : State) → Extends m (unchanged a m)
 as_it_is a m = extends m m refl refl
 
 -- one that only reads
-evaluated_told : {A : Type 0} (p : Checked) (n line : ℕ) (act : Action) (a : State → Attempt A) →
+evaluated_told : {A : Type 0} (p : Checked) (n : ℕ) (here : Location) (act : Action) (a : State → Attempt A) →
     ((m : State) → Explains p (a m) (why_alone p m act)) → (m : State) →
-    IsTold p m (told p (alone_moment n line act nowhere unchanged a m)) (evaluated n line a m)
-evaluated_told p n line act a why m =
-    subst (IsTold p m (told p (alone_moment n line act nowhere unchanged a m))) (then_goes (evaluated n line a m))
-    (alone_told p line act nowhere unchanged (λ v. v) as_it_is n a why m)
+    IsTold p m (told p (alone_moment n here act nowhere unchanged a m)) (evaluated n here.line a m)
+evaluated_told p n here act a why m =
+    subst (IsTold p m (told p (alone_moment n here act nowhere unchanged a m))) (then_goes (evaluated n here.line a m))
+    (alone_told p here act nowhere unchanged (λ v. v) as_it_is n a why m)
 
-tested_told : (p : Checked) (n line : ℕ) (act : Action) (e : Expression) →
+tested_told : (p : Checked) (n : ℕ) (here : Location) (act : Action) (e : Expression) →
     ((m : State) → Explains p (attempt (seen p m) e []) (why_alone p m act)) → (m : State) →
-    IsTold p m (told p (test_moment p n line act e m)) (tested p n line e m)
-tested_told p n line act e why m =
-    alone_told p line act nowhere unchanged is_nonzero as_it_is n (λ m. attempt (seen p m) e []) why m
+    IsTold p m (told p (test_moment p n here act e m)) (tested p n here.line e m)
+tested_told p n here act e why m =
+    alone_told p here act nowhere unchanged is_nonzero as_it_is n (λ m. attempt (seen p m) e []) why m
 
-print_told : (p : Checked) (n line : ℕ) (e : Expression) (m : State) →
-    IsTold p m (told p (print_moment p n line e m)) (meaning.print p n line e m)
-print_told p n line e m =
-    alone_told p line (moment.Prints e) nowhere printed (λ v. done) (λ v m. record { size = refl; more = v ∷ []; output = refl }) n
+print_told : (p : Checked) (n : ℕ) (here : Location) (e : Expression) (m : State) →
+    IsTold p m (told p (print_moment p n here e m)) (meaning.print p n here.line e m)
+print_told p n here e m =
+    alone_told p here (moment.Prints e) nowhere printed (λ v. done) (λ v m. record { size = refl; more = v ∷ []; output = refl }) n
     (λ m. attempt (seen p m) e []) (λ m. test_told p (seen p m) refl e []) m
 
 write_extends : (c : Option ℕ) (v : ℤ) (m : State) → Extends m (after_write c v m)
@@ -96,10 +98,10 @@ assigned_extends (target.Uniform x) g m = extends m (with_uniform x g.value m) r
 assigned_extends (target.Cell a) g m = write_extends g.cell g.value m
 assigned_extends (target.Element a e) g m = write_extends g.cell g.value m
 
-assign_told : (p : Checked) (n line : ℕ) (x : Target) (e : Expression) (m : State) →
-    IsTold p m (told p (assign_moment p n line x e m)) (meaning.assign p n line x e m)
-assign_told p n line x e m =
-    alone_told p line (moment.Assigns x e) goes_to (assigned x) (λ g. done) (assigned_extends x) n (λ m. attempt_assign (seen p m) x e)
+assign_told : (p : Checked) (n : ℕ) (here : Location) (x : Target) (e : Expression) (m : State) →
+    IsTold p m (told p (assign_moment p n here x e m)) (meaning.assign p n here.line x e m)
+assign_told p n here x e m =
+    alone_told p here (moment.Assigns x e) goes_to (assigned x) (λ g. done) (assigned_extends x) n (λ m. attempt_assign (seen p m) x e)
     (λ m. Explained.assign_told p (seen p m) refl x e) m
 
 -- ---- a statement of a set
@@ -115,43 +117,43 @@ has_cause : (p : Checked) (m : State) (act : StepAction) (a : View → Attempt E
 has_cause p m act a why vs None e = tt
 has_cause p m act a why vs (Some k) e = SetFaults.set_told p m act a why vs k e
 
-module _ {B : Type 0} (p : Checked) (n line : ℕ) (act : StepAction) (left : List Part → State → State) (f : List Part → B)
+module _ {B : Type 0} (p : Checked) (n : ℕ) (here : Location) (act : StepAction) (left : List Part → State → State) (f : List Part → B)
     (kept : (xs : List Part) (m : State) → Extends m (left xs m)) where
   come_on : (k : Option Key) (xs : List Part) (m : State) → HasCause p act m xs k →
-      IsTold p m (told p (moment.by_set line act left m xs k ∷ []))
-      (then_do (valued (on_key line k xs) m) (λ xs m. Goes (f xs) (left xs m)))
-  come_on None xs m why = ran_told p m (left xs m) line (map act_of xs) (f xs) (kept xs m)
-  come_on (Some k) xs m why = fell_told p m (fault_on line k) (cause_on p m act k xs) (map (act_before k.at) xs) (meeting k xs) why
+      IsTold p m (told p (moment.by_set here act left m xs k ∷ []))
+      (then_do (valued (on_key here.line k xs) m) (λ xs m. Goes (f xs) (left xs m)))
+  come_on None xs m why = ran_told p m (left xs m) here (map act_of xs) (locals_changed act xs m.team) (f xs) (kept xs m)
+  come_on (Some k) xs m why = fell_told p m here (fault_on here.line k) (cause_on p m act k xs) (map (act_before k.at) xs) (meeting k xs) refl why
 
   set_told : (a : View → Attempt Effect) → ((s : View) → s.layout ≡ p.layout → Explains p (a s) (cause_in s act)) → (vs : List ℕ)
-      (m : State) → IsTold p m (told p (set_moment p n line act left a vs m))
-      (then_do (attempted_on p n line a vs m) (λ xs m. Goes (f xs) (left xs m)))
+      (m : State) → IsTold p m (told p (set_moment p n here act left a vs m))
+      (then_do (attempted_on p n here.line a vs m) (λ xs m. Goes (f xs) (left xs m)))
   set_told a why vs m =
-      let here : State → List Moment =
-      λ m. moment.by_set line act left m (parts p m a vs) (least (keys p.rule (parts p m a vs))) ∷ [] in
+      let told_there : State → List Moment =
+      λ m. moment.by_set here act left m (parts p m a vs) (least (keys p.rule (parts p m a vs))) ∷ [] in
       let goes : List Part → State → Behaviour B = λ xs m. Goes (f xs) (left xs m) in
-      subst (IsTold p m (told p (set_moment p n line act left a vs m)))
-      (sym (then_assoc (counted n m) (λ u m. valued (together p line (parts p m a vs)) m) goes))
-      (told_then p m [] (counted n m) (λ u. here) (λ u m. then_do (valued (together p line (parts p m a vs)) m) goes) (counted_told p n m)
+      subst (IsTold p m (told p (set_moment p n here act left a vs m)))
+      (sym (then_assoc (counted n m) (λ u m. valued (together p here.line (parts p m a vs)) m) goes))
+      (told_then p m [] (counted n m) (λ u. told_there) (λ u m. then_do (valued (together p here.line (parts p m a vs)) m) goes) (counted_told p n m)
       (λ u m. come_on (least (keys p.rule (parts p m a vs))) (parts p m a vs) m
       (has_cause p m act a why vs (least (keys p.rule (parts p m a vs))) refl)))
 
-tested_on_told : (p : Checked) (n line : ℕ) (act : StepAction) (e : Expression) →
+tested_on_told : (p : Checked) (n : ℕ) (here : Location) (act : StepAction) (e : Expression) →
     ((s : View) → s.layout ≡ p.layout → Explains p (attempt_value s e) (cause_in s act)) → (vs : List ℕ) (m : State) →
-    IsTold p m (told p (set_test_moment p n line act e vs m)) (tested_on p n line e vs m)
-tested_on_told p n line act e why vs m =
-    subst (IsTold p m (told p (set_test_moment p n line act e vs m))) (then_goes (tested_on p n line e vs m))
-    (set_told p n line act unchanged (λ xs. xs) as_it_is (λ s. attempt_value s e) why vs m)
+    IsTold p m (told p (set_test_moment p n here act e vs m)) (tested_on p n here.line e vs m)
+tested_on_told p n here act e why vs m =
+    subst (IsTold p m (told p (set_test_moment p n here act e vs m))) (then_goes (tested_on p n here.line e vs m))
+    (set_told p n here act unchanged (λ xs. xs) as_it_is (λ s. attempt_value s e) why vs m)
 
 assigned_by_extends : (p : Checked) (x : StepTarget) (xs : List Part) (m : State) → Extends m (assigned_by p x xs m)
 assigned_by_extends p (inner.Local x) xs m = extends m (assigned_by p (inner.Local x) xs m) refl refl
 assigned_by_extends p (inner.Cell a) xs m = extends m (assigned_by p (inner.Cell a) xs m) (length_over p.rule xs 0 m.cells) refl
 assigned_by_extends p (inner.Element a e) xs m = extends m (assigned_by p (inner.Element a e) xs m) (length_over p.rule xs 0 m.cells) refl
 
-assign_on_told : (p : Checked) (n line : ℕ) (x : StepTarget) (e : Expression) (vs : List ℕ) (m : State) →
-    IsTold p m (told p (set_assign_moment p n line x e vs m)) (assign_on p n line x e vs m)
-assign_on_told p n line x e vs m =
-    set_told p n line (AssignsOn x e) (assigned_by p x) (λ xs. done) (assigned_by_extends p x) (λ s. attempt_step s x e)
+assign_on_told : (p : Checked) (n : ℕ) (here : Location) (x : StepTarget) (e : Expression) (vs : List ℕ) (m : State) →
+    IsTold p m (told p (set_assign_moment p n here x e vs m)) (assign_on p n here.line x e vs m)
+assign_on_told p n here x e vs m =
+    set_told p n here (AssignsOn x e) (assigned_by p x) (λ xs. done) (assigned_by_extends p x) (λ s. attempt_step s x e)
     (λ s same. member_told p s same (AssignsOn x e)) vs m
 
 -- ---- loops and blocks inside pardo
@@ -183,19 +185,19 @@ turns_on_told p (suc k) head test inside body t b vs m =
 module _ (p : Checked) (n : ℕ) where
   mutual
     inner_told : (s : Step) (vs : List ℕ) (m : State) → IsTold p m (told p (inner_moments p n s vs m)) (perform_on p n s vs m)
-    inner_told (step.Assign line x e) vs m = assign_on_told p n line x e vs m
-    inner_told (step.If' line e q a r b) vs m =
-        told_then p m (set_test_moment p n line (ChoosesOn e) e vs m) (tested_on p n line e vs m)
+    inner_told (step.Assign here x e) vs m = assign_on_told p n here x e vs m
+    inner_told (step.If' here e q a r b) vs m =
+        told_then p m (set_test_moment p n here (ChoosesOn e) e vs m) (tested_on p n here.line e vs m)
         (λ xs m. inner_row_moments p n a (those true xs) m
         ++ behind (perform_row_on p n a (those true xs) m) (λ u. inner_row_moments p n b (those false xs)))
         (λ xs m. then_do (perform_row_on p n a (those true xs) m) (λ u. perform_row_on p n b (those false xs)))
-        (tested_on_told p n line (ChoosesOn e) e (λ s same. member_told p s same (ChoosesOn e)) vs m)
+        (tested_on_told p n here (ChoosesOn e) e (λ s same. member_told p s same (ChoosesOn e)) vs m)
         (λ xs m. told_then p m (inner_row_moments p n a (those true xs) m) (perform_row_on p n a (those true xs) m)
         (λ u. inner_row_moments p n b (those false xs)) (λ u. perform_row_on p n b (those false xs))
         (inner_row_told a (those true xs) m) (λ u m. inner_row_told b (those false xs) m))
-    inner_told (step.While' line e q body) vs m =
-        turns_on_told p (n + 1) (set_test_moment p n line (TurnsOn e) e) (tested_on p n line e) (inner_row_moments p n body)
-        (perform_row_on p n body) (λ vs m. tested_on_told p n line (TurnsOn e) e (λ s same. member_told p s same (TurnsOn e)) vs m) (λ vs m. inner_row_told body vs m) vs m
+    inner_told (step.While' here e q body) vs m =
+        turns_on_told p (n + 1) (set_test_moment p n here (TurnsOn e) e) (tested_on p n here.line e) (inner_row_moments p n body)
+        (perform_row_on p n body) (λ vs m. tested_on_told p n here (TurnsOn e) e (λ s same. member_told p s same (TurnsOn e)) vs m) (λ vs m. inner_row_told body vs m) vs m
 
     inner_row_told : {k : _} (ss : Row_of-Step k) (vs : List ℕ) (m : State) →
         IsTold p m (told p (inner_row_moments p n ss vs m)) (perform_row_on p n ss vs m)
@@ -236,11 +238,11 @@ turns_told p (suc k) head test inside body t b m =
 abbrev setting : ℕ → ℕ → ℤ → State → Done
 setting n x a m = then_do (counted n m) (λ u m. Goes done (with_uniform x a m))
 
-setting_told : (p : Checked) (n line x : ℕ) (a : ℤ) (m : State) → IsTold p m (told p (setting_moment n line x a m)) (setting n x a m)
-setting_told p n line x a m =
-    told_then p m [] (counted n m) (λ u m. Alone line (Sets x) m (trying.Gives [] None) (with_uniform x a m) ∷ [])
+setting_told : (p : Checked) (n : ℕ) (here : Location) (x : ℕ) (a : ℤ) (m : State) → IsTold p m (told p (setting_moment n here x a m)) (setting n x a m)
+setting_told p n here x a m =
+    told_then p m [] (counted n m) (λ u m. Alone here (Sets x) m (trying.Gives [] None) (with_uniform x a m) ∷ [])
     (λ u m. Goes done (with_uniform x a m)) (counted_told p n m)
-    (λ u m. ran_told p m (with_uniform x a m) line (alone_acts [] None) done (extends m (with_uniform x a m) refl refl))
+    (λ u m. ran_told p m (with_uniform x a m) here (alone_acts [] None) [] done (extends m (with_uniform x a m) refl refl))
 
 -- what follows the count of a setting follows the setting
 set_then : (p : Checked) (x : ℕ) (a : ℤ) (m : State) (xs : List Moment) (b : Done) (f : State → List Moment) (g : State → Done) →
@@ -251,19 +253,19 @@ set_then p x a m xs (Goes u new) f g s = s
 set_then p x a m xs (Stops k out) f g s = s
 set_then p x a m xs (Reaches out) f g s = s
 
-for_told : (p : Checked) (n line k x : ℕ) (a : ℤ) (inside : State → List Moment) (body : State → Done) →
+for_told : (p : Checked) (n : ℕ) (here : Location) (k x : ℕ) (a : ℤ) (inside : State → List Moment) (body : State → Done) →
     ((m : State) → IsTold p m (told p (inside m)) (body m)) → (m : State) →
-    IsTold p m (told p (for_turns_moments n line k x a inside body m)) (for_turns n k x a body m)
-for_told p n line zero x a inside body b m = none_told p m m done refl refl
-for_told p n line (suc k) x a inside body b m =
-    let later : State → List Moment = for_turns_moments n line k x (a +ℤ pos 1) inside body in
+    IsTold p m (told p (for_turns_moments n here k x a inside body m)) (for_turns n k x a body m)
+for_told p n here zero x a inside body b m = none_told p m m done refl refl
+for_told p n here (suc k) x a inside body b m =
+    let later : State → List Moment = for_turns_moments n here k x (a +ℤ pos 1) inside body in
     let last : State → Done = for_turns n k x (a +ℤ pos 1) body in
     let rest : State → List Moment = λ m. closing (inside m) ++ behind (body m) (λ u. later) in
     let others : State → Done = λ m. then_do (body m) (λ u. last) in
-    set_then p x a m (setting_moment n line x a m) (counted n m) rest others
-    (told_then p m (setting_moment n line x a m) (setting n x a m) (λ u. rest) (λ u. others) (setting_told p n line x a m)
+    set_then p x a m (setting_moment n here x a m) (counted n m) rest others
+    (told_then p m (setting_moment n here x a m) (setting n x a m) (λ u. rest) (λ u. others) (setting_told p n here x a m)
     (λ u m. told_then p m (closing (inside m)) (body m) (λ u. later) (λ u. last) (closing_told p m (inside m) (body m) (b m))
-    (λ u m. for_told p n line k x (a +ℤ pos 1) inside body b m)))
+    (λ u m. for_told p n here k x (a +ℤ pos 1) inside body b m)))
 
 -- ---- all statements
 
@@ -279,33 +281,33 @@ module _ (p : Checked) (n : ℕ) where
 
   mutual
     statement_told : (s : Statement) (m : State) → IsTold p m (told p (moments p n s m)) (perform p n s m)
-    statement_told (Assign line x e) m = assign_told p n line x e m
-    statement_told (Print line e) m = print_told p n line e m
-    statement_told (While' line e q body) m =
-        turns_told p (n + 1) (test_moment p n line (moment.Turns e) e) (tested p n line e) (row_moments p n body) (perform_row p n body)
-        (λ m. tested_told p n line (moment.Turns e) e (λ m. test_told p (seen p m) refl e []) m) (λ m. row_told body m) m
-    statement_told (If' line e q a r b) m =
-        told_then p m (test_moment p n line (moment.Chooses e) e m) (tested p n line e m)
+    statement_told (Assign here x e) m = assign_told p n here x e m
+    statement_told (Print here e) m = print_told p n here e m
+    statement_told (While' here e q body) m =
+        turns_told p (n + 1) (test_moment p n here (moment.Turns e) e) (tested p n here.line e) (row_moments p n body) (perform_row p n body)
+        (λ m. tested_told p n here (moment.Turns e) e (λ m. test_told p (seen p m) refl e []) m) (λ m. row_told body m) m
+    statement_told (If' here e q a r b) m =
+        told_then p m (test_moment p n here (moment.Chooses e) e m) (tested p n here.line e m)
         (λ z m. closing (if z then row_moments p n a m else row_moments p n b m))
         (λ z m. if z then perform_row p n a m else perform_row p n b m)
-        (tested_told p n line (moment.Chooses e) e (λ m. test_told p (seen p m) refl e []) m)
+        (tested_told p n here (moment.Chooses e) e (λ m. test_told p (seen p m) refl e []) m)
         (λ z m. closing_told p m (if z then row_moments p n a m else row_moments p n b m)
         (if z then perform_row p n a m else perform_row p n b m)
         (either p z m (row_moments p n a m) (row_moments p n b m) (perform_row p n a m) (perform_row p n b m)
         (row_told a m) (row_told b m)))
-    statement_told (For' line x e f q body) m =
-        told_then p m (bounds_moment p n line e f m)
-        (evaluated n line (λ m. attempt_bounds (seen p m) e f) m)
-        (λ r. for_turns_moments n line (width r.0 r.1) x r.0 (row_moments p n body) (perform_row p n body))
+    statement_told (For' here x e f q body) m =
+        told_then p m (bounds_moment p n here e f m)
+        (evaluated n here.line (λ m. attempt_bounds (seen p m) e f) m)
+        (λ r. for_turns_moments n here (width r.0 r.1) x r.0 (row_moments p n body) (perform_row p n body))
         (λ r. for_turns n (width r.0 r.1) x r.0 (perform_row p n body))
-        (evaluated_told p n line (Bounds e f) (λ m. attempt_bounds (seen p m) e f) (λ m. bounds_told p (seen p m) refl e f) m)
-        (λ r m. for_told p n line (width r.0 r.1) x r.0 (row_moments p n body) (perform_row p n body) (λ m. row_told body m) m)
-    statement_told (Pardo line e f locals body) m =
-        told_then p m (range_moment p n line e f m)
-        (evaluated n line (λ m. attempt_range p.procs (seen p m) e f) m)
+        (evaluated_told p n here (Bounds e f) (λ m. attempt_bounds (seen p m) e f) (λ m. bounds_told p (seen p m) refl e f) m)
+        (λ r m. for_told p n here (width r.0 r.1) x r.0 (row_moments p n body) (perform_row p n body) (λ m. row_told body m) m)
+    statement_told (Pardo here e f locals body) m =
+        told_then p m (range_moment p n here e f m)
+        (evaluated n here.line (λ m. attempt_range p.procs (seen p m) e f) m)
         (λ r m. inner_list_moments p n body.items (numbers 0 r.1) (with_team r.0 r.1 locals m))
         (λ r. pardo_done p n locals body.items r.0 r.1)
-        (evaluated_told p n line (Ranges e f) (λ m. attempt_range p.procs (seen p m) e f) (λ m. range_told p (seen p m) refl e f) m)
+        (evaluated_told p n here (Ranges e f) (λ m. attempt_range p.procs (seen p m) e f) (λ m. range_told p (seen p m) refl e f) m)
         (λ r m. pardo_told locals body.items r.0 r.1 m)
 
     row_told : {k : _} (ss : Row_of-Statement k) (m : State) → IsTold p m (told p (row_moments p n ss m)) (perform_row p n ss m)

@@ -1,5 +1,7 @@
 -- What is told, with one entry more, and lists that gain items.
 use Rattle.std.proofs.Common.{◌≡◌, ℕ, ℤ, List, [], ◌∷◌, ◌++◌, append-nil, Option, Vec, Global, map, drop, length, refl, ap, sym, ◌∙◌}
+use Rattle.pram_tokens.specs.declared.token.Location.{Location}
+use Rattle.step_entries.specs.declared.local_change.LocalChange.{LocalChange}
 use Rattle.write_rules.specs.declared.fault.Fault.{Fault}
 use Rattle.step_entries.specs.declared.act as act
 use Rattle.step_entries.specs.declared.cause as cause
@@ -13,15 +15,15 @@ map_push : (now : List rust.Entry.Entry) (x : rust.Entry.Entry) → map entry_is
 map_push [] x = refl
 map_push (y ∷ now) x = ap (λ r. entry_is y ∷ r) (map_push now x)
 
-pub ran_pushed : (line : ℕ) (acts : Vec act.Act.Act Global) (cells variables : Vec Change Global) (items : Vec ℤ Global)
-    (now new : List rust.Entry.Entry) → new ≡ now ++ variant.Ran line acts cells variables items ∷ [] →
-    map entry_is new ≡ map entry_is now ++ Ran line (map act_is acts.items) cells.items variables.items items.items ∷ []
-ran_pushed line acts cells variables items now new e = ap (map entry_is) e ∙ map_push now (variant.Ran line acts cells variables items)
+pub ran_pushed : (here : Location) (acts : Vec act.Act.Act Global) (cells variables : Vec Change Global) (locals : Vec LocalChange Global)
+    (items : Vec ℤ Global) (now new : List rust.Entry.Entry) → new ≡ now ++ variant.Ran here acts cells variables locals items ∷ [] →
+    map entry_is new ≡ map entry_is now ++ Ran here (map act_is acts.items) cells.items variables.items locals.items items.items ∷ []
+ran_pushed here acts cells variables locals items now new e = ap (map entry_is) e ∙ map_push now (variant.Ran here acts cells variables locals items)
 
-pub fault_pushed : (k : Fault) (why : Option cause.Cause.Cause) (acts : Vec act.Act.Act Global) (met : Vec ℤ Global)
-    (now new : List rust.Entry.Entry) → new ≡ now ++ variant.Faulted k why acts met ∷ [] →
-    map entry_is new ≡ map entry_is now ++ Faulting k (known_cause why) (map act_is acts.items) met.items ∷ []
-fault_pushed k why acts met now new e = ap (map entry_is) e ∙ map_push now (variant.Faulted k why acts met)
+pub fault_pushed : (here : Location) (k : Fault) (why : Option cause.Cause.Cause) (acts : Vec act.Act.Act Global) (met : Vec ℤ Global)
+    (now new : List rust.Entry.Entry) → new ≡ now ++ variant.Faulted here k why acts met ∷ [] →
+    map entry_is new ≡ map entry_is now ++ Faulting here k (known_cause why) (map act_is acts.items) met.items ∷ []
+fault_pushed here k why acts met now new e = ap (map entry_is) e ∙ map_push now (variant.Faulted here k why acts met)
 
 -- a list has gained what stands behind it
 pub gained : (xs more : List ℤ) → drop (length xs) (xs ++ more) ≡ more

@@ -4,6 +4,8 @@ use Rattle.std.proofs.Common.{◌≡◌, ℕ, ◌+◌, ℤ, List, [], ◌∷◌,
 use Rattle.std.proofs.Common.{◌∙◌, subst, append_assoc, append-nil, Option}
 use Rattle.std.specs.List.{AllByRecursion, flat_map}
 use Rattle.std.proofs.lemmas.Grind.{flat_map-append}
+use Rattle.pram_tokens.specs.declared.token.Location.{Location}
+use Rattle.step_entries.specs.declared.local_change.LocalChange.{LocalChange}
 use Rattle.write_rules.specs.declared.fault.Fault.{Fault}
 use Rattle.pram_check.specs.Checked.{Checked}
 use Rattle.pram_meaning.specs.Bounded.{Behaviour, Done, Goes, Reaches, Stops, counted, then_do}
@@ -50,29 +52,23 @@ IsTold p m es (Reaches out) = Waits m es out
 
 replay_on : (xs ys : List Entry) (c : List ℤ) → replay (xs ++ ys) c ≡ replay ys (replay xs c)
 replay_on [] ys c = refl
-replay_on (Ran line acts ds vs items ∷ xs) ys c = replay_on xs ys (with_changes ds c)
-replay_on (Faulting fault cause acts met ∷ xs) ys c = replay_on xs ys c
+replay_on (Ran here acts ds vs ls items ∷ xs) ys c = replay_on xs ys (with_changes ds c)
+replay_on (Faulting here fault cause acts met ∷ xs) ys c = replay_on xs ys c
 
 items_on : (xs ys : List Entry) → items_of (xs ++ ys) ≡ items_of xs ++ items_of ys
 items_on [] ys = refl
-items_on (Ran line acts ds vs items ∷ xs) ys =
+items_on (Ran here acts ds vs ls items ∷ xs) ys =
     ap (λ r. items ++ r) (items_on xs ys) ∙ sym (append_assoc items (items_of xs) (items_of ys))
-items_on (Faulting fault cause acts met ∷ xs) ys = items_on xs ys
+items_on (Faulting here fault cause acts met ∷ xs) ys = items_on xs ys
 
 all_on : (xs ys : List Entry) → AllByRecursion HasRun xs → AllByRecursion HasRun ys → AllByRecursion HasRun (xs ++ ys)
 all_on [] ys h g = g
 all_on (x ∷ xs) ys h g = (h.0, all_on xs ys h.1 g)
 
 ends_on : (p : Checked) (xs ys : List Entry) (k : Fault) → AllByRecursion HasRun xs → EndsIn p k ys → EndsIn p k (xs ++ ys)
-ends_on p xs ys k h (front, cause, acts, met, all, why, is) = (
-  xs ++ front,
-  cause,
-  acts,
-  met,
-  all_on xs front h all,
-  why,
-  ap (λ zs. xs ++ zs) is ∙ sym (append_assoc xs front (Faulting k cause acts met ∷ [])),
-)
+ends_on p xs ys k h (front, here, cause, acts, met, all, stands, why, is) =
+    (xs ++ front, here, cause, acts, met, all_on xs front h all, stands, why,
+    ap (λ zs. xs ++ zs) is ∙ sym (append_assoc xs front (Faulting here k cause acts met ∷ [])))
 
 output_on : (m new : State) (xs ys : List Entry) (out : List ℤ) → m.output ++ items_of xs ≡ new.output →
     new.output ++ items_of ys ≡ out → m.output ++ items_of (xs ++ ys) ≡ out
@@ -92,9 +88,9 @@ pub record Extends (m new : State) : Type 0 where
 pub extends : (m new : State) → length new.cells ≡ length m.cells → new.output ≡ m.output → Extends m new
 extends m new l o = record { size = l; more = []; output = o ∙ sym (append-nil m.output) }
 
-pub ran_told : {A : Type 0} (p : Checked) (m new : State) (line : ℕ) (acts : List Act) (a : A) → Extends m new →
-    IsTold p m (ran line acts m new ∷ []) (Goes a new)
-ran_told p m new line acts a h = record {
+pub ran_told : {A : Type 0} (p : Checked) (m new : State) (here : Location) (acts : List Act) (locals : List LocalChange) (a : A) → Extends m new →
+    IsTold p m (ran here acts locals m new ∷ []) (Goes a new)
+ran_told p m new here acts locals a h = record {
   size = h.size;
   memory = applied m.cells new.cells h.size;
   output = ap (λ r. m.output ++ r) (append-nil (drop (length m.output) new.output))
@@ -104,9 +100,10 @@ ran_told p m new line acts a h = record {
   all = (tt, tt);
 }
 
-pub fell_told : (p : Checked) (m : State) (k : Fault) (cause : Option Cause) (acts : List Act) (met : List ℤ) →
-    IsExplained p k.kind cause → Falls p m (Faulting k cause acts met ∷ []) k m.output
-fell_told p m k cause acts met why = record { output = append-nil m.output; ends = ([], cause, acts, met, tt, why, refl) }
+pub fell_told : (p : Checked) (m : State) (here : Location) (k : Fault) (cause : Option Cause) (acts : List Act) (met : List ℤ) →
+    here.line ≡ k.line → IsExplained p k.kind cause → Falls p m (Faulting here k cause acts met ∷ []) k m.output
+fell_told p m here k cause acts met stands why =
+    record { output = append-nil m.output; ends = ([], here, cause, acts, met, tt, stands, why, refl) }
 
 -- ---- none
 

@@ -1,6 +1,8 @@
 -- What a journal of a program's run is told of one moment, as an entry.
 use Rattle.std.proofs.Common.{◌≡◌, ℕ, ℤ, Result, Ok, Err, List, [], ◌∷◌, ◌++◌, Option, None, Some, map, drop, length, refl, ap, sym}
 use Rattle.std.proofs.Common.{◌∙◌}
+use Rattle.step_entries.specs.declared.local_change.LocalChange.{LocalChange}
+use Rattle.pram_tokens.specs.declared.token.Location.{Location}
 use Rattle.pram_values.specs.declared.kind.Kind.{Kind}
 use Rattle.pram_names.specs.declared.body.StepTarget.TheVariants as target
 use Rattle.pram_check.specs.Checked.{Checked}
@@ -8,8 +10,9 @@ use Rattle.pram_meaning.specs.declared.key.Key.{Key}
 use Rattle.pram_meaning.specs.Attempt.{Effect, Fails, Gives, Trail}
 use Rattle.pram_meaning.specs.Conflict.{Part}
 use Rattle.pram_meaning.specs.Listening.{done_by, done_on}
-use Rattle.pram_meaning.specs.Moments.{Action, Alone, AssignsOn, ChoosesOn, StepAction, Together, TurnsOn}
+use Rattle.pram_meaning.specs.Moments.{Action, Alone, AssignsOn, ChoosesOn, Moment, StepAction, Together, TurnsOn}
 use Rattle.pram_meaning.specs.Store.{State}
+use Rattle.std.specs.List.{flat_map}
 use Rattle.std.specs.Result.{OnOk}
 use Rattle.step_entries.specs.declared.change.Change.{Change}
 use Rattle.step_entries.specs.Causes.{Cause}
@@ -17,25 +20,26 @@ use Rattle.step_entries.specs.Entries.{Act, Entry, Faulting, Ran}
 use Rattle.fault_causes.specs.Causes.{cause_on}
 use Rattle.step_journal.specs.Acts.{act_before, act_of, alone_acts, front}
 use Rattle.step_journal.specs.Changes.{difference}
-use Rattle.step_journal.specs.Entries.{fault_alone, fault_on, why_alone}
+use Rattle.step_journal.specs.Entries.{entries_of, fault_alone, fault_on, why_alone}
 use Rattle.step_journal.specs.HeardLaws.{Heard}
+use Rattle.step_journal.specs.Locals.{locals_changed}
 use Rattle.step_journal.specs.Meeting.{meeting}
 use Rattle.step_journal.proofs.Differing.{none_of_it}
 use Rattle.step_journal.proofs.Pushed.{nothing_gained}
 
-pub ran_alone : (p q : Checked) (line : ℕ) (act : Action) (m : State) (t : Trail) (g : Effect) (acts : List Act)
-    (cells variables : List Change) (items : List ℤ) (old new : List Entry) → q ≡ p → acts ≡ alone_acts t g.cell →
-    cells ≡ difference m.cells (done_by act g m).cells → variables ≡ difference m.uniforms (done_by act g m).uniforms →
-    items ≡ drop (length m.output) (done_by act g m).output → new ≡ old ++ Ran line acts cells variables items ∷ [] →
-    Heard p q old new (Alone line act m (Gives t g.cell) (done_by act g m) ∷ [])
-ran_alone p q line act m t g acts cells variables items old new s a c v o e =
-    (s, e ∙ ap (λ (x : Entry). old ++ x ∷ []) (λ i. Ran line (a i) (c i) (v i) (o i)))
+pub ran_alone : (p q : Checked) (here : Location) (act : Action) (m : State) (t : Trail) (g : Effect) (acts : List Act)
+    (cells variables : List Change) (locals : List LocalChange) (items : List ℤ) (old new : List Entry) → q ≡ p → acts ≡ alone_acts t g.cell →
+    cells ≡ difference m.cells (done_by act g m).cells → variables ≡ difference m.uniforms (done_by act g m).uniforms → locals ≡ [] →
+    items ≡ drop (length m.output) (done_by act g m).output → new ≡ old ++ Ran here acts cells variables locals items ∷ [] →
+    Heard p q old new (Alone here act m (Gives t g.cell) (done_by act g m) ∷ [])
+ran_alone p q here act m t g acts cells variables locals items old new s a c v l o e =
+    (s, e ∙ ap (λ (x : Entry). old ++ x ∷ []) (λ i. Ran here (a i) (c i) (v i) (l i) (o i)))
 
-pub fell_alone : (p q : Checked) (line : ℕ) (act : Action) (m : State) (t : Trail) (k : Kind) (why : Option Cause) (acts : List Act)
+pub fell_alone : (p q : Checked) (here : Location) (act : Action) (m : State) (t : Trail) (k : Kind) (why : Option Cause) (acts : List Act)
     (met : List ℤ) (old new : List Entry) → q ≡ p → why ≡ why_alone p m act → acts ≡ alone_acts (front (length t) t) None → met ≡ [] →
-    new ≡ old ++ Faulting (fault_alone line k) why acts met ∷ [] → Heard p q old new (Alone line act m (Fails t k) m ∷ [])
-fell_alone p q line act m t k why acts met old new s c a w e =
-    (s, e ∙ ap (λ (x : Entry). old ++ x ∷ []) (λ i. Faulting (fault_alone line k) (c i) (a i) (w i)))
+    new ≡ old ++ Faulting here (fault_alone here.line k) why acts met ∷ [] → Heard p q old new (Alone here act m (Fails t k) m ∷ [])
+fell_alone p q here act m t k why acts met old new s c a w e =
+    (s, e ∙ ap (λ (x : Entry). old ++ x ∷ []) (λ i. Faulting here (fault_alone here.line k) (c i) (a i) (w i)))
 
 -- a set changes no uniform variable, and prints nothing
 cells_alone : (p : Checked) (act : StepAction) (xs : List Part) (m : State) →
@@ -46,17 +50,20 @@ cells_alone p (AssignsOn (target.Element a i) e) xs m = (refl, refl)
 cells_alone p (TurnsOn e) xs m = (refl, refl)
 cells_alone p (ChoosesOn e) xs m = (refl, refl)
 
-pub ran_together : (p : Checked) (line : ℕ) (act : StepAction) (m : State) (xs : List Part) (acts : List Act)
-    (cells variables : List Change) (items : List ℤ) (of mid_of new_of : Checked) (old mid new : List Entry) → acts ≡ map act_of xs →
-    cells ≡ difference m.cells (done_on p act xs m).cells → variables ≡ [] → items ≡ [] → mid_of ≡ of → mid ≡ old → new_of ≡ mid_of →
-    new ≡ mid ++ Ran line acts cells variables items ∷ [] → Heard of new_of old new (Together line act m xs None (done_on p act xs m) ∷ [])
-ran_together p line act m xs acts cells variables items of mid_of new_of old mid new a c v o s u t e =
+pub ran_together : (p : Checked) (here : Location) (act : StepAction) (m : State) (xs : List Part) (acts : List Act)
+    (cells variables : List Change) (locals : List LocalChange) (items : List ℤ) (of mid_of new_of : Checked) (old mid new : List Entry) →
+    acts ≡ map act_of xs →
+    cells ≡ difference m.cells (done_on p act xs m).cells → variables ≡ [] →
+    locals ≡ locals_changed act xs m.team → items ≡ [] → mid_of ≡ of → mid ≡ old → new_of ≡ mid_of →
+    new ≡ mid ++ Ran here acts cells variables locals items ∷ [] → Heard of new_of old new (Together here act m xs None (done_on p act xs m) ∷ [])
+ran_together p here act m xs acts cells variables locals items of mid_of new_of old mid new a c v l o s u t e =
     let same = cells_alone p act xs m in
     let variables_are = none_of_it m.uniforms variables v ∙ ap (difference m.uniforms) (sym same.0) in
-    let items_are = nothing_gained m.output items o ∙ ap (drop (length m.output)) (sym same.1) in (
+    let items_are = nothing_gained m.output items o ∙ ap (drop (length m.output)) (sym same.1) in
+    (
       t ∙ s,
-      e ∙ ap (λ es. es ++ Ran line acts cells variables items ∷ []) u
-          ∙ ap (λ (x : Entry). old ++ x ∷ []) (λ i. Ran line (a i) (c i) (variables_are i) (items_are i)),
+      e ∙ ap (λ es. es ++ Ran here acts cells variables locals items ∷ []) u
+      ∙ ap (λ (x : Entry). old ++ x ∷ []) (λ i. Ran here (a i) (c i) (variables_are i) (l i) (items_are i)),
     )
 
 -- what follows from an entry that was added, where something is kept
@@ -64,9 +71,9 @@ pub both_added : {E : Type 0} (r : Result (Unit {0}) E) (P K Q : Type 0) → (P 
 both_added (Ok u) P K Q f h k = f h k
 both_added (Err e) P K Q f h k = tt
 
-pub fell_together : (p q : Checked) (line : ℕ) (act : StepAction) (m : State) (xs : List Part) (k : Key) (why : Option Cause)
+pub fell_together : (p q : Checked) (here : Location) (act : StepAction) (m : State) (xs : List Part) (k : Key) (why : Option Cause)
     (acts : List Act) (met : List ℤ) (old new : List Entry) → q ≡ p → why ≡ cause_on p m act k xs → acts ≡ map (act_before k.at) xs →
-    met ≡ meeting k xs → new ≡ old ++ Faulting (fault_on line k) why acts met ∷ [] →
-    Heard p q old new (Together line act m xs (Some k) m ∷ [])
-fell_together p q line act m xs k why acts met old new s c a w e =
-    (s, e ∙ ap (λ (x : Entry). old ++ x ∷ []) (λ i. Faulting (fault_on line k) (c i) (a i) (w i)))
+    met ≡ meeting k xs → new ≡ old ++ Faulting here (fault_on here.line k) why acts met ∷ [] →
+    Heard p q old new (Together here act m xs (Some k) m ∷ [])
+fell_together p q here act m xs k why acts met old new s c a w e =
+    (s, e ∙ ap (λ (x : Entry). old ++ x ∷ []) (λ i. Faulting here (fault_on here.line k) (c i) (a i) (w i)))

@@ -16,9 +16,9 @@ act_writes a = writes_to a.write
 
 -- the line, the processors and the accesses of an entry; those of a statement that faults don't count
 abbrev pub step_of : Entry → TimeStep
-step_of (Ran line acts cells variables items) =
-    record { line = line; processors = length acts; reads = sum_by act_reads acts; writes = sum_by act_writes acts }
-step_of (Faulting fault cause acts met) = acting fault.line (length acts)
+step_of (Ran here acts cells variables locals items) =
+    record { line = here.line; processors = length acts; reads = sum_by act_reads acts; writes = sum_by act_writes acts }
+step_of (Faulting here fault cause acts met) = acting fault.line (length acts)
 
 -- The time steps by which a run's cost is counted are its entries, one by one: so its time is their number, and its work, its width, its
 -- accesses and the costs of each line are theirs.

@@ -12,18 +12,21 @@ use Rattle.pram_meaning.specs.Conflict.{Part}
 use Rattle.pram_meaning.specs.Moments.{Action, StepAction, Moment, Alone, Together, Closed, run_moments}
 use Rattle.pram_meaning.specs.Outcome.{IsOutcome, opening}
 use Rattle.pram_meaning.specs.Store.{State, seen}
+use Rattle.pram_tokens.specs.declared.token.Location.{Location}
 use Rattle.step_entries.specs.Causes.{Cause}
+use Rattle.step_entries.specs.declared.local_change.LocalChange.{LocalChange}
 use Rattle.step_entries.specs.Entries.{Act, Entry, Ran, Faulting}
 use Rattle.fault_causes.specs.Causes.{cause_alone, cause_on}
 use Rattle.fault_causes.specs.Faults.{IsExplained}
 use Rattle.step_journal.specs.Acts.{act_before, act_of, alone_acts, front}
 use Rattle.step_journal.specs.Changes.{difference, with_changes}
+use Rattle.step_journal.specs.Locals.{locals_changed}
 use Rattle.step_journal.specs.Meeting.{meeting}
 
 -- the entry of a statement that ran between these two: what differs, and what the output has gained
-abbrev pub ran : ℕ → List Act → (before behind : State) → Entry
-ran line acts before behind =
-    Ran line acts (difference before.cells behind.cells) (difference before.uniforms behind.uniforms)
+abbrev pub ran : Location → List Act → List LocalChange → (before behind : State) → Entry
+ran here acts locals before behind =
+    Ran here acts (difference before.cells behind.cells) (difference before.uniforms behind.uniforms) locals
     (drop (length before.output) behind.output)
 
 -- the fault of the one processor outside pardo on this line
@@ -39,22 +42,22 @@ abbrev pub why_alone : Checked → State → Action → Option Cause
 why_alone p before act = cause_alone p.procs (seen p before) act
 
 -- what is told of the one processor outside pardo, whose attempt this is
-abbrev pub by_one : Checked → ℕ → Action → State → Attempt (Option ℕ) → State → Entry
-by_one p line act before (Gives t c) behind = ran line (alone_acts t c) before behind
-by_one p line act before (Fails t kind) behind =
-    Faulting (fault_alone line kind) (why_alone p before act) (alone_acts (front (length t) t) None) []
+abbrev pub by_one : Checked → Location → Action → State → Attempt (Option ℕ) → State → Entry
+by_one p here act before (Gives t c) behind = ran here (alone_acts t c) [] before behind
+by_one p here act before (Fails t kind) behind =
+    Faulting here (fault_alone here.line kind) (why_alone p before act) (alone_acts (front (length t) t) None) []
 
 -- what is told of a set, whose statement has this least fault, or none
-abbrev pub by_set : Checked → ℕ → StepAction → State → List Part → Option Key → State → Entry
-by_set p line act before xs None behind = ran line (map act_of xs) before behind
-by_set p line act before xs (Some k) behind =
-    Faulting (fault_on line k) (cause_on p before act k xs) (map (act_before k.at) xs) (meeting k xs)
+abbrev pub by_set : Checked → Location → StepAction → State → List Part → Option Key → State → Entry
+by_set p here act before xs None behind = ran here (map act_of xs) (locals_changed act xs before.team) before behind
+by_set p here act before xs (Some k) behind =
+    Faulting here (fault_on here.line k) (cause_on p before act k xs) (map (act_before k.at) xs) (meeting k xs)
 
 -- what is told of a moment of a program's run: a statement's difference of the state behind it from the one before it, or its fault and why
 -- it came
 abbrev pub entries_of : Checked → Moment → List Entry
-entries_of p (Alone line act before a behind) = by_one p line act before a behind ∷ []
-entries_of p (Together line act before xs k behind) = by_set p line act before xs k behind ∷ []
+entries_of p (Alone here act before a behind) = by_one p here act before a behind ∷ []
+entries_of p (Together here act before xs k behind) = by_set p here act before xs k behind ∷ []
 entries_of p Closed = []
 
 -- what is told of a program's run on an input, of at most n statements
@@ -66,8 +69,8 @@ run_entries p input n = flat_map (entries_of p) (run_moments p input n)
 -- the cells behind all entries
 abbrev pub replay : List Entry → List ℤ → List ℤ
 replay [] cells = cells
-replay (Ran line acts changed variables items ∷ es) cells = replay es (with_changes changed cells)
-replay (Faulting fault cause acts met ∷ es) cells = replay es cells
+replay (Ran here acts changed variables locals items ∷ es) cells = replay es (with_changes changed cells)
+replay (Faulting here fault cause acts met ∷ es) cells = replay es cells
 
 -- the memory of an outcome that has one
 abbrev pub HasMemory : Verdict → List ℤ → Type 0
@@ -85,8 +88,8 @@ ChangesGiveTheMemory =
 
 abbrev pub items_of : List Entry → List ℤ
 items_of [] = []
-items_of (Ran line acts changed variables items ∷ es) = items ++ items_of es
-items_of (Faulting fault cause acts met ∷ es) = items_of es
+items_of (Ran here acts changed variables locals items ∷ es) = items ++ items_of es
+items_of (Faulting here fault cause acts met ∷ es) = items_of es
 
 abbrev pub output_of : Verdict → List ℤ
 output_of (Ended output memory) = output
@@ -102,13 +105,13 @@ ItemsGiveTheOutput =
 
 -- a statement that didn't fault
 abbrev pub HasRun : Entry → Type 0
-HasRun (Ran line acts changed variables items) = ⊤
-HasRun (Faulting fault cause acts met) = ⊥
+HasRun (Ran here acts changed variables locals items) = ⊤
+HasRun (Faulting here fault cause acts met) = ⊥
 
--- the last entry is this fault with a cause that has it, and no other is a fault
+-- the last entry is this fault on its line, with a cause that has it, and no other is a fault
 abbrev pub EndsIn : Checked → Fault → List Entry → Type 0
-EndsIn p fault es = (front : List Entry) × (cause : Option Cause) × (acts : List Act) × (met : List ℤ) × AllByRecursion HasRun front
-    × IsExplained p fault.kind cause × (es ≡ front ++ Faulting fault cause acts met ∷ [])
+EndsIn p fault es = (front : List Entry) × (here : Location) × (cause : Option Cause) × (acts : List Act) × (met : List ℤ) × AllByRecursion HasRun front
+    × (here.line ≡ fault.line) × IsExplained p fault.kind cause × (es ≡ front ++ Faulting here fault cause acts met ∷ [])
 
 abbrev pub HasItsFault : Checked → Verdict → List Entry → Type 0
 HasItsFault p (Ended output memory) es = AllByRecursion HasRun es

@@ -7,7 +7,8 @@ ghost use Rattle.step_entries.specs.Entries.{Faulting, Ran, act_is, entry_is};
 use pram_check::Program;
 use pram_meaning::slate::Slate;
 use std::alloc::{AllocError, Global};
-use step_entries::{Act, Cause, Change, Entry};
+use pram_tokens::Location;
+use step_entries::{Act, Cause, Change, Entry, LocalChange};
 use write_rules::Fault;
 
 /// What was told of the statements of a program's run so far, and what it takes to tell of more: the slate on which what a set writes is
@@ -35,25 +36,27 @@ impl<'a> Journal<'a> {
         })
     }
 
-    /// A statement has run, has changed these cells and uniform variables, and has printed these items.
+    /// A statement has run, has changed these cells, uniform variables and locals, and has printed these items.
     #[tactic(auto, using(crate::proofs::Pushed::ran_pushed))]
     pub fn add(
         &mut self,
-        line: u32,
+        location: Location,
         acts: Vec<Act>,
         cells: Vec<Change>,
         variables: Vec<Change>,
+        locals: Vec<LocalChange>,
         printed: Vec<i64>,
     ) -> Result<(), AllocError>
         ensures added { OnOk result (map entry_is self.new.entries.items ≡ map entry_is self.old.entries.items
-            ++ Ran line (map act_is acts.items) cells.items variables.items printed.items ∷ []) }
+            ++ Ran location (map act_is acts.items) cells.items variables.items locals.items printed.items ∷ []) }
         ensures program { self.new.program.now ≡ self.old.program.now }
     {
         self.entries.push(Entry::Ran {
-            line,
+            location,
             acts,
             cells,
             variables,
+            locals,
             printed,
         })?;
         Ok(())
@@ -63,16 +66,18 @@ impl<'a> Journal<'a> {
     #[tactic(auto, using(crate::proofs::Pushed::fault_pushed))]
     pub fn stop(
         &mut self,
+        location: Location,
         fault: Fault,
         cause: Option<Cause>,
         acts: Vec<Act>,
         met: Vec<i64>,
     ) -> Result<(), AllocError>
         ensures added { OnOk result (map entry_is self.new.entries.items ≡ map entry_is self.old.entries.items
-            ++ Faulting fault (known_cause cause) (map act_is acts.items) met.items ∷ []) }
+            ++ Faulting location fault (known_cause cause) (map act_is acts.items) met.items ∷ []) }
         ensures program { self.new.program.now ≡ self.old.program.now }
     {
         self.entries.push(Entry::Faulted {
+            location,
             fault,
             cause,
             acts,

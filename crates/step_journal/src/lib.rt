@@ -8,6 +8,7 @@ mod effects;
 mod journal;
 pub mod journal_laws;
 mod listening;
+mod locals;
 mod meetings;
 mod set_effects;
 mod whole;

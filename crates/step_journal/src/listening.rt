@@ -7,6 +7,7 @@ ghost use Rattle.step_journal.specs.HeardLaws.{Heard, heard_nothing, heard_on};
 use crate::acts::{acts_before, acts_of, alone_acts, front};
 use crate::effects::{cells_changed, items_printed, variables_changed};
 use crate::journal::Journal;
+use crate::locals::locals_changed;
 use crate::meetings::meeting;
 use fault_causes::{cause_alone, cause_on};
 use pram_check::Program;
@@ -17,6 +18,7 @@ use pram_meaning::listener::Listener;
 use pram_meaning::part::Part;
 use pram_meaning::run::Run;
 use pram_meaning::team::Member;
+use pram_tokens::Location;
 use pram_values::{Kind, Place};
 use std::alloc::AllocError;
 use write_rules::Fault;
@@ -29,7 +31,7 @@ impl<'a> Listener for Journal<'a> {
     fn acts(
         &mut self,
         run: &Run,
-        line: u32,
+        location: Location,
         action: &Action,
         trail: &[Option<u32>],
         effect: &Effect,
@@ -38,14 +40,15 @@ impl<'a> Listener for Journal<'a> {
         let cells = cells_changed(self.alloc, run, action, effect)?;
         let variables = variables_changed(self.alloc, run, action, effect)?;
         let items = items_printed(self.alloc, run, action, effect)?;
-        self.add(line, acts, cells, variables, items)
+        let locals = Vec::new(self.alloc);
+        self.add(location, acts, cells, variables, locals, items)
     }
 
     #[tactic(auto, using(crate::proofs::Told::fell_alone))]
     fn fails(
         &mut self,
         run: &Run,
-        line: u32,
+        location: Location,
         action: &Action,
         trail: &[Option<u32>],
         kind: Kind,
@@ -53,11 +56,11 @@ impl<'a> Listener for Journal<'a> {
         let acts = alone_acts(self.alloc, front(trail.len(), trail), None)?;
         let fault = Fault {
             kind,
-            line,
+            line: location.line,
             place: Place::All,
         };
         let cause = cause_alone(self.alloc, self.program, run, action);
-        self.stop(fault, cause, acts, Vec::new(self.alloc))
+        self.stop(location, fault, cause, acts, Vec::new(self.alloc))
     }
 
     #[tactic(auto, using(crate::proofs::Told::ran_together))]
@@ -65,20 +68,16 @@ impl<'a> Listener for Journal<'a> {
         &mut self,
         program: &Program,
         run: &Run,
-        _team: &Vec<Member>,
-        line: u32,
+        team: &Vec<Member>,
+        location: Location,
         action: &StepAction,
         parts: &[Part],
     ) -> Result<(), AllocError> {
         let acts = acts_of(self.alloc, parts)?;
+        let locals = locals_changed(self.alloc, team, action, parts)?;
         let cells = self.cells_changed_on(program, run, action, parts)?;
-        self.add(
-            line,
-            acts,
-            cells,
-            Vec::new(self.alloc),
-            Vec::new(self.alloc),
-        )
+        let (variables, items) = (Vec::new(self.alloc), Vec::new(self.alloc));
+        self.add(location, acts, cells, variables, locals, items)
     }
 
     #[tactic(auto, using(crate::proofs::Told::fell_together))]
@@ -86,7 +85,7 @@ impl<'a> Listener for Journal<'a> {
         &mut self,
         run: &Run,
         team: &Vec<Member>,
-        line: u32,
+        location: Location,
         action: &StepAction,
         parts: &[Part],
         key: Key,
@@ -96,10 +95,10 @@ impl<'a> Listener for Journal<'a> {
         let cause = cause_on(self.alloc, self.program, run, team, action, parts, key)?;
         let fault = Fault {
             kind: key.kind,
-            line,
+            line: location.line,
             place: key.place,
         };
-        self.stop(fault, cause, acts, met)
+        self.stop(location, fault, cause, acts, met)
     }
 
     fn closes(&mut self) -> Result<(), AllocError> {

@@ -55,8 +55,8 @@ abbrev pub fault_column : List SharedEntry → Grid → (x k : ℕ) → Fault �
 fault_column layout g x k f acts met = heading x k f.line ++ (acts_drawn layout g x acts ++ conflict layout g x f met)
 
 abbrev pub column : List SharedEntry → Grid → (x k : ℕ) → Entry → List ℕ
-column layout g x k (Ran line acts cells variables items) = ran_column layout g x k line acts
-column layout g x k (Faulting f cause acts met) = fault_column layout g x k f acts met
+column layout g x k (Ran here acts cells variables locals items) = ran_column layout g x k here.line acts
+column layout g x k (Faulting here f cause acts met) = fault_column layout g x k f acts met
 
 -- those of entries that are numbered from k on
 abbrev pub columns_from : List SharedEntry → Grid → (k : ℕ) → List Entry → List ℕ

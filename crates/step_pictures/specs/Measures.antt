@@ -11,8 +11,8 @@ abbrev pub drawn : List Entry → List Entry
 drawn = take 100
 
 abbrev pub acts_in : Entry → List Act
-acts_in (Ran line acts cells variables items) = acts
-acts_in (Faulting fault cause acts met) = acts
+acts_in (Ran here acts cells variables locals items) = acts
+acts_in (Faulting here fault cause acts met) = acts
 
 -- ---- the indices of the processors that act, from the least to the greatest
 

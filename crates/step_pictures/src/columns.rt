@@ -239,7 +239,7 @@ fn write_column<W: Out>(
         (spec.column layout.now (grid_is grid) at.x at.k (entry_is entry.now)) result }
 {
     match entry {
-        Entry::Ran { line, acts, .. } => write_ran(out, layout, grid, at, *line, acts),
+        Entry::Ran { location, acts, .. } => write_ran(out, layout, grid, at, location.line, acts),
         Entry::Faulted {
             fault,
             acts,

@@ -37,8 +37,8 @@ abbrev pub faulting_text : List SharedEntry → Fault → List ℤ → List ℕ
 faulting_text layout fault who = fault_text layout fault ++ meeting_text who
 
 abbrev pub told_text : List SharedEntry → Entry → List ℕ
-told_text layout (Ran at acts cells variables items) = ran_text layout at (length acts) cells
-told_text layout (Faulting fault cause acts met) = faulting_text layout fault met
+told_text layout (Ran here acts cells variables locals items) = ran_text layout here.line (length acts) cells
+told_text layout (Faulting here fault cause acts met) = faulting_text layout fault met
 
 abbrev pub number_text : ℕ → List ℕ
 number_text number = decimal number ++ codes " "

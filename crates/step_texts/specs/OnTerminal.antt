@@ -20,12 +20,12 @@ abbrev pub ran_text : List SharedEntry → Bool → (at processors : ℕ) → Li
 ran_text layout colours at k ds = head_text at k ++ coloured_changes layout colours ds
 
 abbrev pub told_text : List SharedEntry → Bool → Entry → List ℕ
-told_text layout colours (Ran at acts cells variables items) = ran_text layout colours at (length acts) cells
-told_text layout colours (Faulting fault cause acts met) = faulting_text layout fault met
+told_text layout colours (Ran here acts cells variables locals items) = ran_text layout colours here.line (length acts) cells
+told_text layout colours (Faulting here fault cause acts met) = faulting_text layout fault met
 
 abbrev pub line_of : Entry → ℕ
-line_of (Ran at acts cells variables items) = at
-line_of (Faulting fault cause acts met) = fault.line
+line_of (Ran here acts cells variables locals items) = here.line
+line_of (Faulting here fault cause acts met) = fault.line
 
 -- the line of the text that the entry is of
 abbrev pub beside : List ℕ → ℕ → List ℕ

@@ -117,11 +117,11 @@ fn write_told<W: Out>(out: &mut W, layout: &Layout, entry: &Entry) -> Result<(),
 {
     match entry {
         Entry::Ran {
-            line,
+            location,
             acts,
             cells,
             ..
-        } => write_ran(out, layout, *line, acts.len(), cells),
+        } => write_ran(out, layout, location.line, acts.len(), cells),
         Entry::Faulted { fault, met, .. } => write_faulting(out, layout, fault, met),
     }
 }

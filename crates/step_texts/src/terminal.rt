@@ -71,11 +71,11 @@ fn write_told<W: Out>(
 {
     match entry {
         Entry::Ran {
-            line,
+            location,
             acts,
             cells,
             ..
-        } => write_ran(out, layout, colours, *line, acts.len(), cells),
+        } => write_ran(out, layout, colours, location.line, acts.len(), cells),
         Entry::Faulted { fault, met, .. } => write_faulting(out, layout, fault, met),
     }
 }
@@ -85,7 +85,7 @@ fn line_of(entry: &Entry) -> u32
     ensures { result ≡ spec.line_of (entry_is entry.now) }
 {
     match entry {
-        Entry::Ran { line, .. } => *line,
+        Entry::Ran { location, .. } => location.line,
         Entry::Faulted { fault, .. } => fault.line,
     }
 }

@@ -56,21 +56,21 @@ module _ (t : Run) where
 
   statement_calm : (keep : Bool) (free at : ℕ) (held : Bool) (s : Statement) → Stand t at (outside.code keep free at held s) →
       IsCalm t.code at
-  statement_calm keep free at held (statement.Assign line (target.Uniform x) e) h = mark_calm at line h.0
-  statement_calm keep free at held (statement.Assign line (target.Cell a) e) h =
-      write_calm keep held at line Uniform free a Zero (formula_of e) h
-  statement_calm keep free at held (statement.Assign line (target.Element a i) e) h =
-      write_calm keep held at line Uniform free a (formula_of i) (formula_of e) h
-  statement_calm keep free at held (statement.Print line e) h = mark_calm at line h.0
-  statement_calm keep free at held (statement.While' line e q a) h =
-      let test = counted keep false line Uniform free (formula_of e) in
+  statement_calm keep free at held (statement.Assign here (target.Uniform x) e) h = mark_calm at here.line h.0
+  statement_calm keep free at held (statement.Assign here (target.Cell a) e) h =
+      write_calm keep held at here.line Uniform free a Zero (formula_of e) h
+  statement_calm keep free at held (statement.Assign here (target.Element a i) e) h =
+      write_calm keep held at here.line Uniform free a (formula_of i) (formula_of e) h
+  statement_calm keep free at held (statement.Print here e) h = mark_calm at here.line h.0
+  statement_calm keep free at held (statement.While' here e q a) h =
+      let test = counted keep false here.line Uniform free (formula_of e) in
       let body = λ (n : ℕ). sent (outside.part_code keep free n false a) (outside.part_left false a) in
       let loop = looped (at + length (flush held)) test (value_at Uniform free (formula_of e)) body in
       let parts = stands_split t at (flush held) loop h in
-      flush_calm at held parts.0 (mark_calm (at + length (flush held)) line parts.1.0)
-  statement_calm keep free at held (statement.If' line e q a r b) h = mark_calm at line h.0
-  statement_calm keep free at held (statement.For' line x e f q a) h = mark_calm at line h.0
-  statement_calm keep free at held (statement.Pardo line e f locals body) h = mark_calm at line h.0
+      flush_calm at held parts.0 (mark_calm (at + length (flush held)) here.line parts.1.0)
+  statement_calm keep free at held (statement.If' here e q a r b) h = mark_calm at here.line h.0
+  statement_calm keep free at held (statement.For' here x e f q a) h = mark_calm at here.line h.0
+  statement_calm keep free at held (statement.Pardo here e f locals body) h = mark_calm at here.line h.0
 
   part_calm : (keep : Bool) (free at : ℕ) (held : Bool) {k : _} (ss : Row_of-Statement k) →
       BeginsCalm t at (outside.part_code keep free at held ss)
@@ -89,19 +89,19 @@ module _ (t : Run) where
       (stands_split t at first (outside.statements_code keep free (at + length first) (outside.left held s) ss) h).0
 
   step_calm : (w : Frame) (base at : ℕ) (held : Bool) (s : Step) → Stand t at (inside.step_code w base at held s) → IsCalm t.code at
-  step_calm w base at held (step.Assign line (inner.Local x) e) h = mark_calm at line h.0
-  step_calm w base at held (step.Assign line (inner.Cell a) e) h =
-      write_calm w.keep held at line Private base a Zero (formula_of e) h
-  step_calm w base at held (step.Assign line (inner.Element a i) e) h =
-      write_calm w.keep held at line Private base a (formula_of i) (formula_of e) h
-  step_calm w base at held (step.If' line e q a r b) h = mark_calm at line h.0
-  step_calm w base at held (step.While' line e q a) h =
+  step_calm w base at held (step.Assign here (inner.Local x) e) h = mark_calm at here.line h.0
+  step_calm w base at held (step.Assign here (inner.Cell a) e) h =
+      write_calm w.keep held at here.line Private base a Zero (formula_of e) h
+  step_calm w base at held (step.Assign here (inner.Element a i) e) h =
+      write_calm w.keep held at here.line Private base a (formula_of i) (formula_of e) h
+  step_calm w base at held (step.If' here e q a r b) h = mark_calm at here.line h.0
+  step_calm w base at held (step.While' here e q a) h =
       let before = flagged held base in
       let body = λ (n : ℕ). sent (inside.part_code w (base + 1) n false a) (inside.part_left false a) in
-      let loop = looped (at + length before) (flags w.keep line w.vote base (base + 1) (formula_of e)) w.vote body in
+      let loop = looped (at + length before) (flags w.keep here.line w.vote base (base + 1) (formula_of e)) w.vote body in
       let parts = stands_split t at before loop (stands_split t at (before ++ loop) (Unmask ∷ []) h).0 in
       let front = stands_split t at (flush held) (Set Private base (pos 1) ∷ Mask base ∷ []) parts.0 in
-      let head = mark_calm (at + length before) line parts.1.0 in
+      let head = mark_calm (at + length before) here.line parts.1.0 in
       let n = length-append (flush held) (Set Private base (pos 1) ∷ Mask base ∷ []) in
       let place = at + length (flush held) in
       flush_calm at held front.0

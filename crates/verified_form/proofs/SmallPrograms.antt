@@ -64,31 +64,31 @@ module _ (most : ℕ) (all : most ≤ 2 ^ 16) (s : Names) (few : s.uniforms + 1 
   mutual
     statement_small : (free start : ℕ) (held : Bool) (x : Statement) → IsStatement s x → StatementHasLines x →
         free + 3 * depth x + size x + 10 ≤ most → AreSmall most (outside.code keep free start held x)
-    statement_small free start held (Assign line x e) h l m = assign_small held line free x e l h (omega (arith, m))
-    statement_small free start held (Print line e) h l m =
-        prints_small most s.uniforms locals few fewer keep held line free (formula_of e) l (sole_fair s most all free e h (omega
+    statement_small free start held (Assign here x e) h l m = assign_small held here.line free x e l h (omega (arith, m))
+    statement_small free start held (Print here e) h l m =
+        prints_small most s.uniforms locals few fewer keep held here.line free (formula_of e) l (sole_fair s most all free e h (omega
         (arith, m)))
-    statement_small free start held (While' line e q a) h l m =
+    statement_small free start held (While' here e q a) h l m =
         let f = formula_of e in
-        let test = counted keep false line Uniform free f in
+        let test = counted keep false here.line Uniform free f in
         let body = λ (n : ℕ). sent (outside.part_code keep free n false a) (outside.part_left false a) in
         let fair = sole_fair s most all free e h.0 (omega (arith, m)) in
         let head = start + length (flush held) in
         small_join most (flush held) (looped head test (value_at Uniform free f) body) (flush_small most held)
         (looped_small most head (value_at Uniform free f) test body (value_below most s.uniforms locals few fewer Uniform free f fair)
-        (counted_small most s.uniforms locals few fewer Uniform keep false line free f l.0 fair)
+        (counted_small most s.uniforms locals few fewer Uniform keep false here.line free f l.0 fair)
         (λ n. sent_small most (outside.part_code keep free n false a) (outside.part_left false a)
         (block_small free n false a h.1 l.1 (omega (arith, m)))))
-    statement_small free start held (If' line e q a r b) h l m =
+    statement_small free start held (If' here e q a r b) h l m =
         let f = formula_of e in
-        let c = counted keep held line Uniform free f in
+        let c = counted keep held here.line Uniform free f in
         let test = c ++ flush (still held f) in
         let behind = start + length test in
         let first = sent (outside.part_code keep free (behind + 1) false a) (outside.part_left false a) in
         let second = λ (n : ℕ). sent (outside.part_code keep free n false b) (outside.part_left false b) in
         let fair = sole_fair s most all free e h.0 (omega (arith, m)) in
         small_join most test (chosen behind (value_at Uniform free f) first (outside.has_part b) second)
-        (small_join most c (flush (still held f)) (counted_small most s.uniforms locals few fewer Uniform keep held line free f l.0 fair)
+        (small_join most c (flush (still held f)) (counted_small most s.uniforms locals few fewer Uniform keep held here.line free f l.0 fair)
         (flush_small most (still held f)))
         (chosen_small most behind (value_at Uniform free f) first (outside.has_part b) second
         (value_below most s.uniforms locals few fewer Uniform free f fair)
@@ -96,26 +96,26 @@ module _ (most : ℕ) (all : most ≤ 2 ^ 16) (s : Names) (few : s.uniforms + 1 
         (block_small free (behind + 1) false a h.1 l.1 (omega (arith, m))))
         (λ n. sent_small most (outside.part_code keep free n false b) (outside.part_left false b)
         (block_small free n false b h.2 l.2 (omega (arith, m)))))
-    statement_small free start held (For' line x e f q a) h l m =
-        let first = bounds keep held line free (formula_of e) (formula_of f) in
-        let set = setting keep line free x in
+    statement_small free start held (For' here x e f q a) h l m =
+        let first = bounds keep held here.line free (formula_of e) (formula_of f) in
+        let set = setting keep here.line free x in
         let body = λ (n : ℕ). sent (outside.part_code keep (behind_turns free) n false a) (outside.part_left false a) in
         small_join most first (turned (start + length first) (more free) set body)
-        (bounds_small most s.uniforms locals few fewer keep held line free (formula_of e) (formula_of f) l.0 (omega (arith, m))
+        (bounds_small most s.uniforms locals few fewer keep held here.line free (formula_of e) (formula_of f) l.0 (omega (arith, m))
         (pair_fair s most all (behind_turns free) e f h.1 (omega (arith, m))))
         (turned_small most (start + length first) (more free) set body (omega (arith, m))
-        (setting_small most s.uniforms locals few fewer keep line free x l.0 (omega (arith, m)) h.0)
+        (setting_small most s.uniforms locals few fewer keep here.line free x l.0 (omega (arith, m)) h.0)
         (λ n. sent_small most (outside.part_code keep (behind_turns free) n false a) (outside.part_left false a)
         (block_small (behind_turns free) n false a h.2 l.1 (omega (arith, m)))))
-    statement_small free start held (Pardo line e f count body) h l m =
+    statement_small free start held (Pardo here e f count body) h l m =
         let w : Frame = record { keep = keep; vote = free } in
-        let before = entered keep held line free (formula_of e) (formula_of f) in
+        let before = entered keep held here.line free (formula_of e) (formula_of f) in
         let still_there = still held (Pair (formula_of e) (formula_of f)) in
         let part = steps_code w (behind_locals count) (start + length before) still_there body.items in
         let p = positions_of e in let q = positions_of f in
         small_join most (before ++ part) (Leave ∷ [])
         (small_join most before part
-        (entered_small most s.uniforms locals few fewer keep held line free (formula_of e) (formula_of f) l.0 (omega (arith, p, q, m, all))
+        (entered_small most s.uniforms locals few fewer keep held here.line free (formula_of e) (formula_of f) l.0 (omega (arith, p, q, m, all))
         (pair_fair s most all free e f h.0 (omega (arith, m))))
         (steps_small most all (with_locals count s) few (omega (arith, m)) w (omega (arith, m)) (behind_locals count)
         (start + length before) still_there body.items h.1 l.1 (omega (arith, m))))

@@ -159,10 +159,10 @@ module _ (most : ℕ) (all : most ≤ 2 ^ 16) (s : Names) (few : s.uniforms + 1 
   mutual
     step_small : (base start : ℕ) (held : Bool) (x : Step) → IsStep s x → HasLines x → base + step_depth x + step_size x + 10 ≤ most →
         AreSmall most (inside.step_code w base start held x)
-    step_small base start held (step.Assign line x e) h l m = inner_assign_small held line base x e l h (omega (arith, m))
-    step_small base start held (step.If' line e q a r b) h l m =
+    step_small base start held (step.Assign here x e) h l m = inner_assign_small held here.line base x e l h (omega (arith, m))
+    step_small base start held (step.If' here e q a r b) h l m =
         let f = formula_of e in
-        let test = counted w.keep held line Private base f ++ Mask (value_at Private base f) ∷ [] in
+        let test = counted w.keep held here.line Private base f ++ Mask (value_at Private base f) ∷ [] in
         let first = inside.part_code w base (start + length test) (still held f) a in
         let behind = inside.part_left (still held f) a in
         let second = λ (n : ℕ). inside.part_code w base n behind b in
@@ -170,20 +170,20 @@ module _ (most : ℕ) (all : most ≤ 2 ^ 16) (s : Names) (few : s.uniforms + 1 
         small_join most (test ++ first ++ other) (Unmask ∷ [])
         (small_join most (test ++ first) other
         (small_join most test first
-        (tested_small most s.uniforms locals few fewer w.keep held line base f l.0 (sole_fair s most all base e h.0 (omega (arith, m))))
+        (tested_small most s.uniforms locals few fewer w.keep held here.line base f l.0 (sole_fair s most all base e h.0 (omega (arith, m))))
         (part_small base (start + length test) (still held f) a h.1 l.1 (omega (arith, m))))
         (flipped_small most (start + length (test ++ first)) (inside.has_part b) second
         (λ n. part_small base n behind b h.2 l.2 (omega (arith, m)))))
         (record { uniform = omega arith; private = omega arith; numbers = tt }, tt)
-    step_small base start held (step.While' line e q a) h l m =
+    step_small base start held (step.While' here e q a) h l m =
         let f = formula_of e in
         let before = flagged held base in
-        let test = flags w.keep line w.vote base (base + 1) f in
+        let test = flags w.keep here.line w.vote base (base + 1) f in
         let body = λ (n : ℕ). sent (inside.part_code w (base + 1) n false a) (inside.part_left false a) in
         small_join most (before ++ looped (start + length before) test w.vote body) (Unmask ∷ [])
         (small_join most before (looped (start + length before) test w.vote body) (flagged_small most held base (omega (arith, m)))
         (looped_small most (start + length before) w.vote test body vote
-        (flags_small most s.uniforms locals few fewer w.keep line w.vote base (base + 1) f l.0 vote (omega (arith, m))
+        (flags_small most s.uniforms locals few fewer w.keep here.line w.vote base (base + 1) f l.0 vote (omega (arith, m))
         (sole_fair s most all (base + 1) e h.0 (omega (arith, m))))
         (λ n. sent_small most (inside.part_code w (base + 1) n false a) (inside.part_left false a)
         (part_small (base + 1) n false a h.1 l.1 (omega (arith, m))))))

@@ -153,37 +153,37 @@ module _ (code : SuperstepCode) (all : HasRegisters code) (uniforms : ℕ) where
     statement_judged : (keep : Bool) (free start : ℕ) (held : Bool) (s : Statement) → IsStatement names s →
         depth s ≤ 64 →
         Judged code start (resting Uniform 0 held) (outside.code keep free start held s) (resting Uniform 0 (outside.left held s))
-    statement_judged keep free start held (Assign line x e) h d =
+    statement_judged keep free start held (Assign here x e) h d =
         judged_fits code all start (resting Uniform 0 held) (resting Uniform 0 (assign_left held x (formula_of e)))
-        (assign keep held line free x (formula_of e)) (assign_fits keep line free held x e h)
-    statement_judged keep free start held (Print line e) h d =
+        (assign keep held here.line free x (formula_of e)) (assign_fits keep here.line free held x e h)
+    statement_judged keep free start held (Print here e) h d =
         judged_fits code all start (resting Uniform 0 held) (resting Uniform 0 (still held (formula_of e)))
-        (prints keep held line free (formula_of e))
-        (prints_fit code keep held line free (formula_of e) (sole_ready names e h))
-    statement_judged keep free start held (While' line e q a) h d =
+        (prints keep held here.line free (formula_of e))
+        (prints_fit code keep held here.line free (formula_of e) (sole_ready names e h))
+    statement_judged keep free start held (While' here e q a) h d =
         let body = λ (n : ℕ). sent (part_code keep free n false a) (part_left false a) in
-        while_judged keep held start line free (formula_of e) body (sole_ready names e h.0)
-        (sent_part_judged keep free (loop_turn keep held start line free (formula_of e) body) a
-        (part_judged keep free (loop_turn keep held start line free (formula_of e) body) false a h.1 (omega (arith, d))))
-    statement_judged keep free start held (If' line e q a r b) h d =
+        while_judged keep held start here.line free (formula_of e) body (sole_ready names e h.0)
+        (sent_part_judged keep free (loop_turn keep held start here.line free (formula_of e) body) a
+        (part_judged keep free (loop_turn keep held start here.line free (formula_of e) body) false a h.1 (omega (arith, d))))
+    statement_judged keep free start held (If' here e q a r b) h d =
         let first = λ (n : ℕ). sent (part_code keep free n false a) (part_left false a) in
         let second = λ (n : ℕ). sent (part_code keep free n false b) (part_left false b) in
-        let at = fork_place keep held start line free (formula_of e) first (has_part b) second in
-        if_judged keep held start line free (formula_of e) first (has_part b) second (sole_ready names e h.0)
+        let at = fork_place keep held start here.line free (formula_of e) first (has_part b) second in
+        if_judged keep held start here.line free (formula_of e) first (has_part b) second (sole_ready names e h.0)
         (parts_judged keep at (value_at Uniform free (formula_of e)) free (first (at + 1)) b
         (sent_part_judged keep free (at + 1) a (part_judged keep free (at + 1) false a h.1 (omega (arith, d))))
         (λ n. sent_part_judged keep free n b (part_judged keep free n false b h.2 (omega (arith, d)))))
-    statement_judged keep free start held (For' line x e f q a) h d =
+    statement_judged keep free start held (For' here x e f q a) h d =
         let body = λ (n : ℕ). sent (part_code keep (behind_turns free) n false a) (part_left false a) in
-        let at = turn_place keep held start line free x (formula_of e) (formula_of f) body in
-        for_judged keep held start line free x (formula_of e) (formula_of f) body (pair_ready names e f h.1)
+        let at = turn_place keep held start here.line free x (formula_of e) (formula_of f) body in
+        for_judged keep held start here.line free x (formula_of e) (formula_of f) body (pair_ready names e f h.1)
         (sent_part_judged keep (behind_turns free) at a (part_judged keep (behind_turns free) at false a h.2 (omega (arith, d))))
-    statement_judged keep free start held (Pardo line e f locals body) h d =
+    statement_judged keep free start held (Pardo here e f locals body) h d =
         let w : Frame = record { keep = keep; vote = free } in
         let s = still held (Pair (formula_of e) (formula_of f)) in
         let steps = λ (n : ℕ). steps_code w (behind_locals locals) n s body.items in
-        let at = range_place keep held start line free (formula_of e) (formula_of f) steps (steps_left s body.items) in
-        pardo_judged keep held start line free (formula_of e) (formula_of f) steps (steps_left s body.items)
+        let at = range_place keep held start here.line free (formula_of e) (formula_of f) steps (steps_left s body.items) in
+        pardo_judged keep held start here.line free (formula_of e) (formula_of f) steps (steps_left s body.items)
         (pair_ready names e f h.0)
         (steps_judged code all uniforms (Some locals) w (behind_locals locals) at 0 s body.items h.1 (omega (arith, d)))
 

@@ -138,25 +138,25 @@ module _ (code : SuperstepCode) (all : HasRegisters code) (uniforms : ℕ) (loca
   mutual
     pub step_judged : (w : Frame) (base start masks : ℕ) (held : Bool) (s : Step) → IsStep names s → masks + step_depth s ≤ 64 →
         Judged code start (resting Private masks held) (step_code w base start held s) (resting Private masks (step_left held s))
-    step_judged w base start masks held (step.Assign line x e) h d =
+    step_judged w base start masks held (step.Assign here x e) h d =
         judged_fits code all start (resting Private masks held) (resting Private masks (inner_assign_left held x (formula_of e)))
-        (inner_assign w held line base x (formula_of e)) (assign_fits w masks line base held x e h)
-    step_judged w base start masks held (step.If' line e q a r b) h d =
+        (inner_assign w held here.line base x (formula_of e)) (assign_fits w masks here.line base held x e h)
+    step_judged w base start masks held (step.If' here e q a r b) h d =
         let f = formula_of e in
         let one = λ (n : ℕ). part_code w base n (still held f) a in
         let two = λ (n : ℕ). part_code w base n (part_left (still held f) a) b in
-        inner_if_judged w.keep held start line base masks f one two (has_part b) (part_left (still held f) a)
+        inner_if_judged w.keep held start here.line base masks f one two (has_part b) (part_left (still held f) a)
         (part_left (part_left (still held f) a) b) (omega (arith, d)) (sole_ready names e h.0)
-        (part_judged w base (start + length (test w.keep held start line base masks f one two (has_part b) false false)) (masks + 1)
+        (part_judged w base (start + length (test w.keep held start here.line base masks f one two (has_part b) false false)) (masks + 1)
         (still held f) a h.1 (omega (arith, d)))
-        (other_judged w base (start + length (before w.keep held start line base masks f one two (has_part b) false false)) masks
+        (other_judged w base (start + length (before w.keep held start here.line base masks f one two (has_part b) false false)) masks
         (part_left (still held f) a) b
         (λ n. part_judged w base n (masks + 1) (part_left (still held f) a) b h.2 (omega (arith, d))))
-    step_judged w base start masks held (step.While' line e q a) h d =
+    step_judged w base start masks held (step.While' here e q a) h d =
         let f = formula_of e in
         let part = λ (n : ℕ). part_code w (base + 1) n false a in
-        let at = turn w.keep held start line w.vote base (base + 1) masks f (λ n. sent (part n) (part_left false a)) in
-        inner_while_judged w.keep held start line w.vote base (base + 1) masks f (λ n. sent (part n) (part_left false a)) (omega (arith, d))
+        let at = turn w.keep held start here.line w.vote base (base + 1) masks f (λ n. sent (part n) (part_left false a)) in
+        inner_while_judged w.keep held start here.line w.vote base (base + 1) masks f (λ n. sent (part n) (part_left false a)) (omega (arith, d))
         (sole_ready names e h.0)
         (sent_judged at (masks + 1) (part_left false a) (part at) (part_judged w (base + 1) at (masks + 1) false a h.1 (omega (arith, d))))
 

@@ -23,9 +23,9 @@ IsLine line = line < 2 ^ 32
 abbrev mutual
   -- the lines of a statement inside pardo
   pub HasLines : Step → Type 0
-  HasLines (step.Assign line x e) = IsLine line
-  HasLines (step.If' line e q then_part r else_part) = IsLine line × PartHasLines then_part × PartHasLines else_part
-  HasLines (step.While' line e q body) = IsLine line × PartHasLines body
+  HasLines (step.Assign here x e) = IsLine here.line
+  HasLines (step.If' here e q then_part r else_part) = IsLine here.line × PartHasLines then_part × PartHasLines else_part
+  HasLines (step.While' here e q body) = IsLine here.line × PartHasLines body
 
   pub PartHasLines : {k : _} → Row_of-Step k → Type 0
   PartHasLines end_of-Step = Unit {0}
@@ -39,12 +39,12 @@ StepsHaveLines (s ∷ ss) = HasLines s × StepsHaveLines ss
 abbrev mutual
   -- the lines of a statement
   pub StatementHasLines : Statement → Type 0
-  StatementHasLines (Assign line x e) = IsLine line
-  StatementHasLines (Print line e) = IsLine line
-  StatementHasLines (While' line e q body) = IsLine line × BlockHasLines body
-  StatementHasLines (If' line e q then_part r else_part) = IsLine line × BlockHasLines then_part × BlockHasLines else_part
-  StatementHasLines (For' line x e f q body) = IsLine line × BlockHasLines body
-  StatementHasLines (Pardo line e f locals body) = IsLine line × StepsHaveLines body.items
+  StatementHasLines (Assign here x e) = IsLine here.line
+  StatementHasLines (Print here e) = IsLine here.line
+  StatementHasLines (While' here e q body) = IsLine here.line × BlockHasLines body
+  StatementHasLines (If' here e q then_part r else_part) = IsLine here.line × BlockHasLines then_part × BlockHasLines else_part
+  StatementHasLines (For' here x e f q body) = IsLine here.line × BlockHasLines body
+  StatementHasLines (Pardo here e f locals body) = IsLine here.line × StepsHaveLines body.items
 
   pub BlockHasLines : {k : _} → Row_of-Statement k → Type 0
   BlockHasLines end_of-Statement = Unit {0}

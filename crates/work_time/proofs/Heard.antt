@@ -1,5 +1,6 @@
 -- One moment that is heard, counted.
 use Rattle.std.proofs.Common.{◌≡◌, ◌∷◌, ◌++◌, [], List, ℕ, Option, ap, sym, ◌∙◌, append-nil}
+use Rattle.pram_tokens.specs.declared.token.Location.{Location}
 use Rattle.pram_meaning.specs.declared.key.Key.{Key}
 use Rattle.pram_meaning.specs.Attempt.{Attempt}
 use Rattle.pram_meaning.specs.Conflict.{Part}
@@ -18,16 +19,16 @@ step_met : (q : ℕ) (s t : TimeStep) (es : List Event) (a : Accounts) → s ≡
     entered q s (met_all es a) ≡ entered q t (met_all (es ++ []) a)
 step_met q s t es a is = ap (λ s. entered q s (met_all es a)) is ∙ ap (λ es. entered q t (met_all es a)) (sym (append-nil es))
 
-pub alone_counted : (a b : Meter) (line : ℕ) (act : Action) (before after : State) (x : Attempt (Option ℕ)) (s : TimeStep) →
-    s ≡ by_one line x → b.schedule ≡ a.schedule →
+pub alone_counted : (a b : Meter) (here : Location) (act : Action) (before after : State) (x : Attempt (Option ℕ)) (s : TimeStep) →
+    s ≡ by_one here.line x → b.schedule ≡ a.schedule →
     ledger_is b.ledger ≡ entered a.schedule s (met_all (alone_events act) (ledger_is a.ledger)) →
-    HasCounted a (Alone line act before x after ∷ []) b
-alone_counted a b line act before after x s is same e =
-    (same, e ∙ step_met a.schedule s (by_one line x) (alone_events act) (ledger_is a.ledger) is)
+    HasCounted a (Alone here act before x after ∷ []) b
+alone_counted a b here act before after x s is same e =
+    (same, e ∙ step_met a.schedule s (by_one here.line x) (alone_events act) (ledger_is a.ledger) is)
 
-pub set_counted : (a b : Meter) (line : ℕ) (act : StepAction) (before after : State) (xs : List Part) (k : Option Key) (s : TimeStep) →
-    s ≡ by_set line xs k → b.schedule ≡ a.schedule →
+pub set_counted : (a b : Meter) (here : Location) (act : StepAction) (before after : State) (xs : List Part) (k : Option Key) (s : TimeStep) →
+    s ≡ by_set here.line xs k → b.schedule ≡ a.schedule →
     ledger_is b.ledger ≡ entered a.schedule s (met_all (set_events act) (ledger_is a.ledger)) →
-    HasCounted a (Together line act before xs k after ∷ []) b
-set_counted a b line act before after xs k s is same e =
-    (same, e ∙ step_met a.schedule s (by_set line xs k) (set_events act) (ledger_is a.ledger) is)
+    HasCounted a (Together here act before xs k after ∷ []) b
+set_counted a b here act before after xs k s is same e =
+    (same, e ∙ step_met a.schedule s (by_set here.line xs k) (set_events act) (ledger_is a.ledger) is)

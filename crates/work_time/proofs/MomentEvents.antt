@@ -3,6 +3,7 @@ use Rattle.std.proofs.Common.{◌≡◌, ℕ, zero, suc, ◌+◌, ℤ, pos, ◌+
 use Rattle.std.proofs.Common.{Option, Some, None, refl, ap, sym, ◌∙◌, append_assoc, append-nil}
 use Rattle.std.proofs.lemmas.Grind.{flat_map-append}
 use Rattle.std.specs.List.{flat_map}
+use Rattle.pram_tokens.specs.declared.token.Location.{Location}
 use Rattle.pram_model.specs.Layout.{width}
 use Rattle.pram_check.specs.Checked.{Checked}
 use Rattle.pram_names.specs.declared.body.Statement.{Statement, Assign, Print, While', If', For', Pardo, Row_of-Statement, end_of-Statement}
@@ -75,21 +76,21 @@ any_met (v ∷ vs) es ms e = e
 
 -- ---- one statement
 
-alone_met : {A : Type 0} (n line : ℕ) (act : Action) (write : A → Option ℕ) (left : A → State → State) (a : State → Attempt A)
-    (m : State) → event.begun n m (alone_events act) ≡ met (alone_moment n line act write left a m)
-alone_met n line act write left a m =
-    begun_met n m (λ m. Alone line act m (writing write (a m)) (left_by left (a m) m)) (alone_events act) (λ m. refl)
+alone_met : {A : Type 0} (n : ℕ) (here : Location) (act : Action) (write : A → Option ℕ) (left : A → State → State) (a : State → Attempt A)
+    (m : State) → event.begun n m (alone_events act) ≡ met (alone_moment n here act write left a m)
+alone_met n here act write left a m =
+    begun_met n m (λ m. Alone here act m (writing write (a m)) (left_by left (a m) m)) (alone_events act) (λ m. refl)
 
-on_key_met : (line : ℕ) (act : StepAction) (left : List Part → State → State) (m : State) (xs : List Part) (k : Option Key) →
-    events_at (by_set line act left m xs k) ≡ set_events act
-on_key_met line act left m xs None = refl
-on_key_met line act left m xs (Some k) = refl
+on_key_met : (here : Location) (act : StepAction) (left : List Part → State → State) (m : State) (xs : List Part) (k : Option Key) →
+    events_at (by_set here act left m xs k) ≡ set_events act
+on_key_met here act left m xs None = refl
+on_key_met here act left m xs (Some k) = refl
 
-set_met : (p : Checked) (n line : ℕ) (act : StepAction) (left : List Part → State → State) (a : View → Attempt Effect) (vs : List ℕ)
-    (m : State) → event.begun n m (set_events act) ≡ met (set_moment p n line act left a vs m)
-set_met p n line act left a vs m =
-    begun_met n m (λ m. by_set line act left m (parts p m a vs) (least (keys p.rule (parts p m a vs)))) (set_events act)
-    (λ m. on_key_met line act left m (parts p m a vs) (least (keys p.rule (parts p m a vs))))
+set_met : (p : Checked) (n : ℕ) (here : Location) (act : StepAction) (left : List Part → State → State) (a : View → Attempt Effect) (vs : List ℕ)
+    (m : State) → event.begun n m (set_events act) ≡ met (set_moment p n here act left a vs m)
+set_met p n here act left a vs m =
+    begun_met n m (λ m. by_set here act left m (parts p m a vs) (least (keys p.rule (parts p m a vs)))) (set_events act)
+    (λ m. on_key_met here act left m (parts p m a vs) (least (keys p.rule (parts p m a vs))))
 
 -- ---- inside pardo
 
@@ -116,21 +117,21 @@ turns_on_met (suc k) head heard test body inside told h i vs m =
 module _ (p : Checked) (n : ℕ) where
   mutual
     inner_met : (s : Step) (vs : List ℕ) (m : State) → step_events p n s vs m ≡ met (inner_moments p n s vs m)
-    inner_met (step.Assign line x e) vs m = set_met p n line (AssignsOn x e) (assigned_by p x) (λ s. attempt_step s x e) vs m
-    inner_met (step.If' line e q a r b) vs m =
-        then_met (event.begun n m (set_events (ChoosesOn e))) (set_test_moment p n line (ChoosesOn e) e vs m) (tested_on p n line e vs m)
+    inner_met (step.Assign here x e) vs m = set_met p n here (AssignsOn x e) (assigned_by p x) (λ s. attempt_step s x e) vs m
+    inner_met (step.If' here e q a r b) vs m =
+        then_met (event.begun n m (set_events (ChoosesOn e))) (set_test_moment p n here (ChoosesOn e) e vs m) (tested_on p n here.line e vs m)
         (λ xs m. step_row_events p n a (those true xs) m
         ++ event.behind (perform_row_on p n a (those true xs) m) (λ u. step_row_events p n b (those false xs)))
         (λ xs m. inner_row_moments p n a (those true xs) m
         ++ behind (perform_row_on p n a (those true xs) m) (λ u. inner_row_moments p n b (those false xs)))
-        (set_met p n line (ChoosesOn e) unchanged (λ s. attempt_value s e) vs m)
+        (set_met p n here (ChoosesOn e) unchanged (λ s. attempt_value s e) vs m)
         (λ xs m. then_met (step_row_events p n a (those true xs) m) (inner_row_moments p n a (those true xs) m)
         (perform_row_on p n a (those true xs) m) (λ u. step_row_events p n b (those false xs))
         (λ u. inner_row_moments p n b (those false xs)) (inner_row_met a (those true xs) m) (λ u m. inner_row_met b (those false xs) m))
-    inner_met (step.While' line e q body) vs m =
-        turns_on_met (n + 1) (λ m. event.begun n m (set_events (TurnsOn e))) (set_test_moment p n line (TurnsOn e) e)
-        (tested_on p n line e) (perform_row_on p n body) (step_row_events p n body) (inner_row_moments p n body)
-        (λ vs m. set_met p n line (TurnsOn e) unchanged (λ s. attempt_value s e) vs m) (λ vs m. inner_row_met body vs m) vs m
+    inner_met (step.While' here e q body) vs m =
+        turns_on_met (n + 1) (λ m. event.begun n m (set_events (TurnsOn e))) (set_test_moment p n here (TurnsOn e) e)
+        (tested_on p n here.line e) (perform_row_on p n body) (step_row_events p n body) (inner_row_moments p n body)
+        (λ vs m. set_met p n here (TurnsOn e) unchanged (λ s. attempt_value s e) vs m) (λ vs m. inner_row_met body vs m) vs m
 
     inner_row_met : {k : _} (ss : Row_of-Step k) (vs : List ℕ) (m : State) →
         step_row_events p n ss vs m ≡ met (inner_row_moments p n ss vs m)
@@ -163,51 +164,51 @@ turns_met (suc k) head heard test body inside told h i m =
     (λ u m. turns_met k head heard test body inside told h i m))
     refl)
 
-for_met : (n line k x : ℕ) (a : ℤ) (body : State → Done) (inside : State → List Event) (told : State → List Moment) →
+for_met : (n : ℕ) (here : Location) (k x : ℕ) (a : ℤ) (body : State → Done) (inside : State → List Event) (told : State → List Moment) →
     ((m : State) → inside m ≡ met (told m)) → (m : State) →
-    for_events n k x a body inside m ≡ met (for_turns_moments n line k x a told body m)
-for_met n line zero x a body inside told i m = refl
-for_met n line (suc k) x a body inside told i m =
-    then_met (event.begun n m (Runs 0 false ∷ [])) (setting_moment n line x a m) (counted n m)
+    for_events n k x a body inside m ≡ met (for_turns_moments n here k x a told body m)
+for_met n here zero x a body inside told i m = refl
+for_met n here (suc k) x a body inside told i m =
+    then_met (event.begun n m (Runs 0 false ∷ [])) (setting_moment n here x a m) (counted n m)
     (λ u m. inside (with_uniform x a m)
     ++ Cut ∷ event.behind (body (with_uniform x a m)) (λ u. for_events n k x (a +ℤ pos 1) body inside))
     (λ u m. closing (told (with_uniform x a m))
-    ++ behind (body (with_uniform x a m)) (λ u. for_turns_moments n line k x (a +ℤ pos 1) told body))
-    (begun_met n m (λ m. Alone line (Sets x) m (Gives [] None) (with_uniform x a m)) (Runs 0 false ∷ []) (λ m. refl))
+    ++ behind (body (with_uniform x a m)) (λ u. for_turns_moments n here k x (a +ℤ pos 1) told body))
+    (begun_met n m (λ m. Alone here (Sets x) m (Gives [] None) (with_uniform x a m)) (Runs 0 false ∷ []) (λ m. refl))
     (λ u m. closed_met (inside (with_uniform x a m)) (told (with_uniform x a m)) (body (with_uniform x a m))
-    (λ u. for_events n k x (a +ℤ pos 1) body inside) (λ u. for_turns_moments n line k x (a +ℤ pos 1) told body)
-    (i (with_uniform x a m)) (λ u m. for_met n line k x (a +ℤ pos 1) body inside told i m))
+    (λ u. for_events n k x (a +ℤ pos 1) body inside) (λ u. for_turns_moments n here k x (a +ℤ pos 1) told body)
+    (i (with_uniform x a m)) (λ u m. for_met n here k x (a +ℤ pos 1) body inside told i m))
 
 module _ (p : Checked) (n : ℕ) where
   mutual
     statement_met : (s : Statement) (m : State) → events p n s m ≡ met (moments p n s m)
-    statement_met (Assign line x e) m = alone_met n line (Assigns x e) goes_to (assigned x) (λ m. attempt_assign (seen p m) x e) m
-    statement_met (Print line e) m = alone_met n line (Prints e) nowhere printed (λ m. attempt (seen p m) e []) m
-    statement_met (While' line e q body) m =
-        turns_met (n + 1) (λ m. event.begun n m (alone_events (Turns e))) (test_moment p n line (Turns e) e) (tested p n line e)
+    statement_met (Assign here x e) m = alone_met n here (Assigns x e) goes_to (assigned x) (λ m. attempt_assign (seen p m) x e) m
+    statement_met (Print here e) m = alone_met n here (Prints e) nowhere printed (λ m. attempt (seen p m) e []) m
+    statement_met (While' here e q body) m =
+        turns_met (n + 1) (λ m. event.begun n m (alone_events (Turns e))) (test_moment p n here (Turns e) e) (tested p n here.line e)
         (perform_row p n body) (row_events p n body) (row_moments p n body)
-        (λ m. alone_met n line (Turns e) nowhere unchanged (λ m. attempt (seen p m) e []) m) (λ m. row_met body m) m
-    statement_met (If' line e q a r b) m =
-        then_met (event.begun n m (alone_events (Chooses e))) (test_moment p n line (Chooses e) e m) (tested p n line e m)
+        (λ m. alone_met n here (Turns e) nowhere unchanged (λ m. attempt (seen p m) e []) m) (λ m. row_met body m) m
+    statement_met (If' here e q a r b) m =
+        then_met (event.begun n m (alone_events (Chooses e))) (test_moment p n here (Chooses e) e m) (tested p n here.line e m)
         (λ z m. (if z then row_events p n a m else row_events p n b m) ++ Cut ∷ [])
         (λ z m. closing (if z then row_moments p n a m else row_moments p n b m))
-        (alone_met n line (Chooses e) nowhere unchanged (λ m. attempt (seen p m) e []) m)
+        (alone_met n here (Chooses e) nowhere unchanged (λ m. attempt (seen p m) e []) m)
         (λ z m. closing_met (if z then row_events p n a m else row_events p n b m) (if z then row_moments p n a m else row_moments p n b m)
         (either_met z (row_events p n a m) (row_events p n b m) (row_moments p n a m) (row_moments p n b m) (row_met a m) (row_met b m)))
-    statement_met (For' line x e f q body) m =
-        then_met (event.begun n m (alone_events (Bounds e f))) (bounds_moment p n line e f m)
-        (evaluated n line (λ m. attempt_bounds (seen p m) e f) m)
+    statement_met (For' here x e f q body) m =
+        then_met (event.begun n m (alone_events (Bounds e f))) (bounds_moment p n here e f m)
+        (evaluated n here.line (λ m. attempt_bounds (seen p m) e f) m)
         (λ r. for_events n (width r.0 r.1) x r.0 (perform_row p n body) (row_events p n body))
-        (λ r. for_turns_moments n line (width r.0 r.1) x r.0 (row_moments p n body) (perform_row p n body))
-        (alone_met n line (Bounds e f) nowhere unchanged (λ m. attempt_bounds (seen p m) e f) m)
-        (λ r m. for_met n line (width r.0 r.1) x r.0 (perform_row p n body) (row_events p n body) (row_moments p n body)
+        (λ r. for_turns_moments n here (width r.0 r.1) x r.0 (row_moments p n body) (perform_row p n body))
+        (alone_met n here (Bounds e f) nowhere unchanged (λ m. attempt_bounds (seen p m) e f) m)
+        (λ r m. for_met n here (width r.0 r.1) x r.0 (perform_row p n body) (row_events p n body) (row_moments p n body)
         (λ m. row_met body m) m)
-    statement_met (Pardo line e f locals body) m =
-        then_met (event.begun n m (alone_events (Ranges e f))) (range_moment p n line e f m)
-        (evaluated n line (λ m. attempt_range p.procs (seen p m) e f) m)
+    statement_met (Pardo here e f locals body) m =
+        then_met (event.begun n m (alone_events (Ranges e f))) (range_moment p n here e f m)
+        (evaluated n here.line (λ m. attempt_range p.procs (seen p m) e f) m)
         (λ r m. steps_events p n body.items (numbers 0 r.1) (with_team r.0 r.1 locals m))
         (λ r m. inner_list_moments p n body.items (numbers 0 r.1) (with_team r.0 r.1 locals m))
-        (alone_met n line (Ranges e f) nowhere unchanged (λ m. attempt_range p.procs (seen p m) e f) m)
+        (alone_met n here (Ranges e f) nowhere unchanged (λ m. attempt_range p.procs (seen p m) e f) m)
         (λ r m. inner_list_met p n body.items (numbers 0 r.1) (with_team r.0 r.1 locals m))
 
     row_met : {k : _} (ss : Row_of-Statement k) (m : State) → row_events p n ss m ≡ met (row_moments p n ss m)

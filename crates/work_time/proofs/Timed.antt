@@ -6,6 +6,7 @@ use Rattle.std.proofs.lemmas.Bool.{cases_lt, le-ltb, lt-ltb}
 use Rattle.std.proofs.lemmas.Grind.{flat_map-append}
 use Rattle.std.proofs.lemmas.List.{length-append}
 use Rattle.std.specs.List.{flat_map}
+use Rattle.pram_tokens.specs.declared.token.Location.{Location}
 use Rattle.pram_model.specs.Layout.{width}
 use Rattle.pram_check.specs.Checked.{Checked}
 use Rattle.pram_names.specs.declared.body.Expression.{Expression}
@@ -157,39 +158,39 @@ turns_on_timed n (suc k) head test spent body t v b vs m l h =
     (λ us last a c. turns_on_timed n k head test spent body t v b us last c (omega (arith, moved, a, h))) (those true xs))
 
 module _ (p : Checked) (n : ℕ) where
-  set_timed : (line : ℕ) (act : StepAction) (left : List Part → State → State) (a : View → Attempt Effect) (vs : List ℕ) (m : State) →
-      m.count ≤ n → IsTimed n m (set_moment p n line act left a vs m) (attempted_on p n line a vs m)
-  set_timed line act left a vs m l =
-      begun_timed n m (λ m. by_set line act left m (parts p m a vs) (least (keys p.rule (parts p m a vs))))
-      (λ m. together p line (parts p m a vs)) (λ m. one m (parts p m a vs) (least (keys p.rule (parts p m a vs)))) l
+  set_timed : (here : Location) (act : StepAction) (left : List Part → State → State) (a : View → Attempt Effect) (vs : List ℕ) (m : State) →
+      m.count ≤ n → IsTimed n m (set_moment p n here act left a vs m) (attempted_on p n here.line a vs m)
+  set_timed here act left a vs m l =
+      begun_timed n m (λ m. by_set here act left m (parts p m a vs) (least (keys p.rule (parts p m a vs))))
+      (λ m. together p here.line (parts p m a vs)) (λ m. one m (parts p m a vs) (least (keys p.rule (parts p m a vs)))) l
     where
-      one : (m : State) (xs : List Part) (k : Option Key) → ran (by_set line act left m xs k ∷ []) ≡ 1
+      one : (m : State) (xs : List Part) (k : Option Key) → ran (by_set here act left m xs k ∷ []) ≡ 1
       one m xs None = refl
       one m xs (Some k) = refl
 
-  test_timed : (line : ℕ) (act : StepAction) (e : Expression) (vs : List ℕ) (m : State) → m.count ≤ n →
-      IsTimed n m (set_test_moment p n line act e vs m) (tested_on p n line e vs m)
-  test_timed line act e vs m l = set_timed line act unchanged (λ s. attempt_value s e) vs m l
+  test_timed : (here : Location) (act : StepAction) (e : Expression) (vs : List ℕ) (m : State) → m.count ≤ n →
+      IsTimed n m (set_test_moment p n here act e vs m) (tested_on p n here.line e vs m)
+  test_timed here act e vs m l = set_timed here act unchanged (λ s. attempt_value s e) vs m l
 
   mutual
     inner_timed : (s : Step) (vs : List ℕ) (m : State) → m.count ≤ n → IsTimed n m (inner_moments p n s vs m) (perform_on p n s vs m)
-    inner_timed (step.Assign line x e) vs m l =
-        timed_map n m (set_assign_moment p n line x e vs m) (attempted_on p n line (λ s. attempt_step s x e) vs m)
+    inner_timed (step.Assign here x e) vs m l =
+        timed_map n m (set_assign_moment p n here x e vs m) (attempted_on p n here.line (λ s. attempt_step s x e) vs m)
         (λ xs m. done) (λ xs m. assigned_by p x xs m) (λ xs m. set_count p x xs m)
-        (set_timed line (AssignsOn x e) (assigned_by p x) (λ s. attempt_step s x e) vs m l)
-    inner_timed (step.If' line e q a r b) vs m l =
-        timed_then n m (set_test_moment p n line (ChoosesOn e) e vs m) (tested_on p n line e vs m)
+        (set_timed here (AssignsOn x e) (assigned_by p x) (λ s. attempt_step s x e) vs m l)
+    inner_timed (step.If' here e q a r b) vs m l =
+        timed_then n m (set_test_moment p n here (ChoosesOn e) e vs m) (tested_on p n here.line e vs m)
         (λ xs m. inner_row_moments p n a (those true xs) m
         ++ behind (perform_row_on p n a (those true xs) m) (λ u. inner_row_moments p n b (those false xs)))
         (λ xs m. then_do (perform_row_on p n a (those true xs) m) (λ u. perform_row_on p n b (those false xs)))
-        (test_timed line (ChoosesOn e) e vs m l)
+        (test_timed here (ChoosesOn e) e vs m l)
         (λ xs m i g. timed_then n m (inner_row_moments p n a (those true xs) m) (perform_row_on p n a (those true xs) m)
         (λ u. inner_row_moments p n b (those false xs)) (λ u. perform_row_on p n b (those false xs))
         (inner_row_timed a (those true xs) m g) (λ u m i g. inner_row_timed b (those false xs) m g))
-    inner_timed (step.While' line e q body) vs m l =
-        turns_on_timed n (n + 1) (set_test_moment p n line (TurnsOn e) e) (tested_on p n line e) (inner_row_moments p n body)
-        (perform_row_on p n body) (λ vs m g. test_timed line (TurnsOn e) e vs m g)
-        (λ vs m. begun_moves n m (λ m. together p line (parts p m (λ s. attempt_value s e) vs)))
+    inner_timed (step.While' here e q body) vs m l =
+        turns_on_timed n (n + 1) (set_test_moment p n here (TurnsOn e) e) (tested_on p n here.line e) (inner_row_moments p n body)
+        (perform_row_on p n body) (λ vs m g. test_timed here (TurnsOn e) e vs m g)
+        (λ vs m. begun_moves n m (λ m. together p here.line (parts p m (λ s. attempt_value s e) vs)))
         (λ vs m g. inner_row_timed body vs m g) vs m l (omega arith)
 
     inner_row_timed : {k : _} (ss : Row_of-Step k) (vs : List ℕ) (m : State) → m.count ≤ n →
@@ -233,30 +234,30 @@ turns_timed n (suc k) head test spent body t v b m l h =
     turns_timed n k head test spent body t v b last c (omega (arith, moved, s, h))))
     (none_timed n done new g))
 
-setting_timed : (n line x : ℕ) (a : ℤ) (m : State) → m.count ≤ n → IsTimed n m (setting_moment n line x a m) (counted n m)
-setting_timed n line x a m l = by (cases_lt m.count n) where
-  by : (m.count < n) ⊎ (n ≤ m.count) → IsTimed n m (setting_moment n line x a m) (counted n m)
+setting_timed : (n : ℕ) (here : Location) (x : ℕ) (a : ℤ) (m : State) → m.count ≤ n → IsTimed n m (setting_moment n here x a m) (counted n m)
+setting_timed n here x a m l = by (cases_lt m.count n) where
+  by : (m.count < n) ⊎ (n ≤ m.count) → IsTimed n m (setting_moment n here x a m) (counted n m)
   by (inl h) = rw (lt-ltb m.count n h) (omega arith, omega (arith, h))
   by (inr h) = rw (le-ltb m.count n h) (omega (arith, h, l))
 
-for_timed : (n line k x : ℕ) (a : ℤ) (spent : State → List Moment) (body : State → Done) →
+for_timed : (n : ℕ) (here : Location) (k x : ℕ) (a : ℤ) (spent : State → List Moment) (body : State → Done) →
     ((m : State) → m.count ≤ n → IsTimed n m (spent m) (body m)) → (m : State) → m.count ≤ n →
-    IsTimed n m (for_turns_moments n line k x a spent body m) (for_turns n k x a body m)
-for_timed n line zero x a spent body b m l = none_timed n done m l
-for_timed n line (suc k) x a spent body b m l =
-    timed_then n m (setting_moment n line x a m) (counted n m)
+    IsTimed n m (for_turns_moments n here k x a spent body m) (for_turns n k x a body m)
+for_timed n here zero x a spent body b m l = none_timed n done m l
+for_timed n here (suc k) x a spent body b m l =
+    timed_then n m (setting_moment n here x a m) (counted n m)
     (λ u m. closing (spent (with_uniform x a m))
-    ++ behind (body (with_uniform x a m)) (λ u. for_turns_moments n line k x (a +ℤ pos 1) spent body))
+    ++ behind (body (with_uniform x a m)) (λ u. for_turns_moments n here k x (a +ℤ pos 1) spent body))
     (λ u m. then_do (body (with_uniform x a m)) (λ u. for_turns n k x (a +ℤ pos 1) body))
-    (setting_timed n line x a m l)
+    (setting_timed n here x a m l)
     (λ u m i g. set_first m
     (closing (spent (with_uniform x a m))
-    ++ behind (body (with_uniform x a m)) (λ u. for_turns_moments n line k x (a +ℤ pos 1) spent body))
+    ++ behind (body (with_uniform x a m)) (λ u. for_turns_moments n here k x (a +ℤ pos 1) spent body))
     (then_do (body (with_uniform x a m)) (λ u. for_turns n k x (a +ℤ pos 1) body))
     (timed_then n (with_uniform x a m) (closing (spent (with_uniform x a m))) (body (with_uniform x a m))
-    (λ u. for_turns_moments n line k x (a +ℤ pos 1) spent body) (λ u. for_turns n k x (a +ℤ pos 1) body)
+    (λ u. for_turns_moments n here k x (a +ℤ pos 1) spent body) (λ u. for_turns n k x (a +ℤ pos 1) body)
     (closing_timed n (with_uniform x a m) (spent (with_uniform x a m)) (body (with_uniform x a m)) (b (with_uniform x a m) g))
-    (λ u m i g. for_timed n line k x (a +ℤ pos 1) spent body b m g)))
+    (λ u m i g. for_timed n here k x (a +ℤ pos 1) spent body b m g)))
   where
     -- the setting counts nothing
     set_first : (m : State) (ss : List Moment) (c : Done) → IsTimed n (with_uniform x a m) ss c → IsTimed n m ss c
@@ -265,20 +266,20 @@ for_timed n line (suc k) x a spent body b m l =
     set_first m ss (Reaches out) t = t
 
 module _ (p : Checked) (n : ℕ) where
-  one_timed : {A : Type 0} (line : ℕ) (act : Action) (write : A → Option ℕ) (left : A → State → State) (a : State → Attempt A)
-      (m : State) → m.count ≤ n → IsTimed n m (alone_moment n line act write left a m) (evaluated n line a m)
-  one_timed line act write left a m l =
-      begun_timed n m (λ m. Alone line act m (writing write (a m)) (left_by left (a m) m)) (λ m. alone line (a m)) (λ m. refl) l
+  one_timed : {A : Type 0} (here : Location) (act : Action) (write : A → Option ℕ) (left : A → State → State) (a : State → Attempt A)
+      (m : State) → m.count ≤ n → IsTimed n m (alone_moment n here act write left a m) (evaluated n here.line a m)
+  one_timed here act write left a m l =
+      begun_timed n m (λ m. Alone here act m (writing write (a m)) (left_by left (a m) m)) (λ m. alone here.line (a m)) (λ m. refl) l
 
-  tested_timed : (line : ℕ) (act : Action) (e : Expression) (m : State) → m.count ≤ n →
-      IsTimed n m (test_moment p n line act e m) (tested p n line e m)
-  tested_timed line act e m l =
-      timed_map n m (test_moment p n line act e m) (found p n line e m) (λ v m. is_nonzero v) (λ v m. m) (λ v m. refl)
-      (one_timed line act nowhere unchanged (λ m. attempt (seen p m) e []) m l)
+  tested_timed : (here : Location) (act : Action) (e : Expression) (m : State) → m.count ≤ n →
+      IsTimed n m (test_moment p n here act e m) (tested p n here.line e m)
+  tested_timed here act e m l =
+      timed_map n m (test_moment p n here act e m) (found p n here.line e m) (λ v m. is_nonzero v) (λ v m. m) (λ v m. refl)
+      (one_timed here act nowhere unchanged (λ m. attempt (seen p m) e []) m l)
 
-  tested_moves : (line : ℕ) (e : Expression) (m : State) → Moves m (tested p n line e m)
-  tested_moves line e m =
-      moves_map m (found p n line e m) is_nonzero (begun_moves n m (λ m. alone line (attempt (seen p m) e [])))
+  tested_moves : (here : Location) (e : Expression) (m : State) → Moves m (tested p n here.line e m)
+  tested_moves here e m =
+      moves_map m (found p n here.line e m) is_nonzero (begun_moves n m (λ m. alone here.line (attempt (seen p m) e [])))
 
   pardo_timed : (locals : ℕ) (body : List Step) (a : ℤ) (k : ℕ) (m : State) → m.count ≤ n →
       IsTimed n m (inner_list_moments p n body (numbers 0 k) (with_team a k locals m)) (pardo_done p n locals body a k m)
@@ -295,36 +296,36 @@ module _ (p : Checked) (n : ℕ) where
 
   mutual
     timed : (s : Statement) (m : State) → m.count ≤ n → IsTimed n m (moments p n s m) (perform p n s m)
-    timed (Assign line x e) m l =
-        timed_map n m (assign_moment p n line x e m) (evaluated n line (λ m. attempt_assign (seen p m) x e) m) (λ g m. done)
+    timed (Assign here x e) m l =
+        timed_map n m (assign_moment p n here x e m) (evaluated n here.line (λ m. attempt_assign (seen p m) x e) m) (λ g m. done)
         (λ g m. assigned x g m) (λ g m. assigned_count x g m)
-        (one_timed line (Assigns x e) goes_to (assigned x) (λ m. attempt_assign (seen p m) x e) m l)
-    timed (Print line e) m l =
-        timed_map n m (print_moment p n line e m) (found p n line e m) (λ v m. done) (λ v m. printed v m) (λ v m. refl)
-        (one_timed line (Prints e) nowhere printed (λ m. attempt (seen p m) e []) m l)
-    timed (While' line e q body) m l =
-        turns_timed n (n + 1) (test_moment p n line (Turns e) e) (tested p n line e) (row_moments p n body) (perform_row p n body)
-        (λ m g. tested_timed line (Turns e) e m g) (λ m. tested_moves line e m) (λ m g. row_timed body m g) m l (omega arith)
-    timed (If' line e q a r b) m l =
-        timed_then n m (test_moment p n line (Chooses e) e m) (tested p n line e m)
+        (one_timed here (Assigns x e) goes_to (assigned x) (λ m. attempt_assign (seen p m) x e) m l)
+    timed (Print here e) m l =
+        timed_map n m (print_moment p n here e m) (found p n here.line e m) (λ v m. done) (λ v m. printed v m) (λ v m. refl)
+        (one_timed here (Prints e) nowhere printed (λ m. attempt (seen p m) e []) m l)
+    timed (While' here e q body) m l =
+        turns_timed n (n + 1) (test_moment p n here (Turns e) e) (tested p n here.line e) (row_moments p n body) (perform_row p n body)
+        (λ m g. tested_timed here (Turns e) e m g) (λ m. tested_moves here e m) (λ m g. row_timed body m g) m l (omega arith)
+    timed (If' here e q a r b) m l =
+        timed_then n m (test_moment p n here (Chooses e) e m) (tested p n here.line e m)
         (λ z m. closing (if z then row_moments p n a m else row_moments p n b m))
         (λ z m. if z then perform_row p n a m else perform_row p n b m)
-        (tested_timed line (Chooses e) e m l)
+        (tested_timed here (Chooses e) e m l)
         (λ z m i g. closing_timed n m (if z then row_moments p n a m else row_moments p n b m)
         (if z then perform_row p n a m else perform_row p n b m)
         (either n m z (row_moments p n a m) (row_moments p n b m) (perform_row p n a m) (perform_row p n b m) (row_timed a m g)
         (row_timed b m g)))
-    timed (For' line x e f q body) m l =
-        timed_then n m (bounds_moment p n line e f m) (evaluated n line (λ m. attempt_bounds (seen p m) e f) m)
-        (λ r. for_turns_moments n line (width r.0 r.1) x r.0 (row_moments p n body) (perform_row p n body))
+    timed (For' here x e f q body) m l =
+        timed_then n m (bounds_moment p n here e f m) (evaluated n here.line (λ m. attempt_bounds (seen p m) e f) m)
+        (λ r. for_turns_moments n here (width r.0 r.1) x r.0 (row_moments p n body) (perform_row p n body))
         (λ r. for_turns n (width r.0 r.1) x r.0 (perform_row p n body))
-        (one_timed line (Bounds e f) nowhere unchanged (λ m. attempt_bounds (seen p m) e f) m l)
-        (λ r m i g. for_timed n line (width r.0 r.1) x r.0 (row_moments p n body) (perform_row p n body) (λ m g. row_timed body m g) m g)
-    timed (Pardo line e f locals body) m l =
-        timed_then n m (range_moment p n line e f m) (evaluated n line (λ m. attempt_range p.procs (seen p m) e f) m)
+        (one_timed here (Bounds e f) nowhere unchanged (λ m. attempt_bounds (seen p m) e f) m l)
+        (λ r m i g. for_timed n here (width r.0 r.1) x r.0 (row_moments p n body) (perform_row p n body) (λ m g. row_timed body m g) m g)
+    timed (Pardo here e f locals body) m l =
+        timed_then n m (range_moment p n here e f m) (evaluated n here.line (λ m. attempt_range p.procs (seen p m) e f) m)
         (λ r m. inner_list_moments p n body.items (numbers 0 r.1) (with_team r.0 r.1 locals m))
         (λ r. pardo_done p n locals body.items r.0 r.1)
-        (one_timed line (Ranges e f) nowhere unchanged (λ m. attempt_range p.procs (seen p m) e f) m l)
+        (one_timed here (Ranges e f) nowhere unchanged (λ m. attempt_range p.procs (seen p m) e f) m l)
         (λ r m i g. pardo_timed locals body.items r.0 r.1 m g)
 
     row_timed : {k : _} (ss : Row_of-Statement k) (m : State) → m.count ≤ n → IsTimed n m (row_moments p n ss m) (perform_row p n ss m)

@@ -22,6 +22,6 @@ set_events (ChoosesOn e) = Runs (levels e) false ∷ []
 
 -- a statement has them also where it faults
 abbrev pub events_at : Moment → List Event
-events_at (Alone line act before a after) = alone_events act
-events_at (Together line act before xs k after) = set_events act
+events_at (Alone here act before a after) = alone_events act
+events_at (Together here act before xs k after) = set_events act
 events_at Closed = Cut ∷ []

@@ -56,8 +56,8 @@ by_set line xs (Some k) = acting line (length xs)
 
 -- each statement that begins takes a time step
 abbrev pub steps_of : Moment → List TimeStep
-steps_of (Alone line act before a after) = by_one line a ∷ []
-steps_of (Together line act before xs k after) = by_set line xs k ∷ []
+steps_of (Alone here act before a after) = by_one here.line a ∷ []
+steps_of (Together here act before xs k after) = by_set here.line xs k ∷ []
 steps_of Closed = []
 
 -- those of a program's run on an input, of at most n statements

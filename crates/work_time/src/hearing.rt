@@ -20,6 +20,7 @@ use pram_meaning::listener::Listener;
 use pram_meaning::part::Part;
 use pram_meaning::run::Run;
 use pram_meaning::team::Member;
+use pram_tokens::Location;
 use pram_values::Kind;
 use std::alloc::AllocError;
 
@@ -71,13 +72,13 @@ impl Listener for Meter {
     fn acts(
         &mut self,
         _run: &Run,
-        line: u32,
+        location: Location,
         action: &Action,
         trail: &[Option<u32>],
         effect: &Effect,
     ) -> Result<(), AllocError> {
         let step = TimeStep {
-            line,
+            line: location.line,
             processors: 1,
             reads: u128::from(reads_on(trail)),
             writes: count_of(effect.cell),
@@ -89,12 +90,12 @@ impl Listener for Meter {
     fn fails(
         &mut self,
         _run: &Run,
-        line: u32,
+        location: Location,
         action: &Action,
         _trail: &[Option<u32>],
         _kind: Kind,
     ) -> Result<(), AllocError> {
-        self.count(action, &acting(line, 1))
+        self.count(action, &acting(location.line, 1))
     }
 
     #[tactic(auto, using(crate::proofs::Heard::set_counted))]
@@ -103,7 +104,7 @@ impl Listener for Meter {
         _program: &Program,
         _run: &Run,
         _team: &Vec<Member>,
-        line: u32,
+        location: Location,
         action: &StepAction,
         parts: &[Part],
     ) -> Result<(), AllocError> {
@@ -111,7 +112,7 @@ impl Listener for Meter {
             return Err(AllocError);
         };
         let step = TimeStep {
-            line,
+            line: location.line,
             processors,
             reads: all_reads(parts),
             writes: all_writes(parts),
@@ -124,7 +125,7 @@ impl Listener for Meter {
         &mut self,
         _run: &Run,
         _team: &Vec<Member>,
-        line: u32,
+        location: Location,
         action: &StepAction,
         parts: &[Part],
         _key: Key,
@@ -132,7 +133,7 @@ impl Listener for Meter {
         let Ok(processors) = u32::try_from(parts.len()) else {
             return Err(AllocError);
         };
-        self.count_on(action, &acting(line, processors))
+        self.count_on(action, &acting(location.line, processors))
     }
 
     fn closes(&mut self) -> Result<(), AllocError> {

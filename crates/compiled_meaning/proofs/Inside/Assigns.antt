@@ -7,6 +7,7 @@ use Rattle.write_rules.specs.declared.fault.Fault.{Fault}
 use Rattle.superstep_instructions.specs.declared.instr.Side.TheVariants.{Private}
 use Rattle.superstep_instructions.specs.declared.instr.Instr.TheVariants.{Mark, Copy}
 use Rattle.superstep_machine.specs.Keys.{least}
+use Rattle.pram_tokens.specs.declared.token.Location.{Location}
 use Rattle.pram_names.specs.declared.body.Expression.{Expression}
 use Rattle.pram_names.specs.declared.body.Step as step
 use Rattle.pram_names.specs.declared.body.StepTarget.{StepTarget}
@@ -81,52 +82,52 @@ either_goes true false = omega arith
 either_goes false some = omega arith
 
 module _ (p : Checked) (t : Run) (of : IsRunOf p t) (locals base vote : ℕ) (free : behind_locals locals ≤ base) (fr : Frame) (held : Bool)
-    (m : State) (place spent : ℕ) (f : Flat) (w : IsWithin p t locals base fr held m place spent f) (line : ℕ) (keep : Bool) where
+    (m : State) (place spent : ℕ) (f : Flat) (w : IsWithin p t locals base fr held m place spent f) (here : Location) (keep : Bool) where
   -- an assignment that is made keeps to values of 64 bits
   values_behind : (x : StepTarget) (e : Expression) → IsInnerAssign (with_locals locals (names_of p)) x e → (xs : List Part) →
-      parts p m (λ s. attempt_step s x e) (present fr) ≡ xs → m.count < t.bound → together p line xs ≡ Ok xs →
+      parts p m (λ s. attempt_step s x e) (present fr) ≡ xs → m.count < t.bound → together p here.line xs ≡ Ok xs →
       HasValues (assigned_by p x xs (one_more m))
   values_behind x e named xs same l okay =
       subst ComesToValues performed
-      (steps_keep_values p t.bound (with_locals locals (names_of p)) (step.Assign line x e) (present fr) m named w.values)
+      (steps_keep_values p t.bound (with_locals locals (names_of p)) (step.Assign here x e) (present fr) m named w.values)
     where
-      performed : perform_on p t.bound (step.Assign line x e) (present fr) m ≡ Goes tt (assigned_by p x xs (one_more m))
+      performed : perform_on p t.bound (step.Assign here x e) (present fr) m ≡ Goes tt (assigned_by p x xs (one_more m))
       performed =
           (λ i. then_do
           (then_do (let d : Done = if lt-ltb m.count t.bound l i then Goes tt (one_more m) else Reaches m.output in d)
-          (λ u now. valued (together p line (parts p now (λ s. attempt_step s x e) (present fr))) now))
+          (λ u now. valued (together p here.line (parts p now (λ s. attempt_step s x e) (present fr))) now))
           (λ ys now. Goes tt (assigned_by p x ys now)))
           ∙ ap (λ (r : Result (List Part) Fault). then_do (valued r (one_more m)) (λ ys now. Goes tt (assigned_by p x ys now)))
-          (ap (together p line) same ∙ okay)
+          (ap (together p here.line) same ∙ okay)
 
   -- ---- a local
 
   local_followed : (x : ℕ) (e : Expression) → IsInnerAssign (with_locals locals (names_of p)) (inner.Local x) e →
-      Stand t place (gets keep held line Private base (formula_of e) (local x)) →
-      IsCalm t.code (place + length (gets keep held line Private base (formula_of e) (local x))) →
-      Followed p t locals base vote fr held (still held (formula_of e)) (gets keep held line Private base (formula_of e) (local x))
+      Stand t place (gets keep held here.line Private base (formula_of e) (local x)) →
+      IsCalm t.code (place + length (gets keep held here.line Private base (formula_of e) (local x))) →
+      Followed p t locals base vote fr held (still held (formula_of e)) (gets keep held here.line Private base (formula_of e) (local x))
       place spent
-      f (begun t.bound m (Runs (max 0 (levels e)) false ∷ [])) (assign_on p t.bound line (inner.Local x) e (present fr) m)
+      f (begun t.bound m (Runs (max 0 (levels e)) false ∷ [])) (assign_on p t.bound here.line (inner.Local x) e (present fr) m)
   local_followed x e named stand calm =
       let stretch = getting keep held Private base (formula_of e) (local x) in
       let es = Runs (max 0 (levels e)) false ∷ [] in
       let goes = λ (ys : List Event). GoesWithin p t locals base vote fr (still held (formula_of e))
-      (place + length (Mark line ∷ stretch)) (spent + events.spent ys held) f in
-      let a = attempted_on p t.bound line (λ s. attempt_step s (inner.Local x) e) (present fr) m in
+      (place + length (Mark here.line ∷ stretch)) (spent + events.spent ys held) f in
+      let a = attempted_on p t.bound here.line (λ s. attempt_step s (inner.Local x) e) (present fr) m in
       let fine = straight_parts_are_fine in
       let cost = straight_parts_cost in
       let shown = w.shows in
-      let leaves = local_values.leaves_copied p t of locals base free fr held m place spent f w line e named.1.0 keep x named.0 vote in
+      let leaves = local_values.leaves_copied p t of locals base free fr held m place spent f w here.line e named.1.0 keep x named.0 vote in
       let none = leaves.shows in
       let empty = none.rests in
-      let last = end p t of locals base free fr held m place spent f w line (formula_of e)
-      (names p t of locals base free fr held m place spent f w line e named.1.0) in
-      let r = register p t of locals base free fr held m place spent f w line e named.1.0 in
+      let last = end p t of locals base free fr held m place spent f w here.line (formula_of e)
+      (names p t of locals base free fr held m place spent f w here.line e named.1.0) in
+      let r = register p t of locals base free fr held m place spent f w here.line e named.1.0 in
       let xs = cut_parts p m (Gets (term_of e)) (present fr) in
-      let h = heading_of (marked p t of locals base free fr held m place spent f w line) in
+      let h = heading_of (marked p t of locals base free fr held m place spent f w here.line) in
       subst (λ ys. Follows t spent held ys (goes ys) (then_do a (λ xs now. Goes tt (assigned_by p (inner.Local x) xs now))))
       (ap (λ ys. begun t.bound m es ++ ys) (behind_nothing a) ∙ append-nil (begun t.bound m es))
-      (attempted p t line stretch held (still held (formula_of e)) m place spent f w.between (Gets (term_of e)) (present fr)
+      (attempted p t here.line stretch held (still held (formula_of e)) m place spent f w.between (Gets (term_of e)) (present fr)
       held spent es goes
       (λ xs now. Goes tt (assigned_by p (inner.Local x) xs now)) (λ xs now. []) (λ s. attempt_step s (inner.Local x) e)
       (assignment_parts p m (inner.Local x) e (present fr))
@@ -136,23 +137,23 @@ module _ (p : Checked) (t : Run) (of : IsRunOf p t) (locals base vote : ℕ) (fr
         stand = stand;
         fine = fine.got keep held Private base (formula_of e) (local x);
         none = empty.asks;
-        calm = subst (IsCalm t.code) (let n : place + length (Mark line ∷ stretch) ≡ place + 1 + length stretch = omega arith in n) calm;
-        apart = apart p t of locals base free fr held m place spent f w line (Gets (term_of e));
-        tells = tells p t of locals base free fr held m place spent f w line e named.1.0 keep held (Copy Private (local x) r ∷ [])
+        calm = subst (IsCalm t.code) (let n : place + length (Mark here.line ∷ stretch) ≡ place + 1 + length stretch = omega arith in n) calm;
+        apart = apart p t of locals base free fr held m place spent f w here.line (Gets (term_of e));
+        tells = tells p t of locals base free fr held m place spent f w here.line e named.1.0 keep held (Copy Private (local x) r ∷ [])
             (ap (λ o. least o None) (notes_nothing t.code (Copy Private (local x) r) refl last));
         few = omega arith;
       })
       (λ l g passes ok okay.
       let team = locals_are_values h p m (term_of e) (present fr) ok x m.team in
-      let now : local_values.with_values p t of locals base free fr held m place spent f w line e named.1.0 keep x named.0
+      let now : local_values.with_values p t of locals base free fr held m place spent f w here.line e named.1.0 keep x named.0
       ≡ assigned_by p (inner.Local x) xs (one_more m) = ap (λ y. let s : State = record (one_more m) { team = y } in s) (sym team) in
-      goes_from p t locals base vote fr (still held (formula_of e)) (place + 1 + length stretch) (place + length (Mark line ∷ stretch))
+      goes_from p t locals base vote fr (still held (formula_of e)) (place + 1 + length stretch) (place + length (Mark here.line ∷ stretch))
       (spent + events.spent es held) (spent + events.spent es held) f f _ (omega arith) (omega arith) (λ r k. refl)
       (subst (GoesWithin p t locals base vote fr (still held (formula_of e)) (place + 1 + length stretch) (spent + events.spent es held)
       f) now
-      (passed p t locals base base vote fr fr held (still held (formula_of e)) m place spent f w line stretch _ (2 * nesting (formula_of e))
+      (passed p t locals base base vote fr fr held (still held (formula_of e)) m place spent f w here.line stretch _ (2 * nesting (formula_of e))
       (spent + events.spent es held) (cost.got keep held Private base (formula_of e) (local x)) (omega arith) l g passes leaves
-      (local_values.next_copied p t of locals base free fr held m place spent f w line e named.1.0 keep x named.0
+      (local_values.next_copied p t of locals base free fr held m place spent f w here.line e named.1.0 keep x named.0
       (subst HasValues (sym now)
       (values_behind (inner.Local x) e named xs (assignment_parts p m (inner.Local x) e (present fr)) l okay))))))
       )
@@ -163,18 +164,18 @@ module _ (p : Checked) (t : Run) (of : IsRunOf p t) (locals base vote : ℕ) (fr
       (sd : IsSingle d) (sc : IsSingle c) (values : (v : ℕ) → IsValue (value (seen_by p m v) (term c)))
       (task : inner_assignment x e ≡ Writes entry (term d) (term c)) (bound : IsInnerAssign (with_locals locals (names_of p)) x e)
       (effect : (xs : List Part) (now : State) → assigned_by p x xs now ≡ assigned_by p (inner.Cell entry) xs now) where
-    write_followed : Stand t place (writes keep held line Private base entry d c) →
-        IsCalm t.code (place + length (writes keep held line Private base entry d c)) →
-        Followed p t locals base vote fr held true (writes keep held line Private base entry d c) place spent
-        f (begun t.bound m (Runs (nesting (Pair d c)) true ∷ [])) (assign_on p t.bound line x e (present fr) m)
+    write_followed : Stand t place (writes keep held here.line Private base entry d c) →
+        IsCalm t.code (place + length (writes keep held here.line Private base entry d c)) →
+        Followed p t locals base vote fr held true (writes keep held here.line Private base entry d c) place spent
+        f (begun t.bound m (Runs (nesting (Pair d c)) true ∷ [])) (assign_on p t.bound here.line x e (present fr) m)
     write_followed stand calm =
         let both = Pair d c in
         let marks = marks_come_first in
         let waiting = waits held both in
         let first = flush (still held both) in
         let stretch = writing keep waiting Private base entry d c in
-        let is = marks.writes keep held line Private base entry d c in
-        let halves = stands_split t place first (Mark line ∷ stretch) (subst (Stand t place) is stand) in
+        let is = marks.writes keep held here.line Private base entry d c in
+        let halves = stands_split t place first (Mark here.line ∷ stretch) (subst (Stand t place) is stand) in
         let shown = w.shows in
         let ready = ready_to_write t held (has_reads both) m place spent f w.between shown.rests halves.0 in
         let g = ready.behind in
@@ -184,49 +185,49 @@ module _ (p : Checked) (t : Run) (of : IsRunOf p t) (locals base vote : ℕ) (fr
         let shown_now = now.shows in
         let es = Runs (nesting both) true ∷ [] in
         let goes = λ (ys : List Event). GoesWithin p t locals base vote fr true
-        (place + length (writes keep held line Private base entry d c))
+        (place + length (writes keep held here.line Private base entry d c))
         (spent + events.spent ys held) f in
-        let a = attempted_on p t.bound line (λ s. attempt_step s x e) (present fr) m in
+        let a = attempted_on p t.bound here.line (λ s. attempt_step s x e) (present fr) m in
         let fine = straight_parts_are_fine in
         let cost = straight_parts_cost in
         let same_parts = assignment_parts p m x e (present fr) ∙ ap (λ k. cut_parts p m k (present fr)) task in
         let xs = cut_parts p m (Writes entry (term d) (term c)) (present fr) in
-        let count = length-append first (Mark line ∷ stretch) in
-        let whole : length (writes keep held line Private base entry d c) ≡ length (first ++ Mark line ∷ stretch) = ap length is in
+        let count = length-append first (Mark here.line ∷ stretch) in
+        let whole : length (writes keep held here.line Private base entry d c) ≡ length (first ++ Mark here.line ∷ stretch) = ap length is in
         let few = either_goes held (has_reads both) in
         let goes_first : one_if (still held both) ≡ one_if (held && true && not (events.any_level (nesting both))) =
         sent_first held (nesting both) in
         subst (λ ys. Follows t spent held ys (goes ys) (then_do a (λ xs now. Goes tt (assigned_by p x xs now))))
         (ap (λ ys. begun t.bound m es ++ ys) (behind_nothing a) ∙ append-nil (begun t.bound m es))
-        (attempted p t line stretch waiting true m at by g now.between (Writes entry (term d) (term c)) (present fr) held spent es goes
+        (attempted p t here.line stretch waiting true m at by g now.between (Writes entry (term d) (term c)) (present fr) held spent es goes
         (λ xs now. Goes tt (assigned_by p x xs now)) (λ xs now. []) (λ s. attempt_step s x e) same_parts
         (record {
           formed = of.formed;
           rests = shown_now.rests;
           stand = halves.1;
           fine = fine.written keep held Private base entry d c;
-          none = set_writes.rests_written p t of locals base free fr waiting m at by g now line entry d c named sd sc values keep;
+          none = set_writes.rests_written p t of locals base free fr waiting m at by g now here.line entry d c named sd sc values keep;
           calm = subst (IsCalm t.code)
-              (let n : place + length (writes keep held line Private base entry d c) ≡ at + 1 + length stretch =
+              (let n : place + length (writes keep held here.line Private base entry d c) ≡ at + 1 + length stretch =
               omega (arith, count, whole) in n)
               calm;
-          apart = apart p t of locals base free fr waiting m at by g now line (Writes entry (term d) (term c));
-          tells = set_writes.tells_written p t of locals base free fr waiting m at by g now line entry d c named sd sc values keep;
+          apart = apart p t of locals base free fr waiting m at by g now here.line (Writes entry (term d) (term c));
+          tells = set_writes.tells_written p t of locals base free fr waiting m at by g now here.line entry d c named sd sc values keep;
           few = omega (arith, few);
         })
         (λ l after passes ok okay.
-        let cells = set_writes.with_cells p t of locals base free fr waiting m at by g now line entry d c named sd sc values keep in
-        let leaves = set_writes.leaves_written p t of locals base free fr waiting m at by g now line entry d c named sd sc values
+        let cells = set_writes.with_cells p t of locals base free fr waiting m at by g now here.line entry d c named sd sc values keep in
+        let leaves = set_writes.leaves_written p t of locals base free fr waiting m at by g now here.line entry d c named sd sc values
         keep ok vote in
-        goes_from p t locals base vote fr true (at + 1 + length stretch) (place + length (writes keep held line Private base entry d c))
+        goes_from p t locals base vote fr true (at + 1 + length stretch) (place + length (writes keep held here.line Private base entry d c))
         (spent + events.spent es held) (spent + events.spent es held) f g (assigned_by p x xs (one_more m)) (omega (arith, count, whole))
         (omega arith)
         (λ r k. ap (λ (y : Flat). y.uniform.registers r) ready.seen)
         (subst (GoesWithin p t locals base vote fr true (at + 1 + length stretch) (spent + events.spent es held) g)
         (sym (effect xs (one_more m)))
-        (passed p t locals base base vote fr fr waiting true m at by g now line stretch cells (2 * nesting both)
+        (passed p t locals base base vote fr fr waiting true m at by g now here.line stretch cells (2 * nesting both)
         (spent + events.spent es held) (cost.written keep waiting Private base entry d c) (omega (arith, goes_first)) l after passes leaves
-        (set_writes.next_written p t of locals base free fr waiting m at by g now line entry d c named sd sc values keep
+        (set_writes.next_written p t of locals base free fr waiting m at by g now here.line entry d c named sd sc values keep
         (subst HasValues (effect xs (one_more m)) (values_behind x e bound xs same_parts l okay))))))
         )
 
@@ -240,11 +241,11 @@ module _ (p : Checked) (t : Run) (of : IsRunOf p t) (locals base vote : ℕ) (fr
       (value_is (with_locals locals (names_of p)) (seen_by p m v) (sees_values p m v w.values) e named)
 
   pub assign_followed : (x : StepTarget) (e : Expression) → IsInnerAssign (with_locals locals (names_of p)) x e → (vote_register : ℕ) →
-      Stand t place (inside.inner_assign (record { keep = keep; vote = vote_register }) held line base x (formula_of e)) →
-      IsCalm t.code (place + length (inside.inner_assign (record { keep = keep; vote = vote_register }) held line base x (formula_of e))) →
+      Stand t place (inside.inner_assign (record { keep = keep; vote = vote_register }) held here.line base x (formula_of e)) →
+      IsCalm t.code (place + length (inside.inner_assign (record { keep = keep; vote = vote_register }) held here.line base x (formula_of e))) →
       Followed p t locals base vote fr held (inside.inner_assign_left held x (formula_of e))
-      (inside.inner_assign (record { keep = keep; vote = vote_register }) held line base x (formula_of e)) place spent f
-      (step_events p t.bound (step.Assign line x e) (present fr) m) (perform_on p t.bound (step.Assign line x e) (present fr) m)
+      (inside.inner_assign (record { keep = keep; vote = vote_register }) held here.line base x (formula_of e)) place spent f
+      (step_events p t.bound (step.Assign here x e) (present fr) m) (perform_on p t.bound (step.Assign here x e) (present fr) m)
   assign_followed (inner.Local x) e named n stand calm = local_followed x e named stand calm
   assign_followed (inner.Cell a) e named n stand calm =
       write_followed (inner.Cell a) e a Zero (formula_of e)

@@ -80,18 +80,18 @@ module _ (p : Checked) (n : ℕ) where
 
   mutual
     pub step_grows : (s : Step) (k : ℕ) (vs : List ℕ) (m : State) → k ≤ m.count → Grows k (perform_on p n s vs m)
-    step_grows (step.Assign line x e) k vs m l =
-        grows_then k (attempted_on p n line (λ s. attempt_step s x e) vs m) (λ xs now. Goes tt (assigned_by p x xs now))
-        (attempted_grows k line (λ s. attempt_step s x e) vs m l) (λ xs now g. assigned_grows k x xs now g)
-    step_grows (step.If' line e q a r b) k vs m l =
-        grows_then k (tested_on p n line e vs m)
+    step_grows (step.Assign here x e) k vs m l =
+        grows_then k (attempted_on p n here.line (λ s. attempt_step s x e) vs m) (λ xs now. Goes tt (assigned_by p x xs now))
+        (attempted_grows k here.line (λ s. attempt_step s x e) vs m l) (λ xs now g. assigned_grows k x xs now g)
+    step_grows (step.If' here e q a r b) k vs m l =
+        grows_then k (tested_on p n here.line e vs m)
         (λ xs now. then_do (perform_row_on p n a (those true xs) now) (λ u. perform_row_on p n b (those false xs)))
-        (attempted_grows k line (λ s. attempt_value s e) vs m l)
+        (attempted_grows k here.line (λ s. attempt_value s e) vs m l)
         (λ xs now g. grows_then k (perform_row_on p n a (those true xs) now) (λ u. perform_row_on p n b (those false xs))
         (row_grows a k (those true xs) now g) (λ u after j. row_grows b k (those false xs) after j))
-    step_grows (step.While' line e q body) k vs m l =
-        turns_grow (n + 1) (tested_on p n line e) (perform_row_on p n body)
-        (λ k vs m g. attempted_grows k line (λ s. attempt_value s e) vs m g) (λ k vs m g. row_grows body k vs m g) k vs m l
+    step_grows (step.While' here e q body) k vs m l =
+        turns_grow (n + 1) (tested_on p n here.line e) (perform_row_on p n body)
+        (λ k vs m g. attempted_grows k here.line (λ s. attempt_value s e) vs m g) (λ k vs m g. row_grows body k vs m g) k vs m l
 
     pub row_grows : {j : _} (ss : Row_of-Step j) (k : ℕ) (vs : List ℕ) (m : State) → k ≤ m.count → Grows k (perform_row_on p n ss vs m)
     row_grows end_of-Step k vs m l = l

@@ -3,6 +3,7 @@ use Rattle.std.proofs.Common.{◌≡◌, ℕ, zero, suc, ◌+◌, max, List, [],
 use Rattle.std.proofs.Common.{◌∙◌, subst, arith}
 use Rattle.std.proofs.Common.{append-nil}
 use Rattle.std.specs.Prelude.{if◌then◌else◌, nat_lt}
+use Rattle.pram_tokens.specs.declared.token.Location.{Location}
 use Rattle.write_rules.specs.declared.fault.Fault.{Fault}
 use Rattle.pram_names.specs.declared.body.Expression.{Expression}
 use Rattle.pram_names.specs.declared.body.Step as step
@@ -63,15 +64,15 @@ module _ (p : Checked) (n : ℕ) where
   assign_left held (inner.Cell a) e = refl
   assign_left held (inner.Element a i) e = refl
 
-  assign_holds : (held : Bool) (line : ℕ) (x : StepTarget) (e : Expression) (vs : List ℕ) (m : State) →
-      HoldsBehind held (step_events p n (step.Assign line x e) vs m) (step_left held (step.Assign line x e))
-      (perform_on p n (step.Assign line x e) vs m)
-  assign_holds held line x e vs m =
+  assign_holds : (held : Bool) (here : Location) (x : StepTarget) (e : Expression) (vs : List ℕ) (m : State) →
+      HoldsBehind held (step_events p n (step.Assign here x e) vs m) (step_left held (step.Assign here x e))
+      (perform_on p n (step.Assign here x e) vs m)
+  assign_holds held here x e vs m =
       let es = Runs (max (step_target_levels x) (levels e)) (is_step_shared x) ∷ [] in
-      let a = attempted_on p n line (λ s. attempt_step s x e) vs m in
+      let a = attempted_on p n here.line (λ s. attempt_step s x e) vs m in
       subst (λ ys. HoldsBehind held ys (inner_assign_left held x (formula_of e)) (then_do a (λ xs now. Goes tt (assigned_by p x xs now))))
       (ap (λ ys. begun n m es ++ ys) (behind_nothing a) ∙ append-nil (begun n m es))
-      (attempt_holds held (inner_assign_left held x (formula_of e)) line (λ s. attempt_step s x e) vs m es (λ xs now. [])
+      (attempt_holds held (inner_assign_left held x (formula_of e)) here.line (λ s. attempt_step s x e) vs m es (λ xs now. [])
       (λ xs now. Goes tt (assigned_by p x xs now)) (λ xs now. assign_left held x e))
 
   -- the turns of a loop, and behind the last one nothing is held
@@ -112,10 +113,10 @@ module _ (p : Checked) (n : ℕ) where
   mutual
     pub step_holds : (s : Step) (held : Bool) (vs : List ℕ) (m : State) →
         HoldsBehind held (step_events p n s vs m) (step_left held s) (perform_on p n s vs m)
-    step_holds (step.Assign line x e) held vs m = assign_holds held line x e vs m
-    step_holds (step.If' line e q a r b) held vs m =
+    step_holds (step.Assign here x e) held vs m = assign_holds held here x e vs m
+    step_holds (step.If' here e q a r b) held vs m =
         let some = still held (formula_of e) in
-        attempt_holds held (part_left (part_left some a) b) line (λ s. attempt_value s e) vs m (Runs (levels e) false ∷ [])
+        attempt_holds held (part_left (part_left some a) b) here.line (λ s. attempt_value s e) vs m (Runs (levels e) false ∷ [])
         (λ xs m. step_row_events p n a (those true xs) m
         ++ behind (perform_row_on p n a (those true xs) m) (λ u. step_row_events p n b (those false xs)))
         (λ xs m. then_do (perform_row_on p n a (those true xs) m) (λ u. perform_row_on p n b (those false xs)))
@@ -128,8 +129,8 @@ module _ (p : Checked) (n : ℕ) where
         (λ m. step_row_events p n b (those false xs) m) (perform_row_on p n a (those true xs) now)
         (λ m. perform_row_on p n b (those false xs) m) (row_holds a some (those true xs) now)
         (λ m. row_holds b (part_left some a) (those false xs) m)))
-    step_holds (step.While' line e q body) held vs m =
-        turns_hold (n + 1) line e (part_left false body) (perform_row_on p n body) (step_row_events p n body)
+    step_holds (step.While' here e q body) held vs m =
+        turns_hold (n + 1) here.line e (part_left false body) (perform_row_on p n body) (step_row_events p n body)
         (λ vs m. row_holds body false vs m) held vs m
 
     pub row_holds : {j : _} (ss : Row_of-Step j) (held : Bool) (vs : List ℕ) (m : State) →

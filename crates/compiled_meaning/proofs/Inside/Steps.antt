@@ -109,14 +109,14 @@ module _ (p : Checked) (t : Run) (of : IsRunOf p t) (w : Frame) (locals : ℕ) (
         IsStep (with_locals locals (names_of p)) s → MayRun base place fr held (step_code w base place held s) m spent f →
         Followed p t locals base w.vote fr held (step_left held s) (step_code w base place held s) place spent f
         (step_events p t.bound s (present fr) m) (perform_on p t.bound s (present fr) m)
-    step_followed (step.Assign line x e) base fr held m place spent f named h =
-        assign_followed p t of locals base w.vote h.free fr held m place spent f h.within line w.keep x e named w.vote h.stand h.calm
-    step_followed (step.If' line e q a r b) base fr held m place spent f named h =
+    step_followed (step.Assign here x e) base fr held m place spent f named h =
+        assign_followed p t of locals base w.vote h.free fr held m place spent f h.within here w.keep x e named w.vote h.stand h.calm
+    step_followed (step.If' here e q a r b) base fr held m place spent f named h =
         let formula = formula_of e in
         let some = still held formula in
         let first = part_left some a in
         let last = part_left first b in
-        let test = Mark line ∷ masking w.keep held base formula in
+        let test = Mark here.line ∷ masking w.keep held base formula in
         let part = part_code w base (place + length test) some a in
         let before = test ++ part in
         let others = λ (n : ℕ). part_code w base n first b in
@@ -129,7 +129,7 @@ module _ (p : Checked) (t : Run) (of : IsRunOf p t) (w : Frame) (locals : ℕ) (
         let n2 = length-append before other in
         let calm = masks_are_calm t place test part (has_part b) others h.stand (begin.inner_part t w base (place + length test) some a)
         (λ n. begin.inner_part t w base n first b) h.calm in
-        branches_follow p t of locals base w.vote h.free fr held line e named.0.0 w.keep place part other first last
+        branches_follow p t of locals base w.vote h.free fr held here.line e named.0.0 w.keep place part other first last
         (λ vs now. perform_row_on p t.bound a vs now) (λ vs now. perform_row_on p t.bound b vs now)
         (λ vs now. step_row_events p t.bound a vs now) (λ vs now. step_row_events p t.bound b vs now)
         (record {
@@ -156,12 +156,12 @@ module _ (p : Checked) (t : Run) (of : IsRunOf p t) (w : Frame) (locals : ℕ) (
                 within = at;
               });
         }) m spent f h.within
-    step_followed (step.While' line e q body) base fr held m place spent f named h =
+    step_followed (step.While' here e q body) base fr held m place spent f named h =
         let formula = formula_of e in
         let left = part_left false body in
         let front = flagged held base in
         let head = place + length front in
-        let test = Mark line ∷ flagging w.keep w.vote base (base + 1) formula in
+        let test = Mark here.line ∷ flagging w.keep w.vote base (base + 1) formula in
         let start = head + length test + 1 in
         let inner = λ (n : ℕ). part_code w (base + 1) n false body in
         let part = inner start in
@@ -171,21 +171,21 @@ module _ (p : Checked) (t : Run) (of : IsRunOf p t) (w : Frame) (locals : ℕ) (
         let halves = stands_split t place front loop outer.0 in
         let n1 = length-append front loop in
         let n2 = length-append (front ++ loop) (Unmask ∷ []) in
-        let n3 = loop_length t head line w.vote (flagging w.keep w.vote base (base + 1) formula) inner left in
+        let n3 = loop_length t head here.line w.vote (flagging w.keep w.vote base (base + 1) formula) inner left in
         let last = subst (λ n. IsAt t n Unmask)
         (let k : place + length (front ++ loop) ≡ head + length loop = omega (arith, n1) in k) outer.1.0 in
-        let stands = loop_stands t head line w.vote (flagging w.keep w.vote base (base + 1) formula) inner left halves.1 last
+        let stands = loop_stands t head here.line w.vote (flagging w.keep w.vote base (base + 1) formula) inner left halves.1 last
         (begin.inner_part t w (base + 1) start false body) (exits_are_calm t place front loop h.stand h.calm) in
         let further : behind_locals locals ≤ base + 1 = (let l = h.free in omega (arith, l)) in
         let opened = opens p t locals base h.free fr held m place spent f h.within halves.0 in
         let g = opened.behind in
         let vs = present (looping base opened.flags fr) in
         let ys = λ (us : List ℕ). turns_on_events (t.bound + 1) (λ now. begun t.bound now (Cut ∷ Runs (levels e) false ∷ Cut ∷ Votes ∷ []))
-        (tested_on p t.bound line e) (λ us now. perform_row_on p t.bound body us now)
+        (tested_on p t.bound here.line e) (λ us now. perform_row_on p t.bound body us now)
         (λ us now. step_row_events p t.bound body us now) us m in
-        let d = λ (us : List ℕ). turns_on (t.bound + 1) (tested_on p t.bound line e)
+        let d = λ (us : List ℕ). turns_on (t.bound + 1) (tested_on p t.bound here.line e)
         (λ us now. perform_row_on p t.bound body us now) us m in
-        let code = step_code w base place held (step.While' line e q body) in
+        let code = step_code w base place held (step.While' here e q body) in
         subst (λ us. Follows t spent held (ys us)
         (GoesWithin p t locals base w.vote fr false (place + length code) (spent + events.spent (ys us) held) f) (d us)) opened.all
         (follows_also t spent held (ys vs)
@@ -194,7 +194,7 @@ module _ (p : Checked) (t : Run) (of : IsRunOf p t) (w : Frame) (locals : ℕ) (
         (λ now x. goes_from p t locals base w.vote fr false (start + length (sent part left) + 1 + 1) (place + length code)
         (spent + events.spent (ys vs) held) (spent + events.spent (ys vs) held) f g now (omega (arith, n1, n2, n3)) (omega arith)
         (λ r l. opened.registers r) x)
-        (loop_follows p t of locals base w.vote h.free further above fr line e named.0.0 w.keep head part left stands
+        (loop_follows p t of locals base w.vote h.free further above fr here.line e named.0.0 w.keep head part left stands
         (λ us now. perform_row_on p t.bound body us now) (λ us now. step_row_events p t.bound body us now)
         (record {
           follows = λ registers now by y at. row_followed body (base + 1) (looping base registers fr) false now start by y named.1 (record {

@@ -1,5 +1,6 @@
 -- Assignments outside pardo: the run is led along them.
 use Rattle.std.proofs.Common.{◌≡◌, ℕ, ◌+◌, ◌≤◌, List, [], ◌∷◌, ◌++◌, length, max, Bool, true, false, refl, sym, ap, ◌∙◌, subst, arith}
+use Rattle.pram_tokens.specs.declared.token.Location.{Location}
 use Rattle.superstep_instructions.specs.declared.instr.Side.TheVariants.{Uniform}
 use Rattle.superstep_instructions.specs.declared.instr.Instr.{Instr}
 use Rattle.superstep_instructions.specs.declared.instr.Instr.TheVariants.{Mark}
@@ -62,25 +63,25 @@ module _ (p : Checked) (t : Run) (of : IsRunOf p t) (keep : Bool) where
       (write_follows p t of keep free line free_ones m entry d named single e e_named held place spent f w
       (λ m. attempt_assign (seen p m) x e) (whole_is (one_more m)) stand calm)) stand calm
 
-  pub assign_leads : (free : ℕ) → behind_variables p.uniforms ≤ free → (line : ℕ) (x : Target) (e : Expression) →
+  pub assign_leads : (free : ℕ) → behind_variables p.uniforms ≤ free → (here : Location) (x : Target) (e : Expression) →
       IsAssign (names_of p) x e →
       (held : Bool) (place : ℕ) →
-      IsLed p t free held (left held (Assign line x e)) place (code keep free place held (Assign line x e))
-      (perform p t.bound (Assign line x e))
-      (events.events p t.bound (Assign line x e))
-  assign_leads free free_ones line (target.Uniform x) e h held place =
+      IsLed p t free held (left held (Assign here x e)) place (code keep free place held (Assign here x e))
+      (perform p t.bound (Assign here x e))
+      (events.events p t.bound (Assign here x e))
+  assign_leads free free_ones here (target.Uniform x) e h held place =
       λ m spent f w stand calm.
       let n = nesting (formula_of e) in
       subst (λ k. Leads t spent held (still held (formula_of e)) (events.begun t.bound m (Runs k false ∷ []))
-      (Passes p t free (still held (formula_of e)) (place + length (code keep free place held (Assign line (target.Uniform x) e))) m f)
-      (assign p t.bound line (target.Uniform x) e m))
+      (Passes p t free (still held (formula_of e)) (place + length (code keep free place held (Assign here (target.Uniform x) e))) m f)
+      (assign p t.bound here.line (target.Uniform x) e m))
       (let k : n ≡ max 0 n = omega arith in k)
-      (variable_follows p t of keep free line free_ones held m place spent f w e h.1.0 x h.0 stand calm)
-  assign_leads free free_ones line (target.Cell a) e h held place =
-      write_leads free free_ones line a Zero tt tt e h.1.0 (target.Cell a) held place (λ m. whole_assignments (seen p m) (target.Cell a) e)
+      (variable_follows p t of keep free here.line free_ones held m place spent f w e h.1.0 x h.0 stand calm)
+  assign_leads free free_ones here (target.Cell a) e h held place =
+      write_leads free free_ones here.line a Zero tt tt e h.1.0 (target.Cell a) held place (λ m. whole_assignments (seen p m) (target.Cell a) e)
       (λ m. refl)
-  assign_leads free free_ones line (target.Element a i) e h held place =
-      write_leads free free_ones line a (formula_of i) (expressions_are_named (names_of p) i h.1.0) (expressions_are_single i) e h.1.1
+  assign_leads free free_ones here (target.Element a i) e h held place =
+      write_leads free free_ones here.line a (formula_of i) (expressions_are_named (names_of p) i h.1.0) (expressions_are_single i) e h.1.1
       (target.Element a i) held place
       (λ m. whole_assignments (seen p m) (target.Element a i) e
       ∙ ap (λ k. cut (whole (seen p m) (Writes a k (term_of e)))) (sym (expressions_are_terms i))) (λ m. refl)

@@ -59,24 +59,24 @@ module _ (p : Checked) (t : Run) (of : IsRunOf p t) (keep : Bool) where
     statement_leads : (s : Statement) (free : ℕ) → behind_variables p.uniforms ≤ free → IsStatement (names_of p) s →
         (held : Bool) (place : ℕ) →
         IsLed p t free held (left held s) place (code keep free place held s) (perform p t.bound s) (events.events p t.bound s)
-    statement_leads (Assign line x e) free free_ones h held place = assign_leads p t of keep free free_ones line x e h held place
-    statement_leads (Print line e) free free_ones h held place =
-        λ m spent f w stand calm. print_follows p t of keep free line free_ones held m place spent f w e h.0 stand calm
-    statement_leads (While' line e q body) free free_ones h held place =
-        loop_leads p t of keep free line free_ones e h.0.0 held (λ n. part_code keep free n false body) (part_left false body)
+    statement_leads (Assign here x e) free free_ones h held place = assign_leads p t of keep free free_ones here x e h held place
+    statement_leads (Print here e) free free_ones h held place =
+        λ m spent f w stand calm. print_follows p t of keep free here.line free_ones held m place spent f w e h.0 stand calm
+    statement_leads (While' here e q body) free free_ones h held place =
+        loop_leads p t of keep free here.line free_ones e h.0.0 held (λ n. part_code keep free n false body) (part_left false body)
         (perform_row p t.bound body)
         (row_events p t.bound body) (λ n. statements_begin_calm.part t keep free n false body)
         (λ n. row_leads body free free_ones h.1 false n) place
-    statement_leads (If' line e q then_part l else_part) free free_ones h held place =
-        if_leads free line free_ones e h.0.0 held place then_part else_part (λ n. row_leads then_part free free_ones h.1 false n)
+    statement_leads (If' here e q then_part l else_part) free free_ones h held place =
+        if_leads free here.line free_ones e h.0.0 held place then_part else_part (λ n. row_leads then_part free free_ones h.1 false n)
         (λ n. row_leads else_part free free_ones h.2 false n)
-    statement_leads (For' line x d e q body) free free_ones h held place =
-        turns_leads p t of keep free line free_ones x h.0 d e h.1.0 h.1.1 held (λ n. part_code keep (behind_turns free) n false body)
+    statement_leads (For' here x d e q body) free free_ones h held place =
+        turns_leads p t of keep free here.line free_ones x h.0 d e h.1.0 h.1.1 held (λ n. part_code keep (behind_turns free) n false body)
         (part_left false body)
         (perform_row p t.bound body) (row_events p t.bound body) (λ n. statements_begin_calm.part t keep (behind_turns free) n false body)
         (λ n. row_leads body (behind_turns free) (omega (arith, free_ones)) h.2 false n) place
-    statement_leads (Pardo line d e locals body) free free_ones h held place =
-        λ m spent f w stand calm. pardo_follows p t of keep free line free_ones held m place spent f w d e h.0.0 h.0.1 locals body.items
+    statement_leads (Pardo here d e locals body) free free_ones h held place =
+        λ m spent f w stand calm. pardo_follows p t of keep free here.line free_ones held m place spent f w d e h.0.0 h.0.1 locals body.items
         h.1 stand
         calm
 

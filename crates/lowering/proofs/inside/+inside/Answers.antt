@@ -14,8 +14,8 @@ use Rattle.lowering.proofs.inside.+inside.Goals as goal
 
 pub step-step_while-requires : goal.step-step_while-requires
 step-step_while-requires t c =
-    let line = c.in-While.line in let s = c.args.s.now in let e = c.in-While.test in let body = c.in-While.body in
-    let room = while_room c.args.base line s e body c.in-While.is c.requires.room in (
+    let here = c.in-While.location in let s = c.args.s.now in let e = c.in-While.test in let body = c.in-While.body in
+    let room = while_room c.args.base here s e body c.in-While.is c.requires.room in (
       search (rules, the_lemmas),
       (
         room.0,
@@ -23,7 +23,7 @@ step-step_while-requires t c =
           room.1,
           (
             room.2,
-            while_short c.args.vote c.args.base line s e body c.args.out.now c.in-While.is c.requires.short,
+            while_short c.args.vote c.args.base here s e body c.args.out.now c.in-While.is c.requires.short,
           ),
         ),
       ),
@@ -31,23 +31,23 @@ step-step_while-requires t c =
 
 pub step-steps-requires : goal.step-steps-requires
 step-steps-requires t c =
-    let line = c.in-If.line in let s = c.args.s.now in let e = c.in-If.test in let a = c.in-If.then_part in let b = c.in-If.else_part in
-    let room = if_room c.args.base line s e a b c.in-If.is c.requires.room in (
+    let here = c.in-If.location in let s = c.args.s.now in let e = c.in-If.test in let a = c.in-If.then_part in let b = c.in-If.else_part in
+    let room = if_room c.args.base here s e a b c.in-If.is c.requires.room in (
       search (rules, the_lemmas),
       (
         room.1,
-        then_short c.args.vote c.args.base line s e a b c.args.out.now c.masked.new.out c.in-If.is c.in_ok-masked-in-If.ensures c.requires.short,
+        then_short c.args.vote c.args.base here s e a b c.args.out.now c.masked.new.out c.in-If.is c.in_ok-masked-in-If.ensures c.requires.short,
       ),
     )
 
 pub step-step_else-requires : goal.step-step_else-requires
 step-step_else-requires t c =
-    let line = c.in-If.line in let s = c.args.s.now in let e = c.in-If.test in let a = c.in-If.then_part in let b = c.in-If.else_part in
-    let room = if_room c.args.base line s e a b c.in-If.is c.requires.room in (
+    let here = c.in-If.location in let s = c.args.s.now in let e = c.in-If.test in let a = c.in-If.then_part in let b = c.in-If.else_part in
+    let room = if_room c.args.base here s e a b c.in-If.is c.requires.room in (
       search (rules, the_lemmas),
       (
         room.2,
-        else_short c.args.vote c.args.base line s e a b c.args.out.now c.masked.new.out c.steps.new.out c.in-If.is c.in_ok-masked-in-If.ensures
+        else_short c.args.vote c.args.base here s e a b c.args.out.now c.masked.new.out c.steps.new.out c.in-If.is c.in_ok-masked-in-If.ensures
             c.in_ok-steps-in-If.ensures c.requires.short,
       ),
     )
@@ -67,12 +67,12 @@ steps-step-requires t c =
 
 pub step-returns-in-While : goal.step-returns-in-While
 step-returns-in-While t c =
-    on_ok c.step_while.result (λ h. while_is c.args.vote c.args.base c.in-While.line c.args.s.now c.in-While.test c.in-While.body
+    on_ok c.step_while.result (λ h. while_is c.args.vote c.args.base c.in-While.location c.args.s.now c.in-While.test c.in-While.body
     c.args.out.now c.step_while.new.out c.in-While.is h) c.step_while.ensures
 
 pub step-returns-in_ok-step_else-in-If : goal.step-returns-in_ok-step_else-in-If
 step-returns-in_ok-step_else-in-If t c =
-    on_ok c.push.result (λ h. if_is c.args.vote c.args.base c.in-If.line c.args.s.now c.in-If.test c.in-If.then_part c.in-If.else_part
+    on_ok c.push.result (λ h. if_is c.args.vote c.args.base c.in-If.location c.args.s.now c.in-If.test c.in-If.then_part c.in-If.else_part
     c.args.out.now c.masked.new.out c.steps.new.out c.step_else.new.out c.push.new.self c.in-If.is c.in_ok-masked-in-If.ensures
     c.in_ok-steps-in-If.ensures c.in_ok-step_else-in-If.ensures h) c.push.ensures
 

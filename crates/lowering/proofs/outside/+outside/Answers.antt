@@ -29,42 +29,42 @@ block-statement-requires t c =
 
 pub statement-while_loop-requires : goal.statement-while_loop-requires
 statement-while_loop-requires t c =
-    let line = c.in-While.line in let s = c.args.s.now in let e = c.in-While.test in let body = c.in-While.body in
-    let room = while_room c.args.free line s e body c.in-While.is c.requires.room in (
+    let here = c.in-While.location in let s = c.args.s.now in let e = c.in-While.test in let body = c.in-While.body in
+    let room = while_room c.args.free here s e body c.in-While.is c.requires.room in (
       search (rules, the_lemmas),
       (
         room.0,
         (
           room.1,
-          while_short c.args.free line s e body c.args.out.now c.in-While.is c.requires.short,
+          while_short c.args.free here s e body c.args.out.now c.in-While.is c.requires.short,
         ),
       ),
     )
 
 pub statement-part-requires : goal.statement-part-requires
 statement-part-requires t c =
-    let line = c.in-If.line in let s = c.args.s.now in let e = c.in-If.test in let a = c.in-If.then_part in let b = c.in-If.else_part in
-    let room = if_room c.args.free line s e a b c.in-If.is c.requires.room in (
+    let here = c.in-If.location in let s = c.args.s.now in let e = c.in-If.test in let a = c.in-If.then_part in let b = c.in-If.else_part in
+    let room = if_room c.args.free here s e a b c.in-If.is c.requires.room in (
       search (rules, the_lemmas),
       (
         room.1,
-        then_short c.args.free line c.in_ok-source-in-If.source s e a b c.args.out.now c.parted.new.out c.gap.new.self c.in-If.is
+        then_short c.args.free here c.in_ok-source-in-If.source s e a b c.args.out.now c.parted.new.out c.gap.new.self c.in-If.is
             c.in_ok-source-in-If.ensures.register c.in_ok-source-in-If.ensures.written c.in_ok-over-in-If.ensures.added c.requires.short,
       ),
     )
 
 pub statement-joined-requires : goal.statement-joined-requires
 statement-joined-requires t c =
-    let line = c.in-If.line in let s = c.args.s.now in let e = c.in-If.test in let a = c.in-If.then_part in let b = c.in-If.else_part in
+    let here = c.in-If.location in let s = c.args.s.now in let e = c.in-If.test in let a = c.in-If.then_part in let b = c.in-If.else_part in
     let over = c.in_ok-over-in-If.over in
-    let room = if_room c.args.free line s e a b c.in-If.is c.requires.room in (
+    let room = if_room c.args.free here s e a b c.in-If.is c.requires.room in (
       search (rules, the_lemmas),
       (
         over_inside c.args.free over a.items c.parted.new.out c.gap.new.self c.part.new.out c.in_ok-over-in-If.ensures.place
             c.in_ok-over-in-If.ensures.added c.in_ok-part-in-If.ensures,
         (
           room.2,
-          joined_short c.args.free line c.in_ok-source-in-If.source over s e a b c.args.out.now c.parted.new.out c.gap.new.self c.part.new.out
+          joined_short c.args.free here c.in_ok-source-in-If.source over s e a b c.args.out.now c.parted.new.out c.gap.new.self c.part.new.out
               c.in-If.is c.in_ok-source-in-If.ensures.register c.in_ok-source-in-If.ensures.written c.in_ok-over-in-If.ensures.place
               c.in_ok-over-in-If.ensures.added c.in_ok-part-in-If.ensures c.requires.short,
         ),
@@ -73,16 +73,16 @@ statement-joined-requires t c =
 
 pub statement-for_turns-requires : goal.statement-for_turns-requires
 statement-for_turns-requires t c =
-    let line = c.in-For.line in let x = c.in-For.variable in let s = c.args.s.now in let e = c.in-For.low in let f = c.in-For.high in
+    let here = c.in-For.location in let x = c.in-For.variable in let s = c.args.s.now in let e = c.in-For.low in let f = c.in-For.high in
     let body = c.in-For.body in let turns = c.turns_from-turns.result in
-    let room = for_room c.args.free line x s e f body c.in-For.is c.requires.room in
+    let room = for_room c.args.free here x s e f body c.in-For.is c.requires.room in
     let behind = ap (λ t. t.behind) c.turns_from-turns.ensures in (
       search (rules, the_lemmas),
       (
         room.1,
         (
           subst (λ n. StatementsHaveRoom n body.items) (sym behind) room.3,
-          for_short c.args.free line x s e f body turns c.args.out.now c.bounds.new.out c.in-For.is c.turns_from-turns.ensures
+          for_short c.args.free here x s e f body turns c.args.out.now c.bounds.new.out c.in-For.is c.turns_from-turns.ensures
               c.in_ok-bounds-in-For.ensures c.requires.short,
         ),
       ),
@@ -112,19 +112,19 @@ joined-returns t c =
 
 pub statement-returns-in-While : goal.statement-returns-in-While
 statement-returns-in-While t c =
-    on_ok c.while_loop.result (λ h. while_is c.args.free c.in-While.line c.args.s.now c.in-While.test c.in-While.body c.args.out.now
+    on_ok c.while_loop.result (λ h. while_is c.args.free c.in-While.location c.args.s.now c.in-While.test c.in-While.body c.args.out.now
     c.while_loop.new.out c.in-While.is h) c.while_loop.ensures
 
 pub statement-returns-in_ok-part-in-If : goal.statement-returns-in_ok-part-in-If
 statement-returns-in_ok-part-in-If t c =
-    on_ok c.joined.result (λ h. if_is c.args.free c.in-If.line c.in_ok-source-in-If.source c.in_ok-over-in-If.over c.args.s.now c.in-If.test
+    on_ok c.joined.result (λ h. if_is c.args.free c.in-If.location c.in_ok-source-in-If.source c.in_ok-over-in-If.over c.args.s.now c.in-If.test
     c.in-If.then_part c.in-If.else_part c.args.out.now c.parted.new.out c.gap.new.self c.part.new.out c.joined.new.out c.in-If.is
     c.in_ok-source-in-If.ensures.register c.in_ok-source-in-If.ensures.written c.in_ok-over-in-If.ensures.place
     c.in_ok-over-in-If.ensures.added c.in_ok-part-in-If.ensures h) c.joined.ensures
 
 pub statement-returns-in_ok-bounds-in-For : goal.statement-returns-in_ok-bounds-in-For
 statement-returns-in_ok-bounds-in-For t c =
-    on_ok c.for_turns.result (λ h. for_is c.args.free c.in-For.line c.in-For.variable c.args.s.now c.in-For.low c.in-For.high c.in-For.body
+    on_ok c.for_turns.result (λ h. for_is c.args.free c.in-For.location c.in-For.variable c.args.s.now c.in-For.low c.in-For.high c.in-For.body
     c.turns_from-turns.result c.args.out.now c.bounds.new.out c.for_turns.new.out c.in-For.is c.turns_from-turns.ensures
     c.in_ok-bounds-in-For.ensures h) c.for_turns.ensures
 

@@ -11,7 +11,7 @@ returns-in-Ran g c =
     let rows = grid_is c.args.grid in
     record {
       written = subst (λ (t : List ℕ). Writes (g.W.Out.state c.args.out.now) (g.W.Out.state c.write_ran.new.out) t c.write_ran.result)
-          ((λ i. ran_column layout rows c.args.at.x c.args.at.k c.in-Ran.line (map act_is (c.deref.ensures.value i)))
+          ((λ i. ran_column layout rows c.args.at.x c.args.at.k c.in-Ran.location.line (map act_is (c.deref.ensures.value i)))
           ∙ ap (λ e. column layout rows c.args.at.x c.args.at.k (entry_is e)) (sym c.in-Ran.is)) c.write_ran.ensures.written;
     }
 

@@ -11,7 +11,7 @@ use Rattle.pram_meaning.proofs.interpreter.Interpreter.+inside.Goals as goal
 
 pub run_step-returns-in-Assign-clause-value : goal.run_step-returns-in-Assign-clause-value
 run_step-returns-in-Assign-clause-value g t c =
-    assign_arm c.args.self.now.program.now c.args.self.now.bound c.in-Assign.line c.args.s.now c.in-Assign.target c.in-Assign.value
+    assign_arm c.args.self.now.program.now c.args.self.now.bound c.in-Assign.location c.args.s.now c.in-Assign.target c.in-Assign.value
     c.args.active.now.items
     (state_in c.args.run.now c.args.team.now.items) (state_in c.assign_on.new.run c.assign_on.new.team.items) c.assign_on.result
     c.in-Assign.is c.assign_on.ensures.value
@@ -21,7 +21,7 @@ pub run_step-returns-in_err-run_block_on-in-If-clause-value :
 run_step-returns-in_err-run_block_on-in-If-clause-value g t c =
     let r = c.from_residual-in_err-run_block_on-in-If in
     let p = err_from_is_err_and r.result r.ensures.1 in rw (p.1, p.2)
-    (if_then_halts c.args.self.now.program.now c.args.self.now.bound c.in-If.line c.args.s.now c.in-If.test c.in-If.then_part
+    (if_then_halts c.args.self.now.program.now c.args.self.now.bound c.in-If.location c.args.s.now c.in-If.test c.in-If.then_part
     c.in-If.else_part c.args.active.now.items c.in_ok-chosen-in-If.chosen.items
     (state_in c.args.run.now c.args.team.now.items) (state_in c.choice_on.new.run c.args.team.now.items)
     (state_in c.run_block_on.new.run c.run_block_on.new.team.items) (map part_is c.in_ok-all-in-If.all.items) _
@@ -30,7 +30,7 @@ run_step-returns-in_err-run_block_on-in-If-clause-value g t c =
 pub run_step-returns-in_ok-run_block_on-in-If-clause-value :
     goal.run_step-returns-in_ok-run_block_on-in-If-clause-value
 run_step-returns-in_ok-run_block_on-in-If-clause-value g t c =
-    if_goes c.args.self.now.program.now c.args.self.now.bound c.in-If.line c.args.s.now c.in-If.test c.in-If.then_part c.in-If.else_part
+    if_goes c.args.self.now.program.now c.args.self.now.bound c.in-If.location c.args.s.now c.in-If.test c.in-If.then_part c.in-If.else_part
     c.args.active.now.items c.in_ok-chosen-in-If.chosen.items c.in_ok-others-in-If.others.items
     (state_in c.args.run.now c.args.team.now.items) (state_in c.choice_on.new.run c.args.team.now.items)
     (state_in c.run_block_on.new.run c.run_block_on.new.team.items)
@@ -46,7 +46,7 @@ run_while_on-returns-in_err-run_block_on-clause-value g t c =
     let p = err_from_is_err_and r.result r.ensures.1 in
     let z : 0 < length c.in_ok-chosen.chosen.items = grind (arith, common_steps) in
     rw (p.1, p.2)
-    (turn_halts c.args.self.now.program.now c.args.self.now.bound c.args.line c.args.test.now c.args.body.now.items c.args.active.now.items
+    (turn_halts c.args.self.now.program.now c.args.self.now.bound c.args.location.line c.args.test.now c.args.body.now.items c.args.active.now.items
     c.turns.current.items c.in_ok-chosen.chosen.items
     (state_in c.args.run.now c.args.team.now.items) (state_in c.turns.run c.turns.team.items)
     (state_in c.test_on.new.run c.turns.team.items) (state_in c.run_block_on.new.run c.run_block_on.new.team.items)
@@ -59,7 +59,7 @@ run_step-returns-in_err-run_block_on-in-If-clause-heard g t c =
     let r = c.from_residual-in_err-run_block_on-in-If in
     let p = err_from_is_err_and r.result r.ensures.1 in rw (p.1, p.2)
     (if_then_halts_heard g.H.Listener.hears g.met.H.Listener.hears_on c.args.listener.now c.choice_on.new.listener
-    c.run_block_on.new.listener c.args.self.now.program.now c.args.self.now.bound c.in-If.line c.args.s.now c.in-If.test c.in-If.then_part
+    c.run_block_on.new.listener c.args.self.now.program.now c.args.self.now.bound c.in-If.location c.args.s.now c.in-If.test c.in-If.then_part
     c.in-If.else_part c.args.active.now.items c.in_ok-chosen-in-If.chosen.items
     (state_in c.args.run.now c.args.team.now.items) (state_in c.choice_on.new.run c.args.team.now.items)
     (state_in c.run_block_on.new.run c.run_block_on.new.team.items) (map part_is c.in_ok-all-in-If.all.items) _
@@ -70,7 +70,7 @@ pub run_step-returns-in_ok-run_block_on-in-If-clause-heard :
     goal.run_step-returns-in_ok-run_block_on-in-If-clause-heard
 run_step-returns-in_ok-run_block_on-in-If-clause-heard g t c =
     if_goes_heard g.H.Listener.hears g.met.H.Listener.hears_on c.args.listener.now c.choice_on.new.listener c.run_block_on.new.listener
-    c.run_block_on-in-If.new.listener c.args.self.now.program.now c.args.self.now.bound c.in-If.line c.args.s.now c.in-If.test
+    c.run_block_on-in-If.new.listener c.args.self.now.program.now c.args.self.now.bound c.in-If.location c.args.s.now c.in-If.test
     c.in-If.then_part c.in-If.else_part c.args.active.now.items c.in_ok-chosen-in-If.chosen.items c.in_ok-others-in-If.others.items
     (state_in c.args.run.now c.args.team.now.items) (state_in c.choice_on.new.run c.args.team.now.items)
     (state_in c.run_block_on.new.run c.run_block_on.new.team.items) (map part_is c.in_ok-all-in-If.all.items) c.run_block_on-in-If.result
@@ -83,7 +83,7 @@ run_while_on-returns-in_err-all-clause-heard g t c =
     let r = c.from_residual-in_err-all in
     let p = err_from_is_err_and r.result r.ensures.1 in
     rw (p.1, p.2)
-    (test_halts_heard g.H.Listener.hears c.args.self.now.program.now c.args.self.now.bound c.args.line c.args.test.now
+    (test_halts_heard g.H.Listener.hears c.args.self.now.program.now c.args.self.now.bound c.args.location c.args.test.now
     c.args.body.now.items c.args.active.now.items c.turns.current.items (state_in c.args.run.now c.args.team.now.items)
     (state_in c.turns.run c.turns.team.items) (state_in c.test_on.new.run c.turns.team.items) c.args.listener.now c.turns.listener
     c.test_on.new.listener _ c.turns.invariant.1 c.in_err-all.ensures.value c.in_err-all.ensures.heard)
@@ -93,7 +93,7 @@ pub run_while_on-returns-then-is_empty-clause-heard :
 run_while_on-returns-then-is_empty-clause-heard g t c =
     let z : length c.in_ok-chosen.chosen.items ≡ 0 = grind (arith, common_steps) in
     turns_end_heard g.H.Listener.hears g.met.H.Listener.hears_nothing g.met.H.Listener.hears_on c.args.self.now.program.now
-    c.args.self.now.bound c.args.line c.args.test.now c.args.body.now.items c.args.active.now.items c.turns.current.items
+    c.args.self.now.bound c.args.location c.args.test.now c.args.body.now.items c.args.active.now.items c.turns.current.items
     c.in_ok-chosen.chosen.items (state_in c.args.run.now c.args.team.now.items) (state_in c.turns.run c.turns.team.items)
     (state_in c.test_on.new.run c.turns.team.items) c.args.listener.now c.turns.listener c.test_on.new.listener
     (map part_is c.in_ok-all.all.items) c.turns.invariant.1 c.in_ok-all.ensures.value c.in_ok-chosen.ensures z c.in_ok-all.ensures.heard
@@ -105,7 +105,7 @@ run_while_on-returns-in_err-run_block_on-clause-heard g t c =
     let p = err_from_is_err_and r.result r.ensures.1 in
     let z : 0 < length c.in_ok-chosen.chosen.items = grind (arith, common_steps) in
     rw (p.1, p.2)
-    (turn_halts_heard g.H.Listener.hears g.met.H.Listener.hears_on c.args.self.now.program.now c.args.self.now.bound c.args.line
+    (turn_halts_heard g.H.Listener.hears g.met.H.Listener.hears_on c.args.self.now.program.now c.args.self.now.bound c.args.location
     c.args.test.now c.args.body.now.items c.args.active.now.items c.turns.current.items c.in_ok-chosen.chosen.items
     (state_in c.args.run.now c.args.team.now.items) (state_in c.turns.run c.turns.team.items)
     (state_in c.test_on.new.run c.turns.team.items) (state_in c.run_block_on.new.run c.run_block_on.new.team.items)
@@ -118,12 +118,12 @@ run_while_on-turns-preserved g t c =
     let z : 0 < length c.in_ok-chosen.chosen.items = grind (arith, common_steps) in
     let a = c.in_ok-all.ensures.more in
     let b = c.in_ok-run_block_on.ensures.grows in (
-      turn_goes c.args.self.now.program.now c.args.self.now.bound c.args.line c.args.test.now c.args.body.now.items c.args.active.now.items
+      turn_goes c.args.self.now.program.now c.args.self.now.bound c.args.location.line c.args.test.now c.args.body.now.items c.args.active.now.items
           c.turns.current.items c.in_ok-chosen.chosen.items (state_in c.args.run.now c.args.team.now.items)
           (state_in c.turns.run c.turns.team.items) (state_in c.test_on.new.run c.turns.team.items)
           (state_in c.run_block_on.new.run c.run_block_on.new.team.items) (map part_is c.in_ok-all.all.items) c.turns.invariant.0
           c.in_ok-all.ensures.value c.in_ok-chosen.ensures z c.in_ok-run_block_on.ensures.value (omega (arith, a, b)),
-      turn_goes_heard g.H.Listener.hears g.met.H.Listener.hears_on c.args.self.now.program.now c.args.self.now.bound c.args.line
+      turn_goes_heard g.H.Listener.hears g.met.H.Listener.hears_on c.args.self.now.program.now c.args.self.now.bound c.args.location
           c.args.test.now c.args.body.now.items c.args.active.now.items c.turns.current.items c.in_ok-chosen.chosen.items
           (state_in c.args.run.now c.args.team.now.items) (state_in c.turns.run c.turns.team.items)
           (state_in c.test_on.new.run c.turns.team.items) (state_in c.run_block_on.new.run c.run_block_on.new.team.items)

@@ -1,9 +1,9 @@
 use Rattle.std.proofs.Common.{rules, ◌≡◌, ap, arith, to_z, of_z, w64}
 use Rattle.std.proofs.lemmas.Result.{err_from_is_err_and}
 use Rattle.pram_meaning.proofs.Blocks.{then_arm, else_arm, for_arm, pardo_arm}
-use Rattle.pram_meaning.proofs.ForLoops.{turn_goes}
+use Rattle.pram_meaning.proofs.ForLoops.{turn_goes, turn_halts}
 use Rattle.pram_meaning.proofs.HeardBlocks.{else_heard, for_heard, then_heard}
-use Rattle.pram_meaning.proofs.HeardForLoops.{for_goes_heard, turn_goes_heard, turn_halts_heard}
+use Rattle.pram_meaning.proofs.HeardForLoops.{for_goes_heard, setting_halts_heard, turn_goes_heard, turn_halts_heard}
 use Rattle.pram_meaning.proofs.HeardLoops as loop
 use Rattle.pram_meaning.proofs.Loops as turns
 use Rattle.pram_meaning.specs.Store.{State}
@@ -21,13 +21,13 @@ run_statement-returns-else-holds-clause-value g t c =
 pub run_statement-returns-in-Pardo-clause-value : goal.run_statement-returns-in-Pardo-clause-value
 run_statement-returns-in-Pardo-clause-value g t c =
     let p = c.in-Pardo in
-    pardo_arm c.args.self.now.program.now c.args.self.now.bound p.line p.locals c.args.s.now p.low p.high p.body (state_of c.args.run.now)
+    pardo_arm c.args.self.now.program.now c.args.self.now.bound p.location p.locals c.args.s.now p.low p.high p.body (state_of c.args.run.now)
     (state_of c.run_pardo.new.run) c.run_pardo.result p.is c.run_pardo.ensures.value
 
 pub run_statement-returns-in-For-clause-value : goal.run_statement-returns-in-For-clause-value
 run_statement-returns-in-For-clause-value g t c =
     let p = c.in-For in
-    for_arm c.args.self.now.program.now c.args.self.now.bound p.line p.variable c.args.s.now p.low p.high p.body (state_of c.args.run.now)
+    for_arm c.args.self.now.program.now c.args.self.now.bound p.location p.variable c.args.s.now p.low p.high p.body (state_of c.args.run.now)
     (state_of c.run_for.new.run) c.run_for.result p.is c.run_for.ensures.value
 
 pub run_turns-turns-preserved : goal.run_turns-turns-preserved
@@ -42,7 +42,7 @@ run_turns-turns-preserved g t c =
           (state_of c.run_closed.new.run)
           c.turns.invariant.0 c.in_ok-begin.ensures.counts c.set_next.ensures c.in_ok-run_closed.ensures.value c.advance.ensures.next
           c.advance.ensures.last (c.is_at_end.ensures.more c.if-is_at_end.false) (omega (arith, a, b, d, e)),
-      turn_goes_heard g.H.Listener.hears g.met.H.Listener.hears_on c.args.self.now.program.now c.args.self.now.bound c.args.line
+      turn_goes_heard g.H.Listener.hears g.met.H.Listener.hears_on c.args.self.now.program.now c.args.self.now.bound c.args.location
           c.args.variable c.args.body.now.items c.args.numbers.now.next c.args.numbers.now.last c.turns.left.next c.turns.left.last
           c.advance.new.self.next (state_of c.args.run.now) (state_of c.turns.run) (state_of c.begin.new.run) (state_of c.set_next.new.run)
           (state_of c.run_closed.new.run) c.args.listener.now c.turns.listener c.tell_next.new.listener c.run_closed.new.listener
@@ -55,7 +55,7 @@ run_for-returns-clause-heard g t c =
     let next : to_z w64 (of_z w64 c.in_ok-first.first) ≡ c.in_ok-first.first = search rules in
     let end : to_z w64 (of_z w64 c.in_ok-first.last) ≡ c.in_ok-first.last = search rules in
     for_goes_heard g.H.Listener.hears g.met.H.Listener.hears_on c.args.listener.now c.run_bounds.new.listener c.run_turns.new.listener
-    c.args.self.now.program.now c.args.self.now.bound c.args.line c.args.variable c.args.low.now c.args.high.now c.args.body.now.items
+    c.args.self.now.program.now c.args.self.now.bound c.args.location c.args.variable c.args.low.now c.args.high.now c.args.body.now.items
     (state_of c.args.run.now) (state_of c.run_bounds.new.run) c.in_ok-first.first c.in_ok-first.last
     (to_z w64 (of_z w64 c.in_ok-first.first)) (to_z w64 (of_z w64 c.in_ok-first.last)) c.run_turns.result
     c.in_ok-first.ensures.value c.in_ok-first.ensures.heard next end c.run_turns.ensures.heard
@@ -63,14 +63,14 @@ run_for-returns-clause-heard g t c =
 pub run_statement-returns-then-holds-clause-heard : goal.run_statement-returns-then-holds-clause-heard
 run_statement-returns-then-holds-clause-heard g t c =
     then_heard g.H.Listener.hears g.met.H.Listener.hears_on c.args.listener.now c.run_choice.new.listener c.run_closed.new.listener
-    c.args.self.now.program.now c.args.self.now.bound c.in-If.line c.args.s.now c.in-If.test c.in-If.then_part c.in-If.else_part
+    c.args.self.now.program.now c.args.self.now.bound c.in-If.location c.args.s.now c.in-If.test c.in-If.then_part c.in-If.else_part
     (state_of c.args.run.now) (state_of c.run_choice.new.run) c.in_ok-holds-in-If.holds c.run_closed.result c.in-If.is
     c.in_ok-holds-in-If.ensures.value c.if-holds.true c.in_ok-holds-in-If.ensures.heard c.run_closed.ensures.heard
 
 pub run_statement-returns-else-holds-clause-heard : goal.run_statement-returns-else-holds-clause-heard
 run_statement-returns-else-holds-clause-heard g t c =
     else_heard g.H.Listener.hears g.met.H.Listener.hears_on c.args.listener.now c.run_choice.new.listener
-    c.run_closed-else-holds.new.listener c.args.self.now.program.now c.args.self.now.bound c.in-If.line c.args.s.now c.in-If.test
+    c.run_closed-else-holds.new.listener c.args.self.now.program.now c.args.self.now.bound c.in-If.location c.args.s.now c.in-If.test
     c.in-If.then_part c.in-If.else_part (state_of c.args.run.now) (state_of c.run_choice.new.run) c.in_ok-holds-in-If.holds
     c.run_closed-else-holds.result c.in-If.is c.in_ok-holds-in-If.ensures.value c.if-holds.false c.in_ok-holds-in-If.ensures.heard
     c.run_closed-else-holds.ensures.heard
@@ -78,7 +78,7 @@ run_statement-returns-else-holds-clause-heard g t c =
 pub run_statement-returns-in-For-clause-heard : goal.run_statement-returns-in-For-clause-heard
 run_statement-returns-in-For-clause-heard g t c =
     let p = c.in-For in
-    for_heard g.H.Listener.hears c.args.listener.now c.run_for.new.listener c.args.self.now.program.now c.args.self.now.bound p.line
+    for_heard g.H.Listener.hears c.args.listener.now c.run_for.new.listener c.args.self.now.program.now c.args.self.now.bound p.location
     p.variable c.args.s.now p.low p.high p.body (state_of c.args.run.now) c.run_for.result p.is c.run_for.ensures.heard
 
 pub run_turns-returns-in_err-run_closed-clause-heard :
@@ -87,7 +87,7 @@ run_turns-returns-in_err-run_closed-clause-heard g t c =
     let r = c.from_residual-in_err-run_closed in
     let p = err_from_is_err_and r.result r.ensures.1 in
     rw (p.1, p.2)
-    (turn_halts_heard g.H.Listener.hears g.met.H.Listener.hears_on c.args.self.now.program.now c.args.self.now.bound c.args.line
+    (turn_halts_heard g.H.Listener.hears g.met.H.Listener.hears_on c.args.self.now.program.now c.args.self.now.bound c.args.location
     c.args.variable c.args.body.now.items c.args.numbers.now.next c.args.numbers.now.last c.turns.left.next c.turns.left.last
     (state_of c.args.run.now) (state_of c.turns.run) (state_of c.begin.new.run) (state_of c.set_next.new.run)
     (state_of c.run_closed.new.run) c.args.listener.now c.turns.listener c.tell_next.new.listener c.run_closed.new.listener
@@ -100,7 +100,7 @@ run_while-returns-in_err-run_test-clause-heard g t c =
     let r = c.from_residual in
     let p = err_from_is_err_and r.result r.ensures.1 in
     rw (p.1, p.2)
-    (loop.test_halts_heard g.H.Listener.hears c.args.self.now.program.now c.args.self.now.bound c.args.line c.args.test.now
+    (loop.test_halts_heard g.H.Listener.hears c.args.self.now.program.now c.args.self.now.bound c.args.location c.args.test.now
     c.args.body.now.items (state_of c.args.run.now) (state_of c.turns.run) (state_of c.run_test.new.run) c.args.listener.now
     c.turns.listener c.run_test.new.listener c.in_err-run_test.field-0.0 c.turns.invariant.1 c.in_err-run_test.ensures.value
     c.in_err-run_test.ensures.heard)
@@ -109,11 +109,11 @@ pub run_while-turns-preserved : goal.run_while-turns-preserved
 run_while-turns-preserved g t c =
     let a = c.in_ok-run_test.ensures.more in
     let b = c.in_ok-run_block.ensures.grows in (
-      turns.turn_goes c.args.self.now.program.now c.args.self.now.bound c.args.line c.args.test.now c.args.body.now.items
+      turns.turn_goes c.args.self.now.program.now c.args.self.now.bound c.args.location.line c.args.test.now c.args.body.now.items
           (state_of c.args.run.now) (state_of c.turns.run) (state_of c.run_test.new.run) (state_of c.run_block.new.run)
           c.in_ok-run_test.field-0 c.turns.invariant.0 c.in_ok-run_test.ensures.value c.if-branch.true c.in_ok-run_block.ensures.value
           (omega (arith, a, b)),
-      loop.turn_goes_heard g.H.Listener.hears g.met.H.Listener.hears_on c.args.self.now.program.now c.args.self.now.bound c.args.line
+      loop.turn_goes_heard g.H.Listener.hears g.met.H.Listener.hears_on c.args.self.now.program.now c.args.self.now.bound c.args.location
           c.args.test.now c.args.body.now.items (state_of c.args.run.now) (state_of c.turns.run) (state_of c.run_test.new.run)
           (state_of c.run_block.new.run) c.args.listener.now c.turns.listener c.run_test.new.listener c.run_block.new.listener
           c.in_ok-run_test.field-0 c.turns.invariant.1 c.in_ok-run_test.ensures.value c.if-branch.true c.in_ok-run_test.ensures.heard
@@ -126,7 +126,7 @@ run_while-returns-in_err-run_block-clause-heard g t c =
     let r = c.from_residual-in_err-run_block in
     let p = err_from_is_err_and r.result r.ensures.1 in
     rw (p.1, p.2)
-    (loop.turn_halts_heard g.H.Listener.hears g.met.H.Listener.hears_on c.args.self.now.program.now c.args.self.now.bound c.args.line
+    (loop.turn_halts_heard g.H.Listener.hears g.met.H.Listener.hears_on c.args.self.now.program.now c.args.self.now.bound c.args.location
     c.args.test.now c.args.body.now.items (state_of c.args.run.now) (state_of c.turns.run) (state_of c.run_test.new.run)
     (state_of c.run_block.new.run) c.args.listener.now c.turns.listener c.run_test.new.listener c.run_block.new.listener
     c.in_ok-run_test.field-0 c.in_err-run_block.field-0.0 c.turns.invariant.1 c.in_ok-run_test.ensures.value c.if-branch.true
@@ -135,6 +135,27 @@ run_while-returns-in_err-run_block-clause-heard g t c =
 pub run_while-returns-clause-heard : goal.run_while-returns-clause-heard
 run_while-returns-clause-heard g t c =
     loop.turns_end_heard g.H.Listener.hears g.met.H.Listener.hears_nothing g.met.H.Listener.hears_on c.args.self.now.program.now
-    c.args.self.now.bound c.args.line c.args.test.now c.args.body.now.items (state_of c.args.run.now) (state_of c.turns.run)
+    c.args.self.now.bound c.args.location c.args.test.now c.args.body.now.items (state_of c.args.run.now) (state_of c.turns.run)
     (state_of c.run_test.new.run) c.args.listener.now c.turns.listener c.run_test.new.listener c.in_ok-run_test.field-0
     c.turns.invariant.1 c.in_ok-run_test.ensures.value c.if-branch.false c.in_ok-run_test.ensures.heard
+
+pub run_turns-returns-in_err-begin-clause-heard : goal.run_turns-returns-in_err-begin-clause-heard
+run_turns-returns-in_err-begin-clause-heard g t c =
+    let r = c.from_residual in
+    let p = err_from_is_err_and r.result r.ensures.1 in
+    rw (p.1, p.2)
+    (setting_halts_heard g.H.Listener.hears g.met.H.Listener.hears_nothing c.args.self.now.program.now c.args.self.now.bound
+    c.args.location c.args.variable c.args.body.now.items c.args.numbers.now.next c.args.numbers.now.last c.turns.left.next
+    c.turns.left.last (state_of c.args.run.now) (state_of c.turns.run) (state_of c.begin.new.run) c.args.listener.now c.turns.listener
+    c.in_err-begin.field-0.0 c.turns.invariant.0 c.turns.invariant.1 c.in_err-begin.ensures.counts)
+
+pub run_turns-returns-in_err-run_closed-clause-value :
+    goal.run_turns-returns-in_err-run_closed-clause-value
+run_turns-returns-in_err-run_closed-clause-value g t c =
+    let r = c.from_residual-in_err-run_closed in
+    let p = err_from_is_err_and r.result r.ensures.1 in
+    rw (p.1, p.2)
+    (turn_halts c.args.self.now.program.now c.args.self.now.bound c.args.variable c.args.body.now.items c.args.numbers.now.next
+    c.args.numbers.now.last c.turns.left.next c.turns.left.last (state_of c.args.run.now) (state_of c.turns.run) (state_of c.begin.new.run)
+    (state_of c.set_next.new.run) (state_of c.run_closed.new.run) c.in_err-run_closed.field-0.0 c.turns.invariant.0
+    c.in_ok-begin.ensures.counts c.set_next.ensures c.in_err-run_closed.ensures.value)

@@ -13,8 +13,8 @@ invariant-run_block-loop-s g l = InBlock l.self.program.now l.self.bound l.s-ite
     (state_of l.run) l.listener
 
 abbrev pub invariant-run_while-turns : goal.invariant-run_while-turns
-invariant-run_while-turns g l = InTurns l.self.program.now l.self.bound l.line l.test l.body.items (state_of l.fn.run) (state_of l.run)
-    × TurnsHeard g.H.Listener.hears l.self.program.now l.self.bound l.line l.test l.body.items (state_of l.fn.run) l.fn.listener
+invariant-run_while-turns g l = InTurns l.self.program.now l.self.bound l.location.line l.test l.body.items (state_of l.fn.run) (state_of l.run)
+    × TurnsHeard g.H.Listener.hears l.self.program.now l.self.bound l.location l.test l.body.items (state_of l.fn.run) l.fn.listener
     (state_of l.run) l.listener
 
 abbrev pub decreases-run_while-turns : goal.decreases-run_while-turns
@@ -23,7 +23,7 @@ decreases-run_while-turns g l = l.self.bound - l.run.count
 abbrev pub invariant-run_turns-turns : goal.invariant-run_turns-turns
 invariant-run_turns-turns g l = InFor l.self.program.now l.self.bound l.variable l.body.items l.numbers.next l.numbers.last
     (state_of l.fn.run) l.left.next l.left.last (state_of l.run)
-    × ForHeard g.H.Listener.hears l.self.program.now l.self.bound l.line l.variable l.body.items l.numbers.next l.numbers.last
+    × ForHeard g.H.Listener.hears l.self.program.now l.self.bound l.location l.variable l.body.items l.numbers.next l.numbers.last
     (state_of l.fn.run) l.fn.listener l.left.next (state_of l.run) l.listener
 
 abbrev pub decreases-run_turns-turns : goal.decreases-run_turns-turns

@@ -10,11 +10,12 @@ use Rattle.step_journal.proofs.listening.JournalListener.acts_on.Goals as goal
 pub returns : goal.returns
 returns c =
     both_added c.add.result _ _ _
-    (λ e s. ran_together c.args.program.now c.args.line (step_action_is c.args.action.now) (state_in c.args.run.now c.args._team.now.items)
-    (map part_is c.args.parts.now) (map act_is c.in_ok-acts.acts.items) c.in_ok-cells.cells.items c.new.result.items c.new-2.result.items
+    (λ e s. ran_together c.args.program.now c.args.location (step_action_is c.args.action.now) (state_in c.args.run.now c.args.team.now.items)
+    (map part_is c.args.parts.now) (map act_is c.in_ok-acts.acts.items) c.in_ok-cells.cells.items c.new-variables.result.items
+    c.in_ok-locals.locals.items c.new-items.result.items
     c.args.self.now.program.now c.cells_changed_on.new.self.program.now c.add.new.self.program.now
     (map entry_is c.args.self.now.entries.items) (map entry_is c.cells_changed_on.new.self.entries.items)
-    (map entry_is c.add.new.self.entries.items) c.in_ok-acts.ensures (c.in_ok-cells.ensures.changed c.args._team.now.items)
-    c.new.ensures.items c.new-2.ensures.items c.cells_changed_on.ensures.program
+    (map entry_is c.add.new.self.entries.items) c.in_ok-acts.ensures (c.in_ok-cells.ensures.changed c.args.team.now.items)
+    c.new-variables.ensures.items c.in_ok-locals.ensures c.new-items.ensures.items c.cells_changed_on.ensures.program
     (ap (λ (es : Vec Entry Global). map entry_is es.items) c.in_ok-cells.ensures.kept) s e)
     c.add.ensures.added c.add.ensures.program
