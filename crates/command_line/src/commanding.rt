@@ -5,9 +5,8 @@ ghost use Rattle.std.specs.String.{string_bytes};
 ghost use Rattle.command_line.specs.Command as spec;
 
 use command_json::answer_in_json;
-use command_requests::{asks_for_json, asks_to_explain};
+use command_requests::{Reader, asks_for_json, asks_to_explain};
 use command_text::{Terminal, answer};
-use command_words::read_words;
 use program_texts::Status;
 use std::alloc::Global;
 use std::sync::Wait;
@@ -28,13 +27,14 @@ fn explaining(terminal: Terminal, words: &[String]) -> Terminal
 
 /// Does what the words behind the program's name ask for, in words or as JSON, and answers the exit status.
 ///
-/// What the words ask for is said by [`read_words`](command_words::read_words), and whether in JSON by
+/// What the words ask for is said by their reader, and whether in JSON by
 /// [`asks_for_json`](command_requests::asks_for_json); what is done then by [`answer`](command_text::answer) and
 /// [`answer_in_json`](command_json::answer_in_json). In words a refusal and a fault are explained where standard error is a terminal or one
 /// of the words is `--explain`.
-pub fn command<R: Threads + Wait + Sync, S: Sources, O: Out, E: Out>(
+pub fn command<R: Threads + Wait + Sync, W: Reader, S: Sources, O: Out, E: Out>(
     rt: &R,
     alloc: Global,
+    reader: &W,
     words: &[String],
     terminal: Terminal,
     sources: &mut S,
@@ -46,7 +46,7 @@ pub fn command<R: Threads + Wait + Sync, S: Sources, O: Out, E: Out>(
     ensures leaves { spec.LeavesAs (S.Sources.holds sources.old) terminal (map string_bytes words.now)
         (O.Out.state out.old) (O.Out.state out.new) (E.Out.state err.old) (E.Out.state err.new) result }
 {
-    let asked = read_words(alloc, words);
+    let asked = reader.read(alloc, words);
     if asks_for_json(words) {
         answer_in_json(rt, alloc, asked, sources, out, err)
     } else {

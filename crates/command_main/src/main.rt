@@ -1,7 +1,7 @@
 //! The program `pramc`, over the system's files and streams.
 #![tactic(auto)]
 
-use pramc::{Terminal, command};
+use pramc::{CommandLine, Terminal, command};
 use std::io::IsTerminal;
 use std::process::ExitCode;
 use std::{env, io};
@@ -60,6 +60,7 @@ fn main(rt: HostRuntime) -> ExitCode {
     let status = command(
         &rt,
         rt.alloc(),
+        &CommandLine {},
         words.as_slice(),
         terminal,
         &mut files,

@@ -4,6 +4,7 @@
 mod cost_words;
 mod explain_word;
 mod format_word;
+mod reader;
 mod request;
 mod same_word;
 mod step_words;
@@ -12,6 +13,7 @@ mod version;
 pub use cost_words::CostWords;
 pub use explain_word::asks_to_explain;
 pub use format_word::asks_for_json;
+pub use reader::Reader;
 pub use request::{ProgramFile, Request, RunWords, Verb};
 pub use step_words::StepWords;
 pub use version::{VERSION, asks_for_version};

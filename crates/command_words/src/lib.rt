@@ -1,7 +1,9 @@
 //! From the words behind the program's name to a request.
 #![tactic(auto)]
 
+mod command_line;
 mod grammar;
 mod reading;
 
+pub use command_line::CommandLine;
 pub use reading::read_words;

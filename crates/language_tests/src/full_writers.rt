@@ -2,7 +2,7 @@
 
 use crate::rows::{SILENT, Shelf, call};
 use pram_syntax::{Buffer, Out, OutFailed};
-use pramc::{Status, command};
+use pramc::{CommandLine, Status, command};
 use std::test::Fail;
 
 const SUM: &[u8] =
@@ -21,6 +21,7 @@ fn a_version_that_is_cut_off_is_told(rt: HostRuntime) -> Result<(), Fail> {
         let status = command(
             &rt,
             rt.alloc(),
+            &CommandLine {},
             &words,
             SILENT,
             &mut shelf,
@@ -82,6 +83,7 @@ fn a_full_output_is_told(rt: HostRuntime) -> Result<(), Fail> {
             command(
                 &rt,
                 rt.alloc(),
+                &CommandLine {},
                 &words,
                 SILENT,
                 &mut shelf,
@@ -119,6 +121,7 @@ fn a_text_that_is_cut_off_is_told(rt: HostRuntime) -> Result<(), Fail> {
             let status = command(
                 &rt,
                 rt.alloc(),
+                &CommandLine {},
                 &words,
                 SILENT,
                 &mut shelf,

@@ -1,7 +1,7 @@
 // Calls of the program over files in memory: what they print, and the exit status.
 
 use pram_syntax::Buffer;
-use pramc::{SourceFault, Sources, Status, Terminal, command};
+use pramc::{CommandLine, SourceFault, Sources, Status, Terminal, command};
 use std::alloc::{AllocError, Global};
 use std::sync::Wait;
 use std::thread::Threads;
@@ -72,6 +72,6 @@ pub(crate) fn call_on<R: Threads + Wait + Sync>(
     let mut out = Buffer::new(alloc);
     let mut err = Buffer::new(alloc);
     let words = owned.as_slice();
-    let status = command(rt, alloc, words, terminal, &mut shelf, &mut out, &mut err);
+    let status = command(rt, alloc, &CommandLine {}, words, terminal, &mut shelf, &mut out, &mut err);
     Ok(Said { status, out, err })
 }

@@ -3,6 +3,7 @@
 
 pub use command_line::command;
 pub use command_text::Terminal;
+pub use command_words::CommandLine;
 pub use exchange_counts::{Count, Counts};
 pub use program_runs::{
     Report, compile, compile_program, run_code, run_program, run_text, run_text_reserved,

@@ -1,7 +1,7 @@
 // Calls of the program over files in memory, in words and as JSON.
 
 use pram_syntax::Buffer;
-use pramc::{SourceFault, Sources, Status, Terminal, command};
+use pramc::{CommandLine, SourceFault, Sources, Status, Terminal, command};
 use std::alloc::{AllocError, Global};
 use std::sync::Wait;
 use std::thread::Threads;
@@ -75,7 +75,7 @@ pub(crate) fn call<R: Threads + Wait + Sync>(
     let mut shelf = Shelf { program, input };
     let mut out = Buffer::new(alloc);
     let mut err = Buffer::new(alloc);
-    let status = command(rt, alloc, words, SILENT, &mut shelf, &mut out, &mut err);
+    let status = command(rt, alloc, &CommandLine {}, words, SILENT, &mut shelf, &mut out, &mut err);
     Ok(Said { status, out, err })
 }
 

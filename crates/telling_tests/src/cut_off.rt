@@ -2,7 +2,7 @@
 
 use crate::calls::{SILENT, Shelf, call, owned};
 use pram_syntax::{Buffer, Out, OutFailed};
-use pramc::{Status, command};
+use pramc::{CommandLine, Status, command};
 use std::test::Fail;
 
 const SMALL: &[u8] = b"rule crew; procs 1;\nshared s;\nbegin\nprint s;\nend\n";
@@ -49,6 +49,7 @@ fn facts_that_are_cut_off_are_told(rt: HostRuntime) -> Result<(), Fail> {
             let status = command(
                 &rt,
                 rt.alloc(),
+                &CommandLine {},
                 words,
                 SILENT,
                 &mut shelf,
