@@ -1,5 +1,5 @@
 -- Names: a letter, then letters, digits and `_`, and no keyword.
-use Rattle.std.specs.Prelude.{◌≡◌, ℕ, Bool, true, false, ◌&&◌, ◌||◌, ◌==◌, nat_le, List, [], ◌∷◌, codes}
+use Rattle.std.specs.Prelude.{◌≡◌, ℕ, Bool, true, false, not, ◌&&◌, ◌||◌, ◌==◌, nat_le, List, [], ◌∷◌, codes}
 
 -- A to Z and a to z
 abbrev pub is_letter : ℕ → Bool
@@ -37,6 +37,17 @@ keywords =
 abbrev pub is_keyword : List ℕ → Bool
 is_keyword = is_one_of keywords
 
+-- the keywords in two parts
+abbrev pub early_keywords : List (List ℕ)
+early_keywords =
+    codes "rule" ∷ codes "procs" ∷ codes "shared" ∷ codes "var" ∷ codes "local" ∷ codes "begin" ∷ codes "end" ∷ codes "for" ∷ codes "to"
+    ∷ codes "do" ∷ []
+
+abbrev pub late_keywords : List (List ℕ)
+late_keywords =
+    codes "pardo" ∷ codes "while" ∷ codes "if" ∷ codes "then" ∷ codes "else" ∷ codes "print" ∷ codes "and" ∷ codes "or" ∷ codes "not"
+    ∷ codes "div" ∷ codes "mod" ∷ []
+
 -- letters, digits and `_` alone
 abbrev pub are_words : List ℕ → Bool
 are_words [] = true
@@ -46,6 +57,10 @@ are_words (b ∷ rest) = is_word b && are_words rest
 abbrev pub begins_with_letter : List ℕ → Bool
 begins_with_letter [] = false
 begins_with_letter (b ∷ rest) = is_letter b
+
+-- whether a text is a name: a letter, then letters, digits and `_`, and no keyword
+abbrev pub is_name : List ℕ → Bool
+is_name text = begins_with_letter text && (are_words text && not (is_keyword text))
 
 -- a letter, then letters, digits and `_`, and no keyword
 pub record IsName (text : List ℕ) : Type 0 where

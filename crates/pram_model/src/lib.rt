@@ -2,7 +2,9 @@
 #![tactic(auto)]
 
 mod layout;
+mod names;
 mod rule;
 
 pub use layout::{Layout, Range};
+pub use names::{is_keyword, is_name};
 pub use rule::Rule;

@@ -1,6 +1,5 @@
 pub mod Greatest
 pub mod Powers
-pub mod Keywords
 pub mod Chains
 pub mod Turns
 pub mod Heads

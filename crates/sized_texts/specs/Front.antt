@@ -32,15 +32,3 @@ behind text = drop (token_length text) text
 -- the number that a token is: digits alone
 abbrev pub number_of : List ℕ → Result ℕ Reason
 number_of token = if are_digits token then checked (value_after 0 token) else Err reason.Unexpected
-
--- the keywords of the language in three parts
-abbrev pub program_words : List (List ℕ)
-program_words =
-    codes "rule" ∷ codes "procs" ∷ codes "shared" ∷ codes "var" ∷ codes "local" ∷ codes "begin" ∷ codes "end" ∷ []
-
-abbrev pub statement_words : List (List ℕ)
-statement_words =
-    codes "for" ∷ codes "to" ∷ codes "do" ∷ codes "pardo" ∷ codes "while" ∷ codes "if" ∷ codes "then" ∷ codes "else" ∷ codes "print" ∷ []
-
-abbrev pub operator_words : List (List ℕ)
-operator_words = codes "and" ∷ codes "or" ∷ codes "not" ∷ codes "div" ∷ codes "mod" ∷ []

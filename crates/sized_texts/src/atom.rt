@@ -3,11 +3,12 @@
 ghost use Rattle.std.specs.Prelude.{◌≡◌};
 ghost use Rattle.sized_texts.specs.Expressions as spec;
 
-use crate::front::{keyword, number};
+use crate::front::number;
 use crate::line::Line;
 use crate::operation::{Function, Operator};
 use crate::reason::Reason;
 use crate::size::{Size, value_in};
+use pram_model::is_keyword;
 use pram_tokens::LARGEST;
 
 /// The beginning of an operand.
@@ -81,7 +82,7 @@ fn size_atom(word: &[u8], found: Option<u64>) -> Atom
             }
         }
         None => {
-            if keyword(word) {
+            if is_keyword(word) {
                 Atom::Bad(Reason::Unexpected)
             } else {
                 Atom::Bad(Reason::UnknownName)

@@ -2,7 +2,7 @@
 
 ghost use Rattle.std.specs.Prelude.{◌≡◌, ◌≤◌, ◌<◌, length};
 ghost use Rattle.std.specs.List.{prefix_len};
-ghost use Rattle.pram_model.specs.Names.{is_word, is_keyword, is_one_of};
+ghost use Rattle.pram_model.specs.Names.{is_word};
 ghost use Rattle.pram_tokens.specs.Input.{are_digits};
 ghost use Rattle.pram_tokens.specs.Lexemes.{value_after, largest};
 ghost use Rattle.std.specs.Prelude.{MatchOption};
@@ -120,39 +120,4 @@ pub(crate) fn number(token: &[u8]) -> Result<u64, Reason>
         Some(n) => Ok(n),
         None => Err(Reason::OutOfRange),
     }
-}
-
-// Whether a word is a keyword around or between declarations and statements.
-fn program_word(word: &[u8]) -> bool
-    ensures { result ≡ is_one_of spec.program_words word.now }
-{
-    matches!(
-        word,
-        b"rule" | b"procs" | b"shared" | b"var" | b"local" | b"begin" | b"end"
-    )
-}
-
-// Whether a word is a keyword of statements.
-fn statement_word(word: &[u8]) -> bool
-    ensures { result ≡ is_one_of spec.statement_words word.now }
-{
-    matches!(
-        word,
-        b"for" | b"to" | b"do" | b"pardo" | b"while" | b"if" | b"then" | b"else" | b"print"
-    )
-}
-
-// Whether a word is a keyword that is an operator.
-fn operator_word(word: &[u8]) -> bool
-    ensures { result ≡ is_one_of spec.operator_words word.now }
-{
-    matches!(word, b"and" | b"or" | b"not" | b"div" | b"mod")
-}
-
-/// Whether a word is a keyword of the language.
-#[tactic(auto, using(crate::proofs::Keywords::by_parts))]
-pub(crate) fn keyword(word: &[u8]) -> bool
-    ensures { result ≡ is_keyword word.now }
-{
-    program_word(word) || statement_word(word) || operator_word(word)
 }

@@ -6,9 +6,10 @@ ghost use Rattle.pram_model.specs.Names.{same_text};
 ghost use Rattle.sized_texts.specs.SizeLines as spec;
 
 use crate::atom::function_atom;
-use crate::front::{goes_on, keyword, number, past_spaces, split_token};
+use crate::front::{goes_on, number, past_spaces, split_token};
 use crate::reason::Reason;
 use crate::size::{Size, value_in};
+use pram_model::is_keyword;
 
 // The first token behind white space, and what is behind it and white space.
 fn token_then(text: &[u8]) -> (&[u8], &[u8])
@@ -86,7 +87,7 @@ pub(crate) fn declaration(sizes: &[Size], word: &[u8], text: &[u8]) -> Result<u6
     if !begins_name(word) {
         return Err(Reason::BadLine);
     }
-    if keyword(word) || function_atom(word).is_some() {
+    if is_keyword(word) || function_atom(word).is_some() {
         return Err(Reason::Keyword);
     }
     if value_in(sizes, word).is_some() {

@@ -4,7 +4,7 @@ use Rattle.std.proofs.lemmas.Bool.Decides.{nat_tests}
 use Rattle.std.proofs.lemmas.Int.{ints}
 use Rattle.std.specs.Fmt.{signed_decimal}
 use Rattle.std.specs.Prelude.{ℤ, pos, Some, None, Option, ◌&&◌}
-use Rattle.pram_model.specs.Names.{IsName, are_words, begins_with_letter, is_keyword, is_word}
+use Rattle.pram_model.specs.Names.{IsName, are_words, begins_with_letter, is_keyword, is_name, is_word}
 use Rattle.superstep_instructions.specs.Code.{Wide}
 use Rattle.std.specs.Prelude.{codes}
 use Rattle.pram_model.specs.Layout.{SharedEntry}
@@ -13,7 +13,6 @@ use Rattle.superstep_instructions.specs.Limits.{AreBounds, Fits, IsEntry}
 use Rattle.superstep_listing.specs.Listing.{entry_line, entry_words, line}
 use Rattle.superstep_listing.proofs.Cuts.{cut_as}
 use Rattle.superstep_listing.proofs.Decoded.{lacks_visible}
-use Rattle.superstep_listing.specs.Names.{is_name}
 use lib.Signed.{lt_z}
 use mir.Syntax.{w64}
 use mir.Val.{to_z, of_z}

@@ -1,5 +1,5 @@
--- The test of names, and the parts of a declaration's line. A tool of the proofs.
-use Rattle.std.specs.Prelude.{ℕ, ℤ, Option, Some, None, List, [], ◌∷◌, codes, Bool, not, ◌&&◌}
+-- The parts of a declaration's line. A tool of the proofs.
+use Rattle.std.specs.Prelude.{ℕ, ℤ, Option, Some, None, List, codes, Bool}
 use Rattle.superstep_listing.specs.declared.entry_line.Kind.{Kind}
 use Rattle.superstep_listing.specs.declared.entry_line.Kind.TheVariants.{Cell, Array}
 use Rattle.std.specs.Prelude.{◌≡◌}
@@ -7,21 +7,6 @@ use Rattle.std.specs.List.{list_any}
 use Rattle.std.specs.Str.{bytes_eq}
 use Rattle.pram_model.specs.Layout.{SharedEntry}
 use Rattle.superstep_instructions.specs.Limits.{AreBounds, names_of}
-use Rattle.pram_model.specs.Names.{are_words, begins_with_letter, is_keyword}
-
-abbrev pub is_name : List ℕ → Bool
-is_name text = begins_with_letter text && (are_words text && not (is_keyword text))
-
--- the keywords in two parts
-abbrev pub early_keywords : List (List ℕ)
-early_keywords =
-    codes "rule" ∷ codes "procs" ∷ codes "shared" ∷ codes "var" ∷ codes "local" ∷ codes "begin" ∷ codes "end" ∷ codes "for" ∷ codes "to"
-    ∷ codes "do" ∷ []
-
-abbrev pub late_keywords : List (List ℕ)
-late_keywords =
-    codes "pardo" ∷ codes "while" ∷ codes "if" ∷ codes "then" ∷ codes "else" ∷ codes "print" ∷ codes "and" ∷ codes "or" ∷ codes "not"
-    ∷ codes "div" ∷ codes "mod" ∷ []
 
 -- the first word of a declaration
 abbrev pub kind_word : Kind → List ℕ

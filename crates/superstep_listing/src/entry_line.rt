@@ -9,8 +9,8 @@ ghost use Rattle.superstep_listing.specs.Listing as spec;
 ghost use Rattle.superstep_listing.specs.Names as names;
 
 use crate::cut::cut;
-use crate::name::is_name;
 use crate::numeral::number;
+use pram_model::is_name;
 
 /// No subscript is below it.
 const LEAST: i64 = 0;

@@ -12,7 +12,6 @@ mod lines;
 pub mod listing_laws;
 mod listing_read;
 mod listing_write;
-mod name;
 mod numeral;
 mod operands;
 mod printer;

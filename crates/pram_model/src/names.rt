@@ -1,18 +1,17 @@
-//! The names of declarations.
+//! Names and keywords of the language.
 
 ghost use Rattle.std.specs.Prelude.{◌≡◌, ◌||◌};
-ghost use Rattle.pram_model.specs.Names as tokens;
-ghost use Rattle.superstep_listing.specs.Names as spec;
+ghost use Rattle.pram_model.specs.Names as spec;
 
 /// Whether a text is a name: a letter, then letters, digits and `_`, and no keyword.
-pub(crate) fn is_name(text: &[u8]) -> bool
+pub fn is_name(text: &[u8]) -> bool
     ensures value { result ≡ spec.is_name text.now }
 {
     begins_with_letter(text) && are_words(text) && !is_keyword(text)
 }
 
 fn begins_with_letter(text: &[u8]) -> bool
-    ensures value { result ≡ tokens.begins_with_letter text.now }
+    ensures value { result ≡ spec.begins_with_letter text.now }
 {
     match text {
         [first, ..] => first.is_ascii_alphabetic(),
@@ -21,7 +20,7 @@ fn begins_with_letter(text: &[u8]) -> bool
 }
 
 fn are_words(text: &[u8]) -> bool
-    ensures value { result ≡ tokens.are_words text.now }
+    ensures value { result ≡ spec.are_words text.now }
 {
     for b in text {
         if !(b.is_ascii_alphabetic() || b.is_ascii_digit() || *b == b'_') {
@@ -31,14 +30,15 @@ fn are_words(text: &[u8]) -> bool
     true
 }
 
-fn is_keyword(text: &[u8]) -> bool
-    ensures value { result ≡ tokens.is_keyword text.now }
+/// Whether a text is a keyword.
+pub fn is_keyword(text: &[u8]) -> bool
+    ensures value { result ≡ spec.is_keyword text.now }
 {
     is_early_keyword(text) || is_late_keyword(text)
 }
 
 fn is_early_keyword(text: &[u8]) -> bool
-    ensures value { result ≡ tokens.is_one_of spec.early_keywords text.now }
+    ensures value { result ≡ spec.is_one_of spec.early_keywords text.now }
 {
     match text {
         b"rule"
@@ -56,7 +56,7 @@ fn is_early_keyword(text: &[u8]) -> bool
 }
 
 fn is_late_keyword(text: &[u8]) -> bool
-    ensures value { result ≡ tokens.is_one_of spec.late_keywords text.now }
+    ensures value { result ≡ spec.is_one_of spec.late_keywords text.now }
 {
     match text {
         b"pardo"
