@@ -1,0 +1,5 @@
+pub mod Ends
+pub mod Covers
+pub mod Digits
+pub mod Pieces
+pub mod Lines
