@@ -35,3 +35,26 @@ onto (suc k) n acc are = by (n / 10 == 0) (onto k (n / 10) (x ∷ acc) (first, a
 pub decimal_digits : (n : ℕ) → AreDigits (decimal n)
 unfolding digits
 decimal_digits n = onto 64 n [] tt
+
+-- a number has a digit
+goes_on : (k n b : ℕ) (acc : List ℕ) → digits_onto k 10 false n (b ∷ acc) ≡ [] → ⊥
+goes_on zero n b acc is = absurd (cc)
+goes_on (suc k) n b acc is = by (n / 10 == 0) is (goes_on k (n / 10) (digit_glyph false (n % 10)) (b ∷ acc))
+  where
+    by : (t : Bool) →
+        (if t then digit_glyph false (n % 10) ∷ b ∷ acc else digits_onto k 10 false (n / 10) (digit_glyph false (n % 10) ∷ b ∷ acc)) ≡ [] →
+        (digits_onto k 10 false (n / 10) (digit_glyph false (n % 10) ∷ b ∷ acc) ≡ [] → ⊥) → ⊥
+    by true h on = absurd (cc)
+    by false h on = on h
+
+begins : (k n : ℕ) → digits_onto (suc k) 10 false n [] ≡ [] → ⊥
+begins k n is = by (n / 10 == 0) is
+  where
+    by : (t : Bool) →
+        (if t then digit_glyph false (n % 10) ∷ [] else digits_onto k 10 false (n / 10) (digit_glyph false (n % 10) ∷ [])) ≡ [] → ⊥
+    by true h = absurd (cc)
+    by false h = goes_on k (n / 10) (digit_glyph false (n % 10)) [] h
+
+pub decimal_some : (n : ℕ) → decimal n ≡ [] → ⊥
+unfolding digits
+decimal_some n is = begins 63 n is

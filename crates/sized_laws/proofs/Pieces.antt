@@ -74,18 +74,18 @@ pub data IsExpandedBy (text : List ℕ) (e : Expansion) : List Size → Type 0 w
   plain : itself text ≡ e → IsExpandedBy text e []
   sized : (s : Size) (sizes : List Size) → IsPieces (s ∷ sizes) 0 false 0 text e.text e.places → IsExpandedBy text e (s ∷ sizes)
 
-in_text_ok : {A : Type 0} (total : ℕ) (r : Result A Wrong) (x : A) → in_text total r ≡ Ok x → r ≡ Ok x
+pub in_text_ok : {A : Type 0} (total : ℕ) (r : Result A Wrong) (x : A) → in_text total r ≡ Ok x → r ≡ Ok x
 in_text_ok total (Ok y) x is = let same : y ≡ x = cc in ap Ok same
 in_text_ok total (Err w) x is = absurd (cc)
 
-short_ok : (d e : Expansion) → short d ≡ Ok e → d ≡ e
+pub short_ok : (d e : Expansion) → short d ≡ Ok e → d ≡ e
 short_ok d e is = by (nat_lt longest (length d.text)) is
   where
     by : (t : Bool) → (if t then Err TooLong else Ok d) ≡ Ok e → d ≡ e
     by true h = absurd (cc)
     by false h = cc
 
-expanded_ok : (sizes : List Size) (text : List ℕ) (u : Option ℕ) (e : Expansion) → expanded_by sizes text u ≡ Ok e → IsExpandedBy text e sizes
+pub expanded_ok : (sizes : List Size) (text : List ℕ) (u : Option ℕ) (e : Expansion) → expanded_by sizes text u ≡ Ok e → IsExpandedBy text e sizes
 expanded_ok sizes text (Some n) e is = absurd (cc)
 expanded_ok [] text None e is = plain (cc)
 expanded_ok (s ∷ sizes) text None e is =

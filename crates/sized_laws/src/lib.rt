@@ -1,9 +1,21 @@
-//! Laws of texts with sizes: an expansion has the lines of its text.
+//! Laws of texts with sizes: an expansion has the lines of its text, no expression, and is its own expansion.
 #![tactic(auto)]
 
+ghost use Rattle.sized_laws.specs.Again.{ExpansionsAreFinal};
+ghost use Rattle.sized_laws.specs.Comments.{NoBraceIsLeft};
 ghost use Rattle.sized_laws.specs.Lines.{LinesAreKept};
 
 /// An expansion has as many lines as its text, and each of its bytes stands in the line of the place that it came from.
 pub fn lines_are_kept()
     ensures { LinesAreKept }
+{}
+
+/// In an expansion of a text that has a size each opening brace stands in a comment.
+pub fn no_brace_is_left()
+    ensures { NoBraceIsLeft }
+{}
+
+/// An expansion, expanded with the same given numbers, is itself.
+pub fn expansions_are_final()
+    ensures { ExpansionsAreFinal }
 {}
