@@ -16,6 +16,7 @@ use Rattle.sized_laws.specs.Again.{ExpansionsAreFinal}
 use Rattle.sized_laws.proofs.Braces.{opened_outside}
 use Rattle.sized_laws.proofs.Digits.{AreDigits, decimal_digits}
 use Rattle.sized_laws.proofs.Heads.{head_again}
+use Rattle.sized_laws.proofs.Names.{head_other, names, undeclared_same}
 use Rattle.sized_laws.proofs.Pieces.{IsExpandedBy, IsPieces, bind_ok, byte, expanded_ok, in_text_ok, none, number, pieces_ok, plain, short_ok, sized, skipped}
 
 -- a text from an offset on, as it stands
@@ -43,16 +44,16 @@ digits_copied sizes (d ∷ ds) to are on at =
     byte_copied sizes false d (ds ++ to) closed
     (subst (λ c. IsCopied sizes c (ds ++ to)) plain_byte (digits_copied sizes ds to are.1 on)) at
 
-pieces_again : (sizes : List Size) (skip : ℕ) (comment : Bool) (at : ℕ) (text to places : List ℕ) →
-    IsPieces sizes skip comment at text to places → IsCopied sizes comment to
-pieces_again sizes skip comment at text to places (none s a c) n = refl
-pieces_again sizes skip comment at text to places (skipped m a b c rest t p on) n = pieces_again sizes m c (a + 1) rest t p on n
-pieces_again sizes skip comment at text to places (number a b v c rest behind t p opened read on) n =
+pieces_again : (all sizes : List Size) (skip : ℕ) (comment : Bool) (at : ℕ) (text to places : List ℕ) →
+    IsPieces all skip comment at text to places → IsCopied sizes comment to
+pieces_again all sizes skip comment at text to places (none s a c) n = refl
+pieces_again all sizes skip comment at text to places (skipped m a b c rest t p on) n = pieces_again all sizes m c (a + 1) rest t p on n
+pieces_again all sizes skip comment at text to places (number a b v c rest behind t p opened read on) n =
     subst (λ x. IsCopied sizes x (decimal v ++ t)) (opened_outside c b opened)
     (digits_copied sizes (decimal v) t (decimal_digits v)
-    (pieces_again sizes (length rest - length behind) false (a + 1) rest t p on)) n
-pieces_again sizes skip comment at text to places (byte a b c rest t p opened on) n =
-    byte_copied sizes c b t opened (pieces_again sizes 0 (in_comment c b) (a + 1) rest t p on) n
+    (pieces_again all sizes (length rest - length behind) false (a + 1) rest t p on)) n
+pieces_again all sizes skip comment at text to places (byte a b c rest t p opened on) n =
+    byte_copied sizes c b t opened (pieces_again all sizes 0 (in_comment c b) (a + 1) rest t p on) n
 
 short_again : (d e : Expansion) → short d ≡ Ok e → short (itself e.text) ≡ Ok (itself e.text)
 short_again d e is = by (nat_lt longest (length d.text)) refl (short_ok d e is) is
@@ -63,26 +64,33 @@ short_again d e is = by (nat_lt longest (length d.text)) refl (short_ok d e is) 
     by false long same h =
         ap (λ t. if t then Err TooLong else Ok (itself e.text)) (sym (long ∙ ap (λ (x : Expansion). nat_lt longest (length x.text)) same))
 
-expanded_again : (sizes : List Size) (text : List ℕ) (u : Option ℕ) (e : Expansion) → expanded_by sizes text u ≡ Ok e →
-    expanded_by sizes e.text u ≡ Ok (itself e.text)
-expanded_again sizes text (Some n) e is = absurd (cc)
-expanded_again [] text None e is = refl
-expanded_again (s ∷ sizes) text None e is =
+-- what sizes of the same names make of the expansion
+expanded_again : (sizes more : List Size) (text : List ℕ) (u : Option ℕ) (e : Expansion) → names sizes ≡ names more →
+    expanded_by sizes text u ≡ Ok e → expanded_by more e.text None ≡ Ok (itself e.text)
+expanded_again sizes more text (Some n) e alike is = absurd (cc)
+expanded_again sizes [] text None e alike is = refl
+expanded_again [] (m ∷ more) text None e alike is = absurd (cc)
+expanded_again (s ∷ sizes) (m ∷ more) text None e alike is =
     let d = bind_ok (in_text (length text) (pieces_of (s ∷ sizes) text)) short e is in
     let p = pieces_ok (s ∷ sizes) 0 false 0 text d.0 (in_text_ok (length text) (pieces_of (s ∷ sizes) text) d.0 d.1) in
-    let again = subst (λ (x : Expansion). IsCopied (s ∷ sizes) false x.text) (short_ok d.0 e d.2)
-    (pieces_again (s ∷ sizes) 0 false 0 text d.0.text d.0.places p) in
+    let again = subst (λ (x : Expansion). IsCopied (m ∷ more) false x.text) (short_ok d.0 e d.2)
+    (pieces_again (s ∷ sizes) (m ∷ more) 0 false 0 text d.0.text d.0.places p) in
     ap (λ r. in_text (length e.text) r >>= short) (again 0) ∙ short_again d.0 e d.2
 
-sizes_again : (given : List Size) (text : List ℕ) (e : Expansion) (sizes : List Size) → sizes_of given text ≡ Ok sizes →
-    IsExpandedBy text e sizes → sizes_of given e.text ≡ Ok sizes
-sizes_again given text e sizes is (plain same) = subst (λ (x : Expansion). sizes_of given x.text ≡ Ok []) same is
-sizes_again given text e sizes is (sized s more p) = head_again (s ∷ more) given (s ∷ more) 0 false 0 text e.text e.places p refl [] is
+sizes_again : (given : List Size) (text : List ℕ) (e : Expansion) (sizes more : List Size) → names sizes ≡ names more →
+    sizes_of given text ≡ Ok more → IsExpandedBy text e sizes → sizes_of given e.text ≡ Ok more
+sizes_again given text e sizes more alike is (plain same) = subst (λ (x : Expansion). sizes_of given x.text ≡ Ok more) same is
+sizes_again given text e sizes more alike is (sized s others p) =
+    head_again (s ∷ others) given more 0 false 0 text e.text e.places p refl [] is
 
 pub final : ExpansionsAreFinal
-final given text e is =
+final given other text sizes e has is known =
     let x = bind_ok (in_text (length text) (sizes_of given text)) (λ sizes. expanded_by sizes text (undeclared sizes given)) e is in
     let found = in_text_ok (length text) (sizes_of given text) x.0 x.1 in
-    let again = sizes_again given text e x.0 found (expanded_ok x.0 text (undeclared x.0 given) e x.2) in
-    ap (λ r. in_text (length e.text) r >>= λ sizes. expanded_by sizes e.text (undeclared sizes given)) again
-    ∙ expanded_again x.0 text (undeclared x.0 given) e x.2
+    let same : x.0 ≡ sizes = cc in
+    let o = head_other given other [] [] 0 text x.0 refl found in
+    let again = sizes_again other text e x.0 o.0 o.2 o.1 (expanded_ok x.0 text (undeclared x.0 given) e x.2) in
+    let known_there = sym (undeclared_same x.0 o.0 other o.2) ∙ ap (λ s. undeclared s other) same ∙ known in
+    ap (λ r. in_text (length e.text) r >>= λ sizes. expanded_by sizes e.text (undeclared sizes other)) again
+    ∙ ap (expanded_by o.0 e.text) known_there
+    ∙ expanded_again x.0 o.0 text (undeclared x.0 given) e o.2 x.2

@@ -53,7 +53,7 @@ declare_left given found left other (Some line) more is =
     let x = bind_ok (placed left r) f more is in ap (λ y. y >>= f) (placed_left left other r x.0 x.1) ∙ x.2
 
 -- the head from a byte on, by whether it is white space or begins a comment
-abbrev turn : (given found : List Size) (b : ℕ) (rest : List ℕ) → (blank hash : Bool) → Result (List Size) Wrong
+abbrev pub turn : (given found : List Size) (b : ℕ) (rest : List ℕ) → (blank hash : Bool) → Result (List Size) Wrong
 turn given found b rest blank hash =
     if blank then head given found 0 rest
     else (if hash

@@ -5,4 +5,5 @@ pub mod Pieces
 pub mod Lines
 pub mod Braces
 pub mod Heads
+pub mod Names
 pub mod Again

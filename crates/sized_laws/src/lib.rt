@@ -15,7 +15,7 @@ pub fn no_brace_is_left()
     ensures { NoBraceIsLeft }
 {}
 
-/// An expansion, expanded with the same given numbers, is itself.
+/// An expansion, expanded with any numbers given to sizes of its text, is itself.
 pub fn expansions_are_final()
     ensures { ExpansionsAreFinal }
 {}
