@@ -12,12 +12,13 @@ use Rattle.sized_texts.specs.Faults.{in_text}
 use Rattle.sized_texts.specs.Pieces.{Expansion, from_there, in_comment, opens, pieces, pieces_of}
 use Rattle.sized_texts.specs.Reading.{◌>>=◌}
 use Rattle.sized_texts.specs.SizeLines.{sizes_of}
+use Rattle.sized_texts.proofs.Exits.{found_in}
 use Rattle.sized_laws.specs.Again.{ExpansionsAreFinal}
 use Rattle.sized_laws.proofs.Braces.{opened_outside}
 use Rattle.sized_laws.proofs.Digits.{AreDigits, decimal_digits}
 use Rattle.sized_laws.proofs.Heads.{head_again}
 use Rattle.sized_laws.proofs.Names.{head_other, names, undeclared_same}
-use Rattle.sized_laws.proofs.Pieces.{IsExpandedBy, IsPieces, bind_ok, byte, expanded_ok, in_text_ok, none, number, pieces_ok, plain, short_ok, sized, skipped}
+use Rattle.sized_laws.proofs.Pieces.{IsExpandedBy, IsPieces, bind_ok, byte, expanded_ok, none, number, pieces_ok, plain, short_ok, sized, skipped}
 
 -- a text from an offset on, as it stands
 abbrev whole_from : ℕ → List ℕ → Expansion
@@ -72,7 +73,7 @@ expanded_again sizes [] text None e alike is = refl
 expanded_again [] (m ∷ more) text None e alike is = absurd (cc)
 expanded_again (s ∷ sizes) (m ∷ more) text None e alike is =
     let d = bind_ok (in_text (length text) (pieces_of (s ∷ sizes) text)) short e is in
-    let p = pieces_ok (s ∷ sizes) 0 false 0 text d.0 (in_text_ok (length text) (pieces_of (s ∷ sizes) text) d.0 d.1) in
+    let p = pieces_ok (s ∷ sizes) 0 false 0 text d.0 (found_in (length text) (pieces_of (s ∷ sizes) text) d.0 d.1) in
     let again = subst (λ (x : Expansion). IsCopied (m ∷ more) false x.text) (short_ok d.0 e d.2)
     (pieces_again (s ∷ sizes) (m ∷ more) 0 false 0 text d.0.text d.0.places p) in
     ap (λ r. in_text (length e.text) r >>= short) (again 0) ∙ short_again d.0 e d.2
@@ -86,7 +87,7 @@ sizes_again given text e sizes more alike is (sized s others p) =
 pub final : ExpansionsAreFinal
 final given other text sizes e has is known =
     let x = bind_ok (in_text (length text) (sizes_of given text)) (λ sizes. expanded_by sizes text (undeclared sizes given)) e is in
-    let found = in_text_ok (length text) (sizes_of given text) x.0 x.1 in
+    let found = found_in (length text) (sizes_of given text) x.0 x.1 in
     let same : x.0 ≡ sizes = cc in
     let o = head_other given other [] [] 0 text x.0 refl found in
     let again = sizes_again other text e x.0 o.0 o.2 o.1 (expanded_ok x.0 text (undeclared x.0 given) e x.2) in

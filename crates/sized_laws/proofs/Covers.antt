@@ -94,10 +94,10 @@ operator_none : (l : Line) → operator_of l (10 ∷ []) ≡ None
 operator_none line.Sum = refl
 operator_none line.Product = refl
 
-abbrev Keeps : g.Rel → Type 0
+abbrev pub Keeps : g.Rel → Type 0
 Keeps R = (text : List ℕ) (v : ℕ) (rest : List ℕ) → R text v rest → Over text rest
 
-operand_over : (sizes : List Size) (R : g.Rel) → Keeps R → Keeps (g.IsOperand sizes R)
+pub operand_over : (sizes : List Size) (R : g.Rel) → Keeps R → Keeps (g.IsOperand sizes R)
 operand_over sizes R on text v rest (g.number t w first) = after_over sizes t (atom.Value w) first (λ h. absurd (cc))
 operand_over sizes R on text v rest (g.group t mid r w first inner close) =
     over_then t (g.after t) r (after_over sizes t atom.Paren first (λ h. absurd (cc)))
@@ -113,7 +113,7 @@ operand_over sizes R on text v rest (g.power t inside mid second late r a b u fi
     (over_then mid second r (then_over 44 mid second refl comma)
     (over_then second late r (on second b late two) (then_over 41 late r refl close)))))
 
-chain_over : (l : Line) (R : g.Rel) → Keeps R → Keeps (g.IsChain l R)
+pub chain_over : (l : Line) (R : g.Rel) → Keeps R → Keeps (g.IsChain l R)
 chain_over l R on text v rest (g.one t r w first) = over_then t r (past_spaces r) (on t w r first) (past_over r)
 chain_over l R on text v rest (g.more o t mid r w x u before is next made) =
     over_then t mid (past_spaces r) (chain_over l R on t w mid before)
@@ -126,7 +126,7 @@ sum_over sizes R on text v rest is =
     chain_over line.Sum (g.IsChain line.Product (g.IsOperand sizes R))
     (chain_over line.Product (g.IsOperand sizes R) (operand_over sizes R on)) text v rest is
 
-further_over : (sizes : List Size) (d : ℕ) → Keeps (g.Further sizes d)
+pub further_over : (sizes : List Size) (d : ℕ) → Keeps (g.Further sizes d)
 unfolding g.Further
 further_over sizes zero text v rest is = absurd is
 further_over sizes (suc d) text v rest is = sum_over sizes (g.Further sizes d) (further_over sizes d) text v rest is

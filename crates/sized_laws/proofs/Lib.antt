@@ -7,3 +7,4 @@ pub mod Braces
 pub mod Heads
 pub mod Names
 pub mod Again
+pub mod Grammar

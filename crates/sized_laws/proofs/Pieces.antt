@@ -12,6 +12,7 @@ use Rattle.sized_texts.specs.Faults.{in_text}
 use Rattle.sized_texts.specs.Pieces.{Expansion, from_there, in_comment, opens, pieces, pieces_of}
 use Rattle.sized_texts.specs.Reading.{◌>>=◌}
 use Rattle.sized_texts.specs.SizeLines.{sizes_of}
+use Rattle.sized_texts.proofs.Exits.{found_in}
 
 -- the bytes and the places that a text from an offset on is expanded to
 pub data IsPieces (sizes : List Size) : ℕ → Bool → ℕ → List ℕ → List ℕ → List ℕ → Type 0 where
@@ -74,10 +75,6 @@ pub data IsExpandedBy (text : List ℕ) (e : Expansion) : List Size → Type 0 w
   plain : itself text ≡ e → IsExpandedBy text e []
   sized : (s : Size) (sizes : List Size) → IsPieces (s ∷ sizes) 0 false 0 text e.text e.places → IsExpandedBy text e (s ∷ sizes)
 
-pub in_text_ok : {A : Type 0} (total : ℕ) (r : Result A Wrong) (x : A) → in_text total r ≡ Ok x → r ≡ Ok x
-in_text_ok total (Ok y) x is = let same : y ≡ x = cc in ap Ok same
-in_text_ok total (Err w) x is = absurd (cc)
-
 pub short_ok : (d e : Expansion) → short d ≡ Ok e → d ≡ e
 short_ok d e is = by (nat_lt longest (length d.text)) is
   where
@@ -90,11 +87,11 @@ expanded_ok sizes text (Some n) e is = absurd (cc)
 expanded_ok [] text None e is = plain (cc)
 expanded_ok (s ∷ sizes) text None e is =
     let d = bind_ok (in_text (length text) (pieces_of (s ∷ sizes) text)) short e is in
-    let p = pieces_ok (s ∷ sizes) 0 false 0 text d.0 (in_text_ok (length text) (pieces_of (s ∷ sizes) text) d.0 d.1) in
+    let p = pieces_ok (s ∷ sizes) 0 false 0 text d.0 (found_in (length text) (pieces_of (s ∷ sizes) text) d.0 d.1) in
     sized s sizes (subst (λ (x : Expansion). IsPieces (s ∷ sizes) 0 false 0 text x.text x.places) (short_ok d.0 e d.2) p)
 
 pub expansion_ok : (given : List Size) (text : List ℕ) (e : Expansion) → expansion given text ≡ Ok e →
     (sizes : List Size) × (sizes_of given text ≡ Ok sizes) × IsExpandedBy text e sizes
 expansion_ok given text e is =
     let x = bind_ok (in_text (length text) (sizes_of given text)) (λ sizes. expanded_by sizes text (undeclared sizes given)) e is in
-    (x.0, in_text_ok (length text) (sizes_of given text) x.0 x.1, expanded_ok x.0 text (undeclared x.0 given) e x.2)
+    (x.0, found_in (length text) (sizes_of given text) x.0 x.1, expanded_ok x.0 text (undeclared x.0 given) e x.2)

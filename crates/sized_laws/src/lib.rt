@@ -1,6 +1,10 @@
 //! Laws of texts with sizes: an expansion has the lines of its text, no expression, and is its own expansion.
 #![tactic(auto)]
 
+ghost use Rattle.std.specs.Prelude.{◌≡◌, ℕ, List, Ok};
+ghost use Rattle.sized_texts.specs.declared.size.Size.{Size};
+ghost use Rattle.sized_texts.specs.Expressions.{braced};
+ghost use Rattle.sized_texts.specs.Grammar.{IsExpression};
 ghost use Rattle.sized_laws.specs.Again.{ExpansionsAreFinal};
 ghost use Rattle.sized_laws.specs.Comments.{NoBraceIsLeft};
 ghost use Rattle.sized_laws.specs.Lines.{LinesAreKept};
@@ -18,4 +22,10 @@ pub fn no_brace_is_left()
 /// An expansion, expanded with any numbers given to sizes of its text, is itself.
 pub fn expansions_are_final()
     ensures { ExpansionsAreFinal }
+{}
+
+/// Each expression of the grammar is read, and comes to its number. What is read is such an expression by a law of `sized_texts`.
+pub fn expressions_are_read()
+    ensures { (sizes : List Size) (text : List ℕ) (v : ℕ) (rest : List ℕ) →
+        IsExpression sizes text v rest → braced sizes text ≡ Ok (v, rest) }
 {}
