@@ -111,7 +111,8 @@ expect_is byte text rest is =
     ap (expect_front byte) is
     ∙ ap (λ t. if t then Ok rest else Err (wrong_at (misplaced (byte ∷ rest)) (length (byte ∷ rest)))) same
 
-over_at : (byte : ℕ) (text rest : List ℕ) → g.Then byte text rest → Ends line.Sum (byte ∷ rest) → Ends line.Product (byte ∷ rest) → IsOver text
+over_at : (byte : ℕ) (text rest : List ℕ) → g.Then byte text rest → Ends line.Sum (byte ∷ rest) → Ends line.Product (byte ∷ rest) →
+    IsOver text
 over_at byte text rest is sum product =
     (ap (λ t. e.operator_of line.Sum (front t)) is ∙ sum, ap (λ t. e.operator_of line.Product (front t)) is ∙ product)
 

@@ -1,5 +1,6 @@
 -- The lines of an expansion are those of its text.
-use Rattle.std.proofs.Common.{◌≡◌, ℕ, zero, suc, ◌+◌, ◌-◌, ◌<◌, Bool, true, false, List, [], ◌∷◌, ◌++◌, take, drop, length, map, slice_index}
+use Rattle.std.proofs.Common.{◌≡◌, ℕ, zero, suc, ◌+◌, ◌-◌, ◌<◌, Bool, true, false, List, []}
+use Rattle.std.proofs.Common.{◌∷◌, ◌++◌, take, drop, length, map, slice_index}
 use Rattle.std.proofs.Common.{refl, ap, arith, decimal, subst}
 use Rattle.sized_texts.specs.declared.size.Size.{Size}
 use Rattle.sized_texts.specs.Expansion.{offsets_from}

@@ -82,7 +82,8 @@ short_ok d e is = by (nat_lt longest (length d.text)) is
     by true h = absurd (cc)
     by false h = cc
 
-pub expanded_ok : (sizes : List Size) (text : List ℕ) (u : Option ℕ) (e : Expansion) → expanded_by sizes text u ≡ Ok e → IsExpandedBy text e sizes
+pub expanded_ok : (sizes : List Size) (text : List ℕ) (u : Option ℕ) (e : Expansion) → expanded_by sizes text u ≡ Ok e →
+    IsExpandedBy text e sizes
 expanded_ok sizes text (Some n) e is = absurd (cc)
 expanded_ok [] text None e is = plain (cc)
 expanded_ok (s ∷ sizes) text None e is =
