@@ -1,1 +1,2 @@
+pub mod StatementLocals
 pub mod StatementNames

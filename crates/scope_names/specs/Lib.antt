@@ -1,2 +1,3 @@
 pub mod InScope
+pub mod Locals
 pub mod Nearness

@@ -3,8 +3,10 @@
 
 mod in_scope;
 mod known;
+mod locals;
 mod nearness;
 
 pub use in_scope::names_at;
 pub use known::{Known, Sort};
+pub use locals::{local_name, locals_at, variable_name};
 pub use nearness::{find, nearest};
