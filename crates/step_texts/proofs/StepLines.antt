@@ -1,14 +1,18 @@
 -- The text of entries, one by one.
-use Rattle.std.proofs.Common.{◌≡◌, ◌∙◌, ◌<◌, ◌+◌, ◌++◌, ◌∷◌, [], List, ℕ, ℤ, ap, arith, codes, drop, get_or, length, map, refl, sym}
+use Rattle.std.proofs.Common.{◌≡◌, ◌∙◌, ◌<◌, ◌+◌, ◌++◌, ◌∷◌, [], List, ℕ, ℤ, Option, Some, ap, arith, codes, drop, get_or}
+use Rattle.std.proofs.Common.{length, map, refl, sym}
 use Rattle.std.proofs.lemmas.List.{drop_more}
 use Rattle.pram_model.specs.Layout.{SharedEntry}
 use Rattle.step_entries.specs.declared.change.Change.{Change}
 use Rattle.step_entries.specs.declared.entry as rust
+use Rattle.step_entries.specs.declared.local_change.LocalChange.{LocalChange}
+use Rattle.pram_trees.specs.Program.{ProgramTree}
+use Rattle.step_texts.specs.BesideCells.{each_local_text, local_text, printed_text, variable_text, variables_text}
 use Rattle.step_entries.specs.Entries.{entry_is}
 use Rattle.text_out.specs.Out.{OutState, with_bytes}
 use Rattle.text_out.proofs.Progress.{Progress, goes_on}
 use Rattle.program_texts.specs.Shown.{spaced}
-use Rattle.step_texts.specs.declared.manner.Manner.{Manner}
+use Rattle.step_texts.specs.declared.telling.Telling.{Telling}
 use Rattle.step_texts.specs.StepText.{line_within, lines_from}
 use Rattle.step_texts.specs.ChangeTexts.{change_text, changes_text, meeting_text}
 
@@ -19,28 +23,48 @@ changes_at layout ds i d below is =
     ap (changes_text layout) (drop_more ds i d below)
     ∙ ap (λ d. change_text layout d ++ changes_text layout (drop (i + 1) ds)) (sym is)
 
+-- the variable at i, and those behind it
+pub variables_at : (tree : ProgramTree) (ds : List Change) (i : ℕ) (d : Change) → i < length ds → d ≡ get_or ds i d →
+    variables_text tree (drop i ds) ≡ variable_text tree d ++ variables_text tree (drop (i + 1) ds)
+variables_at tree ds i d below is =
+    ap (variables_text tree) (drop_more ds i d below)
+    ∙ ap (λ d. variable_text tree d ++ variables_text tree (drop (i + 1) ds)) (sym is)
+
+-- the local at i, and those behind it
+pub locals_from : (tree : ProgramTree) (at : ℕ) (before : Option ℕ) (ds : List LocalChange) (i : ℕ) (d : LocalChange) →
+    i < length ds → d ≡ get_or ds i d → each_local_text tree at before (drop i ds) ≡
+    local_text tree at before d ++ each_local_text tree at (Some d.change.cell) (drop (i + 1) ds)
+locals_from tree at before ds i d below is =
+    ap (each_local_text tree at before) (drop_more ds i d below)
+    ∙ ap (λ d. local_text tree at before d ++ each_local_text tree at (Some d.change.cell) (drop (i + 1) ds)) (sym is)
+
+-- where something was printed
+pub some_printed : (vs : List ℤ) → 0 < length vs → printed_text vs ≡ codes " prints" ++ spaced vs
+some_printed [] h = absurd (omega (arith, h))
+some_printed (v ∷ vs) h = refl
+
 -- the entry at i, and those behind it
-pub lines_at : (layout : List SharedEntry) (manner : Manner) (first last : ℕ) (es : List rust.Entry.Entry) (i before : ℕ) (e : rust.Entry.Entry) →
-    i < length es → e ≡ get_or es i e → lines_from layout manner first last (before + 1) (map entry_is (drop i es)) ≡
-    line_within layout manner first last (before + 1) (entry_is e) ++ lines_from layout manner first last ((before + 1) + 1) (map entry_is (drop (i + 1) es))
-lines_at layout manner first last es i before e below is =
-    ap (λ es. lines_from layout manner first last (before + 1) (map entry_is es)) (drop_more es i e below)
-    ∙ ap (λ e. line_within layout manner first last (before + 1) (entry_is e)
-    ++ lines_from layout manner first last ((before + 1) + 1) (map entry_is (drop (i + 1) es))) (sym is)
+pub lines_at : (layout : List SharedEntry) (telling : Telling) (first last : ℕ) (es : List rust.Entry.Entry) (i before : ℕ)
+    (e : rust.Entry.Entry) → i < length es → e ≡ get_or es i e → lines_from layout telling first last (before + 1) (map entry_is (drop i es)) ≡
+    line_within layout telling first last (before + 1) (entry_is e) ++ lines_from layout telling first last ((before + 1) + 1) (map entry_is (drop (i + 1) es))
+lines_at layout telling first last es i before e below is =
+    ap (λ es. lines_from layout telling first last (before + 1) (map entry_is es)) (drop_more es i e below)
+    ∙ ap (λ e. line_within layout telling first last (before + 1) (entry_is e)
+    ++ lines_from layout telling first last ((before + 1) + 1) (map entry_is (drop (i + 1) es))) (sym is)
 
 -- lines on their way: what was written, and how many entries are behind
-pub record InLines (old new : OutState) (all : List ℕ) (layout : List SharedEntry) (manner : Manner) (first last : ℕ) (es : List rust.Entry.Entry) (i before : ℕ) :
+pub record InLines (old new : OutState) (all : List ℕ) (layout : List SharedEntry) (telling : Telling) (first last : ℕ) (es : List rust.Entry.Entry) (i before : ℕ) :
     Type 0 where
-  pub progress : Progress old new all (lines_from layout manner first last (before + 1) (map entry_is (drop i es)))
+  pub progress : Progress old new all (lines_from layout telling first last (before + 1) (map entry_is (drop i es)))
   pub counted : before ≡ i
 
-pub line_written : (old now new : OutState) (all : List ℕ) (layout : List SharedEntry) (manner : Manner) (first last : ℕ) (es : List rust.Entry.Entry)
-    (i before : ℕ) (e : rust.Entry.Entry) → InLines old now all layout manner first last es i before → i < length es → e ≡ get_or es i e →
-    new ≡ with_bytes now (line_within layout manner first last (before + 1) (entry_is e)) →
-    InLines old new all layout manner first last es (i + 1) (before + 1)
-line_written old now new all layout manner first last es i before e l below is w =
+pub line_written : (old now new : OutState) (all : List ℕ) (layout : List SharedEntry) (telling : Telling) (first last : ℕ) (es : List rust.Entry.Entry)
+    (i before : ℕ) (e : rust.Entry.Entry) → InLines old now all layout telling first last es i before → i < length es → e ≡ get_or es i e →
+    new ≡ with_bytes now (line_within layout telling first last (before + 1) (entry_is e)) →
+    InLines old new all layout telling first last es (i + 1) (before + 1)
+line_written old now new all layout telling first last es i before e l below is w =
     record {
-      progress = goes_on _ _ _ _ _ _ _ l.progress (lines_at layout manner first last es i before e below is) w;
+      progress = goes_on _ _ _ _ _ _ _ l.progress (lines_at layout telling first last es i before e below is) w;
       counted = let c : before ≡ i = l.counted in omega (arith, c);
     }
 

@@ -1,15 +1,15 @@
 -- How what is told of a statement is written.
 use Rattle.std.specs.Prelude.{ℕ, List, [], ◌∷◌, ◌++◌, ℤ, codes, decimal, length}
-use Rattle.std.specs.Fmt.{signed_decimal}
 use Rattle.pram_model.specs.Layout.{SharedEntry}
 use Rattle.write_rules.specs.declared.fault.Fault.{Fault}
 use Rattle.program_texts.specs.Shown.{cell_text, fault_text, spaced}
+use Rattle.pram_tokens.specs.declared.token.Location.{Location}
 use Rattle.step_entries.specs.declared.change.Change.{Change}
+use Rattle.step_entries.specs.declared.local_change.LocalChange.{LocalChange}
 use Rattle.step_entries.specs.Entries.{Entry, Faulting, Ran}
-
--- its values: ` 4 -> 7`
-abbrev pub value_text : Change → List ℕ
-value_text d = codes " " ++ (signed_decimal d.before ++ (codes " -> " ++ signed_decimal d.after))
+use Rattle.step_texts.specs.declared.telling.Detail.{Detail}
+use Rattle.step_texts.specs.BesideCells.{beside_text}
+use Rattle.step_texts.specs.ValueTexts.{value_text}
 
 -- a cell's change: ` a[3] 4 -> 7`
 abbrev pub change_text : List SharedEntry → Change → List ℕ
@@ -36,13 +36,20 @@ ran_text layout at k ds = head_text at k ++ changes_text layout ds
 abbrev pub faulting_text : List SharedEntry → Fault → List ℤ → List ℕ
 faulting_text layout fault who = fault_text layout fault ++ meeting_text who
 
-abbrev pub told_text : List SharedEntry → Entry → List ℕ
-told_text layout (Ran here acts cells variables locals items) = ran_text layout here.line (length acts) cells
-told_text layout (Faulting here fault cause acts met) = faulting_text layout fault met
+-- that, and what is told beside it: `line 14 processors 4 a[3] 4 -> 7 m 8 -> 4 x 1: 3 -> 7 2: 0 -> 1 prints 36`
+abbrev pub whole_text : List SharedEntry → Detail → Location → (processors : ℕ) → (cells variables : List Change) →
+    List LocalChange → List ℤ → List ℕ
+whole_text layout detail here k cells variables locals printed =
+    ran_text layout here.line k cells ++ beside_text detail here.offset variables locals printed
+
+abbrev pub told_text : List SharedEntry → Detail → Entry → List ℕ
+told_text layout detail (Ran here acts cells variables locals items) =
+    whole_text layout detail here (length acts) cells variables locals items
+told_text layout detail (Faulting here fault cause acts met) = faulting_text layout fault met
 
 abbrev pub number_text : ℕ → List ℕ
 number_text number = decimal number ++ codes " "
 
 -- an entry behind its number
-abbrev pub entry_text : List SharedEntry → ℕ → Entry → List ℕ
-entry_text layout number e = number_text number ++ told_text layout e
+abbrev pub entry_text : List SharedEntry → Detail → ℕ → Entry → List ℕ
+entry_text layout detail number e = number_text number ++ told_text layout detail e

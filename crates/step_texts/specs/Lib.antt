@@ -1,3 +1,5 @@
+pub mod BesideCells
 pub mod ChangeTexts
 pub mod OnTerminal
 pub mod StepText
+pub mod ValueTexts

@@ -1,9 +1,13 @@
 -- How entries are written for a reader on a terminal.
-use Rattle.std.specs.Prelude.{ℕ, List, [], ◌∷◌, ◌++◌, Bool, true, false, codes, length}
+use Rattle.std.specs.Prelude.{ℕ, List, [], ◌∷◌, ◌++◌, ℤ, Bool, true, false, codes, length}
 use Rattle.pram_model.specs.Layout.{SharedEntry}
+use Rattle.pram_tokens.specs.declared.token.Location.{Location}
 use Rattle.step_entries.specs.declared.change.Change.{Change}
+use Rattle.step_entries.specs.declared.local_change.LocalChange.{LocalChange}
 use Rattle.step_entries.specs.Entries.{Entry, Faulting, Ran}
 use Rattle.text_places.specs.Excerpts.{shown_line}
+use Rattle.step_texts.specs.declared.telling.Detail.{Detail}
+use Rattle.step_texts.specs.BesideCells.{beside_text}
 use Rattle.step_texts.specs.ChangeTexts.{changes_text, faulting_text, head_text, number_text}
 
 -- changes in cyan, by the control sequences of ECMA-48
@@ -19,9 +23,15 @@ coloured_changes layout true (d ∷ ds) = in_colour layout (d ∷ ds)
 abbrev pub ran_text : List SharedEntry → Bool → (at processors : ℕ) → List Change → List ℕ
 ran_text layout colours at k ds = head_text at k ++ coloured_changes layout colours ds
 
-abbrev pub told_text : List SharedEntry → Bool → Entry → List ℕ
-told_text layout colours (Ran here acts cells variables locals items) = ran_text layout colours here.line (length acts) cells
-told_text layout colours (Faulting here fault cause acts met) = faulting_text layout fault met
+abbrev pub whole_text : List SharedEntry → Bool → Detail → Location → (processors : ℕ) → (cells variables : List Change) →
+    List LocalChange → List ℤ → List ℕ
+whole_text layout colours detail here k cells variables locals printed =
+    ran_text layout colours here.line k cells ++ beside_text detail here.offset variables locals printed
+
+abbrev pub told_text : List SharedEntry → Bool → Detail → Entry → List ℕ
+told_text layout colours detail (Ran here acts cells variables locals items) =
+    whole_text layout colours detail here (length acts) cells variables locals items
+told_text layout colours detail (Faulting here fault cause acts met) = faulting_text layout fault met
 
 abbrev pub line_of : Entry → ℕ
 line_of (Ran here acts cells variables locals items) = here.line
@@ -32,5 +42,5 @@ abbrev pub beside : List ℕ → ℕ → List ℕ
 beside text at = codes "  | " ++ shown_line text at
 
 -- an entry behind its number, and its line of the text beside it: `5 line 9 processors 4 a[3] 4 -> 7  | a[i] := a[i] + 3;`
-abbrev pub entry_line : List SharedEntry → (text : List ℕ) → Bool → ℕ → Entry → List ℕ
-entry_line layout text colours number e = number_text number ++ (told_text layout colours e ++ beside text (line_of e))
+abbrev pub entry_line : List SharedEntry → (text : List ℕ) → Bool → Detail → ℕ → Entry → List ℕ
+entry_line layout text colours detail number e = number_text number ++ (told_text layout colours detail e ++ beside text (line_of e))

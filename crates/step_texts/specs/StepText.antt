@@ -5,25 +5,27 @@ use Rattle.program_texts.specs.Shown.{line}
 use Rattle.step_entries.specs.Entries.{Entry}
 use Rattle.step_texts.specs.declared.manner.Manner.{Manner}
 use Rattle.step_texts.specs.declared.manner.Manner.TheVariants.{OnTerminal, Plain}
+use Rattle.step_texts.specs.declared.telling.Detail.{Detail}
+use Rattle.step_texts.specs.declared.telling.Telling.{Telling}
 use Rattle.step_texts.specs.OnTerminal as terminal
 use Rattle.step_texts.specs.ChangeTexts.{entry_text}
 
 -- the line of an entry
-abbrev pub entry_line : List SharedEntry → Manner → ℕ → Entry → List ℕ
-entry_line layout Plain number e = line (entry_text layout number e)
-entry_line layout (OnTerminal text colours) number e = terminal.entry_line layout text.now colours number e
+abbrev pub entry_line : List SharedEntry → Manner → Detail → ℕ → Entry → List ℕ
+entry_line layout Plain detail number e = line (entry_text layout detail number e)
+entry_line layout (OnTerminal text colours) detail number e = terminal.entry_line layout text.now colours detail number e
 
 -- that of an entry whose number is asked for
-abbrev pub line_within : List SharedEntry → Manner → (first last number : ℕ) → Entry → List ℕ
-line_within layout manner first last number e =
-    if nat_le first number && nat_le number last then entry_line layout manner number e else []
+abbrev pub line_within : List SharedEntry → Telling → (first last number : ℕ) → Entry → List ℕ
+line_within layout telling first last number e =
+    if nat_le first number && nat_le number last then entry_line layout telling.manner telling.detail number e else []
 
 -- the lines of entries that are numbered from this on
-abbrev pub lines_from : List SharedEntry → Manner → (first last number : ℕ) → List Entry → List ℕ
-lines_from layout manner first last number [] = []
-lines_from layout manner first last number (e ∷ es) =
-    line_within layout manner first last number e ++ lines_from layout manner first last (number + 1) es
+abbrev pub lines_from : List SharedEntry → Telling → (first last number : ℕ) → List Entry → List ℕ
+lines_from layout telling first last number [] = []
+lines_from layout telling first last number (e ∷ es) =
+    line_within layout telling first last number e ++ lines_from layout telling first last (number + 1) es
 
 -- those whose numbers, counted from 1, go from `first` to `last`
-abbrev pub steps_text : List SharedEntry → Manner → (first last : ℕ) → List Entry → List ℕ
-steps_text layout manner first last es = lines_from layout manner first last 1 es
+abbrev pub steps_text : List SharedEntry → Telling → (first last : ℕ) → List Entry → List ℕ
+steps_text layout telling first last es = lines_from layout telling first last 1 es

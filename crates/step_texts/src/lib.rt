@@ -1,9 +1,14 @@
 //! The text of a run that is told statement by statement.
 #![tactic(auto)]
 
+mod beside_cells;
 mod manner;
+mod ran;
 mod step_text;
+mod telling;
 mod terminal;
+mod values;
 
 pub use manner::Manner;
 pub use step_text::{write_entry, write_steps};
+pub use telling::{Detail, Telling};

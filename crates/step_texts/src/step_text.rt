@@ -7,29 +7,18 @@ ghost use Rattle.step_entries.specs.Entries.{entry_is};
 ghost use Rattle.step_texts.specs.StepText.{entry_line, line_within, steps_text};
 ghost use Rattle.step_texts.specs.ChangeTexts as spec;
 
+use crate::beside_cells::write_beside_cells;
 use crate::manner::Manner;
+use crate::ran::Ran;
+use crate::telling::{Detail, Telling};
 use crate::terminal::write_on_terminal;
+use crate::values::write_value;
 use itoa::Buffer;
 use pram_trees::Layout;
 use program_texts::{write_cell, write_fault_text, write_values};
 use step_entries::{Change, Entry};
 use text_out::{Out, WriteFault};
 use write_rules::Fault;
-
-// A cell's values before and after.
-fn write_value<W: Out>(out: &mut W, change: &Change) -> Result<(), WriteFault>
-    requires counted { (W.Out.state out.old).failures < 2 ^ 63 }
-    ensures written { Writes (W.Out.state out.old) (W.Out.state out.new) (spec.value_text change.now) result }
-{
-    let mut before = Buffer::new();
-    let mut after = Buffer::new();
-    out.write_parts(&[
-        b" ",
-        before.format(change.before).as_bytes(),
-        b" -> ",
-        after.format(change.after).as_bytes(),
-    ])
-}
 
 // A cell's change, behind a space.
 fn write_change<W: Out>(out: &mut W, layout: &Layout, change: &Change) -> Result<(), WriteFault>
@@ -96,6 +85,23 @@ fn write_ran<W: Out>(
     write_changes(out, layout, changes)
 }
 
+// All that is told of it.
+fn write_whole<W: Out>(
+    out: &mut W,
+    layout: &Layout,
+    detail: &Detail<'_>,
+    ran: &Ran<'_>,
+) -> Result<(), WriteFault>
+    requires counted { (W.Out.state out.old).failures < 2 ^ 63 }
+    ensures written { Writes (W.Out.state out.old) (W.Out.state out.new)
+        (spec.whole_text layout.now detail.now ran.now.location ran.now.processors ran.now.cells.now ran.now.variables.now
+        ran.now.locals.now ran.now.printed.now) result }
+{
+    write_ran(out, layout, ran.location.line, ran.processors, ran.cells)?;
+    let at = ran.location.offset;
+    write_beside_cells(out, detail, at, ran.variables, ran.locals, ran.printed)
+}
+
 // What is told of a fault.
 pub(crate) fn write_faulting<W: Out>(
     out: &mut W,
@@ -111,17 +117,35 @@ pub(crate) fn write_faulting<W: Out>(
 }
 
 // What is told of a statement.
-fn write_told<W: Out>(out: &mut W, layout: &Layout, entry: &Entry) -> Result<(), WriteFault>
+fn write_told<W: Out>(
+    out: &mut W,
+    layout: &Layout,
+    detail: &Detail<'_>,
+    entry: &Entry,
+) -> Result<(), WriteFault>
     requires counted { (W.Out.state out.old).failures < 2 ^ 63 }
-    ensures written { Writes (W.Out.state out.old) (W.Out.state out.new) (spec.told_text layout.now (entry_is entry.now)) result }
+    ensures written { Writes (W.Out.state out.old) (W.Out.state out.new)
+        (spec.told_text layout.now detail.now (entry_is entry.now)) result }
 {
     match entry {
         Entry::Ran {
             location,
             acts,
             cells,
-            ..
-        } => write_ran(out, layout, location.line, acts.len(), cells),
+            variables,
+            locals,
+            printed,
+        } => {
+            let ran = Ran {
+                location: *location,
+                processors: acts.len(),
+                cells,
+                variables,
+                locals,
+                printed,
+            };
+            write_whole(out, layout, detail, &ran)
+        }
         Entry::Faulted { fault, met, .. } => write_faulting(out, layout, fault, met),
     }
 }
@@ -135,20 +159,23 @@ pub(crate) fn write_number<W: Out>(out: &mut W, number: usize) -> Result<(), Wri
     out.write_parts(&[digits.format(number).as_bytes(), b" "])
 }
 
-/// Writes an entry behind its number, on a line: `5 line 9 processors 4 a[3] 4 -> 7 a[4] 0 -> 2`, or
-/// at a fault `6 fault read-conflict a[1] line 4 processors 1 3`, where at a cell the indices of the
-/// processors follow that met there. The error is that the writer failed (E17).
+/// Writes an entry behind its number, on a line: `5 line 9 processors 4 a[3] 4 -> 7 a[4] 0 -> 2`, with locals
+/// `17 line 14 processors 4 a[3] 4 -> 7 m 8 -> 4 x 1: 3 -> 7 2: 0 -> 1 prints 36`, or at a fault
+/// `6 fault read-conflict a[1] line 4 processors 1 3`, where at a cell the indices of the processors follow that met there. The error
+/// is that the writer failed (E17).
 pub fn write_entry<W: Out>(
     out: &mut W,
     layout: &Layout,
+    detail: &Detail<'_>,
     number: usize,
     entry: &Entry,
 ) -> Result<(), WriteFault>
     requires counted { (W.Out.state out.old).failures < 2 ^ 63 }
-    ensures written { Writes (W.Out.state out.old) (W.Out.state out.new) (line (spec.entry_text layout.now number (entry_is entry.now))) result }
+    ensures written { Writes (W.Out.state out.old) (W.Out.state out.new)
+        (line (spec.entry_text layout.now detail.now number (entry_is entry.now))) result }
 {
     write_number(out, number)?;
-    write_told(out, layout, entry)?;
+    write_told(out, layout, detail, entry)?;
     out.write_all(b"\n")
 }
 
@@ -156,17 +183,19 @@ pub fn write_entry<W: Out>(
 fn write_in<W: Out>(
     out: &mut W,
     layout: &Layout,
-    manner: &Manner<'_>,
+    telling: &Telling<'_>,
     number: usize,
     entry: &Entry,
 ) -> Result<(), WriteFault>
     requires counted { (W.Out.state out.old).failures < 2 ^ 63 }
-    ensures written { Writes (W.Out.state out.old) (W.Out.state out.new) (entry_line layout.now manner.now number (entry_is entry.now)) result }
+    ensures written { Writes (W.Out.state out.old) (W.Out.state out.new)
+        (entry_line layout.now telling.now.manner telling.now.detail number (entry_is entry.now)) result }
 {
-    match manner {
-        Manner::Plain => write_entry(out, layout, number, entry),
+    let detail = &telling.detail;
+    match &telling.manner {
+        Manner::Plain => write_entry(out, layout, detail, number, entry),
         Manner::OnTerminal { text, colours } => {
-            write_on_terminal(out, layout, text, *colours, number, entry)
+            write_on_terminal(out, layout, text, *colours, detail, number, entry)
         }
     }
 }
@@ -175,7 +204,7 @@ fn write_in<W: Out>(
 fn write_within<W: Out>(
     out: &mut W,
     layout: &Layout,
-    manner: &Manner<'_>,
+    telling: &Telling<'_>,
     first: usize,
     last: usize,
     before: usize,
@@ -184,11 +213,11 @@ fn write_within<W: Out>(
     requires counted { (W.Out.state out.old).failures < 2 ^ 63 }
     requires few { before < 2 ^ 64 - 1 }
     ensures written { Writes (W.Out.state out.old) (W.Out.state out.new)
-        (line_within layout.now manner.now first last (before + 1) (entry_is entry.now)) result }
+        (line_within layout.now telling.now first last (before + 1) (entry_is entry.now)) result }
 {
     let number = before + 1;
     if first <= number && number <= last {
-        write_in(out, layout, manner, number, entry)
+        write_in(out, layout, telling, number, entry)
     } else {
         out.write_all(b"")
     }
@@ -199,18 +228,18 @@ fn write_within<W: Out>(
 pub fn write_steps<W: Out>(
     out: &mut W,
     layout: &Layout,
-    manner: &Manner<'_>,
+    telling: &Telling<'_>,
     entries: &[Entry],
     first: usize,
     last: usize,
 ) -> Result<(), WriteFault>
     requires counted { (W.Out.state out.old).failures < 2 ^ 63 }
     ensures written { Writes (W.Out.state out.old) (W.Out.state out.new)
-        (steps_text layout.now manner.now first last (map entry_is entries.now)) result }
+        (steps_text layout.now telling.now first last (map entry_is entries.now)) result }
 {
     let mut before = 0;
     for entry in entries {
-        write_within(out, layout, manner, first, last, before, entry)?;
+        write_within(out, layout, telling, first, last, before, entry)?;
         before += 1;
     }
     Ok(())

@@ -5,7 +5,10 @@ ghost use Rattle.text_out.specs.Out.{Writes};
 ghost use Rattle.step_entries.specs.Entries.{entry_is};
 ghost use Rattle.step_texts.specs.OnTerminal as spec;
 
+use crate::beside_cells::write_beside_cells;
+use crate::ran::Ran;
 use crate::step_text::{write_changes, write_faulting, write_head, write_number};
+use crate::telling::Detail;
 use pram_trees::Layout;
 use step_entries::{Change, Entry};
 use text_out::{Out, WriteFault};
@@ -59,23 +62,62 @@ fn write_ran<W: Out>(
     write_coloured(out, layout, colours, changes)
 }
 
+// All that is told of it.
+fn write_whole<W: Out>(
+    out: &mut W,
+    layout: &Layout,
+    colours: bool,
+    detail: &Detail<'_>,
+    ran: &Ran<'_>,
+) -> Result<(), WriteFault>
+    requires counted { (W.Out.state out.old).failures < 2 ^ 63 }
+    ensures written { Writes (W.Out.state out.old) (W.Out.state out.new)
+        (spec.whole_text layout.now colours detail.now ran.now.location ran.now.processors ran.now.cells.now ran.now.variables.now
+        ran.now.locals.now ran.now.printed.now) result }
+{
+    write_ran(
+        out,
+        layout,
+        colours,
+        ran.location.line,
+        ran.processors,
+        ran.cells,
+    )?;
+    let at = ran.location.offset;
+    write_beside_cells(out, detail, at, ran.variables, ran.locals, ran.printed)
+}
+
 // What is told of a statement.
 fn write_told<W: Out>(
     out: &mut W,
     layout: &Layout,
     colours: bool,
+    detail: &Detail<'_>,
     entry: &Entry,
 ) -> Result<(), WriteFault>
     requires counted { (W.Out.state out.old).failures < 2 ^ 63 }
-    ensures written { Writes (W.Out.state out.old) (W.Out.state out.new) (spec.told_text layout.now colours (entry_is entry.now)) result }
+    ensures written { Writes (W.Out.state out.old) (W.Out.state out.new)
+        (spec.told_text layout.now colours detail.now (entry_is entry.now)) result }
 {
     match entry {
         Entry::Ran {
             location,
             acts,
             cells,
-            ..
-        } => write_ran(out, layout, colours, location.line, acts.len(), cells),
+            variables,
+            locals,
+            printed,
+        } => {
+            let ran = Ran {
+                location: *location,
+                processors: acts.len(),
+                cells,
+                variables,
+                locals,
+                printed,
+            };
+            write_whole(out, layout, colours, detail, &ran)
+        }
         Entry::Faulted { fault, met, .. } => write_faulting(out, layout, fault, met),
     }
 }
@@ -105,14 +147,15 @@ pub(crate) fn write_on_terminal<W: Out>(
     layout: &Layout,
     text: &[u8],
     colours: bool,
+    detail: &Detail<'_>,
     number: usize,
     entry: &Entry,
 ) -> Result<(), WriteFault>
     requires counted { (W.Out.state out.old).failures < 2 ^ 63 }
     ensures written { Writes (W.Out.state out.old) (W.Out.state out.new)
-        (spec.entry_line layout.now text.now colours number (entry_is entry.now)) result }
+        (spec.entry_line layout.now text.now colours detail.now number (entry_is entry.now)) result }
 {
     write_number(out, number)?;
-    write_told(out, layout, colours, entry)?;
+    write_told(out, layout, colours, detail, entry)?;
     write_beside(out, text, line_of(entry))
 }

@@ -1,7 +1,7 @@
 use Rattle.std.proofs.Common.{◌++◌, codes, refl}
 use Rattle.program_texts.specs.Shown.{cell_text}
 use Rattle.text_out.proofs.Progress.{breaks_off, closes, goes_on, starts}
-use Rattle.step_texts.specs.ChangeTexts.{value_text}
+use Rattle.step_texts.specs.ValueTexts.{value_text}
 use Rattle.step_texts.proofs.step_text.write_change.Goals as goal
 
 pub returns-in_err-write_all : goal.returns-in_err-write_all
