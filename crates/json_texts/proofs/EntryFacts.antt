@@ -2,16 +2,17 @@
 use Rattle.std.proofs.Common.{◌≡◌, ◌∙◌, ◌<◌, ◌+◌, ◌++◌, List, ℕ, ap, drop, get_or, length, map, sym}
 use Rattle.std.proofs.lemmas.List.{drop_more}
 use Rattle.pram_model.specs.Layout.{SharedEntry}
+use Rattle.pram_trees.specs.Program.{ProgramTree}
 use Rattle.step_entries.specs.declared.entry as rust
 use Rattle.step_entries.specs.Entries.{entry_is}
 use Rattle.json_texts.specs.StepFacts.{step_within, steps_from}
 
 -- the entry at i, and those behind it
-pub steps_at : (layout : List SharedEntry) (first last : ℕ) (es : List rust.Entry.Entry) (i before : ℕ) (e : rust.Entry.Entry) →
-    i < length es → e ≡ get_or es i e → steps_from layout first last (before + 1) (map entry_is (drop i es)) ≡
-    step_within layout first last (before + 1) (entry_is e)
-    ++ steps_from layout first last ((before + 1) + 1) (map entry_is (drop (i + 1) es))
-steps_at layout first last es i before e below is =
-    ap (λ es. steps_from layout first last (before + 1) (map entry_is es)) (drop_more es i e below)
-    ∙ ap (λ e. step_within layout first last (before + 1) (entry_is e)
-    ++ steps_from layout first last ((before + 1) + 1) (map entry_is (drop (i + 1) es))) (sym is)
+pub steps_at : (layout : List SharedEntry) (tree : ProgramTree) (first last : ℕ) (es : List rust.Entry.Entry) (i before : ℕ)
+    (e : rust.Entry.Entry) → i < length es → e ≡ get_or es i e → steps_from layout tree first last (before + 1) (map entry_is (drop i es)) ≡
+    step_within layout tree first last (before + 1) (entry_is e)
+    ++ steps_from layout tree first last ((before + 1) + 1) (map entry_is (drop (i + 1) es))
+steps_at layout tree first last es i before e below is =
+    ap (λ es. steps_from layout tree first last (before + 1) (map entry_is es)) (drop_more es i e below)
+    ∙ ap (λ e. step_within layout tree first last (before + 1) (entry_is e)
+    ++ steps_from layout tree first last ((before + 1) + 1) (map entry_is (drop (i + 1) es))) (sym is)

@@ -27,6 +27,8 @@ use Rattle.rule_comparison.specs.declared.finding.Finding.{Finding}
 use Rattle.rule_comparison.specs.declared.finding.Finding.TheVariants as finding
 use Rattle.write_rules.specs.declared.write.Write.{Write}
 use Rattle.step_entries.specs.declared.change.Change.{Change}
+use Rattle.step_entries.specs.declared.local_change.LocalChange.{LocalChange}
+use Rattle.pram_trees.specs.Program.{ProgramTree}
 use Rattle.step_entries.specs.Causes as told
 use Rattle.step_entries.specs.Entries.{Act, Entry, Faulting, Ran}
 use Rattle.json_texts.specs.AcceptedFacts.{accepted_facts, accepted_fields}
@@ -36,7 +38,7 @@ use Rattle.json_texts.specs.RefusalFacts.{cause_fields, place_fields, reason_fie
 use Rattle.json_texts.specs.RuleFacts.{comparison_facts, finding_fields, rule_facts}
 use Rattle.json_texts.specs.ActFacts.{act_facts, cell_fact, processor_fact, write_fact}
 use Rattle.json_texts.specs.CauseFacts.{beyond_fields, known_fields, why_fields, write_facts}
-use Rattle.json_texts.specs.StepFacts.{change_facts, step_facts, told_fields, variable_facts}
+use Rattle.json_texts.specs.StepFacts.{change_facts, local_facts, step_facts, told_fields, variable_facts}
 
 -- ---- outcomes
 
@@ -182,10 +184,15 @@ small_change layout d =
     small_object 0 ((codes "cell", _) ∷ (codes "before", _) ∷ (codes "after", _) ∷ [])
     (small_letters 0 _, (small_value 0 d.before, (small_value 0 d.after, tt)))
 
-small_variable : (d : Change) → IsSmall 1 (variable_facts d)
-small_variable d =
-    small_object 0 ((codes "variable", _) ∷ (codes "before", _) ∷ (codes "after", _) ∷ [])
-    (small_count 0 d.cell, (small_value 0 d.before, (small_value 0 d.after, tt)))
+small_variable : (tree : ProgramTree) (d : Change) → IsSmall 1 (variable_facts tree d)
+small_variable tree d =
+    small_object 0 ((codes "variable", _) ∷ (codes "name", _) ∷ (codes "before", _) ∷ (codes "after", _) ∷ [])
+    (small_count 0 d.cell, (small_letters 0 _, (small_value 0 d.before, (small_value 0 d.after, tt))))
+
+small_local : (tree : ProgramTree) (at : ℕ) (d : LocalChange) → IsSmall 1 (local_facts tree at d)
+small_local tree at d =
+    small_object 0 ((codes "processor", _) ∷ (codes "local", _) ∷ (codes "before", _) ∷ (codes "after", _) ∷ [])
+    (small_value 0 d.processor, (small_letters 0 _, (small_value 0 d.change.before, (small_value 0 d.change.after, tt))))
 
 small_processor : (i : Option ℤ) → IsSmall 1 (processor_fact i)
 small_processor None = record { nests = omega arith; no_float = refl }
@@ -231,9 +238,9 @@ small_known : (layout : List SharedEntry) (c : Option told.Cause) → HasSmall 3
 small_known layout None = tt
 small_known layout (Some c) = small_cause_of layout c
 
-small_told : (layout : List SharedEntry) (e : Entry) → HasSmall 3 (told_fields layout e)
-small_told layout (Ran here acts cells variables locals items) = (
-  small_count 3 at,
+small_told : (layout : List SharedEntry) (tree : ProgramTree) (e : Entry) → HasSmall 3 (told_fields layout tree e)
+small_told layout tree (Ran here acts cells variables locals items) = (
+  small_count 3 here.line,
   (
     small_count 3 (length acts),
     (
@@ -242,17 +249,23 @@ small_told layout (Ran here acts cells variables locals items) = (
         smaller 2 3 _ (lit≤ tt)
             (small_list 1 (map (change_facts layout) cells) (small_map 1 (change_facts layout) (small_change layout) cells)),
         (
-          smaller 2 3 _ (lit≤ tt) (small_list 1 (map variable_facts variables) (small_map 1 variable_facts small_variable variables)),
-          (small_values 2 items, tt),
+          smaller 2 3 _ (lit≤ tt)
+              (small_list 1 (map (variable_facts tree) variables) (small_map 1 (variable_facts tree) (small_variable tree) variables)),
+          (
+            smaller 2 3 _ (lit≤ tt) (small_list 1 (map (local_facts tree here.offset) locals)
+                (small_map 1 (local_facts tree here.offset) (small_local tree here.offset) locals)),
+            (small_values 2 items, tt),
+          ),
         ),
       ),
     ),
   ),
 )
-small_told layout (Faulting here fault cause acts met) = (
+small_told layout tree (Faulting here fault cause acts met) = (
   small_values 2 met,
   (small_acts layout acts, has_all 3 (fault_fields layout fault) (known_fields layout cause) (small_fault 3 layout fault) (small_known layout cause)),
 )
 
-pub readable_step : (layout : List SharedEntry) (number : ℕ) (e : Entry) → IsReadable (step_facts layout number e)
-readable_step layout number e = readable ((codes "step", _) ∷ told_fields layout e) (small_count 3 number, small_told layout e)
+pub readable_step : (layout : List SharedEntry) (tree : ProgramTree) (number : ℕ) (e : Entry) → IsReadable (step_facts layout tree number e)
+readable_step layout tree number e =
+    readable ((codes "step", _) ∷ told_fields layout tree e) (small_count 3 number, small_told layout tree e)

@@ -1,11 +1,16 @@
 -- What JSON says of a run that is told statement by statement.
-use Rattle.std.specs.Prelude.{ℕ, ◌+◌, nat_le, ◌&&◌, if◌then◌else◌, List, [], ◌∷◌, ◌++◌, codes, length, map}
+use Rattle.std.specs.Prelude.{ℕ, ℤ, Option, ◌+◌, nat_le, ◌&&◌, if◌then◌else◌, List, [], ◌∷◌, ◌++◌, codes, length, map}
 use Rattle.serde_json.specs.Data.{Data}
 use Rattle.json_lines.specs.Facts.{Field, count, letters, list, object_of, value, values}
 use Rattle.pram_model.specs.Layout.{SharedEntry}
+use Rattle.pram_trees.specs.Program.{ProgramTree}
 use Rattle.program_texts.specs.Shown.{cell_text}
+use Rattle.scope_names.specs.Locals.{local_name, variable_name}
 use Rattle.step_entries.specs.declared.change.Change.{Change}
-use Rattle.step_entries.specs.Entries.{Entry, Faulting, Ran}
+use Rattle.step_entries.specs.declared.local_change.LocalChange.{LocalChange}
+use Rattle.step_entries.specs.Entries.{Act, Entry, Faulting, Ran}
+use Rattle.step_entries.specs.Causes.{Cause}
+use Rattle.write_rules.specs.declared.fault.Fault.{Fault}
 use Rattle.write_rules.specs.Verdict.{Verdict}
 use Rattle.json_texts.specs.ActFacts.{act_facts}
 use Rattle.json_texts.specs.CauseFacts.{known_fields}
@@ -16,33 +21,46 @@ abbrev pub change_facts : List SharedEntry → Change → Data
 change_facts layout d =
     object_of ((codes "cell", letters (cell_text layout d.cell)) ∷ (codes "before", value d.before) ∷ (codes "after", value d.after) ∷ [])
 
--- the same of a uniform variable, by its number in the order of declarations
-abbrev pub variable_facts : Change → Data
-variable_facts d =
-    object_of ((codes "variable", count d.cell) ∷ (codes "before", value d.before) ∷ (codes "after", value d.after) ∷ [])
+-- the same of a uniform variable, by its number in the order of declarations and by its name
+abbrev pub variable_facts : ProgramTree → Change → Data
+variable_facts tree d = object_of
+    ((codes "variable", count d.cell) ∷ (codes "name", letters (variable_name tree d.cell))
+    ∷ (codes "before", value d.before) ∷ (codes "after", value d.after) ∷ [])
 
--- what is told of a statement: its line, how many processors executed it and what each did, the cells and the uniform variables that
--- changed, and what it printed; or its fault, what each did up to there, who met at its cell, and why it faulted
-abbrev pub told_fields : List SharedEntry → Entry → List Field
-told_fields layout (Ran here acts cells variables locals items) =
+-- the same of a processor's local, by the index and the local's name, in a statement that stands at that offset
+abbrev pub local_facts : ProgramTree → (at : ℕ) → LocalChange → Data
+local_facts tree at d = object_of
+    ((codes "processor", value d.processor) ∷ (codes "local", letters (local_name tree at d.change.cell))
+    ∷ (codes "before", value d.change.before) ∷ (codes "after", value d.change.after) ∷ [])
+
+-- what is told of a statement that faulted: who met at its cell, what each did up to there, its fault, and why
+abbrev pub faulting_fields : List SharedEntry → Fault → Option Cause → List Act → (met : List ℤ) → List Field
+faulting_fields layout fault cause acts met =
+    (codes "met", values met) ∷ (codes "acts", list (map (act_facts layout) acts))
+    ∷ (fault_fields layout fault ++ known_fields layout cause)
+
+-- what is told of a statement: its line, how many processors executed it and what each did, the cells, the uniform variables and the
+-- locals that changed, and what it printed; or its fault
+abbrev pub told_fields : List SharedEntry → ProgramTree → Entry → List Field
+told_fields layout tree (Ran here acts cells variables locals items) =
     (codes "line", count here.line) ∷ (codes "processors", count (length acts)) ∷ (codes "acts", list (map (act_facts layout) acts))
-    ∷ (codes "changes", list (map (change_facts layout) cells)) ∷ (codes "variables", list (map variable_facts variables))
-    ∷ (codes "printed", values items) ∷ []
-told_fields layout (Faulting here fault cause acts met) =
-    (codes "met", values met) ∷ (codes "acts", list (map (act_facts layout) acts)) ∷ (fault_fields layout fault ++ known_fields layout cause)
+    ∷ (codes "changes", list (map (change_facts layout) cells)) ∷ (codes "variables", list (map (variable_facts tree) variables))
+    ∷ (codes "locals", list (map (local_facts tree here.offset) locals)) ∷ (codes "printed", values items) ∷ []
+told_fields layout tree (Faulting here fault cause acts met) = faulting_fields layout fault cause acts met
 
-abbrev pub step_facts : List SharedEntry → ℕ → Entry → Data
-step_facts layout number e = object_of ((codes "step", count number) ∷ told_fields layout e)
+abbrev pub step_facts : List SharedEntry → ProgramTree → ℕ → Entry → Data
+step_facts layout tree number e = object_of ((codes "step", count number) ∷ told_fields layout tree e)
 
 -- that, where its number is asked for
-abbrev pub step_within : List SharedEntry → (first last number : ℕ) → Entry → List Data
-step_within layout first last number e = if nat_le first number && nat_le number last then step_facts layout number e ∷ [] else []
+abbrev pub step_within : List SharedEntry → ProgramTree → (first last number : ℕ) → Entry → List Data
+step_within layout tree first last number e = if nat_le first number && nat_le number last then step_facts layout tree number e ∷ [] else []
 
 -- those of entries that are numbered from this on
-abbrev pub steps_from : List SharedEntry → (first last number : ℕ) → List Entry → List Data
-steps_from layout first last number [] = []
-steps_from layout first last number (e ∷ es) = step_within layout first last number e ++ steps_from layout first last (number + 1) es
+abbrev pub steps_from : List SharedEntry → ProgramTree → (first last number : ℕ) → List Entry → List Data
+steps_from layout tree first last number [] = []
+steps_from layout tree first last number (e ∷ es) =
+    step_within layout tree first last number e ++ steps_from layout tree first last (number + 1) es
 
 -- those whose numbers, counted from 1, go from `first` to `last`, and behind them the outcome
-abbrev pub steps_facts : List SharedEntry → Verdict → List Entry → (first last : ℕ) → List Data
-steps_facts layout v es first last = steps_from layout first last 1 es ++ outcome_facts layout v ∷ []
+abbrev pub steps_facts : List SharedEntry → ProgramTree → Verdict → List Entry → (first last : ℕ) → List Data
+steps_facts layout tree v es first last = steps_from layout tree first last 1 es ++ outcome_facts layout v ∷ []

@@ -17,9 +17,10 @@ use crate::cause::put_known;
 use crate::fault::{cell_text, put_fault};
 use crate::outcome::outcome_value;
 use json_lines::{Object, Value, push_line};
-use pram_trees::Layout;
+use pram_trees::{Layout, Location, Tree};
+use scope_names::{local_name, variable_name};
 use std::alloc::{AllocError, Global};
-use step_entries::{Act, Cause, Change, Entry};
+use step_entries::{Act, Cause, Change, Entry, LocalChange};
 use write_rules::{Fault, Outcome};
 
 // A cell's value before and behind.
@@ -49,33 +50,68 @@ fn changes_facts(
 }
 
 // A uniform variable's value before and behind.
-fn variable_facts(alloc: Global, change: &Change) -> Result<Value, AllocError>
-    ensures { IfOk result (λ v. view v ≡ spec.variable_facts change.now) }
+fn variable_facts(alloc: Global, tree: &Tree, change: &Change) -> Result<Value, AllocError>
+    ensures { IfOk result (λ v. view v ≡ spec.variable_facts tree.now change.now) }
 {
     let mut object = Object::new(alloc);
     object.put_count("variable", change.cell as u64)?;
+    object.put_letters("name", variable_name(tree, change.cell))?;
     object.put_value("before", change.before)?;
     object.put_value("after", change.after)?;
     Ok(object.into_value())
 }
 
-fn variables_facts(alloc: Global, changes: &[Change]) -> Result<Vec<Value>, AllocError>
-    ensures { IfOk result (λ list. map view list.items ≡ map spec.variable_facts changes.now) }
+fn variables_facts(alloc: Global, tree: &Tree, changes: &[Change]) -> Result<Vec<Value>, AllocError>
+    ensures { IfOk result (λ list. map view list.items ≡ map (spec.variable_facts tree.now) changes.now) }
 {
     let mut list = Vec::new(alloc);
     for change in changes {
-        list.push(variable_facts(alloc, change)?)?;
+        list.push(variable_facts(alloc, tree, change)?)?;
     }
     Ok(list)
 }
 
-// Who acted in a statement that ran, and what it changed and printed.
+// A processor's local before and behind a statement that stands at this offset.
+fn local_facts(
+    alloc: Global,
+    tree: &Tree,
+    at: u32,
+    local: &LocalChange,
+) -> Result<Value, AllocError>
+    ensures { IfOk result (λ v. view v ≡ spec.local_facts tree.now at local.now) }
+{
+    let change = &local.change;
+    let mut object = Object::new(alloc);
+    object.put_value("processor", local.processor)?;
+    object.put_letters("local", local_name(tree, at, change.cell))?;
+    object.put_value("before", change.before)?;
+    object.put_value("after", change.after)?;
+    Ok(object.into_value())
+}
+
+fn locals_facts(
+    alloc: Global,
+    tree: &Tree,
+    at: u32,
+    locals: &[LocalChange],
+) -> Result<Vec<Value>, AllocError>
+    ensures { IfOk result (λ list. map view list.items ≡ map (spec.local_facts tree.now at) locals.now) }
+{
+    let mut list = Vec::new(alloc);
+    for local in locals {
+        list.push(local_facts(alloc, tree, at, local)?)?;
+    }
+    Ok(list)
+}
+
+// Where a statement stands that ran, who acted in it, and what it changed and printed.
 #[derive(Clone, Copy)]
 struct Ran<'a> {
-    line: u32,
+    location: Location,
     acts: &'a [Act],
     cells: &'a [Change],
     variables: &'a [Change],
+    locals: &'a [LocalChange],
     printed: &'a [i64],
 }
 
@@ -83,20 +119,23 @@ fn put_ran(
     alloc: Global,
     object: &mut Object,
     layout: &Layout,
+    tree: &Tree,
     ran: &Ran<'_>,
 ) -> Result<(), AllocError>
-    ensures { OnOk result (shown object.new ≡ with_fields (spec.told_fields layout.now
-        (entry.Ran ran.now.line (map act_is ran.now.acts.now) ran.now.cells.now ran.now.variables.now ran.now.printed.now))
-        (shown object.old)) }
+    ensures { OnOk result (shown object.new ≡ with_fields (spec.told_fields layout.now tree.now
+        (entry.Ran ran.now.location (map act_is ran.now.acts.now) ran.now.cells.now ran.now.variables.now ran.now.locals.now
+        ran.now.printed.now)) (shown object.old)) }
 {
     let acts = acts_facts(alloc, layout, ran.acts)?;
     let changes = changes_facts(alloc, layout, ran.cells)?;
-    let variables = variables_facts(alloc, ran.variables)?;
-    object.put_count("line", u64::from(ran.line))?;
+    let variables = variables_facts(alloc, tree, ran.variables)?;
+    let locals = locals_facts(alloc, tree, ran.location.offset, ran.locals)?;
+    object.put_count("line", u64::from(ran.location.line))?;
     object.put_count("processors", ran.acts.len() as u64)?;
     object.put_list("acts", acts)?;
     object.put_list("changes", changes)?;
     object.put_list("variables", variables)?;
+    object.put_list("locals", locals)?;
     object.put_values("printed", ran.printed)
 }
 
@@ -111,7 +150,7 @@ fn put_faulting(
     met: &[i64],
 ) -> Result<(), AllocError>
     ensures { OnOk result (shown object.new ≡ with_fields
-        (spec.told_fields layout.now (entry.Faulting fault.now (known_cause cause.now) (map act_is acts.now) met.now)) (shown object.old)) }
+        (spec.faulting_fields layout.now fault.now (known_cause cause.now) (map act_is acts.now) met.now) (shown object.old)) }
 {
     let acts = acts_facts(alloc, layout, acts)?;
     object.put_values("met", met)?;
@@ -124,32 +163,36 @@ fn put_told(
     alloc: Global,
     object: &mut Object,
     layout: &Layout,
+    tree: &Tree,
     entry: &Entry,
 ) -> Result<(), AllocError>
-    ensures { OnOk result (shown object.new ≡ with_fields (spec.told_fields layout.now (entry_is entry.now)) (shown object.old)) }
+    ensures { OnOk result (shown object.new ≡ with_fields (spec.told_fields layout.now tree.now (entry_is entry.now)) (shown object.old)) }
 {
     match entry {
         Entry::Ran {
-            line,
+            location,
             acts,
             cells,
             variables,
+            locals,
             printed,
         } => {
             let ran = Ran {
-                line: *line,
+                location: *location,
                 acts,
                 cells,
                 variables,
+                locals,
                 printed,
             };
-            put_ran(alloc, object, layout, &ran)
+            put_ran(alloc, object, layout, tree, &ran)
         }
         Entry::Faulted {
             fault,
             cause,
             acts,
             met,
+            ..
         } => put_faulting(alloc, object, layout, fault, cause, acts, met),
     }
 }
@@ -158,14 +201,15 @@ fn put_told(
 fn step_facts(
     alloc: Global,
     layout: &Layout,
+    tree: &Tree,
     number: usize,
     entry: &Entry,
 ) -> Result<Value, AllocError>
-    ensures { IfOk result (λ v. view v ≡ spec.step_facts layout.now number (entry_is entry.now)) }
+    ensures { IfOk result (λ v. view v ≡ spec.step_facts layout.now tree.now number (entry_is entry.now)) }
 {
     let mut object = Object::new(alloc);
     object.put_count("step", number as u64)?;
-    put_told(alloc, &mut object, layout, entry)?;
+    put_told(alloc, &mut object, layout, tree, entry)?;
     Ok(object.into_value())
 }
 
@@ -174,18 +218,19 @@ fn push_within(
     alloc: Global,
     text: &mut String,
     layout: &Layout,
+    tree: &Tree,
     first: usize,
     last: usize,
     before: usize,
     entry: &Entry,
 ) -> Result<(), AllocError>
     requires few { before < 2 ^ 64 - 1 }
-    ensures json { OnOk result (Adds (spec.step_within layout.now first last (before + 1) (entry_is entry.now))
+    ensures json { OnOk result (Adds (spec.step_within layout.now tree.now first last (before + 1) (entry_is entry.now))
         (string_bytes text.old) (string_bytes text.new)) }
 {
     let number = before + 1;
     if first <= number && number <= last {
-        let facts = step_facts(alloc, layout, number, entry)?;
+        let facts = step_facts(alloc, layout, tree, number, entry)?;
         push_line(alloc, text, &facts)
     } else {
         Ok(())
@@ -196,16 +241,18 @@ fn push_within(
 fn steps_text(
     alloc: Global,
     layout: &Layout,
+    tree: &Tree,
     entries: &[Entry],
     first: usize,
     last: usize,
 ) -> Result<String, AllocError>
-    ensures json { IfOk result (λ text. IsJson (spec.steps_from layout.now first last 1 (map entry_is entries.now)) (string_bytes text)) }
+    ensures json { IfOk result (λ text. IsJson (spec.steps_from layout.now tree.now first last 1 (map entry_is entries.now))
+        (string_bytes text)) }
 {
     let mut text = String::new(alloc);
     let mut before = 0;
     for entry in entries {
-        push_within(alloc, &mut text, layout, first, last, before, entry)?;
+        push_within(alloc, &mut text, layout, tree, first, last, before, entry)?;
         before += 1;
     }
     Ok(text)
@@ -226,23 +273,26 @@ fn push_outcome(
 }
 
 /// The entries whose numbers, counted from 1, go from `first` to `last`, each on a line, and the outcome on the last line:
-/// `{"acts":[{"processor":"3","reads":["a[3]"],"write":"a[3]"}],"changes":[{"after":"7","before":"4","cell":"a[3]"}],"line":9,"printed":[],`
-/// `"processors":1,"step":5,"variables":[]}`, where `processor` is null of the one outside pardo and `write` where it writes no cell, and a
-/// variable goes by its number in the order of declarations; or at a fault
+/// `{"acts":[{"processor":"3","reads":["a[3]"],"write":"a[3]"}],"changes":[{"after":"7","before":"4","cell":"a[3]"}],"line":9,`
+/// `"locals":[],"printed":[],"processors":1,"step":5,"variables":[]}`, where `processor` is null of the one outside pardo and `write`
+/// where it writes no cell; or at a fault
 /// `{"acts":[..],"kind":"read-conflict","line":4,"met":["1","3"],"place":"a[1]","step":6}`, with what there is to say of why: `array`,
-/// `subscript`, `low` and `high`; `operator` and `operands`; `low`, `high` and `procs`; or `writers`.
+/// `subscript`, `low` and `high`; `operator` and `operands`; `low`, `high` and `procs`; or `writers`. A variable is told as
+/// `{"after":"4","before":"8","name":"m","variable":0}`, by its name in the tree and its number in the order of declarations, and a local
+/// as `{"after":"7","before":"3","local":"x","processor":"1"}`.
 pub fn json_steps(
     alloc: Global,
     layout: &Layout,
+    tree: &Tree,
     outcome: &Outcome,
     entries: &[Entry],
     first: usize,
     last: usize,
 ) -> Result<String, AllocError>
-    ensures json { IfOk result (λ text. IsJson (spec.steps_facts layout.now (verdict_of outcome.now) (map entry_is entries.now) first last)
-        (string_bytes text)) }
+    ensures json { IfOk result (λ text. IsJson
+        (spec.steps_facts layout.now tree.now (verdict_of outcome.now) (map entry_is entries.now) first last) (string_bytes text)) }
 {
-    let mut text = steps_text(alloc, layout, entries, first, last)?;
+    let mut text = steps_text(alloc, layout, tree, entries, first, last)?;
     push_outcome(alloc, &mut text, layout, outcome)?;
     Ok(text)
 }

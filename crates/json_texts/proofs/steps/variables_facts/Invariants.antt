@@ -4,4 +4,4 @@ use Rattle.json_texts.specs.StepFacts.{variable_facts}
 use Rattle.json_texts.proofs.steps.variables_facts.Given as goal
 
 abbrev pub invariant-loop-change : goal.invariant-loop-change
-invariant-loop-change l = map view l.list.items ≡ map variable_facts (take l.change-index l.changes)
+invariant-loop-change l = map view l.list.items ≡ map (variable_facts l.tree) (take l.change-index l.changes)
