@@ -1,10 +1,12 @@
-//! Which entries of a run are told.
+//! Which entries of a run are told, and what of each.
 
-/// Which entries of a run are told, counted from 1.
+/// Which entries of a run are told, counted from 1, and what of each.
 #[derive(Clone, Copy, Debug)]
 pub struct StepWords {
     /// The number of the first.
     pub from: u32,
     /// The number of the last.
     pub to: u32,
+    /// Whether changed variables and locals and printed numbers are told too.
+    pub locals: bool,
 }
