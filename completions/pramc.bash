@@ -17,7 +17,7 @@ _pramc() {
             plan | expand) words="--size --explain --help" ;;
             meaning | rules) words="--bound --input --size --format --explain --help" ;;
             cost) words="--bound --input --schedule --lines --size --format --explain --help" ;;
-            steps) words="--bound --input --from --to --svg --html --size --format --explain --help" ;;
+            steps) words="--bound --input --from --to --locals --svg --html --size --format --explain --help" ;;
             run) words="--bound --input --workers --map --reserve --size --format --explain --help" ;;
             exec) words="--bound --input --workers --map --reserve --explain --help" ;;
             trace) words="--bound --input --workers --map --reserve --svg --size --format --explain --help" ;;

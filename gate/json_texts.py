@@ -3,7 +3,7 @@
 
 json_texts.py PROGRAM: each object of JSON is on a line of its own and has each name once; it says what the text of the same call says, and
 the exit status is the same. So it is with a run that is cut short, with changed texts that are refused, whose lines and columns are counted
-here, and with words that are.
+here, and with words that are. What `steps --locals` says is what its JSON says.
 """
 import json
 import re
@@ -23,6 +23,11 @@ LINE_COST = re.compile(r"line (\d+) times (\d+) work (\d+) reads (\d+) writes (\
 STEP = re.compile(r"(\d+) line (\d+) processors (\d+)((?: \S+ -?\d+ -> -?\d+)*)")
 FAULTED_STEP = re.compile(r"(\d+) (fault .+ line \d+)(?: processors((?: -?\d+)+))?")
 CHANGE = re.compile(r" (\S+) (-?\d+) -> (-?\d+)")
+# a statement with its locals: what is beside the cells
+BESIDE = re.compile(r"(?P<sets>(?: [^ :]+ -?\d+ -> -?\d+)*)(?P<locals>(?: \w+(?: -?\d+: -?\d+ -> -?\d+)+)*(?: and \d+ more)?)"
+                    r"(?P<printed>(?: prints(?: -?\d+)+)?)")
+LOCAL = re.compile(r"(?: ([A-Za-z_]\w*))? (-?\d+): (-?\d+) -> (-?\d+)")
+MOST_LOCALS = 8
 EXCHANGE = re.compile(r"(\d+) (\w+) sent ((?:\d+ )+)received ((?:\d+ )+)h (\d+)")
 REFUSED = re.compile(r"refused (E\d+) (\w+)(?: at (\d+))?(?: (\w+))?")
 
@@ -133,6 +138,25 @@ def steps(lines):
     return [step(it) for it in told] + [outcome(lines[len(told) :])]
 
 
+def beside(text):
+    """The cells and variables, the locals, how many more, and what is printed, of what stands behind a statement's processors."""
+    found = BESIDE.fullmatch(text)
+    name, told = "", []
+    for new, *values in LOCAL.findall(found["locals"]):
+        name = new or name
+        told.append((name, *values))
+    more = re.search(r" and (\d+) more$", found["locals"])
+    return CHANGE.findall(found["sets"]), told, int(more[1]) if more else 0, found["printed"].split()[1:]
+
+
+def beside_of(one):
+    """The same of the object of a statement."""
+    sets = [(it["cell"], it["before"], it["after"]) for it in one["changes"]]
+    sets += [(it["name"], it["before"], it["after"]) for it in one["variables"]]
+    told = [(it["local"], it["processor"], it["before"], it["after"]) for it in one["locals"]]
+    return sets, told[:MOST_LOCALS], max(len(told) - MOST_LOCALS, 0), one["printed"]
+
+
 def exchanges(lines):
     def one(line):
         k, kind, sent, received, h = EXCHANGE.fullmatch(line).groups()
@@ -187,6 +211,19 @@ def wrong(words, reader):
     return [f"pramc {' '.join(map(str, words))}: status {code}, not {status}\n{said}\n{found}\n{err}"]
 
 
+def wrong_locals(words):
+    """What is wrong with the locals of a run that is told statement by statement, if anything is."""
+    _, text, _ = called([*words, "--locals"])
+    _, out, _ = called([*words, "--format", "json", "--locals"])
+    told = {it["step"]: beside_of(it) for it in read(out) if "processors" in it}
+    said = {}
+    for line in text.splitlines():
+        found = re.fullmatch(r"(\d+) line \d+ processors \d+(.*)", line)
+        if found:
+            said[int(found[1])] = beside(found[2])
+    return [] if said == told else [f"pramc {' '.join(map(str, words))} --locals: {said}\n{told}"]
+
+
 def wrongly_refused(words, text):
     """The same of one that is, for what this text has."""
     status, out, line = called(words)
@@ -216,7 +253,7 @@ def of_example(name, text, folder):
         calls += [(["meaning", *more], meaning), (["run", *more, "--workers", "3"], meaning), (["rules", *more], rules)]
         calls += [(["cost", *more, "--lines", "--schedule", "3"], costs), (["steps", *more], steps)]
         calls += [(["trace", *more, "--workers", "2"], exchanges)]
-    found = [wrong(*it) for it in calls]
+    found = [wrong(*it) for it in calls] + [wrong_locals(["steps", file, *values])]
     for at, changed in enumerate(changed_texts(text)):
         other = folder / f"{name}_{at}.pram"
         other.write_text(changed)

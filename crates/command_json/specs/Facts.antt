@@ -28,7 +28,8 @@ run_facts r facts.Nothing = outcome_facts r.loaded.program.layout (verdict_of r.
 run_facts r (facts.Cost c) =
     cost_facts r.loaded.program.layout (verdict_of r.outcome) c r.words.costs.schedule r.words.costs.lines ∷ []
 run_facts r (facts.Steps entries) =
-    steps_facts r.loaded.program.layout (verdict_of r.outcome) (map entry_is entries.items) r.words.steps.from r.words.steps.to
+    steps_facts r.loaded.program.layout r.loaded.program.tree (verdict_of r.outcome) (map entry_is entries.items) r.words.steps.from
+    r.words.steps.to
 run_facts r (facts.Exchanges exchanges) = trace_facts exchanges (verdict_of r.outcome)
 
 -- the facts of what was found; texts, code, what comes of a listing, explanations and the version are not told as JSON

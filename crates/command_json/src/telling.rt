@@ -31,7 +31,8 @@ fn run_text(alloc: Global, run: &FoundRun<'_>) -> Result<String, AllocError>
         }
         Facts::Steps(entries) => {
             let (first, last) = (words.steps.from as usize, words.steps.to as usize);
-            json_steps(alloc, layout, outcome, entries, first, last)
+            let tree = run.loaded.program.tree();
+            json_steps(alloc, layout, tree, outcome, entries, first, last)
         }
     }
 }

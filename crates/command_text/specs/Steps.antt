@@ -1,6 +1,7 @@
 -- A run that is told statement by statement.
-use Rattle.std.specs.Prelude.{◌≡◌, ℕ, ℤ, List, [], ◌∷◌, ◌++◌, true, false, length}
+use Rattle.std.specs.Prelude.{◌≡◌, ℕ, Bool, ℤ, List, [], ◌∷◌, ◌++◌, true, false, length}
 use Rattle.pram_model.specs.Layout.{SharedEntry}
+use Rattle.pram_trees.specs.Program.{ProgramTree}
 use Rattle.pram_check.specs.Checked.{Checked}
 use Rattle.write_rules.specs.Verdict.{verdict_of}
 use Rattle.write_rules.specs.declared.outcome.Outcome.{Outcome}
@@ -9,6 +10,9 @@ use Rattle.step_entries.specs.Entries.{Entry}
 use Rattle.step_texts.specs.StepText.{steps_text}
 use Rattle.step_texts.specs.declared.manner.Manner.{Manner}
 use Rattle.step_texts.specs.declared.manner.Manner.TheVariants.{OnTerminal, Plain}
+use Rattle.step_texts.specs.declared.telling.Detail.{Detail}
+use Rattle.step_texts.specs.declared.telling.Detail.TheVariants.{Cells, Locals}
+use Rattle.step_texts.specs.declared.telling.Telling.{Telling}
 use Rattle.json_lines.specs.Lines.{IsJson}
 use Rattle.json_texts.specs.StepFacts.{steps_facts}
 use Rattle.step_pages.specs.Facts.{IsCut}
@@ -23,9 +27,17 @@ abbrev pub IsManner : Terminal → (text : List ℕ) → Manner → Type 0
 IsManner on text Plain = on.output ≡ false
 IsManner on text (OnTerminal source colours) = (on.output ≡ true) × (source.now ≡ text) × (colours ≡ on.colours)
 
+-- Variables, locals and printed numbers are told too, by the names of the program's tree, where that is asked for.
+abbrev pub IsDetail : (locals : Bool) → ProgramTree → Detail → Type 0
+IsDetail locals tree Cells = locals ≡ false
+IsDetail locals tree (Locals named) = (locals ≡ true) × (named.now ≡ tree)
+
+abbrev pub IsTelling : Terminal → (text : List ℕ) → (locals : Bool) → ProgramTree → Telling → Type 0
+IsTelling on text locals tree t = IsManner on text t.manner × IsDetail locals tree t.detail
+
 -- the entries whose numbers, counted from 1, go from `first` to `last`, and behind them the outcome
-abbrev pub told_text : List SharedEntry → Manner → Outcome → List Entry → (first last : ℕ) → List ℕ
-told_text layout manner outcome entries first last = steps_text layout manner first last entries ++ shown layout (verdict_of outcome)
+abbrev pub told_text : List SharedEntry → Telling → Outcome → List Entry → (first last : ℕ) → List ℕ
+told_text layout telling outcome entries first last = steps_text layout telling first last entries ++ shown layout (verdict_of outcome)
 
 -- ---- as a page
 
@@ -34,7 +46,7 @@ pub record AreFacts (text : List ℕ) (program : Checked) (input : List ℤ) (ou
   pub opening : List ℕ
   pub opens : IsJson (opening_facts text program.tree input ∷ []) opening
   pub lines : List ℕ
-  pub tells : IsJson (steps_facts program.layout (verdict_of outcome) entries 1 (length entries)) lines
+  pub tells : IsJson (steps_facts program.layout program.tree (verdict_of outcome) entries 1 (length entries)) lines
   pub joined : facts ≡ opening ++ lines
 
 -- a page of such facts

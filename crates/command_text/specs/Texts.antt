@@ -14,7 +14,7 @@ use Rattle.diagnoses.specs.Sources.{text_in}
 use Rattle.explanations.specs.Explained.{explanation}
 use Rattle.rule_comparison.specs.ComparisonText.{comparison_text}
 use Rattle.step_entries.specs.Entries.{Entry, entry_is}
-use Rattle.step_texts.specs.declared.manner.Manner.{Manner}
+use Rattle.step_texts.specs.declared.telling.Telling.{Telling}
 use Rattle.command_facts.specs.declared.found.Facts.{Facts}
 use Rattle.command_facts.specs.declared.found.Facts.TheVariants as facts
 use Rattle.command_facts.specs.declared.found.Found.{Found}
@@ -22,7 +22,7 @@ use Rattle.command_facts.specs.declared.found.Found.TheVariants as found
 use Rattle.command_facts.specs.declared.found.FoundRun.{FoundRun}
 use Rattle.command_text.specs.declared.terminal.Terminal.{Terminal}
 use Rattle.command_text.specs.Costs.{costs_text}
-use Rattle.command_text.specs.Steps.{IsManner, IsPage, told_text}
+use Rattle.command_text.specs.Steps.{IsPage, IsTelling, told_text}
 
 abbrev pub version_text : List ℕ
 version_text = line (codes "pramc 0.1.0")
@@ -42,11 +42,12 @@ counts_text true exchanges = trace.picture exchanges
 abbrev pub outcome_text : FoundRun → List ℕ
 outcome_text r = shown r.loaded.program.layout (verdict_of r.outcome)
 
--- a run statement by statement: in words, between the numbers that are asked for, beside the text as it stands in its file, and then its
--- outcome
+-- a run statement by statement: in words, between the numbers that are asked for, with locals if these are, beside the text as it stands in
+-- its file, and then its outcome
 abbrev pub IsInWords : Terminal → FoundRun → List Entry → List ℕ → Type 0
-IsInWords on r entries text = (manner : Manner) × IsManner on r.loaded.source.bytes.items manner
-    × (text ≡ told_text r.loaded.program.layout manner r.outcome entries r.words.steps.from r.words.steps.to)
+IsInWords on r entries text = (telling : Telling)
+    × IsTelling on r.loaded.source.bytes.items r.words.steps.locals r.loaded.program.tree telling
+    × (text ≡ told_text r.loaded.program.layout telling r.outcome entries r.words.steps.from r.words.steps.to)
 
 -- drawn, or as a page with the text that its sizes give, where that is asked for
 abbrev pub AreStepsText : (svg html : Bool) → Terminal → FoundRun → List Entry → List ℕ → Type 0

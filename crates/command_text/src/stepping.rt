@@ -17,13 +17,13 @@ use crate::terminal::Terminal;
 use command_facts::FoundRun;
 use command_requests::StepWords;
 use json_texts::json_steps;
-use pram_trees::Layout;
+use pram_trees::{Layout, Tree};
 use program_texts::{Status, Stop, finish, show};
 use std::alloc::{AllocError, Global};
 use step_entries::Entry;
 use step_pages::{opening_line, write_page};
 use step_pictures::write_picture;
-use step_texts::{Manner, write_steps};
+use step_texts::{Detail, Manner, Telling, write_steps};
 use text_out::{Out, WriteFault};
 use write_rules::Outcome;
 
@@ -41,21 +41,32 @@ fn manner_of<'t>(on: Terminal, text: &'t [u8]) -> Manner<'t>
     }
 }
 
+// What is told of each, by the names in this tree.
+fn detail_of<'t>(locals: bool, tree: &'t Tree) -> Detail<'t>
+    ensures { spec.IsDetail locals tree.now result }
+{
+    if locals {
+        Detail::Locals(tree)
+    } else {
+        Detail::Cells
+    }
+}
+
 // The entries that are asked for, and behind them the run's outcome.
 fn write_entries_and_outcome<O: Out>(
     out: &mut O,
     layout: &Layout,
     outcome: &Outcome,
     entries: &[Entry],
-    manner: &Manner<'_>,
+    telling: &Telling<'_>,
     words: StepWords,
 ) -> Result<(), WriteFault>
     requires out { (O.Out.state out.old).failures < 2 ^ 62 }
     ensures written { Writes (O.Out.state out.old) (O.Out.state out.new)
-        (spec.told_text layout.now manner.now outcome.now (map entry_is entries.now) words.from words.to) result }
+        (spec.told_text layout.now telling.now outcome.now (map entry_is entries.now) words.from words.to) result }
 {
     let (first, last) = (words.from as usize, words.to as usize);
-    write_steps(out, layout, manner, entries, first, last)?;
+    write_steps(out, layout, telling, entries, first, last)?;
     show(layout, outcome, out)
 }
 
@@ -65,15 +76,15 @@ fn write_told<'a, O: Out>(
     layout: &Layout,
     outcome: &Outcome,
     entries: &[Entry],
-    manner: &Manner<'_>,
+    telling: &Telling<'_>,
     words: StepWords,
 ) -> Result<Status, Stop<'a>>
     requires out { (O.Out.state out.old).failures < 2 ^ 62 }
     ensures written { Wrote (status_of outcome.now)
-        (spec.told_text layout.now manner.now outcome.now (map entry_is entries.now) words.from words.to)
+        (spec.told_text layout.now telling.now outcome.now (map entry_is entries.now) words.from words.to)
         (O.Out.state out.old) (O.Out.state out.new) result }
 {
-    write_entries_and_outcome(out, layout, outcome, entries, manner, words)?;
+    write_entries_and_outcome(out, layout, outcome, entries, telling, words)?;
     finish(out, Status::of(outcome))
 }
 
@@ -88,9 +99,14 @@ fn write_in_words<'a, O: Out>(
     ensures written { (text : List ℕ) × texts.IsInWords on run.now (map entry_is entries.now) text
         × Wrote (status_of run.now.outcome) text (O.Out.state out.old) (O.Out.state out.new) result }
 {
-    let layout = run.loaded.program.layout();
-    let manner = manner_of(on, run.loaded.source.bytes.as_slice());
-    write_told(out, layout, &run.outcome, entries, &manner, run.words.steps)
+    let program = &run.loaded.program;
+    let layout = program.layout();
+    let words = run.words.steps;
+    let telling = Telling {
+        manner: manner_of(on, run.loaded.source.bytes.as_slice()),
+        detail: detail_of(words.locals, program.tree()),
+    };
+    write_told(out, layout, &run.outcome, entries, &telling, words)
 }
 
 // Writes a picture of a run's statements.
@@ -116,9 +132,18 @@ fn page_facts(alloc: Global, run: &FoundRun<'_>, entries: &[Entry]) -> Result<St
 {
     let program = &run.loaded.program;
     let text = run.loaded.source.text();
-    let mut facts = opening_line(alloc, text, program.tree(), &run.input)?;
+    let tree = program.tree();
+    let mut facts = opening_line(alloc, text, tree, &run.input)?;
     let last = entries.len();
-    let lines = json_steps(alloc, program.layout(), &run.outcome, entries, 1, last)?;
+    let lines = json_steps(
+        alloc,
+        program.layout(),
+        tree,
+        &run.outcome,
+        entries,
+        1,
+        last,
+    )?;
     facts.push_str(&lines)?;
     Ok(facts)
 }

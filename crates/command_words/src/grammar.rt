@@ -26,6 +26,8 @@ pub(crate) const FROM: &str = "from";
 
 pub(crate) const TO: &str = "to";
 
+pub(crate) const LOCALS: &str = "locals";
+
 pub(crate) const SVG: &str = "svg";
 
 pub(crate) const HTML: &str = "html";
@@ -213,6 +215,10 @@ fn over_steps<'a>(alloc: Global, words: &Subcommand) -> Result<Command<'a>, Allo
         .value_name("K")
         .default_value("4294967295")
         .help("The last statement that is told");
+    let locals = Arg::new(alloc, LOCALS)
+        .long(LOCALS)
+        .action(ArgAction::SetTrue)
+        .help("Tells of variables, locals and printed numbers too");
     let svg = Arg::new(alloc, SVG)
         .long(SVG)
         .action(ArgAction::SetTrue)
@@ -224,6 +230,7 @@ fn over_steps<'a>(alloc: Global, words: &Subcommand) -> Result<Command<'a>, Allo
     over_run(alloc, words)?
         .arg(from)?
         .arg(to)?
+        .arg(locals)?
         .arg(svg)?
         .arg(html)
 }

@@ -6,8 +6,8 @@ ghost use Rattle.std.specs.String.{string_bytes};
 ghost use Rattle.command_requests.specs.Words.{AsksForVersion, IsOfWords};
 
 use crate::grammar::{
-    BOUND, FILE, FORMAT, FROM, HTML, INPUT, LINES, MAP, RESERVE, SCHEDULE, SIZE, SVG, TO, WORD,
-    WORKERS, grammar,
+    BOUND, FILE, FORMAT, FROM, HTML, INPUT, LINES, LOCALS, MAP, RESERVE, SCHEDULE, SIZE, SVG, TO,
+    WORD, WORKERS, grammar,
 };
 use clap::ArgMatches;
 use clap::error::ErrorKind;
@@ -80,13 +80,14 @@ fn cost_words<'a>(words: &ArgMatches<'a>) -> Result<CostWords, Stop<'a>>
     Ok(CostWords { schedule, lines })
 }
 
-// Both are 0 where the command has no such options.
+// Both numbers are 0 where the command has no such options.
 fn step_words<'a>(words: &ArgMatches<'a>) -> Result<StepWords, Stop<'a>>
     ensures { IfErr result IsOfWords }
 {
     let from = number_of(words, FROM)?;
     let to = number_of(words, TO)?;
-    Ok(StepWords { from, to })
+    let locals = words.get_flag(LOCALS);
+    Ok(StepWords { from, to, locals })
 }
 
 fn run_words<'a>(words: &ArgMatches<'a>) -> Result<RunWords<'a>, Stop<'a>>

@@ -10,7 +10,7 @@ use Rattle.command_text.proofs.stepping.write_entries_and_outcome.Goals as goal
 pub returns-in_err-write_steps : goal.returns-in_err-write_steps
 returns-in_err-write_steps g c =
     let words = c.args.words in
-    let entries = steps_text c.args.layout.now c.args.manner.now words.from words.to (map entry_is c.args.entries.now) in
+    let entries = steps_text c.args.layout.now c.args.telling.now words.from words.to (map entry_is c.args.entries.now) in
     let outcome = shown c.args.layout.now (verdict_of c.args.outcome.now) in
     record {
       written = breaks_off _ _ _ _ _ entries outcome c.from_residual.result _ c.from_residual.ensures.1
@@ -20,7 +20,7 @@ returns-in_err-write_steps g c =
 pub returns : goal.returns
 returns g c =
     let words = c.args.words in
-    let entries = steps_text c.args.layout.now c.args.manner.now words.from words.to (map entry_is c.args.entries.now) in
+    let entries = steps_text c.args.layout.now c.args.telling.now words.from words.to (map entry_is c.args.entries.now) in
     let outcome = shown c.args.layout.now (verdict_of c.args.outcome.now) in
     record {
       written = closes _ _ _ _ _ c.show.result (goes_on _ _ _ _ _ entries outcome (starts _ _ (room _ c.requires.out)) refl
