@@ -11,7 +11,8 @@ ghost use Rattle.command_text.specs.Explained as spec;
 
 use command_facts::{Found, FoundCode, FoundRun, Halted};
 use diagnoses::{
-    Reason, run_reason, write_fault_sentence, write_refused_line, write_run_fault, write_stop_diagnosis,
+    Reason, run_reason, write_fault_sentence, write_refused_line, write_run_fault,
+    write_stop_diagnosis,
 };
 use pram_check::Program;
 use std::alloc::Global;

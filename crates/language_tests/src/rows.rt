@@ -72,6 +72,15 @@ pub(crate) fn call_on<R: Threads + Wait + Sync>(
     let mut out = Buffer::new(alloc);
     let mut err = Buffer::new(alloc);
     let words = owned.as_slice();
-    let status = command(rt, alloc, &CommandLine {}, words, terminal, &mut shelf, &mut out, &mut err);
+    let status = command(
+        rt,
+        alloc,
+        &CommandLine {},
+        words,
+        terminal,
+        &mut shelf,
+        &mut out,
+        &mut err,
+    );
     Ok(Said { status, out, err })
 }

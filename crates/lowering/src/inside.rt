@@ -32,7 +32,11 @@ fn step(out: &mut Emitter, s: &Step, vote: u16, base: u16) -> Result<(), AllocEr
             target,
             value,
         } => step_assign(out, location.line, target, value, base),
-        Step::While { location, test, body } => step_while(out, body, location.line, test, vote, base),
+        Step::While {
+            location,
+            test,
+            body,
+        } => step_while(out, body, location.line, test, vote, base),
         Step::If {
             location,
             test,

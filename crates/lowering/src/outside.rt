@@ -62,7 +62,11 @@ pub(crate) fn statement(out: &mut Emitter, s: &Statement, free: u16) -> Result<(
             value,
         } => assign(out, location.line, target, value, free),
         Statement::Print { location, value } => print(out, location.line, value, free),
-        Statement::While { location, test, body } => while_loop(out, body, location.line, test, free),
+        Statement::While {
+            location,
+            test,
+            body,
+        } => while_loop(out, body, location.line, test, free),
         Statement::If {
             location,
             test,

@@ -41,9 +41,11 @@ impl<'a> Interpreter<'a> {
                 target,
                 value,
             } => self.assign_on(run, listener, team, active, *location, target, value),
-            Step::While { location, test, body } => self.run_while_on(
-                run, listener, team, active, body, *location, test,
-            ),
+            Step::While {
+                location,
+                test,
+                body,
+            } => self.run_while_on(run, listener, team, active, body, *location, test),
             Step::If {
                 location,
                 test,

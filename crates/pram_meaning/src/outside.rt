@@ -150,9 +150,11 @@ impl<'a> Interpreter<'a> {
                 value,
             } => self.assign(run, listener, *location, target, value),
             Statement::Print { location, value } => self.print(run, listener, *location, value),
-            Statement::While { location, test, body } => self.run_while(
-                run, listener, body, *location, test,
-            ),
+            Statement::While {
+                location,
+                test,
+                body,
+            } => self.run_while(run, listener, body, *location, test),
             Statement::If {
                 location,
                 test,

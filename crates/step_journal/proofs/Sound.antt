@@ -66,9 +66,17 @@ all_on [] ys h g = g
 all_on (x ∷ xs) ys h g = (h.0, all_on xs ys h.1 g)
 
 ends_on : (p : Checked) (xs ys : List Entry) (k : Fault) → AllByRecursion HasRun xs → EndsIn p k ys → EndsIn p k (xs ++ ys)
-ends_on p xs ys k h (front, here, cause, acts, met, all, stands, why, is) =
-    (xs ++ front, here, cause, acts, met, all_on xs front h all, stands, why,
-    ap (λ zs. xs ++ zs) is ∙ sym (append_assoc xs front (Faulting here k cause acts met ∷ [])))
+ends_on p xs ys k h (front, here, cause, acts, met, all, stands, why, is) = (
+  xs ++ front,
+  here,
+  cause,
+  acts,
+  met,
+  all_on xs front h all,
+  stands,
+  why,
+  ap (λ zs. xs ++ zs) is ∙ sym (append_assoc xs front (Faulting here k cause acts met ∷ [])),
+)
 
 output_on : (m new : State) (xs ys : List Entry) (out : List ℤ) → m.output ++ items_of xs ≡ new.output →
     new.output ++ items_of ys ≡ out → m.output ++ items_of (xs ++ ys) ≡ out

@@ -59,11 +59,10 @@ pub ran_together : (p : Checked) (here : Location) (act : StepAction) (m : State
 ran_together p here act m xs acts cells variables locals items of mid_of new_of old mid new a c v l o s u t e =
     let same = cells_alone p act xs m in
     let variables_are = none_of_it m.uniforms variables v ∙ ap (difference m.uniforms) (sym same.0) in
-    let items_are = nothing_gained m.output items o ∙ ap (drop (length m.output)) (sym same.1) in
-    (
+    let items_are = nothing_gained m.output items o ∙ ap (drop (length m.output)) (sym same.1) in (
       t ∙ s,
       e ∙ ap (λ es. es ++ Ran here acts cells variables locals items ∷ []) u
-      ∙ ap (λ (x : Entry). old ++ x ∷ []) (λ i. Ran here (a i) (c i) (variables_are i) (l i) (items_are i)),
+          ∙ ap (λ (x : Entry). old ++ x ∷ []) (λ i. Ran here (a i) (c i) (variables_are i) (l i) (items_are i)),
     )
 
 -- what follows from an entry that was added, where something is kept

@@ -6,8 +6,8 @@ ghost use Rattle.step_entries.specs.Entries.{Faulting, Ran, act_is, entry_is};
 
 use pram_check::Program;
 use pram_meaning::slate::Slate;
-use std::alloc::{AllocError, Global};
 use pram_tokens::Location;
+use std::alloc::{AllocError, Global};
 use step_entries::{Act, Cause, Change, Entry, LocalChange};
 use write_rules::Fault;
 

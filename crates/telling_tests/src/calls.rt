@@ -75,7 +75,16 @@ pub(crate) fn call<R: Threads + Wait + Sync>(
     let mut shelf = Shelf { program, input };
     let mut out = Buffer::new(alloc);
     let mut err = Buffer::new(alloc);
-    let status = command(rt, alloc, &CommandLine {}, words, SILENT, &mut shelf, &mut out, &mut err);
+    let status = command(
+        rt,
+        alloc,
+        &CommandLine {},
+        words,
+        SILENT,
+        &mut shelf,
+        &mut out,
+        &mut err,
+    );
     Ok(Said { status, out, err })
 }
 
