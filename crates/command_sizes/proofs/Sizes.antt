@@ -13,7 +13,6 @@ use Rattle.sized_texts.specs.Pieces.{Expansion, pieces_of}
 use Rattle.sized_texts.specs.Reading.{◌>>=◌}
 use Rattle.sized_texts.specs.SizeLines.{is_none, sizes_of}
 use Rattle.sized_texts.specs.Sizes.{value_in}
-use Rattle.sized_texts.specs.declared.fault.SizeFault.{SizeFault}
 use Rattle.sized_texts.specs.declared.fault.SizeFault.TheVariants.{NotDeclared, TooLong}
 use Rattle.sized_texts.specs.declared.size.Size.{Size}
 use Rattle.sized_texts.specs.declared.stop.Wrong.{Wrong}

@@ -1,5 +1,5 @@
 -- What stands at the front of an expression: white space, a token, a number.
-use Rattle.std.specs.Prelude.{ℕ, ◌==◌, Bool, ◌||◌, if◌then◌else◌, List, [], ◌∷◌, max, take, drop, codes, Result, Err}
+use Rattle.std.specs.Prelude.{ℕ, ◌==◌, Bool, ◌||◌, if◌then◌else◌, List, [], ◌∷◌, max, take, drop, Result, Err}
 use Rattle.std.specs.List.{prefix_len}
 use Rattle.pram_model.specs.Names.{is_word}
 use Rattle.pram_tokens.specs.Input.{are_digits}

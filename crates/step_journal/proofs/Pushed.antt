@@ -1,5 +1,5 @@
 -- What is told, with one entry more, and lists that gain items.
-use Rattle.std.proofs.Common.{◌≡◌, ℕ, ℤ, List, [], ◌∷◌, ◌++◌, append-nil, Option, Vec, Global, map, drop, length, refl, ap, sym, ◌∙◌}
+use Rattle.std.proofs.Common.{◌≡◌, ℤ, List, [], ◌∷◌, ◌++◌, append-nil, Option, Vec, Global, map, drop, length, refl, ap, sym, ◌∙◌}
 use Rattle.pram_tokens.specs.declared.token.Location.{Location}
 use Rattle.step_entries.specs.declared.local_change.LocalChange.{LocalChange}
 use Rattle.write_rules.specs.declared.fault.Fault.{Fault}

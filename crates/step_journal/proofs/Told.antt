@@ -1,5 +1,5 @@
 -- What a journal of a program's run is told of one moment, as an entry.
-use Rattle.std.proofs.Common.{◌≡◌, ℕ, ℤ, Result, Ok, Err, List, [], ◌∷◌, ◌++◌, Option, None, Some, map, drop, length, refl, ap, sym}
+use Rattle.std.proofs.Common.{◌≡◌, ℤ, Result, Ok, Err, List, [], ◌∷◌, ◌++◌, Option, None, Some, map, drop, length, refl, ap, sym}
 use Rattle.std.proofs.Common.{◌∙◌}
 use Rattle.step_entries.specs.declared.local_change.LocalChange.{LocalChange}
 use Rattle.pram_tokens.specs.declared.token.Location.{Location}
@@ -10,9 +10,8 @@ use Rattle.pram_meaning.specs.declared.key.Key.{Key}
 use Rattle.pram_meaning.specs.Attempt.{Effect, Fails, Gives, Trail}
 use Rattle.pram_meaning.specs.Conflict.{Part}
 use Rattle.pram_meaning.specs.Listening.{done_by, done_on}
-use Rattle.pram_meaning.specs.Moments.{Action, Alone, AssignsOn, ChoosesOn, Moment, StepAction, Together, TurnsOn}
+use Rattle.pram_meaning.specs.Moments.{Action, Alone, AssignsOn, ChoosesOn, StepAction, Together, TurnsOn}
 use Rattle.pram_meaning.specs.Store.{State}
-use Rattle.std.specs.List.{flat_map}
 use Rattle.std.specs.Result.{OnOk}
 use Rattle.step_entries.specs.declared.change.Change.{Change}
 use Rattle.step_entries.specs.Causes.{Cause}
@@ -20,7 +19,7 @@ use Rattle.step_entries.specs.Entries.{Act, Entry, Faulting, Ran}
 use Rattle.fault_causes.specs.Causes.{cause_on}
 use Rattle.step_journal.specs.Acts.{act_before, act_of, alone_acts, front}
 use Rattle.step_journal.specs.Changes.{difference}
-use Rattle.step_journal.specs.Entries.{entries_of, fault_alone, fault_on, why_alone}
+use Rattle.step_journal.specs.Entries.{fault_alone, fault_on, why_alone}
 use Rattle.step_journal.specs.HeardLaws.{Heard}
 use Rattle.step_journal.specs.Locals.{locals_changed}
 use Rattle.step_journal.specs.Meeting.{meeting}
