@@ -41,7 +41,7 @@ fn manner_of<'t>(on: Terminal, text: &'t [u8]) -> Manner<'t>
     }
 }
 
-// What is told of each, by the names in this tree.
+// What is told of each entry, by the names in this tree.
 fn detail_of<'t>(locals: bool, tree: &'t Tree) -> Detail<'t>
     ensures { spec.IsDetail locals tree.now result }
 {
@@ -49,6 +49,16 @@ fn detail_of<'t>(locals: bool, tree: &'t Tree) -> Detail<'t>
         Detail::Locals(tree)
     } else {
         Detail::Cells
+    }
+}
+
+// How entries are written, and what is told of each.
+fn telling_of<'t>(on: Terminal, text: &'t [u8], locals: bool, tree: &'t Tree) -> Telling<'t>
+    ensures { spec.IsTelling on text.now locals tree.now result }
+{
+    Telling {
+        manner: manner_of(on, text),
+        detail: detail_of(locals, tree),
     }
 }
 
@@ -99,14 +109,11 @@ fn write_in_words<'a, O: Out>(
     ensures written { (text : List ℕ) × texts.IsInWords on run.now (map entry_is entries.now) text
         × Wrote (status_of run.now.outcome) text (O.Out.state out.old) (O.Out.state out.new) result }
 {
-    let program = &run.loaded.program;
-    let layout = program.layout();
-    let words = run.words.steps;
-    let telling = Telling {
-        manner: manner_of(on, run.loaded.source.bytes.as_slice()),
-        detail: detail_of(words.locals, program.tree()),
-    };
-    write_told(out, layout, &run.outcome, entries, &telling, words)
+    let layout = run.loaded.program.layout();
+    let text = run.loaded.source.bytes.as_slice();
+    let tree = run.loaded.program.tree();
+    let telling = telling_of(on, text, run.words.steps.locals, tree);
+    write_told(out, layout, &run.outcome, entries, &telling, run.words.steps)
 }
 
 // Writes a picture of a run's statements.
