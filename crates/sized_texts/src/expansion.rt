@@ -59,8 +59,9 @@ fn expanded(alloc: Global, sizes: &[Size], text: &[u8]) -> Result<Expanded, Size
 /// offset in the text that it came from; all bytes of an expression's number came from its brace. A text without a line
 /// `# size NAME = VALUE` before its first token is itself. Of two given numbers of one name the first is taken.
 ///
-/// `SizeFault::BadSize` (E19) stands at the first size line or place of an expression that is wrong. Then the first given name that is
-/// no size is `SizeFault::NotDeclared`, and an expansion of more than 1,048,576 bytes is `SizeFault::TooLong` (E2).
+/// `SizeFault::BadSize` (E19) stands at the first size line that is wrong; behind that the first given name that is no size is
+/// `SizeFault::NotDeclared`; and then `SizeFault::BadSize` stands at the first place of an expression that is wrong, or the expansion has
+/// more than 1,048,576 bytes, which is `SizeFault::TooLong` (E2).
 /// `SizeFault::OutOfMemory` (E16) says that memory was refused.
 pub fn expand(alloc: Global, text: &[u8], given: &[Size]) -> Result<Expanded, SizeFault>
     requires fits { length text.now ≤ longest }
