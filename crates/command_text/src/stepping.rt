@@ -113,7 +113,14 @@ fn write_in_words<'a, O: Out>(
     let text = run.loaded.source.bytes.as_slice();
     let tree = run.loaded.program.tree();
     let telling = telling_of(on, text, run.words.steps.locals, tree);
-    write_told(out, layout, &run.outcome, entries, &telling, run.words.steps)
+    write_told(
+        out,
+        layout,
+        &run.outcome,
+        entries,
+        &telling,
+        run.words.steps,
+    )
 }
 
 // Writes a picture of a run's statements.
