@@ -34,7 +34,8 @@ code_stops holds name most text (stop.Refused refusal.OutOfMemory) (about.Line s
 code_stops holds name most text (stop.Refused refusal.OutOfMemory) (about.Values values cells) read h = absurd h
 code_stops holds name most text (stop.NotVerified at word) about.Nothing read h = absurd h
 code_stops holds name most text (stop.NotVerified at word) (about.Text s) read h = absurd h
-code_stops holds name most text (stop.NotVerified at word) (about.Line s line) read h = (subst (IsReadFrom holds most) (sym h.0) read, h.1, h.2)
+code_stops holds name most text (stop.NotVerified at word) (about.Line s line) read h =
+    (subst (IsReadFrom holds most) (sym h.0) read, h.1, h.2)
 code_stops holds name most text (stop.NotVerified at word) (about.Values values cells) read h = absurd h
 code_stops holds name most text (stop.BadListing at) a read h = absurd h
 code_stops holds name most text stop.WriteFailed a read h = absurd h

@@ -63,7 +63,8 @@ module _ (holds : List ℕ → Option (List ℕ) → Type 0) (words : RunWords) 
   told_with n m v c = subst (λ (x : ℕ). IsToldWith r x m h.about) v (subst (λ (x : ℕ). IsToldWith r values x h.about) c told)
 
   -- the run of the file's program
-  pub stops_at_run : (verb : Verb) (file : ProgramFile) (l : Loaded) → IsLoaded (holds file.name.now) file l → values ≡ length input → cells ≡ total_size l.program.layout →
+  pub stops_at_run : (verb : Verb) (file : ProgramFile) (l : Loaded) → IsLoaded (holds file.name.now) file l → values ≡ length input →
+      cells ≡ total_size l.program.layout →
       IsRunRefusedBy verb l.program given words r → StopsAtRun holds verb file words h
   stops_at_run verb file l is v c why = record {
     program = l.program;
@@ -75,7 +76,8 @@ module _ (holds : List ℕ → Option (List ℕ) → Type 0) (words : RunWords) 
   }
 
   -- the run of its code
-  pub stops_at_code_run : (file : List ℕ) (code : SuperstepCode) → IsListingIn (holds file) code → IsWellFormed code → values ≡ length input →
+  pub stops_at_code_run : (file : List ℕ) (code : SuperstepCode) → IsListingIn (holds file) code → IsWellFormed code →
+      values ≡ length input →
       cells ≡ total_size code.layout → IsCodeRefusedWith code given words.options words.reserve r → StopsAtCodeRun holds file words h
   stops_at_code_run file code is verified v c why = record {
     code = code;

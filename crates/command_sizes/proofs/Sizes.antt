@@ -58,7 +58,8 @@ module _ {A : Type 0} (v : A → List ℕ) (words : List A) (i : ℕ) (d : A) (i
       ∙ ap (λ (rest : List A). map v (take i words) ++ map v rest) (drop_more words i d inside)
 
   -- and if it doesn't, it is the first one
-  first_wrong : (before : List Size) (told : List ℕ) → before ≡ sizes → told ≡ v (get_or words i d) → IsNoNewSize before (v (get_or words i d)) →
+  first_wrong : (before : List Size) (told : List ℕ) → before ≡ sizes → told ≡ v (get_or words i d) →
+      IsNoNewSize before (v (get_or words i d)) →
       IsFirstWrong (map v words) told
   first_wrong before told same is wrong = record {
     front = map v (take i words);

@@ -157,7 +157,8 @@ fn write_beyond<W: Out>(
     subscript: &i64,
 ) -> Result<(), WriteFault>
     requires counted { (W.Out.state out.old).failures < 2 ^ 63 }
-    ensures written { Writes (W.Out.state out.old) (W.Out.state out.new) (spec.beyond_text subscript.now (slice_get layout.now entry)) result }
+    ensures written { Writes (W.Out.state out.old) (W.Out.state out.new)
+    (spec.beyond_text subscript.now (slice_get layout.now entry)) result }
 {
     if entry < layout.len() {
         write_subscript(out, layout, entry, subscript)
@@ -298,7 +299,8 @@ pub(crate) fn write_cause<W: Out>(
     cause: &Cause,
 ) -> Result<(), WriteFault>
     requires counted { (W.Out.state out.old).failures < 2 ^ 63 }
-    ensures written { Writes (W.Out.state out.old) (W.Out.state out.new) (spec.cause_text layout.now kind who.now (cause_is cause.now)) result }
+    ensures written { Writes (W.Out.state out.old) (W.Out.state out.new)
+    (spec.cause_text layout.now kind who.now (cause_is cause.now)) result }
 {
     match cause {
         Cause::Between {

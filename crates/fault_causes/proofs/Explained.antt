@@ -134,7 +134,8 @@ module _ (p : Checked) where
     width_told : (a b : ℤ) (t : Trail) → Explains p (ranged p.procs a (width a b) t) (cause_of_width p.procs a b)
     width_told a b t = by (nat_lt p.procs (width a b)) refl where
       by : (z : Bool) → nat_lt p.procs (width a b) ≡ z →
-          Explains {A = ℤ × ℕ} p (if z then Fails (next t) TooWide else Gives (next t) (a, width a b)) (if z then Some (Wide a b p.procs) else None)
+          Explains {A = ℤ × ℕ} p (if z then Fails (next t) TooWide else Gives (next t) (a, width a b))
+          (if z then Some (Wide a b p.procs) else None)
       by true e = (refl, refl, grind (arith, e))
       by false e = refl
 

@@ -14,7 +14,8 @@ use Rattle.fault_causes.specs.Causes.{and_find, links_or_cause, unless_wrong, va
 abbrev pub items_or_cause : View → List Link → ℤ → Result ℤ Cause
 items_or_cause s [] v = Ok v
 items_or_cause s (l ∷ ls) v =
-    and_find (value_or_cause s l.operand) (λ w. and_find (unless_wrong (Between v l.operator w) (operate l.operator v w)) (items_or_cause s ls))
+    and_find (value_or_cause s l.operand) (λ w. and_find (unless_wrong (Between v l.operator w) (operate l.operator v w))
+    (items_or_cause s ls))
 
 items_are_links : (s : View) {n : _} (k : Row_of-Link n) (v : ℤ) → items_or_cause s (items-the_row-Link n k) v ≡ links_or_cause s k v
 items_are_links s end_of-Link v = refl

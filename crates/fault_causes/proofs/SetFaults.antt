@@ -70,7 +70,8 @@ itself i (Fails t d) k h =
           ∙ kind_same,
     )
 
-module _ (p : Checked) (m : State) (a : View → Attempt Effect) (f : ℕ → Option Cause) (told : (v : ℕ) → Explains p (a (seen_by p m v)) (f v))
+module _ (p : Checked) (m : State) (a : View → Attempt Effect) (f : ℕ → Option Cause)
+    (told : (v : ℕ) → Explains p (a (seen_by p m v)) (f v))
     (k : Key) where
   -- it is one of those behind the first
   abbrev Later : List ℕ → Part → Type 0

@@ -80,7 +80,8 @@ fn put_beyond(
     entry: usize,
     subscript: &i64,
 ) -> Result<(), AllocError>
-    ensures { OnOk result (shown object.new ≡ with_fields (spec.beyond_fields subscript.now (slice_get layout.now entry)) (shown object.old)) }
+    ensures { OnOk result (shown object.new ≡ with_fields (spec.beyond_fields subscript.now (slice_get layout.now entry))
+    (shown object.old)) }
 {
     if entry < layout.len() {
         let range = layout.range(entry);

@@ -110,7 +110,8 @@ while_is free here s e body w u is h =
     h ∙ sym (ap (λ p. wrote (while_code true w.held (length w.instructions) here.line free (formula_of e) p) false w) (part_is free body))
     ∙ ap (λ s. wrote (code true free (length w.instructions) w.held s) (left w.held s) w) (sym is)
 
-pub for_is : (free : ℕ) (here : Location) (x : ℕ) (s : Statement) (e f : Expression) (body : Vec Statement Global) (t : Turns) (w0 w1 w2 : Written) →
+pub for_is : (free : ℕ) (here : Location) (x : ℕ) (s : Statement) (e f : Expression) (body : Vec Statement Global) (t : Turns)
+    (w0 w1 w2 : Written) →
     s ≡ statement.For here x e f body →
     t ≡ record { turn = turn free; high = high free; more = more free; behind = behind_turns free } →
     w1 ≡ wrote (bounds w0.held here.line t (formula_of e) (formula_of f)) false w0 →
@@ -125,7 +126,8 @@ for_is free here x s e f body t w0 w1 w2 is ts h1 h2 =
     (behind_turns free) body))
     ∙ ap (λ s. wrote (code true free n w0.held s) (left w0.held s) w0) (sym is)
 
-pub if_is : (free : ℕ) (here : Location) (source over : ℕ) (s : Statement) (e : Expression) (a b : Vec Statement Global) (w0 w1 w2 w3 w4 : Written) →
+pub if_is : (free : ℕ) (here : Location) (source over : ℕ) (s : Statement) (e : Expression) (a b : Vec Statement Global)
+    (w0 w1 w2 w3 w4 : Written) →
     s ≡ statement.If here e a b → source ≡ value_at Uniform free (formula_of e) → w1 ≡ wrote (parted w0.held here.line free
     (formula_of e)) false w0 →
     over ≡ length w1.instructions → w2 ≡ added (Halt ∷ []) w1 →
@@ -137,8 +139,10 @@ if_is free here source over s e a b w0 w1 w2 w3 w4 is src h1 o h2 h3 h4 =
     joined_is (parted w0.held here.line free f) source over free (λ start h. part free h a.items start) b.items w0 w1 w2 w3 w4 h1 o h2 h3 h4
     ∙ ap (λ r. wrote (parted w0.held here.line free f ++ chosen (n + length (parted w0.held here.line free f)) r
     (part free false a.items (n + length (parted w0.held here.line free f) + 1)) (are_some b.items) (part free false b.items)) false w0) src
-    ∙ sym (ap (λ p. wrote (if_code true w0.held n here.line free f p (are_some b.items) (part free false b.items)) false w0) (part_is free a))
-    ∙ sym (ap (λ x. wrote (if_code true w0.held n here.line free f (row_part free a) x (part free false b.items)) false w0) (some_of_part b))
+    ∙ sym (ap (λ p. wrote (if_code true w0.held n here.line free f p (are_some b.items) (part free false b.items)) false w0)
+    (part_is free a))
+    ∙ sym (ap (λ x. wrote (if_code true w0.held n here.line free f (row_part free a) x (part free false b.items)) false w0)
+    (some_of_part b))
     ∙ sym (ap (λ p. wrote (if_code true w0.held n here.line free f (row_part free a) (has_part (hidden-the_row-Statement-0 b)) p) false w0)
     (part_is free b))
     ∙ ap (λ s. wrote (code true free n w0.held s) (left w0.held s) w0) (sym is)

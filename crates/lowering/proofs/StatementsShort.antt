@@ -45,7 +45,8 @@ pub room_of_each : (free : ℕ) (items all : List Statement) (i : ℕ) (s : Stat
     s ≡ get_or items i s → StatementsHaveRoom free all → StatementHasRoom free s
 room_of_each free items all i s same h e r = room_at free items i s h e (subst (StatementsHaveRoom free) (sym same) r)
 
-pub while_room : (free : ℕ) (here : Location) (s : Statement) (e : Expression) (body : Vec Statement Global) → s ≡ statement.While here e body →
+pub while_room : (free : ℕ) (here : Location) (s : Statement) (e : Expression) (body : Vec Statement Global) →
+    s ≡ statement.While here e body →
     StatementHasRoom free s → IsRoomFor (formula_of e) free × StatementsHaveRoom free body.items
 while_room free here s e body is h = let r = subst (StatementHasRoom free) is h in (r.0, room_of_block free body r.1)
 
@@ -54,7 +55,8 @@ pub if_room : (free : ℕ) (here : Location) (s : Statement) (e : Expression) (a
 if_room free here s e a b is h =
     let r = subst (StatementHasRoom free) is h in (r.0, room_of_block free a r.1, room_of_block free b r.2)
 
-pub for_room : (free : ℕ) (here : Location) (x : ℕ) (s : Statement) (e f : Expression) (body : Vec Statement Global) → s ≡ statement.For here x e f body →
+pub for_room : (free : ℕ) (here : Location) (x : ℕ) (s : Statement) (e f : Expression) (body : Vec Statement Global) →
+    s ≡ statement.For here x e f body →
     StatementHasRoom free s → (free + 3 < 2 ^ 16) × (x + 1 < 2 ^ 16) × IsRoomFor (Pair (formula_of e) (formula_of f)) (behind_turns free)
     × StatementsHaveRoom (behind_turns free) body.items
 for_room free here x s e f body is h =
@@ -75,7 +77,8 @@ while_short free here s e body w is h =
     let l = as_long loop (code true free n w.held s) false (left w.held s) w (while_is free here s e body w (wrote loop false w) is refl) in
     omega (arith, l, h)
 
-pub for_short : (free : ℕ) (here : Location) (x : ℕ) (s : Statement) (e f : Expression) (body : Vec Statement Global) (t : Turns) (w0 w1 : Written) →
+pub for_short : (free : ℕ) (here : Location) (x : ℕ) (s : Statement) (e f : Expression) (body : Vec Statement Global) (t : Turns)
+    (w0 w1 : Written) →
     s ≡ statement.For here x e f body →
     t ≡ record { turn = turn free; high = high free; more = more free; behind = behind_turns free } →
     w1 ≡ wrote (bounds w0.held here.line t (formula_of e) (formula_of f)) false w0 → IsShort free s w0 →
@@ -87,7 +90,8 @@ for_short free here x s e f body t w0 w1 is ts h1 h =
     let m = length-append w1.instructions turns in
     omega (arith, l, m, h)
 
-if_end : (free : ℕ) (here : Location) (source over : ℕ) (s : Statement) (e : Expression) (a b : Vec Statement Global) (w0 w1 w2 w3 : Written) →
+if_end : (free : ℕ) (here : Location) (source over : ℕ) (s : Statement) (e : Expression) (a b : Vec Statement Global)
+    (w0 w1 w2 w3 : Written) →
     s ≡ statement.If here e a b → source ≡ value_at Uniform free (formula_of e) →
     w1 ≡ wrote (parted w0.held here.line free (formula_of e)) false w0 → over ≡ length w1.instructions → w2 ≡ added (Halt ∷ []) w1 →
     w3 ≡ wrote (part free w2.held a.items (length w2.instructions)) false w2 →
@@ -97,7 +101,8 @@ if_end free here source over s e a b w0 w1 w2 w3 is src h1 o h2 h3 =
     length_of (code true free (length w0.instructions) w0.held s) (left w0.held s) w0 (joined over source free b.items w3)
     (if_is free here source over s e a b w0 w1 w2 w3 (joined over source free b.items w3) is src h1 o h2 h3 refl)
 
-pub joined_short : (free : ℕ) (here : Location) (source over : ℕ) (s : Statement) (e : Expression) (a b : Vec Statement Global) (w0 w1 w2 w3 : Written) →
+pub joined_short : (free : ℕ) (here : Location) (source over : ℕ) (s : Statement) (e : Expression) (a b : Vec Statement Global)
+    (w0 w1 w2 w3 : Written) →
     s ≡ statement.If here e a b → source ≡ value_at Uniform free (formula_of e) →
     w1 ≡ wrote (parted w0.held here.line free (formula_of e)) false w0 → over ≡ length w1.instructions → w2 ≡ added (Halt ∷ []) w1 →
     w3 ≡ wrote (part free w2.held a.items (length w2.instructions)) false w2 → IsShort free s w0 →
@@ -113,7 +118,8 @@ over_inside free over a w1 w2 w3 o h2 h3 =
     let m = length_of (part free w2.held a (length w2.instructions)) false w2 w3 h3 in
     omega (arith, o, l, m)
 
-pub then_short : (free : ℕ) (here : Location) (source : ℕ) (s : Statement) (e : Expression) (a b : Vec Statement Global) (w0 w1 w2 : Written) →
+pub then_short : (free : ℕ) (here : Location) (source : ℕ) (s : Statement) (e : Expression) (a b : Vec Statement Global)
+    (w0 w1 w2 : Written) →
     s ≡ statement.If here e a b → source ≡ value_at Uniform free (formula_of e) →
     w1 ≡ wrote (parted w0.held here.line free (formula_of e)) false w0 → w2 ≡ added (Halt ∷ []) w1 → IsShort free s w0 →
     length w2.instructions + length (part free w2.held a.items (length w2.instructions)) < 2 ^ 16

@@ -81,7 +81,8 @@ steps_more v base items i s w0 w1 w2 e1 h is e2 =
 
 -- ---- a statement of each kind
 
-pub while_is : (v base : ℕ) (here : Location) (s : Step) (e : Expression) (body : Vec Step Global) (w u : Written) → s ≡ step.While here e body →
+pub while_is : (v base : ℕ) (here : Location) (s : Step) (e : Expression) (body : Vec Step Global) (w u : Written) →
+    s ≡ step.While here e body →
     u ≡ wrote (step_while v base (length w.instructions) w.held here.line (formula_of e) body.items) false w →
     u ≡ wrote (step_code (frame v) base (length w.instructions) w.held s) (step_left w.held s) w
 while_is v base here s e body w u is h =

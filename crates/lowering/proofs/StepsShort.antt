@@ -41,12 +41,14 @@ pub room_of_each : (base : ℕ) (items all : List Step) (i : ℕ) (s : Step) →
     StepsHaveRoom base all → StepHasRoom base s
 room_of_each base items all i s same h e r = room_at base items i s h e (subst (StepsHaveRoom base) (sym same) r)
 
-pub while_room : (base : ℕ) (here : Location) (s : Step) (e : Expression) (body : Vec Step Global) → s ≡ step.While here e body → StepHasRoom base s →
+pub while_room : (base : ℕ) (here : Location) (s : Step) (e : Expression) (body : Vec Step Global) → s ≡ step.While here e body →
+    StepHasRoom base s →
     (base + 1 < 2 ^ 16) × IsRoomFor (formula_of e) (base + 1) × StepsHaveRoom (base + 1) body.items
 while_room base here s e body is h =
     let r = subst (StepHasRoom base) is h in (r.0, r.1, room_of_part (base + 1) body r.2)
 
-pub if_room : (base : ℕ) (here : Location) (s : Step) (e : Expression) (a b : Vec Step Global) → s ≡ step.If here e a b → StepHasRoom base s →
+pub if_room : (base : ℕ) (here : Location) (s : Step) (e : Expression) (a b : Vec Step Global) → s ≡ step.If here e a b →
+    StepHasRoom base s →
     IsRoomFor (formula_of e) base × StepsHaveRoom base a.items × StepsHaveRoom base b.items
 if_room base here s e a b is h =
     let r = subst (StepHasRoom base) is h in (r.0, room_of_part base a r.1, room_of_part base b r.2)
@@ -57,7 +59,8 @@ if_room base here s e a b is h =
 abbrev IsShort : (v base : ℕ) → Step → Written → Type 0
 IsShort v base s w = length w.instructions + length (step_code (frame v) base (length w.instructions) w.held s) < 2 ^ 16
 
-pub while_short : (v base : ℕ) (here : Location) (s : Step) (e : Expression) (body : Vec Step Global) (w : Written) → s ≡ step.While here e body →
+pub while_short : (v base : ℕ) (here : Location) (s : Step) (e : Expression) (body : Vec Step Global) (w : Written) →
+    s ≡ step.While here e body →
     IsShort v base s w →
     length w.instructions + length (step_while v base (length w.instructions) w.held here.line (formula_of e) body.items) < 2 ^ 16
 while_short v base here s e body w is h =
@@ -82,13 +85,15 @@ if_end v base here s e a b w0 w1 w2 is h1 h2 =
     let n = length-append w3.instructions (Unmask ∷ []) in
     omega (arith, l, m, n)
 
-pub else_short : (v base : ℕ) (here : Location) (s : Step) (e : Expression) (a b : Vec Step Global) (w0 w1 w2 : Written) → s ≡ step.If here e a b →
+pub else_short : (v base : ℕ) (here : Location) (s : Step) (e : Expression) (a b : Vec Step Global) (w0 w1 w2 : Written) →
+    s ≡ step.If here e a b →
     w1 ≡ wrote (masked w0.held here.line base (formula_of e)) (still w0.held (formula_of e)) w0 →
     w2 ≡ wrote (steps_code (frame v) base (length w1.instructions) w1.held a.items) (steps_left w1.held a.items) w1 → IsShort v base s w0 →
     length w2.instructions + length (step_else v base (length w2.instructions) w2.held b.items) < 2 ^ 16
 else_short v base here s e a b w0 w1 w2 is h1 h2 h = let l = if_end v base here s e a b w0 w1 w2 is h1 h2 in omega (arith, l, h)
 
-pub then_short : (v base : ℕ) (here : Location) (s : Step) (e : Expression) (a b : Vec Step Global) (w0 w1 : Written) → s ≡ step.If here e a b →
+pub then_short : (v base : ℕ) (here : Location) (s : Step) (e : Expression) (a b : Vec Step Global) (w0 w1 : Written) →
+    s ≡ step.If here e a b →
     w1 ≡ wrote (masked w0.held here.line base (formula_of e)) (still w0.held (formula_of e)) w0 → IsShort v base s w0 →
     length w1.instructions + length (steps_code (frame v) base (length w1.instructions) w1.held a.items) < 2 ^ 16
 then_short v base here s e a b w0 w1 is h1 h =

@@ -214,7 +214,8 @@ mutual
       (attempted_on w n here.line (λ s. attempt_step s x e) vs) (λ xs m. Goes tt (assigned_by w x xs m))
       (agree_attempted w n here.line (λ s. attempt_step s x e) vs) (λ xs. agree_end n (λ m. tt) (assigned_by w x xs) (set_count w x xs))
   agree_on w n (step.If' here e q a r b) vs =
-      agree_then n (AttemptedOn w here.line (λ s. attempt_value s e) vs) (λ xs m. Then (Unit {0}) (Unit {0}) (MeansRowOn w a (those true xs) m)
+      agree_then n (AttemptedOn w here.line (λ s. attempt_value s e) vs)
+      (λ xs m. Then (Unit {0}) (Unit {0}) (MeansRowOn w a (those true xs) m)
       (λ u. MeansRowOn w b (those false xs)))
       (attempted_on w n here.line (λ s. attempt_value s e) vs)
       (λ xs m. then_do (perform_row_on w n a (those true xs) m) (λ u. perform_row_on w n b (those false xs)))
@@ -222,9 +223,11 @@ mutual
       (λ xs. agree_then n (MeansRowOn w a (those true xs)) (λ u. MeansRowOn w b (those false xs)) (perform_row_on w n a (those true xs))
       (λ u. perform_row_on w n b (those false xs)) (agree_row_on w n a (those true xs)) (λ u. agree_row_on w n b (those false xs)))
   agree_on w n (step.While' here e q body) vs =
-      agree_loop_on n (AttemptedOn w here.line (λ s. attempt_value s e)) (MeansRowOn w body) (attempted_on w n here.line (λ s. attempt_value s e))
+      agree_loop_on n (AttemptedOn w here.line (λ s. attempt_value s e)) (MeansRowOn w body)
+      (attempted_on w n here.line (λ s. attempt_value s e))
       (perform_row_on w n body)
-      (agree_attempted w n here.line (λ s. attempt_value s e)) (agree_row_on w n body) (attempted_counts w here.line (λ s. attempt_value s e)) vs
+      (agree_attempted w n here.line (λ s. attempt_value s e)) (agree_row_on w n body)
+      (attempted_counts w here.line (λ s. attempt_value s e)) vs
 
   agree_row_on : (w : Checked) (n : ℕ) {k : _} (ss : Row_of-Step k) (vs : List ℕ) → Agree (Unit {0}) n (MeansRowOn w ss vs)
       (perform_row_on w n ss vs)

@@ -41,7 +41,8 @@ told_goes H n here act write left a m mid t v from late is at h =
     let P : List Moment → Type 0 = λ ms. H from ms late in
     subst P (sym (told n here act write left a m mid (Gives t v) is at)) h
 
-pub told_fails : {S : Type 0} (H : S → List Moment → S → Type 0) {A : Type 0} (n : ℕ) (here : Location) (act : Action) (write : A → Option ℕ)
+pub told_fails : {S : Type 0} (H : S → List Moment → S → Type 0) {A : Type 0} (n : ℕ) (here : Location) (act : Action)
+    (write : A → Option ℕ)
     (left : A → State → State) (a : State → Attempt A) (m mid : State) (t : Trail) (k : Kind) (from late : S) →
     counted n m ≡ Goes tt mid → a mid ≡ Fails t k → H from (Alone here act mid (Fails t k) mid ∷ []) late →
     H from (alone_moment n here act write left a m) late

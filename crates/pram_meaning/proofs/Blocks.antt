@@ -37,18 +37,21 @@ pub if_is : (w : Checked) (n : ℕ) (here : Location) (e : Expression) (a b : Ve
     perform w n (If here e a b) m ≡ then_do (tested w n here.line e m)
     (λ z m. if z then perform_list w n a.items m else perform_list w n b.items m)
 if_is w n here e a b m =
-    ap (λ f. then_do (tested w n here.line e m) (λ z m. if z then f m else perform_row w n (hidden-the_row-Statement-0 b) m)) (block_is w n a)
+    ap (λ f. then_do (tested w n here.line e m) (λ z m. if z then f m else perform_row w n (hidden-the_row-Statement-0 b) m))
+    (block_is w n a)
     ∙ ap (λ f. then_do (tested w n here.line e m) (λ z m. if z then perform_list w n a.items m else f m)) (block_is w n b)
 
 -- ---- a statement of each kind, from what its own function answers
 
-pub assign_arm : (w : Checked) (n : ℕ) (here : Location) (s : Statement) (x : Target) (e : Expression) (m new : State) (r : Result (Unit {0}) Halt) →
+pub assign_arm : (w : Checked) (n : ℕ) (here : Location) (s : Statement) (x : Target) (e : Expression) (m new : State)
+    (r : Result (Unit {0}) Halt) →
     s ≡ Assign here x e → IsBehaviour r new (then_do (evaluated n here.line (λ m. attempt_assign (seen w m) x e) m)
     (λ g m. Goes tt (assigned x g m))) → IsBehaviour r new (perform w n s m)
 assign_arm w n here s x e m new r is h = rw is h
 
 pub print_arm : (w : Checked) (n : ℕ) (here : Location) (s : Statement) (e : Expression) (m new : State) (r : Result (Unit {0}) Halt) →
-    s ≡ Print here e → IsBehaviour r new (then_do (found w n here.line e m) (λ v m. Goes tt (printed v m))) → IsBehaviour r new (perform w n s m)
+    s ≡ Print here e → IsBehaviour r new (then_do (found w n here.line e m) (λ v m. Goes tt (printed v m))) →
+    IsBehaviour r new (perform w n s m)
 print_arm w n here s e m new r is h = rw is h
 
 pub while_arm : (w : Checked) (n : ℕ) (here : Location) (s : Statement) (e : Expression) (body : Vec Statement Global) (m new : State)
@@ -57,17 +60,21 @@ pub while_arm : (w : Checked) (n : ℕ) (here : Location) (s : Statement) (e : E
 while_arm w n here s e body m new r is h = let P : Done → Type 0 = IsBehaviour r new in
     subst P (sym (ap (λ s. perform w n s m) is ∙ while_is w n here e body m)) h
 
-if_arm : (w : Checked) (n : ℕ) (here : Location) (s : Statement) (e : Expression) (a b : Vec Statement Global) (m : State) → s ≡ If here e a b →
+if_arm : (w : Checked) (n : ℕ) (here : Location) (s : Statement) (e : Expression) (a b : Vec Statement Global) (m : State) →
+    s ≡ If here e a b →
     perform w n s m ≡ then_do (tested w n here.line e m) (λ z m. if z then perform_list w n a.items m else perform_list w n b.items m)
 if_arm w n here s e a b m is = ap (λ s. perform w n s m) is ∙ if_is w n here e a b m
 
-pub if_halts_arm : (w : Checked) (n : ℕ) (here : Location) (s : Statement) (e : Expression) (a b : Vec Statement Global) (m new : State) (h : Halt) →
-    s ≡ If here e a b → IsBehaviour {A = Bool} (Err h) new (tested w n here.line e m) → IsBehaviour {A = Unit {0}} (Err h) new (perform w n s m)
+pub if_halts_arm : (w : Checked) (n : ℕ) (here : Location) (s : Statement) (e : Expression) (a b : Vec Statement Global) (m new : State)
+    (h : Halt) →
+    s ≡ If here e a b → IsBehaviour {A = Bool} (Err h) new (tested w n here.line e m) →
+        IsBehaviour {A = Unit {0}} (Err h) new (perform w n s m)
 if_halts_arm w n here s e a b m new h is t =
     rw (if_arm w n here s e a b m is)
     (halts h new (tested w n here.line e m) (λ z m. if z then perform_list w n a.items m else perform_list w n b.items m) t)
 
-pub then_arm : (w : Checked) (n : ℕ) (here : Location) (s : Statement) (e : Expression) (a b : Vec Statement Global) (m m' new : State) (v : Bool)
+pub then_arm : (w : Checked) (n : ℕ) (here : Location) (s : Statement) (e : Expression) (a b : Vec Statement Global) (m m' new : State)
+    (v : Bool)
     (r : Result (Unit {0}) Halt) → s ≡ If here e a b → tested w n here.line e m ≡ Goes v m' → v ≡ true →
     IsBehaviour r new (perform_list w n a.items m') → IsBehaviour r new (perform w n s m)
 then_arm w n here s e a b m m' new v r is t z h =
@@ -76,7 +83,8 @@ then_arm w n here s e a b m m' new v r is t z h =
     ∙ ap (λ x. then_do x (λ z m. if z then perform_list w n a.items m else perform_list w n b.items m)) t
     ∙ ap (λ c. if c then perform_list w n a.items m' else perform_list w n b.items m') z)) h
 
-pub else_arm : (w : Checked) (n : ℕ) (here : Location) (s : Statement) (e : Expression) (a b : Vec Statement Global) (m m' new : State) (v : Bool)
+pub else_arm : (w : Checked) (n : ℕ) (here : Location) (s : Statement) (e : Expression) (a b : Vec Statement Global) (m m' new : State)
+    (v : Bool)
     (r : Result (Unit {0}) Halt) → s ≡ If here e a b → tested w n here.line e m ≡ Goes v m' → v ≡ false →
     IsBehaviour r new (perform_list w n b.items m') → IsBehaviour r new (perform w n s m)
 else_arm w n here s e a b m m' new v r is t z h =
@@ -85,7 +93,8 @@ else_arm w n here s e a b m m' new v r is t z h =
     ∙ ap (λ x. then_do x (λ z m. if z then perform_list w n a.items m else perform_list w n b.items m)) t
     ∙ ap (λ c. if c then perform_list w n a.items m' else perform_list w n b.items m') z)) h
 
-pub for_arm : (w : Checked) (n : ℕ) (here : Location) (x : ℕ) (s : Statement) (e f : Expression) (body : Vec Statement Global) (m new : State)
+pub for_arm : (w : Checked) (n : ℕ) (here : Location) (x : ℕ) (s : Statement) (e f : Expression) (body : Vec Statement Global)
+    (m new : State)
     (r : Result (Unit {0}) Halt) → s ≡ For here x e f body →
     IsBehaviour r new (then_do (evaluated n here.line (λ m. attempt_bounds (seen w m) e f) m)
     (λ r. for_turns n (width r.0 r.1) x r.0 (perform_list w n body.items))) → IsBehaviour r new (perform w n s m)
@@ -95,7 +104,8 @@ for_arm w n here x s e f body m new r is h =
     ∙ ap (λ b. then_do (evaluated n here.line (λ m. attempt_bounds (seen w m) e f) m) (λ r. for_turns n (width r.0 r.1) x r.0 b))
     (block_is w n body))) h
 
-pub pardo_arm : (w : Checked) (n : ℕ) (here : Location) (locals : ℕ) (s : Statement) (e f : Expression) (body : Vec Step Global) (m new : State)
+pub pardo_arm : (w : Checked) (n : ℕ) (here : Location) (locals : ℕ) (s : Statement) (e f : Expression) (body : Vec Step Global)
+    (m new : State)
     (r : Result (Unit {0}) Halt) → s ≡ Pardo here e f locals body →
     IsBehaviour r new (then_do (evaluated n here.line (λ m. attempt_range w.procs (seen w m) e f) m)
     (λ r. pardo_done w n locals body.items r.0 r.1)) → IsBehaviour r new (perform w n s m)

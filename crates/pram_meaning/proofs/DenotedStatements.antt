@@ -348,14 +348,16 @@ module _ (p : Checked) (n : ℕ) where
   -- ---- what is said, outside
 
   module _ (scope : Scope) where
-    outer_said : (x : Name) (v : Expr) (t : Target) (y : Expression) (here : Location) → SaysTarget scope x t → Says scope v y → (m : State) →
+    outer_said : (x : Name) (v : Expr) (t : Target) (y : Expression) (here : Location) → SaysTarget scope x t → Says scope v y →
+        (m : State) →
         perform p n (statement.Assign here t y) m ≡ assign_one (meaning_of scope x.text) here.line (value_by scope v) m
     outer_said x v _ y here (says.uniform k is) said m =
         ap (λ (a : View → Attempt Effect). then_do (evaluated n here.line (λ m. a (seen p m)) m)
         (λ g m. Goes tt (set_one (Some (Uniform k)) g m))) (plain_said scope v y said)
         ∙ sym (ap (λ o. assign_one o here.line (value_by scope v) m) is)
     outer_said x v _ y here (says.cell k is) said m =
-        ap (λ (a : View → Attempt Effect). then_do (evaluated n here.line (λ m. a (seen p m)) m) (λ g m. Goes tt (set_one (Some (Cell k)) g m)))
+        ap (λ (a : View → Attempt Effect). then_do (evaluated n here.line (λ m. a (seen p m)) m)
+        (λ g m. Goes tt (set_one (Some (Cell k)) g m)))
         (cell_said scope k v y said)
         ∙ sym (ap (λ o. assign_one o here.line (value_by scope v) m) is)
 

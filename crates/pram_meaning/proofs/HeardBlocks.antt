@@ -95,7 +95,8 @@ for_told w n here x s e f body m is =
     ∙ ap (λ g. for_moments w n here x e f g (perform_row w n (hidden-the_row-Statement-0 body)) m) (told_is w n body)
     ∙ ap (λ g. for_moments w n here x e f (list_moments w n body.items) g m) (block_is w n body)
 
-if_told : (w : Checked) (n : ℕ) (here : Location) (s : Statement) (e : Expression) (a b : Vec Statement Global) (m : State) → s ≡ If here e a b →
+if_told : (w : Checked) (n : ℕ) (here : Location) (s : Statement) (e : Expression) (a b : Vec Statement Global) (m : State) →
+    s ≡ If here e a b →
     moments w n s m ≡ test_moment w n here (Chooses e) e m ++ behind (tested w n here.line e m)
     (λ z m. closing (if z then list_moments w n a.items m else list_moments w n b.items m))
 if_told w n here s e a b m is =
@@ -117,7 +118,8 @@ pub print_heard : {S : Type 0} (H : S → List Moment → S → Type 0) (from la
     UnlessRefused r (H from (print_moment w n here e m) late) → UnlessRefused r (H from (moments w n s m) late)
 print_heard H from late w n here s e m r is h = rw is h
 
-pub pardo_heard : {S : Type 0} (H : S → List Moment → S → Type 0) (from late : S) (w : Checked) (n : ℕ) (here : Location) (locals : ℕ) (s : Statement)
+pub pardo_heard : {S : Type 0} (H : S → List Moment → S → Type 0) (from late : S) (w : Checked) (n : ℕ) (here : Location) (locals : ℕ)
+    (s : Statement)
     (e f : Expression) (body : Vec Step Global) (m : State) (r : Result (Unit {0}) Halt) → s ≡ Pardo here e f locals body →
     UnlessRefused r (H from (pardo_moments w n here e f locals body.items m) late) → UnlessRefused r (H from (moments w n s m) late)
 pardo_heard H from late w n here locals s e f body m r is h = rw is h
@@ -129,7 +131,8 @@ pub while_heard : {S : Type 0} (H : S → List Moment → S → Type 0) (from la
 while_heard H from late w n here s e body m r is h =
     let P : List Moment → Type 0 = λ ms. UnlessRefused r (H from ms late) in subst P (sym (while_told w n here s e body m is)) h
 
-pub for_heard : {S : Type 0} (H : S → List Moment → S → Type 0) (from late : S) (w : Checked) (n : ℕ) (here : Location) (x : ℕ) (s : Statement)
+pub for_heard : {S : Type 0} (H : S → List Moment → S → Type 0) (from late : S) (w : Checked) (n : ℕ) (here : Location) (x : ℕ)
+    (s : Statement)
     (e f : Expression) (body : Vec Statement Global) (m : State) (r : Result (Unit {0}) Halt) → s ≡ For here x e f body →
     UnlessRefused r (H from (for_moments w n here x e f (list_moments w n body.items) (perform_list w n body.items) m) late) →
     UnlessRefused r (H from (moments w n s m) late)

@@ -22,17 +22,20 @@ abbrev loop : Checked → ℕ → Location → ℕ → List Statement → ℕ �
 loop w n here x body k a = for_turns_moments n here k x a (list_moments w n body) (perform_list w n body)
 
 -- whoever hears what is left has heard the whole
-abbrev pub ForHeard : {S : Type 0} → (S → List Moment → S → Type 0) → Checked → (n : ℕ) (here : Location) (x : ℕ) → List Statement → (first last : ℤ) →
+abbrev pub ForHeard : {S : Type 0} → (S → List Moment → S → Type 0) → Checked → (n : ℕ) (here : Location) (x : ℕ) → List Statement →
+    (first last : ℤ) →
     State → S → ℤ → State → S → Type 0
 ForHeard H w n here x body first last start from value now till =
     Closes H from (for_turns_moments n here (width first last) x first (list_moments w n body) (perform_list w n body) start) till
     (for_turns_moments n here (width value last) x value (list_moments w n body) (perform_list w n body) now)
 
-pub heard_start : {S : Type 0} (H : S → List Moment → S → Type 0) (w : Checked) (n : ℕ) (here : Location) (x : ℕ) (body : List Statement) (first last : ℤ)
+pub heard_start : {S : Type 0} (H : S → List Moment → S → Type 0) (w : Checked) (n : ℕ) (here : Location) (x : ℕ) (body : List Statement)
+    (first last : ℤ)
     (m : State) (from : S) → ForHeard H w n here x body first last m from first m from
 heard_start H w n here x body first last m from late h = h
 
-pub heard_none : {S : Type 0} (H : S → List Moment → S → Type 0) → HearsNothing H → (w : Checked) (n : ℕ) (here : Location) (x : ℕ) (body : List Statement)
+pub heard_none : {S : Type 0} (H : S → List Moment → S → Type 0) → HearsNothing H →
+    (w : Checked) (n : ℕ) (here : Location) (x : ℕ) (body : List Statement)
     (first last : ℤ) (m : State) (from : S) → last <ℤ first →
     H from (for_turns_moments n here (width first last) x first (list_moments w n body) (perform_list w n body) m) from
 heard_none H nothing w n here x body first last m from h =
@@ -123,7 +126,8 @@ turn_goes_heard H on w n here x body first last value end next start now mid set
     subst P (sym k)
     (gone_heard H on w n here x body first last value start now mid set new from till half late i.within c is s told b rest)
 
-pub turns_end_heard : {S : Type 0} (H : S → List Moment → S → Type 0) → HearsNothing H → HearsOn H → (w : Checked) (n : ℕ) (here : Location) (x : ℕ)
+pub turns_end_heard : {S : Type 0} (H : S → List Moment → S → Type 0) → HearsNothing H → HearsOn H →
+    (w : Checked) (n : ℕ) (here : Location) (x : ℕ)
     (body : List Statement) (first last value end : ℤ) (start now mid set new : State) (from till half late : S) →
     InFor w n x body first last start value end now → ForHeard H w n here x body first last start from value now till →
     counted n now ≡ Goes tt mid → set ≡ with_uniform x value mid →
@@ -135,7 +139,8 @@ turns_end_heard H nothing on w n here x body first last value end start now mid 
     (heard_none H nothing w n here x body (value +ℤ pos 1) last new late (let m : end ≡ last = i.to in omega (arith, ints, k)))
 
 -- the whole of it, once its bounds are heard
-pub for_goes_heard : {S : Type 0} (H : S → List Moment → S → Type 0) → HearsOn H → (from half late : S) (w : Checked) (n : ℕ) (here : Location) (x : ℕ)
+pub for_goes_heard : {S : Type 0} (H : S → List Moment → S → Type 0) → HearsOn H →
+    (from half late : S) (w : Checked) (n : ℕ) (here : Location) (x : ℕ)
     (e f : Expression) (body : List Statement) (m mid : State) (first last next end : ℤ) (r : Result (Unit {0}) Halt) →
     evaluated n here.line (λ m. attempt_bounds (seen w m) e f) m ≡ Goes (first, last) mid → H from (bounds_moment w n here e f m) half →
     next ≡ first → end ≡ last →

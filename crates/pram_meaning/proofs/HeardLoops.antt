@@ -19,13 +19,15 @@ loop w n here e body k = turns_moments k (test_moment w n here (Turns e) e) (tes
     (perform_list w n body)
 
 -- a bound on the turns left that is no smaller than the statements left
-pub record TurnsHeard {S : Type 0} (H : S → List Moment → S → Type 0) (w : Checked) (n : ℕ) (here : Location) (e : Expression) (body : List Statement)
+pub record TurnsHeard {S : Type 0} (H : S → List Moment → S → Type 0) (w : Checked) (n : ℕ) (here : Location) (e : Expression)
+    (body : List Statement)
     (start : State) (from : S) (now : State) (till : S) : Type 0 where
   pub left : ℕ
   pub enough : n ≤ left + now.count
   pub heard : Closes H from (loop w n here e body (n + 1) start) till (loop w n here e body left now)
 
-pub heard_start : {S : Type 0} (H : S → List Moment → S → Type 0) (w : Checked) (n : ℕ) (here : Location) (e : Expression) (body : List Statement)
+pub heard_start : {S : Type 0} (H : S → List Moment → S → Type 0) (w : Checked) (n : ℕ) (here : Location) (e : Expression)
+    (body : List Statement)
     (m : State) (from : S) → TurnsHeard H w n here e body m from m from
 heard_start H w n here e body m from = record { left = n + 1; enough = omega arith; heard = λ late h. h }
 
@@ -49,13 +51,15 @@ enough_left : (n k a b : ℕ) → n ≤ k + a → suc a ≤ b → n ≤ less k +
 enough_left n zero a b h more = omega (arith, h, more)
 enough_left n (suc k) a b h more = omega (arith, h, more)
 
-left_heard : {S : Type 0} (H : S → List Moment → S → Type 0) (w : Checked) (n : ℕ) (here : Location) (e : Expression) (body : List Statement)
+left_heard : {S : Type 0} (H : S → List Moment → S → Type 0) (w : Checked) (n : ℕ) (here : Location) (e : Expression)
+    (body : List Statement)
     (start : State) (from : S) (now : State) (till : S) (i : TurnsHeard H w n here e body start from now till) →
     Closes H from (loop w n here e body (n + 1) start) till
     (test_moment w n here (Turns e) e now ++ behind (tested w n here.line e now) (turn_told w n here e body (less i.left)))
 left_heard H w n here e body start from now till i late rest = i.heard late (rw (left_told w n here e body now i.left i.enough) rest)
 
-pub test_halts_heard : {S : Type 0} (H : S → List Moment → S → Type 0) (w : Checked) (n : ℕ) (here : Location) (e : Expression) (body : List Statement)
+pub test_halts_heard : {S : Type 0} (H : S → List Moment → S → Type 0) (w : Checked) (n : ℕ) (here : Location) (e : Expression)
+    (body : List Statement)
     (start now new : State) (from till late : S) (x : Halt) → TurnsHeard H w n here e body start from now till →
     IsBehaviour {A = Bool} (Err x) new (tested w n here.line e now) →
     UnlessRefused {A = Bool} (Err x) (H till (test_moment w n here (Turns e) e now) late) →
@@ -94,7 +98,8 @@ body_heard H on w n here e body start now m from till half v i t z h end rest =
     ap (λ v. turn_told w n here e body (less i.left) v m) z in
     goes_heard H on w n here e body start now m from till half v i t h end (rw p rest)
 
-pub turn_halts_heard : {S : Type 0} (H : S → List Moment → S → Type 0) → HearsOn H → (w : Checked) (n : ℕ) (here : Location) (e : Expression)
+pub turn_halts_heard : {S : Type 0} (H : S → List Moment → S → Type 0) → HearsOn H →
+    (w : Checked) (n : ℕ) (here : Location) (e : Expression)
     (body : List Statement) (start now m new : State) (from till half late : S) (v : Bool) (x : Halt) →
     TurnsHeard H w n here e body start from now till → tested w n here.line e now ≡ Goes v m → v ≡ true →
     H till (test_moment w n here (Turns e) e now) half → IsBehaviour {A = Unit {0}} (Err x) new (perform_list w n body m) →

@@ -152,7 +152,8 @@ if_halts_heard H from late w n here s e a b vs m new x is t h =
     (λ xs m. branches w n a.items b.items (those true xs) (those false xs) m) x new t h)
 
 -- the test of an `if` was heard
-tested_heard : {S : Type 0} (H : S → List Moment → S → Type 0) → HearsOn H → (from half late : S) (w : Checked) (n : ℕ) (here : Location) (s : Step)
+tested_heard : {S : Type 0} (H : S → List Moment → S → Type 0) → HearsOn H →
+    (from half late : S) (w : Checked) (n : ℕ) (here : Location) (s : Step)
     (e : Expression) (a b : Vec Step Global) (vs us : List ℕ) (m mid : State) (xs : List Part) (r : Result (Unit {0}) Halt) →
     s ≡ step.If here e a b → tested_on w n here.line e vs m ≡ Goes xs mid → us ≡ those true xs →
     H from (set_test_moment w n here (ChoosesOn e) e vs m) half →
@@ -163,9 +164,11 @@ tested_heard H on from half late w n here s e a b vs us m mid xs r is t u h rest
     let Q : List ℕ → Type 0 = λ us. UnlessRefused r (H half (branches w n a.items b.items us (those false xs) mid) late) in
     subst P (sym (if_told w n here s e a b vs m is))
     (first_goes H on {A = List Part} {B = Unit {0}} from half late (set_test_moment w n here (ChoosesOn e) e vs m)
-    (tested_on w n here.line e vs m) (λ xs m. branches w n a.items b.items (those true xs) (those false xs) m) xs mid r t h (subst Q u rest))
+    (tested_on w n here.line e vs m) (λ xs m. branches w n a.items b.items (those true xs) (those false xs) m) xs mid r t h
+    (subst Q u rest))
 
-pub if_then_halts_heard : {S : Type 0} (H : S → List Moment → S → Type 0) → HearsOn H → (from half late : S) (w : Checked) (n : ℕ) (here : Location)
+pub if_then_halts_heard : {S : Type 0} (H : S → List Moment → S → Type 0) → HearsOn H →
+    (from half late : S) (w : Checked) (n : ℕ) (here : Location)
     (s : Step) (e : Expression) (a b : Vec Step Global) (vs us : List ℕ) (m mid new : State) (xs : List Part) (x : Halt) →
     s ≡ step.If here e a b → tested_on w n here.line e vs m ≡ Goes xs mid → us ≡ those true xs →
     H from (set_test_moment w n here (ChoosesOn e) e vs m) half →
@@ -177,7 +180,8 @@ if_then_halts_heard H on from half late w n here s e a b vs us m mid new xs x is
     (first_halts H {A = Unit {0}} (Unit {0}) half late (inner_list_moments w n a.items us mid) (perform_list_on w n a.items us mid)
     (λ u. inner_list_moments w n b.items (those false xs)) x new f told)
 
-pub if_goes_heard : {S : Type 0} (H : S → List Moment → S → Type 0) → HearsOn H → (from half then late : S) (w : Checked) (n : ℕ) (here : Location)
+pub if_goes_heard : {S : Type 0} (H : S → List Moment → S → Type 0) → HearsOn H →
+    (from half then late : S) (w : Checked) (n : ℕ) (here : Location)
     (s : Step) (e : Expression) (a b : Vec Step Global) (vs us ws : List ℕ) (m mid end : State) (xs : List Part)
     (r : Result (Unit {0}) Halt) → s ≡ step.If here e a b → tested_on w n here.line e vs m ≡ Goes xs mid → us ≡ those true xs →
     ws ≡ those false xs → H from (set_test_moment w n here (ChoosesOn e) e vs m) half →

@@ -21,17 +21,20 @@ use Rattle.pram_meaning.proofs.HeardSetBlocks.{parts_halt_heard}
 use Rattle.pram_meaning.proofs.Telling.{Closes, HearsNothing, HearsOn, closes_halt, closes_on}
 
 abbrev loop : Checked → ℕ → Location → Expression → List Step → ℕ → List ℕ → State → List Moment
-loop w n here e body k = turns_on_moments k (set_test_moment w n here (TurnsOn e) e) (tested_on w n here.line e) (inner_list_moments w n body)
+loop w n here e body k = turns_on_moments k (set_test_moment w n here (TurnsOn e) e) (tested_on w n here.line e)
+    (inner_list_moments w n body)
     (perform_list_on w n body)
 
 -- a bound on the turns left that is no smaller than the statements left
-pub record TurnsHeard {S : Type 0} (H : S → List Moment → S → Type 0) (w : Checked) (n : ℕ) (here : Location) (e : Expression) (body : List Step)
+pub record TurnsHeard {S : Type 0} (H : S → List Moment → S → Type 0) (w : Checked) (n : ℕ) (here : Location) (e : Expression)
+    (body : List Step)
     (vs : List ℕ) (start : State) (from : S) (us : List ℕ) (now : State) (till : S) : Type 0 where
   pub left : ℕ
   pub enough : n ≤ left + now.count
   pub heard : Closes H from (loop w n here e body (n + 1) vs start) till (loop w n here e body left us now)
 
-pub heard_start : {S : Type 0} (H : S → List Moment → S → Type 0) (w : Checked) (n : ℕ) (here : Location) (e : Expression) (body : List Step)
+pub heard_start : {S : Type 0} (H : S → List Moment → S → Type 0) (w : Checked) (n : ℕ) (here : Location) (e : Expression)
+    (body : List Step)
     (vs us : List ℕ) (m : State) (from : S) → us ≡ vs → TurnsHeard H w n here e body vs m from us m from
 heard_start H w n here e body vs us m from is =
     record {
@@ -51,7 +54,8 @@ turn_told w n here e body k ws m =
     if_any ws (inner_list_moments w n body ws m ++ behind (perform_list_on w n body ws m) (λ u. loop w n here e body k ws))
 
 -- at the bound no test begins
-left_told : (w : Checked) (n : ℕ) (here : Location) (e : Expression) (body : List Step) (us : List ℕ) (m : State) (k : ℕ) → n ≤ k + m.count →
+left_told : (w : Checked) (n : ℕ) (here : Location) (e : Expression) (body : List Step) (us : List ℕ) (m : State) (k : ℕ) →
+    n ≤ k + m.count →
     loop w n here e body k us m ≡ set_test_moment w n here (TurnsOn e) e us m
     ++ behind (tested_on w n here.line e us m) (λ xs. turn_told w n here e body (less k) (those true xs))
 left_told w n here e body us m zero h = rw (le-ltb m.count n (omega (arith, h))) refl
@@ -79,11 +83,13 @@ set_halts H from till late whole ms b f halt.Bound m is c h =
     c late (parts_halt_heard H (Vec part.Part.Part Global) (Unit {0}) till late ms b f halt.Bound m is h)
 set_halts H from till late whole ms b f halt.OutOfMemory m is c h = tt
 
-pub test_halts_heard : {S : Type 0} (H : S → List Moment → S → Type 0) (w : Checked) (n : ℕ) (here : Location) (e : Expression) (body : List Step)
+pub test_halts_heard : {S : Type 0} (H : S → List Moment → S → Type 0) (w : Checked) (n : ℕ) (here : Location) (e : Expression)
+    (body : List Step)
     (vs us : List ℕ) (start now new : State) (from till late : S) (x : Halt) → TurnsHeard H w n here e body vs start from us now till →
     IsParts (Err x) new (tested_on w n here.line e us now) →
     UnlessRefused {A = Vec part.Part.Part Global} (Err x) (H till (set_test_moment w n here (TurnsOn e) e us now) late) →
-    UnlessRefused {A = Unit {0}} (Err x) (H from (turns_on_moments (n + 1) (set_test_moment w n here (TurnsOn e) e) (tested_on w n here.line e)
+    UnlessRefused {A = Unit {0}} (Err x) (H from (turns_on_moments (n + 1) (set_test_moment w n here (TurnsOn e) e)
+        (tested_on w n here.line e)
     (inner_list_moments w n body) (perform_list_on w n body) vs start) late)
 test_halts_heard H w n here e body vs us start now new from till late x i t h =
     set_halts H from till late (loop w n here e body (n + 1) vs start) (set_test_moment w n here (TurnsOn e) e us now)
@@ -135,13 +141,15 @@ body_heard H on w n here e body vs us ws start now m from till half xs i t s z h
     let P : List Moment → Type 0 = λ ms. H half ms end in
     goes_heard H on w n here e body vs us ws start now m from till half xs i t s h end (subst P (sym (some_told ws _ z)) rest)
 
-pub turn_halts_heard : {S : Type 0} (H : S → List Moment → S → Type 0) → HearsOn H → (w : Checked) (n : ℕ) (here : Location) (e : Expression)
+pub turn_halts_heard : {S : Type 0} (H : S → List Moment → S → Type 0) → HearsOn H →
+    (w : Checked) (n : ℕ) (here : Location) (e : Expression)
     (body : List Step) (vs us ws : List ℕ) (start now m new : State) (from till half late : S) (xs : List Part) (x : Halt) →
     TurnsHeard H w n here e body vs start from us now till → tested_on w n here.line e us now ≡ Goes xs m → ws ≡ those true xs →
     0 < length ws → H till (set_test_moment w n here (TurnsOn e) e us now) half →
     IsBehaviour {A = Unit {0}} (Err x) new (perform_list_on w n body ws m) →
     UnlessRefused {A = Unit {0}} (Err x) (H half (inner_list_moments w n body ws m) late) →
-    UnlessRefused {A = Unit {0}} (Err x) (H from (turns_on_moments (n + 1) (set_test_moment w n here (TurnsOn e) e) (tested_on w n here.line e)
+    UnlessRefused {A = Unit {0}} (Err x) (H from (turns_on_moments (n + 1) (set_test_moment w n here (TurnsOn e) e)
+        (tested_on w n here.line e)
     (inner_list_moments w n body) (perform_list_on w n body) vs start) late)
 turn_halts_heard H on w n here e body vs us ws start now m new from till half late xs x i t s z h b told =
     closes_halt H {A = Unit {0}} from half late (loop w n here e body (n + 1) vs start) (inner_list_moments w n body ws m)

@@ -104,7 +104,8 @@ while_arm w n here s e body vs m new r is h =
     let P : Done → Type 0 = IsBehaviour r new in
     subst P (sym (ap (λ s. perform_on w n s vs m) is ∙ ap (λ f. turns_on (n + 1) (tested_on w n here.line e) f vs m) (block_is w n body))) h
 
-if_arm : (w : Checked) (n : ℕ) (here : Location) (s : Step) (e : Expression) (a b : Vec Step Global) (vs : List ℕ) (m : State) → s ≡ step.If here e a b →
+if_arm : (w : Checked) (n : ℕ) (here : Location) (s : Step) (e : Expression) (a b : Vec Step Global) (vs : List ℕ) (m : State) →
+    s ≡ step.If here e a b →
     perform_on w n s vs m ≡ then_do (tested_on w n here.line e vs m) (λ xs m. then_do (perform_list_on w n a.items (those true xs) m)
     (λ u. perform_list_on w n b.items (those false xs)))
 if_arm w n here s e a b vs m is =
@@ -114,7 +115,8 @@ if_arm w n here s e a b vs m is =
     ∙ ap (λ f. then_do (tested_on w n here.line e vs m) (λ xs m. then_do (perform_list_on w n a.items (those true xs) m)
     (λ u. f (those false xs)))) (block_is w n b)
 
-pub if_halts : (w : Checked) (n : ℕ) (here : Location) (s : Step) (e : Expression) (a b : Vec Step Global) (vs : List ℕ) (m new : State) (h : Halt) →
+pub if_halts : (w : Checked) (n : ℕ) (here : Location) (s : Step) (e : Expression) (a b : Vec Step Global) (vs : List ℕ) (m new : State)
+    (h : Halt) →
     s ≡ step.If here e a b → IsParts (Err h) new (tested_on w n here.line e vs m) → IsBehaviour {A = Unit {0}}
     (Err h) new (perform_on w n s vs m)
 if_halts w n here s e a b vs m new h is t =
@@ -131,7 +133,8 @@ if_tested w n here s e a b vs us m mid xs is t u =
     (λ u. perform_list_on w n b.items (those false xs)))) t
     ∙ ap (λ us. then_do (perform_list_on w n a.items us mid) (λ u. perform_list_on w n b.items (those false xs))) (sym u)
 
-pub if_then_halts : (w : Checked) (n : ℕ) (here : Location) (s : Step) (e : Expression) (a b : Vec Step Global) (vs us : List ℕ) (m mid new : State)
+pub if_then_halts : (w : Checked) (n : ℕ) (here : Location) (s : Step) (e : Expression) (a b : Vec Step Global) (vs us : List ℕ)
+    (m mid new : State)
     (xs : List Part) (h : Halt) → s ≡ step.If here e a b → tested_on w n here.line e vs m ≡ Goes xs mid → us ≡ those true xs →
     IsBehaviour {A = Unit {0}} (Err h) new (perform_list_on w n a.items us mid) → IsBehaviour {A = Unit {0}}
     (Err h) new (perform_on w n s vs m)
@@ -139,8 +142,10 @@ if_then_halts w n here s e a b vs us m mid new xs h is t u r =
     rw (if_tested w n here s e a b vs us m mid xs is t u)
     (halts h new (perform_list_on w n a.items us mid) (λ u. perform_list_on w n b.items (those false xs)) r)
 
-pub if_goes : (w : Checked) (n : ℕ) (here : Location) (s : Step) (e : Expression) (a b : Vec Step Global) (vs us ws : List ℕ) (m mid late new : State)
-    (xs : List Part) (r : Result (Unit {0}) Halt) → s ≡ step.If here e a b → tested_on w n here.line e vs m ≡ Goes xs mid → us ≡ those true xs →
+pub if_goes : (w : Checked) (n : ℕ) (here : Location) (s : Step) (e : Expression) (a b : Vec Step Global) (vs us ws : List ℕ)
+    (m mid late new : State)
+    (xs : List Part) (r : Result (Unit {0}) Halt) → s ≡ step.If here e a b → tested_on w n here.line e vs m ≡ Goes xs mid →
+    us ≡ those true xs →
     ws ≡ those false xs → perform_list_on w n a.items us mid ≡ Goes tt late → IsBehaviour r new (perform_list_on w n b.items ws late) →
     IsBehaviour r new (perform_on w n s vs m)
 if_goes w n here s e a b vs us ws m mid late new xs r is t u v f g =

@@ -35,7 +35,8 @@ set_fails w n line a vs m mid new xs o k is kept same l some =
 
 -- ---- what is told of it
 
-told : (w : Checked) (n : ℕ) (here : Location) (act : StepAction) (left : List Part → State → State) (a : View → Attempt Effect) (vs : List ℕ)
+told : (w : Checked) (n : ℕ) (here : Location) (act : StepAction) (left : List Part → State → State) (a : View → Attempt Effect)
+    (vs : List ℕ)
     (m mid : State) (xs : List Part) (o : Option Key) → counted n m ≡ Goes tt mid → xs ≡ parts w mid a vs →
     o ≡ least (keys w.rule xs) → set_moment w n here act left a vs m ≡ by_set here act left mid xs o ∷ []
 told w n here act left a vs m mid xs o is same l =

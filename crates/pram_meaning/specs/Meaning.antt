@@ -132,7 +132,8 @@ abbrev mutual
       Then (ℤ × ℤ) (Unit {0}) (Evaluated here.line (λ m. attempt_bounds (seen p m) e f) m)
       (λ r. ForTurns (width r.0 r.1) x r.0 (MeansRow p body))
   Means p (Pardo here e f locals body) m =
-      Then (ℤ × ℕ) (Unit {0}) (Evaluated here.line (λ m. attempt_range p.procs (seen p m) e f) m) (λ r. PardoDone p locals body.items r.0 r.1)
+      Then (ℤ × ℕ) (Unit {0}) (Evaluated here.line (λ m. attempt_range p.procs (seen p m) e f) m)
+      (λ r. PardoDone p locals body.items r.0 r.1)
 
   -- statements in order
   pub MeansRow : Checked → {k : _} → Row_of-Statement k → State → Does

@@ -82,7 +82,8 @@ abbrev pub left_by : {A : Type 0} → (A → State → State) → Attempt A → 
 left_by left (Gives t a) m = left a m
 left_by left (Fails t k) m = m
 
-abbrev pub alone_moment : {A : Type 0} → ℕ → Location → Action → (A → Option ℕ) → (A → State → State) → (State → Attempt A) → State → List Moment
+abbrev pub alone_moment : {A : Type 0} → ℕ → Location → Action → (A → Option ℕ) → (A → State → State) → (State → Attempt A) → State →
+    List Moment
 alone_moment n here act write left a m = begun n m (λ m. Alone here act m (writing write (a m)) (left_by left (a m) m))
 
 -- that of a test
@@ -115,7 +116,8 @@ abbrev pub by_set : Location → StepAction → (List Part → State → State) 
 by_set here act left m xs None = Together here act m xs None (left xs m)
 by_set here act left m xs (Some k) = Together here act m xs (Some k) m
 
-abbrev pub set_moment : Checked → ℕ → Location → StepAction → (List Part → State → State) → (View → Attempt Effect) → List ℕ → State → List Moment
+abbrev pub set_moment : Checked → ℕ → Location → StepAction → (List Part → State → State) → (View → Attempt Effect) → List ℕ → State →
+    List Moment
 set_moment p n here act left a vs m = begun n m (λ m. by_set here act left m (parts p m a vs) (least (keys p.rule (parts p m a vs))))
 
 abbrev pub set_test_moment : Checked → ℕ → Location → StepAction → Expression → List ℕ → State → List Moment
@@ -183,7 +185,8 @@ abbrev pub for_moments : Checked → ℕ → Location → (x : ℕ) → Expressi
     List Moment
 for_moments p n here x e f inside body m =
     bounds_moment p n here e f m
-    ++ behind (evaluated n here.line (λ m. attempt_bounds (seen p m) e f) m) (λ r. for_turns_moments n here (width r.0 r.1) x r.0 inside body)
+    ++ behind (evaluated n here.line (λ m. attempt_bounds (seen p m) e f) m)
+    (λ r. for_turns_moments n here (width r.0 r.1) x r.0 inside body)
 
 abbrev pub pardo_moments : Checked → ℕ → Location → Expression → Expression → ℕ → List Step → State → List Moment
 pardo_moments p n here e f locals body m =

@@ -265,8 +265,10 @@ impl<'a> Interpreter<'a> {
         e: &Expression,
     ) -> Result<(), Halt>
         ensures value { IsBehaviour result (state_in run.new team.new.items)
-            (spec.assign_on self.now.program.now self.now.bound location.line target.now e.now active.now.items (state_in run.old team.old.items)) }
-        ensures heard { UnlessRefused result (H.hears listener.old (set_assign_moment self.now.program.now self.now.bound location target.now
+            (spec.assign_on self.now.program.now self.now.bound location.line target.now e.now active.now.items
+            (state_in run.old team.old.items)) }
+        ensures heard { UnlessRefused result (H.hears listener.old
+        (set_assign_moment self.now.program.now self.now.bound location target.now
             e.now active.now.items (state_in run.old team.old.items)) listener.new) }
         ensures grows { OnOk result (run.old.count ≤ run.new.count) }
     {
@@ -286,7 +288,8 @@ impl<'a> Interpreter<'a> {
         location: Location,
         test: &Expression,
     ) -> Result<Vec<Part>, Halt>
-        ensures value { IsParts result (state_in run.new team.now.items) (tested_on self.now.program.now self.now.bound location.line test.now
+        ensures value { IsParts result (state_in run.new team.now.items)
+        (tested_on self.now.program.now self.now.bound location.line test.now
             active.now.items (state_in run.old team.now.items)) }
         ensures heard { UnlessRefused result (H.hears listener.old (set_test_moment self.now.program.now self.now.bound location
             (TurnsOn test.now) test.now active.now.items (state_in run.old team.now.items)) listener.new) }
@@ -308,7 +311,8 @@ impl<'a> Interpreter<'a> {
         location: Location,
         test: &Expression,
     ) -> Result<Vec<Part>, Halt>
-        ensures value { IsParts result (state_in run.new team.now.items) (tested_on self.now.program.now self.now.bound location.line test.now
+        ensures value { IsParts result (state_in run.new team.now.items)
+        (tested_on self.now.program.now self.now.bound location.line test.now
             active.now.items (state_in run.old team.now.items)) }
         ensures heard { UnlessRefused result (H.hears listener.old (set_test_moment self.now.program.now self.now.bound location
             (ChoosesOn test.now) test.now active.now.items (state_in run.old team.now.items)) listener.new) }

@@ -30,7 +30,8 @@ module _ (at : ℕ) (found : List Name) where
     pub element_locals : (t : Name) (i v : Expr) → x ≡ s.AssignElement t i v → statement_locals at x found ≡ found
     unfolding statement_locals
     element_locals t i v is =
-        of_form (s.AssignElement t i v) _ is (rolled _ (Stmt-F.AssignElement t i v) (ap (statement_locals at) (sym (s.rolls-AssignElement t i v))
+        of_form (s.AssignElement t i v) _ is (rolled _ (Stmt-F.AssignElement t i v)
+        (ap (statement_locals at) (sym (s.rolls-AssignElement t i v))
         ∙ fold-roll-Stmt Finding (node_locals at) (Stmt-F.AssignElement t i v)))
 
     pub print_locals : (l : Location) (v : Expr) → x ≡ s.Print l v → statement_locals at x found ≡ found

@@ -50,10 +50,12 @@ use Rattle.step_journal.proofs.Sound.{then_assoc, then_goes, told, told_from, to
 
 module _ {A B : Type 0} (p : Checked) (here : Location) (act : Action) (write : A → Option ℕ) (left : A → State → State) (f : A → B)
     (kept : (a : A) (m : State) → Extends m (left a m)) where
-  come : (x : Attempt A) (m : State) → Explains p x (why_alone p m act) → IsTold p m (told p (Alone here act m (writing write x) (left_by left x m) ∷ []))
+  come : (x : Attempt A) (m : State) → Explains p x (why_alone p m act) →
+      IsTold p m (told p (Alone here act m (writing write x) (left_by left x m) ∷ []))
       (then_do (valued (alone here.line x) m) (λ v m. Goes (f v) (left v m)))
   come (trying.Gives t v) m why = ran_told p m (left v m) here (alone_acts t (write v)) [] (f v) (kept v m)
-  come (Fails t k) m why = fell_told p m here (fault_alone here.line k) (why_alone p m act) (alone_acts (front (length t) t) None) [] refl why
+  come (Fails t k) m why = fell_told p m here (fault_alone here.line k) (why_alone p m act)
+      (alone_acts (front (length t) t) None) [] refl why
 
   alone_told : (n : ℕ) (a : State → Attempt A) → ((m : State) → Explains p (a m) (why_alone p m act)) → (m : State) →
       IsTold p m (told p (alone_moment n here act write left a m))
@@ -123,7 +125,8 @@ module _ {B : Type 0} (p : Checked) (n : ℕ) (here : Location) (act : StepActio
       IsTold p m (told p (moment.by_set here act left m xs k ∷ []))
       (then_do (valued (on_key here.line k xs) m) (λ xs m. Goes (f xs) (left xs m)))
   come_on None xs m why = ran_told p m (left xs m) here (map act_of xs) (locals_changed act xs m.team) (f xs) (kept xs m)
-  come_on (Some k) xs m why = fell_told p m here (fault_on here.line k) (cause_on p m act k xs) (map (act_before k.at) xs) (meeting k xs) refl why
+  come_on (Some k) xs m why = fell_told p m here (fault_on here.line k) (cause_on p m act k xs) (map (act_before k.at) xs)
+      (meeting k xs) refl why
 
   set_told : (a : View → Attempt Effect) → ((s : View) → s.layout ≡ p.layout → Explains p (a s) (cause_in s act)) → (vs : List ℕ)
       (m : State) → IsTold p m (told p (set_moment p n here act left a vs m))
@@ -134,7 +137,8 @@ module _ {B : Type 0} (p : Checked) (n : ℕ) (here : Location) (act : StepActio
       let goes : List Part → State → Behaviour B = λ xs m. Goes (f xs) (left xs m) in
       subst (IsTold p m (told p (set_moment p n here act left a vs m)))
       (sym (then_assoc (counted n m) (λ u m. valued (together p here.line (parts p m a vs)) m) goes))
-      (told_then p m [] (counted n m) (λ u. told_there) (λ u m. then_do (valued (together p here.line (parts p m a vs)) m) goes) (counted_told p n m)
+      (told_then p m [] (counted n m) (λ u. told_there) (λ u m. then_do (valued (together p here.line (parts p m a vs)) m) goes)
+      (counted_told p n m)
       (λ u m. come_on (least (keys p.rule (parts p m a vs))) (parts p m a vs) m
       (has_cause p m act a why vs (least (keys p.rule (parts p m a vs))) refl)))
 
@@ -197,7 +201,8 @@ module _ (p : Checked) (n : ℕ) where
         (inner_row_told a (those true xs) m) (λ u m. inner_row_told b (those false xs) m))
     inner_told (step.While' here e q body) vs m =
         turns_on_told p (n + 1) (set_test_moment p n here (TurnsOn e) e) (tested_on p n here.line e) (inner_row_moments p n body)
-        (perform_row_on p n body) (λ vs m. tested_on_told p n here (TurnsOn e) e (λ s same. member_told p s same (TurnsOn e)) vs m) (λ vs m. inner_row_told body vs m) vs m
+        (perform_row_on p n body) (λ vs m. tested_on_told p n here (TurnsOn e) e (λ s same. member_told p s same (TurnsOn e)) vs m)
+        (λ vs m. inner_row_told body vs m) vs m
 
     inner_row_told : {k : _} (ss : Row_of-Step k) (vs : List ℕ) (m : State) →
         IsTold p m (told p (inner_row_moments p n ss vs m)) (perform_row_on p n ss vs m)
@@ -220,7 +225,8 @@ either : (p : Checked) (z : Bool) (m : State) (xs ys : List Moment) (a b : Done)
 either p true m xs ys a b h g = h
 either p false m xs ys a b h g = g
 
-turns_told : (p : Checked) (k : ℕ) (head : State → List Moment) (test : State → Behaviour Bool) (inside : State → List Moment) (body : State → Done) →
+turns_told : (p : Checked) (k : ℕ) (head : State → List Moment) (test : State → Behaviour Bool) (inside : State → List Moment)
+    (body : State → Done) →
     ((m : State) → IsTold p m (told p (head m)) (test m)) → ((m : State) → IsTold p m (told p (inside m)) (body m)) → (m : State) →
     IsTold p m (told p (turns_moments k head test inside body m)) (turns k test body m)
 turns_told p zero head test inside body t b m = wait_told m
@@ -238,7 +244,8 @@ turns_told p (suc k) head test inside body t b m =
 abbrev setting : ℕ → ℕ → ℤ → State → Done
 setting n x a m = then_do (counted n m) (λ u m. Goes done (with_uniform x a m))
 
-setting_told : (p : Checked) (n : ℕ) (here : Location) (x : ℕ) (a : ℤ) (m : State) → IsTold p m (told p (setting_moment n here x a m)) (setting n x a m)
+setting_told : (p : Checked) (n : ℕ) (here : Location) (x : ℕ) (a : ℤ) (m : State) →
+    IsTold p m (told p (setting_moment n here x a m)) (setting n x a m)
 setting_told p n here x a m =
     told_then p m [] (counted n m) (λ u m. Alone here (Sets x) m (trying.Gives [] None) (with_uniform x a m) ∷ [])
     (λ u m. Goes done (with_uniform x a m)) (counted_told p n m)
@@ -284,7 +291,8 @@ module _ (p : Checked) (n : ℕ) where
     statement_told (Assign here x e) m = assign_told p n here x e m
     statement_told (Print here e) m = print_told p n here e m
     statement_told (While' here e q body) m =
-        turns_told p (n + 1) (test_moment p n here (moment.Turns e) e) (tested p n here.line e) (row_moments p n body) (perform_row p n body)
+        turns_told p (n + 1) (test_moment p n here (moment.Turns e) e) (tested p n here.line e) (row_moments p n body)
+        (perform_row p n body)
         (λ m. tested_told p n here (moment.Turns e) e (λ m. test_told p (seen p m) refl e []) m) (λ m. row_told body m) m
     statement_told (If' here e q a r b) m =
         told_then p m (test_moment p n here (moment.Chooses e) e m) (tested p n here.line e m)

@@ -18,7 +18,8 @@ map_push (y ∷ now) x = ap (λ r. entry_is y ∷ r) (map_push now x)
 pub ran_pushed : (here : Location) (acts : Vec act.Act.Act Global) (cells variables : Vec Change Global) (locals : Vec LocalChange Global)
     (items : Vec ℤ Global) (now new : List rust.Entry.Entry) → new ≡ now ++ variant.Ran here acts cells variables locals items ∷ [] →
     map entry_is new ≡ map entry_is now ++ Ran here (map act_is acts.items) cells.items variables.items locals.items items.items ∷ []
-ran_pushed here acts cells variables locals items now new e = ap (map entry_is) e ∙ map_push now (variant.Ran here acts cells variables locals items)
+ran_pushed here acts cells variables locals items now new e = ap (map entry_is) e ∙ map_push now
+    (variant.Ran here acts cells variables locals items)
 
 pub fault_pushed : (here : Location) (k : Fault) (why : Option cause.Cause.Cause) (acts : Vec act.Act.Act Global) (met : Vec ℤ Global)
     (now new : List rust.Entry.Entry) → new ≡ now ++ variant.Faulted here k why acts met ∷ [] →

@@ -96,7 +96,8 @@ pub record Extends (m new : State) : Type 0 where
 pub extends : (m new : State) → length new.cells ≡ length m.cells → new.output ≡ m.output → Extends m new
 extends m new l o = record { size = l; more = []; output = o ∙ sym (append-nil m.output) }
 
-pub ran_told : {A : Type 0} (p : Checked) (m new : State) (here : Location) (acts : List Act) (locals : List LocalChange) (a : A) → Extends m new →
+pub ran_told : {A : Type 0} (p : Checked) (m new : State) (here : Location) (acts : List Act) (locals : List LocalChange) (a : A) →
+    Extends m new →
     IsTold p m (ran here acts locals m new ∷ []) (Goes a new)
 ran_told p m new here acts locals a h = record {
   size = h.size;
@@ -115,7 +116,8 @@ fell_told p m here k cause acts met stands why =
 
 -- ---- none
 
-pub none_told : {A : Type 0} (p : Checked) (m new : State) (a : A) → new.cells ≡ m.cells → new.output ≡ m.output → IsTold p m [] (Goes a new)
+pub none_told : {A : Type 0} (p : Checked) (m new : State) (a : A) → new.cells ≡ m.cells → new.output ≡ m.output →
+    IsTold p m [] (Goes a new)
 none_told p m new a c o = record {
   size = ap length c;
   memory = sym c;
@@ -134,7 +136,8 @@ counted_told p n m = by (nat_lt m.count n) where
 
 -- ---- one part of a run behind the other
 
-joined : {B : Type 0} (p : Checked) (m new : State) (xs ys : List Entry) (d : Behaviour B) → Leads m xs new → IsTold p new ys d → IsTold p m (xs ++ ys) d
+joined : {B : Type 0} (p : Checked) (m new : State) (xs ys : List Entry) (d : Behaviour B) → Leads m xs new → IsTold p new ys d →
+    IsTold p m (xs ++ ys) d
 joined p m new xs ys (Goes b last) s h = record {
   size = h.size ∙ s.size;
   memory = replay_on xs ys m.cells ∙ ap (replay ys) s.memory ∙ h.memory;
@@ -160,7 +163,8 @@ told_then p m ms (Stops k out) f g s h = subst (λ ms. Falls p m (told p ms) k o
 told_then p m ms (Reaches out) f g s h = subst (λ ms. Waits m (told p ms) out) (sym (append-nil ms)) s
 
 -- where a part of a run begins in another state, with the same cells and output
-pub told_from : {B : Type 0} (p : Checked) (m new : State) (ms : List Moment) (d : Behaviour B) → new.cells ≡ m.cells → new.output ≡ m.output →
+pub told_from : {B : Type 0} (p : Checked) (m new : State) (ms : List Moment) (d : Behaviour B) → new.cells ≡ m.cells →
+    new.output ≡ m.output →
     IsTold p new (told p ms) d → IsTold p m (told p ms) d
 told_from p m new ms d c o h = joined p m new [] (told p ms) d (none_told p m new done c o) h
 

@@ -27,7 +27,8 @@ use Rattle.step_journal.proofs.Differing.{none_of_it}
 use Rattle.step_journal.proofs.Pushed.{nothing_gained}
 
 pub ran_alone : (p q : Checked) (here : Location) (act : Action) (m : State) (t : Trail) (g : Effect) (acts : List Act)
-    (cells variables : List Change) (locals : List LocalChange) (items : List ℤ) (old new : List Entry) → q ≡ p → acts ≡ alone_acts t g.cell →
+    (cells variables : List Change) (locals : List LocalChange) (items : List ℤ) (old new : List Entry) → q ≡ p →
+    acts ≡ alone_acts t g.cell →
     cells ≡ difference m.cells (done_by act g m).cells → variables ≡ difference m.uniforms (done_by act g m).uniforms → locals ≡ [] →
     items ≡ drop (length m.output) (done_by act g m).output → new ≡ old ++ Ran here acts cells variables locals items ∷ [] →
     Heard p q old new (Alone here act m (Gives t g.cell) (done_by act g m) ∷ [])
@@ -54,7 +55,8 @@ pub ran_together : (p : Checked) (here : Location) (act : StepAction) (m : State
     acts ≡ map act_of xs →
     cells ≡ difference m.cells (done_on p act xs m).cells → variables ≡ [] →
     locals ≡ locals_changed act xs m.team → items ≡ [] → mid_of ≡ of → mid ≡ old → new_of ≡ mid_of →
-    new ≡ mid ++ Ran here acts cells variables locals items ∷ [] → Heard of new_of old new (Together here act m xs None (done_on p act xs m) ∷ [])
+    new ≡ mid ++ Ran here acts cells variables locals items ∷ [] → Heard of new_of old new (Together here act m xs None
+    (done_on p act xs m) ∷ [])
 ran_together p here act m xs acts cells variables locals items of mid_of new_of old mid new a c v l o s u t e =
     let same = cells_alone p act xs m in
     let variables_are = none_of_it m.uniforms variables v ∙ ap (difference m.uniforms) (sym same.0) in

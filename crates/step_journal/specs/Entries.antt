@@ -110,7 +110,8 @@ HasRun (Faulting here fault cause acts met) = ⊥
 
 -- the last entry is this fault on its line, with a cause that has it, and no other is a fault
 abbrev pub EndsIn : Checked → Fault → List Entry → Type 0
-EndsIn p fault es = (front : List Entry) × (here : Location) × (cause : Option Cause) × (acts : List Act) × (met : List ℤ) × AllByRecursion HasRun front
+EndsIn p fault es = (front : List Entry) × (here : Location) × (cause : Option Cause) × (acts : List Act) ×
+    (met : List ℤ) × AllByRecursion HasRun front
     × (here.line ≡ fault.line) × IsExplained p fault.kind cause × (es ≡ front ++ Faulting here fault cause acts met ∷ [])
 
 abbrev pub HasItsFault : Checked → Verdict → List Entry → Type 0

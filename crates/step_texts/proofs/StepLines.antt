@@ -45,20 +45,24 @@ some_printed (v ∷ vs) h = refl
 
 -- the entry at i, and those behind it
 pub lines_at : (layout : List SharedEntry) (telling : Telling) (first last : ℕ) (es : List rust.Entry.Entry) (i before : ℕ)
-    (e : rust.Entry.Entry) → i < length es → e ≡ get_or es i e → lines_from layout telling first last (before + 1) (map entry_is (drop i es)) ≡
-    line_within layout telling first last (before + 1) (entry_is e) ++ lines_from layout telling first last ((before + 1) + 1) (map entry_is (drop (i + 1) es))
+    (e : rust.Entry.Entry) → i < length es → e ≡ get_or es i e → lines_from layout telling first last (before + 1) (map entry_is
+    (drop i es)) ≡
+    line_within layout telling first last (before + 1) (entry_is e) ++ lines_from layout telling first last ((before + 1) + 1)
+    (map entry_is (drop (i + 1) es))
 lines_at layout telling first last es i before e below is =
     ap (λ es. lines_from layout telling first last (before + 1) (map entry_is es)) (drop_more es i e below)
     ∙ ap (λ e. line_within layout telling first last (before + 1) (entry_is e)
     ++ lines_from layout telling first last ((before + 1) + 1) (map entry_is (drop (i + 1) es))) (sym is)
 
 -- lines on their way: what was written, and how many entries are behind
-pub record InLines (old new : OutState) (all : List ℕ) (layout : List SharedEntry) (telling : Telling) (first last : ℕ) (es : List rust.Entry.Entry) (i before : ℕ) :
+pub record InLines (old new : OutState) (all : List ℕ) (layout : List SharedEntry) (telling : Telling) (first last : ℕ)
+    (es : List rust.Entry.Entry) (i before : ℕ) :
     Type 0 where
   pub progress : Progress old new all (lines_from layout telling first last (before + 1) (map entry_is (drop i es)))
   pub counted : before ≡ i
 
-pub line_written : (old now new : OutState) (all : List ℕ) (layout : List SharedEntry) (telling : Telling) (first last : ℕ) (es : List rust.Entry.Entry)
+pub line_written : (old now new : OutState) (all : List ℕ) (layout : List SharedEntry) (telling : Telling) (first last : ℕ)
+    (es : List rust.Entry.Entry)
     (i before : ℕ) (e : rust.Entry.Entry) → InLines old now all layout telling first last es i before → i < length es → e ≡ get_or es i e →
     new ≡ with_bytes now (line_within layout telling first last (before + 1) (entry_is e)) →
     InLines old new all layout telling first last es (i + 1) (before + 1)

@@ -88,7 +88,8 @@ module _ (most : ℕ) (all : most ≤ 2 ^ 16) (s : Names) (few : s.uniforms + 1 
         let second = λ (n : ℕ). sent (outside.part_code keep free n false b) (outside.part_left false b) in
         let fair = sole_fair s most all free e h.0 (omega (arith, m)) in
         small_join most test (chosen behind (value_at Uniform free f) first (outside.has_part b) second)
-        (small_join most c (flush (still held f)) (counted_small most s.uniforms locals few fewer Uniform keep held here.line free f l.0 fair)
+        (small_join most c (flush (still held f)) (counted_small most s.uniforms locals few fewer Uniform keep held here.line free f l.0
+        fair)
         (flush_small most (still held f)))
         (chosen_small most behind (value_at Uniform free f) first (outside.has_part b) second
         (value_below most s.uniforms locals few fewer Uniform free f fair)
@@ -115,7 +116,8 @@ module _ (most : ℕ) (all : most ≤ 2 ^ 16) (s : Names) (few : s.uniforms + 1 
         let p = positions_of e in let q = positions_of f in
         small_join most (before ++ part) (Leave ∷ [])
         (small_join most before part
-        (entered_small most s.uniforms locals few fewer keep held here.line free (formula_of e) (formula_of f) l.0 (omega (arith, p, q, m, all))
+        (entered_small most s.uniforms locals few fewer keep held here.line free (formula_of e) (formula_of f) l.0
+        (omega (arith, p, q, m, all))
         (pair_fair s most all free e f h.0 (omega (arith, m))))
         (steps_small most all (with_locals count s) few (omega (arith, m)) w (omega (arith, m)) (behind_locals count)
         (start + length before) still_there body.items h.1 l.1 (omega (arith, m))))

@@ -170,7 +170,8 @@ module _ (most : ℕ) (all : most ≤ 2 ^ 16) (s : Names) (few : s.uniforms + 1 
         small_join most (test ++ first ++ other) (Unmask ∷ [])
         (small_join most (test ++ first) other
         (small_join most test first
-        (tested_small most s.uniforms locals few fewer w.keep held here.line base f l.0 (sole_fair s most all base e h.0 (omega (arith, m))))
+        (tested_small most s.uniforms locals few fewer w.keep held here.line base f l.0
+        (sole_fair s most all base e h.0 (omega (arith, m))))
         (part_small base (start + length test) (still held f) a h.1 l.1 (omega (arith, m))))
         (flipped_small most (start + length (test ++ first)) (inside.has_part b) second
         (λ n. part_small base n behind b h.2 l.2 (omega (arith, m)))))

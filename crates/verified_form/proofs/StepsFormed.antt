@@ -156,7 +156,8 @@ module _ (code : SuperstepCode) (all : HasRegisters code) (uniforms : ℕ) (loca
         let f = formula_of e in
         let part = λ (n : ℕ). part_code w (base + 1) n false a in
         let at = turn w.keep held start here.line w.vote base (base + 1) masks f (λ n. sent (part n) (part_left false a)) in
-        inner_while_judged w.keep held start here.line w.vote base (base + 1) masks f (λ n. sent (part n) (part_left false a)) (omega (arith, d))
+        inner_while_judged w.keep held start here.line w.vote base (base + 1) masks f (λ n. sent (part n) (part_left false a))
+        (omega (arith, d))
         (sole_ready names e h.0)
         (sent_judged at (masks + 1) (part_left false a) (part at) (part_judged w (base + 1) at (masks + 1) false a h.1 (omega (arith, d))))
 

@@ -26,7 +26,8 @@ pub alone_counted : (a b : Meter) (here : Location) (act : Action) (before after
 alone_counted a b here act before after x s is same e =
     (same, e ∙ step_met a.schedule s (by_one here.line x) (alone_events act) (ledger_is a.ledger) is)
 
-pub set_counted : (a b : Meter) (here : Location) (act : StepAction) (before after : State) (xs : List Part) (k : Option Key) (s : TimeStep) →
+pub set_counted : (a b : Meter) (here : Location) (act : StepAction) (before after : State) (xs : List Part) (k : Option Key)
+    (s : TimeStep) →
     s ≡ by_set here.line xs k → b.schedule ≡ a.schedule →
     ledger_is b.ledger ≡ entered a.schedule s (met_all (set_events act) (ledger_is a.ledger)) →
     HasCounted a (Together here act before xs k after ∷ []) b

@@ -86,7 +86,8 @@ on_key_met : (here : Location) (act : StepAction) (left : List Part → State �
 on_key_met here act left m xs None = refl
 on_key_met here act left m xs (Some k) = refl
 
-set_met : (p : Checked) (n : ℕ) (here : Location) (act : StepAction) (left : List Part → State → State) (a : View → Attempt Effect) (vs : List ℕ)
+set_met : (p : Checked) (n : ℕ) (here : Location) (act : StepAction) (left : List Part → State → State) (a : View → Attempt Effect)
+    (vs : List ℕ)
     (m : State) → event.begun n m (set_events act) ≡ met (set_moment p n here act left a vs m)
 set_met p n here act left a vs m =
     begun_met n m (λ m. by_set here act left m (parts p m a vs) (least (keys p.rule (parts p m a vs)))) (set_events act)
@@ -119,7 +120,8 @@ module _ (p : Checked) (n : ℕ) where
     inner_met : (s : Step) (vs : List ℕ) (m : State) → step_events p n s vs m ≡ met (inner_moments p n s vs m)
     inner_met (step.Assign here x e) vs m = set_met p n here (AssignsOn x e) (assigned_by p x) (λ s. attempt_step s x e) vs m
     inner_met (step.If' here e q a r b) vs m =
-        then_met (event.begun n m (set_events (ChoosesOn e))) (set_test_moment p n here (ChoosesOn e) e vs m) (tested_on p n here.line e vs m)
+        then_met (event.begun n m (set_events (ChoosesOn e))) (set_test_moment p n here (ChoosesOn e) e vs m)
+        (tested_on p n here.line e vs m)
         (λ xs m. step_row_events p n a (those true xs) m
         ++ event.behind (perform_row_on p n a (those true xs) m) (λ u. step_row_events p n b (those false xs)))
         (λ xs m. inner_row_moments p n a (those true xs) m

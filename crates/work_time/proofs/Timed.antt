@@ -158,7 +158,8 @@ turns_on_timed n (suc k) head test spent body t v b vs m l h =
     (λ us last a c. turns_on_timed n k head test spent body t v b us last c (omega (arith, moved, a, h))) (those true xs))
 
 module _ (p : Checked) (n : ℕ) where
-  set_timed : (here : Location) (act : StepAction) (left : List Part → State → State) (a : View → Attempt Effect) (vs : List ℕ) (m : State) →
+  set_timed : (here : Location) (act : StepAction) (left : List Part → State → State) (a : View → Attempt Effect) (vs : List ℕ)
+      (m : State) →
       m.count ≤ n → IsTimed n m (set_moment p n here act left a vs m) (attempted_on p n here.line a vs m)
   set_timed here act left a vs m l =
       begun_timed n m (λ m. by_set here act left m (parts p m a vs) (least (keys p.rule (parts p m a vs))))
@@ -234,7 +235,8 @@ turns_timed n (suc k) head test spent body t v b m l h =
     turns_timed n k head test spent body t v b last c (omega (arith, moved, s, h))))
     (none_timed n done new g))
 
-setting_timed : (n : ℕ) (here : Location) (x : ℕ) (a : ℤ) (m : State) → m.count ≤ n → IsTimed n m (setting_moment n here x a m) (counted n m)
+setting_timed : (n : ℕ) (here : Location) (x : ℕ) (a : ℤ) (m : State) → m.count ≤ n →
+    IsTimed n m (setting_moment n here x a m) (counted n m)
 setting_timed n here x a m l = by (cases_lt m.count n) where
   by : (m.count < n) ⊎ (n ≤ m.count) → IsTimed n m (setting_moment n here x a m) (counted n m)
   by (inl h) = rw (lt-ltb m.count n h) (omega arith, omega (arith, h))

@@ -137,7 +137,8 @@ module _ (p : Checked) (t : Run) (of : IsRunOf p t) (locals base vote : ℕ) (fr
         stand = stand;
         fine = fine.got keep held Private base (formula_of e) (local x);
         none = empty.asks;
-        calm = subst (IsCalm t.code) (let n : place + length (Mark here.line ∷ stretch) ≡ place + 1 + length stretch = omega arith in n) calm;
+        calm = subst (IsCalm t.code) (let n : place + length (Mark here.line ∷ stretch) ≡ place + 1 + length stretch = omega arith in n)
+        calm;
         apart = apart p t of locals base free fr held m place spent f w here.line (Gets (term_of e));
         tells = tells p t of locals base free fr held m place spent f w here.line e named.1.0 keep held (Copy Private (local x) r ∷ [])
             (ap (λ o. least o None) (notes_nothing t.code (Copy Private (local x) r) refl last));
@@ -151,7 +152,8 @@ module _ (p : Checked) (t : Run) (of : IsRunOf p t) (locals base vote : ℕ) (fr
       (spent + events.spent es held) (spent + events.spent es held) f f _ (omega arith) (omega arith) (λ r k. refl)
       (subst (GoesWithin p t locals base vote fr (still held (formula_of e)) (place + 1 + length stretch) (spent + events.spent es held)
       f) now
-      (passed p t locals base base vote fr fr held (still held (formula_of e)) m place spent f w here.line stretch _ (2 * nesting (formula_of e))
+      (passed p t locals base base vote fr fr held (still held (formula_of e)) m place spent f w here.line stretch _
+      (2 * nesting (formula_of e))
       (spent + events.spent es held) (cost.got keep held Private base (formula_of e) (local x)) (omega arith) l g passes leaves
       (local_values.next_copied p t of locals base free fr held m place spent f w here.line e named.1.0 keep x named.0
       (subst HasValues (sym now)
@@ -193,7 +195,8 @@ module _ (p : Checked) (t : Run) (of : IsRunOf p t) (locals base vote : ℕ) (fr
         let same_parts = assignment_parts p m x e (present fr) ∙ ap (λ k. cut_parts p m k (present fr)) task in
         let xs = cut_parts p m (Writes entry (term d) (term c)) (present fr) in
         let count = length-append first (Mark here.line ∷ stretch) in
-        let whole : length (writes keep held here.line Private base entry d c) ≡ length (first ++ Mark here.line ∷ stretch) = ap length is in
+        let whole : length (writes keep held here.line Private base entry d c) ≡ length (first ++ Mark here.line ∷ stretch) =
+        ap length is in
         let few = either_goes held (has_reads both) in
         let goes_first : one_if (still held both) ≡ one_if (held && true && not (events.any_level (nesting both))) =
         sent_first held (nesting both) in
@@ -219,7 +222,8 @@ module _ (p : Checked) (t : Run) (of : IsRunOf p t) (locals base vote : ℕ) (fr
         let cells = set_writes.with_cells p t of locals base free fr waiting m at by g now here.line entry d c named sd sc values keep in
         let leaves = set_writes.leaves_written p t of locals base free fr waiting m at by g now here.line entry d c named sd sc values
         keep ok vote in
-        goes_from p t locals base vote fr true (at + 1 + length stretch) (place + length (writes keep held here.line Private base entry d c))
+        goes_from p t locals base vote fr true (at + 1 + length stretch)
+        (place + length (writes keep held here.line Private base entry d c))
         (spent + events.spent es held) (spent + events.spent es held) f g (assigned_by p x xs (one_more m)) (omega (arith, count, whole))
         (omega arith)
         (λ r k. ap (λ (y : Flat). y.uniform.registers r) ready.seen)
@@ -242,7 +246,8 @@ module _ (p : Checked) (t : Run) (of : IsRunOf p t) (locals base vote : ℕ) (fr
 
   pub assign_followed : (x : StepTarget) (e : Expression) → IsInnerAssign (with_locals locals (names_of p)) x e → (vote_register : ℕ) →
       Stand t place (inside.inner_assign (record { keep = keep; vote = vote_register }) held here.line base x (formula_of e)) →
-      IsCalm t.code (place + length (inside.inner_assign (record { keep = keep; vote = vote_register }) held here.line base x (formula_of e))) →
+      IsCalm t.code (place + length (inside.inner_assign (record { keep = keep; vote = vote_register }) held here.line base x
+      (formula_of e))) →
       Followed p t locals base vote fr held (inside.inner_assign_left held x (formula_of e))
       (inside.inner_assign (record { keep = keep; vote = vote_register }) held here.line base x (formula_of e)) place spent f
       (step_events p t.bound (step.Assign here x e) (present fr) m) (perform_on p t.bound (step.Assign here x e) (present fr) m)

@@ -78,7 +78,8 @@ module _ (p : Checked) (t : Run) (of : IsRunOf p t) (keep : Bool) where
       (let k : n ≡ max 0 n = omega arith in k)
       (variable_follows p t of keep free here.line free_ones held m place spent f w e h.1.0 x h.0 stand calm)
   assign_leads free free_ones here (target.Cell a) e h held place =
-      write_leads free free_ones here.line a Zero tt tt e h.1.0 (target.Cell a) held place (λ m. whole_assignments (seen p m) (target.Cell a) e)
+      write_leads free free_ones here.line a Zero tt tt e h.1.0 (target.Cell a) held place
+      (λ m. whole_assignments (seen p m) (target.Cell a) e)
       (λ m. refl)
   assign_leads free free_ones here (target.Element a i) e h held place =
       write_leads free free_ones here.line a (formula_of i) (expressions_are_named (names_of p) i h.1.0) (expressions_are_single i) e h.1.1

@@ -76,7 +76,8 @@ module _ (p : Checked) (t : Run) (of : IsRunOf p t) (keep : Bool) where
         (perform_row p t.bound body) (row_events p t.bound body) (λ n. statements_begin_calm.part t keep (behind_turns free) n false body)
         (λ n. row_leads body (behind_turns free) (omega (arith, free_ones)) h.2 false n) place
     statement_leads (Pardo here d e locals body) free free_ones h held place =
-        λ m spent f w stand calm. pardo_follows p t of keep free here.line free_ones held m place spent f w d e h.0.0 h.0.1 locals body.items
+        λ m spent f w stand calm. pardo_follows p t of keep free here.line free_ones held m place spent f w d e h.0.0 h.0.1 locals
+        body.items
         h.1 stand
         calm
 

@@ -18,4 +18,5 @@ returns-clause-refused g c =
     let cells = c.cells-cells.ensures.total ∙ ap total_size (c.layout.ensures.value ∙ ap (λ (code : SuperstepCode). code.layout) c.code-in-Err.ensures.value) in
     inr (inr (stops_at_code_run (g.S.Sources.holds c.args.sources.now) c.args.words c.in_ok-input.input.items _
     c.deref.ensures.value input c.len.result _ c.in-Err.refusal c.halted_run.result c.halted_run.ensures.stop c.halted_run.ensures.about
-    c.args.file.now c.in_ok-code.code c.in_ok-code.ensures.held c.in_ok-code.ensures.verified (c.len.ensures ∙ c.in_ok-input.input.ok.0) cells c.in-Err.ensures.refused))
+    c.args.file.now c.in_ok-code.code c.in_ok-code.ensures.held c.in_ok-code.ensures.verified
+    (c.len.ensures ∙ c.in_ok-input.input.ok.0) cells c.in-Err.ensures.refused))

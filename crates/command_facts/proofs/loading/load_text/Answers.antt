@@ -6,7 +6,8 @@ use Rattle.command_facts.proofs.loading.load_text.Goals as goal
 -- a word gives no size
 pub returns-in_err-sizes-clause-refused : goal.returns-in_err-sizes-clause-refused
 returns-in_err-sizes-clause-refused g c =
-    stops_with (g.S.Sources.holds c.args.sources.now c.args.file.now.name.now) c.args.file.now c.from_residual.result c.in_err-sizes.field-0.0
+    stops_with (g.S.Sources.holds c.args.sources.now c.args.file.now.name.now) c.args.file.now c.from_residual.result
+    c.in_err-sizes.field-0.0
     c.from_residual.ensures.1 (inl (subst (λ (ws : List (List ℕ)). IsOfSizes ws c.in_err-sizes.field-0.0)
     (ap (map (λ w. w.now)) c.deref.ensures.value) c.in_err-sizes.ensures.refused))
 
@@ -18,12 +19,15 @@ returns-in_err-bytes-clause-refused g c =
 
 pub returns-in-Ok-clause-text : goal.returns-in-Ok-clause-text
 returns-in-Ok-clause-text g c =
-    text_held (g.S.Sources.holds c.args.sources.now c.args.file.now.name.now) c.args.file.now c.in_ok-bytes.bytes.items _ _ c.in-Ok.expansion
+    text_held (g.S.Sources.holds c.args.sources.now c.args.file.now.name.now) c.args.file.now c.in_ok-bytes.bytes.items _ _
+    c.in-Ok.expansion
     c.deref-2.ensures.value (ap (map (λ w. w.now)) c.deref-3.ensures.value) c.in_ok-bytes.ensures.bytes c.in-Ok.ensures.expanded
 
 -- the text has no expansion
 pub returns-clause-refused : goal.returns-clause-refused
 returns-clause-refused g c =
-    stops_at_text (g.S.Sources.holds c.args.sources.now c.args.file.now.name.now) c.args.file.now c.source_of.result c.in_ok-bytes.bytes.items _ _
-    c.in-Err.stop c.source_of.ensures.bytes c.source_of.ensures.itself c.deref-2.ensures.value (ap (map (λ w. w.now)) c.deref-3.ensures.value)
+    stops_at_text (g.S.Sources.holds c.args.sources.now c.args.file.now.name.now) c.args.file.now c.source_of.result
+    c.in_ok-bytes.bytes.items _ _
+    c.in-Err.stop c.source_of.ensures.bytes c.source_of.ensures.itself c.deref-2.ensures.value
+    (ap (map (λ w. w.now)) c.deref-3.ensures.value)
     c.in_ok-bytes.ensures.bytes c.in-Err.ensures.refused

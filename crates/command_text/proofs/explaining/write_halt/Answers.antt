@@ -9,7 +9,8 @@ returns-in_err-write_refused_line g c =
       written = (
         Nothing,
         nothing_said h.stop h.about,
-        line_cut_off c.args.explains h.stop h.about Nothing _ _ c.from_residual.result _ c.from_residual.ensures.1 c.in_err-write_refused_line.ensures.written,
+        line_cut_off c.args.explains h.stop h.about Nothing _ _ c.from_residual.result _ c.from_residual.ensures.1
+        c.in_err-write_refused_line.ensures.written,
       );
     }
 
@@ -21,6 +22,7 @@ returns-then-explains g c =
       written = (
         w.0,
         w.1,
-        said_behind c.args.explains h.stop h.about w.0 _ _ _ c.write_stop_diagnosis.result c.if-explains.true c.in_ok-write_refused_line.ensures.written w.2,
+        said_behind c.args.explains h.stop h.about w.0 _ _ _ c.write_stop_diagnosis.result c.if-explains.true
+        c.in_ok-write_refused_line.ensures.written w.2,
       );
     }

@@ -36,7 +36,8 @@ step-steps-requires t c =
       search (rules, the_lemmas),
       (
         room.1,
-        then_short c.args.vote c.args.base here s e a b c.args.out.now c.masked.new.out c.in-If.is c.in_ok-masked-in-If.ensures c.requires.short,
+        then_short c.args.vote c.args.base here s e a b c.args.out.now c.masked.new.out c.in-If.is c.in_ok-masked-in-If.ensures
+        c.requires.short,
       ),
     )
 
@@ -47,7 +48,8 @@ step-step_else-requires t c =
       search (rules, the_lemmas),
       (
         room.2,
-        else_short c.args.vote c.args.base here s e a b c.args.out.now c.masked.new.out c.steps.new.out c.in-If.is c.in_ok-masked-in-If.ensures
+        else_short c.args.vote c.args.base here s e a b c.args.out.now c.masked.new.out c.steps.new.out c.in-If.is
+        c.in_ok-masked-in-If.ensures
             c.in_ok-steps-in-If.ensures c.requires.short,
       ),
     )

@@ -64,7 +64,8 @@ statement-joined-requires t c =
             c.in_ok-over-in-If.ensures.added c.in_ok-part-in-If.ensures,
         (
           room.2,
-          joined_short c.args.free here c.in_ok-source-in-If.source over s e a b c.args.out.now c.parted.new.out c.gap.new.self c.part.new.out
+          joined_short c.args.free here c.in_ok-source-in-If.source over s e a b c.args.out.now c.parted.new.out c.gap.new.self
+          c.part.new.out
               c.in-If.is c.in_ok-source-in-If.ensures.register c.in_ok-source-in-If.ensures.written c.in_ok-over-in-If.ensures.place
               c.in_ok-over-in-If.ensures.added c.in_ok-part-in-If.ensures c.requires.short,
         ),
@@ -117,14 +118,16 @@ statement-returns-in-While t c =
 
 pub statement-returns-in_ok-part-in-If : goal.statement-returns-in_ok-part-in-If
 statement-returns-in_ok-part-in-If t c =
-    on_ok c.joined.result (λ h. if_is c.args.free c.in-If.location c.in_ok-source-in-If.source c.in_ok-over-in-If.over c.args.s.now c.in-If.test
+    on_ok c.joined.result (λ h. if_is c.args.free c.in-If.location c.in_ok-source-in-If.source c.in_ok-over-in-If.over c.args.s.now
+    c.in-If.test
     c.in-If.then_part c.in-If.else_part c.args.out.now c.parted.new.out c.gap.new.self c.part.new.out c.joined.new.out c.in-If.is
     c.in_ok-source-in-If.ensures.register c.in_ok-source-in-If.ensures.written c.in_ok-over-in-If.ensures.place
     c.in_ok-over-in-If.ensures.added c.in_ok-part-in-If.ensures h) c.joined.ensures
 
 pub statement-returns-in_ok-bounds-in-For : goal.statement-returns-in_ok-bounds-in-For
 statement-returns-in_ok-bounds-in-For t c =
-    on_ok c.for_turns.result (λ h. for_is c.args.free c.in-For.location c.in-For.variable c.args.s.now c.in-For.low c.in-For.high c.in-For.body
+    on_ok c.for_turns.result (λ h. for_is c.args.free c.in-For.location c.in-For.variable c.args.s.now c.in-For.low c.in-For.high
+    c.in-For.body
     c.turns_from-turns.result c.args.out.now c.bounds.new.out c.for_turns.new.out c.in-For.is c.turns_from-turns.ensures
     c.in_ok-bounds-in-For.ensures h) c.for_turns.ensures
 

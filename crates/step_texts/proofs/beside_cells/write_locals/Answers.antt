@@ -8,7 +8,8 @@ returns-in_err-write_each_local g c =
     let more = more_text (length c.args.locals.now) in
     let first = ap (λ l. each_local_text c.args.tree.now c.args.at None l ++ more) (sym c.first_locals.ensures) in
     record {
-      written = breaks_off _ _ _ _ _ (each_local_text c.args.tree.now c.args.at None c.first_locals.result.now) more c.from_residual.result _
+      written = breaks_off _ _ _ _ _ (each_local_text c.args.tree.now c.args.at None c.first_locals.result.now) more c.from_residual.result
+      _
           c.from_residual.ensures.1 (starts _ _ c.requires.counted) first c.in_err-write_each_local.ensures.written;
     }
 

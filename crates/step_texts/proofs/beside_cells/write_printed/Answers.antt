@@ -10,7 +10,8 @@ returns-in_err-write_all g c =
     let some : 0 < length c.args.printed.now = grind (arith, common_steps) in
     record {
       written = breaks_off _ _ _ _ _ (codes " prints") (spaced c.args.printed.now) c.from_residual.result _
-          c.from_residual.ensures.1 (starts _ _ c.requires.counted) (some_printed c.args.printed.now some) c.in_err-write_all.ensures.written;
+          c.from_residual.ensures.1 (starts _ _ c.requires.counted)
+          (some_printed c.args.printed.now some) c.in_err-write_all.ensures.written;
     }
 
 pub returns : goal.returns

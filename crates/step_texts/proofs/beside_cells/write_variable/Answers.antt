@@ -6,7 +6,8 @@ use Rattle.step_texts.proofs.beside_cells.write_variable.Goals as goal
 
 pub returns-in_err-write_variable_head : goal.returns-in_err-write_variable_head
 returns-in_err-write_variable_head g c = record {
-  written = breaks_off _ _ _ _ _ (variable_head c.args.tree.now c.args.change.now.cell) (value_text c.args.change.now) c.from_residual.result _
+  written = breaks_off _ _ _ _ _ (variable_head c.args.tree.now c.args.change.now.cell)
+      (value_text c.args.change.now) c.from_residual.result _
       c.from_residual.ensures.1 (starts _ _ c.requires.counted) refl c.in_err-write_variable_head.ensures.written;
 }
 

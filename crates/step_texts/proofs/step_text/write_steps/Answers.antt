@@ -6,7 +6,8 @@ use Rattle.step_texts.proofs.step_text.write_steps.Goals as goal
 -- the writer stopped within one line
 pub returns-in_err-write_within : goal.returns-in_err-write_within
 returns-in_err-write_within g c =
-    let at = lines_at c.args.layout.now c.args.telling.now c.args.first c.args.last c.args.entries.now c.loop-entry.entry-index c.loop-entry.before
+    let at = lines_at c.args.layout.now c.args.telling.now c.args.first c.args.last c.args.entries.now c.loop-entry.entry-index
+        c.loop-entry.before
     c.entry-item.result c.loop-entry-test.true c.entry-item.is in
     record {
       written = writes_stopped _ _ _ c.from_residual.result _ c.from_residual.ensures.1
@@ -15,5 +16,6 @@ returns-in_err-write_within g c =
 
 pub loop-entry-preserved : goal.loop-entry-preserved
 loop-entry-preserved g c =
-    line_written _ _ _ _ c.args.layout.now c.args.telling.now c.args.first c.args.last c.args.entries.now c.loop-entry.entry-index c.loop-entry.before
+    line_written _ _ _ _ c.args.layout.now c.args.telling.now c.args.first c.args.last c.args.entries.now c.loop-entry.entry-index
+    c.loop-entry.before
     c.entry-item.result c.loop-entry.invariant c.loop-entry-test.true c.entry-item.is c.in_ok-write_within.ensures.written

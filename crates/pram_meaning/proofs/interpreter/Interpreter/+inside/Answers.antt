@@ -46,7 +46,8 @@ run_while_on-returns-in_err-run_block_on-clause-value g t c =
     let p = err_from_is_err_and r.result r.ensures.1 in
     let z : 0 < length c.in_ok-chosen.chosen.items = grind (arith, common_steps) in
     rw (p.1, p.2)
-    (turn_halts c.args.self.now.program.now c.args.self.now.bound c.args.location.line c.args.test.now c.args.body.now.items c.args.active.now.items
+    (turn_halts c.args.self.now.program.now c.args.self.now.bound c.args.location.line c.args.test.now c.args.body.now.items
+    c.args.active.now.items
     c.turns.current.items c.in_ok-chosen.chosen.items
     (state_in c.args.run.now c.args.team.now.items) (state_in c.turns.run c.turns.team.items)
     (state_in c.test_on.new.run c.turns.team.items) (state_in c.run_block_on.new.run c.run_block_on.new.team.items)
@@ -59,7 +60,8 @@ run_step-returns-in_err-run_block_on-in-If-clause-heard g t c =
     let r = c.from_residual-in_err-run_block_on-in-If in
     let p = err_from_is_err_and r.result r.ensures.1 in rw (p.1, p.2)
     (if_then_halts_heard g.H.Listener.hears g.met.H.Listener.hears_on c.args.listener.now c.choice_on.new.listener
-    c.run_block_on.new.listener c.args.self.now.program.now c.args.self.now.bound c.in-If.location c.args.s.now c.in-If.test c.in-If.then_part
+    c.run_block_on.new.listener c.args.self.now.program.now c.args.self.now.bound c.in-If.location c.args.s.now c.in-If.test
+    c.in-If.then_part
     c.in-If.else_part c.args.active.now.items c.in_ok-chosen-in-If.chosen.items
     (state_in c.args.run.now c.args.team.now.items) (state_in c.choice_on.new.run c.args.team.now.items)
     (state_in c.run_block_on.new.run c.run_block_on.new.team.items) (map part_is c.in_ok-all-in-If.all.items) _
@@ -118,7 +120,8 @@ run_while_on-turns-preserved g t c =
     let z : 0 < length c.in_ok-chosen.chosen.items = grind (arith, common_steps) in
     let a = c.in_ok-all.ensures.more in
     let b = c.in_ok-run_block_on.ensures.grows in (
-      turn_goes c.args.self.now.program.now c.args.self.now.bound c.args.location.line c.args.test.now c.args.body.now.items c.args.active.now.items
+      turn_goes c.args.self.now.program.now c.args.self.now.bound c.args.location.line c.args.test.now c.args.body.now.items
+      c.args.active.now.items
           c.turns.current.items c.in_ok-chosen.chosen.items (state_in c.args.run.now c.args.team.now.items)
           (state_in c.turns.run c.turns.team.items) (state_in c.test_on.new.run c.turns.team.items)
           (state_in c.run_block_on.new.run c.run_block_on.new.team.items) (map part_is c.in_ok-all.all.items) c.turns.invariant.0

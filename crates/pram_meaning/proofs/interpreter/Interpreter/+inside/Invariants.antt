@@ -15,7 +15,8 @@ invariant-run_block_on-loop-s g l =
 
 abbrev pub invariant-run_while_on-turns : goal.invariant-run_while_on-turns
 invariant-run_while_on-turns g l =
-    InTurns l.self.program.now l.self.bound l.location.line l.test l.body.items l.active.items (state_in l.fn.run l.fn.team.items) l.current.items
+    InTurns l.self.program.now l.self.bound l.location.line l.test l.body.items l.active.items
+    (state_in l.fn.run l.fn.team.items) l.current.items
     (state_in l.run l.team.items)
     × TurnsHeard g.H.Listener.hears l.self.program.now l.self.bound l.location l.test l.body.items l.active.items
     (state_in l.fn.run l.fn.team.items) l.fn.listener l.current.items (state_in l.run l.team.items) l.listener

@@ -21,13 +21,15 @@ run_statement-returns-else-holds-clause-value g t c =
 pub run_statement-returns-in-Pardo-clause-value : goal.run_statement-returns-in-Pardo-clause-value
 run_statement-returns-in-Pardo-clause-value g t c =
     let p = c.in-Pardo in
-    pardo_arm c.args.self.now.program.now c.args.self.now.bound p.location p.locals c.args.s.now p.low p.high p.body (state_of c.args.run.now)
+    pardo_arm c.args.self.now.program.now c.args.self.now.bound p.location p.locals c.args.s.now p.low p.high p.body
+    (state_of c.args.run.now)
     (state_of c.run_pardo.new.run) c.run_pardo.result p.is c.run_pardo.ensures.value
 
 pub run_statement-returns-in-For-clause-value : goal.run_statement-returns-in-For-clause-value
 run_statement-returns-in-For-clause-value g t c =
     let p = c.in-For in
-    for_arm c.args.self.now.program.now c.args.self.now.bound p.location p.variable c.args.s.now p.low p.high p.body (state_of c.args.run.now)
+    for_arm c.args.self.now.program.now c.args.self.now.bound p.location p.variable c.args.s.now p.low p.high p.body
+    (state_of c.args.run.now)
     (state_of c.run_for.new.run) c.run_for.result p.is c.run_for.ensures.value
 
 pub run_turns-turns-preserved : goal.run_turns-turns-preserved

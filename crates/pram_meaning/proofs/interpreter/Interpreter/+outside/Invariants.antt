@@ -13,7 +13,8 @@ invariant-run_block-loop-s g l = InBlock l.self.program.now l.self.bound l.s-ite
     (state_of l.run) l.listener
 
 abbrev pub invariant-run_while-turns : goal.invariant-run_while-turns
-invariant-run_while-turns g l = InTurns l.self.program.now l.self.bound l.location.line l.test l.body.items (state_of l.fn.run) (state_of l.run)
+invariant-run_while-turns g l = InTurns l.self.program.now l.self.bound l.location.line l.test l.body.items (state_of l.fn.run)
+    (state_of l.run)
     × TurnsHeard g.H.Listener.hears l.self.program.now l.self.bound l.location l.test l.body.items (state_of l.fn.run) l.fn.listener
     (state_of l.run) l.listener
 

@@ -10,7 +10,8 @@ use Rattle.step_journal.proofs.listening.JournalListener.acts_on.Goals as goal
 pub returns : goal.returns
 returns c =
     both_added c.add.result _ _ _
-    (λ e s. ran_together c.args.program.now c.args.location (step_action_is c.args.action.now) (state_in c.args.run.now c.args.team.now.items)
+    (λ e s. ran_together c.args.program.now c.args.location (step_action_is c.args.action.now)
+    (state_in c.args.run.now c.args.team.now.items)
     (map part_is c.args.parts.now) (map act_is c.in_ok-acts.acts.items) c.in_ok-cells.cells.items c.new-variables.result.items
     c.in_ok-locals.locals.items c.new-items.result.items
     c.args.self.now.program.now c.cells_changed_on.new.self.program.now c.add.new.self.program.now
