@@ -1,4 +1,4 @@
-//! The sizes that the words of a call give, and what the text of a program comes to by them.
+//! The text of a program, by the sizes that a call gives.
 #![tactic(auto)]
 
 mod expanding;

@@ -1,4 +1,4 @@
-//! Why a statement faults: the operation and its operands, the subscript, the range, or who reads or writes what.
+//! Why a statement faults.
 #![tactic(auto)]
 
 mod alone;

@@ -1,4 +1,4 @@
-//! Laws of texts with sizes: an expansion has the lines of its text, no expression, and is its own expansion.
+//! Laws of texts with sizes.
 #![tactic(auto)]
 
 ghost use Rattle.std.specs.Prelude.{◌≡◌, ℕ, List, Ok};

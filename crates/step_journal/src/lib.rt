@@ -1,5 +1,4 @@
-//! A run told statement by statement: what each processor reads and writes, what each statement
-//! changes and prints, and at a fault why it came and who met.
+//! A run told statement by statement: what each processor reads and writes, what each statement changes and prints, and why it faults.
 #![tactic(auto)]
 
 mod acts;
