@@ -158,7 +158,7 @@ fn write_beyond<W: Out>(
 ) -> Result<(), WriteFault>
     requires counted { (W.Out.state out.old).failures < 2 ^ 63 }
     ensures written { Writes (W.Out.state out.old) (W.Out.state out.new)
-    (spec.beyond_text subscript.now (slice_get layout.now entry)) result }
+        (spec.beyond_text subscript.now (slice_get layout.now entry)) result }
 {
     if entry < layout.len() {
         write_subscript(out, layout, entry, subscript)
@@ -300,7 +300,7 @@ pub(crate) fn write_cause<W: Out>(
 ) -> Result<(), WriteFault>
     requires counted { (W.Out.state out.old).failures < 2 ^ 63 }
     ensures written { Writes (W.Out.state out.old) (W.Out.state out.new)
-    (spec.cause_text layout.now kind who.now (cause_is cause.now)) result }
+        (spec.cause_text layout.now kind who.now (cause_is cause.now)) result }
 {
     match cause {
         Cause::Between {

@@ -263,8 +263,11 @@ small_told layout tree (Ran here acts cells variables locals items) = (
 )
 small_told layout tree (Faulting here fault cause acts met) = (
   small_values 2 met,
-  (small_acts layout acts, has_all 3 (fault_fields layout fault) (known_fields layout cause) (small_fault 3 layout fault)
-      (small_known layout cause)),
+  (
+    small_acts layout acts,
+    has_all 3 (fault_fields layout fault) (known_fields layout cause) (small_fault 3 layout fault)
+        (small_known layout cause),
+  ),
 )
 
 pub readable_step : (layout : List SharedEntry) (tree : ProgramTree) (number : ℕ) (e : Entry) → IsReadable (step_facts layout tree number e)

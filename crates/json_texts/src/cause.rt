@@ -81,7 +81,7 @@ fn put_beyond(
     subscript: &i64,
 ) -> Result<(), AllocError>
     ensures { OnOk result (shown object.new ≡ with_fields (spec.beyond_fields subscript.now (slice_get layout.now entry))
-    (shown object.old)) }
+        (shown object.old)) }
 {
     if entry < layout.len() {
         let range = layout.range(entry);

@@ -68,7 +68,7 @@ if_arm w n here s e a b m is = ap (λ s. perform w n s m) is ∙ if_is w n here 
 pub if_halts_arm : (w : Checked) (n : ℕ) (here : Location) (s : Statement) (e : Expression) (a b : Vec Statement Global) (m new : State)
     (h : Halt) →
     s ≡ If here e a b → IsBehaviour {A = Bool} (Err h) new (tested w n here.line e m) →
-        IsBehaviour {A = Unit {0}} (Err h) new (perform w n s m)
+    IsBehaviour {A = Unit {0}} (Err h) new (perform w n s m)
 if_halts_arm w n here s e a b m new h is t =
     rw (if_arm w n here s e a b m is)
     (halts h new (tested w n here.line e m) (λ z m. if z then perform_list w n a.items m else perform_list w n b.items m) t)

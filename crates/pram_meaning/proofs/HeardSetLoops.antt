@@ -89,7 +89,7 @@ pub test_halts_heard : {S : Type 0} (H : S → List Moment → S → Type 0) (w 
     IsParts (Err x) new (tested_on w n here.line e us now) →
     UnlessRefused {A = Vec part.Part.Part Global} (Err x) (H till (set_test_moment w n here (TurnsOn e) e us now) late) →
     UnlessRefused {A = Unit {0}} (Err x) (H from (turns_on_moments (n + 1) (set_test_moment w n here (TurnsOn e) e)
-        (tested_on w n here.line e)
+    (tested_on w n here.line e)
     (inner_list_moments w n body) (perform_list_on w n body) vs start) late)
 test_halts_heard H w n here e body vs us start now new from till late x i t h =
     set_halts H from till late (loop w n here e body (n + 1) vs start) (set_test_moment w n here (TurnsOn e) e us now)
@@ -149,7 +149,7 @@ pub turn_halts_heard : {S : Type 0} (H : S → List Moment → S → Type 0) →
     IsBehaviour {A = Unit {0}} (Err x) new (perform_list_on w n body ws m) →
     UnlessRefused {A = Unit {0}} (Err x) (H half (inner_list_moments w n body ws m) late) →
     UnlessRefused {A = Unit {0}} (Err x) (H from (turns_on_moments (n + 1) (set_test_moment w n here (TurnsOn e) e)
-        (tested_on w n here.line e)
+    (tested_on w n here.line e)
     (inner_list_moments w n body) (perform_list_on w n body) vs start) late)
 turn_halts_heard H on w n here e body vs us ws start now m new from till half late xs x i t s z h b told =
     closes_halt H {A = Unit {0}} from half late (loop w n here e body (n + 1) vs start) (inner_list_moments w n body ws m)

@@ -154,7 +154,7 @@ impl<'a> Interpreter<'a> {
         e: &Expression,
     ) -> Result<i64, Halt>
         ensures value { IsBehaviour result (state_of run.new) (found self.now.program.now self.now.bound location.line e.now
-        (state_of run.old)) }
+            (state_of run.old)) }
         ensures heard { UnlessRefused result (H.hears listener.old (alone_moment self.now.bound location (action_is action.now) nowhere
             (λ v. done_by (action_is action.now) (record { value = v; cell = None }))
             (λ m. attempt (seen self.now.program.now m) e.now []) (state_of run.old)) listener.new) }
@@ -187,7 +187,7 @@ impl<'a> Interpreter<'a> {
         value: &Expression,
     ) -> Result<(), Halt>
         ensures value { IsBehaviour result (state_of run.new)
-        (spec.assign self.now.program.now self.now.bound location.line target.now value.now
+            (spec.assign self.now.program.now self.now.bound location.line target.now value.now
             (state_of run.old)) }
         ensures heard { UnlessRefused result (H.hears listener.old
             (assign_moment self.now.program.now self.now.bound location target.now value.now (state_of run.old)) listener.new) }
@@ -221,8 +221,7 @@ impl<'a> Interpreter<'a> {
         high: &Expression,
     ) -> Result<(i64, i64), Halt>
         ensures value { IsBehaviour result (state_of run.new)
-            (evaluated self.now.bound location.line (λ m. attempt_bounds (seen self.now.program.now m) low.now high.now) (state_of run.old))
-            }
+            (evaluated self.now.bound location.line (λ m. attempt_bounds (seen self.now.program.now m) low.now high.now) (state_of run.old)) }
         ensures heard { UnlessRefused result (H.hears listener.old
             (bounds_moment self.now.program.now self.now.bound location low.now high.now (state_of run.old)) listener.new) }
         ensures more { OnOk result (run.new.count ≡ run.old.count + 1) }

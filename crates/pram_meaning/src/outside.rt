@@ -120,10 +120,10 @@ impl<'a> Interpreter<'a> {
         locals: usize,
     ) -> Result<(), Halt>
         ensures value { IsBehaviour result (state_of run.new)
-        (pardo self.now.program.now self.now.bound location.line low.now high.now locals
+            (pardo self.now.program.now self.now.bound location.line low.now high.now locals
             body.now.items (state_of run.old)) }
         ensures heard { UnlessRefused result (H.hears listener.old
-        (pardo_moments self.now.program.now self.now.bound location low.now high.now
+            (pardo_moments self.now.program.now self.now.bound location low.now high.now
             locals body.now.items (state_of run.old)) listener.new) }
         ensures grows { OnOk result (run.old.count ≤ run.new.count) }
     {
@@ -226,10 +226,10 @@ impl<'a> Interpreter<'a> {
         high: &Expression,
     ) -> Result<(), Halt>
         ensures value { IsBehaviour result (state_of run.new)
-        (for_all self.now.program.now self.now.bound location.line variable low.now high.now
+            (for_all self.now.program.now self.now.bound location.line variable low.now high.now
             (perform_list self.now.program.now self.now.bound body.now.items) (state_of run.old)) }
         ensures heard { UnlessRefused result (H.hears listener.old
-        (for_moments self.now.program.now self.now.bound location variable low.now
+            (for_moments self.now.program.now self.now.bound location variable low.now
             high.now (list_moments self.now.program.now self.now.bound body.now.items)
             (perform_list self.now.program.now self.now.bound body.now.items) (state_of run.old)) listener.new) }
         ensures grows { OnOk result (run.old.count ≤ run.new.count) }

@@ -268,7 +268,7 @@ impl<'a> Interpreter<'a> {
             (spec.assign_on self.now.program.now self.now.bound location.line target.now e.now active.now.items
             (state_in run.old team.old.items)) }
         ensures heard { UnlessRefused result (H.hears listener.old
-        (set_assign_moment self.now.program.now self.now.bound location target.now
+            (set_assign_moment self.now.program.now self.now.bound location target.now
             e.now active.now.items (state_in run.old team.old.items)) listener.new) }
         ensures grows { OnOk result (run.old.count ≤ run.new.count) }
     {
@@ -289,7 +289,7 @@ impl<'a> Interpreter<'a> {
         test: &Expression,
     ) -> Result<Vec<Part>, Halt>
         ensures value { IsParts result (state_in run.new team.now.items)
-        (tested_on self.now.program.now self.now.bound location.line test.now
+            (tested_on self.now.program.now self.now.bound location.line test.now
             active.now.items (state_in run.old team.now.items)) }
         ensures heard { UnlessRefused result (H.hears listener.old (set_test_moment self.now.program.now self.now.bound location
             (TurnsOn test.now) test.now active.now.items (state_in run.old team.now.items)) listener.new) }
@@ -312,7 +312,7 @@ impl<'a> Interpreter<'a> {
         test: &Expression,
     ) -> Result<Vec<Part>, Halt>
         ensures value { IsParts result (state_in run.new team.now.items)
-        (tested_on self.now.program.now self.now.bound location.line test.now
+            (tested_on self.now.program.now self.now.bound location.line test.now
             active.now.items (state_in run.old team.now.items)) }
         ensures heard { UnlessRefused result (H.hears listener.old (set_test_moment self.now.program.now self.now.bound location
             (ChoosesOn test.now) test.now active.now.items (state_in run.old team.now.items)) listener.new) }

@@ -138,7 +138,7 @@ module _ (p : Checked) (t : Run) (of : IsRunOf p t) (locals base vote : ℕ) (fr
         fine = fine.got keep held Private base (formula_of e) (local x);
         none = empty.asks;
         calm = subst (IsCalm t.code) (let n : place + length (Mark here.line ∷ stretch) ≡ place + 1 + length stretch = omega arith in n)
-        calm;
+            calm;
         apart = apart p t of locals base free fr held m place spent f w here.line (Gets (term_of e));
         tells = tells p t of locals base free fr held m place spent f w here.line e named.1.0 keep held (Copy Private (local x) r ∷ [])
             (ap (λ o. least o None) (notes_nothing t.code (Copy Private (local x) r) refl last));

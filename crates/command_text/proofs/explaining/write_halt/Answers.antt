@@ -10,7 +10,7 @@ returns-in_err-write_refused_line g c =
         Nothing,
         nothing_said h.stop h.about,
         line_cut_off c.args.explains h.stop h.about Nothing _ _ c.from_residual.result _ c.from_residual.ensures.1
-        c.in_err-write_refused_line.ensures.written,
+            c.in_err-write_refused_line.ensures.written,
       );
     }
 
@@ -23,6 +23,6 @@ returns-then-explains g c =
         w.0,
         w.1,
         said_behind c.args.explains h.stop h.about w.0 _ _ _ c.write_stop_diagnosis.result c.if-explains.true
-        c.in_ok-write_refused_line.ensures.written w.2,
+            c.in_ok-write_refused_line.ensures.written w.2,
       );
     }

@@ -21,7 +21,7 @@ returns g c =
         (
           telling,
           subst (λ (t : ProgramTree). IsTelling c.args.on run.loaded.source.bytes.items words.locals t telling) c.tree-tree.ensures.tree
-          of_text,
+              of_text,
           refl,
         ),
         subst (λ (l : List SharedEntry). Wrote (status_of run.outcome) (told_text l telling run.outcome entries words.from words.to)

@@ -8,5 +8,7 @@ returns-in_err-write_one g c = record {
 }
 
 pub returns : goal.returns
-returns g c = record { written = both _ _ _ _ _ _ c.write_others.result
-    (refl) c.in_ok-write_one.ensures.written c.write_others.ensures.written }
+returns g c = record {
+  written = both _ _ _ _ _ _ c.write_others.result
+      (refl) c.in_ok-write_one.ensures.written c.write_others.ensures.written;
+}

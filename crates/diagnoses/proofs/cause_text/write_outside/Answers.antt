@@ -8,5 +8,7 @@ returns-in_err-write_named g c = record {
 }
 
 pub returns : goal.returns
-returns g c = record { written = both _ _ _ _ _ _ c.write_bounds.result
-    (refl) c.in_ok-write_named.ensures.written c.write_bounds.ensures.written }
+returns g c = record {
+  written = both _ _ _ _ _ _ c.write_bounds.result
+      (refl) c.in_ok-write_named.ensures.written c.write_bounds.ensures.written;
+}

@@ -8,5 +8,7 @@ returns-in_err-write_prefix g c = record {
 }
 
 pub returns : goal.returns
-returns g c = record { written = both _ _ _ _ _ _ c.write_known.result
-    (refl) c.in_ok-write_prefix.ensures.written c.write_known.ensures.written }
+returns g c = record {
+  written = both _ _ _ _ _ _ c.write_known.result
+      (refl) c.in_ok-write_prefix.ensures.written c.write_known.ensures.written;
+}

@@ -15,9 +15,11 @@ returns-in_err-write_line_excerpt g c = record {
 }
 
 pub returns : goal.returns
-returns g c = record { written = both _ _ _ _ _ _ c.write_fault_sentence.result
-    (ap (λ n. line_excerpt n c.args.source.now.bytes.items c.args.fault.now.line ++ fault_sentence c.args.layout.now c.args.fault.now
-    (reason_is c.args.reason.now)) (sym c.as_bytes.ensures.value) ∙ ap
-    (λ b. line_excerpt c.as_bytes.result.now b c.args.fault.now.line ++ fault_sentence c.args.layout.now c.args.fault.now
-    (reason_is c.args.reason.now)) (sym c.as_slice.ensures.value)) c.in_ok-write_line_excerpt.ensures.written
-    c.write_fault_sentence.ensures.written }
+returns g c = record {
+  written = both _ _ _ _ _ _ c.write_fault_sentence.result
+      (ap (λ n. line_excerpt n c.args.source.now.bytes.items c.args.fault.now.line ++ fault_sentence c.args.layout.now c.args.fault.now
+      (reason_is c.args.reason.now)) (sym c.as_bytes.ensures.value) ∙ ap
+      (λ b. line_excerpt c.as_bytes.result.now b c.args.fault.now.line ++ fault_sentence c.args.layout.now c.args.fault.now
+      (reason_is c.args.reason.now)) (sym c.as_slice.ensures.value)) c.in_ok-write_line_excerpt.ensures.written
+      c.write_fault_sentence.ensures.written;
+}

@@ -7,7 +7,7 @@ pub loop-entry-preserved : goal.loop-entry-preserved
 loop-entry-preserved c =
     let counted : c.loop-entry.before ≡ c.loop-entry.entry-index = c.loop-entry.invariant.counted in
     let at = steps_at c.args.layout.now c.args.tree.now c.args.first c.args.last c.args.entries.now c.loop-entry.entry-index
-        c.loop-entry.before
+    c.loop-entry.before
     c.entry-item.result c.loop-entry-test.true c.entry-item.is in
     record {
       so_far = goes_on _ _ _ _ _ _ c.loop-entry.invariant.so_far at c.in_ok-push_within.ensures.json;

@@ -37,7 +37,7 @@ step-steps-requires t c =
       (
         room.1,
         then_short c.args.vote c.args.base here s e a b c.args.out.now c.masked.new.out c.in-If.is c.in_ok-masked-in-If.ensures
-        c.requires.short,
+            c.requires.short,
       ),
     )
 
@@ -49,7 +49,7 @@ step-step_else-requires t c =
       (
         room.2,
         else_short c.args.vote c.args.base here s e a b c.args.out.now c.masked.new.out c.steps.new.out c.in-If.is
-        c.in_ok-masked-in-If.ensures
+            c.in_ok-masked-in-If.ensures
             c.in_ok-steps-in-If.ensures c.requires.short,
       ),
     )

@@ -65,7 +65,7 @@ statement-joined-requires t c =
         (
           room.2,
           joined_short c.args.free here c.in_ok-source-in-If.source over s e a b c.args.out.now c.parted.new.out c.gap.new.self
-          c.part.new.out
+              c.part.new.out
               c.in-If.is c.in_ok-source-in-If.ensures.register c.in_ok-source-in-If.ensures.written c.in_ok-over-in-If.ensures.place
               c.in_ok-over-in-If.ensures.added c.in_ok-part-in-If.ensures c.requires.short,
         ),

@@ -9,7 +9,7 @@ returns-in_err-write_each_local g c =
     let first = ap (λ l. each_local_text c.args.tree.now c.args.at None l ++ more) (sym c.first_locals.ensures) in
     record {
       written = breaks_off _ _ _ _ _ (each_local_text c.args.tree.now c.args.at None c.first_locals.result.now) more c.from_residual.result
-      _
+          _
           c.from_residual.ensures.1 (starts _ _ c.requires.counted) first c.in_err-write_each_local.ensures.written;
     }
 

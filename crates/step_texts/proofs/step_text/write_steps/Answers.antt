@@ -7,7 +7,7 @@ use Rattle.step_texts.proofs.step_text.write_steps.Goals as goal
 pub returns-in_err-write_within : goal.returns-in_err-write_within
 returns-in_err-write_within g c =
     let at = lines_at c.args.layout.now c.args.telling.now c.args.first c.args.last c.args.entries.now c.loop-entry.entry-index
-        c.loop-entry.before
+    c.loop-entry.before
     c.entry-item.result c.loop-entry-test.true c.entry-item.is in
     record {
       written = writes_stopped _ _ _ c.from_residual.result _ c.from_residual.ensures.1

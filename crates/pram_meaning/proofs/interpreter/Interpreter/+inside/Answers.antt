@@ -121,7 +121,7 @@ run_while_on-turns-preserved g t c =
     let a = c.in_ok-all.ensures.more in
     let b = c.in_ok-run_block_on.ensures.grows in (
       turn_goes c.args.self.now.program.now c.args.self.now.bound c.args.location.line c.args.test.now c.args.body.now.items
-      c.args.active.now.items
+          c.args.active.now.items
           c.turns.current.items c.in_ok-chosen.chosen.items (state_in c.args.run.now c.args.team.now.items)
           (state_in c.turns.run c.turns.team.items) (state_in c.test_on.new.run c.turns.team.items)
           (state_in c.run_block_on.new.run c.run_block_on.new.team.items) (map part_is c.in_ok-all.all.items) c.turns.invariant.0
