@@ -199,34 +199,16 @@ const COLOURED: [Row; 2] = [
     },
 ];
 
-// With variables, locals and printed numbers, by their names: two pardos have their own locals, of the second one the other is set, and the
-// first variable is never.
-const WITH_LOCALS: [Row; 1] = [Row {
-    text: "rule crew; procs 2; var k; var m;\nbegin\n  m := 1;\n  for 1 <= i <= 2 pardo local x;\n    x := i;\n  end\n  \
-        for 1 <= j <= m pardo local y; local z;\n    z := j + m;\n  end\n  print m;\nend\n",
-    input: &[],
-    bound: 1000,
-    first: 1,
-    last: 1000,
-    told: "1 line 3 processors 1 m 0 -> 1\n2 line 4 processors 1\n3 line 5 processors 2 x 1: 0 -> 1 2: 0 -> 2\n\
-        4 line 7 processors 1\n5 line 8 processors 1 z 1: 0 -> 2\n6 line 10 processors 1 prints 1\n",
-}];
-
-// Whether that is written of a row's run, plainly or on a terminal, with locals or without.
-fn is_written(alloc: Global, row: &Row, manner: Manner<'_>, locals: bool) -> Option<bool> {
+// Whether that is written of a row's run, plainly or on a terminal.
+fn is_written(alloc: Global, row: &Row, telling: &Telling<'_>) -> Option<bool> {
     let tree = parse(alloc, row.text.as_bytes()).ok()?;
     let program = check(alloc, tree).ok()?;
     let (_outcome, entries) = steps_of(alloc, &program, row.input, row.bound).ok()?;
     let mut out = Buffer::new(alloc);
-    let detail = if locals {
-        Detail::Locals(program.tree())
-    } else {
-        Detail::Cells
-    };
     write_steps(
         &mut out,
         program.layout(),
-        &Telling { manner, detail },
+        telling,
         &entries,
         row.first,
         row.last,
@@ -236,12 +218,16 @@ fn is_written(alloc: Global, row: &Row, manner: Manner<'_>, locals: bool) -> Opt
 }
 
 fn is_told(alloc: Global, row: &Row) -> Option<bool> {
-    is_written(alloc, row, Manner::Plain, false)
+    let (manner, detail) = (Manner::Plain, Detail::Cells);
+    let telling = Telling { manner, detail };
+    is_written(alloc, row, &telling)
 }
 
 fn is_told_on_terminal(alloc: Global, row: &Row, colours: bool) -> Option<bool> {
     let text = row.text.as_bytes();
-    is_written(alloc, row, Manner::OnTerminal { text, colours }, false)
+    let (manner, detail) = (Manner::OnTerminal { text, colours }, Detail::Cells);
+    let telling = Telling { manner, detail };
+    is_written(alloc, row, &telling)
 }
 
 #[test]
@@ -249,14 +235,6 @@ fn statements_are_told_as_worked_by_hand(rt: HostRuntime) {
     let alloc = rt.alloc();
     for row in &ROWS {
         assert_eq!(rt; is_told(alloc, row), Some(true));
-    }
-}
-
-#[test]
-fn locals_are_told_by_name(rt: HostRuntime) {
-    let alloc = rt.alloc();
-    for row in &WITH_LOCALS {
-        assert_eq!(rt; is_written(alloc, row, Manner::Plain, true), Some(true));
     }
 }
 
