@@ -1,6 +1,6 @@
 -- What holds of the files that names stand for holds as long as they stand for the same.
-use Rattle.std.proofs.Common.{◌≡◌, ℕ, List, sym, subst}
-use Rattle.std.specs.Prelude.{Option, Some, None, IsSomeAnd, Result, Ok, Err, IfErr, IsErrAnd}
+use Rattle.std.proofs.Common.{◌≡◌, ℕ, List}
+use Rattle.std.specs.Prelude.{Option, Some, None, IsSomeAnd}
 use Rattle.pram_tokens.specs.Scanning.{longest}
 use Rattle.std.specs.Option.{ForSome}
 use Rattle.system_files.specs.Files.{IsReadFrom, IsSame}
@@ -68,8 +68,3 @@ module _ (now before : List ℕ → Option (List ℕ) → Type 0) (same : IsSame
   -- that its file is refused
   pub input_stops : (words : RunWords) (h : Halted) → StopsAtInputFor now words h → StopsAtInputFor before words h
   input_stops words h stops = some_and words.input _ _ (λ name i. at_file name.now longest IsOfInput h.stop h.about i) stops
-
--- what an answer hands on
-pub hands_on : {X E : Type 0} (r : Result X E) (e : E) (P : E → Type 0) → IsErrAnd r (λ x. x ≡ e) → P e → IfErr r P
-hands_on (Ok x) e P is h = absurd is
-hands_on (Err x) e P is h = subst P (sym is) h

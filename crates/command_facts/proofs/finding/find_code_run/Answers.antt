@@ -2,7 +2,8 @@ use Rattle.std.proofs.Common.{◌∙◌, ap, inr, inl}
 use Rattle.pram_model.specs.Layout.{total_size}
 use Rattle.superstep_instructions.specs.Code.{SuperstepCode}
 use Rattle.command_facts.proofs.Refusals.{stops_at_code_run}
-use Rattle.command_facts.proofs.Same.{hands_on, input_held, input_stops}
+use Rattle.command_facts.proofs.Same.{input_held, input_stops}
+use Rattle.command_sizes.proofs.Sizes.{hands_on}
 use Rattle.command_facts.proofs.finding.find_code_run.Goals as goal
 
 pub returns-in_err-input-clause-refused : goal.returns-in_err-input-clause-refused
