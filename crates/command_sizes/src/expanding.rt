@@ -46,8 +46,8 @@ fn stop_of_sizes<'a>(fault: SizeFault, words: &[&'a str]) -> Stop<'a>
 
 /// What a text comes to by the sizes that these words give.
 ///
-/// A text of more than 1,048,576 bytes is E2, then the first byte of 128 or more E1. Then come the first bad place of its sizes (E19), the
-/// first word of a size that the text doesn't declare (P1), and an expansion that is too long (E2).
+/// A text of more than 1,048,576 bytes is E2, then the first byte of 128 or more E1. Then come the first bad size line (E19), the first
+/// word of a size that the text doesn't declare (P1), the first bad place of an expression (E19), and an expansion that is too long (E2).
 pub fn expanded<'a>(
     alloc: Global,
     text: &[u8],
