@@ -4,17 +4,17 @@ use Rattle.pram_names.specs.declared.fault.Breach.{Breach}
 use Rattle.text_places.specs.Excerpts.{excerpt}
 use Rattle.diagnoses.specs.declared.source.Source.{Source}
 use Rattle.diagnoses.specs.Remarks.{Remark}
-use Rattle.diagnoses.specs.Breaches.{breach_diagnosis, breach_sentence, offset_of, word_at}
+use Rattle.diagnoses.specs.Breaches.{breach_diagnosis, offset_of, said_of, word_at}
 use Rattle.diagnoses.specs.Sources.{spot_as_it_stands, text_in}
 
 module _ (s : Source) (b : Breach) (r : Remark) where
   with_parts : (name bytes : List ℕ) (at : ℕ) (word : List ℕ) → List ℕ
-  with_parts name bytes at word = excerpt name bytes at ++ breach_sentence word b.cause r
+  with_parts name bytes at word = excerpt name bytes at ++ said_of s.kind word b.cause r
 
   -- by the name, the bytes, the offset in the file, and the word that is judged
   pub breach_parts : (name bytes word : List ℕ) (at : ℕ) → name ≡ s.name.now → bytes ≡ s.bytes.items →
       at ≡ offset_of s.bytes.items (spot_as_it_stands s b.spot) → word ≡ word_at (text_in s) b.spot →
-      breach_diagnosis s b r ≡ excerpt name bytes at ++ breach_sentence word b.cause r
+      breach_diagnosis s b r ≡ excerpt name bytes at ++ said_of s.kind word b.cause r
   unfolding with_parts
   breach_parts name bytes word at named held placed worded =
       let there = offset_of s.bytes.items (spot_as_it_stands s b.spot) in

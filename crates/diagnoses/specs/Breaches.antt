@@ -11,6 +11,8 @@ use Rattle.pram_names.specs.declared.fault.Breach.{Breach}
 use Rattle.scope_names.specs.declared.known.Sort.{Sort}
 use Rattle.scope_names.specs.declared.known.Sort.TheVariants as sort
 use Rattle.text_places.specs.Excerpts.{excerpt}
+use Rattle.diagnoses.specs.declared.source.Kind.{Kind}
+use Rattle.diagnoses.specs.declared.source.Kind.TheVariants as kind
 use Rattle.diagnoses.specs.declared.source.Source.{Source}
 use Rattle.diagnoses.specs.Places.{quoted, token_at}
 use Rattle.diagnoses.specs.Remarks.{Remark, Nothing, Nearest, Declared, Expected}
@@ -69,7 +71,7 @@ abbrev pub remarked : List ℕ → Cause → Remark → List ℕ
 remarked word c Nothing = bare word c
 remarked word c (Nearest name) = codes " is not declared here; did you mean \"" ++ (name ++ codes "\"?\n")
 remarked word c (Declared s line) = declared_text c s line
-remarked word c (Expected found) = bare word c
+remarked word c (Expected found hint) = bare word c
 
 abbrev pub limit_sentence : Limit → List ℕ
 limit_sentence limit.Cells = codes "with this the program has more than 1048576 shared cells, the most that there may be\n"
@@ -85,6 +87,17 @@ abbrev pub breach_sentence : List ℕ → Cause → Remark → List ℕ
 breach_sentence word (cause.Limit l) r = limit_sentence l
 breach_sentence word c r = named_sentence word c r
 
+-- of a name in a memory
+abbrev pub unnamed : List ℕ → List ℕ
+unnamed word = quoted word ++ codes " names no shared cells of the program\n"
+
+-- of a word in a text of that kind
+abbrev pub said_of : Kind → List ℕ → Cause → Remark → List ℕ
+said_of kind.Program word c r = breach_sentence word c r
+said_of kind.Input word c r = breach_sentence word c r
+said_of kind.Memory word c r = unnamed word
+said_of kind.Listing word c r = breach_sentence word c r
+
 -- where it stands
 abbrev pub offset_of : List ℕ → Spot → ℕ
 offset_of text (spot.Offset at) = at
@@ -99,4 +112,4 @@ word_at text s = token_at text (offset_of text s)
 abbrev pub breach_diagnosis : Source → Breach → Remark → List ℕ
 breach_diagnosis s b r =
     excerpt s.name.now s.bytes.items (offset_of s.bytes.items (spot_as_it_stands s b.spot))
-    ++ breach_sentence (word_at (text_in s) b.spot) b.cause r
+    ++ said_of s.kind (word_at (text_in s) b.spot) b.cause r

@@ -1,8 +1,9 @@
 pub mod Sources
 pub mod RefusedLines
 pub mod Places
-pub mod TextFaults
 pub mod Remarks
+pub mod SyntaxFaults
+pub mod TextFaults
 pub mod Breaches
 pub mod SizeFaults
 pub mod Stops

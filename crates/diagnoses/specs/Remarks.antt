@@ -12,6 +12,8 @@ use Rattle.scope_names.specs.Nearness.{named, nearest}
 use Rattle.scope_names.specs.declared.known.Sort.{Sort}
 use Rattle.token_choices.specs.declared.choice.Choice.{Choice}
 use Rattle.token_choices.specs.Choices.{AreChoicesBehind}
+use Rattle.syntax_hints.specs.Hints.{IsHint}
+use Rattle.syntax_hints.specs.declared.hint.Hint.{Hint}
 use Rattle.diagnoses.specs.declared.remark as rust
 use Rattle.diagnoses.specs.declared.remark.Remark.TheVariants as variant
 use Rattle.diagnoses.specs.Places.{token_at}
@@ -20,13 +22,13 @@ pub data Remark : Type 0 where
   Nothing : Remark
   Nearest : List ℕ → Remark
   Declared : Sort → ℕ → Remark
-  Expected : List Choice → Remark
+  Expected : List Choice → Hint → Remark
 
 abbrev pub remark_is : rust.Remark.Remark → Remark
 remark_is variant.Nothing = Nothing
 remark_is (variant.Nearest name) = Nearest name.items
 remark_is (variant.Declared s line) = Declared s line
-remark_is (variant.Expected found) = Expected found.items
+remark_is (variant.Expected found hint) = Expected found.items hint
 
 -- the name that was meant, if there is one
 abbrev pub meant : Option Known → Remark
@@ -58,6 +60,9 @@ remark_of text tree b = remark_at text tree b.spot b.cause
 abbrev pub IsRemark : (text : List ℕ) → ProgramTree → Breach → Remark → Type 0
 IsRemark text tree b r = (r ≡ remark_of text tree b) ⊎ (r ≡ Nothing)
 
--- the kinds of tokens that could stand at a place, behind what stands before it, or nothing where memory was refused
+-- the kinds of tokens that could stand at a place, behind what stands before it, and what else there is to say of it; or nothing where memory
+-- was refused
 abbrev pub IsExpectation : (text : List ℕ) → ℕ → Remark → Type 0
-IsExpectation text at r = ((found : List Choice) × (r ≡ Expected found) × AreChoicesBehind (take at text) found) ⊎ (r ≡ Nothing)
+IsExpectation text at r =
+    ((found : List Choice) × (hint : Hint) × (r ≡ Expected found hint) × AreChoicesBehind (take at text) found × IsHint text at found hint)
+    ⊎ (r ≡ Nothing)

@@ -8,7 +8,7 @@ ghost use Rattle.diagnoses.specs.Sources.{spot_as_it_stands};
 
 use crate::places::{token_at, write_quoted};
 use crate::remark::Remark;
-use crate::source::Source;
+use crate::source::{Kind, Source};
 use crate::standing::spot_as_it_stands;
 use itoa::Buffer;
 use pram_check::{Breach, Cause, Limit, Spot};
@@ -125,7 +125,7 @@ fn write_remarked<W: Out>(
             b"\"?\n",
         ]),
         Remark::Declared(sort, line) => write_declared(out, cause, *sort, *line),
-        Remark::Expected(_) => out.write_all(bare(word, cause)),
+        Remark::Expected(_, _) => out.write_all(bare(word, cause)),
     }
 }
 
@@ -171,6 +171,32 @@ fn write_sentence<W: Out>(
     }
 }
 
+// What is said of a name in a memory.
+fn write_unnamed<W: Out>(out: &mut W, word: &[u8]) -> Result<(), WriteFault>
+    requires counted { (W.Out.state out.old).failures < 2 ^ 63 }
+    ensures written { Writes (W.Out.state out.old) (W.Out.state out.new) (spec.unnamed word.now) result }
+{
+    write_quoted(out, word)?;
+    out.write_all(b" names no shared cells of the program\n")
+}
+
+// The sentence on a word, by the kind of text in which it stands.
+fn write_said<W: Out>(
+    out: &mut W,
+    kind: Kind,
+    word: &[u8],
+    cause: Cause,
+    remark: &Remark,
+) -> Result<(), WriteFault>
+    requires counted { (W.Out.state out.old).failures < 2 ^ 63 }
+    ensures written { Writes (W.Out.state out.old) (W.Out.state out.new) (spec.said_of kind word.now cause (remark_is remark.now)) result }
+{
+    match kind {
+        Kind::Memory => write_unnamed(out, word),
+        Kind::Program | Kind::Input | Kind::Listing => write_sentence(out, word, cause, remark),
+    }
+}
+
 fn offset_of(text: &[u8], spot: Spot) -> usize
     ensures { result ≡ spec.offset_of text.now spot }
 {
@@ -194,8 +220,9 @@ fn offset_in(source: &Source<'_>, spot: Spot) -> usize
     offset_of(source.bytes.as_slice(), spot_as_it_stands(source, spot))
 }
 
-/// Writes what is said of the first thing that is wrong with a program (E6 to E10): where in the file, with the line and a caret, and a sentence on the
-/// name there by what there is to say of it, or on the limit. The error is that the writer failed (E17).
+/// Writes what is said of the first thing that is wrong with a program (E6 to E10), or with a name in a memory (E6): where in the file, with
+/// the line and a caret, and a sentence on the name there by what there is to say of it, or on the limit. The error is that the writer failed
+/// (E17).
 pub fn write_breach<W: Out>(
     out: &mut W,
     source: &Source<'_>,
@@ -211,8 +238,9 @@ pub fn write_breach<W: Out>(
         source.bytes.as_slice(),
         offset_in(source, breach.spot),
     )?;
-    write_sentence(
+    write_said(
         out,
+        source.kind,
         word_at(source.text(), breach.spot),
         breach.cause,
         remark,

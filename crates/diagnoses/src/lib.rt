@@ -13,6 +13,7 @@ mod size_faults;
 mod source;
 mod standing;
 mod stops;
+mod syntax_faults;
 mod text_faults;
 
 pub use about::About;

@@ -1,6 +1,8 @@
 //! What there is to say of a name that is wrong, and of a token with which no program goes on.
 
-ghost use Rattle.std.specs.Prelude.{◌≡◌, List, ℕ, IfOk, Err, map};
+ghost use Rattle.std.specs.Prelude.{◌≡◌, ◌≤◌, List, ℕ, IfOk, Err, length, map, take};
+ghost use Rattle.pram_tokens.specs.Scanning.{longest};
+ghost use Rattle.token_choices.specs.Choices.{AreChoicesBehind};
 ghost use Rattle.std.specs.Option.{option_map};
 ghost use Rattle.pram_trees.specs.Program.{ProgramTree};
 ghost use Rattle.pram_trees.specs.Text.{IsTextOf};
@@ -15,6 +17,7 @@ use pram_tokens::LONGEST;
 use pram_trees::Tree;
 use scope_names::{Known, Sort, find, names_at, nearest};
 use std::alloc::{AllocError, Global};
+use syntax_hints::{Hint, hint_at};
 use token_choices::{Choice, choices_behind};
 
 /// What there is to say of a name that is wrong, or of a token with which no program goes on.
@@ -26,8 +29,8 @@ pub enum Remark {
     Nearest(Vec<u8>),
     /// As what the name is declared, and on which line.
     Declared(Sort, u32),
-    /// These kinds of tokens could stand there.
-    Expected(Vec<Choice>),
+    /// These kinds of tokens could stand there, and what else there is to say of the place.
+    Expected(Vec<Choice>, Hint),
 }
 
 // The name that was meant, if there is one.
@@ -94,16 +97,29 @@ pub fn remark_of(alloc: Global, text: &[u8], breach: Breach) -> Remark
     }
 }
 
-/// Which kinds of tokens could stand at a place, behind what stands before it. Nothing is said where memory was refused.
+// What else there is to say of a place where these kinds of tokens could stand.
+fn hinted(alloc: Global, text: &[u8], at: u32, found: Vec<Choice>) -> Remark
+    requires fits { length text.now ≤ longest }
+    requires choices { AreChoicesBehind (take at text.now) found.items }
+    ensures { spec.IsExpectation text.now at (spec.remark_is result) }
+{
+    match hint_at(alloc, text, at, &found) {
+        Ok(hint) => Remark::Expected(found, hint),
+        Err(AllocError) => Remark::Nothing,
+    }
+}
+
+/// Which kinds of tokens could stand at a place, behind what stands before it, and what else there is to say of it. Nothing is said where
+/// memory was refused.
 pub fn expected_at(alloc: Global, text: &[u8], at: u32) -> Remark
     ensures { spec.IsExpectation text.now at (spec.remark_is result) }
 {
     let before = front(text, at as usize);
-    if LONGEST < before.len() {
+    if LONGEST < text.len() || LONGEST < before.len() {
         return Remark::Nothing;
     }
     match choices_behind(alloc, before) {
-        Ok(found) => Remark::Expected(found),
+        Ok(found) => hinted(alloc, text, at, found),
         Err(_) => Remark::Nothing,
     }
 }

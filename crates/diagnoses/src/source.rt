@@ -13,6 +13,7 @@ const LAST_OFFSET: usize = 4_294_967_295;
 pub enum Kind {
     Program,
     Input,
+    Memory,
     Listing,
 }
 
@@ -45,6 +46,18 @@ fn place_in(expansion: &Expanded, bytes: &[u8], at: u32) -> u32
     }
 }
 
+// The same, of a place that may lie behind all offsets of 32 bits.
+fn far_place_in(expansion: &Expanded, bytes: &[u8], at: usize) -> usize
+    ensures { result ≡ spec.place_in expansion.now bytes.now at }
+{
+    let places = expansion.places.as_slice();
+    if at < places.len() {
+        places[at] as usize
+    } else {
+        bytes.len().min(LAST_OFFSET)
+    }
+}
+
 impl<'a> Source<'a> {
     /// The text that is judged: what the sizes of the file's text give, or that text itself.
     pub fn text(&self) -> &[u8]
@@ -64,6 +77,16 @@ impl<'a> Source<'a> {
         match &self.expansion {
             None => at,
             Some(expansion) => place_in(expansion, self.bytes.as_slice(), at),
+        }
+    }
+
+    /// The same, of any place.
+    pub(crate) fn far_origin(&self, at: usize) -> usize
+        ensures value { result ≡ spec.origin self.now at }
+    {
+        match &self.expansion {
+            None => at,
+            Some(expansion) => far_place_in(expansion, self.bytes.as_slice(), at),
         }
     }
 }

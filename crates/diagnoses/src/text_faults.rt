@@ -1,18 +1,19 @@
 //! What is said of a text that is refused before it is a program.
 
-ghost use Rattle.std.specs.Prelude.{◌≡◌, ◌<◌, ◌^◌};
+ghost use Rattle.std.specs.Prelude.{◌≡◌, ◌<◌, ◌+◌, ◌^◌, slice_index};
 ghost use Rattle.text_out.specs.Out.{Writes};
 ghost use Rattle.diagnoses.specs.Remarks.{remark_is};
 ghost use Rattle.diagnoses.specs.TextFaults as spec;
 
-use crate::places::{byte_at, token_at, write_quoted};
+use crate::places::byte_at;
 use crate::remark::Remark;
 use crate::source::{Kind, Source};
+use crate::syntax_faults::{write_bad_syntax, write_syntax_fault};
 use itoa::Buffer;
 use pram_trees::TextFault;
+use syntax_hints::stray_sentence;
 use text_out::{Out, WriteFault};
 use text_places::write_excerpt;
-use token_choices::{Choice, write_choices};
 
 fn write_not_ascii<W: Out>(out: &mut W, byte: u8) -> Result<(), WriteFault>
     requires counted { (W.Out.state out.old).failures < 2 ^ 63 }
@@ -32,119 +33,51 @@ fn too_long(kind: Kind) -> &'static [u8]
     match kind {
         Kind::Program => b"a program has at most 1048576 bytes\n",
         Kind::Input => b"an input has at most 1048576 bytes\n",
+        Kind::Memory => b"a memory has at most 1048576 bytes\n",
         Kind::Listing => b"a listing has at most 8388608 bytes\n",
     }
 }
 
-fn no_token(byte: u8) -> &'static [u8]
-    ensures { result.now ≡ spec.no_token byte }
+// The byte before a place, and 0 at the front.
+fn byte_before(text: &[u8], at: usize) -> u8
+    ensures { result ≡ spec.byte_before text.now at }
 {
-    if byte.is_ascii_digit() {
-        b"a number is at most 9223372036854775807, and no letter follows it at once\n"
+    if at == 0 { 0 } else { byte_at(text, at - 1) }
+}
+
+// The byte behind a place.
+fn byte_behind(text: &[u8], at: usize) -> u8
+    ensures { result ≡ slice_index text.now (at + 1) }
+{
+    if at < text.len() {
+        byte_at(text, at + 1)
     } else {
-        b"nothing of the language begins so\n"
+        0
     }
 }
 
-fn bad_token(kind: Kind, byte: u8) -> &'static [u8]
-    ensures { result.now ≡ spec.bad_token kind byte }
+fn no_token(text: &[u8], at: usize) -> &'static [u8]
+    ensures { result.now ≡ spec.no_token text.now at }
+{
+    stray_sentence(
+        byte_before(text, at),
+        byte_at(text, at),
+        byte_behind(text, at),
+    )
+}
+
+fn bad_token(kind: Kind, text: &[u8], at: usize) -> &'static [u8]
+    ensures { result.now ≡ spec.bad_token kind text.now at }
 {
     match kind {
         Kind::Input => {
             b"an input has whole numbers from -9223372036854775808 to 9223372036854775807, with white space between them\n"
         }
-        Kind::Program => no_token(byte),
-        Kind::Listing => no_token(byte),
-    }
-}
-
-fn write_stranger<W: Out>(out: &mut W, token: &[u8]) -> Result<(), WriteFault>
-    requires counted { (W.Out.state out.old).failures < 2 ^ 63 }
-    ensures written { Writes (W.Out.state out.old) (W.Out.state out.new) (spec.stranger token.now) result }
-{
-    write_quoted(out, token)?;
-    out.write_all(b" can't stand here: no program goes on with it\n")
-}
-
-fn write_named_choices<W: Out>(out: &mut W, found: &[Choice]) -> Result<(), WriteFault>
-    requires counted { (W.Out.state out.old).failures < 2 ^ 63 }
-    ensures written { Writes (W.Out.state out.old) (W.Out.state out.new) (spec.named_choices found.now) result }
-{
-    write_choices(out, found)?;
-    out.write_all(b"\n")
-}
-
-fn write_could_stand<W: Out>(out: &mut W, found: &[Choice]) -> Result<(), WriteFault>
-    requires counted { (W.Out.state out.old).failures < 2 ^ 63 }
-    ensures written { Writes (W.Out.state out.old) (W.Out.state out.new) (spec.could_stand found.now) result }
-{
-    out.write_all(b"here could stand ")?;
-    write_named_choices(out, found)
-}
-
-// What could stand there, if that is known.
-fn write_expected<W: Out>(out: &mut W, remark: &Remark) -> Result<(), WriteFault>
-    requires counted { (W.Out.state out.old).failures < 2 ^ 63 }
-    ensures written { Writes (W.Out.state out.old) (W.Out.state out.new) (spec.expected (remark_is remark.now)) result }
-{
-    match remark {
-        Remark::Expected(found) => write_could_stand(out, found),
-        Remark::Nothing => out.write_all(b""),
-        Remark::Nearest(_) => out.write_all(b""),
-        Remark::Declared(_, _) => out.write_all(b""),
-    }
-}
-
-fn write_open_end<W: Out>(out: &mut W, found: &[Choice]) -> Result<(), WriteFault>
-    requires counted { (W.Out.state out.old).failures < 2 ^ 63 }
-    ensures written { Writes (W.Out.state out.old) (W.Out.state out.new) (spec.open_end found.now) result }
-{
-    out.write_all(b"the text ends here; ")?;
-    write_could_stand(out, found)
-}
-
-fn write_bare_end<W: Out>(out: &mut W) -> Result<(), WriteFault>
-    requires counted { (W.Out.state out.old).failures < 2 ^ 63 }
-    ensures written { Writes (W.Out.state out.old) (W.Out.state out.new) spec.bare_end result }
-{
-    out.write_all(b"the text ends here, and the program does not\n")
-}
-
-// The end of a text whose program goes on.
-fn write_ended<W: Out>(out: &mut W, remark: &Remark) -> Result<(), WriteFault>
-    requires counted { (W.Out.state out.old).failures < 2 ^ 63 }
-    ensures written { Writes (W.Out.state out.old) (W.Out.state out.new) (spec.ended (remark_is remark.now)) result }
-{
-    match remark {
-        Remark::Expected(found) => write_open_end(out, found),
-        Remark::Nothing => write_bare_end(out),
-        Remark::Nearest(_) => write_bare_end(out),
-        Remark::Declared(_, _) => write_bare_end(out),
-    }
-}
-
-// A token with which no program goes on, and what could stand in its place.
-fn write_misplaced<W: Out>(out: &mut W, token: &[u8], remark: &Remark) -> Result<(), WriteFault>
-    requires counted { (W.Out.state out.old).failures < 2 ^ 63 }
-    ensures written { Writes (W.Out.state out.old) (W.Out.state out.new) (spec.misplaced token.now (remark_is remark.now)) result }
-{
-    write_stranger(out, token)?;
-    write_expected(out, remark)
-}
-
-fn write_bad_syntax<W: Out>(
-    out: &mut W,
-    text: &[u8],
-    at: usize,
-    remark: &Remark,
-) -> Result<(), WriteFault>
-    requires counted { (W.Out.state out.old).failures < 2 ^ 63 }
-    ensures written { Writes (W.Out.state out.old) (W.Out.state out.new) (spec.bad_syntax text.now at (remark_is remark.now)) result }
-{
-    if text.len() <= at {
-        write_ended(out, remark)
-    } else {
-        write_misplaced(out, token_at(text, at), remark)
+        Kind::Memory => {
+            b"a line of a memory is a name, the bounds of some of its cells if they are not all meant, = and their values, as a[1..4] = 4 3 2 1\n"
+        }
+        Kind::Program => no_token(text, at),
+        Kind::Listing => no_token(text, at),
     }
 }
 
@@ -163,10 +96,7 @@ fn write_sentence<W: Out>(
     match fault {
         TextFault::NotAscii(at) => write_not_ascii(out, byte_at(text, at as usize)),
         TextFault::TextTooLong => out.write_all(too_long(source.kind)),
-        TextFault::BadToken(at) => out.write_all(bad_token(
-            source.kind,
-            byte_at(text, at as usize),
-        )),
+        TextFault::BadToken(at) => out.write_all(bad_token(source.kind, text, at as usize)),
         TextFault::Syntax(at) => write_bad_syntax(out, text, at as usize, remark),
         TextFault::TooDeep(_) => {
             out.write_all(
@@ -178,19 +108,6 @@ fn write_sentence<W: Out>(
                 b"memory was refused: nothing is said of the text or the run, and with more memory it may go well\n",
             )
         }
-    }
-}
-
-fn text_place(fault: TextFault) -> Option<u32>
-    ensures { result ≡ spec.text_place fault }
-{
-    match fault {
-        TextFault::NotAscii(at) => Some(at),
-        TextFault::TextTooLong => None,
-        TextFault::BadToken(at) => Some(at),
-        TextFault::Syntax(at) => Some(at),
-        TextFault::TooDeep(at) => Some(at),
-        TextFault::OutOfMemory => None,
     }
 }
 
@@ -227,8 +144,13 @@ pub fn write_text_fault<W: Out>(
     ensures written { Writes (W.Out.state out.old) (W.Out.state out.new)
         (spec.text_diagnosis source.now fault (remark_is remark.now)) result }
 {
-    match text_place(fault) {
-        None => write_sentence(out, source, fault, remark),
-        Some(at) => write_placed(out, source, at, fault, remark),
+    match fault {
+        TextFault::Syntax(at) => write_syntax_fault(out, source, at, remark),
+        TextFault::NotAscii(at) | TextFault::BadToken(at) | TextFault::TooDeep(at) => {
+            write_placed(out, source, at, fault, remark)
+        }
+        TextFault::TextTooLong | TextFault::OutOfMemory => {
+            write_sentence(out, source, fault, remark)
+        }
     }
 }

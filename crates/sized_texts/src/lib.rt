@@ -28,5 +28,5 @@ pub use line::Line;
 pub use operation::{Function, Operator, applied, called};
 pub use reason::{Reason, reason_word};
 pub use size::Size;
-pub use size_word::read_size;
+pub use size_word::{name_of, read_size};
 pub use stop::Wrong;

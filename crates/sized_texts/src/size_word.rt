@@ -52,6 +52,13 @@ fn split_name(word: &[u8]) -> (&[u8], &[u8])
     word.split_at(word_len(word))
 }
 
+/// The name with which a word begins: its first letters, digits and `_`.
+pub fn name_of(word: &str) -> &[u8]
+    ensures { result.now ≡ spec.name_of word.now }
+{
+    split_name(word.as_bytes()).0
+}
+
 /// The size of a word `NAME=VALUE`, as of a command line: NAME is one or more letters, digits and `_`, and VALUE one or more digits of a
 /// number up to 9223372036854775807. `None`: the word has another form. The error is that memory was refused.
 pub fn read_size(alloc: Global, word: &str) -> Result<Option<Size>, AllocError>

@@ -7,5 +7,5 @@ pub mod sample_laws;
 mod writing;
 
 pub use asking::choices_behind;
-pub use choice::Choice;
+pub use choice::{Choice, sample};
 pub use writing::{write_choice, write_choices};

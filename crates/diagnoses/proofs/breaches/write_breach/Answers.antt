@@ -19,5 +19,5 @@ returns g c =
     let whole = breach_parts c.args.source.now c.args.breach (remark_is c.args.remark.now) c.as_bytes.result.now c.as_slice.result.now
     c.word_at.result.now c.offset_in.result c.as_bytes.ensures.value c.as_slice.ensures.value c.offset_in.ensures worded in
     record {
-      written = both _ _ _ _ _ _ c.write_sentence.result whole c.in_ok-write_excerpt.ensures.written c.write_sentence.ensures.written;
+      written = both _ _ _ _ _ _ c.write_said.result whole c.in_ok-write_excerpt.ensures.written c.write_said.ensures.written;
     }

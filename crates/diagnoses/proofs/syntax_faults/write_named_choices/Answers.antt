@@ -1,6 +1,6 @@
 use Rattle.std.proofs.Common.{refl}
 use Rattle.text_places.proofs.Pieces.{both, stops_in_first}
-use Rattle.diagnoses.proofs.text_faults.write_named_choices.Goals as goal
+use Rattle.diagnoses.proofs.syntax_faults.write_named_choices.Goals as goal
 
 pub returns-in_err-write_choices : goal.returns-in_err-write_choices
 returns-in_err-write_choices g c = record {

@@ -1,6 +1,6 @@
 use Rattle.std.proofs.Common.{refl}
 use Rattle.text_places.proofs.Pieces.{both, stops_in_first}
-use Rattle.diagnoses.proofs.text_faults.write_could_stand.Goals as goal
+use Rattle.diagnoses.proofs.syntax_faults.write_open_end.Goals as goal
 
 pub returns-in_err-write_all : goal.returns-in_err-write_all
 returns-in_err-write_all g c = record {
@@ -8,4 +8,4 @@ returns-in_err-write_all g c = record {
 }
 
 pub returns : goal.returns
-returns g c = record { written = both _ _ _ _ _ _ c.write_named_choices.result (refl) c.in_ok-write_all.ensures.written c.write_named_choices.ensures.written }
+returns g c = record { written = both _ _ _ _ _ _ c.write_could_stand.result (refl) c.in_ok-write_all.ensures.written c.write_could_stand.ensures.written }

@@ -1,6 +1,6 @@
 use Rattle.std.proofs.Common.{refl}
 use Rattle.text_places.proofs.Pieces.{both, stops_in_first}
-use Rattle.diagnoses.proofs.text_faults.write_stranger.Goals as goal
+use Rattle.diagnoses.proofs.syntax_faults.write_stranger.Goals as goal
 
 pub returns-in_err-write_quoted : goal.returns-in_err-write_quoted
 returns-in_err-write_quoted g c = record {

@@ -1,0 +1,4 @@
+pub mod Reaching
+pub mod Inserting
+pub mod Farthest
+pub mod Together

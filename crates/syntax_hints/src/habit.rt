@@ -1,0 +1,56 @@
+//! What other languages write.
+
+ghost use Rattle.std.specs.Prelude.{◌≡◌};
+ghost use Rattle.syntax_hints.specs.Habits as spec;
+
+/// What a word or a symbol would be that can't stand at its place.
+#[derive(Clone, Copy, Debug, PartialEq, Eq)]
+pub enum Habit {
+    /// A word for `else if`.
+    ElseIf,
+    /// A word that ends a block of its own.
+    BlockEnd,
+    /// The second `=` of two.
+    Compare,
+    /// A sign of an assignment.
+    Assign,
+    /// A declaration among statements.
+    Declaration,
+    /// Locals among statements.
+    Local,
+    /// A word in the place of `do`.
+    Do,
+    /// A word in the place of `then`.
+    Then,
+    /// A word in the place of `pardo`.
+    Pardo,
+    /// A block within the program.
+    Begin,
+    /// A call of a function.
+    Call,
+    /// A keyword in the place of a name.
+    Keyword,
+}
+
+/// What is said behind the word or symbol.
+pub fn habit_text(habit: Habit) -> &'static [u8]
+    ensures { result.now ≡ spec.habit_text habit }
+{
+    match habit {
+        Habit::ElseIf =>
+            b" is no word of the language: write \"else if\", and an \"end\" for each \"if\"\n",
+        Habit::BlockEnd => b" is no word of the language: a block ends with \"end\"\n",
+        Habit::Compare => b" can't stand here: one \"=\" compares, and \":=\" assigns\n",
+        Habit::Assign => b" can't stand here: \":=\" assigns\n",
+        Habit::Declaration => b" can't stand here: declarations stand before \"begin\"\n",
+        Habit::Local => b" can't stand here: locals are declared first in the body of a pardo\n",
+        Habit::Do => b" can't stand here: the body begins with \"do\"\n",
+        Habit::Then => b" can't stand here: what an \"if\" does begins with \"then\"\n",
+        Habit::Pardo => b" can't stand here: the body of a range begins with \"pardo\"\n",
+        Habit::Begin =>
+            b" can't stand here: a program has one \"begin\", and a block goes up to its \"end\"\n",
+        Habit::Call =>
+            b" can't stand here: there are no functions, and a subscript stands between [ and ]\n",
+        Habit::Keyword => b" is a keyword, and no name\n",
+    }
+}

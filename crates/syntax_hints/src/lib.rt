@@ -1,0 +1,16 @@
+//! Why a program doesn't go on at a place: which token is missing, which block is open, or what other languages write so.
+#![tactic(auto)]
+
+mod blocks;
+mod habit;
+mod hint;
+mod hinting;
+mod missing;
+mod sign;
+mod stray;
+mod words;
+
+pub use habit::{Habit, habit_text};
+pub use hint::Hint;
+pub use hinting::hint_at;
+pub use stray::stray_sentence;

@@ -1,0 +1,65 @@
+//! What is said of a byte that begins no token.
+
+ghost use Rattle.std.specs.Prelude.{◌≡◌};
+ghost use Rattle.syntax_hints.specs.Strays as spec;
+
+const NUMBER: &[u8] =
+    b"a number is at most 9223372036854775807, and no letter follows it at once\n";
+
+const NOTHING: &[u8] = b"nothing of the language begins so\n";
+
+fn of_exclamation(next: u8) -> &'static [u8]
+    ensures { result.now ≡ spec.of_exclamation next }
+{
+    if next == b'=' {
+        b"\"<>\" compares what differs\n"
+    } else {
+        b"\"not\" turns a condition around\n"
+    }
+}
+
+fn of_dot(before: u8) -> &'static [u8]
+    ensures { result.now ≡ spec.of_dot before }
+{
+    if before.is_ascii_digit() {
+        b"there are no fractions: values are whole numbers\n"
+    } else {
+        NOTHING
+    }
+}
+
+fn of_symbol(byte: u8) -> &'static [u8]
+    ensures { result.now ≡ spec.of_symbol byte }
+{
+    match byte {
+        b'/' => b"division is \"div\", and its remainder \"mod\"; a comment begins with \"#\"\n",
+        b'%' => b"the remainder of a division is \"mod\"\n",
+        b'&' => b"\"and\" joins two conditions\n",
+        b'|' => b"\"or\" joins two conditions\n",
+        b'^' => b"there is no power: x * x is the square of x\n",
+        b'{' | b'}' =>
+            b"there are no braces: a block goes up to its \"end\", and a comment begins with \"#\"\n",
+        b'"' | b'\'' => b"there are no texts: \"print\" prints numbers\n",
+        b',' =>
+            b"there are no commas: a declaration has one name, an array one subscript, a print one number\n",
+        b':' => b"\":=\" assigns, and names have no types\n",
+        b'_' => b"a name begins with a letter\n",
+        _ => NOTHING,
+    }
+}
+
+/// What is said of a byte that begins no token, with the byte before it and the one behind it, or 0 where there is none: the word of the
+/// language for what other languages write so.
+pub fn stray_sentence(before: u8, byte: u8, next: u8) -> &'static [u8]
+    ensures { result.now ≡ spec.stray_sentence before byte next }
+{
+    if byte.is_ascii_digit() {
+        NUMBER
+    } else if byte == b'!' {
+        of_exclamation(next)
+    } else if byte == b'.' {
+        of_dot(before)
+    } else {
+        of_symbol(byte)
+    }
+}
