@@ -1,0 +1,3 @@
+pub mod Dots
+pub mod Parts
+pub mod Turns

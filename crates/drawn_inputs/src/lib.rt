@@ -1,0 +1,12 @@
+//! Inputs drawn at random: whole numbers of an interval, by a generator that a seed starts.
+#![tactic(auto)]
+
+mod drawing;
+mod interval;
+mod numbers;
+#[cfg(test)]
+mod rows;
+
+pub use drawing::Drawing;
+pub use interval::read_interval;
+pub use numbers::draw;

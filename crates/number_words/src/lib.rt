@@ -1,0 +1,6 @@
+//! The whole number that a word is.
+#![tactic(auto)]
+
+mod number;
+
+pub use number::read_number;
