@@ -1,0 +1,6 @@
+pub mod Entries
+pub mod Within
+pub mod Numbers
+pub mod Lines
+pub mod Puts
+pub mod Refusals

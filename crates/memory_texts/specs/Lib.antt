@@ -1,0 +1,5 @@
+pub mod Front
+pub mod Headings
+pub mod Cells
+pub mod Assignments
+pub mod Memory
