@@ -4,3 +4,4 @@ pub mod Numbers
 pub mod Lines
 pub mod Puts
 pub mod Refusals
+pub mod Parts

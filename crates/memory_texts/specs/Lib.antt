@@ -3,3 +3,4 @@ pub mod Headings
 pub mod Cells
 pub mod Assignments
 pub mod Memory
+pub mod Chosen

@@ -3,10 +3,14 @@
 
 mod assignment;
 mod cells;
+mod choice;
+mod chosen;
 mod front;
 mod heading;
 mod memory_fault;
 mod reading;
 
+pub use choice::{Choice, is_chosen, unknown_name};
+pub use chosen::show_chosen;
 pub use memory_fault::MemoryFault;
 pub use reading::read_memory;

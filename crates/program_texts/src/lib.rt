@@ -14,6 +14,6 @@ pub use from_text::{Refusal, TextOutcome, mean_program, meaning_of_text, read_pr
 pub use last_flush::finish;
 pub use outcome_text::{show, write_fault, write_fault_text};
 pub use rule_text::rule_word;
-pub use show_parts::{write_cell, write_values};
+pub use show_parts::{write_cell, write_entry, write_items, write_values};
 pub use status::Status;
 pub use stop::{Stop, write_stop};

@@ -17,8 +17,8 @@ pub(crate) fn decimal<'a>(digits: &'a mut Buffer, number: &i64) -> &'a [u8]
     digits.format(*number).as_bytes()
 }
 
-// The output items, each on a line.
-pub(crate) fn write_items<W: Out>(out: &mut W, items: &[i64]) -> Result<(), WriteFault>
+/// Writes output items in decimal, each on a line. The error is that the writer failed (E17).
+pub fn write_items<W: Out>(out: &mut W, items: &[i64]) -> Result<(), WriteFault>
     requires counted { (W.Out.state out.old).failures < 2 ^ 63 }
     ensures written { Writes (W.Out.state out.old) (W.Out.state out.new) (shown.item_lines items.now) result }
 {
@@ -67,8 +67,8 @@ fn write_entry_name<W: Out>(
     }
 }
 
-// The values of a declaration's cells, on a line.
-fn write_entry<W: Out>(
+/// Writes the values of a declaration's cells on a line, as `s = 7` or `a[1..4] = 4 3 2 1`. The error is that the writer failed (E17).
+pub fn write_entry<W: Out>(
     out: &mut W,
     name: &[u8],
     bounds: &Option<(i64, i64)>,
