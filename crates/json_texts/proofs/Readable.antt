@@ -33,7 +33,10 @@ use Rattle.step_entries.specs.Causes as told
 use Rattle.step_entries.specs.Entries.{Act, Entry, Faulting, Ran}
 use Rattle.json_texts.specs.AcceptedFacts.{accepted_facts, accepted_fields}
 use Rattle.json_texts.specs.CostFacts.{bound_fields, cost_facts, cost_fields, line_facts, line_fields, round_fields}
-use Rattle.json_texts.specs.OutcomeFacts.{bounds_fields, entry_facts, fault_fields, memory_facts, outcome_facts, outcome_fields}
+use Rattle.memory_texts.specs.Chosen.{chosen}
+use Rattle.memory_texts.specs.declared.choice.Choice.{Choice}
+use Rattle.memory_texts.specs.declared.choice.Choice.TheVariants.{All}
+use Rattle.json_texts.specs.OutcomeFacts.{bounds_fields, chosen_facts, chosen_fields, entry_facts, fault_fields, memory_facts, outcome_facts, outcome_fields}
 use Rattle.json_texts.specs.RefusalFacts.{cause_fields, place_fields, reason_fields, stop_facts, stop_fields, text_fields}
 use Rattle.json_texts.specs.RuleFacts.{comparison_facts, finding_fields, rule_facts}
 use Rattle.json_texts.specs.ActFacts.{act_facts, cell_fact, processor_fact, write_fact}
@@ -51,21 +54,28 @@ small_entry e vs =
     small_object 1 ((codes "name", _) ∷ (codes "values", _) ∷ bounds_fields e.bounds)
     (small_letters 1 e.name, (small_values 0 vs, small_bounds 1 e.bounds))
 
-small_memory : (layout : List SharedEntry) (memory : List ℤ) → AreSmall 2 (memory_facts layout memory)
-small_memory [] memory = tt
-small_memory (e ∷ es) memory = (small_entry e (take (size e.bounds) memory), small_memory es (drop (size e.bounds) memory))
+small_memory : (ds : List (SharedEntry × List ℤ)) → AreSmall 2 (memory_facts ds)
+small_memory [] = tt
+small_memory (d ∷ ds) = (small_entry d.0 d.1, small_memory ds)
 
 small_fault : (n : ℕ) (layout : List SharedEntry) (fault : Fault) → HasSmall n (fault_fields layout fault)
 small_fault n layout fault = (small_word n _, (small_letters n _, (small_count n fault.line, tt)))
 
+small_chosen : (choice : Choice) (layout : List SharedEntry) (v : Verdict) → HasSmall 3 (chosen_fields choice layout v)
+small_chosen choice layout (Ended output memory) =
+    let ds = chosen choice layout memory in
+    (small_word 3 _, (small_values 2 output, (small_list 2 (memory_facts ds) (small_memory ds), tt)))
+small_chosen choice layout (Faulted fault output) = (small_word 3 _, (small_values 2 output, small_fault 3 layout fault))
+small_chosen choice layout (GoesOn output) = (small_word 3 _, (small_values 2 output, tt))
+
 small_outcome : (layout : List SharedEntry) (v : Verdict) → HasSmall 3 (outcome_fields layout v)
-small_outcome layout (Ended output memory) =
-    (small_word 3 _, (small_values 2 output, (small_list 2 (memory_facts layout memory) (small_memory layout memory), tt)))
-small_outcome layout (Faulted fault output) = (small_word 3 _, (small_values 2 output, small_fault 3 layout fault))
-small_outcome layout (GoesOn output) = (small_word 3 _, (small_values 2 output, tt))
+small_outcome layout v = small_chosen All layout v
 
 readable : (fields : List Field) → HasSmall 3 fields → IsReadable (object_of fields)
 readable fields h = smaller 4 127 (object_of fields) (lit≤ tt) (small_object 3 fields h)
+
+pub readable_chosen : (choice : Choice) (layout : List SharedEntry) (v : Verdict) → IsReadable (chosen_facts choice layout v)
+readable_chosen choice layout v = readable (chosen_fields choice layout v) (small_chosen choice layout v)
 
 pub readable_outcome : (layout : List SharedEntry) (v : Verdict) → IsReadable (outcome_facts layout v)
 readable_outcome layout v = readable (outcome_fields layout v) (small_outcome layout v)

@@ -10,6 +10,7 @@ ghost use Rattle.json_texts.specs.CostFacts as spec;
 
 use crate::outcome::put_outcome;
 use json_lines::{Object, Value, line_of};
+use memory_texts::Choice;
 use pram_trees::Layout;
 use std::alloc::{AllocError, Global};
 use work_time::{Cost, LineCost};
@@ -106,7 +107,7 @@ fn put_cost(
     put_bound(object, outcome, cost)?;
     put_rounds(object, cost, schedule)?;
     put_lines(alloc, object, cost, lines)?;
-    put_outcome(alloc, object, layout, outcome)
+    put_outcome(alloc, object, layout, outcome, Choice::All)
 }
 
 fn cost_value(

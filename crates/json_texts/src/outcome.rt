@@ -11,6 +11,7 @@ ghost use Rattle.json_texts.specs.OutcomeFacts as spec;
 use crate::fault::put_fault;
 use crate::memory::memory_of;
 use json_lines::{Object, Value, line_of};
+use memory_texts::Choice;
 use pram_trees::Layout;
 use std::alloc::{AllocError, Global};
 use write_rules::{Fault, Outcome};
@@ -19,13 +20,14 @@ fn put_end(
     alloc: Global,
     object: &mut Object,
     layout: &Layout,
+    choice: Choice<'_>,
     output: &[i64],
     memory: &[i64],
 ) -> Result<(), AllocError>
     ensures { OnOk result (shown object.new
-        ≡ with_fields (spec.outcome_fields layout.now (Ended output.now memory.now)) (shown object.old)) }
+        ≡ with_fields (spec.chosen_fields choice.entry layout.now (Ended output.now memory.now)) (shown object.old)) }
 {
-    let memory = memory_of(alloc, layout, memory)?;
+    let memory = memory_of(alloc, layout, choice, memory)?;
     object.put_word("outcome", "ended")?;
     object.put_values("output", output)?;
     object.put_list("memory", memory)
@@ -46,17 +48,19 @@ fn put_faulted(
     put_fault(alloc, object, layout, fault)
 }
 
-/// Puts how a run came out, what it printed, and its memory or its fault.
+/// Puts how a run came out, what it printed, and the memory of the chosen declarations or its fault.
 pub(crate) fn put_outcome(
     alloc: Global,
     object: &mut Object,
     layout: &Layout,
     outcome: &Outcome,
+    choice: Choice<'_>,
 ) -> Result<(), AllocError>
-    ensures { OnOk result (shown object.new ≡ with_fields (spec.outcome_fields layout.now (verdict_of outcome.now)) (shown object.old)) }
+    ensures { OnOk result (shown object.new
+        ≡ with_fields (spec.chosen_fields choice.entry layout.now (verdict_of outcome.now)) (shown object.old)) }
 {
     match outcome {
-        Outcome::Ended { output, memory } => put_end(alloc, object, layout, output, memory),
+        Outcome::Ended { output, memory } => put_end(alloc, object, layout, choice, output, memory),
         Outcome::Faulted { fault, output } => put_faulted(alloc, object, layout, output, fault),
         Outcome::GoesOn { output } => {
             object.put_word("outcome", "goes on")?;
@@ -70,19 +74,27 @@ pub(crate) fn outcome_value(
     alloc: Global,
     layout: &Layout,
     outcome: &Outcome,
+    choice: Choice<'_>,
 ) -> Result<Value, AllocError>
-    ensures { IfOk result (λ v. view v ≡ spec.outcome_facts layout.now (verdict_of outcome.now)) }
+    ensures { IfOk result (λ v. view v ≡ spec.chosen_facts choice.entry layout.now (verdict_of outcome.now)) }
 {
     let mut object = Object::new(alloc);
-    put_outcome(alloc, &mut object, layout, outcome)?;
+    put_outcome(alloc, &mut object, layout, outcome, choice)?;
     Ok(object.into_value())
 }
 
 /// An outcome, on a line: `{"memory":[{"name":"s","values":["7"]}],"outcome":"ended","output":["55"]}`, or at a fault
-/// `{"kind":"read-conflict","line":4,"outcome":"fault","output":[],"place":"a[1]"}`.
-pub fn json_outcome(alloc: Global, layout: &Layout, outcome: &Outcome) -> Result<String, AllocError>
-    ensures json { IfOk result (λ text. IsJson (spec.outcome_facts layout.now (verdict_of outcome.now) ∷ []) (string_bytes text)) }
+/// `{"kind":"read-conflict","line":4,"outcome":"fault","output":[],"place":"a[1]"}`. Of the memory the chosen declarations are told; what was
+/// printed is told with any choice.
+pub fn json_outcome(
+    alloc: Global,
+    layout: &Layout,
+    outcome: &Outcome,
+    choice: Choice<'_>,
+) -> Result<String, AllocError>
+    ensures json { IfOk result
+        (λ text. IsJson (spec.chosen_facts choice.entry layout.now (verdict_of outcome.now) ∷ []) (string_bytes text)) }
 {
-    let facts = outcome_value(alloc, layout, outcome)?;
+    let facts = outcome_value(alloc, layout, outcome, choice)?;
     line_of(alloc, &facts)
 }

@@ -17,6 +17,7 @@ use crate::cause::put_known;
 use crate::fault::{cell_text, put_fault};
 use crate::outcome::outcome_value;
 use json_lines::{Object, Value, push_line};
+use memory_texts::Choice;
 use pram_trees::{Layout, Location, Tree};
 use scope_names::{local_name, variable_name};
 use std::alloc::{AllocError, Global};
@@ -268,7 +269,7 @@ fn push_outcome(
     ensures json { OnOk result (Adds (outcome_facts layout.now (verdict_of outcome.now) ∷ [])
         (string_bytes text.old) (string_bytes text.new)) }
 {
-    let facts = outcome_value(alloc, layout, outcome)?;
+    let facts = outcome_value(alloc, layout, outcome, Choice::All)?;
     push_line(alloc, text, &facts)
 }
 

@@ -1,7 +1,7 @@
 use Rattle.std.proofs.Common.{subst, sym}
 use Rattle.json_lines.specs.Small.{IsReadable}
-use Rattle.json_texts.proofs.Readable.{readable_outcome}
+use Rattle.json_texts.proofs.Readable.{readable_chosen}
 use Rattle.json_texts.proofs.outcome.json_outcome.Goals as goal
 
 pub line_of-requires : goal.line_of-requires
-line_of-requires c = record { readable = subst IsReadable (sym c.in_ok-facts.ensures) (readable_outcome _ _) }
+line_of-requires c = record { readable = subst IsReadable (sym c.in_ok-facts.ensures) (readable_chosen c.args.choice c.args.layout.now _) }
