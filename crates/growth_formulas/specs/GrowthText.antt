@@ -9,13 +9,6 @@ use Rattle.growth_formulas.specs.declared.growth.Growth.{Growth}
 use Rattle.growth_formulas.specs.declared.growth.Growth.TheVariants.{Formula as ByFormula, Doubling, Nothing}
 use Rattle.growth_formulas.specs.Formulas.{coefficient}
 
-abbrev pub symbol : Term → List ℕ
-symbol Constant = []
-symbol Logarithm = codes "log n"
-symbol Linear = codes "n"
-symbol Linearithmic = codes "n log n"
-symbol Square = codes "n^2"
-
 -- the terms as they are written, from the one that grows fastest
 abbrev pub written : List Term
 written = Square ∷ Linearithmic ∷ Linear ∷ Logarithm ∷ Constant ∷ []
@@ -27,21 +20,28 @@ sign_text true (negsuc m) = codes "-"
 sign_text false (pos m) = codes " + "
 sign_text false (negsuc m) = codes " - "
 
--- `4 log n`, `log n` where the coefficient is 1, and `5` for a constant
-abbrev pub product_text : ℕ → List ℕ → List ℕ
-product_text m [] = decimal m
-product_text m (c ∷ cs) = if m == 1 then c ∷ cs else decimal m ++ (codes " " ++ (c ∷ cs))
+-- `4 `, and nothing for 1
+abbrev pub factor_text : ℕ → List ℕ
+factor_text m = if m == 1 then [] else decimal m ++ codes " "
+
+-- `4 log n`, `log n` where the coefficient is 1, and `5` for a constant, in a size of that name
+abbrev pub product_text : List ℕ → ℕ → Term → List ℕ
+product_text n m Constant = decimal m
+product_text n m Logarithm = factor_text m ++ (codes "log " ++ n)
+product_text n m Linear = factor_text m ++ n
+product_text n m Linearithmic = factor_text m ++ (n ++ (codes " log " ++ n))
+product_text n m Square = factor_text m ++ (n ++ codes "^2")
 
 -- `4 log n`, ` + 4 log n` or ` - 4 log n`
-abbrev pub signed_text : Bool → ℤ → List ℕ → List ℕ
-signed_text first c name = sign_text first c ++ product_text (unsigned_abs c) name
+abbrev pub signed_text : List ℕ → Bool → ℤ → Term → List ℕ
+signed_text n first c t = sign_text first c ++ product_text n (unsigned_abs c) t
 
 abbrev pub is_zero : ℤ → Bool
 is_zero c = unsigned_abs c == 0
 
 -- a term is left out where its coefficient is 0
-abbrev pub term_text : Bool → ℤ → List ℕ → List ℕ
-term_text first c name = if is_zero c then [] else signed_text first c name
+abbrev pub term_text : List ℕ → Bool → ℤ → Term → List ℕ
+term_text n first c t = if is_zero c then [] else signed_text n first c t
 
 -- behind a term that is left out the next one may be the first
 abbrev pub is_still_first : Bool → ℤ → Bool
@@ -52,24 +52,34 @@ abbrev pub rest_text : Bool → List ℕ
 rest_text first = if first then codes "0" else []
 
 -- these terms of a formula, of which the first may be the first that is written
-abbrev pub terms_text : Formula → Bool → List Term → List ℕ
-terms_text f first [] = rest_text first
-terms_text f first (t ∷ ts) =
-    term_text first (coefficient f t) (symbol t) ++ terms_text f (is_still_first first (coefficient f t)) ts
+abbrev pub terms_text : List ℕ → Formula → Bool → List Term → List ℕ
+terms_text n f first [] = rest_text first
+terms_text n f first (t ∷ ts) =
+    term_text n first (coefficient f t) t ++ terms_text n f (is_still_first first (coefficient f t)) ts
 
-abbrev pub formula_text : Formula → List ℕ
-formula_text f = terms_text f true written
+-- `4 log n + 5`
+abbrev pub formula_text : List ℕ → Formula → List ℕ
+formula_text n f = terms_text n f true written
 
--- `time 4 log n + 5`
-abbrev pub formula_line : List ℕ → Formula → List ℕ
-formula_line name f = (name ++ codes " ") ++ (formula_text f ++ codes "\n")
+-- `grows by 17 at each doubling`
+abbrev pub doubling_text : ℤ → List ℕ
+doubling_text step = codes "grows by " ++ (signed_decimal step ++ codes " at each doubling")
 
--- `time grows by 17 at each doubling`
-abbrev pub doubling_line : List ℕ → ℤ → List ℕ
-doubling_line name step = name ++ (codes " grows by " ++ (signed_decimal step ++ codes " at each doubling\n"))
+abbrev pub is_told : Growth → Bool
+is_told (ByFormula f) = true
+is_told (Doubling step) = true
+is_told Nothing = false
+
+-- how a number grows, in a size of this name, and no words where nothing is told
+abbrev pub growth_words : List ℕ → Growth → List ℕ
+growth_words n (ByFormula f) = formula_text n f
+growth_words n (Doubling step) = doubling_text step
+growth_words n Nothing = []
+
+-- `time 4 log n + 5`: what grows, and how
+abbrev pub growth_line : (label n : List ℕ) → Growth → List ℕ
+growth_line label n g = (label ++ codes " ") ++ (growth_words n g ++ codes "\n")
 
 -- the line of a growth, and none where nothing is told
-abbrev pub growth_text : List ℕ → Growth → List ℕ
-growth_text name (ByFormula f) = formula_line name f
-growth_text name (Doubling step) = doubling_line name step
-growth_text name Nothing = []
+abbrev pub growth_text : (label n : List ℕ) → Growth → List ℕ
+growth_text label n g = if is_told g then growth_line label n g else []

@@ -1,12 +1,12 @@
 //! The text of how a number grows.
 
-ghost use Rattle.std.specs.Prelude.{◌≡◌, ◌<◌, ◌^◌};
-ghost use Rattle.text_out.specs.Out.{Writes};
+ghost use Rattle.std.specs.Prelude.{◌≡◌, ◌<◌, ◌^◌, ◌++◌, decimal};
+ghost use Rattle.text_out.specs.Out.{Writes, joined};
 ghost use Rattle.growth_formulas.specs.GrowthText as spec;
 
 use crate::formula::Formula;
 use crate::growth::Growth;
-use crate::term::{WRITTEN, symbol};
+use crate::term::{Term, WRITTEN};
 use itoa::Buffer;
 use text_out::{Out, WriteFault};
 
@@ -23,49 +23,87 @@ fn sign(first: bool, coefficient: i128) -> &'static [u8]
     }
 }
 
-// A coefficient's size and its term.
-fn write_product<W: Out>(size: u128, symbol: &[u8], out: &mut W) -> Result<(), WriteFault>
+// A coefficient's size in front of a symbol: none where it is 1.
+fn write_factor<W: Out>(size: u128, out: &mut W) -> Result<(), WriteFault>
     requires counted { (W.Out.state out.old).failures < 2 ^ 63 }
-    ensures written { Writes (W.Out.state out.old) (W.Out.state out.new) (spec.product_text size symbol.now) result }
+    ensures written { Writes (W.Out.state out.old) (W.Out.state out.new) (spec.factor_text size) result }
+{
+    if size == 1 {
+        Ok(())
+    } else {
+        let mut digits = Buffer::new();
+        out.write_parts(&[digits.format(size).as_bytes(), b" "])
+    }
+}
+
+// A coefficient's size and a symbol, in parts.
+fn write_times<W: Out>(size: u128, symbol: &[&[u8]], out: &mut W) -> Result<(), WriteFault>
+    requires counted { (W.Out.state out.old).failures < 2 ^ 63 }
+    ensures written { Writes (W.Out.state out.old) (W.Out.state out.new) (spec.factor_text size ++ joined symbol.now) result }
+{
+    write_factor(size, out)?;
+    out.write_parts(symbol)
+}
+
+fn write_constant<W: Out>(size: u128, out: &mut W) -> Result<(), WriteFault>
+    requires counted { (W.Out.state out.old).failures < 2 ^ 63 }
+    ensures written { Writes (W.Out.state out.old) (W.Out.state out.new) (decimal size) result }
 {
     let mut digits = Buffer::new();
-    if symbol.is_empty() {
-        out.write_all(digits.format(size).as_bytes())
-    } else if size == 1 {
-        out.write_all(symbol)
-    } else {
-        out.write_parts(&[digits.format(size).as_bytes(), b" ", symbol])
+    out.write_all(digits.format(size).as_bytes())
+}
+
+// A coefficient's size and its term.
+fn write_product<W: Out>(
+    variable: &[u8],
+    size: u128,
+    term: Term,
+    out: &mut W,
+) -> Result<(), WriteFault>
+    requires counted { (W.Out.state out.old).failures < 2 ^ 63 }
+    ensures written { Writes (W.Out.state out.old) (W.Out.state out.new) (spec.product_text variable.now size term) result }
+{
+    match term {
+        Term::Constant => write_constant(size, out),
+        Term::Logarithm => write_times(size, &[b"log ", variable], out),
+        Term::Linear => write_times(size, &[variable], out),
+        Term::Linearithmic => write_times(size, &[variable, b" log ", variable], out),
+        Term::Square => write_times(size, &[variable, b"^2"], out),
     }
 }
 
 // A coefficient with its sign, and its term.
 fn write_signed<W: Out>(
+    variable: &[u8],
     first: bool,
     coefficient: i128,
-    symbol: &[u8],
+    term: Term,
     out: &mut W,
 ) -> Result<(), WriteFault>
     requires counted { (W.Out.state out.old).failures < 2 ^ 63 }
-    ensures written { Writes (W.Out.state out.old) (W.Out.state out.new) (spec.signed_text first coefficient symbol.now) result }
+    ensures written { Writes (W.Out.state out.old) (W.Out.state out.new)
+        (spec.signed_text variable.now first coefficient term) result }
 {
     out.write_all(sign(first, coefficient))?;
-    write_product(coefficient.unsigned_abs(), symbol, out)
+    write_product(variable, coefficient.unsigned_abs(), term, out)
 }
 
 // A term, which is left out where its coefficient is 0.
 fn write_term<W: Out>(
+    variable: &[u8],
     first: bool,
     coefficient: i128,
-    symbol: &[u8],
+    term: Term,
     out: &mut W,
 ) -> Result<(), WriteFault>
     requires counted { (W.Out.state out.old).failures < 2 ^ 63 }
-    ensures written { Writes (W.Out.state out.old) (W.Out.state out.new) (spec.term_text first coefficient symbol.now) result }
+    ensures written { Writes (W.Out.state out.old) (W.Out.state out.new)
+        (spec.term_text variable.now first coefficient term) result }
 {
     if coefficient == 0 {
         Ok(())
     } else {
-        write_signed(first, coefficient, symbol, out)
+        write_signed(variable, first, coefficient, term, out)
     }
 }
 
@@ -85,52 +123,80 @@ fn write_rest<W: Out>(first: bool, out: &mut W) -> Result<(), WriteFault>
 }
 
 // The terms of a formula.
-fn write_terms<W: Out>(formula: &Formula, out: &mut W) -> Result<(), WriteFault>
+fn write_terms<W: Out>(variable: &[u8], formula: &Formula, out: &mut W) -> Result<(), WriteFault>
     requires counted { (W.Out.state out.old).failures < 2 ^ 63 }
-    ensures written { Writes (W.Out.state out.old) (W.Out.state out.new) (spec.formula_text formula.now) result }
+    ensures written { Writes (W.Out.state out.old) (W.Out.state out.new) (spec.formula_text variable.now formula.now) result }
 {
     let mut first = true;
     for term in &WRITTEN {
         let coefficient = formula.coefficient(*term);
-        write_term(first, coefficient, symbol(*term), out)?;
+        write_term(variable, first, coefficient, *term, out)?;
         first = is_still_first(first, coefficient);
     }
     write_rest(first, out)
 }
 
-// The line of a formula.
-fn write_formula<W: Out>(name: &[u8], formula: &Formula, out: &mut W) -> Result<(), WriteFault>
+// How a number grows by a step at each doubling.
+fn write_doubling<W: Out>(step: i128, out: &mut W) -> Result<(), WriteFault>
     requires counted { (W.Out.state out.old).failures < 2 ^ 63 }
-    ensures written { Writes (W.Out.state out.old) (W.Out.state out.new) (spec.formula_line name.now formula.now) result }
-{
-    out.write_parts(&[name, b" "])?;
-    write_terms(formula, out)?;
-    out.write_all(b"\n")
-}
-
-// The line of a step at each doubling.
-fn write_doubling<W: Out>(name: &[u8], step: i128, out: &mut W) -> Result<(), WriteFault>
-    requires counted { (W.Out.state out.old).failures < 2 ^ 63 }
-    ensures written { Writes (W.Out.state out.old) (W.Out.state out.new) (spec.doubling_line name.now step) result }
+    ensures written { Writes (W.Out.state out.old) (W.Out.state out.new) (spec.doubling_text step) result }
 {
     let mut digits = Buffer::new();
     out.write_parts(&[
-        name,
-        b" grows by ",
+        b"grows by ",
         digits.format(step).as_bytes(),
-        b" at each doubling\n",
+        b" at each doubling",
     ])
 }
 
-/// Writes how the number of that name grows, as the line `time 4 log n + 5` or `time grows by 17 at each doubling`, and nothing where
+/// Writes how a number grows with the size that the variable names, as `4 log n + 5` or `grows by 17 at each doubling`, and nothing where
 /// nothing is told. The error is that the writer failed (E17).
-pub fn write_growth<W: Out>(name: &[u8], growth: &Growth, out: &mut W) -> Result<(), WriteFault>
+pub fn write_growth_words<W: Out>(
+    variable: &[u8],
+    growth: &Growth,
+    out: &mut W,
+) -> Result<(), WriteFault>
     requires counted { (W.Out.state out.old).failures < 2 ^ 63 }
-    ensures written { Writes (W.Out.state out.old) (W.Out.state out.new) (spec.growth_text name.now growth.now) result }
+    ensures written { Writes (W.Out.state out.old) (W.Out.state out.new) (spec.growth_words variable.now growth.now) result }
 {
     match growth {
-        Growth::Formula(formula) => write_formula(name, formula, out),
-        Growth::Doubling(step) => write_doubling(name, *step, out),
+        Growth::Formula(formula) => write_terms(variable, formula, out),
+        Growth::Doubling(step) => write_doubling(*step, out),
         Growth::Nothing => Ok(()),
+    }
+}
+
+// The line of a growth.
+fn write_line<W: Out>(
+    label: &[u8],
+    variable: &[u8],
+    growth: &Growth,
+    out: &mut W,
+) -> Result<(), WriteFault>
+    requires counted { (W.Out.state out.old).failures < 2 ^ 63 }
+    ensures written { Writes (W.Out.state out.old) (W.Out.state out.new)
+        (spec.growth_line label.now variable.now growth.now) result }
+{
+    out.write_parts(&[label, b" "])?;
+    write_growth_words(variable, growth, out)?;
+    out.write_all(b"\n")
+}
+
+/// Writes how the number that the label names grows with the size that the variable names, as the line `time 4 log n + 5` or
+/// `time grows by 17 at each doubling`, and nothing where nothing is told. The error is that the writer failed (E17).
+pub fn write_growth<W: Out>(
+    label: &[u8],
+    variable: &[u8],
+    growth: &Growth,
+    out: &mut W,
+) -> Result<(), WriteFault>
+    requires counted { (W.Out.state out.old).failures < 2 ^ 63 }
+    ensures written { Writes (W.Out.state out.old) (W.Out.state out.new)
+        (spec.growth_text label.now variable.now growth.now) result }
+{
+    if growth.is_told() {
+        write_line(label, variable, growth, out)
+    } else {
+        Ok(())
     }
 }

@@ -19,5 +19,5 @@ mod tests;
 pub use finding::fit;
 pub use formula::Formula;
 pub use growth::Growth;
-pub use growth_text::write_growth;
+pub use growth_text::{write_growth, write_growth_words};
 pub use row::Row;

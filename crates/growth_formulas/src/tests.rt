@@ -140,6 +140,27 @@ const TOO_FEW: [Row; 3] = [
     },
 ];
 
+// 2 n log n + n - 3
+const SORTS: [Row; 5] = [
+    Row { size: 2, number: 3 },
+    Row {
+        size: 4,
+        number: 17,
+    },
+    Row {
+        size: 8,
+        number: 53,
+    },
+    Row {
+        size: 16,
+        number: 141,
+    },
+    Row {
+        size: 32,
+        number: 349,
+    },
+];
+
 // Numbers beyond 127 bits, and squares of sizes beyond them.
 const GREAT_NUMBERS: [Row; 3] = [
     Row {
@@ -178,7 +199,7 @@ const NONE: Formula = Formula {
 
 fn line(alloc: Global, table: &[Row]) -> Result<Buffer, WriteFault> {
     let mut out = Buffer::new(alloc);
-    write_growth(b"time", &fit(table), &mut out)?;
+    write_growth(b"time", b"n", &fit(table), &mut out)?;
     Ok(out)
 }
 
@@ -207,6 +228,19 @@ fn one_term_and_three_and_none(rt: HostRuntime) -> Result<(), Fail> {
     assert_line(&rt, rt.alloc(), &SQUARES, b"time n^2\n")?;
     assert_line(&rt, rt.alloc(), &PAIRS, b"time n^2 - n + 2\n")?;
     assert_line(&rt, rt.alloc(), &ZEROS, b"time 0\n")
+}
+
+#[test]
+fn a_formula_names_the_size(rt: HostRuntime) -> Result<(), Fail> {
+    let mut out = Buffer::new(rt.alloc());
+    write_growth(b"work", b"m", &fit(&SORTS), &mut out)?;
+    write_growth(b"time", b"m", &fit(&TREE_TIME), &mut out)?;
+    write_growth(b"reads", b"size", &fit(&SQUARES), &mut out)?;
+    assert_eq!(rt;
+        out.bytes(),
+        b"work 2 m log m + m - 3\ntime 4 log m + 5\nreads size^2\n".as_slice()
+    );
+    Ok(())
 }
 
 #[test]

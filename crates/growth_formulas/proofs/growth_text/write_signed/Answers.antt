@@ -11,7 +11,7 @@ returns-in_err-write_all g c =
     let z = c.args.coefficient in
     let back : to_z w128 (of_z w128 z) ≡ z = to_z-of_z w128 z c.ranges.coefficient in
     let sign : c.sign.result.now ≡ sign_text c.args.first z = c.sign.ensures ∙ ap (sign_text c.args.first) back in
-    let rest = product_text (unsigned_abs z) c.args.symbol.now in
+    let rest = product_text c.args.variable.now (unsigned_abs z) c.args.term in
     record {
       written = breaks_off _ _ _ _ _ c.sign.result.now rest c.from_residual.result _ c.from_residual.ensures.1
           (starts _ _ c.requires.counted) (ap (λ t. t ++ rest) (sym sign)) c.in_err-write_all.ensures.written;
@@ -23,10 +23,10 @@ returns g c =
     let back : to_z w128 (of_z w128 z) ≡ z = to_z-of_z w128 z c.ranges.coefficient in
     let sign : c.sign.result.now ≡ sign_text c.args.first z = c.sign.ensures ∙ ap (sign_text c.args.first) back in
     let size : c.unsigned_abs.result ≡ unsigned_abs z = c.unsigned_abs.ensures.value ∙ ap unsigned_abs back in
-    let product = product_text c.unsigned_abs.result c.args.symbol.now in
-    let whole : signed_text c.args.first z c.args.symbol.now ≡ c.sign.result.now ++ product =
-    ap (λ t. t ++ product_text (unsigned_abs z) c.args.symbol.now) (sym sign)
-    ∙ ap (λ m. c.sign.result.now ++ product_text m c.args.symbol.now) (sym size) in
+    let product = product_text c.args.variable.now c.unsigned_abs.result c.args.term in
+    let whole : signed_text c.args.variable.now c.args.first z c.args.term ≡ c.sign.result.now ++ product =
+    ap (λ t. t ++ product_text c.args.variable.now (unsigned_abs z) c.args.term) (sym sign)
+    ∙ ap (λ m. c.sign.result.now ++ product_text c.args.variable.now m c.args.term) (sym size) in
     record {
       written = closes _ _ _ _ product c.write_product.result
           (goes_on _ _ _ _ _ c.sign.result.now product (starts _ _ c.requires.counted) whole c.in_ok-write_all.ensures.written)

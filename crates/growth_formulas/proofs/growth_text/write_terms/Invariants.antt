@@ -5,5 +5,5 @@ use Rattle.growth_formulas.proofs.growth_text.write_terms.Given as goal
 
 abbrev pub invariant-loop-term : goal.invariant-loop-term
 invariant-loop-term g l =
-    Progress (g.W.Out.state l.fn.out) (g.W.Out.state l.out) (formula_text l.fn.formula)
-    (terms_text l.fn.formula l.first (drop l.term-index written))
+    Progress (g.W.Out.state l.fn.out) (g.W.Out.state l.out) (formula_text l.fn.variable l.fn.formula)
+    (terms_text l.fn.variable l.fn.formula l.first (drop l.term-index written))
