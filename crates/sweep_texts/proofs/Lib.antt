@@ -1,2 +1,3 @@
 pub mod Items
+mod ReadBack
 pub mod Tabled

@@ -1,3 +1,4 @@
 pub mod Tables
 pub mod SweepText
 pub mod CsvText
+pub mod CsvReading

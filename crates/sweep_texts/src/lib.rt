@@ -2,6 +2,7 @@
 #![tactic(auto)]
 
 mod csv_field;
+mod csv_laws;
 mod csv_text;
 mod growths;
 mod measure;
@@ -10,6 +11,7 @@ mod sweep_text;
 #[cfg(test)]
 mod tests;
 
+pub use csv_laws::fields_are_read_back;
 pub use csv_text::write_sweep_csv;
 pub use growths::{Growths, growths_of};
 pub use measure::Measure;

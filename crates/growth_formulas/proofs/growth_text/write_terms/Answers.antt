@@ -13,7 +13,8 @@ returns-in_err-write_term g c =
     let fits : FitsSigned w128 z = search rules in
     let back : to_z w128 (of_z w128 z) ≡ z = to_z-of_z w128 z fits in
     let shown = to_z w128 (of_z w128 z) in
-    let at = terms_at c.args.variable.now c.args.formula.now c.loop-term.first (is_still_first c.loop-term.first shown) c.loop-term.term-index
+    let at = terms_at c.args.variable.now c.args.formula.now c.loop-term.first (is_still_first c.loop-term.first shown)
+    c.loop-term.term-index
     shown _ c.loop-term-test.true refl (back ∙ c.coefficient-coefficient.ensures) refl in
     record {
       written = writes_stopped _ _ _ c.from_residual.result _ c.from_residual.ensures.1

@@ -19,5 +19,6 @@ returns g c =
     let rest = field_text c.args.field.now in
     record {
       written = closes _ _ _ _ _ c.write_field.result
-          (goes_on _ _ _ _ _ front rest (starts _ _ c.requires.counted) refl c.in_ok-write_all.ensures.written) c.write_field.ensures.written;
+          (goes_on _ _ _ _ _ front rest (starts _ _ c.requires.counted) refl c.in_ok-write_all.ensures.written)
+          c.write_field.ensures.written;
     }

@@ -19,5 +19,6 @@ returns g c =
     let rest = next_fields (map (λ f. f.now) c.args.more.now) in
     record {
       written = closes _ _ _ _ _ c.write_next_fields.result
-          (goes_on _ _ _ _ _ front rest (starts _ _ c.requires.counted) refl c.in_ok-write_field.ensures.written) c.write_next_fields.ensures.written;
+          (goes_on _ _ _ _ _ front rest (starts _ _ c.requires.counted) refl c.in_ok-write_field.ensures.written)
+          c.write_next_fields.ensures.written;
     }

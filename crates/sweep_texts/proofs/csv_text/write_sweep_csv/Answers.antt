@@ -19,5 +19,6 @@ returns g c =
     let rest = records_text (map row_fields c.args.rows.now) in
     record {
       written = closes _ _ _ _ _ c.write_rows.result
-          (goes_on _ _ _ _ _ front rest (starts _ _ c.requires.counted) refl c.in_ok-write_names.ensures.written) c.write_rows.ensures.written;
+          (goes_on _ _ _ _ _ front rest (starts _ _ c.requires.counted) refl c.in_ok-write_names.ensures.written)
+          c.write_rows.ensures.written;
     }

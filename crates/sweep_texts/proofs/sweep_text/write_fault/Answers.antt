@@ -18,5 +18,6 @@ returns g c =
     let rest = refusal_text c.args.fault.now in
     record {
       written = closes _ _ _ _ _ c.write_refusal.result
-          (goes_on _ _ _ _ _ front rest (starts _ _ c.requires.counted) refl c.in_ok-write_counts.ensures.written) c.write_refusal.ensures.written;
+          (goes_on _ _ _ _ _ front rest (starts _ _ c.requires.counted) refl c.in_ok-write_counts.ensures.written)
+          c.write_refusal.ensures.written;
     }

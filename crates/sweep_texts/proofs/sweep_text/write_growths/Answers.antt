@@ -18,5 +18,6 @@ returns g c =
     let rest = formulas_text c.args.name.now c.args.growths.now in
     record {
       written = closes _ _ _ _ _ c.write_formulas.result
-          (goes_on _ _ _ _ _ front rest (starts _ _ c.requires.counted) refl c.in_ok-write_heading.ensures.written) c.write_formulas.ensures.written;
+          (goes_on _ _ _ _ _ front rest (starts _ _ c.requires.counted) refl c.in_ok-write_heading.ensures.written)
+          c.write_formulas.ensures.written;
     }

@@ -18,5 +18,6 @@ returns g c =
     let rest = ending_text c.args.row.now.ending in
     record {
       written = closes _ _ _ _ _ c.write_ending.result
-          (goes_on _ _ _ _ _ front rest (starts _ _ c.requires.counted) refl c.in_ok-write_size.ensures.written) c.write_ending.ensures.written;
+          (goes_on _ _ _ _ _ front rest (starts _ _ c.requires.counted) refl c.in_ok-write_size.ensures.written)
+          c.write_ending.ensures.written;
     }

@@ -6,7 +6,8 @@ use Rattle.sweep_texts.proofs.sweep_text.write_rows.Goals as goal
 
 pub returns-in_err-write_row : goal.returns-in_err-write_row
 returns-in_err-write_row g c =
-    let at = at_item (rows_text c.args.name.now) c.args.rows.now c.loop-row.row-index c.row-item.result c.loop-row-test.true c.row-item.is in
+    let at = at_item (rows_text c.args.name.now) c.args.rows.now c.loop-row.row-index c.row-item.result c.loop-row-test.true c.row-item.is
+    in
     record {
       written = writes_stopped _ _ _ c.from_residual.result _ c.from_residual.ensures.1
           (stops _ _ _ _ _ _ _ c.loop-row.invariant at c.in_err-write_row.ensures.written);
@@ -14,5 +15,6 @@ returns-in_err-write_row g c =
 
 pub loop-row-preserved : goal.loop-row-preserved
 loop-row-preserved g c =
-    let at = at_item (rows_text c.args.name.now) c.args.rows.now c.loop-row.row-index c.row-item.result c.loop-row-test.true c.row-item.is in
+    let at = at_item (rows_text c.args.name.now) c.args.rows.now c.loop-row.row-index c.row-item.result c.loop-row-test.true c.row-item.is
+    in
     goes_on _ _ _ _ _ _ _ c.loop-row.invariant at c.in_ok-write_row.ensures.written

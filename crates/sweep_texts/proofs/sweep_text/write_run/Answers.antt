@@ -18,5 +18,6 @@ returns g c =
     let rest = most_text c.args.counts.now.most_exchanges c.args.how.now in
     record {
       written = closes _ _ _ _ _ c.write_most.result
-          (goes_on _ _ _ _ _ front rest (starts _ _ c.requires.counted) refl c.in_ok-write_counts.ensures.written) c.write_most.ensures.written;
+          (goes_on _ _ _ _ _ front rest (starts _ _ c.requires.counted) refl c.in_ok-write_counts.ensures.written)
+          c.write_most.ensures.written;
     }

@@ -18,5 +18,6 @@ returns g c =
     let rest = growths_text c.args.name.now c.args.growths.now in
     record {
       written = closes _ _ _ _ _ c.write_growths.result
-          (goes_on _ _ _ _ _ front rest (starts _ _ c.requires.counted) refl c.in_ok-write_rows.ensures.written) c.write_growths.ensures.written;
+          (goes_on _ _ _ _ _ front rest (starts _ _ c.requires.counted) refl c.in_ok-write_rows.ensures.written)
+          c.write_growths.ensures.written;
     }
