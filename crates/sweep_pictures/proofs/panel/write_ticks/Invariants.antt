@@ -1,0 +1,7 @@
+use Rattle.std.proofs.Common.{◌-◌}
+use Rattle.text_out.proofs.Progress.{Progress}
+use Rattle.sweep_pictures.specs.Picture.{ticks, ticks_from}
+use Rattle.sweep_pictures.proofs.panel.write_ticks.Given as goal
+
+abbrev pub invariant-loop-k : goal.invariant-loop-k
+invariant-loop-k g l = Progress (g.W.Out.state l.fn.out) (g.W.Out.state l.out) (ticks l.frame) (ticks_from l.frame l.k (6 - l.k))

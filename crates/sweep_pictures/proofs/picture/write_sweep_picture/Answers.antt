@@ -1,0 +1,13 @@
+use Rattle.std.proofs.Common.{List, length, subst}
+use Rattle.text_out.specs.Out.{Writes}
+use Rattle.sweep_texts.specs.declared.size_row.SizeRow.{SizeRow}
+use Rattle.sweep_pictures.specs.Picture.{picture_of}
+use Rattle.sweep_pictures.proofs.picture.write_sweep_picture.Goals as goal
+
+pub returns : goal.returns
+returns g c = record {
+  written = subst
+      (λ (rows : List SizeRow). Writes (g.W.Out.state c.args.out.now) (g.W.Out.state c.write_drawn.new.out)
+      (picture_of c.args.name.now (length c.args.rows.now) rows) c.write_drawn.result)
+      c.drawn.ensures c.write_drawn.ensures.written;
+}

@@ -1,0 +1,5 @@
+pub mod Places
+pub mod Titles
+pub mod Marks
+pub mod Labels
+pub mod Picture

@@ -1,0 +1,60 @@
+-- What a mark says where it is pointed at: `n 8 time 17`.
+use Rattle.std.specs.Prelude.{ℕ, nat_eq, nat_lt, ◌||◌, if◌then◌else◌, List, [], ◌∷◌, ◌++◌, codes, decimal}
+use Rattle.sweep_texts.specs.Tables.{number}
+use Rattle.sweep_texts.specs.declared.measure.Measure.{Measure}
+use Rattle.sweep_texts.specs.declared.measure.Measure.TheVariants.{Time, Work}
+use Rattle.sweep_texts.specs.declared.size_row.Counts.{Counts}
+use Rattle.sweep_texts.specs.declared.size_row.Ending.{Ending}
+use Rattle.sweep_texts.specs.declared.size_row.Ending.TheVariants.{Ended, GoesOn, Faulted, Refused}
+use Rattle.sweep_texts.specs.declared.size_row.SizeRow.{SizeRow}
+
+-- a byte in a text of SVG: one that is no printed letter of ASCII is a question mark
+abbrev pub letter : ℕ → List ℕ
+letter b =
+    if nat_eq b 38 then codes "&amp;"
+    else if nat_eq b 60 then codes "&lt;"
+    else if nat_eq b 62 then codes "&gt;"
+    else if nat_lt b 32 || nat_lt 126 b then codes "?"
+    else b ∷ []
+
+abbrev pub letters : List ℕ → List ℕ
+letters [] = []
+letters (b ∷ bytes) = letter b ++ letters bytes
+
+abbrev pub word : Measure → List ℕ
+word Time = codes " time "
+word Work = codes " work "
+
+abbrev pub told_text : (word : List ℕ) → ℕ → (how : List ℕ) → List ℕ
+told_text word n how = word ++ (decimal n ++ how)
+
+-- ` time 17`, and how the run came out, where it didn't end
+abbrev pub number_text : Measure → Counts → List ℕ → List ℕ
+number_text m c how = told_text (word m) (number m c) how
+
+abbrev pub fault_text : Measure → Counts → List ℕ → List ℕ
+fault_text m c fault = number_text m c (codes " ") ++ letters fault
+
+abbrev pub refusal_text : List ℕ → List ℕ
+refusal_text refusal = codes " " ++ letters refusal
+
+abbrev pub ending_text : Measure → Ending → List ℕ
+ending_text m (Ended c) = number_text m c []
+ending_text m (GoesOn c) = number_text m c (codes " goes on")
+ending_text m (Faulted c fault) = fault_text m c fault.items
+ending_text m (Refused refusal) = refusal_text refusal.items
+
+-- ` 8`
+abbrev pub size_text : ℕ → List ℕ
+size_text size = codes " " ++ decimal size
+
+abbrev pub row_text : Measure → SizeRow → List ℕ
+row_text m row = size_text row.size ++ ending_text m row.ending
+
+-- `n 8 time 17`
+abbrev pub title_text : List ℕ → Measure → SizeRow → List ℕ
+title_text name m row = letters name ++ row_text m row
+
+-- the title, and what begins before it
+abbrev pub titled : List ℕ → Measure → SizeRow → List ℕ
+titled name m row = codes "<g><title>" ++ (title_text name m row ++ codes "</title>")

@@ -1,0 +1,18 @@
+//! The law of this crate.
+
+ghost use Rattle.std.specs.Prelude.{ℕ, List};
+ghost use Rattle.std.specs.List.{Contains};
+ghost use Rattle.sweep_texts.specs.declared.measure.Measure.{Measure};
+ghost use Rattle.sweep_texts.specs.declared.measure.Measure.TheVariants.{Time, Work};
+ghost use Rattle.sweep_texts.specs.declared.size_row.SizeRow.{SizeRow};
+ghost use Rattle.sweep_pictures.specs.Picture.{StandsIn, picture};
+ghost use Rattle.sweep_pictures.specs.Places.{drawn};
+ghost use Rattle.sweep_pictures.specs.Titles.{titled};
+
+/// Each row that is drawn has in the picture a mark with a title of its own size and time, and one with its own size and work.
+pub fn each_row_is_told()
+    ensures time { (name : List ℕ) (rows : List SizeRow) (row : SizeRow) → Contains (drawn rows) row →
+        StandsIn (titled name Time row) (picture name rows) }
+    ensures work { (name : List ℕ) (rows : List SizeRow) (row : SizeRow) → Contains (drawn rows) row →
+        StandsIn (titled name Work row) (picture name rows) }
+{}
