@@ -3,3 +3,4 @@ pub mod DeclarationFacts
 pub mod EntryFacts
 pub mod ExchangeFacts
 pub mod Readable
+pub mod SweepReadable

@@ -7,3 +7,4 @@ pub mod ActFacts
 pub mod CauseFacts
 pub mod StepFacts
 pub mod TraceFacts
+pub mod SweepFacts

@@ -13,6 +13,7 @@ mod refusal;
 mod rule;
 mod rules;
 mod steps;
+mod sweep;
 mod trace;
 
 pub use accepted::json_accepted;
@@ -21,4 +22,5 @@ pub use outcome::json_outcome;
 pub use refusal::{json_stop, out_of_memory_line};
 pub use rules::json_comparison;
 pub use steps::json_steps;
+pub use sweep::json_sweep;
 pub use trace::json_trace;

@@ -1,0 +1,12 @@
+use Rattle.std.proofs.Common.{List, map}
+use Rattle.json_lines.proofs.Json.{goes_on}
+use Rattle.sweep_texts.proofs.Items.{at_item}
+use Rattle.sweep_texts.specs.declared.size_row.SizeRow.{SizeRow}
+use Rattle.json_texts.specs.SweepFacts.{row_facts}
+use Rattle.json_texts.proofs.sweep.rows_text.Goals as goal
+
+pub loop-row-preserved : goal.loop-row-preserved
+loop-row-preserved c =
+    let at = at_item (λ (rows : List SizeRow). map (row_facts c.args.name.now) rows) c.args.rows.now c.loop-row.row-index c.row-item.result
+    c.loop-row-test.true c.row-item.is in
+    goes_on _ _ _ _ _ _ c.loop-row.invariant at c.in_ok-push_row.ensures.json
