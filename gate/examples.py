@@ -13,8 +13,7 @@ import tempfile
 from concurrent.futures import ThreadPoolExecutor
 from pathlib import Path
 
-from gallery import EXAMPLES, change, costs, foot, programs, sizes
-from sizes import at_size
+from gallery import EXAMPLES, cases, change, costs, foot, programs, sizes
 
 PROGRAM = Path(sys.argv[1]).resolve()
 GOES_ON = 3
@@ -47,15 +46,20 @@ def under_each_rule(name, text, output, folder):
             yield ["run", program], ends.get(rule, same), 0
 
 
-def miscounted(name, text, folder):
+def counted(program, sizes_and_inputs):
+    """What `pramc cost` says of a program for each of these sizes and inputs."""
+    for given, values in sizes_and_inputs:
+        words = ["cost", program, "--input", values, *(it for letter, n in given.items() for it in ("--size", f"{letter}={n}"))]
+        done = subprocess.run([PROGRAM, *words], capture_output=True, text=True, timeout=60)
+        yield done.stdout if done.returncode == 0 else f"pramc {' '.join(map(str, words))}: status {done.returncode}\n{done.stdout}{done.stderr}"
+
+
+def miscounted(name, text):
     """What is wrong with the costs of an example of the gallery at its three sizes."""
-    for size, steps, work in zip(sizes(text)["n"], costs(text, "T"), costs(text, "W")):
-        program, values = (folder / f"{name}_{size}.{it}" for it in ("pram", "in"))
-        for file, written in zip((program, values), at_size(name, text, size)):
-            file.write_text(written)
-        done = subprocess.run([PROGRAM, "cost", program, "--input", values], capture_output=True, text=True, timeout=60)
-        if not done.stdout.startswith(f"time {steps}\nwork {work}\n") or done.returncode:
-            yield f"pramc cost {program.name}: not time {steps}, work {work}\n{done.stdout}{done.stderr}"
+    found = counted(EXAMPLES / f"{name}.pram", cases(name, text))
+    for said, n, steps, work in zip(found, sizes(text)["n"], costs(text, "T"), costs(text, "W")):
+        if not said.startswith(f"time {steps}\nwork {work}\n"):
+            yield f"examples/{name}.pram at n = {n}: not time {steps}, work {work}\n{said}"
 
 
 def of_the_gallery(program, text, output, folder):
@@ -81,7 +85,7 @@ def tried(name, text, folder):
     found = []
     if foot(text):
         calls += of_the_gallery(program, text, output, folder)
-        found += miscounted(name, text, folder)
+        found += miscounted(name, text)
     return found + [it for words, *expected in calls for it in wrong([*words, *values], *expected)]
 
 

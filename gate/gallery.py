@@ -1,7 +1,8 @@
 #!/usr/bin/env python3
 """The gallery of examples/, whose programs say at their end what they are.
 
-gallery.py           compares the tables of examples/README.md with the programs, and their T and W with what the analysis comes to
+gallery.py           compares the tables of examples/README.md with the programs, their T and W with what the analysis comes to, and their
+                     sizes with those of the text and with the inputs that are there
 gallery.py --write   writes the tables
 """
 import re
@@ -10,11 +11,13 @@ from math import log2
 from pathlib import Path
 
 EXAMPLES = Path(__file__).resolve().parent.parent / "examples"
+INPUTS = EXAMPLES / "inputs"
 PAGE = EXAMPLES / "README.md"
 FIELDS = ["Algorithm", "Chapter", "Source", "Rule", "Sizes", "T", "W", "Conflict"]
 FOOT = re.compile("".join(rf"# {it}: (?P<{it}>.+)\n" for it in FIELDS) + r"\Z")
 COSTS = re.compile(r"(at most )?(.+?)( (?:for|of) .+)?: (\d+), (\d+), (\d+)")
 CHANGE = re.compile(r"(.+?) becomes (.+); (fault .+)")
+SIZE = re.compile(r"^# size (\w+) = (\d+)$", re.M)
 TABLES = re.compile(r"(<!-- by gate/gallery.py -->\n).*?(<!-- end -->\n)", re.S)
 HEAD = "| Program | Algorithm | Source | Rule, and why | Sizes | T | W | A conflict |\n|---|---|---|---|---|---|---|---|"
 
@@ -42,6 +45,13 @@ def sizes(text):
     return {**found, "here": int(here.removeprefix("here "))}
 
 
+def cases(name, text):
+    """For each of the three sizes: the numbers of the sizes that the text declares, and the input."""
+    found = sizes(text)
+    for at, n in enumerate(found["n"]):
+        yield {letter: found[letter][at] for letter, _ in SIZE.findall(text)}, INPUTS / f"{name}_{n}.in"
+
+
 def costs(text, what):
     """The T or the W of an example at its three sizes."""
     return [int(it) for it in COSTS.fullmatch(foot(text)[what]).groups()[-3:]]
@@ -65,6 +75,24 @@ def unlike_the_analysis(name, text, what):
         given = wanted and eval(wanted, {"log2": log2}, {it: sizes(text)[it][at] for it in letters})
         if wanted and not (cost <= given if bound else cost == given):
             yield f"examples/{name}.pram: {what} is {cost}, and {said} is {given:g}"
+
+
+def wrong_sizes(name, text):
+    """Where the three sizes of an example are not those of its text and of its inputs."""
+    found = list(cases(name, text))
+    own = {letter: int(number) for letter, number in SIZE.findall(text)}
+    if sizes(text)["here"] != own.get("n"):
+        yield f"examples/{name}.pram: its size n is not the one that stands behind `here`"
+    yield from (f"{values} is not there" for _, values in found if not values.exists())
+    same = (EXAMPLES / f"{name}.in").read_text()
+    if not any(given == own and values.exists() and values.read_text() == same for given, values in found):
+        yield f"examples/{name}.in is not the input of its own size"
+
+
+def strays():
+    """Inputs of no size of an example."""
+    wanted = {values for name, text in programs() if foot(text) for _, values in cases(name, text)}
+    return [f"{it} is of no size of an example" for it in sorted(INPUTS.iterdir()) if it not in wanted]
 
 
 def change(text):
@@ -99,6 +127,7 @@ def main():
         PAGE.write_text(wanted)
     else:
         wrong = [it for name, text in programs() if foot(text) for what in "TW" for it in unlike_the_analysis(name, text, what)]
+        wrong += [it for name, text in programs() if foot(text) for it in wrong_sizes(name, text)] + strays()
         missing = [name for name, _ in programs() if f"]({name}.pram)" not in page]
         if missing or page != wanted:
             wrong.append(f"examples/README.md: run {sys.argv[0]} --write; not there: {' '.join(missing)}")

@@ -241,7 +241,7 @@ def changed_texts(text):
     """Texts that are refused: for a name, for where they end, for a limit, and for a byte."""
     yield re.sub(r"^begin\b", "begin\n  unknown_name := 1;", text, count=1, flags=re.M)
     yield text[: text.index("begin") + 5]
-    yield re.sub(r"procs \d+", "procs 0", text, count=1)
+    yield re.sub(r"procs [^;]+", "procs 0", text, count=1)
     yield text.replace("begin", "begin $", 1)
 
 

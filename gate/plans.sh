@@ -1,11 +1,11 @@
 #!/usr/bin/env bash
-# Reads the plan of each example back from its listing, verifies it, and runs it on one memory at several bounds, beside the
-# definition of the language. The program for that is built by `rt try`, which proves nothing, in a temporary folder.
+# Reads the plan of each example, at its own sizes, back from its listing, verifies it, and runs it on one memory at several bounds, beside
+# the definition of the language. The program for that is built by `rt try`, which proves nothing, in a temporary folder.
 set -eu
 . "$(dirname "$0")/../bench/lib.sh"
 bench=gate
 # shellcheck disable=SC2046
-libraries="itoa smallvec thiserror" prepare plans $(below program_runs flat_run superstep_listing system_files)
+libraries="itoa smallvec thiserror" prepare plans $(below sized_texts program_runs flat_run superstep_listing system_files)
 cd "$program"
 if ! rt try --seconds 300 -- "$top/examples" $(basename -s .pram "$top"/examples/*.pram) > "$work/log" 2>&1; then
     cat "$work/log"

@@ -1,9 +1,11 @@
 #!/usr/bin/env python3
 """Adds to a table of examples, a line for each, the exchange bound of its run: by a plain reading of docs/LANGUAGE.md, "What a program
-costs", that knows nothing of superstep code. The programs and their inputs stand in the folder that it is given."""
+costs", that knows nothing of superstep code. The programs, at their own sizes, and their inputs stand in the folder that it is given."""
+import math
 import re
 import sys
 
+SIZE = re.compile(r"^# size (\w+) = (\d+)$", re.M)
 CHAINS = [["or"], ["and"], ["=", "<>", "<", "<=", ">", ">="], ["+", "-"], ["*", "div", "mod"]]
 
 
@@ -13,7 +15,7 @@ class Fault(Exception):
 
 class Parser:
     def __init__(self, text):
-        self.tokens = re.findall(r"[A-Za-z]\w*|\d+|:=|\.\.|<=|>=|<>|\S", re.sub(r"#[^\n]*", "", text))
+        self.tokens = re.findall(r"[A-Za-z]\w*|\d+|:=|\.\.|<=|>=|<>|\S", text)
 
     def peek(self):
         return self.tokens[0] if self.tokens else None
@@ -338,8 +340,18 @@ def bound(events):
     return total
 
 
+def expanded(text):
+    """A text at its own sizes, without comments."""
+    names = {"log": lambda n: n.bit_length() - 1, "root": math.isqrt, "pow": pow, **{name: int(n) for name, n in SIZE.findall(text)}}
+
+    def number(found):
+        return str(eval(re.sub(r"\bdiv\b", "//", re.sub(r"\bmod\b", "%", found[1])), names))
+
+    return re.sub(r"\{(.*?)\}", number, re.sub(r"#[^\n]*", "", text))
+
+
 def bound_of(folder, name):
-    run = Run(Parser(open(f"{folder}/{name}.pram").read()).program(), [int(w) for w in open(f"{folder}/{name}.in").read().split()])
+    run = Run(Parser(expanded(open(f"{folder}/{name}.pram").read())).program(), [int(w) for w in open(f"{folder}/{name}.in").read().split()])
     try:
         run.block(run.body)
     except Fault:

@@ -5,5 +5,5 @@
 set -eu -o pipefail
 . "$(dirname "$0")/../lib.sh"
 # shellcheck disable=SC2046
-libraries="itoa smallvec thiserror" prepare lower $(below program_runs flat_run system_files)
+libraries="itoa smallvec thiserror" prepare lower $(below sized_texts program_runs flat_run system_files)
 figures -- "$top/examples" $(basename -s .pram "$top"/examples/*.pram) | python3 "$here/bound.py" "$top/examples"

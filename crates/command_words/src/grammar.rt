@@ -111,7 +111,7 @@ const EXPAND: Subcommand = Subcommand {
     name: "expand",
     about: "Writes the text that its sizes give",
     over: PROGRAM,
-    example: "Example: pramc expand examples/sized/tree_sum.pram --size n=16",
+    example: "Example: pramc expand examples/tree_sum.pram --size n=16",
 };
 
 const EXEC: Subcommand = Subcommand {
