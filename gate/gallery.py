@@ -61,8 +61,8 @@ def formula(text):
     """A formula of the analysis as one of Python, or nothing where it is an order alone."""
     if text.startswith("O("):
         return None
-    for old, new in (("log log n", "log2(log2(n))"), ("log n", "log2(n)"), ("^", "**")):
-        text = text.replace(old, new)
+    for old, new in ((r"log log (\w)", r"log2(log2(\1))"), (r"log (\w)", r"log2(\1)"), (r"\^", "**")):
+        text = re.sub(old, new, text)
     return re.sub(r"(?<=[\w)]) (?=[\w(])", " * ", text)
 
 
