@@ -26,6 +26,7 @@ test:
 	python3 gate/definitions.py
 	python3 gate/walks.py
 	python3 gate/gallery.py
+	python3 gate/expected/references.py
 	python3 gate/editors.py
 	python3 gate/build_test.py
 	bash gate/plans.sh

@@ -4,7 +4,7 @@
 examples.py PROGRAM: by its definition, by 1, 3 and 4 workers, and from the listing of its plan; with each rule in the place of its own,
 where NAME.RULE.out has what it writes if that is neither what NAME.out has nor a fault alone. Those of the gallery also with the change
 that gives a conflict, within as many statements as their T, and one less, with which they go on; as many statements are told of them,
-and no more, and they cost their T and W at three sizes.
+and no more, and they cost their T and W at three sizes. Those with a reference in gate/expected write what it says at each of these.
 """
 import re
 import subprocess
@@ -14,6 +14,9 @@ from concurrent.futures import ThreadPoolExecutor
 from pathlib import Path
 
 from gallery import EXAMPLES, cases, change, costs, foot, programs, sizes
+
+sys.path.insert(0, str(Path(__file__).resolve().parent / "expected"))
+from references import expected, read, referenced
 
 PROGRAM = Path(sys.argv[1]).resolve()
 GOES_ON = 3
@@ -46,10 +49,15 @@ def under_each_rule(name, text, output, folder):
             yield ["run", program], ends.get(rule, same), 0
 
 
+def sized(given):
+    """The words that give a program these sizes."""
+    return [it for letter, n in given.items() for it in ("--size", f"{letter}={n}")]
+
+
 def counted(program, sizes_and_inputs):
     """What `pramc cost` says of a program for each of these sizes and inputs."""
     for given, values in sizes_and_inputs:
-        words = ["cost", program, "--input", values, *(it for letter, n in given.items() for it in ("--size", f"{letter}={n}"))]
+        words = ["cost", program, "--input", values, *sized(given)]
         done = subprocess.run([PROGRAM, *words], capture_output=True, text=True, timeout=60)
         yield done.stdout if done.returncode == 0 else f"pramc {' '.join(map(str, words))}: status {done.returncode}\n{done.stdout}{done.stderr}"
 
@@ -60,6 +68,13 @@ def miscounted(name, text):
     for said, n, steps, work in zip(found, sizes(text)["n"], costs(text, "T"), costs(text, "W")):
         if not said.startswith(f"time {steps}\nwork {work}\n"):
             yield f"examples/{name}.pram at n = {n}: not time {steps}, work {work}\n{said}"
+
+
+def other_sizes(name, text):
+    """What is wrong with the runs of an example with a reference at its three sizes."""
+    for given, values in cases(name, text):
+        written, _, _ = expected(name, given, read(values))
+        yield from wrong(["run", EXAMPLES / f"{name}.pram", "--input", values, *sized(given)], written, 0)
 
 
 def of_the_gallery(program, text, output, folder):
@@ -86,6 +101,8 @@ def tried(name, text, folder):
     if foot(text):
         calls += of_the_gallery(program, text, output, folder)
         found += miscounted(name, text)
+    if (name, text) in referenced():
+        found += other_sizes(name, text)
     return found + [it for words, *expected in calls for it in wrong([*words, *values], *expected)]
 
 

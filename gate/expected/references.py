@@ -49,8 +49,10 @@ def log(n):
 def doubling(n, count):
     """Counts the prefix sums of n numbers by doubling."""
     count.one()
-    for k in range(log(n)):
-        count.one(2), count.all(n - 2**k), count.one()
+    d = 1
+    while d < n:
+        count.one(2), count.all(n - d), count.one()
+        d *= 2
     count.one()
 
 
@@ -117,6 +119,91 @@ def tree_orders(sizes, values, count):
     downs = [sum(it in down for it in tour[: at + 1]) for at in range(n)]
     memory = {"head": head, "around": around, "next": array([0] * n), "rank": ranks, "downs": array(downs)}
     return [], {**memory, "preorder": preorder, "postorder": postorder, "below": below}
+
+
+def expression_value(sizes, values, count):
+    n = sizes["n"]
+    value, times, child = array(values[:n]), array(values[n : 2 * n - 1], n + 1), array(values[2 * n - 1 :], 2 * n + 2)
+    parent, side = ({child.get(k): it(k) for k in child} for it in (lambda k: k // 2, lambda k: k % 2))
+    parent[n + 1] = side[n + 1] = 0
+    a, b = array([1] * (2 * n - 1)), array([0] * (2 * n - 1))
+
+    def meant(node):
+        x, y = (value[it] if it <= n else meant(it) for it in values_of(node))
+        return x * y if times[node] else x + y
+
+    def values_of(node):
+        return values[2 * n - 1 :][2 * node - 2 * n - 2 : 2 * node - 2 * n]
+
+    count.one(), count.all(2 * n - 1), count.one(), count.all(2 * n - 2, 2), count.one()
+    d = 1
+    while d <= n - 2:
+        count.one(2)
+        for way in (0, 1):
+            leaves = range(d + 1, n, 2 * d)
+            raked = [(it, parent[it]) for it in leaves if side[it] == way]
+            for leaf, q in raked:
+                s, c = child[2 * q + 1 - way], a[leaf] * value[leaf] + b[leaf]
+                # q's form of q's operation on the leaf and on the form of its sibling
+                a[s], b[s] = (a[s] * c, b[s] * c) if times[q] else (a[s], b[s] + c)
+                a[s], b[s] = a[q] * a[s], a[q] * b[s] + b[q]
+                parent[s], side[s] = parent[q], side[q]
+                child[2 * parent[q] + side[q]] = s
+            products = sum(times[q] for _, q in raked)
+            count.one(2), count.all(len(leaves), 2), count.all(len(raked), 4)
+            count.all(products, 2), count.all(len(raked) - products), count.all(len(raked), 5)
+        count.one()
+        d *= 2
+    count.one(5)
+    memory = {"value": value, "times": times, "child": child, "parent": parent, "side": side, "a": a, "b": b}
+    return [meant(n + 1)], memory
+
+
+def list_ranking_coins(sizes, values, count):
+    n, after = sizes["n"], array(values)
+    before = array([0] * n) | {j: i for i, j in after.items() if j}
+    rank = {i: int(j > 0) for i, j in after.items()}
+    node, stays, gone, colour = array(range(1, n + 1)), array([0] * n), array([0] * n), array([0] * n)
+    count.one(), count.all(n, 2), count.all(n - 1, 2), count.one()
+    m, r = n, 0
+    while m > 1:
+        r += 1
+        left = [node[j] for j in range(1, m + 1)]
+        colour |= {i: i for i in left}
+        count.one(3), count.all(m), count.one()
+        for _ in range(log(log(n)) + 1):
+            behind = {i: colour[after[i]] if after[i] else 1 - colour[i] % 2 for i in left}
+            differ = {i: (colour[i] ^ behind[i]) & -(colour[i] ^ behind[i]) for i in left}
+            place = {i: log(it) for i, it in differ.items()}
+            colour |= {i: 2 * place[i] + (colour[i] // differ[i]) % 2 for i in left}
+            count.one(2), count.all(m, 3), count.all(m - 1), count.all(1), count.turns(place.values(), 3), count.all(m)
+        # the last node stays, and of the others those go whose colour is less than that of their neighbours
+        colour |= {i: n for i in left if not after[i]}
+        out = [i for i in left if all(colour[i] < colour[it] for it in (after[i], before[i]) if it) and after[i]]
+        inner = [i for i in out if before[i]]
+        count.one(), count.all(m, 2), count.all(1), count.all(m), count.all(m - 1), count.all(m), count.all(m - 1), count.all(m, 2)
+        count.all(len(out), 3), count.all(len(inner), 2)
+        for i in out:
+            gone[i] = r
+            before[after[i]] = before[i]
+        for i in inner:
+            after[before[i]] = after[i]
+            rank[before[i]] += rank[i]
+        stays |= array([sum(it not in out for it in left[:j]) for j in range(1, m + 1)])
+        node |= array([it for it in left if it not in out])
+        doubling(m, count), count.one(), count.all(m, 2), count.all(m - len(out)), count.one()
+        m -= len(out)
+    count.one()
+    for back in range(r, 0, -1):
+        count.one(2), count.all(n), count.all(sum(it == back for it in gone.values())), count.one()
+    count.one()
+    # how many follow, by walking
+    followers = {}
+    at = next(i for i in after if i not in values)
+    for rest in range(n - 1, -1, -1):
+        followers[at], at = rest, values[at - 1]
+    memory = {"next": after, "prev": before, "rank": followers, "colour": colour, "gone": gone}
+    return [], {**memory, "node": node, "stays": stays}
 
 
 # ---- chapter 4
@@ -213,6 +300,80 @@ def shortest_paths(sizes, values, count):
         best[n * i + j] = min(best[n * i + j], best[n * i + k] + best[n * k + j])
     assert d == best
     return [], {"d": array(d, 0), "way": array(way, 0)}
+
+
+def components(n, edges):
+    """The least vertex that each one is connected with."""
+    label = {i: i for i in range(1, n + 1)}
+    for _ in range(n):
+        for i, j in edges:
+            label[i] = label[j] = min(label[i], label[j])
+    return label
+
+
+def hooking(sizes, values, count):
+    n, m = sizes["n"], sizes["m"]
+    u, v = values[:m], values[m:]
+    ways = list(zip(u + v, v + u))
+    parent, hooked = array(range(1, n + 1)), array([0] * n)
+    count.one(), count.all(m, 4), count.one(), count.all(n), count.one()
+    r, goes_on = 0, True
+    while goes_on:
+        r += 1
+        deep = [i for i in parent if parent[i] != parent[parent[i]]]
+        no_stars = {*deep, *(parent[parent[i]] for i in deep)}
+        star = {i: i not in no_stars and parent[i] not in no_stars for i in parent}
+        count.one(4), count.all(n, 2), count.all(len(deep), 2), count.all(n), count.all(sum(parent[i] in no_stars for i in parent))
+        # of several that hook one star, or one root, the first succeeds
+        ends = [(i, parent[i], parent[j]) for i, j in ways]
+        first = [(x, y) for i, x, y in ends if star[i] and y < x]
+        parent |= dict(reversed(first))
+        hooked |= {parent[x]: r for x, _ in first}
+        count.one(), count.all(2 * m, 3), count.all(len(first), 3)
+        ends = [(i, parent[i], parent[j]) for i, j in ways]
+        second = [(x, y) for i, x, y in ends if star[i] and parent[x] == x and hooked[x] != r and x != y]
+        parent |= dict(reversed(second))
+        count.one(), count.all(2 * m, 3), count.all(len(second), 2)
+        deep = [i for i in parent if parent[i] != parent[parent[i]]]
+        parent = {i: parent[parent[i]] for i in parent}
+        count.one(), count.all(n), count.all(len(deep), 2)
+        goes_on = bool(first or second or deep)
+    count.one(2), count.all(n, 2)
+    memory = {"u": array(u), "v": array(v), "from": array(u + v), "into": array(v + u), "parent": parent}
+    stars = {"star": array([1] * n), "hooked": hooked, "label": components(n, list(zip(u, v))), "goes_on": 0}
+    return [], {**memory, **stars}
+
+
+def spanning_forest(sizes, values, count):
+    n, m = sizes["n"], sizes["m"]
+    u, v, weight = (array(values[at : at + m]) for at in (0, m, 2 * m))
+    edge = {w: e for e, w in weight.items()}
+    # by Kruskal's algorithm: the lightest edge that joins two components, again and again
+    forest = []
+    for w in sorted(edge):
+        label = components(n, [(u[e], v[e]) for e in forest])
+        if label[u[edge[w]]] != label[v[edge[w]]]:
+            forest.append(edge[w])
+    count.one(), count.all(m), count.one(), count.all(n), count.one()
+    label, best, root = array(range(1, n + 1)), {}, {}
+    for _ in range(log(n)):
+        ends = [(w, label[u[edge[w]]], label[v[edge[w]]]) for w in sorted(edge)]
+        ends = [it for it in ends if it[1] != it[2]]
+        ones = {x: w for w, x, _ in reversed(ends)}
+        lighter = [it for it in ends if it[0] < ones.get(it[2], m + 1)]
+        best = {x: w for w, *both in reversed(ends) for x in both}
+        links = {x: label[u[edge[w]]] + label[v[edge[w]]] - x for x, w in best.items()}
+        roots = [x for x in links if links[links[x]] == x and x < links[x]]
+        root = array(range(1, n + 1)) | links | {x: x for x in roots}
+        count.one(2), count.all(n, 2), count.one(), count.all(m, 3), count.all(len(ends), 2), count.all(len(lighter))
+        count.one(), count.all(n), count.all(len(links), 3), count.one(), count.all(n), count.all(len(roots)), count.one()
+        for _ in range(log(n)):
+            root = {i: root[root[i]] for i in root}
+            count.one(2), count.all(n)
+        label = {i: root[x] for i, x in label.items()}
+        count.one(), count.all(n)
+    memory = {"u": u, "v": v, "weight": weight, "taken": {e: int(e in forest) for e in u}, "edge": edge}
+    return [], {**memory, "label": label, "best": array([0] * n) | best, "root": root}
 
 
 # ---- chapter 7
