@@ -59,7 +59,7 @@ def counted(program, sizes_and_inputs):
     for given, values in sizes_and_inputs:
         words = ["cost", program, "--input", values, *sized(given)]
         done = subprocess.run([PROGRAM, *words], capture_output=True, text=True, timeout=60)
-        yield done.stdout if done.returncode == 0 else f"pramc {' '.join(map(str, words))}: status {done.returncode}\n{done.stdout}{done.stderr}"
+        yield done.stdout if done.returncode == 0 else f"status {done.returncode}\n{done.stdout}{done.stderr}"
 
 
 def miscounted(name, text):

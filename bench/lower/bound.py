@@ -351,7 +351,8 @@ def expanded(text):
 
 
 def bound_of(folder, name):
-    run = Run(Parser(expanded(open(f"{folder}/{name}.pram").read())).program(), [int(w) for w in open(f"{folder}/{name}.in").read().split()])
+    text, values = (open(f"{folder}/{name}.{it}").read() for it in ("pram", "in"))
+    run = Run(Parser(expanded(text)).program(), [int(it) for it in values.split()])
     try:
         run.block(run.body)
     except Fault:
