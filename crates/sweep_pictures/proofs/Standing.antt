@@ -5,7 +5,7 @@ use Rattle.sweep_texts.specs.declared.measure.Measure.TheVariants.{Time, Work}
 use Rattle.sweep_texts.specs.declared.size_row.SizeRow.{SizeRow}
 use Rattle.sweep_pictures.specs.declared.frame.Frame.{Frame}
 use Rattle.sweep_pictures.specs.Marks.{line_text, mark, marks, row_shape}
-use Rattle.sweep_pictures.specs.Picture.{StandsIn, all_labels, cut_text, figure, frame_of, ground, opening, panel, panels, picture}
+use Rattle.sweep_pictures.specs.Picture.{StandsIn, all_labels, cut_text, frame_of, ground, opening, panel, picture}
 use Rattle.sweep_pictures.specs.Places.{drawn}
 use Rattle.sweep_pictures.specs.Titles.{titled}
 

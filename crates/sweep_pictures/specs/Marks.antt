@@ -1,5 +1,5 @@
 -- The marks of a panel, and the line through its circles.
-use Rattle.std.specs.Prelude.{ℕ, ◌+◌, ◌-◌, List, [], ◌∷◌, ◌++◌, codes, decimal}
+use Rattle.std.specs.Prelude.{ℕ, ◌-◌, List, [], ◌∷◌, ◌++◌, codes, decimal}
 use Rattle.sweep_texts.specs.declared.size_row.Ending.{Ending}
 use Rattle.sweep_texts.specs.declared.size_row.Ending.TheVariants.{Ended, GoesOn, Faulted, Refused}
 use Rattle.sweep_texts.specs.declared.size_row.SizeRow.{SizeRow}

@@ -1,5 +1,5 @@
 -- The picture of a sweep, as SVG 1.1: time against the size, and below it work.
-use Rattle.std.specs.Prelude.{◌≡◌, ℕ, zero, suc, ◌+◌, ◌-◌, ◌*◌, ◌/◌, max, nat_le, nat_lt, if◌then◌else◌, List, [], ◌∷◌, ◌++◌, length, codes}
+use Rattle.std.specs.Prelude.{◌≡◌, ℕ, zero, suc, ◌+◌, ◌-◌, ◌*◌, ◌/◌, max, nat_le, nat_lt, if◌then◌else◌, List, [], ◌++◌, length, codes}
 use Rattle.std.specs.Prelude.{decimal}
 use Rattle.sweep_texts.specs.declared.measure.Measure.{Measure}
 use Rattle.sweep_texts.specs.declared.measure.Measure.TheVariants.{Time, Work}

@@ -1,4 +1,4 @@
-use Rattle.std.proofs.Common.{◌++◌, refl}
+use Rattle.std.proofs.Common.{refl}
 use Rattle.sweep_pictures.specs.Marks.{row_shape}
 use Rattle.sweep_pictures.specs.Titles.{titled}
 use Rattle.text_out.proofs.Progress.{breaks_off, closes, goes_on, starts}

@@ -1,5 +1,4 @@
-use Rattle.std.proofs.Common.{◌≡◌, arith}
-use Rattle.sweep_pictures.specs.Places.{low_place}
+use Rattle.std.proofs.Common.{arith}
 use Rattle.sweep_pictures.proofs.Lows.{low_is_small}
 use Rattle.sweep_pictures.proofs.measure.low_place.Goals as goal
 

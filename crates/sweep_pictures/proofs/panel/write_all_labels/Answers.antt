@@ -1,4 +1,4 @@
-use Rattle.std.proofs.Common.{◌++◌, refl}
+use Rattle.std.proofs.Common.{refl}
 use Rattle.sweep_pictures.specs.declared.labels.Kind.TheVariants.{Sizes, Numbers}
 use Rattle.sweep_pictures.specs.Labels.{labels}
 use Rattle.text_out.proofs.Progress.{breaks_off, closes, goes_on, starts}

@@ -1,7 +1,5 @@
-use Rattle.std.proofs.Common.{◌≡◌, ◌*◌, ap}
 use Rattle.text_out.proofs.Writing.{writes_stopped}
 use Rattle.text_out.proofs.Progress.{goes_on, stops}
-use Rattle.sweep_pictures.specs.Picture.{tick}
 use Rattle.sweep_pictures.proofs.TickTexts.{ticks_at}
 use Rattle.sweep_pictures.proofs.panel.write_ticks.Goals as goal
 

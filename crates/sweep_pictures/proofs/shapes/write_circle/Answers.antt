@@ -1,5 +1,5 @@
-use Rattle.std.proofs.Common.{ℕ, List, ◌++◌, ◌∙◌, ap, subst}
-use Rattle.std.specs.Prelude.{codes, decimal}
+use Rattle.std.proofs.Common.{ℕ, List, ◌++◌, ◌∙◌, subst}
+use Rattle.std.specs.Prelude.{codes}
 use Rattle.text_out.specs.Out.{Writes}
 use Rattle.sweep_pictures.proofs.shapes.write_circle.Goals as goal
 

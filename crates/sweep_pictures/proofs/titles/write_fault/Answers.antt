@@ -1,4 +1,4 @@
-use Rattle.std.proofs.Common.{◌++◌, refl}
+use Rattle.std.proofs.Common.{refl}
 use Rattle.std.specs.Prelude.{codes}
 use Rattle.sweep_pictures.specs.Titles.{letters, number_text}
 use Rattle.text_out.proofs.Progress.{breaks_off, closes, goes_on, starts}
