@@ -1,5 +1,5 @@
 -- That what is told of a sweep can be read.
-use Rattle.std.proofs.Common.{ℕ, List, [], ◌∷◌, codes, lit≤}
+use Rattle.std.proofs.Common.{ℕ, List, ◌∷◌, codes, lit≤}
 use Rattle.json_lines.specs.Small.{IsReadable}
 use Rattle.json_lines.proofs.Small.{HasSmall, has_all, small_count, small_large, small_letters, small_object, small_word, smaller}
 use Rattle.growth_formulas.specs.declared.growth.Growth.{Growth}
