@@ -11,5 +11,5 @@ returns c =
     let work = growth_fields (codes "work") c.args.name.now c.args.growths.now.work in
     on_ok_weaker c.put_growth-2.result (λ put.
     put_then time work (shown c.args.object.now) (shown c.put_growth.new.object) (shown c.put_growth-2.new.object)
-        c.in_ok-put_growth.ensures put)
+    c.in_ok-put_growth.ensures put)
     c.put_growth-2.ensures
