@@ -1,18 +1,18 @@
 -- The subjects in order, and which of them a word doesn't name.
-use Rattle.std.proofs.Common.{◌≡◌, ℕ, ◌<◌, List, arith, slice_index_or}
+use Rattle.std.proofs.Common.{ℕ, ◌<◌, List, arith, slice_index_or}
 use Rattle.explanations.specs.declared.subject.Subject.{Subject}
 use Rattle.explanations.specs.declared.subject.Subject.TheVariants as subject
 use Rattle.explanations.specs.declared.subject.TheConstants.{SUBJECTS}
-use Rattle.explanations.specs.Explained.{NamesNothing, subject_word}
+use Rattle.explanations.specs.Explained.{Names, NamesNothing}
 
 abbrev pub subject_at : ℕ → Subject
 subject_at k = slice_index_or SUBJECTS k subject.NotAscii
 
--- none of the first n has the word
+-- the word names none of the first n
 abbrev pub NoneBelow : List ℕ → ℕ → Type 0
-NoneBelow word n = (k : ℕ) → k < n → ¬ (word ≡ subject_word (subject_at k))
+NoneBelow word n = (k : ℕ) → k < n → ¬ (Names word (subject_at k))
 
-pub none_of_all : (word : List ℕ) → NoneBelow word 27 → NamesNothing word
+pub none_of_all : (word : List ℕ) → NoneBelow word 41 → NamesNothing word
 none_of_all word none subject.NotAscii = none 0 (omega arith)
 none_of_all word none subject.TextTooLong = none 1 (omega arith)
 none_of_all word none subject.BadToken = none 2 (omega arith)
@@ -40,3 +40,17 @@ none_of_all word none subject.OutOfRange = none 23 (omega arith)
 none_of_all word none subject.TooWide = none 24 (omega arith)
 none_of_all word none subject.ReadConflict = none 25 (omega arith)
 none_of_all word none subject.WriteConflict = none 26 (omega arith)
+none_of_all word none subject.Check = none 27 (omega arith)
+none_of_all word none subject.Plan = none 28 (omega arith)
+none_of_all word none subject.Meaning = none 29 (omega arith)
+none_of_all word none subject.Cost = none 30 (omega arith)
+none_of_all word none subject.Steps = none 31 (omega arith)
+none_of_all word none subject.Rules = none 32 (omega arith)
+none_of_all word none subject.Run = none 33 (omega arith)
+none_of_all word none subject.Trace = none 34 (omega arith)
+none_of_all word none subject.Expand = none 35 (omega arith)
+none_of_all word none subject.Exec = none 36 (omega arith)
+none_of_all word none subject.Explain = none 37 (omega arith)
+none_of_all word none subject.Language = none 38 (omega arith)
+none_of_all word none subject.Options = none 39 (omega arith)
+none_of_all word none subject.Everything = none 40 (omega arith)

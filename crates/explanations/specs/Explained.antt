@@ -1,5 +1,6 @@
 -- What is explained, by which word, and what is said of it.
 use Rattle.std.specs.Prelude.{◌≡◌, ℕ, List, codes}
+use Rattle.std.specs.Str.{str_to_ascii_lowercase}
 use Rattle.explanations.specs.declared.subject.Subject.{Subject}
 use Rattle.explanations.specs.declared.subject.Subject.TheVariants as subject
 use Rattle.explanations.specs.declared.texts.TheConstants.{NOT_ASCII, TEXT_TOO_LONG, BAD_TOKEN, SYNTAX, TOO_DEEP, BAD_SIZE}
@@ -7,8 +8,11 @@ use Rattle.explanations.specs.declared.names.TheConstants.{UNKNOWN_NAME, DOUBLE_
 use Rattle.explanations.specs.declared.runs.TheConstants.{INPUT_TOO_LONG, BAD_MAP, BAD_WORKERS, NOT_VERIFIED, BAD_LISTING}
 use Rattle.explanations.specs.declared.runs.TheConstants.{OUT_OF_MEMORY, WRITE_FAILED, OUT_OF_RESERVE, COMMAND_LINE, UNREADABLE_FILE}
 use Rattle.explanations.specs.declared.faults.TheConstants.{OVERFLOW, DIVIDE_BY_ZERO, OUT_OF_RANGE, TOO_WIDE, READ_CONFLICT, WRITE_CONFLICT}
+use Rattle.explanations.specs.declared.commands.TheConstants.{CHECK, PLAN, MEANING, COST, STEPS, RULES, EXPAND, EXPLAIN}
+use Rattle.explanations.specs.declared.workers.TheConstants.{RUN, TRACE, EXEC}
+use Rattle.explanations.specs.declared.overviews.TheConstants.{LANGUAGE, OPTIONS, EVERYTHING}
 
--- the number of a refusal, or the name of a fault
+-- the number of a refusal, the name of a fault, a command, or a word of its own; everything has none
 abbrev pub subject_word : Subject → List ℕ
 subject_word subject.NotAscii = codes "E1"
 subject_word subject.TextTooLong = codes "E2"
@@ -37,10 +41,28 @@ subject_word subject.OutOfRange = codes "out-of-range"
 subject_word subject.TooWide = codes "too-wide"
 subject_word subject.ReadConflict = codes "read-conflict"
 subject_word subject.WriteConflict = codes "write-conflict"
+subject_word subject.Check = codes "check"
+subject_word subject.Plan = codes "plan"
+subject_word subject.Meaning = codes "meaning"
+subject_word subject.Cost = codes "cost"
+subject_word subject.Steps = codes "steps"
+subject_word subject.Rules = codes "rules"
+subject_word subject.Run = codes "run"
+subject_word subject.Trace = codes "trace"
+subject_word subject.Expand = codes "expand"
+subject_word subject.Exec = codes "exec"
+subject_word subject.Explain = codes "explain"
+subject_word subject.Language = codes "language"
+subject_word subject.Options = codes "options"
+subject_word subject.Everything = codes ""
 
--- no subject has that word
+-- a word names the subject whose word it is, in small letters or capitals
+abbrev pub Names : List ℕ → Subject → Type 0
+Names word s = str_to_ascii_lowercase word ≡ str_to_ascii_lowercase (subject_word s)
+
+-- a word names no subject
 abbrev pub NamesNothing : List ℕ → Type 0
-NamesNothing word = (s : Subject) → ¬ (word ≡ subject_word s)
+NamesNothing word = (s : Subject) → ¬ (Names word s)
 
 -- the text of each
 abbrev pub explanation : Subject → List ℕ
@@ -71,3 +93,17 @@ explanation subject.OutOfRange = OUT_OF_RANGE
 explanation subject.TooWide = TOO_WIDE
 explanation subject.ReadConflict = READ_CONFLICT
 explanation subject.WriteConflict = WRITE_CONFLICT
+explanation subject.Check = CHECK
+explanation subject.Plan = PLAN
+explanation subject.Meaning = MEANING
+explanation subject.Cost = COST
+explanation subject.Steps = STEPS
+explanation subject.Rules = RULES
+explanation subject.Run = RUN
+explanation subject.Trace = TRACE
+explanation subject.Expand = EXPAND
+explanation subject.Exec = EXEC
+explanation subject.Explain = EXPLAIN
+explanation subject.Language = LANGUAGE
+explanation subject.Options = OPTIONS
+explanation subject.Everything = EVERYTHING

@@ -4,16 +4,19 @@ ghost use Rattle.std.specs.Prelude.{◌≡◌, ◌<◌, ◌^◌};
 ghost use Rattle.text_out.specs.Out.{Writes};
 ghost use Rattle.explanations.specs.Explained.{explanation};
 
+use crate::commands::{CHECK, COST, EXPAND, EXPLAIN, MEANING, PLAN, RULES, STEPS};
 use crate::faults::{
     DIVIDE_BY_ZERO, OUT_OF_RANGE, OVERFLOW, READ_CONFLICT, TOO_WIDE, WRITE_CONFLICT,
 };
 use crate::names::{ASSIGNED_LOOP_VARIABLE, DOUBLE_NAME, LIMIT, UNKNOWN_NAME, WRONG_KIND};
+use crate::overviews::{EVERYTHING, LANGUAGE, OPTIONS};
 use crate::runs::{
     BAD_LISTING, BAD_MAP, BAD_WORKERS, COMMAND_LINE, INPUT_TOO_LONG, NOT_VERIFIED, OUT_OF_MEMORY,
     OUT_OF_RESERVE, UNREADABLE_FILE, WRITE_FAILED,
 };
 use crate::subject::Subject;
 use crate::texts::{BAD_SIZE, BAD_TOKEN, NOT_ASCII, SYNTAX, TEXT_TOO_LONG, TOO_DEEP};
+use crate::workers::{EXEC, RUN, TRACE};
 use text_out::{Out, WriteFault};
 
 fn explanation_of(subject: Subject) -> &'static [u8]
@@ -47,11 +50,25 @@ fn explanation_of(subject: Subject) -> &'static [u8]
         Subject::TooWide => &TOO_WIDE,
         Subject::ReadConflict => &READ_CONFLICT,
         Subject::WriteConflict => &WRITE_CONFLICT,
+        Subject::Check => &CHECK,
+        Subject::Plan => &PLAN,
+        Subject::Meaning => &MEANING,
+        Subject::Cost => &COST,
+        Subject::Steps => &STEPS,
+        Subject::Rules => &RULES,
+        Subject::Run => &RUN,
+        Subject::Trace => &TRACE,
+        Subject::Expand => &EXPAND,
+        Subject::Exec => &EXEC,
+        Subject::Explain => &EXPLAIN,
+        Subject::Language => &LANGUAGE,
+        Subject::Options => &OPTIONS,
+        Subject::Everything => &EVERYTHING,
     }
 }
 
-/// Writes what there is to say of a subject: what it is, something that has it, and the same mended. The error is that the writer
-/// failed (E17).
+/// Writes what there is to say of a subject: of a refusal or a fault what it is, something that has it, and the same mended; of a
+/// command what it is for, an example, and its options. The error is that the writer failed (E17).
 pub fn write_explanation<W: Out>(out: &mut W, subject: Subject) -> Result<(), WriteFault>
     requires counted { (W.Out.state out.old).failures < 2 ^ 63 }
     ensures written { Writes (W.Out.state out.old) (W.Out.state out.new) (explanation subject) result }

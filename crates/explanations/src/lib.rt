@@ -1,12 +1,15 @@
-//! What the program's refusals and faults are, each with something that has it and the same mended.
+//! What the program's refusals, faults, commands and options are, and its language on one screen.
 #![tactic(auto)]
 
+mod commands;
 mod explanation;
 mod faults;
 mod names;
+mod overviews;
 mod runs;
 mod subject;
 mod texts;
+mod workers;
 
 pub use explanation::write_explanation;
 pub use subject::{Subject, subject_of};

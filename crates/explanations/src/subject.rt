@@ -1,9 +1,9 @@
 //! What is explained.
 
 ghost use Rattle.std.specs.Prelude.{◌≡◌, IfSome, None};
-ghost use Rattle.explanations.specs.Explained.{NamesNothing, subject_word};
+ghost use Rattle.explanations.specs.Explained.{Names, NamesNothing, subject_word};
 
-/// What is explained: a refusal, or a kind of fault.
+/// What is explained: a refusal, a kind of fault, a command, the language, the options, or everything at once.
 #[derive(Clone, Copy, Debug, PartialEq, Eq)]
 pub enum Subject {
     /// `E1`.
@@ -60,9 +60,37 @@ pub enum Subject {
     ReadConflict,
     /// `write-conflict`.
     WriteConflict,
+    /// `check`.
+    Check,
+    /// `plan`.
+    Plan,
+    /// `meaning`.
+    Meaning,
+    /// `cost`.
+    Cost,
+    /// `steps`.
+    Steps,
+    /// `rules`.
+    Rules,
+    /// `run`.
+    Run,
+    /// `trace`.
+    Trace,
+    /// `expand`.
+    Expand,
+    /// `exec`.
+    Exec,
+    /// `explain`.
+    Explain,
+    /// `language`.
+    Language,
+    /// `options`.
+    Options,
+    /// All of these: what is told without a word.
+    Everything,
 }
 
-const SUBJECTS: [Subject; 27] = [
+const SUBJECTS: [Subject; 41] = [
     Subject::NotAscii,
     Subject::TextTooLong,
     Subject::BadToken,
@@ -90,6 +118,20 @@ const SUBJECTS: [Subject; 27] = [
     Subject::TooWide,
     Subject::ReadConflict,
     Subject::WriteConflict,
+    Subject::Check,
+    Subject::Plan,
+    Subject::Meaning,
+    Subject::Cost,
+    Subject::Steps,
+    Subject::Rules,
+    Subject::Run,
+    Subject::Trace,
+    Subject::Expand,
+    Subject::Exec,
+    Subject::Explain,
+    Subject::Language,
+    Subject::Options,
+    Subject::Everything,
 ];
 
 // The word of a subject.
@@ -124,18 +166,32 @@ fn word_of(subject: Subject) -> &'static str
         Subject::TooWide => "too-wide",
         Subject::ReadConflict => "read-conflict",
         Subject::WriteConflict => "write-conflict",
+        Subject::Check => "check",
+        Subject::Plan => "plan",
+        Subject::Meaning => "meaning",
+        Subject::Cost => "cost",
+        Subject::Steps => "steps",
+        Subject::Rules => "rules",
+        Subject::Run => "run",
+        Subject::Trace => "trace",
+        Subject::Expand => "expand",
+        Subject::Exec => "exec",
+        Subject::Explain => "explain",
+        Subject::Language => "language",
+        Subject::Options => "options",
+        Subject::Everything => "",
     }
 }
 
-/// The subject that a word names: the number of a refusal, `E1` to `E19`, `P1` or `P2`, or the name of a fault, as `read-conflict`.
-/// `None`: it names none.
+/// The subject that a word names, in small letters or capitals: the number of a refusal, `E1` to `E19`, `P1` or `P2`, the name of a
+/// fault, as `read-conflict`, a command, as `run`, or `language` or `options`. The empty word names everything. `None`: it names none.
 pub fn subject_of(word: &str) -> Option<Subject>
-    ensures named { IfSome result (λ subject. word.now ≡ subject_word subject) }
+    ensures named { IfSome result (λ subject. Names word.now subject) }
     ensures none { result ≡ None → NamesNothing word.now }
 {
     'subjects: for i in 0..SUBJECTS.len() {
         let subject = SUBJECTS[i];
-        if word_of(subject) == word {
+        if word.eq_ignore_ascii_case(word_of(subject)) {
             return Some(subject);
         }
     }
