@@ -1,9 +1,10 @@
 //! What is said of refusals of a program whose syntax is right.
 
-pub(crate) const UNKNOWN_NAME: [u8; 382] = *b"E6 UnknownName: a name that is not in scope.
+pub(crate) const UNKNOWN_NAME: [u8; 502] = *b"E6 UnknownName: a name that is not in scope.
 
 A name is declared before `begin`, by `shared` or `var`, and holds everywhere. The index of a pardo and its
-locals hold in its body alone, not in its bounds and not behind its `end`. The place is that of the name.
+locals hold in its body alone, not in its bounds and not behind its `end`. The place is that of the name. In a
+memory (`--memory`) it is a name of no shared declaration, or the low bound of cells that its array does not have.
 
 This has it:
 

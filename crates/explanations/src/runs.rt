@@ -1,9 +1,10 @@
 //! What is said of refusals of a run, of memory and of the command line.
 
-pub(crate) const INPUT_TOO_LONG: [u8; 448] = *b"E11 InputTooLong: more values than cells.
+pub(crate) const INPUT_TOO_LONG: [u8; 529] = *b"E11 InputTooLong: more values than cells.
 
 The values of an input are those of the first shared cells, in the order of their declaration, and there are
-more of them than the program has cells.
+more of them than the program has cells. Or a line of a memory (`--memory`) has more values than the cells that
+it names.
 
 This has it:
 
@@ -150,10 +151,12 @@ $ pramc run three.pram --reserve 3,1
 ended
 ";
 
-pub(crate) const COMMAND_LINE: [u8; 335] = *b"P1: the command line.
+pub(crate) const COMMAND_LINE: [u8; 543] = *b"P1: the command line.
 
-A command, a file or an option is missing, is unknown, or is given twice, and `pramc --help` says what there
-is; or a word is no number of 32 bits where one belongs, and then it stands behind P1.
+A command, a file or an option is missing, is unknown, or is given twice; `pramc --help` says what there is,
+and `pramc explain options` what each option takes. Or a word can't stand there, and then it stands behind P1:
+no number of 32 bits where one belongs, a name that the program doesn't have, a word that nothing explains, or
+an option that doesn't go with the others, as `--input` with `--random`.
 
 This has it:
 

@@ -1,8 +1,8 @@
 //! What is said of refusals of a text.
 
-pub(crate) const NOT_ASCII: [u8; 308] = *b"E1 NotAscii: a byte that is not ASCII.
+pub(crate) const NOT_ASCII: [u8; 318] = *b"E1 NotAscii: a byte that is not ASCII.
 
-Programs and inputs are written in plain ASCII, in comments too. The place is the offset of the first
+Programs, inputs and memories are written in plain ASCII, in comments too. The place is the offset of the first
 byte of 128 or more, from 0.
 
 This has it:
@@ -22,9 +22,9 @@ begin
 end
 ";
 
-pub(crate) const TEXT_TOO_LONG: [u8; 388] = *b"E2 TextTooLong: a text that is too long.
+pub(crate) const TEXT_TOO_LONG: [u8; 398] = *b"E2 TextTooLong: a text that is too long.
 
-A program and an input have at most 1,048,576 bytes, a listing of superstep code at most 8,388,608.
+A program, an input and a memory have at most 1,048,576 bytes, a listing of superstep code at most 8,388,608.
 Nothing else of a longer text is judged.
 
 This has it:
@@ -39,11 +39,12 @@ $ grep -v '^#' long.pram > short.pram
 $ pramc check short.pram
 ";
 
-pub(crate) const BAD_TOKEN: [u8; 497] = *b"E3 BadToken: something that is no token.
+pub(crate) const BAD_TOKEN: [u8; 616] = *b"E3 BadToken: something that is no token.
 
 A text is cut into names, numbers and symbols before its syntax is looked at. The place is the first thing
 that is none of these: a byte that begins none, a number from 9223372036854775808 on, or a number with a
-letter right behind it. An input has numbers alone, each with a minus before it or none.
+letter right behind it. An input has numbers alone, each with a minus before it or none. A line of a memory is
+`s = 7` or `a[1..4] = 4 3 2 1`, and its place is the first thing with which it doesn't go on so.
 
 This has it:
 
