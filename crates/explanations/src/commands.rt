@@ -93,13 +93,14 @@ Exit status: 0 it ended, 1 it faulted, 2 it was refused, 3 it met the bound.
 Of a sweep 1 if a size faulted or was refused, or else 3 if one met the bound.
 ";
 
-pub(crate) const STEPS: [u8; 1088] = *b"pramc steps FILE: a run statement by statement.
+pub(crate) const STEPS: [u8; 1166] = *b"pramc steps FILE: a run statement by statement.
 
 It writes a line for each statement that ran: its number, its line in the text,
 how many processors ran it, and the cells that it changed. At a conflict it says
 which processors met. Then comes what `meaning` writes. Type this:
 
-$ pramc steps examples/tree_sum.pram --input examples/tree_sum.in --to 7
+$ pramc steps examples/tree_sum.pram --input examples/tree_sum.in | sed -n 7p
+7 line 10 processors 4 b[1] 1 -> 3 b[2] 2 -> 7 b[3] 3 -> 11 b[4] 4 -> 15
 
 --from K, --to K    tells these statements alone, counted from 1
 --locals            tells of variables, locals and printed numbers too
@@ -143,7 +144,7 @@ Under common, priority and sum several may read one cell too. A run that breaks
 its rule faults: `read-conflict` or `write-conflict`.
 ";
 
-pub(crate) const EXPAND: [u8; 583] = *b"pramc expand FILE: the text that the sizes give.
+pub(crate) const EXPAND: [u8; 659] = *b"pramc expand FILE: the text that the sizes give.
 
 A text with a line `# size n = 8` stands for every size: {2*n} stands for 16, or
 for another number with --size. This command writes the program that is read,
@@ -151,7 +152,9 @@ with numbers in place of the braces. A text without sizes is written as it is.
 
 Type this:
 
-$ pramc expand examples/tree_sum.pram --size n=16
+$ pramc expand examples/tree_sum.pram --size n=16 | sed -n 3,4p
+rule erew; procs 16;
+shared a[1..16]; shared b[1..16]; var m;
 
 Options:
 
@@ -161,7 +164,7 @@ Options:
 Exit status: 0 it is written, whether or not it is a program; 2 it is refused.
 ";
 
-pub(crate) const EXPLAIN: [u8; 621] = *b"pramc explain WORD: says what a word is.
+pub(crate) const EXPLAIN: [u8; 632] = *b"pramc explain WORD: says what a word is.
 
 The word is that of a refusal, as E6, or of a fault, as read-conflict; or it is
 a command, as cost, or `language` or `options`. Capitals don't matter: e6 is E6.
@@ -174,8 +177,8 @@ $ pramc explain read-conflict
 Of a refusal or a fault it says what that is, with something that has it and the
 same mended; of a command what it is for, what to type, and its options.
 
-It takes no option. The other commands take --explain, with which they say more
-of what is refused, or faults, in your own file.
+It takes no option but --help. The other commands take --explain, with which
+they say more of what is refused, or faults, in your own file.
 
 Exit status: 0 it is told, 2 there is no such word.
 ";
