@@ -1,6 +1,6 @@
 -- What is told of a table of sizes and numbers.
-use Rattle.std.specs.Prelude.{◌≡◌, ◌+◌, ◌*◌, ◌≤◌, ℤ, pos, ◌+ℤ◌, List, length, All, ⊤}
-use Rattle.std.specs.List.{AllAdjacentBelow}
+use Rattle.std.specs.Prelude.{◌≡◌, ◌==◌, ◌+◌, ◌*◌, ◌≤◌, if◌then◌else◌, Bool, ℕ, ℤ, pos, ◌+ℤ◌, List, [], ◌∷◌, length, All, ⊤}
+use Rattle.std.specs.List.{AllAdjacentBelow, list_any}
 use Rattle.growth_formulas.specs.declared.row.Row.{Row}
 use Rattle.growth_formulas.specs.declared.formula.Formula.{Formula}
 use Rattle.growth_formulas.specs.declared.growth.Growth.{Growth}
@@ -11,10 +11,19 @@ use Rattle.growth_formulas.specs.Formulas.{IsValue, term_count}
 abbrev pub Fits : Formula → List Row → Type 0
 Fits f table = All (λ (row : Row). IsValue f row.size (pos row.number)) table
 
--- the formula fits, and there are at least two more sizes than terms
+-- whether a row has this size
+abbrev pub has_size : ℕ → List Row → Bool
+has_size size table = list_any (λ row. row.size == size) table
+
+-- how many different sizes there are: one for each row behind which none has its size
+abbrev pub size_count : List Row → ℕ
+size_count [] = 0
+size_count (row ∷ table) = if has_size row.size table then size_count table else size_count table + 1
+
+-- the formula fits, and there are at least two more different sizes than terms
 pub record Explains (f : Formula) (table : List Row) : Type 0 where
   pub fits : Fits f table
-  pub enough : term_count f + 2 ≤ length table
+  pub enough : term_count f + 2 ≤ size_count table
 
 -- b has twice the size of a, and a number that is greater by the step
 pub record Doubles (step : ℤ) (a b : Row) : Type 0 where

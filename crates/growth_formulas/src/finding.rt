@@ -53,7 +53,7 @@ fn first_formula(table: &[Row]) -> Option<Formula>
 }
 
 /// How the numbers of a table grow with its sizes. A formula is told that gives the number at each size, where there are at least two more
-/// sizes than terms: the first by fewest terms, and among as many those that grow slower. Else, where each of three sizes or more is twice
+/// different sizes than terms: the first by fewest terms, and among as many those that grow slower. Else, where each of three sizes or more is twice
 /// the one before, and the numbers grow by one step, that step. It claims nothing of other sizes.
 pub fn fit(table: &[Row]) -> Growth
     ensures told { IsSo result table.now }

@@ -1,9 +1,10 @@
 //! Whether a formula fits a table.
 
-ghost use Rattle.std.specs.Prelude.{pos};
+ghost use Rattle.std.specs.Prelude.{◌≡◌, ◌==◌, pos};
 ghost use Rattle.std.specs.Bool.{OnTrue};
+ghost use Rattle.std.specs.List.{list_any};
 ghost use Rattle.growth_formulas.specs.Formulas.{IsValue};
-ghost use Rattle.growth_formulas.specs.Tables.{Explains, Fits};
+ghost use Rattle.growth_formulas.specs.Tables.{Explains, Fits, has_size, size_count};
 
 use crate::formula::Formula;
 use crate::row::Row;
@@ -30,10 +31,35 @@ fn fits(formula: &Formula, table: &[Row]) -> bool
     true
 }
 
-/// Whether the formula gives the number at each size, of which there are at least two more than it has terms. No where a number on the
-/// way has no `i128`.
+// Whether a row has this size.
+fn has_size(table: &[Row], size: u64) -> bool
+    ensures { result ≡ has_size size table.now }
+{
+    for row in table {
+        if row.size == size {
+            return true;
+        }
+    }
+    false
+}
+
+// How many different sizes there are.
+fn size_count(table: &[Row]) -> usize
+    ensures { result ≡ size_count table.now }
+{
+    let mut count = 0;
+    for i in 0..table.len() {
+        if !has_size(&table[i + 1..], table[i].size) {
+            count += 1;
+        }
+    }
+    count
+}
+
+/// Whether the formula gives the number at each size, of which there are at least two different ones more than it has terms. No where a
+/// number on the way has no `i128`.
 pub(crate) fn explains(formula: &Formula, table: &[Row]) -> bool
     ensures { OnTrue result (Explains formula.now table.now) }
 {
-    formula.term_count() + 2 <= table.len() && fits(formula, table)
+    fits(formula, table) && formula.term_count() + 2 <= size_count(table)
 }

@@ -124,6 +124,14 @@ const STEPS: [Row; 3] = [
     },
 ];
 
+// n + 1, at two sizes, each of them twice.
+const TWO_SIZES: [Row; 4] = [
+    Row { size: 4, number: 5 },
+    Row { size: 4, number: 5 },
+    Row { size: 9, number: 10 },
+    Row { size: 9, number: 10 },
+];
+
 // n + 7 at too few sizes for two terms, which don't double.
 const TOO_FEW: [Row; 3] = [
     Row {
@@ -258,6 +266,7 @@ fn steps_are_told_where_sizes_double(rt: HostRuntime) -> Result<(), Fail> {
 fn nothing_is_told_of_other_tables(rt: HostRuntime) -> Result<(), Fail> {
     assert_line(&rt, rt.alloc(), &PRIMES, b"")?;
     assert_eq!(rt; fit(&TOO_FEW), Growth::Nothing);
+    assert_eq!(rt; fit(&TWO_SIZES), Growth::Nothing);
     assert_eq!(rt; fit(&[]), Growth::Nothing);
     Ok(())
 }
