@@ -1,2 +1,3 @@
 pub mod StatementLocals
 pub mod StatementNames
+pub mod StatementBound

@@ -1,3 +1,4 @@
 pub mod InScope
 pub mod Locals
 pub mod Nearness
+pub mod Bound
