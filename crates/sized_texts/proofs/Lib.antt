@@ -7,3 +7,6 @@ pub mod Exits
 pub mod NoSizes
 pub mod Sound
 pub mod SizeWords
+pub mod Sweeps
+pub mod Ranges
+pub mod SweepNames

@@ -33,7 +33,7 @@ number_found true true n v is = (refl, sym (unsome n v is))
 number_found true false n v is = absurd (cc)
 number_found false small n v is = absurd (cc)
 
-digits_found : (text : List ℕ) (v : ℕ) → digits_value text ≡ Some v → (is_value largest text ≡ true) × (v ≡ value_after 0 text)
+pub digits_found : (text : List ℕ) (v : ℕ) → digits_value text ≡ Some v → (is_value largest text ≡ true) × (v ≡ value_after 0 text)
 digits_found [] v is = absurd (cc)
 digits_found (b ∷ rest) v is =
     number_found (are_digits (b ∷ rest)) (nat_le (value_after 0 (b ∷ rest)) largest) (value_after 0 (b ∷ rest)) v is

@@ -10,3 +10,6 @@ pub mod Expansion
 pub mod Grammar
 pub mod Reasons
 pub mod SizeWords
+pub mod Filling
+pub mod SizeRanges
+pub mod Sweeps

@@ -2,9 +2,11 @@
 
 use crate::expansion::expand;
 use crate::fault::SizeFault;
+use crate::filling::fill;
 use crate::reason::Reason;
 use crate::size::Size;
 use crate::size_word::read_size;
+use crate::sweep::read_sweep;
 use pram_tokens::LONGEST;
 use sqlite_items::Items;
 use std::alloc::{AllocError, Global};
@@ -74,6 +76,40 @@ const WORDS: [(&str, Option<(&str, u64)>); 9] = [
     ("n =8", None),
 ];
 
+// Words of sweeps, and their names and sizes.
+const SWEEPS: [(&str, Option<(&str, &[u64])>); 19] = [
+    ("n=4,8,16", Some(("n", &[4, 8, 16]))),
+    ("n=7", Some(("n", &[7]))),
+    ("n=8,4,8", Some(("n", &[8, 4, 8]))),
+    ("n=4..64*2", Some(("n", &[4, 8, 16, 32, 64]))),
+    ("n=4..63*2", Some(("n", &[4, 8, 16, 32]))),
+    ("long_1=10..50+10", Some(("long_1", &[10, 20, 30, 40, 50]))),
+    ("n=0..1+1", Some(("n", &[0, 1]))),
+    ("n=5..5*9223372036854775807", Some(("n", &[5]))),
+    (
+        "n=9223372036854775806..9223372036854775807+1",
+        Some(("n", &[9223372036854775806, 9223372036854775807])),
+    ),
+    ("n=0..8*2", None),
+    ("n=1..8*1", None),
+    ("n=1..8+0", None),
+    ("n=8..4*2", None),
+    ("n=4..8", None),
+    ("n=1..1001+1", None),
+    ("n=4,,8", None),
+    ("n=9223372036854775808", None),
+    ("n=", None),
+    ("=4,8", None),
+];
+
+// Names with braces, where n is 8, and what they come to.
+const FILLED: [(&str, &str); 4] = [
+    ("in/{n}.txt", "in/8.txt"),
+    ("{2*n}_{log(n)}", "16_3"),
+    ("plain", "plain"),
+    ("{n}#{n}", "8#{n}"),
+];
+
 // Whether a text expands to that one.
 fn comes_to(alloc: Global, text: &[u8], given: &[Size], wanted: &[u8]) -> bool {
     if text.len() > LONGEST {
@@ -118,6 +154,43 @@ fn is_read(alloc: Global, word: &str, wanted: &Option<(&str, u64)>) -> bool {
         }
         (Ok(None), None) => true,
         _ => false,
+    }
+}
+
+// Whether a word is that of a sweep over those sizes, or of none.
+fn sweeps(alloc: Global, word: &str, wanted: &Option<(&str, &[u64])>) -> bool {
+    match (read_sweep(alloc, word), wanted) {
+        (Ok(Some(sweep)), Some((name, sizes))) => {
+            sweep.name.as_slice() == name.as_bytes() && sweep.sizes.as_slice() == *sizes
+        }
+        (Ok(None), None) => true,
+        _ => false,
+    }
+}
+
+// Whether a name comes to that one where n is 8.
+fn fills(alloc: Global, name: &str, wanted: &str) -> Result<bool, AllocError> {
+    let sizes = [Size {
+        name: Items::from_slice(alloc, b"n")?,
+        value: 8,
+    }];
+    match fill(alloc, &sizes, name.as_bytes()) {
+        Ok(found) => Ok(found.as_slice() == wanted.as_bytes()),
+        Err(_) => Ok(false),
+    }
+}
+
+#[test]
+fn sweeps_are_read(rt: HostRuntime) {
+    for (word, wanted) in &SWEEPS {
+        assert!(rt; sweeps(rt.alloc(), word, wanted), "{word}");
+    }
+}
+
+#[test]
+fn names_are_filled(rt: HostRuntime) {
+    for (name, wanted) in &FILLED {
+        assert_eq!(rt; fills(rt.alloc(), name, wanted).ok(), Some(true));
     }
 }
 

@@ -8,8 +8,8 @@ use crate::size::Size;
 use sqlite_items::Items;
 use std::alloc::{AllocError, Global};
 
-// The number of a text that is digits alone, one at least.
-fn digits_value(text: &[u8]) -> Option<u64>
+/// The number of a text that is digits alone, one at least.
+pub(crate) fn digits_value(text: &[u8]) -> Option<u64>
     ensures { result ≡ spec.digits_value text.now }
 {
     match text {
@@ -44,8 +44,8 @@ fn value_by(name: &[u8], rest: &[u8]) -> Option<u64>
     }
 }
 
-// The name of a word, and the rest of it.
-fn split_name(word: &[u8]) -> (&[u8], &[u8])
+/// The name of a word, and the rest of it.
+pub(crate) fn split_name(word: &[u8]) -> (&[u8], &[u8])
     ensures name { result.0.now ≡ spec.name_of word.now }
     ensures rest { result.1.now ≡ spec.rest_of word.now }
 {
