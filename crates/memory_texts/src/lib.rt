@@ -9,6 +9,8 @@ mod front;
 mod heading;
 mod memory_fault;
 mod reading;
+#[cfg(test)]
+mod rows;
 
 pub use choice::{Choice, is_chosen, unknown_name};
 pub use chosen::show_chosen;
