@@ -2,27 +2,29 @@
 
 _pramc() {
     local word=${COMP_WORDS[COMP_CWORD]} before=${COMP_WORDS[COMP_CWORD - 1]} words=
+    local cells="--input --memory --random --seed"
     COMPREPLY=()
     if [ "$COMP_CWORD" -eq 1 ]; then
         words="check plan meaning cost steps rules run trace expand exec explain --help --version"
     else
         case $before in
-        --input) ;;
+        --input | --memory) ;;
         --map) words="identity affine:" ;;
-        --format) words="text json" ;;
-        --bound | --workers | --reserve | --schedule | --from | --to | --size) return ;;
+        --format) words="text json csv" ;;
+        --bound | --workers | --reserve | --schedule | --sweep | --from | --to | --size | --random | --seed | --show) return ;;
         *)
             case ${COMP_WORDS[1]} in
             check) words="--size --format --explain --help" ;;
             plan | expand) words="--size --explain --help" ;;
-            meaning | rules) words="--bound --input --size --format --explain --help" ;;
-            cost) words="--bound --input --schedule --lines --size --format --explain --help" ;;
-            steps) words="--bound --input --from --to --locals --svg --html --size --format --explain --help" ;;
-            run) words="--bound --input --workers --map --reserve --size --format --explain --help" ;;
-            exec) words="--bound --input --workers --map --reserve --explain --help" ;;
-            trace) words="--bound --input --workers --map --reserve --svg --size --format --explain --help" ;;
+            meaning) words="--bound $cells --show --quiet --size --format --explain --help" ;;
+            rules) words="--bound $cells --size --format --explain --help" ;;
+            cost) words="--bound $cells --schedule --lines --sweep --svg --size --format --explain --help" ;;
+            steps) words="--bound $cells --from --to --locals --svg --html --size --format --explain --help" ;;
+            run) words="--bound $cells --workers --map --reserve --show --quiet --size --format --explain --help" ;;
+            exec) words="--bound $cells --workers --map --reserve --show --quiet --explain --help" ;;
+            trace) words="--bound $cells --workers --map --reserve --svg --size --format --explain --help" ;;
             explain)
-                words="$(echo E{1..19}) P1 P2 overflow divide-by-zero out-of-range too-wide read-conflict write-conflict --help"
+                words="$(echo E{1..19}) P1 P2 overflow divide-by-zero out-of-range too-wide read-conflict write-conflict check plan meaning cost steps rules run trace expand exec explain language options --help"
                 ;;
             *) return ;;
             esac

@@ -41,12 +41,12 @@ def commands():
         makers[maker] = {words[option]: value for option, value in found}
         for it in below:
             makers[maker].update(it)
-    found = re.findall(r"\.subcommand\((?:(\w+)\(alloc, )?(\w+)\(alloc, &(\w+)\)\?\)", text)
-    return {names[of]: {**makers.get(around, {}), **makers[maker]} for around, maker, of in found}
+    found = re.findall(r"\.subcommand\(((?:\w+\(alloc, )+)&(\w+)\)", text)
+    return {names[of]: {word: it for maker in around.split("(alloc, ")[:-1] for word, it in makers[maker].items()} for around, of in found}
 
 
 def subjects():
-    """The words that name a refusal or a fault."""
+    """The words that name what is explained."""
     return set(re.findall(r'Subject::\w+ => "([^"]+)"', source("explanations/src/subject.rt")))
 
 
@@ -101,6 +101,17 @@ def manual():
     yield "options", set(re.findall(r'^\.TP\n\.BI? --(\w+)(?: " (\S+)")?$', part["OPTIONS"], re.M)), options
 
 
+def explained():
+    """The options that the text of each command names, and that of all options."""
+    text = "".join(source(f"explanations/src/{it}.rt") for it in ("commands", "workers", "overviews"))
+    texts = dict(re.findall(r'const (\w+): .*?\*b"(.*?)";', text, re.S))
+    for name, options in commands().items():
+        if options:
+            yield f"options of {name}", set(re.findall(r"--(\w+)", texts[name.upper()])), set(options)
+    everywhere = {it for options in commands().values() for it in options} | {"help", "version"}
+    yield "options", set(re.findall(r"--(\w+)", texts["OPTIONS"])), everywhere
+
+
 def completed(*words):
     """What bash completes the last of the words to."""
     done = subprocess.run(["bash", "-c", SHELL, "", TOP / "completions/pramc.bash", *words], capture_output=True, text=True)
@@ -117,7 +128,8 @@ def completions():
 
 
 def main():
-    parts = {"editors/vim": vim, "editors/textmate": textmate, "man/pramc.1": manual, "completions/pramc.bash": completions}
+    parts = {"editors/vim": vim, "editors/textmate": textmate, "man/pramc.1": manual, "completions/pramc.bash": completions,
+        "explanations": explained}
     wrong = 0
     for file, part in parts.items():
         for what, found, wanted in part():

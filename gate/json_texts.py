@@ -3,8 +3,10 @@
 
 json_texts.py PROGRAM: each object of JSON is on a line of its own and has each name once; it says what the text of the same call says, and
 the exit status is the same. So it is with a run that is cut short, with changed texts that are refused, whose lines and columns are counted
-here, and with words that are. What `steps --locals` says is what its JSON says.
+here, and with words that are. What `steps --locals` says is what its JSON says; and a sweep over the sizes of an example, of which some
+are cut short or refused, says the same as text, as JSON and as CSV.
 """
+import csv
 import json
 import re
 import subprocess
@@ -13,7 +15,7 @@ import tempfile
 from concurrent.futures import ThreadPoolExecutor
 from pathlib import Path
 
-from gallery import EXAMPLES, programs
+from gallery import EXAMPLES, INPUTS, foot, programs, sizes
 
 PROGRAM = Path(sys.argv[1]).resolve()
 MEMORY = re.compile(r"(\w+)(?:\[(\d+)\.\.(\d+)\])? = (.+)")
@@ -29,6 +31,9 @@ BESIDE = re.compile(r"(?P<sets>(?: [^ :]+ -?\d+ -> -?\d+)*)(?P<locals>(?: \w+(?:
 LOCAL = re.compile(r"(?: ([A-Za-z_]\w*))? (-?\d+): (-?\d+) -> (-?\d+)")
 MOST_LOCALS = 8
 EXCHANGE = re.compile(r"(\d+) (\w+) sent ((?:\d+ )+)received ((?:\d+ )+)h (\d+)")
+COUNTS = r" time (\d+) work (\d+) width (\d+) reads (\d+) writes (\d+)(?: exchanges at most (\d+))?"
+SWEPT = re.compile(rf"(\w+) (\d+)(?:{COUNTS})? (ended|goes on|(?:fault|refused) .+)")
+COLUMNS = ["time", "work", "width", "reads", "writes", "exchanges", "outcome"]
 REFUSED = re.compile(r"refused (E\d+) (\w+)(?: at (\d+))?(?: (\w+))?")
 
 
@@ -165,6 +170,23 @@ def exchanges(lines):
     return [one(it) for it in lines]
 
 
+def swept(line):
+    """What is told of a size."""
+    name, value, *counts, end = SWEPT.fullmatch(line).groups()
+    numbers = zip(("time", "work", "width", "reads", "writes", "exchanges_at_most"), counts)
+    said = {it: int(n) if it in ("time", "width") else n for it, n in numbers if n}
+    how, *_ = end.split()
+    more = {"fault": {"fault": end}, "refused": {"refusal": end}}.get(how, {})
+    return {"size": name, "value": value, "outcome": how if more else end, **said, **more}
+
+
+def sweep(lines):
+    """A line for each size, and what is told behind them of how time and work grow."""
+    rows = [it for it in lines if SWEPT.fullmatch(it)]
+    grown = dict(it.split(" ", 1) for it in lines[len(rows) :])
+    return [*map(swept, rows), *([grown] if grown else [])]
+
+
 def refusal(line, text):
     """A refusal, with the line and the column of its place in that text."""
     number, name, at, limit = REFUSED.fullmatch(line).groups()
@@ -224,6 +246,17 @@ def wrong_locals(words):
     return [] if said == told else [f"pramc {' '.join(map(str, words))} --locals: {said}\n{told}"]
 
 
+def wrong_table(words):
+    """What is wrong with the CSV of a sweep, if anything is."""
+    status, text, _ = called(words)
+    code, out, err = called([*words, "--format", "csv"])
+    rows = [found.groups() for found in map(SWEPT.fullmatch, text.splitlines()) if found]
+    said = [[rows[0][0], *COLUMNS], *([it or "" for it in row[1:]] for row in rows)]
+    if (code, err, list(csv.reader(out.splitlines()))) == (status, "", said):
+        return []
+    return [f"pramc {' '.join(map(str, words))} --format csv: status {code}, not {status}\n{said}\n{out}{err}"]
+
+
 def wrongly_refused(words, text):
     """The same of one that is, for what this text has."""
     status, out, line = called(words)
@@ -265,6 +298,17 @@ def of_example(name, text, folder):
     return found
 
 
+def of_sizes(name, text):
+    """Sweeps over the sizes of an example that has no size but n: over its own inputs, cut short, and over a size that may be none."""
+    if not foot(text) or sorted(sizes(text)) != ["here", "n"]:
+        return []
+    file, given = EXAMPLES / f"{name}.pram", [str(it) for it in sizes(text)["n"]]
+    own = ["cost", file, "--sweep", f"n={','.join(given)}", "--input", INPUTS / f"{name}_{{n}}.in"]
+    drawn = ["cost", file, "--sweep", f"n=0,{given[0]},100000", "--random", "0..3", "--bound", "9"]
+    calls = [own, [*own, "--bound", "9"], drawn]
+    return [it for words in calls for it in (wrong(words, sweep), wrong_table(words))]
+
+
 def of_words():
     """Calls that the command line is refused for, each with what stands in its object."""
     rows = [(["plan", "x"], "message"), (["exec", "x"], "message"), (["explain", "E6"], "message"), (["check"], "message")]
@@ -281,6 +325,7 @@ def of_words():
 def main():
     with tempfile.TemporaryDirectory() as folder, ThreadPoolExecutor(4) as pool:
         found = sum(pool.map(lambda it: of_example(*it, Path(folder)), programs()), [])
+        found += sum(pool.map(lambda it: of_sizes(*it), programs()), [])
     found += of_words()
     for it in sum(found, []):
         print(it)

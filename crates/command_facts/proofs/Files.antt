@@ -8,7 +8,9 @@ use Rattle.program_texts.specs.declared.stop.Stop.{Stop}
 use Rattle.program_texts.specs.declared.stop.Stop.TheVariants as stop
 use Rattle.diagnoses.specs.declared.about.About.{About}
 use Rattle.diagnoses.specs.declared.about.About.TheVariants as about
-use Rattle.command_facts.specs.Held.{IsAtFile, IsOfCodeIn}
+use Rattle.pram_model.specs.Layout.{SharedEntry}
+use Rattle.pram_tokens.specs.Scanning.{longest}
+use Rattle.command_facts.specs.Held.{IsAtFile, IsAtMemory, IsOfCodeIn, IsOfMemory, IsOfMemoryIn, IsUnread}
 use Rattle.command_facts.specs.Listings.{IsOfListing}
 
 pub read_whole : (holds : Option (List ℕ) → Type 0) (most : ℕ) (bytes : List ℕ) → length bytes ≤ most → IsReadFrom holds most bytes →
@@ -40,3 +42,12 @@ code_stops holds name most text (stop.NotVerified at word) (about.Values values 
 code_stops holds name most text (stop.BadListing at) a read h = absurd h
 code_stops holds name most text stop.WriteFailed a read h = absurd h
 code_stops holds name most text (stop.BadSize at reason) a read h = absurd h
+
+-- so does a memory that is refused
+pub memory_stops : (holds : Option (List ℕ) → Type 0) (name : List ℕ) (layout : List SharedEntry) (text : List ℕ) (why : Stop) (a : About) →
+    IsReadFrom holds longest text → IsOfMemoryIn layout text why a → IsAtMemory holds name layout why a
+memory_stops holds name layout text why (about.Text s) read h =
+    (subst (IsReadFrom holds longest) (sym h.0) read, h.1, subst (IsOfMemory layout why) (sym h.0) h.2)
+memory_stops holds name layout text why (about.Values values cells) read h = (text, read, h)
+memory_stops holds name layout text why about.Nothing read h = subst (IsUnread holds name) (sym h) tt
+memory_stops holds name layout text why (about.Line s line) read h = absurd h

@@ -8,3 +8,4 @@ pub mod Programs
 pub mod Refusals
 pub mod Comparisons
 pub mod Alone
+pub mod SweptRows

@@ -9,15 +9,15 @@ use Rattle.program_runs.specs.Compiled.{IsCompiledFrom}
 use Rattle.program_texts.specs.Report.{IsProgramOf}
 use Rattle.diagnoses.specs.Sources.{text_by}
 use Rattle.command_requests.specs.declared.request.ProgramFile.{ProgramFile}
+use Rattle.command_requests.specs.declared.request.SizeWord.{SizeWord}
 use Rattle.command_facts.specs.declared.loaded.Loaded.{Loaded}
 use Rattle.command_sizes.specs.Expanded.{HasExpansion}
 use Rattle.command_facts.specs.Found.{IsLoaded}
-use Rattle.command_sizes.specs.Given.{size_words}
 use Rattle.command_facts.specs.Held.{IsExpansionIn}
 use Rattle.command_facts.specs.Refused.{IsProgramIn}
 
 -- what is so of the text that a source gives is so of the expansion of what its file holds
-expansion_in : (holds : Option (List ℕ) → Type 0) (words : List (List ℕ)) (bytes : List ℕ) (x : Option Expanded) (Is : List ℕ → Type 0) →
+expansion_in : (holds : Option (List ℕ) → Type 0) (words : List SizeWord) (bytes : List ℕ) (x : Option Expanded) (Is : List ℕ → Type 0) →
     holds (Some bytes) → HasExpansion words bytes x → Is (text_by x bytes) → (e : Expansion) × IsExpansionIn holds words e × Is e.text
 expansion_in holds words bytes None Is held has is = absurd has
 expansion_in holds words bytes (Some e) Is held has is = (shown e, (bytes, held, has), is)
@@ -25,13 +25,13 @@ expansion_in holds words bytes (Some e) Is held has is = (shown e, (bytes, held,
 pub program_in : (holds : List ℕ → Option (List ℕ) → Type 0) (file : ProgramFile) (l : Loaded) → IsLoaded (holds file.name.now) file l →
     IsProgramIn holds file l.program
 program_in holds file l is =
-    let found = expansion_in (holds file.name.now) (size_words file) l.source.bytes.items l.source.expansion
+    let found = expansion_in (holds file.name.now) file.sizes.items l.source.bytes.items l.source.expansion
     (λ (t : List ℕ). IsProgramOf t l.program) is.0.0 is.0.1 is.1 in
     record { expansion = found.0; is_expansion = found.1; is_program = found.2 }
 
 -- so is their code
 pub code_in : (holds : List ℕ → Option (List ℕ) → Type 0) (file : ProgramFile) (l : Loaded) (code : SuperstepCode) →
     IsLoaded (holds file.name.now) file l → ((text : List ℕ) → IsProgramOf text l.program → IsCompiledFrom text code) →
-    (e : Expansion) × IsExpansionIn (holds file.name.now) (size_words file) e × IsCompiledFrom e.text code
+    (e : Expansion) × IsExpansionIn (holds file.name.now) file.sizes.items e × IsCompiledFrom e.text code
 code_in holds file l code is compiled =
     let found = program_in holds file l is in (found.expansion, found.is_expansion, compiled found.expansion.text found.is_program)

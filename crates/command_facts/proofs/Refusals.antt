@@ -16,7 +16,7 @@ use Rattle.command_requests.specs.declared.request.RunWords.{RunWords}
 use Rattle.command_requests.specs.declared.request.Verb.{Verb}
 use Rattle.command_facts.specs.declared.halted.Halted.{Halted}
 use Rattle.command_facts.specs.declared.loaded.Loaded.{Loaded}
-use Rattle.command_facts.specs.Found.{IsInputFor, IsLoaded}
+use Rattle.command_facts.specs.Found.{IsLoaded, IsOpening}
 use Rattle.command_facts.specs.Held.{IsListingIn}
 use Rattle.command_facts.proofs.Programs.{program_in}
 use Rattle.command_facts.specs.Refused.{IsRefusedCodeRun, IsRefusedRun, IsRunRefusedBy, IsToldWith, StopsAtCodeRun, StopsAtRun}
@@ -57,16 +57,17 @@ code_run_refused code input words r h why is told = subst (λ s. IsRefusedCodeRu
 -- ---- over files
 
 module _ (holds : List ℕ → Option (List ℕ) → Type 0) (words : RunWords) (input given : List ℤ) (same : given ≡ input)
-    (is_input : IsInputFor holds words input) (values cells : ℕ) (r : Refusal) (h : Halted) (stops : h.stop ≡ Refused r)
+    (values cells : ℕ) (r : Refusal) (h : Halted) (stops : h.stop ≡ Refused r)
     (told : IsToldWith r values cells h.about) where
   told_with : (n m : ℕ) → values ≡ n → cells ≡ m → IsToldWith r n m h.about
   told_with n m v c = subst (λ (x : ℕ). IsToldWith r x m h.about) v (subst (λ (x : ℕ). IsToldWith r values x h.about) c told)
 
   -- the run of the file's program
-  pub stops_at_run : (verb : Verb) (file : ProgramFile) (l : Loaded) → IsLoaded (holds file.name.now) file l → values ≡ length input →
+  pub stops_at_run : (verb : Verb) (file : ProgramFile) (l : Loaded) → IsLoaded (holds file.name.now) file l →
+      IsOpening holds l.program.layout words.opening input → values ≡ length input →
       cells ≡ total_size l.program.layout →
       IsRunRefusedBy verb l.program given words r → StopsAtRun holds verb file words h
-  stops_at_run verb file l is v c why = record {
+  stops_at_run verb file l is is_input v c why = record {
     program = l.program;
     is = program_in holds file l is;
     input = input;
@@ -77,9 +78,9 @@ module _ (holds : List ℕ → Option (List ℕ) → Type 0) (words : RunWords) 
 
   -- the run of its code
   pub stops_at_code_run : (file : List ℕ) (code : SuperstepCode) → IsListingIn (holds file) code → IsWellFormed code →
-      values ≡ length input →
+      IsOpening holds code.layout words.opening input → values ≡ length input →
       cells ≡ total_size code.layout → IsCodeRefusedWith code given words.options words.reserve r → StopsAtCodeRun holds file words h
-  stops_at_code_run file code is verified v c why = record {
+  stops_at_code_run file code is verified is_input v c why = record {
     code = code;
     is = is;
     verified = verified;

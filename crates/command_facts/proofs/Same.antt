@@ -1,8 +1,8 @@
 -- What holds of the files that names stand for holds as long as they stand for the same.
-use Rattle.std.proofs.Common.{◌≡◌, ℕ, List}
-use Rattle.std.specs.Prelude.{Option, Some, None, IsSomeAnd}
+use Rattle.std.proofs.Common.{◌≡◌, ℕ, ℤ, List, inl, inr}
+use Rattle.std.specs.Prelude.{◌⊎◌, Option, Some, None}
+use Rattle.pram_model.specs.Layout.{SharedEntry}
 use Rattle.pram_tokens.specs.Scanning.{longest}
-use Rattle.std.specs.Option.{ForSome}
 use Rattle.system_files.specs.Files.{IsReadFrom, IsSame}
 use Rattle.program_texts.specs.declared.from_text.Refusal.TheVariants as refusal
 use Rattle.program_texts.specs.declared.stop.Stop.{Stop}
@@ -10,27 +10,33 @@ use Rattle.program_texts.specs.declared.stop.Stop.TheVariants as stop
 use Rattle.diagnoses.specs.declared.about.About.{About}
 use Rattle.diagnoses.specs.declared.about.About.TheVariants as about
 use Rattle.command_facts.specs.declared.halted.Halted.{Halted}
+use Rattle.command_requests.specs.declared.opening.Opening.{Opening}
+use Rattle.command_requests.specs.declared.opening.Opening.TheVariants as opening
+use Rattle.pram_check.specs.Checked.{Checked}
+use Rattle.sized_texts.specs.Pieces.{Expansion}
+use Rattle.command_requests.specs.declared.request.ProgramFile.{ProgramFile}
 use Rattle.command_requests.specs.declared.request.RunWords.{RunWords}
-use Rattle.command_facts.specs.Found.{IsInputFor}
-use Rattle.command_facts.specs.Held.{IsAtFile, IsOfInput, IsUnread}
-use Rattle.command_facts.specs.Refused.{StopsAtInputFor}
-
--- ---- options
-
-for_some : {A : Type 0} (o : Option A) (P Q : A → Type 0) → ((a : A) → P a → Q a) → ForSome o P → ForSome o Q
-for_some o P Q f h a is = f a (h a is)
-
-some_and : {A : Type 0} (o : Option A) (P Q : A → Type 0) → ((a : A) → P a → Q a) → IsSomeAnd o P → IsSomeAnd o Q
-some_and None P Q f h = h
-some_and (Some a) P Q f h = f a h
+use Rattle.command_requests.specs.declared.request.SizeWord.{SizeWord}
+use Rattle.command_requests.specs.declared.request.Verb.{Verb}
+use Rattle.command_requests.specs.declared.request.Verb.TheVariants as verb
+use Rattle.sweep_texts.specs.declared.size_row.Ending.{Ending}
+use Rattle.sweep_texts.specs.declared.size_row.SizeRow.{SizeRow}
+use Rattle.command_facts.specs.declared.found.FoundRun.{FoundRun}
+use Rattle.command_facts.specs.declared.loaded.Loaded.{Loaded}
+use Rattle.command_facts.specs.Found.{IsLoaded, IsOpening, IsRunFound}
+use Rattle.command_facts.specs.Held.{IsAtFile, IsAtMemory, IsAtProgram, IsAtText, IsExpansionIn, IsOfInput, IsUnread, StopsAtProgram}
+use Rattle.command_facts.specs.Refused.{IsProgramIn, RefusesRun, StopsAtOpening, StopsAtRun, StopsBefore, StopsBehindProgram}
+use Rattle.command_facts.specs.Sweeps.{ComesOut, IsProgramRefused, IsRow, RunsAs}
 
 -- ---- files
 
 module _ (now before : List ℕ → Option (List ℕ) → Type 0) (same : IsSame now before) where
-  -- the values of the input
-  pub input_held : (words : RunWords) (values : _) → IsInputFor now words values → IsInputFor before words values
-  input_held words values h =
-      (for_some words.input _ _ (λ name i. (i.0, (same name.now (Some i.0)).0 i.1, i.2)) h.0, h.1)
+  -- what the cells hold
+  pub opening_held : (layout : List SharedEntry) (o : Opening) (values : List ℤ) → IsOpening now layout o values → IsOpening before layout o values
+  opening_held layout opening.Zeros values h = h
+  opening_held layout (opening.Input name) values h = (h.0, (same name.now (Some h.0)).0 h.1, h.2)
+  opening_held layout (opening.Memory name) values h = (h.0, (same name.now (Some h.0)).0 h.1, h.2)
+  opening_held layout (opening.Drawn d) values h = h
 
   read_from : (name : List ℕ) (most : ℕ) (bytes : List ℕ) → IsReadFrom (now name) most bytes → IsReadFrom (before name) most bytes
   read_from name most bytes h = (h.0, (same name _).0 h.1, h.2)
@@ -65,6 +71,111 @@ module _ (now before : List ℕ → Option (List ℕ) → Type 0) (same : IsSame
   at_file name most Has (stop.BadSize at reason) (about.Line s line) h = absurd h
   at_file name most Has why (about.Values values cells) h = absurd h
 
-  -- that its file is refused
-  pub input_stops : (words : RunWords) (h : Halted) → StopsAtInputFor now words h → StopsAtInputFor before words h
-  input_stops words h stops = some_and words.input _ _ (λ name i. at_file name.now longest IsOfInput h.stop h.about i) stops
+  at_memory : (name : List ℕ) (layout : List SharedEntry) (why : Stop) (a : About) → IsAtMemory (now name) name layout why a →
+      IsAtMemory (before name) name layout why a
+  at_memory name layout why about.Nothing h = unread name why h
+  at_memory name layout why (about.Text s) h = (read_from name longest s.bytes.items h.0, h.1, h.2)
+  at_memory name layout why (about.Values values cells) h = (h.0, read_from name longest h.0 h.1, h.2)
+  at_memory name layout why (about.Line s line) h = absurd h
+
+  -- that they can't be had
+  pub opening_stops : (layout : List SharedEntry) (o : Opening) (h : Halted) → StopsAtOpening now layout o h → StopsAtOpening before layout o h
+  opening_stops layout opening.Zeros h stops = absurd stops
+  opening_stops layout (opening.Input name) h stops = at_file name.now longest IsOfInput h.stop h.about stops
+  opening_stops layout (opening.Memory name) h stops = at_memory name.now layout h.stop h.about stops
+  opening_stops layout (opening.Drawn d) h stops = stops
+
+  -- ---- programs
+
+  loaded_held : (file : ProgramFile) (l : Loaded) → IsLoaded (now file.name.now) file l → IsLoaded (before file.name.now) file l
+  loaded_held file l h = (((same file.name.now _).0 h.0.0, h.0.1), h.1)
+
+  expansion_held : (name : List ℕ) (words : List SizeWord) (e : Expansion) → IsExpansionIn (now name) words e → IsExpansionIn (before name) words e
+  expansion_held name words e h = (h.0, (same name (Some h.0)).0 h.1, h.2)
+
+  program_held : (file : ProgramFile) (program : Checked) → IsProgramIn now file program → IsProgramIn before file program
+  program_held file program h = record {
+    expansion = h.expansion;
+    is_expansion = expansion_held file.name.now file.sizes.items h.expansion h.is_expansion;
+    is_program = h.is_program;
+  }
+
+  at_text : (file : ProgramFile) (why : Stop) (a : About) → IsAtText (now file.name.now) file why a → IsAtText (before file.name.now) file why a
+  at_text file why about.Nothing (inl h) = inl h
+  at_text file why about.Nothing (inr h) = inr (unread file.name.now why h)
+  at_text file why (about.Text s) h = (read_from file.name.now longest s.bytes.items h.0, h.1, h.2)
+  at_text file why (about.Line s line) h = absurd h
+  at_text file why (about.Values values cells) h = absurd h
+
+  at_program : (file : ProgramFile) (why : Stop) (a : About) → IsAtProgram (now file.name.now) file why a →
+      IsAtProgram (before file.name.now) file why a
+  at_program file why (about.Text s) h = (((same file.name.now _).0 h.0.0, h.0.1), h.1)
+  at_program file why about.Nothing h = absurd h
+  at_program file why (about.Line s line) h = absurd h
+  at_program file why (about.Values values cells) h = absurd h
+
+  program_stops : (file : ProgramFile) (h : Halted) → StopsAtProgram (now file.name.now) file h → StopsAtProgram (before file.name.now) file h
+  program_stops file h (inl stops) = inl (at_text file h.stop h.about stops)
+  program_stops file h (inr stops) = inr (at_program file h.stop h.about stops)
+
+  -- ---- runs
+
+  run_held : (verb : Verb) (file : ProgramFile) (words : RunWords) (r : FoundRun) → IsRunFound now verb file words r →
+      IsRunFound before verb file words r
+  run_held verb file words r h = record {
+    loaded = loaded_held file r.loaded h.loaded;
+    given = opening_held r.loaded.program.layout words.opening r.input.items h.given;
+    asked = h.asked;
+    there = h.there;
+    meaning = h.meaning;
+    facts = h.facts;
+  }
+
+  stops_before : (layout : List SharedEntry) (words : RunWords) (h : Halted) → StopsBefore now layout words h → StopsBefore before layout words h
+  stops_before layout words h (inl stops) = inl stops
+  stops_before layout words h (inr stops) = inr (opening_stops layout words.opening h stops)
+
+  run_stops : (verb : Verb) (file : ProgramFile) (words : RunWords) (h : Halted) → RefusesRun now verb file words h →
+      RefusesRun before verb file words h
+  run_stops verb file words h (inl stops) = inl (program_stops file h stops)
+  run_stops verb file words h (inr (inl stops)) =
+      inr (inl (stops.0, program_held file stops.0 stops.1, stops_before stops.0.layout words h stops.2))
+  run_stops verb file words h (inr (inr stops)) = inr (inr (record {
+    program = stops.program;
+    is = program_held file stops.program stops.is;
+    input = stops.input;
+    given = opening_held stops.program.layout words.opening stops.input stops.given;
+    refused = stops.refused;
+  }))
+
+  -- ---- rows of a sweep
+
+  runs_as : (at : ProgramFile) (words : RunWords) (e : Ending) → RunsAs now at words e → RunsAs before at words e
+  runs_as at words e (inl h) = inl (h.0, run_held verb.Cost at words h.0 h.1, h.2)
+  runs_as at words e (inr h) = inr (h.0, run_stops verb.Cost at words h.0 h.1, h.2)
+
+  comes_out : (at : ProgramFile) (words : RunWords) (e : Ending) → ComesOut now at words e → ComesOut before at words e
+  comes_out at words e (inl h) = inl (h.0, h.1, runs_as at h.0 e h.2)
+  comes_out at words e (inr h) = inr h
+
+  pub row_held : (file : ProgramFile) (word : List ℕ) (words : RunWords) (size : ℕ) (row : SizeRow) →
+      IsRow now file word words size row → IsRow before file word words size row
+  row_held file word words size row is = record {
+    sized = is.sized;
+    at = is.at;
+    is_at = is.is_at;
+    out = comes_out is.at words row.ending is.out;
+  }
+
+  -- the program at a size is refused
+  pub refusal_held : (file : ProgramFile) (word : List ℕ) (size : ℕ) (h : Halted) → IsProgramRefused now file word size h →
+      IsProgramRefused before file word size h
+  refusal_held file word size h (inl stops) = inl (stops.0, stops.1, program_stops stops.0 h stops.2)
+  refusal_held file word size h (inr stops) = inr stops
+
+-- the same as what is the same
+pub same_through : (first then last : List ℕ → Option (List ℕ) → Type 0) → IsSame last then → IsSame then first → IsSame last first
+same_through first then last more same name bytes = (
+  λ h. (same name bytes).0 ((more name bytes).0 h),
+  λ h. (more name bytes).1 ((same name bytes).1 h),
+)

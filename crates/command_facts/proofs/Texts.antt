@@ -10,42 +10,43 @@ use Rattle.diagnoses.specs.declared.about.About.{About}
 use Rattle.diagnoses.specs.declared.about.About.TheVariants as about
 use Rattle.diagnoses.specs.declared.source.Source.{Source}
 use Rattle.command_requests.specs.declared.request.ProgramFile.{ProgramFile}
+use Rattle.command_requests.specs.declared.request.SizeWord.{SizeWord}
 use Rattle.command_facts.specs.declared.halted.Halted.{Halted}
 use Rattle.command_sizes.specs.Expanded.{HasExpansion, HasNoExpansion, IsExpandedBy}
-use Rattle.command_sizes.specs.Given.{IsOfSizes, size_words}
+use Rattle.command_sizes.specs.Given.{IsOfSizes}
 use Rattle.command_facts.specs.Held.{IsAtText, IsUnread, StopsAtText}
 use Rattle.command_facts.proofs.Files.{read_whole}
 
 module _ (holds : Option (List ℕ) → Type 0) (file : ProgramFile) where
   -- a word gives no size, or the file wasn't read
   pub stops_before_text : (h : Halted) (why : Stop) → (h.stop ≡ why) × (h.about ≡ about.Nothing) →
-      IsOfSizes (size_words file) why ⊎ IsUnread holds file.name.now why → StopsAtText holds file h
+      IsOfSizes file.sizes.items why ⊎ IsUnread holds file.name.now why → StopsAtText holds file h
   stops_before_text h why is said = subst (λ (a : About). IsAtText holds file h.stop a) (sym is.1)
-      (subst (λ (s : Stop). IsOfSizes (size_words file) s ⊎ IsUnread holds file.name.now s) (sym is.0) said)
+      (subst (λ (s : Stop). IsOfSizes file.sizes.items s ⊎ IsUnread holds file.name.now s) (sym is.0) said)
 
   -- so says an answer
   pub stops_with : {X : Type 0} (r : Result X Halted) (why : Stop) → IsErrAnd r (λ h. (h.stop ≡ why) × (h.about ≡ about.Nothing)) →
-      IsOfSizes (size_words file) why ⊎ IsUnread holds file.name.now why → IfErr r (StopsAtText holds file)
+      IsOfSizes file.sizes.items why ⊎ IsUnread holds file.name.now why → IfErr r (StopsAtText holds file)
   stops_with (Ok x) why is said = absurd is
   stops_with (Err h) why is said = stops_before_text h why is said
 
   -- the text has no expansion
-  pub stops_at_text : (s : Source) (bytes text : List ℕ) (words : List (List ℕ)) (why : Stop) → s.bytes.items ≡ bytes → s.expansion ≡ None →
-      text ≡ bytes → words ≡ size_words file → IsReadFrom holds longest bytes → HasNoExpansion words text why →
+  pub stops_at_text : (s : Source) (bytes text : List ℕ) (words : List SizeWord) (why : Stop) → s.bytes.items ≡ bytes → s.expansion ≡ None →
+      text ≡ bytes → words ≡ file.sizes.items → IsReadFrom holds longest bytes → HasNoExpansion words text why →
       IsAtText holds file why (about.Text s)
   stops_at_text s bytes text words why are itself same given read has = (
     subst (IsReadFrom holds longest) (sym are) read,
     itself,
-    subst (λ (t : List ℕ). HasNoExpansion (size_words file) t why) (sym are)
-        (subst (λ (t : List ℕ). HasNoExpansion (size_words file) t why) same
-        (subst (λ (ws : List (List ℕ)). HasNoExpansion ws text why) given has)),
+    subst (λ (t : List ℕ). HasNoExpansion file.sizes.items t why) (sym are)
+        (subst (λ (t : List ℕ). HasNoExpansion file.sizes.items t why) same
+        (subst (λ (ws : List SizeWord). HasNoExpansion ws text why) given has)),
   )
 
   -- it has one
-  pub text_held : (bytes text : List ℕ) (words : List (List ℕ)) (e : Expanded) → text ≡ bytes → words ≡ size_words file →
+  pub text_held : (bytes text : List ℕ) (words : List SizeWord) (e : Expanded) → text ≡ bytes → words ≡ file.sizes.items →
       IsReadFrom holds longest bytes → IsExpandedBy words text (shown e) →
-      holds (Some bytes) × HasExpansion (size_words file) bytes (Some e)
+      holds (Some bytes) × HasExpansion file.sizes.items bytes (Some e)
   text_held bytes text words e same given read is =
-      let has = subst (λ (t : List ℕ). IsExpandedBy (size_words file) t (shown e)) same
-      (subst (λ (ws : List (List ℕ)). IsExpandedBy ws text (shown e)) given is) in
+      let has = subst (λ (t : List ℕ). IsExpandedBy file.sizes.items t (shown e)) same
+      (subst (λ (ws : List SizeWord). IsExpandedBy ws text (shown e)) given is) in
       (read_whole holds longest bytes has.plain.fits read, has)

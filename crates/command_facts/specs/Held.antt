@@ -3,7 +3,12 @@ use Rattle.std.specs.Prelude.{◌≡◌, ◌⊎◌, ℕ, ℤ, List, Option, Some
 use Rattle.pram_tokens.specs.Input.{IsInputOf}
 use Rattle.pram_tokens.specs.Plain.{IsPlain}
 use Rattle.pram_tokens.specs.Scanning.{longest}
+use Rattle.pram_model.specs.Layout.{SharedEntry}
+use Rattle.pram_names.specs.declared.fault.Cause.TheVariants as cause
+use Rattle.pram_names.specs.declared.fault.Spot.TheVariants as spot
 use Rattle.pram_check.specs.Checked.{Checked}
+use Rattle.memory_texts.specs.Memory.{IsMemoryOf, IsRefused}
+use Rattle.memory_texts.specs.declared.memory_fault.MemoryFault.TheVariants as no_memory_text
 use Rattle.superstep_instructions.specs.Code.{SuperstepCode}
 use Rattle.superstep_listing.specs.Text.{IsListing}
 use Rattle.superstep_listing.specs.Text.{longest as longest_listing}
@@ -17,15 +22,20 @@ use Rattle.diagnoses.specs.declared.about.About.TheVariants as about
 use Rattle.command_facts.specs.declared.halted.Halted.{Halted}
 use Rattle.diagnoses.specs.Sources.{text_in}
 use Rattle.command_requests.specs.declared.request.ProgramFile.{ProgramFile}
+use Rattle.command_requests.specs.declared.request.SizeWord.{SizeWord}
 use Rattle.diagnoses.specs.declared.source.Source.{Source}
 use Rattle.sized_texts.specs.Pieces.{Expansion}
 use Rattle.command_sizes.specs.Expanded.{HasExpansion, HasNoExpansion, IsExpandedBy}
-use Rattle.command_sizes.specs.Given.{IsOfSizes, size_words}
+use Rattle.command_sizes.specs.Given.{IsOfSizes}
 use Rattle.command_facts.specs.Listings.{IsOfListing, IsUnverifiedText}
 
 -- the file holds an input of these values
 abbrev pub IsInputIn : (Option (List ℕ) → Type 0) → List ℤ → Type 0
 IsInputIn holds values = (text : List ℕ) × holds (Some text) × IsInputOf text values
+
+-- the file holds a memory of these values, by those declarations
+abbrev pub IsMemoryIn : (Option (List ℕ) → Type 0) → List SharedEntry → List ℤ → Type 0
+IsMemoryIn holds layout values = (text : List ℕ) × holds (Some text) × IsMemoryOf layout text values
 
 -- the file holds a listing of that code
 abbrev pub IsListingIn : (Option (List ℕ) → Type 0) → SuperstepCode → Type 0
@@ -38,11 +48,11 @@ IsUnread holds name (stop.Refused refusal.OutOfMemory) = Unit {0}
 IsUnread holds name _ = ⊥
 
 -- a text that was read is all that the file holds, and has its expansion by the sizes of the words
-abbrev pub IsTextIn : (Option (List ℕ) → Type 0) → (words : List (List ℕ)) → Source → Type 0
+abbrev pub IsTextIn : (Option (List ℕ) → Type 0) → (words : List SizeWord) → Source → Type 0
 IsTextIn holds words s = holds (Some s.bytes.items) × HasExpansion words s.bytes.items s.expansion
 
 -- what all that the file holds comes to by the sizes of the words
-abbrev pub IsExpansionIn : (Option (List ℕ) → Type 0) → (words : List (List ℕ)) → Expansion → Type 0
+abbrev pub IsExpansionIn : (Option (List ℕ) → Type 0) → (words : List SizeWord) → Expansion → Type 0
 IsExpansionIn holds words e = (text : List ℕ) × holds (Some text) × IsExpandedBy words text e
 
 -- A call stops at a file that stands for itself: it wasn't read; or what it holds, as far as it was read, has what is told.
@@ -56,9 +66,9 @@ IsAtFile holds name most Has why _ = ⊥
 -- A call stops at the text of a program: a word gives no size; or the file wasn't read; or what it holds, as far as it was read, has no
 -- expansion by the sizes of the words.
 abbrev pub IsAtText : (Option (List ℕ) → Type 0) → ProgramFile → Stop → About → Type 0
-IsAtText holds file why about.Nothing = IsOfSizes (size_words file) why ⊎ IsUnread holds file.name.now why
+IsAtText holds file why about.Nothing = IsOfSizes file.sizes.items why ⊎ IsUnread holds file.name.now why
 IsAtText holds file why (about.Text s) =
-    IsReadFrom holds longest s.bytes.items × (s.expansion ≡ None) × HasNoExpansion (size_words file) s.bytes.items why
+    IsReadFrom holds longest s.bytes.items × (s.expansion ≡ None) × HasNoExpansion file.sizes.items s.bytes.items why
 IsAtText holds file why _ = ⊥
 
 -- the text of a program is refused for that
@@ -68,7 +78,7 @@ IsOfProgram _ text = ⊥
 
 -- what the text of a file comes to is refused for that
 abbrev pub IsAtProgram : (Option (List ℕ) → Type 0) → ProgramFile → Stop → About → Type 0
-IsAtProgram holds file why (about.Text s) = IsTextIn holds (size_words file) s × IsOfProgram why (text_in s)
+IsAtProgram holds file why (about.Text s) = IsTextIn holds file.sizes.items s × IsOfProgram why (text_in s)
 IsAtProgram holds file why _ = ⊥
 
 -- the text of an input is
@@ -76,6 +86,19 @@ abbrev pub IsOfInput : Stop → List ℕ → Type 0
 IsOfInput (stop.Refused (refusal.Text fault)) text = IsInputRefusal text fault
 IsOfInput (stop.Refused refusal.OutOfMemory) text = IsPlain text
 IsOfInput _ text = ⊥
+
+-- the text of a memory is refused for that, for the declarations of a program
+abbrev pub IsOfMemory : List SharedEntry → Stop → List ℕ → Type 0
+IsOfMemory layout (stop.Refused (refusal.Text fault)) text = IsRefused layout text (no_memory_text.Text fault)
+IsOfMemory layout (stop.Refused (refusal.Program b)) text =
+    (at : ℕ) × (b ≡ record { spot = spot.Offset at; cause = cause.UnknownName }) × IsRefused layout text (no_memory_text.Unknown at)
+IsOfMemory layout (stop.Refused refusal.OutOfMemory) text = IsPlain text
+IsOfMemory layout _ text = ⊥
+
+-- it gives some cells too many values
+abbrev pub IsTooMuch : List SharedEntry → (values cells : ℕ) → Stop → List ℕ → Type 0
+IsTooMuch layout values cells (stop.Refused refusal.InputTooLong) text = IsRefused layout text (no_memory_text.TooMany values cells)
+IsTooMuch layout values cells _ text = ⊥
 
 -- the code of a listing is refused for the line that is told, or for want of memory
 abbrev pub IsOfCodeIn : List ℕ → Stop → About → Type 0
@@ -93,6 +116,23 @@ StopsAtProgram holds file h = StopsAtText holds file h ⊎ IsAtProgram holds fil
 
 abbrev pub StopsAtInput : (Option (List ℕ) → Type 0) → List ℕ → Halted → Type 0
 StopsAtInput holds name h = IsAtFile holds name longest IsOfInput h.stop h.about
+
+-- the text of a memory is refused for what is told, or memory was
+abbrev pub IsOfMemoryIn : List SharedEntry → List ℕ → Stop → About → Type 0
+IsOfMemoryIn layout text why (about.Text s) = (s.bytes.items ≡ text) × (s.expansion ≡ None) × IsOfMemory layout why text
+IsOfMemoryIn layout text why (about.Values values cells) = IsTooMuch layout values cells why text
+IsOfMemoryIn layout text why about.Nothing = why ≡ stop.Refused refusal.OutOfMemory
+IsOfMemoryIn layout text why (about.Line s line) = ⊥
+
+-- at the file of a memory: it wasn't read, or its text is refused
+abbrev pub IsAtMemory : (Option (List ℕ) → Type 0) → List ℕ → List SharedEntry → Stop → About → Type 0
+IsAtMemory holds name layout why about.Nothing = IsUnread holds name why
+IsAtMemory holds name layout why (about.Text s) = IsReadFrom holds longest s.bytes.items × (s.expansion ≡ None) × IsOfMemory layout why s.bytes.items
+IsAtMemory holds name layout why (about.Values values cells) = (text : List ℕ) × IsReadFrom holds longest text × IsTooMuch layout values cells why text
+IsAtMemory holds name layout why (about.Line s line) = ⊥
+
+abbrev pub StopsAtMemory : (Option (List ℕ) → Type 0) → List ℕ → List SharedEntry → Halted → Type 0
+StopsAtMemory holds name layout h = IsAtMemory holds name layout h.stop h.about
 
 abbrev pub StopsAtListing : (Option (List ℕ) → Type 0) → List ℕ → Halted → Type 0
 StopsAtListing holds name h = IsAtFile holds name longest_listing IsOfListing h.stop h.about

@@ -2,4 +2,6 @@ pub mod Listings
 pub mod Held
 pub mod Found
 pub mod Refused
+pub mod Sweeps
+pub mod Calls
 pub mod Written

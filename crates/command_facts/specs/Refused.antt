@@ -1,7 +1,6 @@
 -- Why a call finds nothing.
-use Rattle.std.specs.Prelude.{◌≡◌, ◌⊎◌, ℕ, ℤ, List, length, Option, Some, Result, Ok, Err}
-use Rattle.std.specs.Option.{IsSomeAnd}
-use Rattle.pram_model.specs.Layout.{total_size}
+use Rattle.std.specs.Prelude.{◌≡◌, ◌⊎◌, ℕ, ℤ, List, length, Option, Some}
+use Rattle.pram_model.specs.Layout.{SharedEntry, total_size}
 use Rattle.pram_check.specs.Checked.{Checked}
 use Rattle.superstep_instructions.specs.Code.{SuperstepCode}
 use Rattle.bsp_verify.specs.WellFormed.{IsWellFormed}
@@ -13,17 +12,17 @@ use Rattle.program_texts.specs.declared.stop.Stop.TheVariants as stop
 use Rattle.diagnoses.specs.declared.about.About.{About}
 use Rattle.diagnoses.specs.declared.about.About.TheVariants as about
 use Rattle.program_runs.specs.Reserved.{IsCodeRefusedWith, IsProgramRefusedWith}
-use Rattle.command_requests.specs.declared.request.Request.{Request}
-use Rattle.command_requests.specs.declared.request.Request.TheVariants as request
+use Rattle.memory_texts.specs.Chosen.{unknown_name}
+use Rattle.command_requests.specs.declared.opening.Opening.{Opening}
+use Rattle.command_requests.specs.declared.opening.Opening.TheVariants as opening
 use Rattle.command_requests.specs.declared.request.RunWords.{RunWords}
 use Rattle.command_requests.specs.declared.request.Verb.{Verb}
 use Rattle.command_requests.specs.declared.request.Verb.TheVariants as verb
 use Rattle.command_facts.specs.declared.halted.Halted.{Halted}
-use Rattle.command_facts.specs.Found.{IsInputFor}
+use Rattle.command_facts.specs.Found.{IsOpening}
 use Rattle.sized_texts.specs.Pieces.{Expansion}
 use Rattle.command_requests.specs.declared.request.ProgramFile.{ProgramFile}
-use Rattle.command_sizes.specs.Given.{size_words}
-use Rattle.command_facts.specs.Held.{IsExpansionIn, IsListingIn, StopsAtInput, StopsAtListing, StopsAtProgram, StopsAtText}
+use Rattle.command_facts.specs.Held.{IsExpansionIn, IsListingIn, StopsAtInput, StopsAtListing, StopsAtMemory, StopsAtProgram}
 
 -- ---- what is told of a run that is refused
 
@@ -48,7 +47,7 @@ IsRunRefusedBy _ program input words r = IsMeaningRefused program input r
 -- the program is that of what all that its file holds comes to by the sizes of the words
 pub record IsProgramIn (holds : List ℕ → Option (List ℕ) → Type 0) (file : ProgramFile) (program : Checked) : Type 0 where
   pub expansion : Expansion
-  pub is_expansion : IsExpansionIn (holds file.name.now) (size_words file) expansion
+  pub is_expansion : IsExpansionIn (holds file.name.now) file.sizes.items expansion
   pub is_program : IsProgramOf expansion.text program
 
 -- the run of a program on an input is refused for that
@@ -69,7 +68,7 @@ pub record StopsAtRun (holds : List ℕ → Option (List ℕ) → Type 0) (verb 
   pub program : Checked
   pub is : IsProgramIn holds file program
   pub input : List ℤ
-  pub given : IsInputFor holds words input
+  pub given : IsOpening holds program.layout words.opening input
   pub refused : IsRefusedRun verb program input words h.stop h.about
 
 -- that of the file's code
@@ -78,29 +77,41 @@ pub record StopsAtCodeRun (holds : List ℕ → Option (List ℕ) → Type 0) (f
   pub is : IsListingIn (holds file) code
   pub verified : IsWellFormed code
   pub input : List ℤ
-  pub given : IsInputFor holds words input
+  pub given : IsOpening holds code.layout words.opening input
   pub refused : IsRefusedCodeRun code input words h.stop h.about
 
 -- ---- calls
 
--- the call stops at the file of its input
-abbrev pub StopsAtInputFor : (List ℕ → Option (List ℕ) → Type 0) → RunWords → Halted → Type 0
-StopsAtInputFor holds words h = IsSomeAnd words.input (λ name. StopsAtInput (holds name.now) name.now h)
+-- the call stops at what its cells hold before the first statement: at the file of its input or of its memory, or for want of memory
+abbrev pub StopsAtOpening : (List ℕ → Option (List ℕ) → Type 0) → List SharedEntry → Opening → Halted → Type 0
+StopsAtOpening holds layout opening.Zeros h = ⊥
+StopsAtOpening holds layout (opening.Input name) h = StopsAtInput (holds name.now) name.now h
+StopsAtOpening holds layout (opening.Memory name) h = StopsAtMemory (holds name.now) name.now layout h
+StopsAtOpening holds layout (opening.Drawn drawing) h = (h.stop ≡ stop.Refused refusal.OutOfMemory) × (h.about ≡ about.Nothing)
 
--- it stops at that file behind the program's file, or behind the listing's
+-- a name that is to be shown is that of no declaration
+abbrev pub IsUnknownIn : List SharedEntry → RunWords → Stop → About → Type 0
+IsUnknownIn layout words (stop.Number word) a = (unknown_name layout words.shown ≡ Some word.now) × (a ≡ about.Nothing)
+IsUnknownIn layout words _ a = ⊥
+
+-- the call stops at the names that are to be shown, or at what its cells hold
+abbrev pub StopsBefore : (List ℕ → Option (List ℕ) → Type 0) → List SharedEntry → RunWords → Halted → Type 0
+StopsBefore holds layout words h = IsUnknownIn layout words h.stop h.about ⊎ StopsAtOpening holds layout words.opening h
+
+-- it stops so behind the program's file, or behind the listing's
 abbrev pub StopsBehindProgram : (List ℕ → Option (List ℕ) → Type 0) → ProgramFile → RunWords → Halted → Type 0
-StopsBehindProgram holds file words h = ((program : Checked) × IsProgramIn holds file program) × StopsAtInputFor holds words h
+StopsBehindProgram holds file words h = (program : Checked) × IsProgramIn holds file program × StopsBefore holds program.layout words h
 
 abbrev pub StopsBehindListing : (List ℕ → Option (List ℕ) → Type 0) → List ℕ → RunWords → Halted → Type 0
 StopsBehindListing holds file words h =
-    ((code : SuperstepCode) × IsListingIn (holds file) code × IsWellFormed code) × StopsAtInputFor holds words h
+    (code : SuperstepCode) × IsListingIn (holds file) code × IsWellFormed code × StopsBefore holds code.layout words h
 
 -- The code of a file's program is not compiled, for want of memory.
 abbrev pub StopsAtCode : (List ℕ → Option (List ℕ) → Type 0) → ProgramFile → Halted → Type 0
 StopsAtCode holds file h =
     ((program : Checked) × IsProgramIn holds file program) × (h.stop ≡ stop.Refused refusal.OutOfMemory) × (h.about ≡ about.Nothing)
 
--- Why a run of a file's program finds nothing, in this order: its file; the file of the input; the run.
+-- Why a run of a file's program finds nothing, in this order: its file; the names that are to be shown, and what the cells hold; the run.
 abbrev pub RefusesRun : (List ℕ → Option (List ℕ) → Type 0) → Verb → ProgramFile → RunWords → Halted → Type 0
 RefusesRun holds verb file words h =
     StopsAtProgram (holds file.name.now) file h ⊎ (StopsBehindProgram holds file words h ⊎ StopsAtRun holds verb file words h)
@@ -109,22 +120,3 @@ RefusesRun holds verb file words h =
 abbrev pub RefusesCodeRun : (List ℕ → Option (List ℕ) → Type 0) → List ℕ → RunWords → Halted → Type 0
 RefusesCodeRun holds file words h =
     StopsAtListing (holds file) file h ⊎ (StopsBehindListing holds file words h ⊎ StopsAtCodeRun holds file words h)
-
--- why a call over a program does
-abbrev pub RefusesOf : (List ℕ → Option (List ℕ) → Type 0) → Verb → ProgramFile → RunWords → Halted → Type 0
-RefusesOf holds verb.Check file words h = StopsAtProgram (holds file.name.now) file h
-RefusesOf holds verb.Expand file words h = StopsAtText (holds file.name.now) file h
-RefusesOf holds verb.Plan file words h = StopsAtProgram (holds file.name.now) file h ⊎ StopsAtCode holds file h
-RefusesOf holds verb file words h = RefusesRun holds verb file words h
-
--- why a call finds nothing
-abbrev pub Refuses : (List ℕ → Option (List ℕ) → Type 0) → Request → Halted → Type 0
-Refuses holds request.Version h = ⊥
-Refuses holds (request.Explanation subject) h = ⊥
-Refuses holds (request.Program verb file words) h = RefusesOf holds verb file words h
-Refuses holds (request.Listing file words) h = RefusesCodeRun holds file.now words h
-
--- why a request is refused: its words are, or nothing is found
-abbrev pub IsStop : (List ℕ → Option (List ℕ) → Type 0) → Result Request Stop → Halted → Type 0
-IsStop holds (Ok request) h = Refuses holds request h
-IsStop holds (Err why) h = (h.stop ≡ why) × (h.about ≡ about.Nothing)

@@ -1,16 +1,22 @@
 //! What calls find in their files.
 
 ghost use Rattle.std.specs.Prelude.{◌≡◌, ◌⊎◌, IfOk, IfErr};
-ghost use Rattle.command_facts.specs.Found.{Finds, FindsOf, IsCodeFound, IsComparisonFound, IsInputFor, IsLoaded, IsRunFound};
-ghost use Rattle.command_facts.specs.Refused.{Refuses, RefusesCodeRun, RefusesOf, RefusesRun, StopsBehindProgram};
+ghost use Rattle.system_files.specs.Files.{IsSame};
+ghost use Rattle.command_facts.specs.Calls.{Finds, FindsOf, Refuses, RefusesOf};
+ghost use Rattle.command_facts.specs.Found.{AreThere, IsCodeFound, IsComparisonFound, IsLoaded, IsOpening, IsRunFound};
+ghost use Rattle.command_facts.specs.Refused.{IsUnknownIn, RefusesCodeRun, RefusesRun, StopsBehindProgram};
 ghost use Rattle.command_facts.specs.Held.{StopsAtProgram};
 
 use crate::found::{Found, FoundCode, FoundRun};
 use crate::halted::{Halted, halted_run};
 use crate::loaded::Loaded;
-use crate::loading::{load_input, load_listing, load_program, load_text};
+use crate::loading::{load_listing, load_program, load_text};
+use crate::opening::load_opening;
 use crate::running::facts_of;
+use crate::sweeping::find_sweep;
 use command_requests::{ProgramFile, Request, RunWords, Verb};
+use memory_texts::unknown_name;
+use pram_trees::Layout;
 use program_runs::{compile_program, run_code};
 use program_texts::{Refusal, Stop};
 use rule_comparison::{Comparison, compare_rules};
@@ -20,7 +26,18 @@ use std::thread::Threads;
 use system_files::Sources;
 use workers::OpenGate;
 
-// The program of a file, and behind it the values of the call's input.
+// Stops at the first name that is to be shown and is that of no declaration (P1).
+fn check_names<'a>(layout: &Layout, words: RunWords<'a>) -> Result<(), Halted<'a>>
+    ensures there { IfOk result (λ _. AreThere layout.now words.entry) }
+    ensures unknown { IfErr result (λ h. IsUnknownIn layout.now words.entry h.stop h.about) }
+{
+    match unknown_name(layout, words.shown) {
+        None => Ok(()),
+        Some(name) => Err(Halted::from(Stop::Number(name))),
+    }
+}
+
+// The program of a file, and behind it what its first cells hold before the first statement.
 fn load_given<'a, S: Sources>(
     alloc: Global,
     file: &ProgramFile<'a>,
@@ -28,12 +45,15 @@ fn load_given<'a, S: Sources>(
     sources: &mut S,
 ) -> Result<(Loaded<'a>, Vec<i64>), Halted<'a>>
     ensures loaded { IfOk result (λ given. IsLoaded (S.Sources.holds sources.old file.now.name.now) file.now given.0) }
-    ensures input { IfOk result (λ given. IsInputFor (S.Sources.holds sources.old) words.entry given.1.items) }
+    ensures there { IfOk result (λ given. AreThere given.0.program.layout words.entry) }
+    ensures input { IfOk result (λ given. IsOpening (S.Sources.holds sources.old) given.0.program.layout words.entry.opening given.1.items) }
     ensures refused { IfErr result (λ h. StopsAtProgram (S.Sources.holds sources.old file.now.name.now) file.now h
         ⊎ StopsBehindProgram (S.Sources.holds sources.old) file.now words.entry h) }
+    ensures same { IsSame (S.Sources.holds sources.new) (S.Sources.holds sources.old) }
 {
     let loaded = load_program(alloc, sources, file)?;
-    let input = load_input(alloc, sources, words.input)?;
+    check_names(loaded.program.layout(), words)?;
+    let input = load_opening(alloc, sources, words.opening, loaded.program.layout())?;
     Ok((loaded, input))
 }
 
@@ -72,8 +92,8 @@ fn find_comparison<'a, S: Sources>(
     }
 }
 
-// A run of the file's program.
-fn find_run<'a, R: Threads + Wait + Sync, S: Sources>(
+/// A run of the file's program.
+pub(crate) fn find_run<'a, R: Threads + Wait + Sync, S: Sources>(
     rt: &R,
     alloc: Global,
     verb: Verb,
@@ -83,6 +103,7 @@ fn find_run<'a, R: Threads + Wait + Sync, S: Sources>(
 ) -> Result<FoundRun<'a>, Halted<'a>>
     ensures found { IfOk result (IsRunFound (S.Sources.holds sources.old) verb file.now words.entry) }
     ensures refused { IfErr result (RefusesRun (S.Sources.holds sources.old) verb file.now words.entry) }
+    ensures same { IsSame (S.Sources.holds sources.new) (S.Sources.holds sources.old) }
 {
     let (loaded, input) = load_given(alloc, file, words, sources)?;
     match facts_of(rt, alloc, verb, &loaded.program, &input, words) {
@@ -107,15 +128,20 @@ fn find_code_run<'a, R: Threads + Wait + Sync, S: Sources>(
     file: &'a str,
     words: RunWords<'a>,
     sources: &mut S,
-) -> Result<FoundCode, Halted<'a>>
+) -> Result<FoundCode<'a>, Halted<'a>>
     ensures found { IfOk result (IsCodeFound (S.Sources.holds sources.old) file.now words.entry) }
     ensures refused { IfErr result (RefusesCodeRun (S.Sources.holds sources.old) file.now words.entry) }
 {
     let code = load_listing(alloc, sources, file)?;
-    let input = load_input(alloc, sources, words.input)?;
+    check_names(code.code().layout(), words)?;
+    let input = load_opening(alloc, sources, words.opening, code.code().layout())?;
     let (options, reserve) = (words.options, words.reserve);
     match run_code(rt, alloc, &code, &input, options, reserve, &OpenGate) {
-        Ok((outcome, _counts)) => Ok(FoundCode { code, outcome }),
+        Ok((outcome, _counts)) => Ok(FoundCode {
+            code,
+            shown: words.shown,
+            outcome,
+        }),
         Err(refusal) => {
             let cells = code.code().layout().cells();
             Err(halted_run(refusal, input.len(), cells))
@@ -153,8 +179,9 @@ fn find_of<'a, R: Threads + Wait + Sync, S: Sources>(
 /// What a call finds, before anything is written of it.
 ///
 /// A refusal is judged in this order: of a program the words that give sizes (P1), its file and its text as it stands (P2, E2, E1), its
-/// sizes (E19, P1 for one that the text doesn't declare, E2), and what it comes to by them (E3 to E10); of a listing P2, E2, E15, E14; the
-/// input's file and its text (P2, E1 to E3); the number of workers (E13), the map (E12), and the number of the input's values (E11); and with
+/// sizes (E19, P1 for one that the text doesn't declare, E2), and what it comes to by them (E3 to E10); of a listing P2, E2, E15, E14; a name
+/// that is to be shown and isn't declared (P1); the input's file and its text (P2, E1 to E3), or a memory's, of which also a name that isn't
+/// declared (E6) and too many values (E11) are told; the number of workers (E13), the map (E12), and the number of the input's values (E11); and with
 /// a reserve whether the run comes past it (E18). E16 comes where memory was refused.
 pub fn find<'a, R: Threads + Wait + Sync, S: Sources>(
     rt: &R,
@@ -170,6 +197,10 @@ pub fn find<'a, R: Threads + Wait + Sync, S: Sources>(
         Request::Version => Ok(Found::Version),
         Request::Explanation(subject) => Ok(Found::Explanation(subject)),
         Request::Program { verb, file, words } => find_of(rt, alloc, verb, &file, words, sources),
+        Request::Sweep { file, sweep, words } => {
+            let swept = find_sweep(rt, alloc, &file, &sweep, words, sources)?;
+            Ok(Found::Swept(swept))
+        }
         Request::Listing { file, words } => {
             let run = find_code_run(rt, alloc, file, words, sources)?;
             Ok(Found::Executed(run))

@@ -6,8 +6,11 @@ use command_requests::RunWords;
 use diagnoses::Source;
 use exchange_counts::Counts;
 use explanations::Subject;
+use memory_texts::Choice;
 use rule_comparison::Comparison;
+use sized_texts::Sweep;
 use step_entries::Entry;
+use sweep_texts::{Growths, SizeRow};
 use work_time::Cost;
 use write_rules::Outcome;
 
@@ -34,11 +37,25 @@ pub struct FoundRun<'a> {
     pub facts: Facts,
 }
 
-/// A run of a listing's code, and its outcome.
+/// A run of a listing's code: the code, which declarations are shown, and the outcome.
 #[derive(Drop)]
-pub struct FoundCode {
+pub struct FoundCode<'a> {
     pub code: Verified,
+    pub shown: Choice<'a>,
     pub outcome: Outcome,
+}
+
+/// The runs of a program at several sizes: what they cost, how that grows, and how it is asked for.
+#[derive(Drop)]
+pub struct FoundSweep {
+    pub sweep: Sweep,
+    /// A row for each size, in order.
+    pub rows: Vec<SizeRow>,
+    pub growths: Growths,
+    /// Whether they are drawn.
+    pub svg: bool,
+    /// Whether they are written as a table of values separated by commas.
+    pub csv: bool,
 }
 
 /// What a call finds.
@@ -58,6 +75,8 @@ pub enum Found<'a> {
     Compared(Comparison),
     /// A program was run.
     Run(FoundRun<'a>),
+    /// A program was run at several sizes.
+    Swept(FoundSweep),
     /// A listing was run.
-    Executed(FoundCode),
+    Executed(FoundCode<'a>),
 }

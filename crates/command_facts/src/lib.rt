@@ -6,11 +6,13 @@ mod found;
 mod halted;
 mod loaded;
 mod loading;
+mod opening;
 mod running;
 mod status;
+mod sweeping;
 
 pub use finding::find;
-pub use found::{Facts, Found, FoundCode, FoundRun};
+pub use found::{Facts, Found, FoundCode, FoundRun, FoundSweep};
 pub use halted::Halted;
 pub use loaded::Loaded;
 pub use status::status_of;

@@ -1,7 +1,6 @@
 //! What the files of a call hold.
 
-ghost use Rattle.std.specs.Prelude.{◌≡◌, ℕ, List, [], None, Some, IfOk, IfErr, IsSomeAnd, Err};
-ghost use Rattle.std.specs.Option.{ForSome};
+ghost use Rattle.std.specs.Prelude.{◌≡◌, ℕ, List, None, IfOk, IfErr, Err};
 ghost use Rattle.superstep_instructions.specs.Code.{SuperstepCode};
 ghost use Rattle.superstep_instructions.specs.Limits.{IsCode};
 ghost use Rattle.superstep_listing.specs.Text.{IsFaultOf, IsListing};
@@ -9,8 +8,7 @@ ghost use Rattle.bsp_verify.specs.WellFormed.{IsWellFormed};
 ghost use Rattle.bsp_verify.specs.FirstFault.{IsRefusal};
 ghost use Rattle.system_files.specs.Files.{IsReadFrom, IsSame};
 ghost use Rattle.command_facts.specs.Found.{IsLoaded};
-ghost use Rattle.command_sizes.specs.Given.{size_words};
-ghost use Rattle.command_facts.specs.Held.{IsInputIn, IsListingIn, IsOfCodeIn, IsTextIn, IsUnread, StopsAtInput, StopsAtListing, StopsAtProgram, StopsAtText};
+ghost use Rattle.command_facts.specs.Held.{IsListingIn, IsOfCodeIn, IsTextIn, IsUnread, StopsAtListing, StopsAtProgram, StopsAtText};
 ghost use Rattle.command_facts.specs.Listings.{IsOfListing, line_of_instruction};
 ghost use Rattle.command_facts.specs.Listings.{reason_word as spec_reason_word};
 
@@ -21,15 +19,15 @@ use command_requests::ProgramFile;
 use command_sizes::{expanded, sizes_of};
 use diagnoses::{About, Kind, Source};
 use pram_tokens::LONGEST;
-use pram_trees::{TextFault, read_input};
+use pram_trees::TextFault;
 use program_texts::{Refusal, Stop, read_program};
 use std::alloc::Global;
 use superstep_instructions::Code;
 use superstep_listing::{LONGEST as LONGEST_LISTING, ListingFault, read_listing};
 use system_files::{SourceFault, Sources};
 
-// The bytes of a file, up to one more than the most that its text may have.
-fn load<'a, S: Sources>(
+/// The bytes of a file, up to one more than the most that its text may have.
+pub(crate) fn load<'a, S: Sources>(
     alloc: Global,
     sources: &mut S,
     name: &'a str,
@@ -53,7 +51,7 @@ pub(crate) fn load_text<'a, S: Sources>(
     file: &ProgramFile<'a>,
 ) -> Result<Source<'a>, Halted<'a>>
     // It is all that the file of that name holds.
-    ensures text { IfOk result (IsTextIn (S.Sources.holds sources.old file.now.name.now) (size_words file.now)) }
+    ensures text { IfOk result (IsTextIn (S.Sources.holds sources.old file.now.name.now) file.now.sizes.items) }
     ensures refused { IfErr result (StopsAtText (S.Sources.holds sources.old file.now.name.now) file.now) }
     ensures same { IsSame (S.Sources.holds sources.new) (S.Sources.holds sources.old) }
 {
@@ -93,8 +91,8 @@ pub(crate) fn load_program<'a, S: Sources>(
     }
 }
 
-// A text that stands for itself.
-fn source_of<'a>(kind: Kind, name: &'a str, bytes: Vec<u8>) -> Source<'a>
+/// A text that stands for itself.
+pub(crate) fn source_of<'a>(kind: Kind, name: &'a str, bytes: Vec<u8>) -> Source<'a>
     ensures bytes { result.bytes.items ≡ bytes.items }
     ensures itself { result.expansion ≡ None }
 {
@@ -103,32 +101,6 @@ fn source_of<'a>(kind: Kind, name: &'a str, bytes: Vec<u8>) -> Source<'a>
         name,
         bytes,
         expansion: None,
-    }
-}
-
-/// The values of the input's file, and none where there is no file.
-pub(crate) fn load_input<'a, S: Sources>(
-    alloc: Global,
-    sources: &mut S,
-    name: Option<&'a str>,
-) -> Result<Vec<i64>, Halted<'a>>
-    // The values are those of all that the file holds.
-    ensures held { IfOk result (λ values. ForSome name.entry (λ n. IsInputIn (S.Sources.holds sources.old n.now) values.items)) }
-    ensures without { IfOk result (λ values. name.entry ≡ None → values.items ≡ []) }
-    ensures of_file { IfErr result (λ h. IsSomeAnd name.entry (λ n. StopsAtInput (S.Sources.holds sources.old n.now) n.now h)) }
-    ensures same { IsSame (S.Sources.holds sources.new) (S.Sources.holds sources.old) }
-{
-    let name = match name {
-        None => return Ok(Vec::new(alloc)),
-        Some(name) => name,
-    };
-    let bytes = load(alloc, sources, name, LONGEST as u32)?;
-    match read_input(alloc, &bytes) {
-        Ok(values) => Ok(values),
-        Err(fault) => Err(Halted {
-            stop: Stop::Refused(Refusal::from(fault)),
-            about: About::Text(source_of(Kind::Input, name, bytes)),
-        }),
     }
 }
 

@@ -1,18 +1,82 @@
 //! Exit statuses of what was found.
 
 ghost use Rattle.std.specs.Prelude.{◌≡◌};
-ghost use Rattle.command_facts.specs.Found.{status_of_found};
+ghost use Rattle.std.specs.List.{list_any};
+ghost use Rattle.command_facts.specs.Calls as spec;
 
 use crate::found::Found;
 use program_texts::Status;
+use sweep_texts::{Ending, SizeRow};
+
+// Whether the run at a size faults or is refused.
+fn is_bad(ending: &Ending) -> bool
+    ensures { result ≡ spec.is_bad ending.now }
+{
+    match ending {
+        Ending::Faulted(_, _) => true,
+        Ending::Refused(_) => true,
+        Ending::Ended(_) => false,
+        Ending::GoesOn(_) => false,
+    }
+}
+
+// Whether it goes on.
+fn is_going_on(ending: &Ending) -> bool
+    ensures { result ≡ spec.is_going_on ending.now }
+{
+    match ending {
+        Ending::GoesOn(_) => true,
+        Ending::Ended(_) => false,
+        Ending::Faulted(_, _) => false,
+        Ending::Refused(_) => false,
+    }
+}
+
+// Whether a size is bad.
+fn has_bad(rows: &[SizeRow]) -> bool
+    ensures { result ≡ list_any (λ r. spec.is_bad r.ending) rows.now }
+{
+    for row in rows {
+        if is_bad(&row.ending) {
+            return true;
+        }
+    }
+    false
+}
+
+// Whether the run at a size goes on.
+fn has_going_on(rows: &[SizeRow]) -> bool
+    ensures { result ≡ list_any (λ r. spec.is_going_on r.ending) rows.now }
+{
+    for row in rows {
+        if is_going_on(&row.ending) {
+            return true;
+        }
+    }
+    false
+}
+
+// The exit status of a sweep.
+fn status_of_rows(rows: &[SizeRow]) -> Status
+    ensures { result ≡ spec.status_of_rows rows.now }
+{
+    if has_bad(rows) {
+        Status::Faulted
+    } else if has_going_on(rows) {
+        Status::GoesOn
+    } else {
+        Status::Done
+    }
+}
 
 /// The exit status that goes with what was found, however it is told.
 pub fn status_of(found: &Found<'_>) -> Status
-    ensures { result ≡ status_of_found found.now }
+    ensures { result ≡ spec.status_of_found found.now }
 {
     match found {
         Found::Run(run) => Status::of(&run.outcome),
         Found::Executed(run) => Status::of(&run.outcome),
+        Found::Swept(swept) => status_of_rows(&swept.rows),
         Found::Version => Status::Done,
         Found::Explanation(_) => Status::Done,
         Found::Accepted(_) => Status::Done,

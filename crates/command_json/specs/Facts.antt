@@ -9,7 +9,7 @@ use Rattle.program_texts.specs.declared.from_text.Refusal.TheVariants as refusal
 use Rattle.program_texts.specs.declared.status.Status.{Status}
 use Rattle.program_texts.specs.declared.stop.Stop.{Stop}
 use Rattle.program_texts.specs.declared.stop.Stop.TheVariants as stop
-use Rattle.command_facts.specs.Found.{status_of_found}
+use Rattle.command_facts.specs.Calls.{status_of_found}
 use Rattle.command_facts.specs.declared.found.Facts.{Facts}
 use Rattle.command_facts.specs.declared.found.Facts.TheVariants as facts
 use Rattle.command_facts.specs.declared.found.Found.{Found}
@@ -17,14 +17,15 @@ use Rattle.command_facts.specs.declared.found.Found.TheVariants as found
 use Rattle.command_facts.specs.declared.found.FoundRun.{FoundRun}
 use Rattle.json_texts.specs.AcceptedFacts.{accepted_facts}
 use Rattle.json_texts.specs.CostFacts.{cost_facts}
-use Rattle.json_texts.specs.OutcomeFacts.{outcome_facts}
+use Rattle.json_texts.specs.OutcomeFacts.{chosen_facts}
 use Rattle.json_texts.specs.RuleFacts.{comparison_facts}
 use Rattle.json_texts.specs.StepFacts.{steps_facts}
+use Rattle.json_texts.specs.SweepFacts.{sweep_facts}
 use Rattle.json_texts.specs.TraceFacts.{trace_facts}
 
 -- a run of a program: its outcome, what it costs, its statements between the numbers that are asked for, or its exchanges
 abbrev pub run_facts : FoundRun → Facts → List Data
-run_facts r facts.Nothing = outcome_facts r.loaded.program.layout (verdict_of r.outcome) ∷ []
+run_facts r facts.Nothing = chosen_facts r.words.shown r.loaded.program.layout (verdict_of r.outcome) ∷ []
 run_facts r (facts.Cost c) =
     cost_facts r.loaded.program.layout (verdict_of r.outcome) c r.words.costs.schedule r.words.costs.lines ∷ []
 run_facts r (facts.Steps entries) =
@@ -37,6 +38,7 @@ abbrev pub AreFactsOf : Found → List Data → Type 0
 AreFactsOf (found.Accepted l) told = told ≡ accepted_facts l.program ∷ []
 AreFactsOf (found.Compared c) told = told ≡ comparison_facts c ∷ []
 AreFactsOf (found.Run r) told = told ≡ run_facts r r.facts
+AreFactsOf (found.Swept s) told = told ≡ sweep_facts s.sweep.name s.rows.items s.growths
 AreFactsOf _ told = ⊥
 
 -- lines of JSON that say them

@@ -13,8 +13,7 @@ use Rattle.program_texts.specs.declared.stop.Stop.TheVariants as stop
 use Rattle.command_requests.specs.declared.request.Request.{Request}
 use Rattle.command_facts.specs.declared.found.Found.{Found}
 use Rattle.command_facts.specs.declared.halted.Halted.{Halted}
-use Rattle.command_facts.specs.Found.{Finds, status_of_found}
-use Rattle.command_facts.specs.Refused.{IsStop}
+use Rattle.command_facts.specs.Calls.{Finds, IsStop, status_of_found}
 use Rattle.command_facts.specs.Written.{IsReported}
 use Rattle.json_texts.specs.RefusalFacts.{stop_facts}
 use Rattle.command_json.specs.Facts.{IsJsonOf, WritesFound}

@@ -3,11 +3,14 @@
 ghost use Rattle.std.specs.Prelude.{◌<◌, ◌^◌, IfOk, IfErr};
 ghost use Rattle.std.specs.String.{string_bytes};
 ghost use Rattle.json_lines.specs.Lines.{IsJson};
+ghost use Rattle.json_texts.specs.SweepFacts.{sweep_facts};
 ghost use Rattle.command_json.specs.Facts as spec;
 
 use crate::writing::write_json;
-use command_facts::{Facts, Found, FoundRun, status_of};
-use json_texts::{json_accepted, json_comparison, json_cost, json_outcome, json_steps, json_trace};
+use command_facts::{Facts, Found, FoundRun, FoundSweep, status_of};
+use json_texts::{
+    json_accepted, json_comparison, json_cost, json_outcome, json_steps, json_sweep, json_trace,
+};
 use program_texts::{Status, Stop};
 use std::alloc::{AllocError, Global};
 use text_out::Out;
@@ -23,7 +26,7 @@ fn run_text(alloc: Global, run: &FoundRun<'_>) -> Result<String, AllocError>
     let outcome = &run.outcome;
     let words = &run.words;
     match &run.facts {
-        Facts::Nothing => json_outcome(alloc, layout, outcome),
+        Facts::Nothing => json_outcome(alloc, layout, outcome, words.shown),
         Facts::Exchanges(counts) => json_trace(alloc, counts, outcome),
         Facts::Cost(cost) => {
             let (schedule, lines) = (words.costs.schedule, words.costs.lines);
@@ -37,6 +40,13 @@ fn run_text(alloc: Global, run: &FoundRun<'_>) -> Result<String, AllocError>
     }
 }
 
+// The runs at several sizes.
+fn sweep_text(alloc: Global, swept: &FoundSweep) -> Result<String, AllocError>
+    ensures told { IfOk result (λ text. IsJson (sweep_facts swept.now.sweep.name swept.now.rows.items swept.now.growths) (string_bytes text)) }
+{
+    json_sweep(alloc, swept.sweep.name.as_slice(), &swept.rows, &swept.growths)
+}
+
 // The lines of what was found.
 fn text_of<'a>(alloc: Global, found: &Found<'_>) -> Result<String, Stop<'a>>
     ensures told { IfOk result (λ text. spec.IsJsonOf found.now (string_bytes text)) }
@@ -46,6 +56,7 @@ fn text_of<'a>(alloc: Global, found: &Found<'_>) -> Result<String, Stop<'a>>
         Found::Accepted(loaded) => Ok(json_accepted(alloc, &loaded.program)?),
         Found::Compared(comparison) => Ok(json_comparison(alloc, comparison)?),
         Found::Run(run) => Ok(run_text(alloc, run)?),
+        Found::Swept(swept) => Ok(sweep_text(alloc, swept)?),
         Found::Version => Err(Stop::Number(JSON)),
         Found::Explanation(_) => Err(Stop::Number(JSON)),
         Found::Expanded(_) => Err(Stop::Number(JSON)),

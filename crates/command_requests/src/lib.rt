@@ -4,6 +4,7 @@
 mod cost_words;
 mod explain_word;
 mod format_word;
+mod opening;
 mod reader;
 mod request;
 mod same_word;
@@ -13,7 +14,8 @@ mod version;
 pub use cost_words::CostWords;
 pub use explain_word::asks_to_explain;
 pub use format_word::asks_for_json;
+pub use opening::Opening;
 pub use reader::Reader;
-pub use request::{ProgramFile, Request, RunWords, Verb};
+pub use request::{ProgramFile, Request, RunWords, SizeWord, SweepWords, Verb};
 pub use step_words::StepWords;
 pub use version::{VERSION, asks_for_version};

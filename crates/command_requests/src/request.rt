@@ -1,8 +1,10 @@
 //! What a call of the program asks for.
 
 use crate::cost_words::CostWords;
+use crate::opening::Opening;
 use crate::step_words::StepWords;
 use explanations::Subject;
+use memory_texts::Choice;
 use run_options::{Options, Reserve};
 
 /// What is done with the program of a file.
@@ -28,19 +30,28 @@ pub enum Verb {
     Expand,
 }
 
+/// A word by which a number is given for a size.
+#[derive(Clone, Copy, Debug, Drop)]
+pub enum SizeWord<'a> {
+    /// This one, which is to be `NAME=VALUE`.
+    Given(&'a str),
+    /// That of a sweep, as `n=4,8,16`, at one of its sizes.
+    Swept(&'a str, u64),
+}
+
 /// The text of a program: the file that it stands in, and the words by which numbers are given for its sizes.
 #[derive(Debug, Drop)]
 pub struct ProgramFile<'a> {
     pub name: &'a str,
-    /// The words, each of which is to be `NAME=VALUE`, in the order of the command line.
-    pub sizes: Vec<&'a str>,
+    /// The words in the order of the command line, that of a sweep behind all others.
+    pub sizes: Vec<SizeWord<'a>>,
 }
 
 /// How something is run.
 #[derive(Clone, Copy, Debug)]
 pub struct RunWords<'a> {
-    /// The name of the file with the input's values. Without one there are none.
-    pub input: Option<&'a str>,
+    /// What the cells hold before the first statement.
+    pub opening: Opening<'a>,
     pub options: Options,
     /// For how much workers take all their memory before the first exchange. Without one they take it on the way.
     pub reserve: Option<Reserve>,
@@ -50,6 +61,17 @@ pub struct RunWords<'a> {
     pub svg: bool,
     /// Whether a page is made that steps through the statements.
     pub html: bool,
+    /// Which shared declarations are written where the run ends.
+    pub shown: Choice<'a>,
+}
+
+/// The sizes at which a program is run, and how that is told.
+#[derive(Debug, Drop)]
+pub struct SweepWords<'a> {
+    /// The word, as `n=4,8,16` or `n=4..64*2`, by which the sizes are given.
+    pub word: &'a str,
+    /// Whether a table of values separated by commas is written.
+    pub csv: bool,
 }
 
 /// One call of the program.
@@ -63,6 +85,12 @@ pub enum Request<'a> {
     Program {
         verb: Verb,
         file: ProgramFile<'a>,
+        words: RunWords<'a>,
+    },
+    /// What the run by its definition costs is counted at each of some sizes.
+    Sweep {
+        file: ProgramFile<'a>,
+        sweep: SweepWords<'a>,
         words: RunWords<'a>,
     },
     /// A listing is run.

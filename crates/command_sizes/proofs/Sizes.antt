@@ -1,11 +1,10 @@
 -- The sizes that words give, word by word, and the words of sizes that a text doesn't declare.
-use Rattle.std.proofs.Common.{◌≡◌, ◌∙◌, ◌+◌, ◌<◌, ℕ, List, [], ◌∷◌, ◌++◌, length, map, take, drop, get_or, ap, arith, length-append, refl, subst, sym}
-use Rattle.std.proofs.lemmas.List.{drop_more, map-append, map_more, take-append-drop}
+use Rattle.std.proofs.Common.{◌≡◌, ◌∙◌, ◌+◌, ◌<◌, ℕ, List, [], ◌∷◌, ◌++◌, length, take, drop, get_or, ap, arith, length-append, refl, subst, sym}
+use Rattle.std.proofs.lemmas.List.{drop_more, take-append-drop, take_more}
 use Rattle.std.proofs.lemmas.List.Quantifiers.{position-Some}
-use Rattle.std.proofs.lemmas.Option.{slice_get-map, slice_get_read}
-use Rattle.std.specs.Prelude.{Bool, true, false, if◌then◌else◌, nat_lt, Option, Some, None, Result, Ok, Err, IfErr, IsErrAnd}
+use Rattle.std.proofs.lemmas.Option.{slice_get_read}
+use Rattle.std.specs.Prelude.{Bool, true, false, if◌then◌else◌, nat_lt, Option, Some, None, Result, Ok, Err, IfErr, IsErrAnd, IsSomeAnd}
 use Rattle.std.specs.List.{position, slice_get}
-use Rattle.std.specs.Option.{option_map}
 use Rattle.pram_tokens.specs.Scanning.{longest}
 use Rattle.sized_texts.specs.Expansion.{expanded, expanded_by, expansion, short, undeclared}
 use Rattle.sized_texts.specs.Faults.{in_text}
@@ -19,18 +18,19 @@ use Rattle.sized_texts.specs.declared.stop.Wrong.{Wrong}
 use Rattle.program_texts.specs.declared.from_text.Refusal.TheVariants as refusal
 use Rattle.program_texts.specs.declared.stop.Stop.{Stop}
 use Rattle.program_texts.specs.declared.stop.Stop.TheVariants as stop
-use Rattle.command_sizes.specs.Given.{AreSizesOf, GiveSizes, IsFirstWrong, IsNewSize, IsNoNewSize, IsOfSizes, IsWordRefused}
+use Rattle.command_requests.specs.declared.request.SizeWord.{SizeWord}
+use Rattle.command_sizes.specs.Given.{AreSizesOf, GiveSizes, IsFirstWrong, IsNewSize, IsNoNewSize, IsOfSizes, IsWordRefused, word_text}
 
 -- ---- word by word
 
 -- one more word gives one more size
-pub behind : (before : List Size) (words : List (List ℕ)) (all : List Size) (w : List ℕ) (s : Size) → GiveSizes before words all →
+pub behind : (before : List Size) (words : List SizeWord) (all : List Size) (w : SizeWord) (s : Size) → GiveSizes before words all →
     IsNewSize all w s → GiveSizes before (words ++ w ∷ []) (all ++ s ∷ [])
 behind before [] all w s given new =
     (s, subst (λ (m : List Size). IsNewSize m w s) given new, ap (λ (m : List Size). m ++ s ∷ []) given)
 behind before (v ∷ words) all w s given new = (given.0, given.1, behind (before ++ given.0 ∷ []) words all w s given.2 new)
 
-as_many : (before : List Size) (words : List (List ℕ)) (all : List Size) → GiveSizes before words all →
+as_many : (before : List Size) (words : List SizeWord) (all : List Size) → GiveSizes before words all →
     length all ≡ length before + length words
 as_many before [] all given = let e : length all ≡ length before = ap length given in omega (arith, e)
 as_many before (w ∷ words) all given =
@@ -39,39 +39,40 @@ as_many before (w ∷ words) all given =
     grind (arith, more, one)
 
 -- there are as many sizes as words
-pub one_each : (words : List (List ℕ)) (all : List Size) → AreSizesOf words all → length all ≡ length words
+pub one_each : (words : List SizeWord) (all : List Size) → AreSizesOf words all → length all ≡ length words
 one_each words all given = let many = as_many [] words all given in omega (arith, many)
 
-module _ {A : Type 0} (v : A → List ℕ) (words : List A) (i : ℕ) (d : A) (inside : i < length words) (sizes : List Size)
-    (given : AreSizesOf (map v (take i words)) sizes) where
+module _ (words : List SizeWord) (i : ℕ) (d : SizeWord) (inside : i < length words) (sizes : List Size)
+    (given : AreSizesOf (take i words) sizes) where
   -- so the next word does, if it gives one
-  pub one_more : (before all : List Size) (s : Size) → before ≡ sizes → IsNewSize before (v (get_or words i d)) s → all ≡ sizes ++ s ∷ [] →
-      AreSizesOf (map v (take (i + 1) words)) all
+  pub one_more : (before all : List Size) (s : Size) → before ≡ sizes → IsNewSize before (get_or words i d) s → all ≡ sizes ++ s ∷ [] →
+      AreSizesOf (take (i + 1) words) all
   one_more before all s same new is =
-      let more = behind [] (map v (take i words)) sizes (v (get_or words i d)) s given
-      (subst (λ (m : List Size). IsNewSize m (v (get_or words i d)) s) same new) in
-      subst (λ (ws : List (List ℕ)). AreSizesOf ws all) (sym (map_more v words i d inside)) (subst (AreSizesOf _) (sym is) more)
+      let more = behind [] (take i words) sizes (get_or words i d) s given
+      (subst (λ (m : List Size). IsNewSize m (get_or words i d) s) same new) in
+      subst (λ (ws : List SizeWord). AreSizesOf ws all) (sym (take_more words i d inside)) (subst (AreSizesOf _) (sym is) more)
 
-  whole_of : map v words ≡ map v (take i words) ++ v (get_or words i d) ∷ map v (drop (i + 1) words)
+  whole_of : words ≡ take i words ++ get_or words i d ∷ drop (i + 1) words
   whole_of =
-      ap (map v) (sym (take-append-drop i words)) ∙ map-append v (take i words) (drop i words)
-      ∙ ap (λ (rest : List A). map v (take i words) ++ map v rest) (drop_more words i d inside)
+      sym (take-append-drop i words) ∙ ap (λ (rest : List SizeWord). take i words ++ rest) (drop_more words i d inside)
 
   -- and if it doesn't, it is the first one
-  first_wrong : (before : List Size) (told : List ℕ) → before ≡ sizes → told ≡ v (get_or words i d) →
-      IsNoNewSize before (v (get_or words i d)) →
-      IsFirstWrong (map v words) told
+  first_wrong : (before : List Size) (told : List ℕ) → before ≡ sizes → told ≡ word_text (get_or words i d) →
+      IsNoNewSize before (get_or words i d) →
+      IsFirstWrong words told
   first_wrong before told same is wrong = record {
-    front = map v (take i words);
-    back = map v (drop (i + 1) words);
-    whole = whole_of ∙ ap (λ (w : List ℕ). map v (take i words) ++ w ∷ map v (drop (i + 1) words)) (sym is);
+    front = take i words;
+    word = get_or words i d;
+    back = drop (i + 1) words;
+    whole = whole_of;
+    is_told = is;
     sizes = sizes;
     given = given;
-    wrong = subst (IsNoNewSize sizes) (sym is) (subst (λ (m : List Size). IsNoNewSize m (v (get_or words i d))) same wrong);
+    wrong = subst (λ (m : List Size). IsNoNewSize m (get_or words i d)) same wrong;
   }
 
-  pub refused_at : (before : List Size) (why : Stop) → before ≡ sizes → IsWordRefused before (v (get_or words i d)) why →
-      IsOfSizes (map v words) why
+  pub refused_at : (before : List Size) (why : Stop) → before ≡ sizes → IsWordRefused before (get_or words i d) why →
+      IsOfSizes words why
   refused_at before (stop.Number word) same h = first_wrong before word.now same h.0 h.1
   refused_at before (stop.Refused refusal.OutOfMemory) same h = tt
   refused_at before (stop.Refused (refusal.Text fault)) same h = absurd h
@@ -128,6 +129,7 @@ module _ (given : List Size) (text : List ℕ) (i : ℕ) where
   within is = by_sizes (sizes_of given text) is
 
 -- the word that stands at a place
-pub word_at : {A : Type 0} (v : A → List ℕ) (words : List A) (i : ℕ) (w : A) → i < length words → w ≡ get_or words i w →
-    slice_get (map v words) i ≡ Some (v w)
-word_at v words i w inside is = slice_get-map v words i ∙ ap (option_map v) (slice_get_read words (length words) i w refl inside is)
+pub word_at : (words : List SizeWord) (i : ℕ) (w : SizeWord) (told : List ℕ) → i < length words → w ≡ get_or words i w → told ≡ word_text w →
+    IsSomeAnd (slice_get words i) (λ x. told ≡ word_text x)
+word_at words i w told inside is says =
+    subst (λ (o : Option SizeWord). IsSomeAnd o (λ x. told ≡ word_text x)) (sym (slice_get_read words (length words) i w refl inside is)) says

@@ -1,6 +1,7 @@
 -- The text of a program: what its file holds, expanded by the sizes that the words of the call give.
 use Rattle.std.specs.Prelude.{◌≡◌, ◌<◌, ◌⊎◌, ℕ, List, length, Option, Some, None, Result, Ok, Err}
 use Rattle.std.specs.List.{slice_get}
+use Rattle.std.specs.Option.{IsSomeAnd}
 use Rattle.pram_tokens.specs.Plain.{IsFirstOther, IsPlain}
 use Rattle.pram_tokens.specs.Scanning.{longest}
 use Rattle.pram_tokens.specs.declared.error.TextFault.{TextFault}
@@ -14,17 +15,18 @@ use Rattle.sized_texts.specs.declared.size.Size.{Size}
 use Rattle.program_texts.specs.declared.from_text.Refusal.TheVariants as refusal
 use Rattle.program_texts.specs.declared.stop.Stop.{Stop}
 use Rattle.program_texts.specs.declared.stop.Stop.TheVariants as stop
-use Rattle.command_sizes.specs.Given.{AreSizesOf}
+use Rattle.command_requests.specs.declared.request.SizeWord.{SizeWord}
+use Rattle.command_sizes.specs.Given.{AreSizesOf, word_text}
 
 -- the text has that expansion by the sizes of the words
-pub record IsExpandedBy (words : List (List ℕ)) (text : List ℕ) (e : Expansion) : Type 0 where
+pub record IsExpandedBy (words : List SizeWord) (text : List ℕ) (e : Expansion) : Type 0 where
   pub plain : IsPlain text
   pub sizes : List Size
   pub given : AreSizesOf words sizes
   pub is : expansion sizes text ≡ Ok e
 
 -- so it has this one
-abbrev pub HasExpansion : (words : List (List ℕ)) → (text : List ℕ) → Option Expanded → Type 0
+abbrev pub HasExpansion : (words : List SizeWord) → (text : List ℕ) → Option Expanded → Type 0
 HasExpansion words text None = ⊥
 HasExpansion words text (Some e) = IsExpandedBy words text (shown e)
 
@@ -37,16 +39,16 @@ IsNotPlain text (fault.NotAscii at) = IsFirstOther text at
 IsNotPlain text _ = ⊥
 
 -- why a text has no expansion by sizes: one of its places, its length, or the word of a size that it doesn't declare
-abbrev pub IsUnexpanded : (words : List (List ℕ)) → List Size → (text : List ℕ) → Stop → Type 0
+abbrev pub IsUnexpanded : (words : List SizeWord) → List Size → (text : List ℕ) → Stop → Type 0
 IsUnexpanded words sizes text (stop.BadSize at reason) = expansion sizes text ≡ Err (no_expansion.BadSize at reason)
 IsUnexpanded words sizes text (stop.Refused (refusal.Text fault.TextTooLong)) = expansion sizes text ≡ Err no_expansion.TooLong
 IsUnexpanded words sizes text (stop.Number word) =
-    (i : ℕ) × (expansion sizes text ≡ Err (no_expansion.NotDeclared i)) × (slice_get words i ≡ Some word.now)
+    (i : ℕ) × (expansion sizes text ≡ Err (no_expansion.NotDeclared i)) × IsSomeAnd (slice_get words i) (λ w. word.now ≡ word_text w)
 IsUnexpanded words sizes text (stop.Refused refusal.OutOfMemory) = Unit {0}
 IsUnexpanded words sizes text _ = ⊥
 
 -- A plain text has none by the sizes of the words. Memory is asked for only where the text is plain.
-pub record IsUnexpandedBy (words : List (List ℕ)) (text : List ℕ) (why : Stop) : Type 0 where
+pub record IsUnexpandedBy (words : List SizeWord) (text : List ℕ) (why : Stop) : Type 0 where
   pub plain : IsPlain text
   pub sizes : List Size
   pub given : AreSizesOf words sizes
@@ -58,5 +60,5 @@ IsOfBytes text (stop.Refused (refusal.Text why)) = IsNotPlain text why
 IsOfBytes text _ = ⊥
 
 -- a text has no expansion for that
-abbrev pub HasNoExpansion : (words : List (List ℕ)) → (text : List ℕ) → Stop → Type 0
+abbrev pub HasNoExpansion : (words : List SizeWord) → (text : List ℕ) → Stop → Type 0
 HasNoExpansion words text why = IsOfBytes text why ⊎ IsUnexpandedBy words text why

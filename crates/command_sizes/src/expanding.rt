@@ -1,6 +1,6 @@
 //! What the text of a program comes to by its sizes.
 
-ghost use Rattle.std.specs.Prelude.{◌≡◌, ◌<◌, ℕ, List, IfOk, IfErr, None, Err, length, map};
+ghost use Rattle.std.specs.Prelude.{◌≡◌, ◌<◌, ℕ, List, IfOk, IfErr, None, Err, length};
 ghost use Rattle.std.specs.Option.{ForSome};
 ghost use Rattle.pram_tokens.specs.Plain.{IsPlain};
 ghost use Rattle.sized_texts.specs.Expansion.{expansion};
@@ -10,6 +10,8 @@ ghost use Rattle.sized_texts.specs.declared.size.Size.{Size as SizeOf};
 ghost use Rattle.command_sizes.specs.Given.{AreSizesOf};
 ghost use Rattle.command_sizes.specs.Expanded as spec;
 
+use crate::word::text_of;
+use command_requests::SizeWord;
 use pram_tokens::{LONGEST, first_other};
 use pram_trees::TextFault;
 use program_texts::{Refusal, Stop};
@@ -31,15 +33,15 @@ fn fault_of_bytes(text: &[u8]) -> Option<TextFault>
 }
 
 // Why a text has no expansion by the sizes of these words.
-fn stop_of_sizes<'a>(fault: SizeFault, words: &[&'a str]) -> Stop<'a>
+fn stop_of_sizes<'a>(fault: SizeFault, words: &[SizeWord<'a>]) -> Stop<'a>
     requires numbered { (number : ℕ) → fault ≡ NotDeclared number → number < length words.now }
     ensures told { (sizes : List SizeOf) (text : List ℕ) → Answers shown (Err fault) (expansion sizes text) →
-        spec.IsUnexpanded (map (λ w. w.now) words.now) sizes text result }
+        spec.IsUnexpanded words.now sizes text result }
 {
     match fault {
         SizeFault::BadSize(at, reason) => Stop::BadSize(at, reason),
         SizeFault::TooLong => Stop::Refused(Refusal::Text(TextFault::TextTooLong)),
-        SizeFault::NotDeclared(number) => Stop::Number(words[number]),
+        SizeFault::NotDeclared(number) => Stop::Number(text_of(words[number])),
         SizeFault::OutOfMemory => Stop::Refused(Refusal::OutOfMemory),
     }
 }
@@ -51,12 +53,12 @@ fn stop_of_sizes<'a>(fault: SizeFault, words: &[&'a str]) -> Stop<'a>
 pub fn expanded<'a>(
     alloc: Global,
     text: &[u8],
-    words: &[&'a str],
+    words: &[SizeWord<'a>],
     sizes: &[Size],
 ) -> Result<Expanded, Stop<'a>>
-    requires given { AreSizesOf (map (λ w. w.now) words.now) sizes.now }
-    ensures expanded { IfOk result (λ e. spec.IsExpandedBy (map (λ w. w.now) words.now) text.now (shown e)) }
-    ensures refused { IfErr result (spec.HasNoExpansion (map (λ w. w.now) words.now) text.now) }
+    requires given { AreSizesOf words.now sizes.now }
+    ensures expanded { IfOk result (λ e. spec.IsExpandedBy words.now text.now (shown e)) }
+    ensures refused { IfErr result (spec.HasNoExpansion words.now text.now) }
 {
     if let Some(fault) = fault_of_bytes(text) {
         return Err(Stop::Refused(Refusal::Text(fault)));

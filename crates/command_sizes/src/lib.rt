@@ -3,6 +3,7 @@
 
 mod expanding;
 mod sizing;
+mod word;
 
 pub use expanding::expanded;
 pub use sizing::sizes_of;

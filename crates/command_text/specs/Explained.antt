@@ -1,8 +1,8 @@
 -- What is said on standard error.
-use Rattle.std.specs.Prelude.{◌≡◌, ◌⊎◌, ℕ, List, ◌++◌, Bool, true, false}
+use Rattle.std.specs.Prelude.{◌≡◌, ◌⊎◌, ℕ, List, ◌++◌, Bool, true, false, codes, decimal}
 use Rattle.text_out.specs.Out.{OutState}
 use Rattle.write_rules.specs.declared.outcome.Outcome.{Outcome}
-use Rattle.write_rules.specs.declared.outcome.Outcome.TheVariants.{Faulted}
+use Rattle.write_rules.specs.declared.outcome.Outcome.TheVariants.{Faulted, GoesOn}
 use Rattle.program_texts.specs.declared.stop.Stop.{Stop}
 use Rattle.diagnoses.specs.declared.about.About.{About}
 use Rattle.diagnoses.specs.FaultTexts.{fault_diagnosis, fault_sentence}
@@ -35,10 +35,15 @@ pub record IsRefusalReported (explains : Bool) (why : Stop) (a : About) (old new
 abbrev pub IsReasonOf : FoundRun → Reason → Type 0
 IsReasonOf r why = (why ≡ run_reason r.loaded.program r.input.items r.words.options.bound) ⊎ (why ≡ unknown)
 
--- of a program's run a fault is explained with its line of the text, and with why it came
+-- `the run met its bound of 1000000 statements: --bound N gives it others`
+abbrev pub bound_sentence : ℕ → List ℕ
+bound_sentence bound = codes "the run met its bound of " ++ (decimal bound ++ codes " statements: --bound N gives it others\n")
+
+-- of a program's run a fault is explained with its line of the text, and with why it came; and that its bound was met
 abbrev pub IsRunExplained : Bool → FoundRun → Outcome → OutState → OutState → Type 0
 IsRunExplained true r (Faulted fault output) old new =
     (why : Reason) × IsReasonOf r why × IsReported old new (fault_diagnosis r.loaded.source r.loaded.program.layout fault why)
+IsRunExplained true r (GoesOn output) old new = IsReported old new (bound_sentence r.words.options.bound)
 IsRunExplained _ r o old new = new ≡ old
 
 -- of a listing's code what happened is said, since its lines aren't the program's

@@ -8,8 +8,7 @@ use Rattle.diagnoses.specs.declared.about.About.TheVariants as about
 use Rattle.command_requests.specs.declared.request.Request.{Request}
 use Rattle.command_facts.specs.declared.found.Found.{Found}
 use Rattle.command_facts.specs.declared.halted.Halted.{Halted}
-use Rattle.command_facts.specs.Found.{Finds, status_of_found}
-use Rattle.command_facts.specs.Refused.{IsStop}
+use Rattle.command_facts.specs.Calls.{Finds, IsStop, status_of_found}
 use Rattle.command_text.specs.declared.terminal.Terminal.{Terminal}
 use Rattle.command_text.specs.Explained.{IsExplained, IsRefusalReported}
 use Rattle.command_facts.specs.Written.{WroteSome}

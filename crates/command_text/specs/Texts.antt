@@ -8,6 +8,10 @@ use Rattle.superstep_machine.specs.Trace.{Exchange}
 use Rattle.tracer.specs.Traced.{trace_text}
 use Rattle.tracer.specs.Picture as trace
 use Rattle.step_pictures.specs.Picture as steps
+use Rattle.sweep_pictures.specs.Picture as sweeps
+use Rattle.sweep_texts.specs.CsvText.{csv_text}
+use Rattle.sweep_texts.specs.SweepText.{sweep_text}
+use Rattle.memory_texts.specs.Chosen.{shown_by}
 use Rattle.write_rules.specs.Verdict.{verdict_of}
 use Rattle.program_texts.specs.Shown.{line, shown}
 use Rattle.diagnoses.specs.Sources.{text_in}
@@ -20,6 +24,7 @@ use Rattle.command_facts.specs.declared.found.Facts.TheVariants as facts
 use Rattle.command_facts.specs.declared.found.Found.{Found}
 use Rattle.command_facts.specs.declared.found.Found.TheVariants as found
 use Rattle.command_facts.specs.declared.found.FoundRun.{FoundRun}
+use Rattle.command_facts.specs.declared.found.FoundSweep.{FoundSweep}
 use Rattle.command_text.specs.declared.terminal.Terminal.{Terminal}
 use Rattle.command_text.specs.Costs.{costs_text}
 use Rattle.command_text.specs.Steps.{IsPage, IsTelling, told_text}
@@ -38,9 +43,15 @@ abbrev pub counts_text : Bool → List Exchange → List ℕ
 counts_text false exchanges = trace_text exchanges
 counts_text true exchanges = trace.picture exchanges
 
--- the outcome of a run
+-- the outcome of a run, with all of its memory
 abbrev pub outcome_text : FoundRun → List ℕ
 outcome_text r = shown r.loaded.program.layout (verdict_of r.outcome)
+
+-- runs at several sizes: drawn, as values separated by commas, or a line each and how they grow
+abbrev pub swept_text : (svg csv : Bool) → FoundSweep → List ℕ
+swept_text true csv s = sweeps.picture s.sweep.name s.rows.items
+swept_text false true s = csv_text s.sweep.name s.rows.items
+swept_text false false s = sweep_text s.sweep.name s.rows.items s.growths
 
 -- a run statement by statement: in words, between the numbers that are asked for, with locals if these are, beside the text as it stands in
 -- its file, and then its outcome
@@ -57,7 +68,7 @@ AreStepsText false false on r entries text = IsInWords on r entries text
 
 -- the text of a run, by what was found beside its outcome
 abbrev pub IsRunText : Terminal → FoundRun → Facts → List ℕ → Type 0
-IsRunText on r facts.Nothing text = text ≡ outcome_text r
+IsRunText on r facts.Nothing text = text ≡ shown_by r.words.shown r.loaded.program.layout (verdict_of r.outcome)
 IsRunText on r (facts.Cost c) text =
     text ≡ costs_text (verdict_of r.outcome) c r.words.costs.schedule r.words.costs.lines ++ outcome_text r
 IsRunText on r (facts.Steps entries) text = AreStepsText r.words.svg r.words.html on r (map entry_is entries.items) text
@@ -72,7 +83,8 @@ IsTextOf on (found.Expanded s) text = text ≡ text_in s
 IsTextOf on (found.Planned code) text = text ≡ spelling code
 IsTextOf on (found.Compared c) text = text ≡ comparison_text c
 IsTextOf on (found.Run r) text = IsRunText on r r.facts text
-IsTextOf on (found.Executed c) text = text ≡ shown c.code.layout (verdict_of c.outcome)
+IsTextOf on (found.Swept s) text = text ≡ swept_text s.svg s.csv s
+IsTextOf on (found.Executed c) text = text ≡ shown_by c.shown c.code.layout (verdict_of c.outcome)
 
 -- only a page is put together before it is written
 abbrev pub IsAPage : (svg html : Bool) → Type 0

@@ -14,6 +14,7 @@ use diagnoses::{
     Reason, run_reason, write_fault_sentence, write_refused_line, write_run_fault,
     write_stop_diagnosis,
 };
+use itoa::Buffer;
 use pram_check::Program;
 use std::alloc::Global;
 use text_out::{Out, WriteFault};
@@ -72,6 +73,28 @@ fn say_run_fault<E: Out>(alloc: Global, err: &mut E, run: &FoundRun<'_>, fault: 
     }
 }
 
+fn write_bound<E: Out>(err: &mut E, bound: u32) -> Result<(), WriteFault>
+    requires err { (E.Out.state err.old).failures < 2 ^ 62 }
+    ensures written { Writes (E.Out.state err.old) (E.Out.state err.new) (spec.bound_sentence bound) result }
+{
+    let mut digits = Buffer::new();
+    err.write_parts(&[
+        b"the run met its bound of ",
+        digits.format(bound).as_bytes(),
+        b" statements: --bound N gives it others\n",
+    ])
+}
+
+// Writes that a run met its bound.
+fn say_bound<E: Out>(err: &mut E, bound: u32)
+    requires err { (E.Out.state err.old).failures < 2 ^ 62 }
+    ensures written { IsReported (E.Out.state err.old) (E.Out.state err.new) (spec.bound_sentence bound) }
+{
+    if write_bound(err, bound).is_ok() {
+        let _ = err.flush();
+    }
+}
+
 fn explain_run<E: Out>(alloc: Global, err: &mut E, run: &FoundRun<'_>, explains: bool)
     requires err { (E.Out.state err.old).failures < 2 ^ 62 }
     ensures left { spec.IsRunExplained explains run.now run.now.outcome (E.Out.state err.old) (E.Out.state err.new) }
@@ -81,13 +104,13 @@ fn explain_run<E: Out>(alloc: Global, err: &mut E, run: &FoundRun<'_>, explains:
     }
     match &run.outcome {
         Outcome::Ended { .. } => {}
-        Outcome::GoesOn { .. } => {}
+        Outcome::GoesOn { .. } => say_bound(err, run.words.options.bound),
         Outcome::Faulted { fault, .. } => say_run_fault(alloc, err, run, fault),
     }
 }
 
 // Writes what is said of the fault of code.
-fn say_code_fault<E: Out>(alloc: Global, err: &mut E, run: &FoundCode, fault: &Fault)
+fn say_code_fault<E: Out>(alloc: Global, err: &mut E, run: &FoundCode<'_>, fault: &Fault)
     requires err { (E.Out.state err.old).failures < 2 ^ 62 }
     ensures written { IsReported (E.Out.state err.old) (E.Out.state err.new) (fault_sentence run.now.code.layout fault.now unknown) }
 {
@@ -97,7 +120,7 @@ fn say_code_fault<E: Out>(alloc: Global, err: &mut E, run: &FoundCode, fault: &F
     }
 }
 
-fn explain_code<E: Out>(alloc: Global, err: &mut E, run: &FoundCode, explains: bool)
+fn explain_code<E: Out>(alloc: Global, err: &mut E, run: &FoundCode<'_>, explains: bool)
     requires err { (E.Out.state err.old).failures < 2 ^ 62 }
     ensures left { spec.IsCodeExplained explains run.now run.now.outcome (E.Out.state err.old) (E.Out.state err.new) }
 {
@@ -125,5 +148,6 @@ pub(crate) fn explain<E: Out>(alloc: Global, err: &mut E, found: &Found<'_>, exp
         Found::Expanded(_) => {}
         Found::Planned(_) => {}
         Found::Compared(_) => {}
+        Found::Swept(_) => {}
     }
 }

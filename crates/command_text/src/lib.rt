@@ -4,6 +4,7 @@
 mod answering;
 mod explaining;
 mod stepping;
+mod sweeping;
 mod telling;
 mod terminal;
 mod writing;

@@ -2,17 +2,18 @@
 
 ghost use Rattle.std.specs.Prelude.{◌<◌, ◌^◌};
 ghost use Rattle.program_texts.specs.Status.{status_of};
-ghost use Rattle.command_facts.specs.Found.{status_of_found};
+ghost use Rattle.command_facts.specs.Calls.{status_of_found};
 ghost use Rattle.command_facts.specs.Written.{Wrote, WroteSome};
 ghost use Rattle.command_text.specs.Texts as spec;
 
 use crate::stepping::write_steps_of;
+use crate::sweeping::write_swept;
 use crate::terminal::Terminal;
 use crate::writing::{
     write_accepted, write_costs, write_drawn, write_exchanges, write_outcome, write_plan,
     write_rules, write_subject, write_text, write_version,
 };
-use command_facts::{Facts, Found, FoundRun};
+use command_facts::{Facts, Found, FoundRun, status_of};
 use exchange_counts::Counts;
 use program_texts::{Status, Stop};
 use std::alloc::Global;
@@ -49,7 +50,7 @@ fn write_run<'a, O: Out>(
 {
     let layout = run.loaded.program.layout();
     match &run.facts {
-        Facts::Nothing => write_outcome(out, layout, &run.outcome),
+        Facts::Nothing => write_outcome(out, layout, &run.outcome, run.words.shown),
         Facts::Cost(cost) => write_costs(out, layout, &run.outcome, cost, run.words.costs),
         Facts::Exchanges(counts) => write_counts(out, &run.outcome, counts, run.words.svg),
         Facts::Steps(entries) => write_steps_of(alloc, on, run, entries, out),
@@ -75,6 +76,9 @@ pub(crate) fn write_found<'a, O: Out>(
         Found::Planned(code) => write_plan(out, code.code()),
         Found::Compared(comparison) => write_rules(out, comparison),
         Found::Run(run) => write_run(alloc, on, run, out),
-        Found::Executed(run) => write_outcome(out, run.code.code().layout(), &run.outcome),
+        Found::Swept(swept) => write_swept(out, swept, status_of(found)),
+        Found::Executed(run) => {
+            write_outcome(out, run.code.code().layout(), &run.outcome, run.shown)
+        }
     }
 }

@@ -6,6 +6,7 @@ ghost use Rattle.write_rules.specs.Verdict.{verdict_of};
 ghost use Rattle.program_texts.specs.Shown.{shown};
 ghost use Rattle.program_texts.specs.Status.{status_of};
 ghost use Rattle.program_texts.specs.declared.status.Status.TheVariants.{Done};
+ghost use Rattle.memory_texts.specs.Chosen.{shown_by};
 ghost use Rattle.explanations.specs.Explained.{explanation};
 ghost use Rattle.rule_comparison.specs.ComparisonText.{comparison_text};
 ghost use Rattle.superstep_listing.specs.Listing.{spelling};
@@ -20,6 +21,7 @@ use cost_texts::{write_cost, write_lines};
 use exchange_counts::Counts;
 use explanations::{Subject, write_explanation};
 use itoa::Buffer;
+use memory_texts::{Choice, show_chosen};
 use pram_check::Program;
 use pram_trees::Layout;
 use program_texts::{Status, Stop, finish, rule_word, show};
@@ -31,17 +33,18 @@ use tracer::{write_picture, write_trace};
 use work_time::Cost;
 use write_rules::Outcome;
 
-/// Writes an outcome.
+/// Writes an outcome, of its memory what is chosen.
 pub(crate) fn write_outcome<'a, O: Out>(
     out: &mut O,
     layout: &Layout,
     outcome: &Outcome,
+    choice: Choice<'_>,
 ) -> Result<Status, Stop<'a>>
     requires out { (O.Out.state out.old).failures < 2 ^ 62 }
-    ensures written { Wrote (status_of outcome.now) (shown layout.now (verdict_of outcome.now))
+    ensures written { Wrote (status_of outcome.now) (shown_by choice.entry layout.now (verdict_of outcome.now))
         (O.Out.state out.old) (O.Out.state out.new) result }
 {
-    show(layout, outcome, out)?;
+    show_chosen(layout, outcome, choice, out)?;
     finish(out, Status::of(outcome))
 }
 

@@ -36,6 +36,18 @@ pub(crate) const FORMAT: &str = "format";
 
 pub(crate) const SIZE: &str = "size";
 
+pub(crate) const MEMORY: &str = "memory";
+
+pub(crate) const RANDOM: &str = "random";
+
+pub(crate) const SEED: &str = "seed";
+
+pub(crate) const SHOW: &str = "show";
+
+pub(crate) const QUIET: &str = "quiet";
+
+pub(crate) const SWEEP: &str = "sweep";
+
 const EXPLAINED: &str = "explain";
 
 // What the help of a subcommand says.
@@ -123,14 +135,14 @@ const EXEC: Subcommand = Subcommand {
 
 const EXPLAIN: Subcommand = Subcommand {
     name: "explain",
-    about: "Says what a refusal or a fault is, with an example",
-    over: "The number of a refusal, as E6, or the name of a fault, as read-conflict",
+    about: "Says what a refusal, a fault or a command is, with an example",
+    over: "A refusal, as E6, a fault, as read-conflict, a command, or language or options",
     example: "Example: pramc explain E6",
 };
 
-// A subcommand over a word.
+// A subcommand over a word, which may be left out.
 fn over_word<'a>(alloc: Global, words: &Subcommand) -> Result<Command<'a>, AllocError> {
-    let word = Arg::new(alloc, WORD).required(true).help(words.over);
+    let word = Arg::new(alloc, WORD).help(words.over);
     Command::new(alloc, words.name)
         .about(words.about)
         .after_help(words.example)
@@ -187,7 +199,38 @@ fn over_run<'a>(alloc: Global, words: &Subcommand) -> Result<Command<'a>, AllocE
         .long(INPUT)
         .value_name("FILE")
         .help("A file with the values of the first cells");
-    over_file(alloc, words)?.arg(bound)?.arg(input)
+    let memory = Arg::new(alloc, MEMORY)
+        .long(MEMORY)
+        .value_name("FILE")
+        .help("A file with values of cells by their names, as a[1..4] = 4 3 2 1");
+    let random = Arg::new(alloc, RANDOM)
+        .long(RANDOM)
+        .value_name("LO..HI")
+        .allow_hyphen_values(true)
+        .help("Draws the values of all cells from this interval");
+    let seed = Arg::new(alloc, SEED)
+        .long(SEED)
+        .value_name("S")
+        .help("Of two draws with one seed all values are the same; 1 where none is given");
+    over_file(alloc, words)?
+        .arg(bound)?
+        .arg(input)?
+        .arg(memory)?
+        .arg(random)?
+        .arg(seed)
+}
+
+// With the choice of what is written of the memory.
+fn shown<'a>(alloc: Global, command: Command<'a>) -> Result<Command<'a>, AllocError> {
+    let show = Arg::new(alloc, SHOW)
+        .long(SHOW)
+        .value_name("NAMES")
+        .help("Writes these shared declarations alone, as a,b");
+    let quiet = Arg::new(alloc, QUIET)
+        .long(QUIET)
+        .action(ArgAction::SetTrue)
+        .help("Writes no memory");
+    command.arg(show)?.arg(quiet)
 }
 
 // A subcommand that counts what a run costs.
@@ -200,7 +243,19 @@ fn over_cost<'a>(alloc: Global, words: &Subcommand) -> Result<Command<'a>, Alloc
         .long(LINES)
         .action(ArgAction::SetTrue)
         .help("Counts for each line of the program too");
-    over_run(alloc, words)?.arg(schedule)?.arg(lines)
+    let sweep = Arg::new(alloc, SWEEP)
+        .long(SWEEP)
+        .value_name("NAME=SIZES")
+        .help("Counts at each size, as n=4,8,16 or n=4..64*2 or n=10..50+10; --format csv makes a table");
+    let svg = Arg::new(alloc, SVG)
+        .long(SVG)
+        .action(ArgAction::SetTrue)
+        .help("Draws time and work against the sizes of a sweep, as SVG");
+    over_run(alloc, words)?
+        .arg(schedule)?
+        .arg(lines)?
+        .arg(sweep)?
+        .arg(svg)
 }
 
 // A subcommand that tells a run statement by statement.
@@ -274,13 +329,13 @@ pub(crate) fn grammar<'a>(alloc: Global) -> Result<Command<'a>, AllocError> {
         .bin_name("pramc")?
         .subcommand(of_program(alloc, over_file(alloc, &CHECK)?)?)?
         .subcommand(sized(alloc, over_file(alloc, &PLAN)?)?)?
-        .subcommand(of_program(alloc, over_run(alloc, &MEANING)?)?)?
+        .subcommand(of_program(alloc, shown(alloc, over_run(alloc, &MEANING)?)?)?)?
         .subcommand(of_program(alloc, over_cost(alloc, &COST)?)?)?
         .subcommand(of_program(alloc, over_steps(alloc, &STEPS)?)?)?
         .subcommand(of_program(alloc, over_run(alloc, &RULES)?)?)?
-        .subcommand(of_program(alloc, over_workers(alloc, &RUN)?)?)?
+        .subcommand(of_program(alloc, shown(alloc, over_workers(alloc, &RUN)?)?)?)?
         .subcommand(of_program(alloc, over_trace(alloc, &TRACE)?)?)?
         .subcommand(sized(alloc, over_file(alloc, &EXPAND)?)?)?
-        .subcommand(over_workers(alloc, &EXEC)?)?
+        .subcommand(shown(alloc, over_workers(alloc, &EXEC)?)?)?
         .subcommand(over_word(alloc, &EXPLAIN)?)
 }

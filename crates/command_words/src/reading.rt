@@ -6,15 +6,18 @@ ghost use Rattle.std.specs.String.{string_bytes};
 ghost use Rattle.command_requests.specs.Words.{AsksForVersion, IsOfWords};
 
 use crate::grammar::{
-    BOUND, FILE, FORMAT, FROM, HTML, INPUT, LINES, LOCALS, MAP, RESERVE, SCHEDULE, SIZE, SVG, TO,
-    WORD, WORKERS, grammar,
+    BOUND, FILE, FORMAT, FROM, HTML, INPUT, LINES, LOCALS, MAP, MEMORY, QUIET, RANDOM, RESERVE,
+    SCHEDULE, SEED, SHOW, SIZE, SVG, SWEEP, TO, WORD, WORKERS, grammar,
 };
 use clap::ArgMatches;
 use clap::error::ErrorKind;
 use command_requests::{
-    CostWords, ProgramFile, Request, RunWords, StepWords, Verb, asks_for_version,
+    CostWords, Opening, ProgramFile, Request, RunWords, SizeWord, StepWords, SweepWords, Verb,
+    asks_for_version,
 };
+use drawn_inputs::{Drawing, read_interval};
 use explanations::subject_of;
+use memory_texts::Choice;
 use program_texts::{Refusal, Stop};
 use run_options::{MapChoice, Options, Reserve, read_map, read_number, read_pair};
 use std::alloc::{AllocError, Global};
@@ -90,6 +93,64 @@ fn step_words<'a>(words: &ArgMatches<'a>) -> Result<StepWords, Stop<'a>>
     Ok(StepWords { from, to, locals })
 }
 
+// The seed, and 1 where the command line has none.
+fn seed_of<'a>(words: &ArgMatches<'a>) -> Result<u64, Stop<'a>>
+    ensures { IfErr result IsOfWords }
+{
+    match words.get_str(SEED) {
+        None => Ok(1),
+        Some(word) => match read_number(word) {
+            Some(seed) => Ok(u64::from(seed)),
+            None => Err(Stop::Number(word)),
+        },
+    }
+}
+
+// Numbers of an interval, by the seed.
+fn drawing_of<'a>(words: &ArgMatches<'a>, interval: &'a str) -> Result<Opening<'a>, Stop<'a>>
+    ensures { IfErr result IsOfWords }
+{
+    let seed = seed_of(words)?;
+    match read_interval(interval) {
+        Some((low, high)) => Ok(Opening::Drawn(Drawing { low, high, seed })),
+        None => Err(Stop::Number(interval)),
+    }
+}
+
+// What the cells hold: an input, a memory or numbers that are drawn, and no two of these.
+fn opening_of<'a>(words: &ArgMatches<'a>) -> Result<Opening<'a>, Stop<'a>>
+    ensures { IfErr result IsOfWords }
+{
+    let (input, memory, random) = (
+        words.get_str(INPUT),
+        words.get_str(MEMORY),
+        words.get_str(RANDOM),
+    );
+    if random.is_none() && words.get_str(SEED).is_some() {
+        return Err(Stop::Number("--seed"));
+    }
+    match (input, memory, random) {
+        (None, None, None) => Ok(Opening::Zeros),
+        (Some(name), None, None) => Ok(Opening::Input(name)),
+        (None, Some(name), None) => Ok(Opening::Memory(name)),
+        (None, None, Some(interval)) => drawing_of(words, interval),
+        (_, Some(_), _) => Err(Stop::Number("--memory")),
+        (_, _, _) => Err(Stop::Number("--random")),
+    }
+}
+
+// What is written of the memory.
+fn choice_of<'a>(words: &ArgMatches<'a>) -> Result<Choice<'a>, Stop<'a>>
+    ensures { IfErr result IsOfWords }
+{
+    match (words.get_str(SHOW), words.get_flag(QUIET)) {
+        (None, false) => Ok(Choice::All),
+        (None, true) => Ok(Choice::Nothing),
+        (Some(names), false) => Ok(Choice::Named(names)),
+        (Some(_), true) => Err(Stop::Number("--quiet")),
+    }
+}
+
 fn run_words<'a>(words: &ArgMatches<'a>) -> Result<RunWords<'a>, Stop<'a>>
     ensures { IfErr result IsOfWords }
 {
@@ -99,8 +160,10 @@ fn run_words<'a>(words: &ArgMatches<'a>) -> Result<RunWords<'a>, Stop<'a>>
     let reserve = reserve_of(words)?;
     let costs = cost_words(words)?;
     let steps = step_words(words)?;
+    let opening = opening_of(words)?;
+    let shown = choice_of(words)?;
     Ok(RunWords {
-        input: words.get_str(INPUT),
+        opening,
         options: Options {
             workers,
             map,
@@ -111,49 +174,113 @@ fn run_words<'a>(words: &ArgMatches<'a>) -> Result<RunWords<'a>, Stop<'a>>
         steps,
         svg: words.get_flag(SVG),
         html: words.get_flag(HTML),
+        shown,
     })
 }
 
-// The format is one that there is, nothing is drawn or made a page in JSON, and a page isn't drawn. Whether it is JSON `asks_for_json` says.
-fn check_format<'a>(words: &ArgMatches<'a>) -> Result<(), Stop<'a>>
+// How something is told. Whether it is JSON `asks_for_json` says.
+#[derive(Clone, Copy, PartialEq, Eq)]
+enum Format {
+    Text,
+    Json,
+    Csv,
+}
+
+fn format_of<'a>(words: &ArgMatches<'a>) -> Result<Format, Stop<'a>>
     ensures { IfErr result IsOfWords }
 {
-    let json = match words.get_str(FORMAT) {
-        None | Some("text") => false,
-        Some("json") => true,
-        Some(word) => return Err(Stop::Number(word)),
-    };
+    match words.get_str(FORMAT) {
+        None | Some("text") => Ok(Format::Text),
+        Some("json") => Ok(Format::Json),
+        Some("csv") => Ok(Format::Csv),
+        Some(word) => Err(Stop::Number(word)),
+    }
+}
+
+// Nothing is drawn or made a page in another format than text, and a page isn't drawn. Of a sweep alone there are values separated by commas.
+fn check_format<'a>(words: &ArgMatches<'a>, sweeps: bool) -> Result<bool, Stop<'a>>
+    ensures { IfErr result IsOfWords }
+{
+    let format = format_of(words)?;
     let svg = words.get_flag(SVG);
-    if words.get_flag(HTML) && (json || svg) {
+    if words.get_flag(HTML) && (format != Format::Text || svg) {
         return Err(Stop::Number("--html"));
     }
-    if json && svg {
+    if format != Format::Text && svg {
         return Err(Stop::Number("--svg"));
     }
-    Ok(())
+    if format == Format::Csv && !sweeps {
+        return Err(Stop::Number("csv"));
+    }
+    Ok(format == Format::Csv)
 }
 
 // The words that give sizes, in their order.
-fn size_words<'a>(alloc: Global, matches: &ArgMatches<'a>) -> Result<Vec<&'a str>, AllocError> {
+fn size_words<'a>(
+    alloc: Global,
+    matches: &ArgMatches<'a>,
+) -> Result<Vec<SizeWord<'a>>, AllocError> {
     let mut sizes = Vec::new(alloc);
     if let Some(words) = matches.get_strs(SIZE) {
         for word in words {
-            sizes.push(*word)?;
+            sizes.push(SizeWord::Given(*word))?;
         }
     }
     Ok(sizes)
 }
 
+fn file_of<'a>(alloc: Global, matches: &ArgMatches<'a>) -> Result<ProgramFile<'a>, AllocError> {
+    let name = matches.get_str(FILE).unwrap_or("");
+    let sizes = size_words(alloc, matches)?;
+    Ok(ProgramFile { name, sizes })
+}
+
 fn asked<'a>(alloc: Global, verb: Verb, matches: &ArgMatches<'a>) -> Result<Request<'a>, Stop<'a>>
     ensures { IfErr result IsOfWords }
 {
-    check_format(matches)?;
+    check_format(matches, false)?;
     let words = run_words(matches)?;
-    let file = ProgramFile {
-        name: matches.get_str(FILE).unwrap_or(""),
-        sizes: size_words(alloc, matches)?,
-    };
+    let file = file_of(alloc, matches)?;
     Ok(Request::Program { verb, file, words })
+}
+
+// Costs at several sizes: neither rounds nor lines are told of them.
+fn asked_sweep<'a>(
+    alloc: Global,
+    word: &'a str,
+    matches: &ArgMatches<'a>,
+) -> Result<Request<'a>, Stop<'a>>
+    ensures { IfErr result IsOfWords }
+{
+    if matches.get_str(SCHEDULE).is_some() {
+        return Err(Stop::Number("--schedule"));
+    }
+    if matches.get_flag(LINES) {
+        return Err(Stop::Number("--lines"));
+    }
+    let csv = check_format(matches, true)?;
+    let words = run_words(matches)?;
+    let file = file_of(alloc, matches)?;
+    Ok(Request::Sweep {
+        file,
+        sweep: SweepWords { word, csv },
+        words,
+    })
+}
+
+// Costs are drawn at several sizes alone.
+fn asked_costs<'a>(alloc: Global, matches: &ArgMatches<'a>) -> Result<Request<'a>, Stop<'a>>
+    ensures { IfErr result IsOfWords }
+{
+    match matches.get_str(SWEEP) {
+        Some(word) => asked_sweep(alloc, word, matches),
+        None => {
+            if matches.get_flag(SVG) {
+                return Err(Stop::Number("--svg"));
+            }
+            asked(alloc, Verb::Cost, matches)
+        }
+    }
 }
 
 fn asked_listing<'a>(matches: &ArgMatches<'a>) -> Result<Request<'a>, Stop<'a>>
@@ -167,6 +294,7 @@ fn asked_listing<'a>(matches: &ArgMatches<'a>) -> Result<Request<'a>, Stop<'a>>
 fn asked_subject<'a>(matches: &ArgMatches<'a>) -> Result<Request<'a>, Stop<'a>>
     ensures { IfErr result IsOfWords }
 {
+    // Without a word all is meant, as the empty word does.
     let word = matches.get_str(WORD).unwrap_or("");
     match subject_of(word) {
         Some(subject) => Ok(Request::Explanation(subject)),
@@ -214,7 +342,7 @@ pub fn read_words<'a>(alloc: Global, words: &'a [String]) -> Result<Request<'a>,
         Some(("check", inner)) => asked(alloc, Verb::Check, inner),
         Some(("plan", inner)) => asked(alloc, Verb::Plan, inner),
         Some(("meaning", inner)) => asked(alloc, Verb::Meaning, inner),
-        Some(("cost", inner)) => asked(alloc, Verb::Cost, inner),
+        Some(("cost", inner)) => asked_costs(alloc, inner),
         Some(("steps", inner)) => asked(alloc, Verb::Steps, inner),
         Some(("rules", inner)) => asked(alloc, Verb::Rules, inner),
         Some(("run", inner)) => asked(alloc, Verb::Run, inner),

@@ -15,7 +15,7 @@ use Rattle.diagnoses.specs.declared.source.Kind.{Kind}
 use Rattle.diagnoses.specs.declared.source.Kind.TheVariants as kind
 use Rattle.diagnoses.specs.declared.source.Source.{Source}
 use Rattle.diagnoses.specs.Places.{quoted, token_at}
-use Rattle.diagnoses.specs.Remarks.{Remark, Nothing, Nearest, Declared, Expected}
+use Rattle.diagnoses.specs.Remarks.{Remark, Nothing, Nearest, Declared, Elsewhere, Expected}
 use Rattle.diagnoses.specs.Sources.{spot_as_it_stands, text_in}
 
 abbrev pub sort_text : Sort → List ℕ
@@ -29,7 +29,7 @@ sort_text sort.Local = codes "a local of a pardo"
 abbrev pub kind_reason : Sort → List ℕ
 kind_reason sort.Cell = codes "it has no subscript, and no for runs over it\n"
 kind_reason sort.Array = codes "it wants a subscript, and no for runs over it\n"
-kind_reason sort.Variable = codes "it has no subscript, and is not set inside pardo\n"
+kind_reason sort.Variable = codes "it has no subscript, and inside pardo a local or a shared cell is set, and no variable\n"
 kind_reason sort.Index = codes "it has no subscript\n"
 kind_reason sort.Local = codes "it has no subscript\n"
 
@@ -43,7 +43,7 @@ loop_reason sort.Local = codes "it is not set here\n"
 
 abbrev pub reason : Cause → Sort → List ℕ
 reason cause.UnknownName s = codes "it is not in scope here\n"
-reason cause.DoubleName s = codes "it can't be declared again here\n"
+reason cause.DoubleName s = codes "it can't be declared again here, and a pardo declares its index\n"
 reason cause.WrongKind s = kind_reason s
 reason cause.AssignedLoopVariable s = loop_reason s
 reason (cause.Limit l) s = codes "it passes a limit\n"
@@ -51,7 +51,7 @@ reason (cause.Limit l) s = codes "it passes a limit\n"
 -- what is said behind a word of which no more is known
 abbrev pub wrong_kind : List ℕ → List ℕ
 wrong_kind word =
-    if is_one_of (codes "print" ∷ codes "for" ∷ []) word then codes " has no place inside pardo: there is no print, no for and no pardo in it\n"
+    if is_one_of (codes "print" ∷ codes "for" ∷ []) word then codes " has no place inside pardo: print behind it, loop in it by while and a local, and run over pairs by one range\n"
     else codes " is of another kind than what may stand here\n"
 
 abbrev pub bare : List ℕ → Cause → List ℕ
@@ -66,18 +66,24 @@ abbrev pub declared_text : Cause → Sort → ℕ → List ℕ
 declared_text c s line =
     codes " is " ++ (sort_text s ++ (codes ", declared at line " ++ (decimal line ++ (codes ": " ++ reason c s))))
 
+-- as what and where it is declared in a pardo, and that it holds there alone
+abbrev pub elsewhere_text : Sort → ℕ → List ℕ
+elsewhere_text s line =
+    codes " is " ++ (sort_text s ++ (codes ", declared at line " ++ (decimal line ++ codes ": it holds in the body of that pardo alone\n")))
+
 -- what is said behind the word
 abbrev pub remarked : List ℕ → Cause → Remark → List ℕ
 remarked word c Nothing = bare word c
 remarked word c (Nearest name) = codes " is not declared here; did you mean \"" ++ (name ++ codes "\"?\n")
 remarked word c (Declared s line) = declared_text c s line
+remarked word c (Elsewhere s line) = elsewhere_text s line
 remarked word c (Expected found hint) = bare word c
 
 abbrev pub limit_sentence : Limit → List ℕ
 limit_sentence limit.Cells = codes "with this the program has more than 1048576 shared cells, the most that there may be\n"
 limit_sentence limit.Procs = codes "procs is a number from 1 to 16384\n"
 limit_sentence limit.Bounds = codes "the first bound of an array is at most its last\n"
-limit_sentence limit.Reads = codes "this is the ninth shared read of the statement, which has at most 8\n"
+limit_sentence limit.Reads = codes "this is the ninth shared read of the statement, which has at most 8: split it in two\n"
 limit_sentence limit.Tokens = codes "a program has at most 16384 tokens\n"
 
 abbrev pub named_sentence : List ℕ → Cause → Remark → List ℕ

@@ -7,6 +7,7 @@ use Rattle.pram_names.specs.declared.fault.Spot.{Spot}
 use Rattle.pram_names.specs.declared.fault.Spot.TheVariants as spot
 use Rattle.pram_names.specs.declared.fault.Breach.{Breach}
 use Rattle.pram_trees.specs.Program.{ProgramTree}
+use Rattle.scope_names.specs.Bound.{bound_in}
 use Rattle.scope_names.specs.InScope.{Known, names_at}
 use Rattle.scope_names.specs.Nearness.{named, nearest}
 use Rattle.scope_names.specs.declared.known.Sort.{Sort}
@@ -22,12 +23,14 @@ pub data Remark : Type 0 where
   Nothing : Remark
   Nearest : List ℕ → Remark
   Declared : Sort → ℕ → Remark
+  Elsewhere : Sort → ℕ → Remark
   Expected : List Choice → Hint → Remark
 
 abbrev pub remark_is : rust.Remark.Remark → Remark
 remark_is variant.Nothing = Nothing
 remark_is (variant.Nearest name) = Nearest name.items
 remark_is (variant.Declared s line) = Declared s line
+remark_is (variant.Elsewhere s line) = Elsewhere s line
 remark_is (variant.Expected found hint) = Expected found.items hint
 
 -- the name that was meant, if there is one
@@ -40,18 +43,23 @@ abbrev pub declared : Option Known → Remark
 declared None = Nothing
 declared (Some k) = Declared k.sort k.line
 
--- of an unknown name the nearest one in scope, and of any other as what and where it is declared; of a limit nothing
-abbrev pub remark_on : List Known → List ℕ → Cause → Remark
-remark_on names word cause.UnknownName = meant (nearest names word)
-remark_on names word cause.DoubleName = declared (named names word)
-remark_on names word cause.WrongKind = declared (named names word)
-remark_on names word cause.AssignedLoopVariable = declared (named names word)
-remark_on names word (cause.Limit l) = Nothing
+-- of a name that isn't in scope the pardo in whose body it holds, and else the name that was meant
+abbrev pub unknown : (bound near : Option Known) → Remark
+unknown (Some k) near = Elsewhere k.sort k.line
+unknown None near = meant near
+
+-- of an unknown name that, and of any other as what and where it is declared; of a limit nothing
+abbrev pub remark_on : (bound : Option Known) → List Known → List ℕ → Cause → Remark
+remark_on bound names word cause.UnknownName = unknown bound (nearest names word)
+remark_on bound names word cause.DoubleName = declared (named names word)
+remark_on bound names word cause.WrongKind = declared (named names word)
+remark_on bound names word cause.AssignedLoopVariable = declared (named names word)
+remark_on bound names word (cause.Limit l) = Nothing
 
 -- what there is to say of the first thing that is wrong with a program
 abbrev pub remark_at : (text : List ℕ) → ProgramTree → Spot → Cause → Remark
 remark_at text tree spot.TextEnd c = Nothing
-remark_at text tree (spot.Offset at) c = remark_on (names_at tree at) (token_at text at) c
+remark_at text tree (spot.Offset at) c = remark_on (bound_in tree (token_at text at)) (names_at tree at) (token_at text at) c
 
 abbrev pub remark_of : (text : List ℕ) → ProgramTree → Breach → Remark
 remark_of text tree b = remark_at text tree b.spot b.cause

@@ -36,7 +36,7 @@ of_program b (about.Line s line) r = []
 of_program b (about.Values values cells) r = []
 
 abbrev pub too_many : (values cells : ℕ) → List ℕ
-too_many values cells = codes "the input has " ++ (decimal values ++ (codes " values, and the shared cells are " ++ (decimal cells ++ codes "\n")))
+too_many values cells = codes "there are " ++ (decimal values ++ (codes " values, and the cells for them are " ++ (decimal cells ++ codes "\n")))
 
 -- an input that is too long
 abbrev pub of_input : About → List ℕ

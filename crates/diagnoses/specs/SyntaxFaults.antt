@@ -11,7 +11,7 @@ use Rattle.syntax_hints.specs.declared.hint.Hint.{Hint}
 use Rattle.syntax_hints.specs.declared.hint.Hint.TheVariants as hint
 use Rattle.diagnoses.specs.declared.source.Source.{Source}
 use Rattle.diagnoses.specs.Places.{quoted, token_at}
-use Rattle.diagnoses.specs.Remarks.{Remark, Nothing, Nearest, Declared, Expected}
+use Rattle.diagnoses.specs.Remarks.{Remark, Nothing, Nearest, Declared, Elsewhere, Expected}
 use Rattle.diagnoses.specs.Sources.{origin, text_in}
 
 -- ---- what could stand there
@@ -30,6 +30,7 @@ abbrev pub expected : Remark → List ℕ
 expected Nothing = []
 expected (Nearest name) = []
 expected (Declared sort line) = []
+expected (Elsewhere sort line) = []
 expected (Expected found hint) = could_stand found
 
 abbrev pub bare_end : List ℕ
@@ -43,6 +44,7 @@ abbrev pub ended : Remark → List ℕ
 ended Nothing = bare_end
 ended (Nearest name) = bare_end
 ended (Declared sort line) = bare_end
+ended (Elsewhere sort line) = bare_end
 ended (Expected found hint) = open_end found
 
 -- a token with which no program goes on, and what could stand in its place
@@ -97,6 +99,18 @@ open_block s word begins = open_sentence word (line_in s begins) ++ excerpt_in s
 abbrev pub of_open : Source → ℕ → List ℕ → ℕ → List ℕ
 of_open s at word begins = excerpt_in s at ++ open_block s word begins
 
+abbrev pub taken_sentence : List ℕ → (line by : ℕ) → List ℕ
+taken_sentence word line by =
+    codes "the text ends here, and the program has no \"end\": that of line " ++ (decimal by ++ (codes " ends the \"" ++ (word
+    ++ (codes "\" of line " ++ (decimal line ++ codes ":\n")))))
+
+abbrev pub taken_block : Source → List ℕ → (begins by : ℕ) → List ℕ
+taken_block s word begins by = taken_sentence word (line_in s begins) (line_in s by) ++ excerpt_in s begins
+
+-- the end of the text within the program, whose last `end` ends a block that begins there
+abbrev pub of_taken : Source → ℕ → List ℕ → (begins by : ℕ) → List ℕ
+of_taken s at word begins by = excerpt_in s at ++ taken_block s word begins by
+
 abbrev pub ended_line : ℕ → List ℕ
 ended_line line = codes " can't stand here: the program ended at line " ++ (decimal line ++ codes ":\n")
 
@@ -116,6 +130,7 @@ hinted s at r (hint.Habit h place) = of_habit s place h
 hinted s at r (hint.Missing k behind) = of_missing s k behind
 hinted s at r (hint.Open o begins) = of_open s at (opening_text o) begins
 hinted s at r (hint.OpenProgram begins) = of_open s at (codes "begin") begins
+hinted s at r (hint.Taken o begins by) = of_taken s at (opening_text o) begins by
 hinted s at r (hint.Ended ends) = of_ended s at ends
 
 abbrev pub hint_of : Remark → Hint

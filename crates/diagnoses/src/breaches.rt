@@ -34,7 +34,7 @@ fn kind_reason(sort: Sort) -> &'static [u8]
     match sort {
         Sort::Cell => b"it has no subscript, and no for runs over it\n",
         Sort::Array => b"it wants a subscript, and no for runs over it\n",
-        Sort::Variable => b"it has no subscript, and is not set inside pardo\n",
+        Sort::Variable => b"it has no subscript, and inside pardo a local or a shared cell is set, and no variable\n",
         Sort::Index => b"it has no subscript\n",
         Sort::Local => b"it has no subscript\n",
     }
@@ -57,7 +57,7 @@ fn reason(cause: Cause, sort: Sort) -> &'static [u8]
 {
     match cause {
         Cause::UnknownName => b"it is not in scope here\n",
-        Cause::DoubleName => b"it can't be declared again here\n",
+        Cause::DoubleName => b"it can't be declared again here, and a pardo declares its index\n",
         Cause::WrongKind => kind_reason(sort),
         Cause::AssignedLoopVariable => loop_reason(sort),
         Cause::Limit(_) => b"it passes a limit\n",
@@ -69,7 +69,7 @@ fn wrong_kind(word: &[u8]) -> &'static [u8]
 {
     match word {
         b"print" | b"for" => {
-            b" has no place inside pardo: there is no print, no for and no pardo in it\n"
+            b" has no place inside pardo: print behind it, loop in it by while and a local, and run over pairs by one range\n"
         }
         _ => b" is of another kind than what may stand here\n",
     }
@@ -107,6 +107,20 @@ fn write_declared<W: Out>(
     ])
 }
 
+fn write_elsewhere<W: Out>(out: &mut W, sort: Sort, line: u32) -> Result<(), WriteFault>
+    requires counted { (W.Out.state out.old).failures < 2 ^ 63 }
+    ensures written { Writes (W.Out.state out.old) (W.Out.state out.new) (spec.elsewhere_text sort line) result }
+{
+    let mut digits = Buffer::new();
+    out.write_parts(&[
+        b" is ",
+        sort_text(sort),
+        b", declared at line ",
+        digits.format(line).as_bytes(),
+        b": it holds in the body of that pardo alone\n",
+    ])
+}
+
 // What is said behind the word.
 fn write_remarked<W: Out>(
     out: &mut W,
@@ -125,6 +139,7 @@ fn write_remarked<W: Out>(
             b"\"?\n",
         ]),
         Remark::Declared(sort, line) => write_declared(out, cause, *sort, *line),
+        Remark::Elsewhere(sort, line) => write_elsewhere(out, *sort, *line),
         Remark::Expected(_, _) => out.write_all(bare(word, cause)),
     }
 }
@@ -138,7 +153,7 @@ fn limit_sentence(limit: Limit) -> &'static [u8]
         }
         Limit::Procs => b"procs is a number from 1 to 16384\n",
         Limit::Bounds => b"the first bound of an array is at most its last\n",
-        Limit::Reads => b"this is the ninth shared read of the statement, which has at most 8\n",
+        Limit::Reads => b"this is the ninth shared read of the statement, which has at most 8: split it in two\n",
         Limit::Tokens => b"a program has at most 16384 tokens\n",
     }
 }

@@ -7,7 +7,7 @@ ghost use Rattle.std.specs.Option.{option_map};
 ghost use Rattle.pram_trees.specs.Program.{ProgramTree};
 ghost use Rattle.pram_trees.specs.Text.{IsTextOf};
 ghost use Rattle.scope_names.specs.InScope.{known_is};
-ghost use Rattle.scope_names.specs.InScope as scope;
+ghost use Rattle.scope_names.specs.Nearness as near;
 ghost use Rattle.diagnoses.specs.Remarks as spec;
 
 use crate::places::{front, token_at};
@@ -15,7 +15,7 @@ use pram_check::{Breach, Cause, Spot};
 use pram_parser::parse;
 use pram_tokens::LONGEST;
 use pram_trees::Tree;
-use scope_names::{Known, Sort, find, names_at, nearest};
+use scope_names::{Known, Sort, bound_in, find, names_at, nearest};
 use std::alloc::{AllocError, Global};
 use syntax_hints::{Hint, hint_at};
 use token_choices::{Choice, choices_behind};
@@ -29,6 +29,8 @@ pub enum Remark {
     Nearest(Vec<u8>),
     /// As what the name is declared, and on which line.
     Declared(Sort, u32),
+    /// As what the name is declared in a pardo, and on which line, but not where it stands.
+    Elsewhere(Sort, u32),
     /// These kinds of tokens could stand there, and what else there is to say of the place.
     Expected(Vec<Choice>, Hint),
 }
@@ -53,17 +55,35 @@ fn declared(found: Option<Known<'_>>) -> Remark
     }
 }
 
-// What there is to say of a word by the names in scope.
+// What there is to say of a name that isn't in scope: the pardo in whose body it holds, or else which name was meant.
+fn unknown(
+    alloc: Global,
+    bound: Option<Known<'_>>,
+    names: &[Known<'_>],
+    word: &[u8],
+) -> Result<Remark, AllocError>
+    ensures { IfOk result (λ r. spec.remark_is r
+        ≡ spec.unknown (option_map known_is bound.entry) (near.nearest (map known_is names.now) word.now)) }
+{
+    match bound {
+        Some(k) => Ok(Remark::Elsewhere(k.sort, k.line)),
+        None => meant(alloc, nearest(alloc, names, word)?),
+    }
+}
+
+// What there is to say of a word by the names in scope, and by the one of a pardo that is spelled so.
 fn remark_on(
     alloc: Global,
+    bound: Option<Known<'_>>,
     names: &[Known<'_>],
     word: &[u8],
     cause: Cause,
 ) -> Result<Remark, AllocError>
-    ensures { IfOk result (λ r. spec.remark_is r ≡ spec.remark_on (map known_is names.now) word.now cause) }
+    ensures { IfOk result (λ r. spec.remark_is r
+        ≡ spec.remark_on (option_map known_is bound.entry) (map known_is names.now) word.now cause) }
 {
     match cause {
-        Cause::UnknownName => meant(alloc, nearest(alloc, names, word)?),
+        Cause::UnknownName => unknown(alloc, bound, names, word),
         Cause::DoubleName => Ok(declared(find(names, word))),
         Cause::WrongKind => Ok(declared(find(names, word))),
         Cause::AssignedLoopVariable => Ok(declared(find(names, word))),
@@ -79,7 +99,8 @@ fn remark_in(alloc: Global, text: &[u8], tree: &Tree, breach: Breach) -> Result<
         Spot::TextEnd => Ok(Remark::Nothing),
         Spot::Offset(at) => {
             let names = names_at(alloc, tree, at)?;
-            remark_on(alloc, &names, token_at(text, at as usize), breach.cause)
+            let word = token_at(text, at as usize);
+            remark_on(alloc, bound_in(tree, word), &names, word, breach.cause)
         }
     }
 }

@@ -62,9 +62,9 @@ fn write_too_many<W: Out>(out: &mut W, values: usize, cells: u32) -> Result<(), 
     let mut count = Buffer::new();
     let mut room = Buffer::new();
     out.write_parts(&[
-        b"the input has ",
+        b"there are ",
         count.format(values).as_bytes(),
-        b" values, and the shared cells are ",
+        b" values, and the cells for them are ",
         room.format(cells).as_bytes(),
         b"\n",
     ])

@@ -50,6 +50,7 @@ fn write_expected<W: Out>(out: &mut W, remark: &Remark) -> Result<(), WriteFault
         Remark::Nothing => out.write_all(b""),
         Remark::Nearest(_) => out.write_all(b""),
         Remark::Declared(_, _) => out.write_all(b""),
+        Remark::Elsewhere(_, _) => out.write_all(b""),
     }
 }
 
@@ -78,6 +79,7 @@ fn write_ended<W: Out>(out: &mut W, remark: &Remark) -> Result<(), WriteFault>
         Remark::Nothing => write_bare_end(out),
         Remark::Nearest(_) => write_bare_end(out),
         Remark::Declared(_, _) => write_bare_end(out),
+        Remark::Elsewhere(_, _) => write_bare_end(out),
     }
 }
 
@@ -241,6 +243,58 @@ fn write_open<W: Out>(
     write_open_block(out, source, word, begins)
 }
 
+fn write_taken_sentence<W: Out>(
+    out: &mut W,
+    word: &[u8],
+    line: usize,
+    by: usize,
+) -> Result<(), WriteFault>
+    requires counted { (W.Out.state out.old).failures < 2 ^ 63 }
+    ensures written { Writes (W.Out.state out.old) (W.Out.state out.new) (spec.taken_sentence word.now line by) result }
+{
+    let mut ends = Buffer::new();
+    let mut begins = Buffer::new();
+    out.write_parts(&[
+        b"the text ends here, and the program has no \"end\": that of line ",
+        ends.format(by).as_bytes(),
+        b" ends the \"",
+        word,
+        b"\" of line ",
+        begins.format(line).as_bytes(),
+        b":\n",
+    ])
+}
+
+fn write_taken_block<W: Out>(
+    out: &mut W,
+    source: &Source<'_>,
+    word: &[u8],
+    begins: u32,
+    by: u32,
+) -> Result<(), WriteFault>
+    requires counted { (W.Out.state out.old).failures < 2 ^ 63 }
+    ensures written { Writes (W.Out.state out.old) (W.Out.state out.new) (spec.taken_block source.now word.now begins by) result }
+{
+    write_taken_sentence(out, word, line_in(source, begins), line_in(source, by))?;
+    write_place(out, source, begins)
+}
+
+// The end of the text within the program, whose last `end` ends a block.
+fn write_taken<W: Out>(
+    out: &mut W,
+    source: &Source<'_>,
+    at: u32,
+    word: &[u8],
+    begins: u32,
+    by: u32,
+) -> Result<(), WriteFault>
+    requires counted { (W.Out.state out.old).failures < 2 ^ 63 }
+    ensures written { Writes (W.Out.state out.old) (W.Out.state out.new) (spec.of_taken source.now at word.now begins by) result }
+{
+    write_place(out, source, at)?;
+    write_taken_block(out, source, word, begins, by)
+}
+
 fn write_ended_line<W: Out>(out: &mut W, line: usize) -> Result<(), WriteFault>
     requires counted { (W.Out.state out.old).failures < 2 ^ 63 }
     ensures written { Writes (W.Out.state out.old) (W.Out.state out.new) (spec.ended_line line) result }
@@ -300,6 +354,7 @@ fn hint_of(remark: &Remark) -> Hint
         Remark::Nothing => Hint::Nothing,
         Remark::Nearest(_) => Hint::Nothing,
         Remark::Declared(_, _) => Hint::Nothing,
+        Remark::Elsewhere(_, _) => Hint::Nothing,
     }
 }
 
@@ -323,6 +378,11 @@ pub(crate) fn write_syntax_fault<W: Out>(
             at: begins,
         } => { write_open(out, source, at, opening_text(opening), begins) }
         Hint::OpenProgram { at: begins } => write_open(out, source, at, b"begin", begins),
+        Hint::Taken {
+            opening,
+            at: begins,
+            by,
+        } => write_taken(out, source, at, opening_text(opening), begins, by),
         Hint::Ended { at: ends } => write_ended_program(out, source, at, ends),
     }
 }

@@ -10,10 +10,10 @@ use Rattle.pram_tokens.specs.declared.token.Token.TheVariants as token
 use Rattle.token_choices.specs.declared.choice.Choice.{Choice}
 use Rattle.syntax_hints.specs.declared.blocks.Block.{Block}
 use Rattle.syntax_hints.specs.declared.hint.Hint.{Hint}
-use Rattle.syntax_hints.specs.declared.hint.Hint.TheVariants.{Nothing, Habit, Missing, Open, OpenProgram, Ended}
+use Rattle.syntax_hints.specs.declared.hint.Hint.TheVariants.{Nothing, Habit, Missing, Open, OpenProgram, Taken, Ended}
 use Rattle.syntax_hints.specs.declared.sign.Sign.TheVariants as sign
 use Rattle.syntax_hints.specs.Blocks.{open_blocks}
-use Rattle.syntax_hints.specs.Habits.{habit_of, name_habit}
+use Rattle.syntax_hints.specs.Habits.{before_habit, habit_of}
 use Rattle.syntax_hints.specs.Missing.{IsMissing}
 use Rattle.syntax_hints.specs.Signs.{could}
 
@@ -31,13 +31,30 @@ abbrev pub program_hint : List ℕ → Option ℕ → Hint
 program_hint offsets None = Nothing
 program_hint offsets (Some i) = OpenProgram (slice_index offsets i)
 
+abbrev pub last_of : List Block → Option Block
+last_of blocks = slice_get blocks (length blocks - 1)
+
+abbrev pub is_end : Token → Bool
+is_end (token.Mark mark.End) = true
+is_end _ = false
+
+abbrev pub closed_if : Option Token → List Token → Option Block
+closed_if None front = None
+closed_if (Some t) front = if is_end t then last_of (open_blocks front) else None
+
+-- the block that the last of the tokens closes
+abbrev pub closed_last : List Token → Option Block
+closed_last ts = closed_if (slice_get ts (length ts - 1)) (take (length ts - 1) ts)
+
+-- where the program is open: the block whose `end` may be the program's, or the program itself
+abbrev pub begin_hint : Cut → Option Block → Hint
+begin_hint c (Some b) = Taken b.opening b.at (slice_index c.offsets (length c.tokens - 1))
+begin_hint c None = program_hint c.offsets (position is_begin c.tokens)
+
 -- the innermost open block, or the program's own
 abbrev pub block_hint : Cut → Option Block → Hint
 block_hint c (Some b) = Open b.opening b.at
-block_hint c None = program_hint c.offsets (position is_begin c.tokens)
-
-abbrev pub last_of : List Block → Option Block
-last_of blocks = slice_get blocks (length blocks - 1)
+block_hint c None = begin_hint c (closed_last c.tokens)
 
 -- Where an `end` could stand at the end of the text, a block is open.
 abbrev pub end_hint : Cut → List Choice → Hint
@@ -60,7 +77,7 @@ IsMissingHint c n found _ = ⊥
 abbrev pub known : (before t : Token) → List Choice → (at_before at : ℕ) → Option Hint
 known b t [] at_before at = Some (Ended at_before)
 known b t (k ∷ found) at_before at =
-    option_or (option_map (λ h. Habit h at_before) (name_habit b)) (option_map (λ h. Habit h at) (habit_of b (k ∷ found) t))
+    option_or (option_map (λ h. Habit h at_before) (before_habit b (k ∷ found) t)) (option_map (λ h. Habit h at) (habit_of b (k ∷ found) t))
 
 -- that, and else what is missing
 abbrev pub IsKnownOr : Cut → ℕ → List Choice → Hint → Option Hint → Type 0

@@ -30,6 +30,26 @@ pub enum Habit {
     Call,
     /// A keyword in the place of a name.
     Keyword,
+    /// A name at the front of a statement, with another one behind it.
+    Word,
+    /// A keyword in capitals.
+    Capitals,
+    /// What is no `:=` behind the variable of a `for`.
+    In,
+    /// A `;` behind what needs none.
+    Semicolon,
+    /// A `pardo` behind a `for` that counts.
+    Range,
+    /// A value in a declaration.
+    Value,
+    /// An array with one bound.
+    Bounds,
+    /// A name where a number has to stand.
+    Constant,
+    /// A second subscript.
+    Subscript,
+    /// A comparison whose signs stand the other way round.
+    Order,
 }
 
 /// What is said behind the word or symbol.
@@ -41,7 +61,7 @@ pub fn habit_text(habit: Habit) -> &'static [u8]
             b" is no word of the language: write \"else if\", and an \"end\" for each \"if\"\n",
         Habit::BlockEnd => b" is no word of the language: a block ends with \"end\"\n",
         Habit::Compare => b" can't stand here: one \"=\" compares, and \":=\" assigns\n",
-        Habit::Assign => b" can't stand here: \":=\" assigns\n",
+        Habit::Assign => b" can't stand here: \":=\" assigns, as in x := x + 1\n",
         Habit::Declaration => b" can't stand here: declarations stand before \"begin\"\n",
         Habit::Local => b" can't stand here: locals are declared first in the body of a pardo\n",
         Habit::Do => b" can't stand here: the body begins with \"do\"\n",
@@ -52,5 +72,15 @@ pub fn habit_text(habit: Habit) -> &'static [u8]
         Habit::Call =>
             b" can't stand here: there are no functions, and a subscript stands between [ and ]\n",
         Habit::Keyword => b" is a keyword, and no name\n",
+        Habit::Word => b" is no word of the language: a statement is an assignment, print, while, if or for\n",
+        Habit::Capitals => b" is a name here: keywords have small letters\n",
+        Habit::In => b" can't stand here: a loop is \"for i := 1 to 8 do\", and a pardo \"for 1 <= i <= 8 pardo\"\n",
+        Habit::Semicolon => b" can't stand here: there is none behind \"begin\", \"do\", \"then\", \"else\", \"pardo\" or \"end\", and no two in a row\n",
+        Habit::Range => b" can't stand here: a pardo is written \"for 1 <= i <= 8 pardo\"\n",
+        Habit::Value => b" can't stand here: a declaration has no value, and all begin with 0\n",
+        Habit::Bounds => b" can't stand here: an array has a first and a last subscript, as a[1..8]\n",
+        Habit::Constant => b" can't stand here: a number has to, or with a first line \"# size n = 8\" a size, as {n}\n",
+        Habit::Subscript => b" can't stand here: an array has one subscript\n",
+        Habit::Order => b" can't stand here: the comparisons are \">=\" and \"<=\"\n",
     }
 }

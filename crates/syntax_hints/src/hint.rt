@@ -17,6 +17,8 @@ pub enum Hint {
     Open { opening: Opening, at: u32 },
     /// The text ends within the program, whose `begin` stands there.
     OpenProgram { at: u32 },
+    /// The text ends within the program, and its last token, an `end`, closes the block that begins at `at`.
+    Taken { opening: Opening, at: u32, by: u32 },
     /// The program has ended with the token that stands there.
     Ended { at: u32 },
 }

@@ -10,7 +10,7 @@ use crate::blocks::{Block, open_blocks};
 use crate::hint::Hint;
 use crate::missing::missing_of;
 use crate::sign::{Sign, could};
-use crate::words::{habit_of, name_habit};
+use crate::words::{before_habit, habit_of};
 use pram_tokens::{LexError, Mark, Token, tokenize};
 use std::alloc::{AllocError, Global};
 use token_choices::Choice;
@@ -65,19 +65,6 @@ fn offset_at(offsets: &[u32], i: usize) -> u32
     if i < offsets.len() { offsets[i] } else { 0 }
 }
 
-// The end of a text within the innermost of these blocks, or else within the program.
-fn block_hint(tokens: &[Token], offsets: &[u32], block: Option<Block>) -> Hint
-    ensures { result ≡ spec.block_hint (cut tokens.now offsets.now) block }
-{
-    match block {
-        Some(block) => Hint::Open {
-            opening: block.opening,
-            at: block.at,
-        },
-        None => program_hint(offsets, begin_in(tokens)),
-    }
-}
-
 // The last of some blocks.
 fn last_of(blocks: &[Block]) -> Option<Block>
     ensures { result ≡ spec.last_of blocks.now }
@@ -85,6 +72,67 @@ fn last_of(blocks: &[Block]) -> Option<Block>
     match blocks {
         [] => None,
         [.., last] => Some(*last),
+    }
+}
+
+fn is_end(token: &Token) -> bool
+    ensures { result ≡ spec.is_end token.now }
+{
+    match token {
+        Token::Mark(Mark::End) => true,
+        _ => false,
+    }
+}
+
+// The block that the last of the tokens closes.
+fn closed_last(alloc: Global, tokens: &[Token]) -> Result<Option<Block>, AllocError>
+    ensures { IfOk result (λ block. block ≡ spec.closed_last tokens.now) }
+{
+    match tokens {
+        [] => Ok(None),
+        [front @ .., last] => {
+            if is_end(last) {
+                let blocks = open_blocks(alloc, front)?;
+                Ok(last_of(&blocks))
+            } else {
+                Ok(None)
+            }
+        }
+    }
+}
+
+// The end of a text within the program, whose last token closes that block.
+fn begin_hint(tokens: &[Token], offsets: &[u32], closed: Option<Block>) -> Hint
+    ensures { result ≡ spec.begin_hint (cut tokens.now offsets.now) closed }
+{
+    match closed {
+        Some(block) => Hint::Taken {
+            opening: block.opening,
+            at: block.at,
+            by: offset_at(offsets, tokens.len().saturating_sub(1)),
+        },
+        None => program_hint(offsets, begin_in(tokens)),
+    }
+}
+
+// The end of a text within the innermost of these blocks, or else within the program.
+fn block_hint(
+    alloc: Global,
+    tokens: &[Token],
+    offsets: &[u32],
+    block: Option<Block>,
+) -> Result<Hint, AllocError>
+    ensures { IfOk result (λ hint. hint ≡ spec.block_hint (cut tokens.now offsets.now) block) }
+{
+    match block {
+        Some(block) => Ok(Hint::Open {
+            opening: block.opening,
+            at: block.at,
+        }),
+        None => {
+            let closed = closed_last(alloc, tokens)?;
+            Ok(begin_hint(tokens, offsets, closed))
+        }
     }
 }
 
@@ -101,7 +149,7 @@ fn end_hint(
         return Ok(Hint::Nothing);
     }
     let blocks = open_blocks(alloc, tokens)?;
-    Ok(block_hint(tokens, offsets, last_of(&blocks)))
+    block_hint(alloc, tokens, offsets, last_of(&blocks))
 }
 
 // Leaves those tokens before a place, and of those behind it the ones that are tried.
@@ -144,7 +192,7 @@ fn known(before: &Token, token: &Token, found: &[Choice], at_before: u32, at: u3
     if found.is_empty() {
         return Some(Hint::Ended { at: at_before });
     }
-    if let Some(habit) = name_habit(before) {
+    if let Some(habit) = before_habit(before, found, token) {
         return Some(Hint::Habit {
             habit,
             at: at_before,

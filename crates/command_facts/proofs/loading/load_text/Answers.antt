@@ -1,4 +1,5 @@
-use Rattle.std.proofs.Common.{List, ℕ, ap, inl, inr, map, subst}
+use Rattle.std.proofs.Common.{List, inl, inr, subst}
+use Rattle.command_requests.specs.declared.request.SizeWord.{SizeWord}
 use Rattle.command_sizes.specs.Given.{IsOfSizes}
 use Rattle.command_facts.proofs.Texts.{stops_at_text, stops_with, text_held}
 use Rattle.command_facts.proofs.loading.load_text.Goals as goal
@@ -8,8 +9,8 @@ pub returns-in_err-sizes-clause-refused : goal.returns-in_err-sizes-clause-refus
 returns-in_err-sizes-clause-refused g c =
     stops_with (g.S.Sources.holds c.args.sources.now c.args.file.now.name.now) c.args.file.now c.from_residual.result
     c.in_err-sizes.field-0.0
-    c.from_residual.ensures.1 (inl (subst (λ (ws : List (List ℕ)). IsOfSizes ws c.in_err-sizes.field-0.0)
-    (ap (map (λ w. w.now)) c.deref.ensures.value) c.in_err-sizes.ensures.refused))
+    c.from_residual.ensures.1 (inl (subst (λ (ws : List SizeWord). IsOfSizes ws c.in_err-sizes.field-0.0)
+    c.deref.ensures.value c.in_err-sizes.ensures.refused))
 
 -- the file wasn't read
 pub returns-in_err-bytes-clause-refused : goal.returns-in_err-bytes-clause-refused
@@ -21,7 +22,7 @@ pub returns-in-Ok-clause-text : goal.returns-in-Ok-clause-text
 returns-in-Ok-clause-text g c =
     text_held (g.S.Sources.holds c.args.sources.now c.args.file.now.name.now) c.args.file.now c.in_ok-bytes.bytes.items _ _
     c.in-Ok.expansion
-    c.deref-2.ensures.value (ap (map (λ w. w.now)) c.deref-3.ensures.value) c.in_ok-bytes.ensures.bytes c.in-Ok.ensures.expanded
+    c.deref-2.ensures.value c.deref-3.ensures.value c.in_ok-bytes.ensures.bytes c.in-Ok.ensures.expanded
 
 -- the text has no expansion
 pub returns-clause-refused : goal.returns-clause-refused
@@ -29,5 +30,5 @@ returns-clause-refused g c =
     stops_at_text (g.S.Sources.holds c.args.sources.now c.args.file.now.name.now) c.args.file.now c.source_of.result
     c.in_ok-bytes.bytes.items _ _
     c.in-Err.stop c.source_of.ensures.bytes c.source_of.ensures.itself c.deref-2.ensures.value
-    (ap (map (λ w. w.now)) c.deref-3.ensures.value)
+    c.deref-3.ensures.value
     c.in_ok-bytes.ensures.bytes c.in-Err.ensures.refused

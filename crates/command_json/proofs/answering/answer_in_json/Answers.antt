@@ -1,7 +1,7 @@
 use Rattle.std.proofs.Common.{refl, subst, sym, Result}
 use Rattle.program_texts.specs.declared.stop.Stop.{Stop}
 use Rattle.command_requests.specs.declared.request.Request.{Request}
-use Rattle.command_facts.specs.Refused.{IsStop}
+use Rattle.command_facts.specs.Calls.{IsStop}
 use Rattle.command_json.specs.Left.{Stopped}
 use Rattle.command_json.proofs.answering.answer_in_json.Goals as goal
 

@@ -1,5 +1,4 @@
 use Rattle.std.proofs.Common.{◌≡◌, ◌<◌, ℕ, length, arith, sym, subst}
-use Rattle.std.proofs.lemmas.List.{length-map}
 use Rattle.std.specs.Prelude.{Err}
 use Rattle.sized_texts.specs.Expansion.{expansion}
 use Rattle.sized_texts.specs.Faults.{Answers, shown}
@@ -13,5 +12,5 @@ stop_of_sizes-requires c = record {
       let same = one_each _ c.args.sizes.now c.requires.given in
       let inside = within c.args.sizes.now c.args.text.now number
       (subst (λ (f : SizeFault). Answers shown (Err f) (expansion c.args.sizes.now c.args.text.now)) is c.in-Err.ensures.answers) in
-      grind (arith, same, inside, length-map);
+      grind (arith, same, inside);
 }

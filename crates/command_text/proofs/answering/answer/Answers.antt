@@ -1,7 +1,7 @@
 use Rattle.std.proofs.Common.{refl, subst, sym, Result}
 use Rattle.program_texts.specs.declared.stop.Stop.{Stop}
 use Rattle.command_requests.specs.declared.request.Request.{Request}
-use Rattle.command_facts.specs.Refused.{IsStop}
+use Rattle.command_facts.specs.Calls.{IsStop}
 use Rattle.command_text.specs.Left.{Stopped}
 use Rattle.command_text.proofs.answering.answer.Goals as goal
 

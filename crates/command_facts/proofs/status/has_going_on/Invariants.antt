@@ -1,0 +1,7 @@
+use Rattle.std.proofs.Common.{◌≡◌, drop}
+use Rattle.std.specs.List.{list_any}
+use Rattle.command_facts.specs.Calls.{is_going_on}
+use Rattle.command_facts.proofs.status.has_going_on.Given as goal
+
+abbrev pub invariant-loop-row : goal.invariant-loop-row
+invariant-loop-row l = list_any (λ r. is_going_on r.ending) (drop l.row-index l.rows) ≡ list_any (λ r. is_going_on r.ending) l.rows

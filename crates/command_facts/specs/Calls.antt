@@ -1,0 +1,98 @@
+-- What a call finds, or why it finds nothing.
+use Rattle.std.specs.Prelude.{◌≡◌, ◌⊎◌, ℕ, Bool, true, false, ◌||◌, if◌then◌else◌, List, Option, Result, Ok, Err}
+use Rattle.std.specs.List.{list_any}
+use Rattle.sized_texts.specs.Pieces.{Expansion}
+use Rattle.program_runs.specs.Compiled.{IsCompiledFrom}
+use Rattle.program_texts.specs.Status.{status_of}
+use Rattle.program_texts.specs.declared.status.Status.{Status}
+use Rattle.program_texts.specs.declared.status.Status.TheVariants as status
+use Rattle.program_texts.specs.declared.stop.Stop.{Stop}
+use Rattle.sweep_texts.specs.declared.size_row.Ending.{Ending}
+use Rattle.sweep_texts.specs.declared.size_row.Ending.TheVariants as ending
+use Rattle.sweep_texts.specs.declared.size_row.SizeRow.{SizeRow}
+use Rattle.diagnoses.specs.declared.about.About.TheVariants as about
+use Rattle.command_requests.specs.declared.request.ProgramFile.{ProgramFile}
+use Rattle.command_requests.specs.declared.request.Request.{Request}
+use Rattle.command_requests.specs.declared.request.Request.TheVariants as request
+use Rattle.command_requests.specs.declared.request.RunWords.{RunWords}
+use Rattle.command_requests.specs.declared.request.Verb.{Verb}
+use Rattle.command_requests.specs.declared.request.Verb.TheVariants as verb
+use Rattle.command_facts.specs.declared.found.Found.{Found}
+use Rattle.command_facts.specs.declared.found.Found.TheVariants as found
+use Rattle.command_facts.specs.declared.halted.Halted.{Halted}
+use Rattle.command_facts.specs.Held.{IsExpansionIn, IsTextIn, StopsAtProgram, StopsAtText}
+use Rattle.command_facts.specs.Found.{IsCodeFound, IsComparisonFound, IsLoaded, IsRunFound}
+use Rattle.command_facts.specs.Refused.{RefusesCodeRun, RefusesRun, StopsAtCode}
+use Rattle.command_facts.specs.Sweeps.{IsSwept, StopsAtSweep}
+
+-- What a call over a program's file finds. Its code is compiled from what all that the file holds comes to by the sizes of the words.
+abbrev pub FindsOf : (List ℕ → Option (List ℕ) → Type 0) → Verb → ProgramFile → RunWords → Found → Type 0
+FindsOf holds verb.Check file words (found.Accepted l) = IsLoaded (holds file.name.now) file l
+FindsOf holds verb.Expand file words (found.Expanded s) = IsTextIn (holds file.name.now) file.sizes.items s
+FindsOf holds verb.Plan file words (found.Planned code) =
+    (e : Expansion) × IsExpansionIn (holds file.name.now) file.sizes.items e × IsCompiledFrom e.text code
+FindsOf holds verb.Rules file words (found.Compared c) = IsComparisonFound holds file words c
+FindsOf holds verb.Meaning file words (found.Run r) = IsRunFound holds verb.Meaning file words r
+FindsOf holds verb.Cost file words (found.Run r) = IsRunFound holds verb.Cost file words r
+FindsOf holds verb.Steps file words (found.Run r) = IsRunFound holds verb.Steps file words r
+FindsOf holds verb.Run file words (found.Run r) = IsRunFound holds verb.Run file words r
+FindsOf holds verb.Trace file words (found.Run r) = IsRunFound holds verb.Trace file words r
+FindsOf holds _ file words _ = ⊥
+
+-- what a call finds
+abbrev pub Finds : (List ℕ → Option (List ℕ) → Type 0) → Request → Found → Type 0
+Finds holds request.Version found.Version = Unit {0}
+Finds holds (request.Explanation subject) (found.Explanation told) = told ≡ subject
+Finds holds (request.Program verb file words) f = FindsOf holds verb file words f
+Finds holds (request.Sweep file sweep words) (found.Swept s) = IsSwept holds file sweep words s
+Finds holds (request.Listing file words) (found.Executed c) = IsCodeFound holds file.now words c
+Finds holds _ _ = ⊥
+
+-- a size at which the run faults or is refused
+abbrev pub is_bad : Ending → Bool
+is_bad (ending.Faulted counts text) = true
+is_bad (ending.Refused text) = true
+is_bad (ending.Ended counts) = false
+is_bad (ending.GoesOn counts) = false
+
+-- one at which it goes on
+abbrev pub is_going_on : Ending → Bool
+is_going_on (ending.GoesOn counts) = true
+is_going_on (ending.Ended counts) = false
+is_going_on (ending.Faulted counts text) = false
+is_going_on (ending.Refused text) = false
+
+-- A sweep ends as a run that faults where one size is bad, and else as one that goes on where one does.
+abbrev pub status_of_rows : List SizeRow → Status
+status_of_rows rows =
+    if list_any (λ r. is_bad r.ending) rows then status.Faulted
+    else (if list_any (λ r. is_going_on r.ending) rows then status.GoesOn else status.Done)
+
+-- the exit status that goes with what was found
+abbrev pub status_of_found : Found → Status
+status_of_found (found.Run r) = status_of r.outcome
+status_of_found (found.Executed c) = status_of c.outcome
+status_of_found (found.Swept s) = status_of_rows s.rows.items
+status_of_found _ = status.Done
+
+-- ---- why
+
+-- why a call over a program does
+abbrev pub RefusesOf : (List ℕ → Option (List ℕ) → Type 0) → Verb → ProgramFile → RunWords → Halted → Type 0
+RefusesOf holds verb.Check file words h = StopsAtProgram (holds file.name.now) file h
+RefusesOf holds verb.Expand file words h = StopsAtText (holds file.name.now) file h
+RefusesOf holds verb.Plan file words h = StopsAtProgram (holds file.name.now) file h ⊎ StopsAtCode holds file h
+RefusesOf holds verb file words h = RefusesRun holds verb file words h
+
+-- why a call finds nothing
+abbrev pub Refuses : (List ℕ → Option (List ℕ) → Type 0) → Request → Halted → Type 0
+Refuses holds request.Version h = ⊥
+Refuses holds (request.Explanation subject) h = ⊥
+Refuses holds (request.Program verb file words) h = RefusesOf holds verb file words h
+Refuses holds (request.Sweep file sweep words) h = StopsAtSweep holds file sweep words h
+Refuses holds (request.Listing file words) h = RefusesCodeRun holds file.now words h
+
+-- why a request is refused: its words are, or nothing is found
+abbrev pub IsStop : (List ℕ → Option (List ℕ) → Type 0) → Result Request Stop → Halted → Type 0
+IsStop holds (Ok request) h = Refuses holds request h
+IsStop holds (Err why) h = (h.stop ≡ why) × (h.about ≡ about.Nothing)
