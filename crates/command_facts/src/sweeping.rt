@@ -198,7 +198,13 @@ fn with_input<R: Threads + Wait + Sync, S: Sources>(
         Err(stop) => return refused(alloc, &Halted::from(stop)),
     };
     match str::from_utf8(&filled) {
-        Ok(name) => run_by(rt, alloc, at, with_opening(words, Opening::Input(name)), sources),
+        Ok(name) => run_by(
+            rt,
+            alloc,
+            at,
+            with_opening(words, Opening::Input(name)),
+            sources,
+        ),
         Err(_) => refused(alloc, &Halted::from(Stop::Number(name))),
     }
 }

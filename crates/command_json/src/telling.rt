@@ -44,7 +44,12 @@ fn run_text(alloc: Global, run: &FoundRun<'_>) -> Result<String, AllocError>
 fn sweep_text(alloc: Global, swept: &FoundSweep) -> Result<String, AllocError>
     ensures told { IfOk result (λ text. IsJson (sweep_facts swept.now.sweep.name swept.now.rows.items swept.now.growths) (string_bytes text)) }
 {
-    json_sweep(alloc, swept.sweep.name.as_slice(), &swept.rows, &swept.growths)
+    json_sweep(
+        alloc,
+        swept.sweep.name.as_slice(),
+        &swept.rows,
+        &swept.growths,
+    )
 }
 
 // The lines of what was found.

@@ -199,19 +199,17 @@ fn over_run<'a>(alloc: Global, words: &Subcommand) -> Result<Command<'a>, AllocE
         .long(INPUT)
         .value_name("FILE")
         .help("A file with the values of the first cells");
-    let memory = Arg::new(alloc, MEMORY)
-        .long(MEMORY)
-        .value_name("FILE")
-        .help("A file with values of cells by their names, as a[1..4] = 4 3 2 1");
+    let memory = Arg::new(alloc, MEMORY).long(MEMORY).value_name("FILE").help(
+        "A file with values of cells by their names, as a[1..4] = 4 3 2 1",
+    );
     let random = Arg::new(alloc, RANDOM)
         .long(RANDOM)
         .value_name("LO..HI")
         .allow_hyphen_values(true)
         .help("Draws the values of all cells from this interval");
-    let seed = Arg::new(alloc, SEED)
-        .long(SEED)
-        .value_name("S")
-        .help("Of two draws with one seed all values are the same; 1 where none is given");
+    let seed = Arg::new(alloc, SEED).long(SEED).value_name("S").help(
+        "Of two draws with one seed all values are the same; 1 where none is given",
+    );
     over_file(alloc, words)?
         .arg(bound)?
         .arg(input)?
@@ -246,7 +244,9 @@ fn over_cost<'a>(alloc: Global, words: &Subcommand) -> Result<Command<'a>, Alloc
     let sweep = Arg::new(alloc, SWEEP)
         .long(SWEEP)
         .value_name("NAME=SIZES")
-        .help("Counts at each size, as n=4,8,16 or n=4..64*2 or n=10..50+10; --format csv makes a table");
+        .help(
+            "Counts at each size, as n=4,8,16 or n=4..64*2 or n=10..50+10; --format csv makes a table",
+        );
     let svg = Arg::new(alloc, SVG)
         .long(SVG)
         .action(ArgAction::SetTrue)

@@ -34,7 +34,8 @@ fn kind_reason(sort: Sort) -> &'static [u8]
     match sort {
         Sort::Cell => b"it has no subscript, and no for runs over it\n",
         Sort::Array => b"it wants a subscript, and no for runs over it\n",
-        Sort::Variable => b"it has no subscript, and inside pardo a local or a shared cell is set, and no variable\n",
+        Sort::Variable =>
+            b"it has no subscript, and inside pardo a local or a shared cell is set, and no variable\n",
         Sort::Index => b"it has no subscript\n",
         Sort::Local => b"it has no subscript\n",
     }
@@ -153,7 +154,8 @@ fn limit_sentence(limit: Limit) -> &'static [u8]
         }
         Limit::Procs => b"procs is a number from 1 to 16384\n",
         Limit::Bounds => b"the first bound of an array is at most its last\n",
-        Limit::Reads => b"this is the ninth shared read of the statement, which has at most 8: split it in two\n",
+        Limit::Reads =>
+            b"this is the ninth shared read of the statement, which has at most 8: split it in two\n",
         Limit::Tokens => b"a program has at most 16384 tokens\n",
     }
 }

@@ -128,8 +128,14 @@ const STEPS: [Row; 3] = [
 const TWO_SIZES: [Row; 4] = [
     Row { size: 4, number: 5 },
     Row { size: 4, number: 5 },
-    Row { size: 9, number: 10 },
-    Row { size: 9, number: 10 },
+    Row {
+        size: 9,
+        number: 10,
+    },
+    Row {
+        size: 9,
+        number: 10,
+    },
 ];
 
 // n + 7 at too few sizes for two terms, which don't double.

@@ -86,11 +86,7 @@ fn seek_in_statement<'a>(
 }
 
 #[cycle(seeking)]
-fn seek_in_block<'a>(
-    word: &[u8],
-    body: &'a [Stmt],
-    found: Option<Known<'a>>,
-) -> Option<Known<'a>>
+fn seek_in_block<'a>(word: &[u8], body: &'a [Stmt], found: Option<Known<'a>>) -> Option<Known<'a>>
     ensures { option_map known_is result ≡ spec.block_bound word.now body.now (option_map known_is found.entry) }
 {
     let mut last = found;

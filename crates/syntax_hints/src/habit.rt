@@ -72,14 +72,19 @@ pub fn habit_text(habit: Habit) -> &'static [u8]
         Habit::Call =>
             b" can't stand here: there are no functions, and a subscript stands between [ and ]\n",
         Habit::Keyword => b" is a keyword, and no name\n",
-        Habit::Word => b" is no word of the language: a statement is an assignment, print, while, if or for\n",
+        Habit::Word =>
+            b" is no word of the language: a statement is an assignment, print, while, if or for\n",
         Habit::Capitals => b" is a name here: keywords have small letters\n",
-        Habit::In => b" can't stand here: a loop is \"for i := 1 to 8 do\", and a pardo \"for 1 <= i <= 8 pardo\"\n",
-        Habit::Semicolon => b" can't stand here: there is none behind \"begin\", \"do\", \"then\", \"else\", \"pardo\" or \"end\", and no two in a row\n",
+        Habit::In =>
+            b" can't stand here: a loop is \"for i := 1 to 8 do\", and a pardo \"for 1 <= i <= 8 pardo\"\n",
+        Habit::Semicolon =>
+            b" can't stand here: there is none behind \"begin\", \"do\", \"then\", \"else\", \"pardo\" or \"end\", and no two in a row\n",
         Habit::Range => b" can't stand here: a pardo is written \"for 1 <= i <= 8 pardo\"\n",
         Habit::Value => b" can't stand here: a declaration has no value, and all begin with 0\n",
-        Habit::Bounds => b" can't stand here: an array has a first and a last subscript, as a[1..8]\n",
-        Habit::Constant => b" can't stand here: a number has to, or with a first line \"# size n = 8\" a size, as {n}\n",
+        Habit::Bounds =>
+            b" can't stand here: an array has a first and a last subscript, as a[1..8]\n",
+        Habit::Constant =>
+            b" can't stand here: a number has to, or with a first line \"# size n = 8\" a size, as {n}\n",
         Habit::Subscript => b" can't stand here: an array has one subscript\n",
         Habit::Order => b" can't stand here: the comparisons are \">=\" and \"<=\"\n",
     }

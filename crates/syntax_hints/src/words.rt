@@ -12,19 +12,28 @@ use token_choices::Choice;
 fn is_frame_word(word: &[u8]) -> bool
     ensures { result ≡ is_one_of spec.frame_words word.now }
 {
-    matches!(word, b"RULE" | b"PROCS" | b"SHARED" | b"VAR" | b"LOCAL" | b"BEGIN" | b"END")
+    matches!(
+        word,
+        b"RULE" | b"PROCS" | b"SHARED" | b"VAR" | b"LOCAL" | b"BEGIN" | b"END"
+    )
 }
 
 fn is_block_word(word: &[u8]) -> bool
     ensures { result ≡ is_one_of spec.block_words word.now }
 {
-    matches!(word, b"FOR" | b"TO" | b"DO" | b"PARDO" | b"WHILE" | b"IF" | b"THEN")
+    matches!(
+        word,
+        b"FOR" | b"TO" | b"DO" | b"PARDO" | b"WHILE" | b"IF" | b"THEN"
+    )
 }
 
 fn is_inner_word(word: &[u8]) -> bool
     ensures { result ≡ is_one_of spec.inner_words word.now }
 {
-    matches!(word, b"ELSE" | b"PRINT" | b"AND" | b"OR" | b"NOT" | b"DIV" | b"MOD")
+    matches!(
+        word,
+        b"ELSE" | b"PRINT" | b"AND" | b"OR" | b"NOT" | b"DIV" | b"MOD"
+    )
 }
 
 // Whether it is a keyword in capitals.

@@ -10,14 +10,14 @@ whole_is word line n by m rest is also =
 
 pub returns-in_err-write_taken_sentence : goal.returns-in_err-write_taken_sentence
 returns-in_err-write_taken_sentence g c = record {
-  written = stops_in_first _ _ _ _ _ c.from_residual.result _ 
+  written = stops_in_first _ _ _ _ _ c.from_residual.result _
       (whole_is c.args.word.now (line_in c.args.source.now c.args.begins) c.line_in.result (line_in c.args.source.now c.args.by) c.line_in-2.result
       (excerpt_in c.args.source.now c.args.begins) c.line_in.ensures c.line_in-2.ensures) c.from_residual.ensures.1 c.in_err-write_taken_sentence.ensures.written;
 }
 
 pub returns : goal.returns
 returns g c = record {
-  written = both _ _ _ _ _ _ c.write_place.result 
+  written = both _ _ _ _ _ _ c.write_place.result
       (whole_is c.args.word.now (line_in c.args.source.now c.args.begins) c.line_in.result (line_in c.args.source.now c.args.by) c.line_in-2.result
       (excerpt_in c.args.source.now c.args.begins) c.line_in.ensures c.line_in-2.ensures) c.in_ok-write_taken_sentence.ensures.written c.write_place.ensures.written;
 }
