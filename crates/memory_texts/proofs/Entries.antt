@@ -1,16 +1,14 @@
 -- The declarations, one by one.
-use Rattle.std.proofs.Common.{◌≡◌, ◌<◌, ◌+◌, ◌++◌, ◌||◌, ◌∷◌, ◌∙◌, [], Bool, List, ℕ, ℤ, ap, drop, false, get_or, length, refl, slice_get, subst, sym, take, true}
+use Rattle.std.proofs.Common.{◌≡◌, ◌<◌, ◌+◌, ◌++◌, ◌||◌, ◌∷◌, ◌∙◌, Bool, List, ℕ, ℤ, ap, drop, false, length, refl, slice_get, sym, take, true}
 use Rattle.std.specs.Bool.{if◌then◌else◌}
 use Rattle.pram_model.specs.Names.{same_text}
 use Rattle.program_texts.proofs.ShownLemmas.{entry_at, known_at}
 use Rattle.memory_texts.specs.Cells.{declaration}
 use Rattle.memory_texts.specs.Chosen.{chosen_lines, declares, line_if_chosen}
-use Rattle.program_texts.specs.Shown.{entry_line}
 use Rattle.pram_model.specs.Layout.{size}
 use Rattle.memory_texts.specs.declared.choice.Choice.{Choice}
-use Rattle.memory_texts.specs.Chosen.{chosen, is_chosen, with_values}
-use Rattle.std.specs.List.{filter, flat_map}
-use Rattle.std.specs.Prelude.{Option, Some, None, IfSome}
+use Rattle.memory_texts.specs.Chosen.{is_chosen}
+use Rattle.std.specs.Prelude.{Option, Some, IfSome}
 use Rattle.pram_model.specs.Layout.{SharedEntry}
 
 -- the declaration at i has the name, or another one behind it

@@ -1,7 +1,7 @@
 -- The lines of a text, one by one.
-use Rattle.std.proofs.Common.{◌≡◌, ◌∙◌, ◌+◌, ◌<◌, ◌≤◌, ◌==◌, ◌++◌, ◌∷◌, [], Bool, List, ℕ, ℤ, suc, zero, true, false, ap, arith, cond, drop, length, length-drop, not, refl, subst, sym, take}
+use Rattle.std.proofs.Common.{◌≡◌, ◌∙◌, ◌+◌, ◌<◌, ◌==◌, ◌∷◌, [], Bool, List, ℕ, ℤ, suc, true, false, ap, arith, cond, drop, length, length-drop, not, refl, subst, sym, take}
 use Rattle.std.specs.Bool.{if◌then◌else◌}
-use Rattle.std.specs.Prelude.{IsErrAnd, Option, Some, None, Result, Ok, Err}
+use Rattle.std.specs.Prelude.{IsErrAnd, Option, Result, Ok, Err}
 use Rattle.std.specs.List.{prefix_len}
 use Rattle.std.proofs.lemmas.List.{drop-drop}
 use Rattle.std.proofs.lemmas.List.Folds.{length-prefix_len}

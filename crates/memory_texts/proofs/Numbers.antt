@@ -1,6 +1,6 @@
 -- The numbers of words are those that an input of these words has.
 use Rattle.std.proofs.Common.{◌≡◌, ◌∙◌, ◌++◌, ◌∷◌, [], List, ℕ, ℤ, ap, length, map, refl, subst, sym, ◌-◌}
-use Rattle.std.specs.Prelude.{Option, Some, None, Result, Ok, Err}
+use Rattle.std.specs.Prelude.{Some, None, Ok, Err}
 use Rattle.pram_tokens.specs.Input.{AreNumbers, IsFirstWrong, IsWrongWord, Word, number_of, words}
 use Rattle.memory_texts.specs.declared.memory_fault.MemoryFault.{MemoryFault}
 use Rattle.memory_texts.specs.Assignments.{IsFault, in_line, left_in, misplaced, number_before, numbers, values_of}

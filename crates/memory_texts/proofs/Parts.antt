@@ -1,7 +1,7 @@
 -- The parts of a word, one by one.
 use Rattle.std.proofs.Common.{◌≡◌, ◌∙◌, ◌<◌, ◌+◌, ◌||◌, Bool, List, ℕ, ap, drop, get_or, length, not, sym}
 use Rattle.std.specs.Bool.{if◌then◌else◌}
-use Rattle.std.specs.Prelude.{Option, Some}
+use Rattle.std.specs.Prelude.{Some}
 use Rattle.std.proofs.lemmas.List.{at_drop_more}
 use Rattle.pram_model.specs.Layout.{SharedEntry}
 use Rattle.pram_model.specs.Names.{is_one_of, same_text}

@@ -1,8 +1,7 @@
 -- Values are put into cells one by one.
-use Rattle.std.proofs.Common.{◌≡◌, ◌∙◌, ◌+◌, ◌<◌, ◌≤◌, ◌++◌, ◌∷◌, [], List, ℕ, ℤ, pos, suc, zero, ap, append_assoc, arith, drop, get_or, length, length-append, length-drop, length-take, refl, sym, take}
+use Rattle.std.proofs.Common.{◌≡◌, ◌∙◌, ◌+◌, ◌<◌, ◌≤◌, ◌++◌, ◌∷◌, [], List, ℕ, ℤ, pos, suc, ap, append_assoc, arith, drop, get_or, length, length-append, length-take, refl, sym, take}
 use Rattle.std.proofs.Math.ListN.{set}
 use Rattle.std.proofs.lemmas.List.{drop_more, take_more}
-use Rattle.memory_texts.specs.Memory.{replaced}
 
 set-seam : (xs ys : List ℤ) (d v : ℤ) (n : ℕ) → n ≡ length xs → set (xs ++ d ∷ ys) n v ≡ xs ++ v ∷ ys
 set-seam [] ys d v n is = ap (λ n. set (d ∷ ys) n v) is

@@ -1,9 +1,8 @@
 -- What a line is refused for.
-use Rattle.std.proofs.Common.{◌≡◌, ◌<◌, ◌+◌, ◌∷◌, [], Bool, List, ℕ, ℤ, true, false, length, nat_lt, refl, subst}
+use Rattle.std.proofs.Common.{◌≡◌, ◌+◌, ◌∷◌, [], Bool, List, ℕ, ℤ, true, false, length, nat_lt, refl, subst}
 use Rattle.std.specs.Bool.{if◌then◌else◌}
 use Rattle.std.specs.Prelude.{IfErr, Option, Some, None, Result, Ok, Err}
 use Rattle.pram_model.specs.Layout.{SharedEntry}
-use Rattle.pram_tokens.specs.declared.error.TextFault.{TextFault}
 use Rattle.pram_tokens.specs.declared.error.TextFault.TheVariants.{BadToken, NotAscii, Syntax, TextTooLong, TooDeep}
 use Rattle.pram_tokens.specs.declared.error.TextFault.TheVariants as told
 use Rattle.pram_tokens.specs.Plain.{IsPlain}
@@ -13,8 +12,8 @@ use Rattle.memory_texts.specs.declared.memory_fault.MemoryFault.TheVariants.{Out
 use Rattle.memory_texts.specs.Front.{◌>>=◌, front, past_blanks}
 use Rattle.memory_texts.specs.Headings.{Headed, heading_front}
 use Rattle.memory_texts.specs.Cells.{cells_at, cells_of, declaration, declared_cells, found_cells, left_of, subscripts_of, unknown}
-use Rattle.memory_texts.specs.Assignments.{Answers, Assigned, IsFault, assignment_by, assignment_front, assignment_of, in_line, line_assignment, misplaced, values_of}
-use Rattle.memory_texts.specs.Memory.{IsRefused, IsWrongLine, Line, after, after_lines, given, lines, memory_of}
+use Rattle.memory_texts.specs.Assignments.{Answers, Assigned, IsFault, assignment_by, assignment_front, assignment_of, in_line, misplaced, values_of}
+use Rattle.memory_texts.specs.Memory.{IsRefused, Line, after, after_lines, given, lines, memory_of}
 
 -- what a line can be refused for
 abbrev pub IsOfLine : MemoryFault → Type 0

@@ -1,11 +1,10 @@
 -- The cells that a line gives are there.
-use Rattle.std.proofs.Common.{◌≡◌, ◌∙◌, ◌<◌, ◌≤◌, ◌+◌, ◌-◌, ◌^◌, List, ℕ, ℤ, Bool, true, false, arith, refl, sym, subst, length, nat_le, nat_lt, [], ◌∷◌}
+use Rattle.std.proofs.Common.{◌≡◌, ◌<◌, ◌≤◌, ◌+◌, ◌-◌, ◌^◌, List, ℕ, ℤ, Bool, true, false, arith, refl, sym, subst, length, nat_le, nat_lt, [], ◌∷◌}
 use Rattle.std.specs.Bool.{if◌then◌else◌}
 use Rattle.std.specs.Prelude.{Option, Some, None, IfSome, Result, Ok, Err}
 use Rattle.std.proofs.lemmas.Bool.Decides.{nat_tests}
 use Rattle.pram_model.specs.Layout.{SharedEntry, cell_of, most_cells, total_size}
 use Rattle.pram_model.proofs.Cells.{cell_below}
-use Rattle.memory_texts.specs.declared.memory_fault.MemoryFault.{MemoryFault}
 use Rattle.memory_texts.specs.declared.memory_fault.MemoryFault.TheVariants.{TooMany}
 use Rattle.memory_texts.specs.Front.{◌>>=◌, past_blanks}
 use Rattle.memory_texts.specs.Headings.{Headed, heading_front}

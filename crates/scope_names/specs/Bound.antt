@@ -1,7 +1,6 @@
 -- Names that hold in the body of a pardo alone: its index and its locals.
-use Rattle.std.specs.Prelude.{ℕ, if◌then◌else◌, List, [], ◌∷◌, map, Option, Some, None}
+use Rattle.std.specs.Prelude.{ℕ, List, [], ◌∷◌, map, Option, Some, None}
 use Rattle.std.specs.Option.{option_or}
-use Rattle.pram_model.specs.Names.{same_text}
 use Rattle.pram_tokens.specs.declared.token.Name.{Name}
 use Rattle.pram_trees.specs.declared.tree.Stmt.{Stmt}
 use Rattle.pram_trees.specs.declared.tree.Stmt.TheOpen.{Stmt-F}

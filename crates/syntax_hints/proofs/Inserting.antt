@@ -1,5 +1,5 @@
 -- A token between others.
-use Rattle.std.proofs.Common.{◌≡◌, ◌∙◌, ◌++◌, ◌∷◌, ◌≤◌, [], List, ℕ, drop, length, subst, sym, take}
+use Rattle.std.proofs.Common.{◌≡◌, ◌++◌, ◌∷◌, [], List, ℕ, drop, subst, sym, take}
 use Rattle.std.proofs.lemmas.List.{take-append-drop}
 use Rattle.pram_tokens.proofs.Real.{append_real, front_real}
 use Rattle.pram_tokens.specs.Tokens.{AreReal, IsReal}

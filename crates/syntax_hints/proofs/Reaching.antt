@@ -1,6 +1,5 @@
 -- How far the parser's answers say that tokens begin a program.
-use Rattle.std.proofs.Common.{◌≡◌, ◌∙◌, ◌++◌, ◌∷◌, ◌+◌, ◌-◌, ◌<◌, ◌≤◌, [], List, ℕ, ap, append_assoc, arith, drop, length, length-append, refl, subst, sym, take}
-use Rattle.std.proofs.lemmas.List.{append-nil, take-append-drop}
+use Rattle.std.proofs.Common.{◌≡◌, ◌∙◌, ◌++◌, ◌∷◌, ◌+◌, ◌-◌, ◌<◌, ◌≤◌, [], List, ℕ, ap, arith, length, length-append, subst, sym, take}
 use Rattle.std.proofs.Math.Seq.{take-append-add, take-append_seam, take-length}
 use Rattle.pram_tokens.specs.declared.token.Token.{Token}
 use Rattle.pram_trees.specs.Faults.{Ends, IsDepthFault, IsSyntaxFault}

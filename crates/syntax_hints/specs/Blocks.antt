@@ -1,5 +1,5 @@
 -- The blocks that are open behind some tokens.
-use Rattle.std.specs.Prelude.{ℕ, ◌-◌, List, [], ◌∷◌, ◌++◌, length, take}
+use Rattle.std.specs.Prelude.{◌-◌, List, [], ◌∷◌, ◌++◌, length, take}
 use Rattle.pram_tokens.specs.declared.token.Location.{Location}
 use Rattle.pram_tokens.specs.declared.token.Mark.{Mark}
 use Rattle.pram_tokens.specs.declared.token.Mark.TheVariants as mark

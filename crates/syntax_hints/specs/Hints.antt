@@ -1,5 +1,5 @@
 -- What there is to say of a place at which a program doesn't go on.
-use Rattle.std.specs.Prelude.{◌≡◌, ℕ, zero, suc, ◌+◌, ◌-◌, nat_lt, Bool, true, false, if◌then◌else◌, List, [], ◌∷◌, length, take, drop}
+use Rattle.std.specs.Prelude.{◌≡◌, ℕ, zero, suc, ◌-◌, nat_lt, Bool, true, false, if◌then◌else◌, List, [], ◌∷◌, length, take, drop}
 use Rattle.std.specs.Prelude.{Option, Some, None, position, slice_index, Result, Ok, Err}
 use Rattle.std.specs.List.{prefix_len, slice_get}
 use Rattle.std.specs.Option.{option_map, option_or}

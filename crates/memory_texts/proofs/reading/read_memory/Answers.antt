@@ -1,4 +1,4 @@
-use Rattle.std.proofs.Common.{◌<◌, arith}
+use Rattle.std.proofs.Common.{arith}
 use Rattle.pram_tokens.specs.Plain.{IsPlain}
 use Rattle.memory_texts.proofs.Refusals.{refused, told_long}
 use Rattle.memory_texts.proofs.reading.read_memory.Goals as goal

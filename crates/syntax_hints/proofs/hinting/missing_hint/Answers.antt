@@ -1,4 +1,4 @@
-use Rattle.std.proofs.Common.{◌≡◌, ◌∙◌, subst, sym}
+use Rattle.std.proofs.Common.{subst, sym}
 use Rattle.pram_tokens.specs.Tokens.{AreReal}
 use Rattle.syntax_hints.proofs.Together.{as_kept, real_front}
 use Rattle.syntax_hints.proofs.hinting.missing_hint.Goals as goal

@@ -1,6 +1,6 @@
-use Rattle.std.proofs.Common.{◌≡◌, ◌∙◌, ◌+◌, ◌++◌, ◌∷◌, ◌<◌, ◌≤◌, ℕ, [], List, ap, drop, get_or, subst, sym, take, arith}
+use Rattle.std.proofs.Common.{◌≡◌, ◌∙◌, ◌<◌, ◌≤◌, ℕ, List, drop, get_or, subst, sym, take, arith}
 use Rattle.std.proofs.lemmas.List.{take_all, take_more}
-use Rattle.std.specs.Prelude.{Option, Some, None}
+use Rattle.std.specs.Prelude.{Option}
 use Rattle.pram_tokens.specs.declared.token.Token.{Token}
 use Rattle.token_choices.specs.declared.choice.Choice.{Choice}
 use Rattle.token_choices.specs.declared.choice.Choice.TheVariants as choice
