@@ -6,6 +6,7 @@ where NAME.RULE.out has what it writes if that is neither what NAME.out has nor 
 that gives a conflict, within as many statements as their T, and one less, with which they go on; as many statements are told of them,
 and no more, and they cost their T and W at three sizes. Those with a reference in gate/expected write what it says at each of these.
 """
+import csv
 import re
 import subprocess
 import sys
@@ -54,20 +55,30 @@ def sized(given):
     return [it for letter, n in given.items() for it in ("--size", f"{letter}={n}")]
 
 
-def counted(program, sizes_and_inputs):
-    """What `pramc cost` says of a program for each of these sizes and inputs."""
+def swept(name, numbers):
+    """T and W of a program with one size, at each of these numbers, by a sweep over its inputs."""
+    inputs = EXAMPLES / "inputs" / f"{name}_{{n}}.in"
+    words = ["cost", EXAMPLES / f"{name}.pram", "--sweep", f"n={','.join(map(str, numbers))}", "--input", inputs, "--format", "csv"]
+    done = subprocess.run([PROGRAM, *words], capture_output=True, text=True, timeout=60)
+    return [(it["time"], it["work"]) for it in csv.DictReader(done.stdout.splitlines())]
+
+
+def counted(name, sizes_and_inputs):
+    """T and W of a program with several sizes, for each of these and their inputs."""
     for given, values in sizes_and_inputs:
-        words = ["cost", program, "--input", values, *sized(given)]
+        words = ["cost", EXAMPLES / f"{name}.pram", "--input", values, *sized(given)]
         done = subprocess.run([PROGRAM, *words], capture_output=True, text=True, timeout=60)
-        yield done.stdout if done.returncode == 0 else f"status {done.returncode}\n{done.stdout}{done.stderr}"
+        yield tuple(re.findall(r"^(?:time|work) (\d+)$", done.stdout, re.M)[:2])
 
 
 def miscounted(name, text):
     """What is wrong with the costs of an example of the gallery at its three sizes."""
-    found = counted(EXAMPLES / f"{name}.pram", cases(name, text))
-    for said, n, steps, work in zip(found, sizes(text)["n"], costs(text, "T"), costs(text, "W")):
-        if not said.startswith(f"time {steps}\nwork {work}\n"):
-            yield f"examples/{name}.pram at n = {n}: not time {steps}, work {work}\n{said}"
+    given = list(cases(name, text))
+    numbers = sizes(text)["n"]
+    found = swept(name, numbers) if all(len(it) == 1 for it, _ in given) else list(counted(name, given))
+    wanted = [(str(steps), str(work)) for steps, work in zip(costs(text, "T"), costs(text, "W"))]
+    if found != wanted:
+        yield f"examples/{name}.pram at n = {numbers}: T and W are {found}, and not {wanted}"
 
 
 def other_sizes(name, text):

@@ -1,5 +1,5 @@
 -- Programs that were loaded are those of their files.
-use Rattle.std.proofs.Common.{◌≡◌, ℕ, List}
+use Rattle.std.proofs.Common.{ℕ, List}
 use Rattle.std.specs.Prelude.{Option, Some, None}
 use Rattle.sized_texts.specs.Faults.{shown}
 use Rattle.sized_texts.specs.Pieces.{Expansion}

@@ -1,6 +1,6 @@
 -- What holds of the files that names stand for holds as long as they stand for the same.
-use Rattle.std.proofs.Common.{◌≡◌, ℕ, ℤ, List, inl, inr}
-use Rattle.std.specs.Prelude.{◌⊎◌, Option, Some, None}
+use Rattle.std.proofs.Common.{ℕ, ℤ, List, inl, inr}
+use Rattle.std.specs.Prelude.{Option, Some, None}
 use Rattle.pram_model.specs.Layout.{SharedEntry}
 use Rattle.pram_tokens.specs.Scanning.{longest}
 use Rattle.system_files.specs.Files.{IsReadFrom, IsSame}
@@ -25,7 +25,7 @@ use Rattle.command_facts.specs.declared.found.FoundRun.{FoundRun}
 use Rattle.command_facts.specs.declared.loaded.Loaded.{Loaded}
 use Rattle.command_facts.specs.Found.{IsLoaded, IsOpening, IsRunFound}
 use Rattle.command_facts.specs.Held.{IsAtFile, IsAtMemory, IsAtProgram, IsAtText, IsExpansionIn, IsOfInput, IsUnread, StopsAtProgram}
-use Rattle.command_facts.specs.Refused.{IsProgramIn, RefusesRun, StopsAtOpening, StopsAtRun, StopsBefore, StopsBehindProgram}
+use Rattle.command_facts.specs.Refused.{IsProgramIn, RefusesRun, StopsAtOpening, StopsBefore}
 use Rattle.command_facts.specs.Sweeps.{ComesOut, IsProgramRefused, IsRow, RunsAs}
 
 -- ---- files

@@ -1,8 +1,8 @@
 -- The rows of a sweep.
 use Rattle.std.proofs.Common.{Bor, ◌≡◌, ◌<◌, ◌+◌, length, take, get_or, ℕ, [], ◌∷◌, ◌++◌, List, ap, inl, inr, refl, subst, sym}
 use Rattle.std.proofs.lemmas.List.{take_more}
-use Rattle.std.specs.Prelude.{◌⊎◌, Bool, true, false, Option, Result, Ok, Err, IfOk}
-use Rattle.std.specs.List.{AllZip, list_any}
+use Rattle.std.specs.Prelude.{◌⊎◌, Option, Result, Ok, Err, IfOk}
+use Rattle.std.specs.List.{AllZip}
 use Rattle.sweep_texts.specs.declared.size_row.SizeRow.{SizeRow}
 use Rattle.command_requests.specs.declared.opening.Opening.{Opening}
 use Rattle.command_requests.specs.declared.opening.Opening.TheVariants as opening
@@ -16,7 +16,7 @@ use Rattle.command_facts.specs.declared.found.FoundRun.{FoundRun}
 use Rattle.command_facts.specs.Found.{IsRunFound}
 use Rattle.command_facts.specs.declared.halted.Halted.{Halted}
 use Rattle.command_facts.specs.Refused.{RefusesRun}
-use Rattle.command_facts.specs.Sweeps.{AreWordsAt, ComesOut, HasNoInput, IsEndingOf, IsOpeningAt, IsRefusedFor, IsRow, RunsAs, with_opening}
+use Rattle.command_facts.specs.Sweeps.{AreWordsAt, ComesOut, HasNoInput, IsEndingOf, IsOpeningAt, IsRefusedFor, RunsAs, with_opening}
 
 -- a row is one more row of the sizes
 pub zip_more : {A B : Type 0} (R : A → B → Type 0) (xs : List A) (ys : List B) (x : A) (y : B) → AllZip R xs ys → R x y →

@@ -1,5 +1,5 @@
 -- What a call finds, or why it finds nothing.
-use Rattle.std.specs.Prelude.{◌≡◌, ◌⊎◌, ℕ, Bool, true, false, ◌||◌, if◌then◌else◌, List, Option, Result, Ok, Err}
+use Rattle.std.specs.Prelude.{◌≡◌, ◌⊎◌, ℕ, Bool, true, false, if◌then◌else◌, List, Option, Result, Ok, Err}
 use Rattle.std.specs.List.{list_any}
 use Rattle.sized_texts.specs.Pieces.{Expansion}
 use Rattle.program_runs.specs.Compiled.{IsCompiledFrom}

@@ -3,7 +3,7 @@ use Rattle.pram_model.specs.Layout.{SharedEntry}
 use Rattle.command_facts.specs.Found.{IsOpening}
 use Rattle.command_facts.specs.Refused.{IsUnknownIn, StopsAtOpening}
 use Rattle.command_facts.proofs.Programs.{program_in}
-use Rattle.command_facts.proofs.Same.{opening_held, opening_stops, same_through}
+use Rattle.command_facts.proofs.Same.{opening_held, opening_stops}
 use Rattle.command_sizes.proofs.Sizes.{hands_on}
 use Rattle.command_facts.proofs.finding.load_given.Goals as goal
 

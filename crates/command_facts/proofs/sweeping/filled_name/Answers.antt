@@ -1,4 +1,4 @@
-use Rattle.std.proofs.Common.{inl, inr}
+use Rattle.std.proofs.Common.{inl}
 use Rattle.command_sizes.proofs.Sizes.{hands_on}
 use Rattle.command_facts.proofs.sweeping.filled_name.Goals as goal
 

@@ -1,4 +1,4 @@
-use Rattle.std.proofs.Common.{◌∙◌, List, ℕ, ap, inr, refl, subst, sym}
+use Rattle.std.proofs.Common.{◌∙◌, List, ℕ, inr, refl, subst, sym}
 use Rattle.std.specs.Prelude.{◌≡◌, Ok}
 use Rattle.std.specs.Str.{IsUtf8}
 use Rattle.program_texts.specs.declared.stop.Stop.{Stop}

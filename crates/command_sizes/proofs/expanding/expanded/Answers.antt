@@ -1,4 +1,4 @@
-use Rattle.std.proofs.Common.{◌≡◌, ◌<◌, ℕ, length, arith, sym, subst}
+use Rattle.std.proofs.Common.{arith, subst}
 use Rattle.std.specs.Prelude.{Err}
 use Rattle.sized_texts.specs.Expansion.{expansion}
 use Rattle.sized_texts.specs.Faults.{Answers, shown}

@@ -1,4 +1,3 @@
-use Rattle.std.proofs.Common.{arith}
 use Rattle.command_sizes.proofs.Sizes.{hands_on, one_more, refused_at}
 use Rattle.command_sizes.proofs.sizing.sizes_of.Goals as goal
 
