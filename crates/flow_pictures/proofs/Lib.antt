@@ -1,0 +1,10 @@
+pub mod Carriers
+pub mod CellValues
+pub mod ColumnLists
+pub mod Complete
+pub mod Drawn
+pub mod Kept
+pub mod Least
+pub mod Members
+pub mod RowLists
+pub mod Standing

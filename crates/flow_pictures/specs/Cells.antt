@@ -1,0 +1,60 @@
+-- Which cells are drawn: the first of those that the drawn statements touched.
+use Rattle.std.specs.Prelude.{ℕ, zero, suc, ◌+◌, min, nat_lt, if◌then◌else◌, List, [], ◌∷◌, ◌++◌, Option, Some, None, take}
+use Rattle.std.specs.List.{flat_map, fold}
+use Rattle.pram_values.specs.declared.place.Place.{Place}
+use Rattle.pram_values.specs.declared.place.Place.TheVariants as place
+use Rattle.step_entries.specs.Entries.{Act, Entry, Ran, Faulting}
+use Rattle.flow_pictures.specs.declared.choice.Choice.{Choice}
+use Rattle.flow_pictures.specs.Choice.{acts_in, drawn}
+
+-- ---- the cells that are touched
+
+abbrev pub optional : Option ℕ → List ℕ
+optional None = []
+optional (Some c) = c ∷ []
+
+abbrev pub act_cells : Act → List ℕ
+act_cells a = a.reads ++ optional a.write
+
+abbrev pub place_cells : Place → List ℕ
+place_cells place.All = []
+place_cells (place.Processor i) = []
+place_cells (place.Cell c) = c ∷ []
+
+-- at which it faulted
+abbrev pub fault_cells : Entry → List ℕ
+fault_cells (Ran here acts cells variables locals printed) = []
+fault_cells (Faulting here fault cause acts met) = place_cells fault.place
+
+abbrev pub entry_cells : Entry → List ℕ
+entry_cells e = flat_map act_cells (acts_in e) ++ fault_cells e
+
+abbrev pub touched : Choice → List Entry → List ℕ
+touched c es = flat_map (λ p. entry_cells p.1) (drawn c es)
+
+-- ---- in ascending order
+
+-- the lesser of two, without one that is less than x
+abbrev pub nearer : (x : ℕ) → Option ℕ → ℕ → Option ℕ
+nearer x None c = if nat_lt c x then None else Some c
+nearer x (Some b) c = if nat_lt c x then Some b else Some (min b c)
+
+-- the least of the cells from x on
+abbrev pub least_from : (x : ℕ) → List ℕ → Option ℕ
+least_from x cells = fold (nearer x) None cells
+
+abbrev pub with_row : Option ℕ → (ℕ → List ℕ) → List ℕ
+with_row None rest = []
+with_row (Some c) rest = c ∷ rest (c + 1)
+
+-- so many of them at most, from x on
+abbrev pub rows_from : (more x : ℕ) → List ℕ → List ℕ
+rows_from zero x cells = []
+rows_from (suc more) x cells = with_row (least_from x cells) (λ y. rows_from more y cells)
+
+-- one more than are drawn
+abbrev pub rows_and_next : Choice → List Entry → List ℕ
+rows_and_next c es = rows_from 65 0 (touched c es)
+
+abbrev pub rows : Choice → List Entry → List ℕ
+rows c es = take 64 (rows_and_next c es)

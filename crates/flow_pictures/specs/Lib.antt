@@ -1,0 +1,9 @@
+pub mod Choice
+pub mod Cells
+pub mod Values
+pub mod Places
+pub mod Marks
+pub mod Texts
+pub mod Columns
+pub mod Picture
+pub mod Laws

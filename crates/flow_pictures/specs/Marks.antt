@@ -1,0 +1,67 @@
+-- The marks of a column: what a statement wrote, from which cells that was computed, and what it read alone.
+use Rattle.std.specs.Prelude.{ℕ, nat_eq, Bool, true, false, ◌&&◌, List, Option, Some, None, ℤ, map}
+use Rattle.std.specs.List.{filter, flat_map, list_any}
+use Rattle.step_entries.specs.Entries.{Act}
+
+-- a cell that was written, with its value behind the statement
+pub record Node : Type 0 where
+  pub cell : ℕ
+  pub column : ℕ
+  pub value : ℤ
+
+-- from a cell that a processor read to the one that it wrote
+pub record Arrow : Type 0 where
+  pub from : ℕ
+  pub to : ℕ
+  pub column : ℕ
+
+-- a cell that was read by a processor that wrote none
+pub record Reading : Type 0 where
+  pub cell : ℕ
+  pub column : ℕ
+
+-- ---- what was done
+
+abbrev pub is_written : (write to : Option ℕ) → Bool
+is_written (Some c) (Some to) = nat_eq c to
+is_written (Some c) None = false
+is_written None (Some to) = false
+is_written None None = true
+
+abbrev pub has_read : List ℕ → (cell : ℕ) → Bool
+has_read reads cell = list_any (λ r. nat_eq r cell) reads
+
+-- a processor wrote it
+abbrev pub writes : List Act → (cell : ℕ) → Bool
+writes acts cell = list_any (λ a. is_written a.write (Some cell)) acts
+
+-- it read the one and wrote the other, or wrote none
+abbrev pub carries_one : Act → (from : ℕ) → (to : Option ℕ) → Bool
+carries_one a from to = is_written a.write to && has_read a.reads from
+
+-- a processor did
+abbrev pub carries : List Act → (from : ℕ) → (to : Option ℕ) → Bool
+carries acts from to = list_any (λ a. carries_one a from to) acts
+
+-- ---- marks, by the cells that are drawn
+
+abbrev pub node : (column : ℕ) → (ℕ → ℤ) → (cell : ℕ) → Node
+node column value cell = record { cell = cell; column = column; value = value cell }
+
+abbrev pub nodes : List ℕ → (column : ℕ) → (ℕ → ℤ) → List Act → List Node
+nodes rows column value acts = map (node column value) (filter (writes acts) rows)
+
+abbrev pub arrow : (column to from : ℕ) → Arrow
+arrow column to from = record { from = from; to = to; column = column }
+
+abbrev pub arrows_to : List ℕ → (column : ℕ) → List Act → (to : ℕ) → List Arrow
+arrows_to rows column acts to = map (arrow column to) (filter (λ from. carries acts from (Some to)) rows)
+
+abbrev pub arrows : List ℕ → (column : ℕ) → List Act → List Arrow
+arrows rows column acts = flat_map (arrows_to rows column acts) (filter (writes acts) rows)
+
+abbrev pub reading : (column cell : ℕ) → Reading
+reading column cell = record { cell = cell; column = column }
+
+abbrev pub readings : List ℕ → (column : ℕ) → List Act → List Reading
+readings rows column acts = map (reading column) (filter (λ cell. carries acts cell None) rows)

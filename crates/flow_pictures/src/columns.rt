@@ -1,0 +1,198 @@
+//! The columns of statements.
+
+ghost use Rattle.std.specs.Prelude.{◌≡◌, ◌≤◌, ◌<◌, ◌+◌, ◌^◌, [], if◌then◌else◌, length, map};
+ghost use Rattle.text_out.specs.Out.{Writes};
+ghost use Rattle.step_entries.specs.Entries.{entry_is};
+ghost use Rattle.flow_pictures.specs.Choice as choosing;
+ghost use Rattle.flow_pictures.specs.Picture as picture;
+ghost use Rattle.flow_pictures.specs.Columns as spec;
+ghost use Rattle.flow_pictures.specs.Values as values;
+
+use crate::choice::{Choice, counted, is_drawn};
+use crate::entries::location_in;
+use crate::faults::write_fault_part;
+use crate::letters::{source_at, write_source};
+use crate::marks::write_marks;
+use crate::measure::{x_of, y_at};
+use itoa::Buffer;
+use pram_trees::Layout;
+use step_entries::Entry;
+use text_out::{Out, WriteFault};
+
+// The number of a statement and its line.
+fn write_number<W: Out>(out: &mut W, x: u128, number: usize, line: u32) -> Result<(), WriteFault>
+    requires counted { (W.Out.state out.old).failures < 2 ^ 63 }
+    ensures written { Writes (W.Out.state out.old) (W.Out.state out.new) (spec.number_text x number line) result }
+{
+    let mut across = Buffer::new();
+    let mut digits = Buffer::new();
+    let mut lines = Buffer::new();
+    let from = across.format(x).as_bytes();
+    out.write_parts(&[
+        b"<text x='",
+        from,
+        b"' y='272' text-anchor='middle' font-weight='bold'>",
+        digits.format(number).as_bytes(),
+        b"</text>\n<text x='",
+        from,
+        b"' y='286' text-anchor='middle'>line ",
+        lines.format(line).as_bytes(),
+        b"</text>\n",
+    ])
+}
+
+fn write_place<W: Out>(out: &mut W, x: u128, number: usize, entry: &Entry) -> Result<(), WriteFault>
+    requires counted { (W.Out.state out.old).failures < 2 ^ 63 }
+    ensures written { Writes (W.Out.state out.old) (W.Out.state out.new) (spec.place_text x number (entry_is entry.now)) result }
+{
+    write_number(out, x, number, location_in(entry).line)
+}
+
+fn write_line_source<W: Out>(
+    out: &mut W,
+    text: &[u8],
+    x: u128,
+    entry: &Entry,
+) -> Result<(), WriteFault>
+    requires counted { (W.Out.state out.old).failures < 2 ^ 63 }
+    requires near { x < 2 ^ 100 }
+    ensures written { Writes (W.Out.state out.old) (W.Out.state out.new) (spec.line_source text.now x (entry_is entry.now)) result }
+{
+    write_source(out, x, source_at(text, location_in(entry).offset))
+}
+
+fn write_heading_at<W: Out>(
+    out: &mut W,
+    text: &[u8],
+    x: u128,
+    number: usize,
+    entry: &Entry,
+) -> Result<(), WriteFault>
+    requires counted { (W.Out.state out.old).failures < 2 ^ 63 }
+    requires near { x < 2 ^ 100 }
+    ensures written { Writes (W.Out.state out.old) (W.Out.state out.new) (spec.heading_at text.now x number (entry_is entry.now)) result }
+{
+    write_place(out, x, number, entry)?;
+    write_line_source(out, text, x, entry)
+}
+
+// What stands above a column.
+fn write_heading<W: Out>(
+    out: &mut W,
+    text: &[u8],
+    column: usize,
+    number: usize,
+    entry: &Entry,
+) -> Result<(), WriteFault>
+    requires counted { (W.Out.state out.old).failures < 2 ^ 63 }
+    ensures written { Writes (W.Out.state out.old) (W.Out.state out.new)
+        (spec.heading text.now column number (entry_is entry.now)) result }
+{
+    write_heading_at(out, text, x_of(column), number, entry)
+}
+
+// Where the line below the rows stands.
+fn bottom(rows: &[u32]) -> u128
+    ensures y { result ≡ spec.bottom rows.now }
+    ensures near { result < 2 ^ 100 }
+{
+    y_at(rows.len()) + 10
+}
+
+fn write_column_fault<W: Out>(
+    out: &mut W,
+    layout: &Layout,
+    rows: &[u32],
+    column: usize,
+    entry: &Entry,
+) -> Result<(), WriteFault>
+    requires counted { (W.Out.state out.old).failures < 2 ^ 63 }
+    ensures written { Writes (W.Out.state out.old) (W.Out.state out.new)
+        (spec.column_fault layout.now rows.now column (entry_is entry.now)) result }
+{
+    write_fault_part(out, layout, rows, x_of(column), bottom(rows), entry)
+}
+
+fn write_column<W: Out>(
+    out: &mut W,
+    layout: &Layout,
+    text: &[u8],
+    opening: &[i64],
+    entries: &[Entry],
+    rows: &[u32],
+    column: usize,
+    number: usize,
+    entry: &Entry,
+) -> Result<(), WriteFault>
+    requires counted { (W.Out.state out.old).failures < 2 ^ 63 }
+    requires within { number ≤ length entries.now }
+    ensures written { Writes (W.Out.state out.old) (W.Out.state out.new) (spec.column_text layout.now text.now rows.now column number
+        (values.value_behind opening.now (map entry_is entries.now) number) (entry_is entry.now)) result }
+{
+    write_heading(out, text, column, number, entry)?;
+    write_marks(out, rows, column, opening, entries, number, entry)?;
+    write_column_fault(out, layout, rows, column, entry)
+}
+
+// The column of a statement, where it is drawn.
+fn write_column_if<W: Out>(
+    out: &mut W,
+    layout: &Layout,
+    text: &[u8],
+    opening: &[i64],
+    entries: &[Entry],
+    rows: &[u32],
+    column: usize,
+    number: usize,
+    entry: &Entry,
+    drawn: bool,
+) -> Result<(), WriteFault>
+    requires counted { (W.Out.state out.old).failures < 2 ^ 63 }
+    requires within { number ≤ length entries.now }
+    ensures written { Writes (W.Out.state out.old) (W.Out.state out.new) (if drawn then spec.column_text layout.now text.now rows.now column
+        number (values.value_behind opening.now (map entry_is entries.now) number) (entry_is entry.now) else []) result }
+{
+    if drawn {
+        write_column(
+            out, layout, text, opening, entries, rows, column, number, entry,
+        )
+    } else {
+        Ok(())
+    }
+}
+
+/// Writes the columns of the statements that are drawn.
+pub(crate) fn write_columns<W: Out>(
+    out: &mut W,
+    layout: &Layout,
+    text: &[u8],
+    opening: &[i64],
+    entries: &[Entry],
+    choice: Choice,
+    rows: &[u32],
+) -> Result<(), WriteFault>
+    requires counted { (W.Out.state out.old).failures < 2 ^ 63 }
+    ensures written { Writes (W.Out.state out.old) (W.Out.state out.new) (picture.columns layout.now text.now opening.now
+        (map entry_is entries.now) rows.now 1 (choosing.drawn choice (map entry_is entries.now))) result }
+{
+    let mut before = 0usize;
+    let mut number = 0usize;
+    for entry in entries {
+        number += 1;
+        let drawn = is_drawn(choice, number, entry);
+        write_column_if(
+            out,
+            layout,
+            text,
+            opening,
+            entries,
+            rows,
+            before + 1,
+            number,
+            entry,
+            drawn,
+        )?;
+        before = counted(before, drawn);
+    }
+    Ok(())
+}

@@ -1,0 +1,112 @@
+//! Texts of a program.
+
+ghost use Rattle.std.specs.Prelude.{◌≡◌, ◌<◌, ◌^◌, drop, take};
+ghost use Rattle.text_out.specs.Out.{Writes};
+ghost use Rattle.flow_pictures.specs.Texts as spec;
+
+use itoa::Buffer;
+use text_out::{Out, WriteFault};
+use text_places::line_text;
+
+// No more of a line is shown.
+const MOST: usize = 24;
+
+// A byte in a text of SVG.
+fn write_letter<W: Out>(out: &mut W, byte: u8) -> Result<(), WriteFault>
+    requires counted { (W.Out.state out.old).failures < 2 ^ 63 }
+    ensures written { Writes (W.Out.state out.old) (W.Out.state out.new) (spec.letter byte) result }
+{
+    if byte == b'&' {
+        out.write_all(b"&amp;")
+    } else if byte == b'<' {
+        out.write_all(b"&lt;")
+    } else if byte == b'>' {
+        out.write_all(b"&gt;")
+    } else if byte < 32 || byte > 126 {
+        out.write_all(b"?")
+    } else {
+        out.write_all(&[byte])
+    }
+}
+
+fn write_letters<W: Out>(out: &mut W, bytes: &[u8]) -> Result<(), WriteFault>
+    requires counted { (W.Out.state out.old).failures < 2 ^ 63 }
+    ensures written { Writes (W.Out.state out.old) (W.Out.state out.new) (spec.letters bytes.now) result }
+{
+    for byte in bytes {
+        write_letter(out, *byte)?;
+    }
+    Ok(())
+}
+
+// What stands behind an offset, and nothing where there is no such.
+fn behind(text: &[u8], offset: usize) -> &[u8]
+    ensures { result.now ≡ drop offset text.now }
+{
+    if offset < text.len() {
+        text.split_at(offset).1
+    } else {
+        &[]
+    }
+}
+
+/// What stands in the line of an offset, from there on.
+pub(crate) fn source_at(text: &[u8], offset: u32) -> &[u8]
+    ensures { result.now ≡ spec.source_at text.now offset }
+{
+    line_text(behind(text, offset as usize), 1)
+}
+
+// As much as has room.
+fn front(source: &[u8]) -> &[u8]
+    ensures { result.now ≡ take 24 source.now }
+{
+    if source.len() > MOST {
+        source.split_at(MOST).0
+    } else {
+        source
+    }
+}
+
+fn write_shown<W: Out>(out: &mut W, source: &[u8]) -> Result<(), WriteFault>
+    requires counted { (W.Out.state out.old).failures < 2 ^ 63 }
+    ensures written { Writes (W.Out.state out.old) (W.Out.state out.new) (spec.letters (take 24 source.now)) result }
+{
+    write_letters(out, front(source))
+}
+
+// That more stands there than has room.
+fn write_source_cut<W: Out>(out: &mut W, source: &[u8]) -> Result<(), WriteFault>
+    requires counted { (W.Out.state out.old).failures < 2 ^ 63 }
+    ensures written { Writes (W.Out.state out.old) (W.Out.state out.new) (spec.source_cut source.now) result }
+{
+    if source.len() > MOST {
+        out.write_all(b" ..</text>\n")
+    } else {
+        out.write_all(b"</text>\n")
+    }
+}
+
+fn write_source_front<W: Out>(out: &mut W, x: u128) -> Result<(), WriteFault>
+    requires counted { (W.Out.state out.old).failures < 2 ^ 63 }
+    requires near { x < 2 ^ 100 }
+    ensures written { Writes (W.Out.state out.old) (W.Out.state out.new) (spec.source_front x) result }
+{
+    let mut across = Buffer::new();
+    out.write_parts(&[
+        b"<text transform='translate(",
+        across.format(x + 4).as_bytes(),
+        b" 250)rotate(-90)' font-family='monospace' font-size='11'>",
+    ])
+}
+
+/// Writes what stands in the line of a statement, upwards.
+pub(crate) fn write_source<W: Out>(out: &mut W, x: u128, source: &[u8]) -> Result<(), WriteFault>
+    requires counted { (W.Out.state out.old).failures < 2 ^ 63 }
+    requires near { x < 2 ^ 100 }
+    ensures written { Writes (W.Out.state out.old) (W.Out.state out.new) (spec.source_text x source.now) result }
+{
+    write_source_front(out, x)?;
+    write_shown(out, source)?;
+    write_source_cut(out, source)
+}

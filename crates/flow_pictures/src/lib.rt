@@ -1,0 +1,22 @@
+//! The picture of what passes through shared memory in a run.
+#![tactic(auto)]
+
+mod cells;
+mod choice;
+mod columns;
+mod entries;
+mod faults;
+mod flow_laws;
+mod letters;
+mod links;
+mod marks;
+mod measure;
+mod picture;
+mod rows;
+mod shapes;
+#[cfg(test)]
+mod tests;
+mod values;
+
+pub use flow_laws::{each_write_is_a_node, lines_come_from_reads, what_has_room_is_drawn};
+pub use picture::write_flow;

@@ -1,0 +1,246 @@
+//! The marks of a column.
+
+ghost use Rattle.std.specs.Prelude.{◌≡◌, ◌≤◌, ◌<◌, ◌^◌, [], None, Some, if◌then◌else◌, length, map};
+ghost use Rattle.std.specs.List.{flat_map};
+ghost use Rattle.text_out.specs.Out.{Writes};
+ghost use Rattle.step_entries.specs.Entries.{act_is, entry_is};
+ghost use Rattle.flow_pictures.specs.Marks as spec;
+ghost use Rattle.flow_pictures.specs.Texts as texts;
+ghost use Rattle.flow_pictures.specs.Values as values;
+
+use crate::entries::acts_in;
+use crate::links::{carries, writes};
+use crate::measure::{value_width, x_of, y_of};
+use crate::shapes::{write_box, write_line, write_ring};
+use crate::values::value_behind;
+use step_entries::{Act, Entry};
+use text_out::{Out, WriteFault};
+
+// A cell that was written.
+fn write_node<W: Out>(
+    out: &mut W,
+    rows: &[u32],
+    column: usize,
+    cell: u32,
+    value: &i64,
+) -> Result<(), WriteFault>
+    requires counted { (W.Out.state out.old).failures < 2 ^ 63 }
+    ensures written { Writes (W.Out.state out.old) (W.Out.state out.new)
+        (texts.node_text rows.now record { cell = cell; column = column; value = value.now }) result }
+{
+    let wide = value_width(value).min(76);
+    write_box(out, x_of(column), y_of(rows, cell), wide, value)
+}
+
+// A cell, where it was written by the statement of that number.
+fn write_node_if<W: Out>(
+    out: &mut W,
+    rows: &[u32],
+    column: usize,
+    cell: u32,
+    opening: &[i64],
+    entries: &[Entry],
+    number: usize,
+    acts: &[Act],
+) -> Result<(), WriteFault>
+    requires counted { (W.Out.state out.old).failures < 2 ^ 63 }
+    requires within { number ≤ length entries.now }
+    ensures written { Writes (W.Out.state out.old) (W.Out.state out.new)
+        (if spec.writes (map act_is acts.now) cell
+        then texts.node_text rows.now (spec.node column (values.value_behind opening.now (map entry_is entries.now) number) cell)
+        else []) result }
+{
+    if writes(acts, cell) {
+        let value = value_behind(opening, entries, number, cell as usize);
+        write_node(out, rows, column, cell, &value)
+    } else {
+        Ok(())
+    }
+}
+
+fn write_nodes<W: Out>(
+    out: &mut W,
+    rows: &[u32],
+    column: usize,
+    opening: &[i64],
+    entries: &[Entry],
+    number: usize,
+    acts: &[Act],
+) -> Result<(), WriteFault>
+    requires counted { (W.Out.state out.old).failures < 2 ^ 63 }
+    requires within { number ≤ length entries.now }
+    ensures written { Writes (W.Out.state out.old) (W.Out.state out.new) (flat_map (texts.node_text rows.now)
+        (spec.nodes rows.now column (values.value_behind opening.now (map entry_is entries.now) number) (map act_is acts.now))) result }
+{
+    for cell in rows {
+        write_node_if(out, rows, column, *cell, opening, entries, number, acts)?;
+    }
+    Ok(())
+}
+
+// From a cell that a processor read to the one that it wrote.
+fn write_arrow<W: Out>(
+    out: &mut W,
+    rows: &[u32],
+    column: usize,
+    to: u32,
+    from: u32,
+) -> Result<(), WriteFault>
+    requires counted { (W.Out.state out.old).failures < 2 ^ 63 }
+    ensures written { Writes (W.Out.state out.old) (W.Out.state out.new) (texts.arrow_text rows.now (spec.arrow column to from)) result }
+{
+    let x = x_of(column);
+    write_line(
+        out,
+        x.saturating_sub(60),
+        y_of(rows, from),
+        x,
+        y_of(rows, to),
+    )
+}
+
+fn write_arrow_if<W: Out>(
+    out: &mut W,
+    rows: &[u32],
+    column: usize,
+    to: u32,
+    from: u32,
+    acts: &[Act],
+) -> Result<(), WriteFault>
+    requires counted { (W.Out.state out.old).failures < 2 ^ 63 }
+    ensures written { Writes (W.Out.state out.old) (W.Out.state out.new)
+        (if spec.carries (map act_is acts.now) from (Some to)
+        then texts.arrow_text rows.now (spec.arrow column to from) else []) result }
+{
+    if carries(acts, from, Some(to)) {
+        write_arrow(out, rows, column, to, from)
+    } else {
+        Ok(())
+    }
+}
+
+fn write_arrows_to<W: Out>(
+    out: &mut W,
+    rows: &[u32],
+    column: usize,
+    acts: &[Act],
+    to: u32,
+) -> Result<(), WriteFault>
+    requires counted { (W.Out.state out.old).failures < 2 ^ 63 }
+    ensures written { Writes (W.Out.state out.old) (W.Out.state out.new)
+        (flat_map (texts.arrow_text rows.now) (spec.arrows_to rows.now column (map act_is acts.now) to)) result }
+{
+    for from in rows {
+        write_arrow_if(out, rows, column, to, *from, acts)?;
+    }
+    Ok(())
+}
+
+// The lines to a cell, where it was written.
+fn write_arrows_if<W: Out>(
+    out: &mut W,
+    rows: &[u32],
+    column: usize,
+    acts: &[Act],
+    to: u32,
+) -> Result<(), WriteFault>
+    requires counted { (W.Out.state out.old).failures < 2 ^ 63 }
+    ensures written { Writes (W.Out.state out.old) (W.Out.state out.new)
+        (if spec.writes (map act_is acts.now) to
+        then flat_map (texts.arrow_text rows.now) (spec.arrows_to rows.now column (map act_is acts.now) to) else []) result }
+{
+    if writes(acts, to) {
+        write_arrows_to(out, rows, column, acts, to)
+    } else {
+        Ok(())
+    }
+}
+
+fn write_arrows<W: Out>(
+    out: &mut W,
+    rows: &[u32],
+    column: usize,
+    acts: &[Act],
+) -> Result<(), WriteFault>
+    requires counted { (W.Out.state out.old).failures < 2 ^ 63 }
+    ensures written { Writes (W.Out.state out.old) (W.Out.state out.new)
+        (flat_map (texts.arrow_text rows.now) (spec.arrows rows.now column (map act_is acts.now))) result }
+{
+    for to in rows {
+        write_arrows_if(out, rows, column, acts, *to)?;
+    }
+    Ok(())
+}
+
+// A cell, where a processor read it that wrote none.
+fn write_reading_if<W: Out>(
+    out: &mut W,
+    rows: &[u32],
+    column: usize,
+    cell: u32,
+    acts: &[Act],
+) -> Result<(), WriteFault>
+    requires counted { (W.Out.state out.old).failures < 2 ^ 63 }
+    ensures written { Writes (W.Out.state out.old) (W.Out.state out.new)
+        (if spec.carries (map act_is acts.now) cell None
+        then texts.reading_text rows.now (spec.reading column cell) else []) result }
+{
+    if carries(acts, cell, None) {
+        write_ring(out, x_of(column), y_of(rows, cell))
+    } else {
+        Ok(())
+    }
+}
+
+fn write_readings<W: Out>(
+    out: &mut W,
+    rows: &[u32],
+    column: usize,
+    acts: &[Act],
+) -> Result<(), WriteFault>
+    requires counted { (W.Out.state out.old).failures < 2 ^ 63 }
+    ensures written { Writes (W.Out.state out.old) (W.Out.state out.new)
+        (flat_map (texts.reading_text rows.now) (spec.readings rows.now column (map act_is acts.now))) result }
+{
+    for cell in rows {
+        write_reading_if(out, rows, column, *cell, acts)?;
+    }
+    Ok(())
+}
+
+fn write_acts<W: Out>(
+    out: &mut W,
+    rows: &[u32],
+    column: usize,
+    opening: &[i64],
+    entries: &[Entry],
+    number: usize,
+    acts: &[Act],
+) -> Result<(), WriteFault>
+    requires counted { (W.Out.state out.old).failures < 2 ^ 63 }
+    requires within { number ≤ length entries.now }
+    ensures written { Writes (W.Out.state out.old) (W.Out.state out.new) (texts.marks_of rows.now column
+        (values.value_behind opening.now (map entry_is entries.now) number) (map act_is acts.now)) result }
+{
+    write_arrows(out, rows, column, acts)?;
+    write_nodes(out, rows, column, opening, entries, number, acts)?;
+    write_readings(out, rows, column, acts)
+}
+
+/// Writes the marks of the statement of that number.
+pub(crate) fn write_marks<W: Out>(
+    out: &mut W,
+    rows: &[u32],
+    column: usize,
+    opening: &[i64],
+    entries: &[Entry],
+    number: usize,
+    entry: &Entry,
+) -> Result<(), WriteFault>
+    requires counted { (W.Out.state out.old).failures < 2 ^ 63 }
+    requires within { number ≤ length entries.now }
+    ensures written { Writes (W.Out.state out.old) (W.Out.state out.new) (texts.marks_text rows.now column
+        (values.value_behind opening.now (map entry_is entries.now) number) (entry_is entry.now)) result }
+{
+    write_acts(out, rows, column, opening, entries, number, acts_in(entry))
+}

@@ -1,0 +1,46 @@
+//! Which cells have a row.
+
+ghost use Rattle.std.specs.Prelude.{◌≡◌, map, take};
+ghost use Rattle.step_entries.specs.Entries.{entry_is};
+ghost use Rattle.flow_pictures.specs.Cells as spec;
+
+use crate::cells::least_from;
+use crate::choice::Choice;
+use arrayvec::ArrayVec;
+use step_entries::Entry;
+
+/// No more cells are drawn.
+const MOST_ROWS: usize = 64;
+
+/// One more than are drawn, so that it is known whether more are touched.
+const MOST_FOUND: usize = 65;
+
+/// The first cells that are touched, in ascending order, and one more than are drawn.
+#[tactic(auto, using(crate::proofs::RowLists::rows_start, crate::proofs::RowLists::rows_go, crate::proofs::RowLists::rows_over, crate::proofs::RowLists::rows_full))]
+pub(crate) fn rows_and_next(choice: Choice, entries: &[Entry]) -> ArrayVec<u32, MOST_FOUND>
+    ensures { result.items ≡ spec.rows_and_next choice (map entry_is entries.now) }
+{
+    let mut found = ArrayVec::new();
+    let mut start = 0u64;
+    'rows: while found.len() < MOST_FOUND {
+        match least_from(start, choice, entries) {
+            None => return found,
+            Some(cell) => {
+                found.push(cell);
+                start = u64::from(cell) + 1;
+            }
+        }
+    }
+    found
+}
+
+/// Those that are drawn.
+pub(crate) fn drawn_rows(found: &[u32]) -> &[u32]
+    ensures { result.now ≡ take 64 found.now }
+{
+    if found.len() > MOST_ROWS {
+        found.split_at(MOST_ROWS).0
+    } else {
+        found
+    }
+}

@@ -1,0 +1,199 @@
+//! What no clause says: that a picture is made; and pictures of few statements, letter by letter.
+
+use crate::write_flow;
+use pram_tokens::Location;
+use pram_trees::Layout;
+use pram_values::{Kind, Place};
+use std::alloc::{AllocError, Global};
+use std::test::Fail;
+use step_entries::{Act, Change, Entry};
+use text_out::{Buffer, WriteFault};
+use write_rules::Fault;
+
+// A statement of one processor, which read these cells, wrote that one, and left that value there.
+fn ran(
+    alloc: Global,
+    line: u32,
+    reads: &[u32],
+    write: Option<u32>,
+    after: i64,
+) -> Result<Entry, AllocError> {
+    let mut acts = Vec::new(alloc);
+    acts.push(Act {
+        processor: None,
+        reads: Vec::from_slice(alloc, reads)?,
+        write,
+    })?;
+    let mut cells = Vec::new(alloc);
+    if let Some(cell) = write {
+        cells.push(Change {
+            cell: cell as usize,
+            before: 0,
+            after,
+        })?;
+    }
+    Ok(Entry::Ran {
+        location: Location { offset: 0, line },
+        acts,
+        cells,
+        variables: Vec::new(alloc),
+        locals: Vec::new(alloc),
+        printed: Vec::new(alloc),
+    })
+}
+
+// Processors 1 and 2 met at a cell.
+fn conflict(alloc: Global, cell: u32) -> Result<Entry, AllocError> {
+    Ok(Entry::Faulted {
+        location: Location { offset: 0, line: 6 },
+        fault: Fault {
+            kind: Kind::ReadConflict,
+            line: 6,
+            place: Place::Cell(cell),
+        },
+        cause: None,
+        acts: Vec::new(alloc),
+        met: Vec::from_slice(alloc, &[1, 2])?,
+    })
+}
+
+// Whether a text stands in another one.
+fn stands(part: &[u8], whole: &[u8]) -> bool {
+    for i in 0..whole.len() {
+        if whole.split_at(i).1.starts_with(part) {
+            return true;
+        }
+    }
+    false
+}
+
+fn picture(
+    alloc: Global,
+    layout: &Layout,
+    entries: &[Entry],
+    from: usize,
+) -> Result<Buffer, WriteFault> {
+    let mut out = Buffer::new(alloc);
+    let text = b"a < b; end\nmore";
+    write_flow(&mut out, layout, text, &[4, 7], entries, from, 100)?;
+    Ok(out)
+}
+
+// Cells a[0], a[1] and s.
+fn three_cells(alloc: Global) -> Result<Layout, AllocError> {
+    let mut layout = Layout::new(alloc);
+    layout.push_array(alloc, b"a", 0, 1)?;
+    layout.push_cell(alloc, b"s")?;
+    Ok(layout)
+}
+
+// a[0] is written, nothing is touched, s is written by one that reads a[0] twice, and s is read alone.
+fn four_statements(alloc: Global) -> Result<Vec<Entry>, AllocError> {
+    let mut entries = Vec::new(alloc);
+    entries.push(ran(alloc, 3, &[], Some(0), 5)?)?;
+    entries.push(ran(alloc, 4, &[], None, 0)?)?;
+    entries.push(ran(alloc, 5, &[0, 0], Some(2), 10)?)?;
+    entries.push(ran(alloc, 6, &[2], None, 0)?)?;
+    Ok(entries)
+}
+
+// Rows of a[0] and s stand at 310 and 334, columns at 268, 368 and 468; the value 5 is 15 pixels wide, and 10 is 22.
+#[test]
+fn marks_stand_where_they_should(rt: HostRuntime) -> Result<(), Fail> {
+    let alloc = rt.alloc();
+    let out = picture(alloc, &three_cells(alloc)?, &four_statements(alloc)?, 0)?;
+    let text = out.bytes();
+    assert!(rt; stands(b"<text x='192' y='314' text-anchor='end'>4</text>", text));
+    assert!(rt; stands(b"<rect x='261' y='301' width='15' height='18'", text));
+    assert!(rt; stands(b"<path d='M308 310L368 334'", text));
+    assert!(rt; stands(b"<rect x='357' y='325' width='22' height='18'", text));
+    assert!(rt;
+        stands(
+            b"<text x='368' y='338' text-anchor='middle'>10</text>",
+            text
+        )
+    );
+    assert!(rt; stands(b"<circle cx='468' cy='334'", text));
+    Ok(())
+}
+
+#[test]
+fn it_is_said_what_is_drawn(rt: HostRuntime) -> Result<(), Fail> {
+    let alloc = rt.alloc();
+    let layout = three_cells(alloc)?;
+    let entries = four_statements(alloc)?;
+    let out = picture(alloc, &layout, &entries, 0)?;
+    let text = out.bytes();
+    assert!(rt;
+        stands(
+            b">4 statements, 3 of them drawn: those that touch shared memory</text>",
+            text
+        )
+    );
+    assert!(rt;
+        stands(
+            b">3 cells, 2 of them drawn, 1 not: those that these statements touch</text>",
+            text
+        )
+    );
+    assert!(rt; stands(b"<text x='12' y='338'>s</text>", text));
+    assert!(rt; stands(b"font-size='11'>a &lt; b; end</text>", text));
+    assert!(rt;
+        stands(
+            b"font-weight='bold'>3</text>\n<text x='368' y='286' text-anchor='middle'>line 5<",
+            text
+        )
+    );
+    let later = picture(alloc, &layout, &entries, 2)?;
+    assert!(rt;
+        stands(
+            b">4 statements, 2 of them drawn: those that touch shared memory from 2 to 4</text>",
+            later.bytes()
+        )
+    );
+    assert!(rt;
+        stands(
+            b"<text x='192' y='314' text-anchor='end'>5</text>",
+            later.bytes()
+        )
+    );
+    Ok(())
+}
+
+// The first 63 of 70 that ran, and the one that faulted at the last cell, which has row 63.
+#[test]
+fn a_fault_is_always_drawn(rt: HostRuntime) -> Result<(), Fail> {
+    let alloc = rt.alloc();
+    let mut layout = Layout::new(alloc);
+    layout.push_array(alloc, b"a", 1, 70)?;
+    let mut entries = Vec::new(alloc);
+    for cell in 0..70u32 {
+        entries.push(ran(alloc, 3, &[], Some(cell), 1)?)?;
+    }
+    let many = picture(alloc, &layout, &entries, 0)?;
+    assert!(rt;
+        stands(
+            b">70 statements, 64 of them drawn: those that touch shared memory, without 6 for",
+            many.bytes()
+        )
+    );
+    entries.push(conflict(alloc, 69)?)?;
+    let out = picture(alloc, &layout, &entries, 0)?;
+    let text = out.bytes();
+    assert!(rt;
+        stands(
+            b">71 statements, 64 of them drawn: those that touch shared memory, without 7 for",
+            text
+        )
+    );
+    assert!(rt; stands(b">70 cells, 64 of them drawn, 6 not: those that", text));
+    assert!(rt;
+        stands(
+            b"<rect x='6540' y='1813' width='56' height='18' fill='none'",
+            text
+        )
+    );
+    assert!(rt; stands(b"y='1856'>fault read-conflict a[70] line 6</text>", text));
+    assert!(rt; stands(b"y='1874'>processors 1 2 met there</text>", text));
+    Ok(())
+}
