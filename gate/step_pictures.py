@@ -1,8 +1,9 @@
 #!/usr/bin/env python3
 """Draws the statements of each example, and compares the picture, read as XML, with the text of the same run.
 
-step_pictures.py PROGRAM: each statement that is drawn has its number and its line, and as many boxes as processors executed it, each in its
-row; a fault is written below the rows, and those that met are outlined; no element but boxes and texts stands there.
+step_pictures.py PROGRAM: each statement that is drawn has its number, its line and the text of that line, and as many boxes as processors
+executed it, less those that it says have no row; each box stands in the row that has its index's name; a fault stands below the bands with
+those that met there, who are outlined; no element but boxes and texts stands there, and none beyond a page's width.
 """
 import re
 import subprocess
@@ -17,8 +18,9 @@ PROGRAM = Path(sys.argv[1]).resolve()
 SVG = "{http://www.w3.org/2000/svg}"
 RAN = re.compile(r"(\d+) line (\d+) processors (\d+)(?: .*)?")
 FAULT = re.compile(r"(\d+) (fault .* line (\d+))(?: processors((?: -?\d+)+))?")
-MOST_DRAWN, MOST_ROWS = 100, 64
-LEFT, TOP, WIDE, TALL = 96, 104, 64, 20
+TURNED = re.compile(r"translate\((\d+) (\d+)\) rotate\(-90\)")
+MOST_DRAWN, FIRST, LAST, BAND, MOST_ROWS, LETTERS, NAMED = 112, 96, 16, 16, 64, 36, 8
+LEFT, WIDE, TALL, PAGE = 160, 64, 20, 1200
 
 
 def written(words):
@@ -38,46 +40,53 @@ def told(text):
             yield int(fault[1]), int(fault[3]), None, fault[2], (fault[4] or "").split()
 
 
-def boxes(root):
-    """Each box's and each outline's column, counted from 1, its row, and what it says."""
-    for it in root.iter(f"{SVG}rect"):
-        name = it.find(f"{SVG}title")
-        if name is not None:
-            column, row = (int(it.get("x")) - LEFT) / WIDE, (int(it.get("y")) - TOP) / TALL
-            yield column, row, name.text, it.get("fill")
+def at(it):
+    return int(it.get("x")), int(it.get("y"))
 
 
-def place(text, low):
-    """The row of the processor that a box names."""
-    return int(text.split()[1]) - low + 1 if text.startswith("processor") else 0
+def code(line):
+    """The text of a line as it stands above its column, in one row or two."""
+    line = line.strip()
+    more = line[LETTERS:]
+    return [line[:LETTERS], *([more if len(more) <= LETTERS else more[:LETTERS - 2] + ".."] if more else [])]
 
 
-def wrong(name, _text):
+def wrong(name, text):
     """What is wrong with the picture of an example, if anything is."""
     words = ["steps", EXAMPLES / f"{name}.pram", "--input", EXAMPLES / f"{name}.in"]
     entries = list(told(written(words)))
     root = tree.fromstring(written([*words, "--svg"]))
-    drawn = entries[:MOST_DRAWN]
-    texts = [it.text for it in root.iter(f"{SVG}text")]
-    cut = f", of which the first {MOST_DRAWN} are drawn" if len(entries) > MOST_DRAWN else ""
-    span = re.fullmatch(r"processors (-?\d+) to (-?\d+)(, of which the first 64 are drawn)?", texts[1])
-    low, high = (int(span[1]), int(span[2])) if span else (0, -1)
-    rows = min(MOST_ROWS, high - low + 1)
-    labels = ["outside", *map(str, range(low, low + rows))]
-    said = [f"statements {len(entries)}{cut}", texts[1], "acts", "r", "reads", "w", "writes", "met at a fault", *labels]
-    found = [it for it in texts if it not in ("r", "w")]
-    for k, line, _, fault, _ in drawn:
-        said += [str(k), f"line {line}", *([fault] if fault else [])]
-    marked = list(boxes(root))
-    checks = [found == [it for it in said if it not in ("r", "w")], bool(span and span[3]) == (high - low + 1 > MOST_ROWS)]
-    checks += [all(row == place(text, low) for _, row, text, _ in marked)]
-    for k, _, count, _, met in drawn:
-        acting = [text for column, _, text, fill in marked if column == k and fill != "none"]
-        outlined = [text for column, _, text, fill in marked if column == k and fill == "none"]
-        whole = high - low < MOST_ROWS
-        checks += [count is None or not whole or len(acting) == count, not whole or outlined == [f"processor {i} met" for i in met]]
+    lines = (EXAMPLES / f"{name}.pram").read_text().split("\n")
+    cut = len(entries) > MOST_DRAWN
+    drawn = entries[:FIRST] + entries[-LAST:] if cut else entries
+    texts = [it for it in root.iter(f"{SVG}text") if not it.get("transform")]
+    turned = [it for it in root.iter(f"{SVG}text") if it.get("transform")]
+    upright = [(tuple(map(int, TURNED.fullmatch(it.get("transform")).groups())), it.text) for it in turned]
+    titled = [it for it in root.iter(f"{SVG}rect") if it.find(f"{SVG}title") is not None]
+    boxes = [(*at(it), it.find(f"{SVG}title").text, it.get("fill")) for it in titled]
+    tops = [at(it)[1] - 13 for it in texts if it.text == "outside"]
+    without = f", without the {len(entries) - MOST_DRAWN} from {FIRST + 1} to {len(entries) - LAST}" if cut else ""
+    checks = [texts[0].text == f"statements {len(entries)}{without}", len(tops) == -(-len(drawn) // BAND)]
+    bands = list(zip(tops, [*tops[1:], 1 << 30]))
+    names = [{at(it)[1] - 13: it.text for it in texts if at(it)[0] == 12 and top <= at(it)[1] < low} for top, low in bands]
+    for j, (k, line, count, fault, met) in enumerate(drawn):
+        (top, low), x = bands[j // BAND], LEFT + WIDE * (j % BAND)
+        here = {at(it)[1] - top: it.text for it in texts if at(it)[0] == x}
+        acting = [(y, it) for left, y, it, fill in boxes if left == x and top <= y < low and fill != "none"]
+        rows = [names[j // BAND].get(y) for y, _ in acting]
+        said = [re.sub(r" (reads|writes) .*", "", it) for _, it in acting]
+        wanted = ["outside pardo" if it == "outside" else f"processor {it}" for it in rows]
+        outlined = [it for left, y, it, fill in boxes if left == x and top <= y < low and fill == "none"]
+        more = [int(it.text[1:]) for it in texts if at(it)[0] == x and top <= at(it)[1] < low and it.text.startswith("+")]
+        checks += [here[-26] == str(k), here[-9] == f"line {line}", said == wanted]
+        checks += [[it for (left, y), it in upright if x < left < x + WIDE and y == top - 42] == code(lines[line - 1])]
+        checks += [count is None or len(said) + sum(more) == count, outlined == [f"processor {i} met" for i in met][:MOST_ROWS]]
+    fault, met = next(((fault, met) for _, _, _, fault, met in drawn if fault), (None, []))
+    behind = [it.text for it in texts if at(it)[1] > max(tops) and at(it)[0] == 12 and it.text.startswith(("fault", "met: "))]
+    rest = f" and {len(met) - NAMED} more" if len(met) > NAMED else ""
+    checks += [behind == [*([fault] if fault else []), *([f"met: processors {' '.join(met[:NAMED])}{rest}"] if met else [])]]
     kinds = {it.tag.removeprefix(SVG) for it in root.iter()}
-    checks += [kinds <= {"svg", "rect", "text", "title"}, int(root.get("width")) >= LEFT + WIDE * (len(drawn) + 1), root.get("version") == "1.1"]
+    checks += [kinds <= {"svg", "rect", "text", "title"}, int(root.get("width")) <= PAGE, root.get("version") == "1.1"]
     return [] if all(checks) else [f"{name}: {checks}"]
 
 

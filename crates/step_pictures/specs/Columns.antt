@@ -1,64 +1,72 @@
--- The column of a statement: its number and its line, and below them its processors, each in its row.
-use Rattle.std.specs.Prelude.{ℕ, ◌+◌, nat_le, if◌then◌else◌, List, [], ◌∷◌, ◌++◌, Some, ℤ, codes, decimal}
+-- The column of a statement: its line of the program, its number and the line's, and below them its processors, each in its row.
+use Rattle.std.specs.Prelude.{ℕ, ◌+◌, ◌-◌, nat_eq, nat_lt, if◌then◌else◌, List, [], ◌∷◌, ◌++◌, Option, Some, None, ℤ, length, codes}
+use Rattle.std.specs.Prelude.{decimal}
 use Rattle.pram_model.specs.Layout.{SharedEntry}
-use Rattle.write_rules.specs.declared.fault.Fault.{Fault}
-use Rattle.program_texts.specs.Shown.{fault_text}
-use Rattle.step_entries.specs.Entries.{Act, Entry, Ran, Faulting}
+use Rattle.step_entries.specs.Entries.{Act, Entry}
+use Rattle.step_pictures.specs.Drawn.{acts_in, met_in, missing, place_of}
 use Rattle.step_pictures.specs.Marks.{box, outline}
-use Rattle.step_pictures.specs.Measures.{Grid, bottom, column_left, row_of, row_top}
+use Rattle.step_pictures.specs.Measures.{Column, Frame, row_top}
+use Rattle.step_pictures.specs.ProgramLines.{code_of, code_rows, line_of}
 
-abbrev pub heading : (x k line : ℕ) → List ℕ
-heading x k line = codes "<text x='" ++ (decimal x ++ (codes "' y='80'>" ++ (decimal k ++ (codes "</text>\n<text x='" ++ (decimal x
-    ++ (codes "' y='96'>line " ++ (decimal line ++ codes "</text>\n")))))))
+-- `5`, and below it `line 12`
+abbrev pub numbers_text : Column → (line : ℕ) → List ℕ
+numbers_text c line = codes "<text x='" ++ (decimal c.x ++ (codes "' y='" ++ (decimal (c.y - 26) ++ (codes "'>" ++ (decimal c.number
+    ++ (codes "</text>\n<text x='" ++ (decimal c.x ++ (codes "' y='" ++ (decimal (c.y - 9) ++ (codes "'>line " ++ (decimal line
+    ++ codes "</text>\n")))))))))))
 
--- one that acts, in a row
-abbrev pub act_at : List SharedEntry → (rows x row : ℕ) → Act → List ℕ
-act_at layout rows x row a = if nat_le row rows then box layout x (row_top row) a else []
+abbrev pub heading : (text : List ℕ) → Column → (line : ℕ) → List ℕ
+heading text c line = code_rows c.x (c.y - 42) (code_of text line) ++ numbers_text c line
 
--- where its row is drawn
-abbrev pub act_drawn : List SharedEntry → Grid → (x : ℕ) → Act → List ℕ
-act_drawn layout g x a = act_at layout g.rows x (row_of g.low a.processor) a
+-- ---- those that act
 
-abbrev pub acts_drawn : List SharedEntry → Grid → (x : ℕ) → List Act → List ℕ
-acts_drawn layout g x [] = []
-acts_drawn layout g x (a ∷ acts) = act_drawn layout g x a ++ acts_drawn layout g x acts
+-- in the row behind so many others, if there is one
+abbrev pub act_at : List SharedEntry → (rows : List ℤ) → Column → (before : ℕ) → Act → List ℕ
+act_at layout rows c before a = if nat_lt before (length rows) then box layout c.x (row_top c.y (before + 1)) a else []
 
--- one that met, in a row
-abbrev pub met_at : (rows x row : ℕ) → ℤ → List ℕ
-met_at rows x row i = if nat_le row rows then outline x (row_top row) i else []
+-- the one outside pardo in row 0
+abbrev pub outside : List SharedEntry → Column → Act → List ℕ
+outside layout c a = box layout c.x (row_top c.y 0) a
 
-abbrev pub met_drawn : Grid → (x : ℕ) → ℤ → List ℕ
-met_drawn g x i = met_at g.rows x (row_of g.low (Some i)) i
+abbrev pub act_drawn_by : List SharedEntry → (rows : List ℤ) → Column → Act → Option ℤ → List ℕ
+act_drawn_by layout rows c a None = outside layout c a
+act_drawn_by layout rows c a (Some i) = act_at layout rows c (place_of rows i) a
 
-abbrev pub all_met : Grid → (x : ℕ) → List ℤ → List ℕ
-all_met g x [] = []
-all_met g x (i ∷ is) = met_drawn g x i ++ all_met g x is
+abbrev pub act_drawn : List SharedEntry → (rows : List ℤ) → Column → Act → List ℕ
+act_drawn layout rows c a = act_drawn_by layout rows c a a.processor
 
-abbrev pub fault_front : ℕ → List ℕ
-fault_front y = codes "<text x='12' y='" ++ (decimal y ++ codes "'>")
+abbrev pub acts_drawn : List SharedEntry → (rows : List ℤ) → Column → List Act → List ℕ
+acts_drawn layout rows c [] = []
+acts_drawn layout rows c (a ∷ acts) = act_drawn layout rows c a ++ acts_drawn layout rows c acts
 
-abbrev pub fault_rest : List SharedEntry → Fault → List ℕ
-fault_rest layout f = fault_text layout f ++ codes "</text>\n"
+-- ---- those that met
 
--- the fault, below the rows
-abbrev pub fault_line : List SharedEntry → (rows : ℕ) → Fault → List ℕ
-fault_line layout rows f = fault_front (bottom rows) ++ fault_rest layout f
+abbrev pub met_at : (rows : List ℤ) → Column → (before : ℕ) → ℤ → List ℕ
+met_at rows c before i = if nat_lt before (length rows) then outline c.x (row_top c.y (before + 1)) i else []
 
--- those that met, and the fault
-abbrev pub conflict : List SharedEntry → Grid → (x : ℕ) → Fault → List ℤ → List ℕ
-conflict layout g x f met = all_met g x met ++ fault_line layout g.rows f
+abbrev pub met_drawn : (rows : List ℤ) → Column → ℤ → List ℕ
+met_drawn rows c i = met_at rows c (place_of rows i) i
 
-abbrev pub ran_column : List SharedEntry → Grid → (x k line : ℕ) → List Act → List ℕ
-ran_column layout g x k line acts = heading x k line ++ acts_drawn layout g x acts
+abbrev pub all_met : (rows : List ℤ) → Column → List ℤ → List ℕ
+all_met rows c [] = []
+all_met rows c (i ∷ is) = met_drawn rows c i ++ all_met rows c is
 
-abbrev pub fault_column : List SharedEntry → Grid → (x k : ℕ) → Fault → List Act → List ℤ → List ℕ
-fault_column layout g x k f acts met = heading x k f.line ++ (acts_drawn layout g x acts ++ conflict layout g x f met)
+-- ---- how many more act, below the rows: `+12`
 
-abbrev pub column : List SharedEntry → Grid → (x k : ℕ) → Entry → List ℕ
-column layout g x k (Ran here acts cells variables locals items) = ran_column layout g x k here.line acts
-column layout g x k (Faulting here f cause acts met) = fault_column layout g x k f acts met
+abbrev pub more_at : (x y count : ℕ) → List ℕ
+more_at x y count = codes "<text x='" ++ (decimal x ++ (codes "' y='" ++ (decimal y ++ (codes "'>+" ++ (decimal count
+    ++ codes "</text>\n")))))
 
--- those of entries that are numbered from k on
-abbrev pub columns_from : List SharedEntry → Grid → (k : ℕ) → List Entry → List ℕ
-columns_from layout g k [] = []
-columns_from layout g k (e ∷ es) = column layout g (column_left k) k e ++ columns_from layout g (k + 1) es
+abbrev pub more_text : (rows : ℕ) → Column → (count : ℕ) → List ℕ
+more_text rows c count = if nat_eq count 0 then [] else more_at c.x (row_top c.y (rows + 1) + 13) count
+
+-- of those that act, how many have no row
+abbrev pub missing_text : (rows : List ℤ) → Column → List Act → List ℕ
+missing_text rows c acts = more_text (length rows) c (missing rows acts)
+
+-- ---- all of it
+
+abbrev pub processors : List SharedEntry → (rows : List ℤ) → Column → List Act → List ℤ → List ℕ
+processors layout rows c acts met = acts_drawn layout rows c acts ++ (all_met rows c met ++ missing_text rows c acts)
+
+abbrev pub column : Frame → Column → Entry → List ℕ
+column f c e = heading f.text c (line_of e) ++ processors f.layout f.rows c (acts_in e) (met_in e)

@@ -1,5 +1,5 @@
 -- How a processor is drawn in the column of a statement: a box for one that acted, in it a mark for its reads and one for its write, and
--- an outline around one that met others at a fault.
+-- an outline and the word around one that met others at a fault.
 use Rattle.std.specs.Prelude.{ℕ, ◌+◌, List, [], ◌∷◌, ◌++◌, Option, Some, None, ℤ, codes, decimal}
 use Rattle.std.specs.Fmt.{signed_decimal}
 use Rattle.pram_model.specs.Layout.{SharedEntry}
@@ -76,8 +76,14 @@ box_rest x y a = codes "</title></rect>\n" ++ marks x y a
 abbrev pub box : List SharedEntry → (x y : ℕ) → Act → List ℕ
 box layout x y a = ground_text x y ++ (title_text layout a ++ box_rest x y a)
 
--- around one that met others
-abbrev pub outline : (x y : ℕ) → ℤ → List ℕ
-outline x y i = codes "<rect x='" ++ (decimal x ++ (codes "' y='" ++ (decimal y
+-- around one that met others, and the word in it
+abbrev pub frame : (x y : ℕ) → ℤ → List ℕ
+frame x y i = codes "<rect x='" ++ (decimal x ++ (codes "' y='" ++ (decimal y
     ++ (codes "' width='60' height='18' fill='none' stroke='#000000' stroke-width='3'><title>processor " ++ (signed_decimal i
     ++ codes " met</title></rect>\n")))))
+
+abbrev pub met_word : (x y : ℕ) → List ℕ
+met_word x y = codes "<text x='" ++ (decimal x ++ (codes "' y='" ++ (decimal y ++ codes "'>met</text>\n")))
+
+abbrev pub outline : (x y : ℕ) → ℤ → List ℕ
+outline x y i = frame x y i ++ met_word (x + 33) (y + 13)

@@ -1,79 +1,73 @@
--- Which entries of a run are drawn, which processors have a row, and where these stand, in pixels.
-use Rattle.std.specs.Prelude.{ℕ, ◌+◌, ◌*◌, min, max, List, Option, Some, None, ℤ, pos, int_lt, if◌then◌else◌, take}
-use Rattle.std.specs.List.{fold}
-use Rattle.pram_model.specs.Layout.{width}
-use Rattle.step_entries.specs.Entries.{Act, Entry, Ran, Faulting}
-use Rattle.step_pictures.specs.declared.grid as rust
-use Rattle.step_pictures.specs.declared.grid.Span.{Span}
+-- What a picture is drawn by, and where its columns and rows stand, in pixels.
+use Rattle.std.specs.Prelude.{ℕ, ◌+◌, ◌*◌, ◌/◌, ◌%◌, min, max, List, ℤ, length}
+use Rattle.pram_model.specs.Layout.{SharedEntry}
+use Rattle.step_entries.specs.Entries.{Entry}
+use Rattle.step_pictures.specs.Drawn.{first_drawn, last_drawn, rows_of}
+use Rattle.step_pictures.specs.ProgramLines.{longest}
+use Rattle.step_pictures.specs.declared.frame as rust
 
--- of more entries the first are drawn
-abbrev pub drawn : List Entry → List Entry
-drawn = take 100
+-- the names of shared memory, the program's text, the indices that have a row, and how many letters stand above a column at most
+pub record Frame : Type 0 where
+  pub layout : List SharedEntry
+  pub text : List ℕ
+  pub rows : List ℤ
+  pub letters : ℕ
 
-abbrev pub acts_in : Entry → List Act
-acts_in (Ran here acts cells variables locals items) = acts
-acts_in (Faulting here fault cause acts met) = acts
+abbrev pub frame_is : rust.Frame.Frame → Frame
+frame_is f = record { layout = f.layout.now; text = f.text.now; rows = f.rows.now; letters = f.letters }
 
--- ---- the indices of the processors that act, from the least to the greatest
+abbrev pub letters_of : (text : List ℕ) → List Entry → ℕ
+letters_of text es = max (longest text (first_drawn es)) (longest text (last_drawn es))
 
-abbrev pub widened : Option Span → ℤ → Option Span
-widened None i = Some (record { low = i; high = i })
-widened (Some s) i = Some (record { low = if int_lt i s.low then i else s.low; high = if int_lt s.high i then i else s.high })
+-- the frame of these entries
+abbrev pub frame_of : List SharedEntry → (text : List ℕ) → List Entry → Frame
+frame_of layout text es = record { layout = layout; text = text; rows = rows_of es; letters = letters_of text es }
 
--- the one outside pardo has no index
-abbrev pub with_index : Option Span → Option ℤ → Option Span
-with_index s None = s
-with_index s (Some i) = widened s i
+-- ---- columns: 16 to a band; j others stand before it, in all bands
 
-abbrev pub with_acts : Option Span → List Act → Option Span
-with_acts = fold (λ s a. with_index s a.processor)
+abbrev pub column_left : (j : ℕ) → ℕ
+column_left j = 160 + 64 * (j % 16)
 
-abbrev pub spans : Option Span → List Entry → Option Span
-spans = fold (λ s e. with_acts s (acts_in e))
+-- ---- bands, each with its rows: that of number 0 is of the one outside pardo
 
-abbrev pub span_of : List Entry → Option Span
-span_of = spans None
+abbrev pub band_height : Frame → ℕ
+band_height f = 7 * f.letters + (20 * length f.rows + 104)
 
--- ---- rows: number 0 is of the one outside pardo, number 1 of the least index, and no more than 64 are of indices
+-- where the bands begin, and where so many end
+abbrev pub bands_end : Frame → (bands : ℕ) → ℕ
+bands_end f bands = 80 + bands * band_height f
 
-pub record Grid : Type 0 where
-  pub low : ℤ
-  pub rows : ℕ
+-- where the rows of the band of a column begin
+abbrev pub rows_top : Frame → (j : ℕ) → ℕ
+rows_top f j = bands_end f (j / 16) + (7 * f.letters + 50)
 
-abbrev pub grid_is : rust.Grid.Grid → Grid
-grid_is g = record { low = g.low; rows = g.rows }
+abbrev pub row_top : (top row : ℕ) → ℕ
+row_top top row = top + 20 * row
 
-abbrev pub low_of : Option Span → ℤ
-low_of None = pos 0
-low_of (Some s) = s.low
+-- where a column begins, where its rows begin, and the number of its statement
+pub record Column : Type 0 where
+  pub x : ℕ
+  pub y : ℕ
+  pub number : ℕ
 
-abbrev pub rows_of : Option Span → ℕ
-rows_of None = 0
-rows_of (Some s) = min 64 (width s.low s.high)
+abbrev pub column_is : rust.Column.Column → Column
+column_is c = record { x = c.x; y = c.y; number = c.number }
 
--- the rows of these processors
-abbrev pub grid_of : Option Span → Grid
-grid_of s = record { low = low_of s; rows = rows_of s }
+-- that of a statement, where j others stand before it
+abbrev pub column_at : Frame → (j number : ℕ) → Column
+column_at f j number = record { x = column_left j; y = rows_top f j; number = number }
 
-abbrev pub row_of : (low : ℤ) → Option ℤ → ℕ
-row_of low None = 0
-row_of low (Some i) = width low i
+-- ---- all of it, of so many columns
 
-abbrev pub row_top : ℕ → ℕ
-row_top row = 104 + 20 * row
-
--- ---- columns: that of entry k, counted from 1
-
-abbrev pub column_left : ℕ → ℕ
-column_left k = 96 + 64 * k
+abbrev pub bands_of : (columns : ℕ) → ℕ
+bands_of columns = (columns + 15) / 16
 
 abbrev pub picture_width : (columns : ℕ) → ℕ
-picture_width columns = max 480 (172 + 64 * columns)
+picture_width columns = max 720 (172 + 64 * min 16 columns)
 
--- with room for a line below the rows
-abbrev pub picture_height : (rows : ℕ) → ℕ
-picture_height rows = 154 + 20 * rows
+-- with room for two lines below the bands
+abbrev pub picture_height : Frame → (columns : ℕ) → ℕ
+picture_height f columns = bands_end f (bands_of columns) + 40
 
--- where that line stands
-abbrev pub bottom : (rows : ℕ) → ℕ
-bottom rows = 142 + 20 * rows
+abbrev pub count_drawn : (statements : ℕ) → ℕ
+count_drawn statements = min 112 statements

@@ -1,37 +1,42 @@
 -- The picture of a run's entries, as SVG 1.1: a column for each statement, and a row for each processor.
-use Rattle.std.specs.Prelude.{ℕ, zero, suc, ◌+◌, nat_lt, if◌then◌else◌, List, [], ◌++◌, Option, Some, None, ℤ, pos, ◌+ℤ◌, length, codes}
-use Rattle.std.specs.Prelude.{decimal}
+use Rattle.std.specs.Prelude.{ℕ, ◌+◌, ◌-◌, nat_eq, nat_lt, if◌then◌else◌, List, [], ◌∷◌, ◌++◌, ℤ, length, take, drop, codes, decimal}
 use Rattle.std.specs.Fmt.{signed_decimal}
-use Rattle.pram_model.specs.Layout.{SharedEntry, width}
-use Rattle.step_entries.specs.Entries.{Entry}
-use Rattle.step_pictures.specs.declared.grid.Span.{Span}
-use Rattle.step_pictures.specs.Columns.{columns_from}
-use Rattle.step_pictures.specs.Measures.{Grid, drawn, grid_of, picture_height, picture_width, row_top, rows_of, span_of}
+use Rattle.pram_model.specs.Layout.{SharedEntry}
+use Rattle.write_rules.specs.declared.fault.Fault.{Fault}
+use Rattle.program_texts.specs.Shown.{fault_text}
+use Rattle.step_entries.specs.Entries.{Entry, Ran, Faulting}
+use Rattle.step_pictures.specs.Bands.{columns_from}
+use Rattle.step_pictures.specs.Drawn.{first_drawn, last_drawn, last_number}
+use Rattle.step_pictures.specs.Measures.{Frame, bands_end, bands_of, count_drawn, frame_of, picture_height, picture_width}
 
 abbrev pub opening_text : (wide tall : ℕ) → List ℕ
 opening_text wide tall = codes "<svg xmlns='http://www.w3.org/2000/svg' version='1.1' width='" ++ (decimal wide
-    ++ (codes "' height='" ++ (decimal tall ++ (codes "' font-family='sans-serif' font-size='12'>\n<rect x='0' y='0' width='"
-    ++ (decimal wide ++ (codes "' height='" ++ (decimal tall ++ codes "' fill='#ffffff'/>\n")))))))
+    ++ (codes "' height='" ++ (decimal tall
+    ++ (codes "' font-family='sans-serif' font-size='12' xml:space='preserve'>\n<rect x='0' y='0' width='" ++ (decimal wide
+    ++ (codes "' height='" ++ (decimal tall ++ codes "' fill='#ffffff'/>\n")))))))
 
--- that not all statements are drawn, or not all processors
-abbrev pub cut_statements : ℕ → List ℕ
-cut_statements n = if nat_lt 100 n then codes ", of which the first 100 are drawn" else []
+-- ---- what stands above the bands
 
-abbrev pub cut_processors : ℕ → List ℕ
-cut_processors n = if nat_lt 64 n then codes ", of which the first 64 are drawn" else []
+-- which statements are not drawn, and how many
+abbrev pub without_text : (statements : ℕ) → List ℕ
+without_text n = codes "<text x='12' y='20'>statements " ++ (decimal n ++ (codes ", without the " ++ (decimal (n - 112)
+    ++ (codes " from 97 to " ++ (decimal (n - 16) ++ codes "</text>\n")))))
 
--- `statements 5`
+abbrev pub all_text : (statements : ℕ) → List ℕ
+all_text n = codes "<text x='12' y='20'>statements " ++ (decimal n ++ codes "</text>\n")
+
 abbrev pub statements_text : ℕ → List ℕ
-statements_text n = codes "<text x='12' y='20'>statements " ++ (decimal n ++ (cut_statements n ++ codes "</text>\n"))
+statements_text n = if nat_lt 112 n then without_text n else all_text n
 
--- `processors 1 to 4`
-abbrev pub some_processors : Span → List ℕ
-some_processors s = codes "<text x='12' y='38'>processors " ++ (signed_decimal s.low ++ (codes " to " ++ (signed_decimal s.high
-    ++ (cut_processors (width s.low s.high) ++ codes "</text>\n"))))
+abbrev pub some_rows : ℕ → List ℕ
+some_rows n = codes "<text x='12' y='38'>processors " ++ (decimal n ++ codes "</text>\n")
 
-abbrev pub processors_text : Option Span → List ℕ
-processors_text None = codes "<text x='12' y='38'>no processor of a pardo</text>\n"
-processors_text (Some s) = some_processors s
+-- 64 rows may be too few
+abbrev pub rows_text : ℕ → List ℕ
+rows_text n =
+    if nat_eq n 0 then codes "<text x='12' y='38'>no processor of a pardo</text>\n"
+    else if nat_lt n 64 then some_rows n
+    else codes "<text x='12' y='38'>64 rows: of those that met at a fault, and of the first others that act</text>\n"
 
 -- what is what
 abbrev pub key_text : List ℕ
@@ -39,37 +44,77 @@ key_text = codes "<rect x='12' y='48' width='60' height='18' fill='#e0e0e0'/>\n<
     ++ (codes "<rect x='122' y='50' width='26' height='14' fill='#0072b2'/>\n<text x='132' y='61' fill='#ffffff'>r</text>\n"
     ++ (codes "<text x='154' y='61'>reads</text>\n<rect x='202' y='50' width='26' height='14' fill='#e69f00'/>\n<text x='210' y='61'>w</text>\n"
     ++ (codes "<text x='234' y='61'>writes</text>\n<rect x='284' y='48' width='60' height='18' fill='none' stroke='#000000' stroke-width='3'/>\n"
-    ++ codes "<text x='350' y='61'>met at a fault</text>\n")))
+    ++ (codes "<text x='317' y='61'>met</text>\n<text x='350' y='61'>met at a fault</text>\n"
+    ++ codes "<text x='450' y='61'>+n</text>\n<text x='474' y='61'>n more act, which have no row</text>\n"))))
 
--- a processor's name in front of its row
-abbrev pub label : (row : ℕ) → ℤ → List ℕ
-label row i = codes "<text x='12' y='" ++ (decimal (row_top row + 13) ++ (codes "'>" ++ (signed_decimal i ++ codes "</text>\n")))
+abbrev pub head : (statements rows : ℕ) → List ℕ
+head n rows = statements_text n ++ (rows_text rows ++ key_text)
 
--- those of so many rows behind r others
-abbrev pub labels_from : (low : ℤ) → (r rows : ℕ) → List ℕ
-labels_from low r zero = []
-labels_from low r (suc n) = label (r + 1) (low +ℤ pos r) ++ labels_from low (r + 1) n
+-- ---- what stands below them: a fault, and those that met there
 
-abbrev pub labels : Grid → List ℕ
-labels g = codes "<text x='12' y='117'>outside</text>\n" ++ labels_from g.low 0 g.rows
+abbrev pub line_front : (y : ℕ) → List ℕ
+line_front y = codes "<text x='12' y='" ++ (decimal y ++ codes "'>")
 
--- the rows and the columns
-abbrev pub table : List SharedEntry → Grid → List Entry → List ℕ
-table layout g es = labels g ++ (columns_from layout g 1 es ++ codes "</svg>\n")
+abbrev pub fault_line : List SharedEntry → (y : ℕ) → Fault → List ℕ
+fault_line layout y f = line_front y ++ (fault_text layout f ++ codes "</text>\n")
 
--- what stands above them
-abbrev pub head : (statements : ℕ) → Option Span → List ℕ
-head n s = statements_text n ++ (processors_text s ++ key_text)
+abbrev pub behind_blank : ℤ → List ℕ
+behind_blank i = codes " " ++ signed_decimal i
 
--- what stands behind the opening
-abbrev pub rest : List SharedEntry → (statements : ℕ) → Option Span → List Entry → List ℕ
-rest layout n s es = head n s ++ table layout (grid_of s) es
+abbrev pub indices_text : List ℤ → List ℕ
+indices_text [] = []
+indices_text (i ∷ is) = behind_blank i ++ indices_text is
 
--- a picture of these entries, of so many
-abbrev pub picture_of : List SharedEntry → (statements : ℕ) → List Entry → List ℕ
-picture_of layout n es =
-    opening_text (picture_width (length es)) (picture_height (rows_of (span_of es))) ++ rest layout n (span_of es) es
+abbrev pub and_more : ℕ → List ℕ
+and_more n = codes " and " ++ (decimal n ++ codes " more")
 
--- a picture of all entries of a run
-abbrev pub picture : List SharedEntry → List Entry → List ℕ
-picture layout es = picture_of layout (length es) (drawn es)
+abbrev pub more_met : (count : ℕ) → List ℕ
+more_met count = if nat_lt 8 count then and_more (count - 8) else []
+
+-- of those that met the first, and how many more there are
+abbrev pub met_words : List ℤ → List ℕ
+met_words met = codes "met: processors" ++ (indices_text (take 8 met) ++ more_met (length met))
+
+abbrev pub some_met : (y : ℕ) → List ℤ → List ℕ
+some_met y met = line_front y ++ (met_words met ++ codes "</text>\n")
+
+abbrev pub met_line : (y : ℕ) → List ℤ → List ℕ
+met_line y [] = []
+met_line y (i ∷ is) = some_met y (i ∷ is)
+
+abbrev pub fault_lines : List SharedEntry → (y : ℕ) → Fault → List ℤ → List ℕ
+fault_lines layout y f met = fault_line layout y f ++ met_line (y + 18) met
+
+abbrev pub ending_of : List SharedEntry → (y : ℕ) → Entry → List ℕ
+ending_of layout y (Ran here acts cells variables locals items) = []
+ending_of layout y (Faulting here fault cause acts met) = fault_lines layout y fault met
+
+abbrev pub first_ending : List SharedEntry → (y : ℕ) → List Entry → List ℕ
+first_ending layout y [] = []
+first_ending layout y (e ∷ es) = ending_of layout y e
+
+-- that of the last statement, where alone a run faults
+abbrev pub ending : List SharedEntry → (y : ℕ) → List Entry → List ℕ
+ending layout y es = first_ending layout y (drop (length es - 1) es)
+
+-- ---- all of it
+
+abbrev pub table : Frame → List Entry → List ℕ
+table f es = columns_from f 0 1 (first_drawn es) ++ columns_from f 96 (last_number es) (last_drawn es)
+
+-- where that begins
+abbrev pub foot_line : Frame → (statements : ℕ) → ℕ
+foot_line f n = bands_end f (bands_of (count_drawn n)) + 12
+
+abbrev pub foot : Frame → List Entry → List ℕ
+foot f es = ending f.layout (foot_line f (length es)) es ++ codes "</svg>\n"
+
+abbrev pub opening : Frame → (statements : ℕ) → List ℕ
+opening f n = opening_text (picture_width (count_drawn n)) (picture_height f (count_drawn n))
+
+abbrev pub picture_of : Frame → List Entry → List ℕ
+picture_of f es = opening f (length es) ++ (head (length es) (length f.rows) ++ (table f es ++ foot f es))
+
+-- a picture of all entries of a run of that text
+abbrev pub picture : List SharedEntry → (text : List ℕ) → List Entry → List ℕ
+picture layout text es = picture_of (frame_of layout text es) es

@@ -1,288 +1,257 @@
 //! The columns of statements.
 
-ghost use Rattle.std.specs.Prelude.{◌≡◌, ◌≤◌, ◌<◌, ◌+◌, ◌^◌, Some, length, map};
+ghost use Rattle.std.specs.Prelude.{◌≡◌, ◌≤◌, ◌<◌, ◌+◌, ◌-◌, ◌^◌, length, map};
 ghost use Rattle.text_out.specs.Out.{Writes};
 ghost use Rattle.step_entries.specs.Entries.{act_is, entry_is};
 ghost use Rattle.step_pictures.specs.Columns as spec;
-ghost use Rattle.step_pictures.specs.Measures as measures;
-ghost use Rattle.step_pictures.specs.Measures.{grid_is};
+ghost use Rattle.step_pictures.specs.Measures.{column_is, frame_is};
 
-use crate::grid::Grid;
+use crate::drawn::{acts_in, met_in};
+use crate::frame::{Column, Frame};
 use crate::marks::{Corner, write_box, write_outline};
-use crate::measure::{bottom, column_left, row_of, row_top};
+use crate::measure::row_top;
+use crate::program_lines::{code_of, line_of, write_code};
+use crate::rows::{missing, place_of};
 use itoa::Buffer;
 use pram_trees::Layout;
-use program_texts::write_fault_text;
 use step_entries::{Act, Entry};
 use text_out::{Out, WriteFault};
-use write_rules::Fault;
 
 // The number of a statement and its line.
-fn write_heading<W: Out>(out: &mut W, x: usize, k: usize, line: u32) -> Result<(), WriteFault>
+fn write_numbers<W: Out>(out: &mut W, at: Column, line: u32) -> Result<(), WriteFault>
     requires counted { (W.Out.state out.old).failures < 2 ^ 63 }
-    ensures written { Writes (W.Out.state out.old) (W.Out.state out.new) (spec.heading x k line) result }
+    ensures written { Writes (W.Out.state out.old) (W.Out.state out.new) (spec.numbers_text (column_is at) line) result }
 {
     let mut left = Buffer::new();
+    let mut upper = Buffer::new();
     let mut number = Buffer::new();
+    let mut lower = Buffer::new();
     let mut digits = Buffer::new();
-    let from = left.format(x).as_bytes();
+    let from = left.format(at.x).as_bytes();
     out.write_parts(&[
         b"<text x='",
         from,
-        b"' y='80'>",
-        number.format(k).as_bytes(),
+        b"' y='",
+        upper.format(at.y - 26).as_bytes(),
+        b"'>",
+        number.format(at.number).as_bytes(),
         b"</text>\n<text x='",
         from,
-        b"' y='96'>line ",
+        b"' y='",
+        lower.format(at.y - 9).as_bytes(),
+        b"'>line ",
         digits.format(line).as_bytes(),
         b"</text>\n",
     ])
 }
 
-// One that acts, in a row.
+fn write_heading<W: Out>(out: &mut W, text: &[u8], at: Column, line: u32) -> Result<(), WriteFault>
+    requires counted { (W.Out.state out.old).failures < 2 ^ 63 }
+    ensures written { Writes (W.Out.state out.old) (W.Out.state out.new) (spec.heading text.now (column_is at) line) result }
+{
+    write_code(out, at.x, at.y - 42, code_of(text, line))?;
+    write_numbers(out, at, line)
+}
+
+// One that acts, in the row behind so many others.
 fn write_act_at<W: Out>(
     out: &mut W,
     layout: &Layout,
-    rows: usize,
-    x: usize,
-    row: u128,
+    rows: &[i64],
+    at: Column,
+    before: usize,
     act: &Act,
 ) -> Result<(), WriteFault>
     requires counted { (W.Out.state out.old).failures < 2 ^ 63 }
-    requires few { rows ≤ 64 }
-    requires near { x ≤ 10000 }
-    ensures written { Writes (W.Out.state out.old) (W.Out.state out.new) (spec.act_at layout.now rows x row (act_is act.now)) result }
+    requires few { length rows.now ≤ 64 }
+    ensures written { Writes (W.Out.state out.old) (W.Out.state out.new)
+        (spec.act_at layout.now rows.now (column_is at) before (act_is act.now)) result }
 {
-    if row <= rows as u128 {
-        let y = row_top(row as usize);
-        write_box(out, layout, Corner { x, y }, act)
+    if before < rows.len() {
+        let y = row_top(at.y, before + 1);
+        write_box(out, layout, Corner { x: at.x, y }, act)
     } else {
         out.write_all(b"")
     }
+}
+
+// The one outside pardo, in row 0.
+fn write_outside<W: Out>(
+    out: &mut W,
+    layout: &Layout,
+    at: Column,
+    act: &Act,
+) -> Result<(), WriteFault>
+    requires counted { (W.Out.state out.old).failures < 2 ^ 63 }
+    ensures written { Writes (W.Out.state out.old) (W.Out.state out.new) (spec.outside layout.now (column_is at) (act_is act.now)) result }
+{
+    let y = row_top(at.y, 0);
+    write_box(out, layout, Corner { x: at.x, y }, act)
 }
 
 fn write_act<W: Out>(
     out: &mut W,
     layout: &Layout,
-    grid: Grid,
-    x: usize,
+    rows: &[i64],
+    at: Column,
     act: &Act,
 ) -> Result<(), WriteFault>
     requires counted { (W.Out.state out.old).failures < 2 ^ 63 }
-    requires near { x ≤ 10000 }
+    requires few { length rows.now ≤ 64 }
     ensures written { Writes (W.Out.state out.old) (W.Out.state out.new)
-        (spec.act_drawn layout.now (grid_is grid) x (act_is act.now)) result }
+        (spec.act_drawn layout.now rows.now (column_is at) (act_is act.now)) result }
 {
-    let row = row_of(grid.low, act.processor);
-    write_act_at(out, layout, grid.rows, x, row, act)
+    match act.processor {
+        None => write_outside(out, layout, at, act),
+        Some(index) => write_act_at(out, layout, rows, at, place_of(rows, index), act),
+    }
 }
 
 fn write_acts<W: Out>(
     out: &mut W,
     layout: &Layout,
-    grid: Grid,
-    x: usize,
+    rows: &[i64],
+    at: Column,
     acts: &[Act],
 ) -> Result<(), WriteFault>
     requires counted { (W.Out.state out.old).failures < 2 ^ 63 }
-    requires near { x ≤ 10000 }
+    requires few { length rows.now ≤ 64 }
     ensures written { Writes (W.Out.state out.old) (W.Out.state out.new)
-        (spec.acts_drawn layout.now (grid_is grid) x (map act_is acts.now)) result }
+        (spec.acts_drawn layout.now rows.now (column_is at) (map act_is acts.now)) result }
 {
     for act in acts {
-        write_act(out, layout, grid, x, act)?;
+        write_act(out, layout, rows, at, act)?;
     }
     Ok(())
 }
 
-// One that met others, in a row.
+// One that met others, in the row behind so many.
 fn write_met_at<W: Out>(
     out: &mut W,
-    rows: usize,
-    x: usize,
-    row: u128,
+    rows: &[i64],
+    at: Column,
+    before: usize,
     index: i64,
 ) -> Result<(), WriteFault>
     requires counted { (W.Out.state out.old).failures < 2 ^ 63 }
-    requires few { rows ≤ 64 }
-    requires near { x ≤ 10000 }
-    ensures written { Writes (W.Out.state out.old) (W.Out.state out.new) (spec.met_at rows x row index) result }
+    requires few { length rows.now ≤ 64 }
+    ensures written { Writes (W.Out.state out.old) (W.Out.state out.new) (spec.met_at rows.now (column_is at) before index) result }
 {
-    if row <= rows as u128 {
-        let y = row_top(row as usize);
-        write_outline(out, Corner { x, y }, index)
+    if before < rows.len() {
+        let y = row_top(at.y, before + 1);
+        write_outline(out, Corner { x: at.x, y }, index)
     } else {
         out.write_all(b"")
     }
 }
 
-fn write_met<W: Out>(out: &mut W, grid: Grid, x: usize, index: &i64) -> Result<(), WriteFault>
+fn write_met<W: Out>(out: &mut W, rows: &[i64], at: Column, index: &i64) -> Result<(), WriteFault>
     requires counted { (W.Out.state out.old).failures < 2 ^ 63 }
-    requires near { x ≤ 10000 }
-    ensures written { Writes (W.Out.state out.old) (W.Out.state out.new) (spec.met_drawn (grid_is grid) x index.now) result }
+    requires few { length rows.now ≤ 64 }
+    ensures written { Writes (W.Out.state out.old) (W.Out.state out.new) (spec.met_drawn rows.now (column_is at) index.now) result }
 {
-    let row = row_of(grid.low, Some(*index));
-    write_met_at(out, grid.rows, x, row, *index)
+    write_met_at(out, rows, at, place_of(rows, *index), *index)
 }
 
-fn write_all_met<W: Out>(out: &mut W, grid: Grid, x: usize, met: &[i64]) -> Result<(), WriteFault>
+fn write_all_met<W: Out>(
+    out: &mut W,
+    rows: &[i64],
+    at: Column,
+    met: &[i64],
+) -> Result<(), WriteFault>
     requires counted { (W.Out.state out.old).failures < 2 ^ 63 }
-    requires near { x ≤ 10000 }
-    ensures written { Writes (W.Out.state out.old) (W.Out.state out.new) (spec.all_met (grid_is grid) x met.now) result }
+    requires few { length rows.now ≤ 64 }
+    ensures written { Writes (W.Out.state out.old) (W.Out.state out.new) (spec.all_met rows.now (column_is at) met.now) result }
 {
     for index in met {
-        write_met(out, grid, x, index)?;
+        write_met(out, rows, at, index)?;
     }
     Ok(())
 }
 
-fn write_fault_front<W: Out>(out: &mut W, y: usize) -> Result<(), WriteFault>
+fn write_more_at<W: Out>(out: &mut W, x: usize, y: usize, count: usize) -> Result<(), WriteFault>
     requires counted { (W.Out.state out.old).failures < 2 ^ 63 }
-    ensures written { Writes (W.Out.state out.old) (W.Out.state out.new) (spec.fault_front y) result }
+    ensures written { Writes (W.Out.state out.old) (W.Out.state out.new) (spec.more_at x y count) result }
 {
+    let mut left = Buffer::new();
     let mut down = Buffer::new();
-    out.write_parts(&[b"<text x='12' y='", down.format(y).as_bytes(), b"'>"])
+    let mut digits = Buffer::new();
+    out.write_parts(&[
+        b"<text x='",
+        left.format(x).as_bytes(),
+        b"' y='",
+        down.format(y).as_bytes(),
+        b"'>+",
+        digits.format(count).as_bytes(),
+        b"</text>\n",
+    ])
 }
 
-fn write_fault_rest<W: Out>(out: &mut W, layout: &Layout, fault: &Fault) -> Result<(), WriteFault>
-    requires counted { (W.Out.state out.old).failures < 2 ^ 63 }
-    ensures written { Writes (W.Out.state out.old) (W.Out.state out.new) (spec.fault_rest layout.now fault.now) result }
-{
-    write_fault_text(out, layout, fault)?;
-    out.write_all(b"</text>\n")
-}
-
-// The fault, below the rows.
-fn write_fault_line<W: Out>(
-    out: &mut W,
-    layout: &Layout,
-    rows: usize,
-    fault: &Fault,
-) -> Result<(), WriteFault>
+// How many more act, below the rows.
+fn write_more<W: Out>(out: &mut W, rows: usize, at: Column, count: usize) -> Result<(), WriteFault>
     requires counted { (W.Out.state out.old).failures < 2 ^ 63 }
     requires few { rows ≤ 64 }
-    ensures written { Writes (W.Out.state out.old) (W.Out.state out.new) (spec.fault_line layout.now rows fault.now) result }
+    ensures written { Writes (W.Out.state out.old) (W.Out.state out.new) (spec.more_text rows (column_is at) count) result }
 {
-    write_fault_front(out, bottom(rows))?;
-    write_fault_rest(out, layout, fault)
+    if count == 0 {
+        out.write_all(b"")
+    } else {
+        write_more_at(out, at.x, row_top(at.y, rows + 1) + 13, count)
+    }
 }
 
-// Those that met, and the fault.
-fn write_conflict<W: Out>(
+// How many of those that act have no row.
+fn write_missing<W: Out>(
     out: &mut W,
-    layout: &Layout,
-    grid: Grid,
-    x: usize,
-    fault: &Fault,
-    met: &[i64],
-) -> Result<(), WriteFault>
-    requires counted { (W.Out.state out.old).failures < 2 ^ 63 }
-    requires near { x ≤ 10000 }
-    ensures written { Writes (W.Out.state out.old) (W.Out.state out.new)
-        (spec.conflict layout.now (grid_is grid) x fault.now met.now) result }
-{
-    write_all_met(out, grid, x, met)?;
-    write_fault_line(out, layout, grid.rows, fault)
-}
-
-// Where a column stands, and the number of its statement.
-#[derive(Clone, Copy)]
-struct Column {
-    x: usize,
-    k: usize,
-    ghost near: { x ≤ 10000 },
-}
-
-fn write_ran<W: Out>(
-    out: &mut W,
-    layout: &Layout,
-    grid: Grid,
+    rows: &[i64],
     at: Column,
-    line: u32,
     acts: &[Act],
 ) -> Result<(), WriteFault>
     requires counted { (W.Out.state out.old).failures < 2 ^ 63 }
+    requires few { length rows.now ≤ 64 }
     ensures written { Writes (W.Out.state out.old) (W.Out.state out.new)
-        (spec.ran_column layout.now (grid_is grid) at.x at.k line (map act_is acts.now)) result }
+        (spec.missing_text rows.now (column_is at) (map act_is acts.now)) result }
 {
-    write_heading(out, at.x, at.k, line)?;
-    write_acts(out, layout, grid, at.x, acts)
+    write_more(out, rows.len(), at, missing(rows, acts))
 }
 
-fn write_faulted<W: Out>(
+// The processors of a statement.
+fn write_processors<W: Out>(
     out: &mut W,
     layout: &Layout,
-    grid: Grid,
+    rows: &[i64],
     at: Column,
-    fault: &Fault,
     acts: &[Act],
     met: &[i64],
 ) -> Result<(), WriteFault>
     requires counted { (W.Out.state out.old).failures < 2 ^ 63 }
+    requires few { length rows.now ≤ 64 }
     ensures written { Writes (W.Out.state out.old) (W.Out.state out.new)
-        (spec.fault_column layout.now (grid_is grid) at.x at.k fault.now (map act_is acts.now) met.now) result }
+        (spec.processors layout.now rows.now (column_is at) (map act_is acts.now) met.now) result }
 {
-    write_heading(out, at.x, at.k, fault.line)?;
-    write_acts(out, layout, grid, at.x, acts)?;
-    write_conflict(out, layout, grid, at.x, fault, met)
+    write_acts(out, layout, rows, at, acts)?;
+    write_all_met(out, rows, at, met)?;
+    write_missing(out, rows, at, acts)
 }
 
-fn write_column<W: Out>(
+/// Writes the column of a statement.
+pub(crate) fn write_column<W: Out>(
     out: &mut W,
-    layout: &Layout,
-    grid: Grid,
+    frame: &Frame<'_>,
     at: Column,
     entry: &Entry,
 ) -> Result<(), WriteFault>
     requires counted { (W.Out.state out.old).failures < 2 ^ 63 }
     ensures written { Writes (W.Out.state out.old) (W.Out.state out.new)
-        (spec.column layout.now (grid_is grid) at.x at.k (entry_is entry.now)) result }
+        (spec.column (frame_is frame.now) (column_is at) (entry_is entry.now)) result }
 {
-    match entry {
-        Entry::Ran { location, acts, .. } => write_ran(out, layout, grid, at, location.line, acts),
-        Entry::Faulted {
-            fault,
-            acts,
-            met,
-            ..
-        } => write_faulted(out, layout, grid, at, fault, acts, met),
-    }
-}
-
-// That of the entry behind so many others.
-fn write_column_behind<W: Out>(
-    out: &mut W,
-    layout: &Layout,
-    grid: Grid,
-    before: usize,
-    entry: &Entry,
-) -> Result<(), WriteFault>
-    requires counted { (W.Out.state out.old).failures < 2 ^ 63 }
-    requires few { before < 100 }
-    ensures written { Writes (W.Out.state out.old) (W.Out.state out.new)
-        (spec.column layout.now (grid_is grid) (measures.column_left (before + 1)) (before + 1) (entry_is entry.now)) result }
-{
-    let k = before + 1;
-    let x = column_left(k);
-    write_column(out, layout, grid, Column { x, k }, entry)
-}
-
-/// Writes the columns of entries.
-pub(crate) fn write_columns<W: Out>(
-    out: &mut W,
-    layout: &Layout,
-    grid: Grid,
-    entries: &[Entry],
-) -> Result<(), WriteFault>
-    requires counted { (W.Out.state out.old).failures < 2 ^ 63 }
-    requires few { length entries.now ≤ 100 }
-    ensures written { Writes (W.Out.state out.old) (W.Out.state out.new)
-        (spec.columns_from layout.now (grid_is grid) 1 (map entry_is entries.now)) result }
-{
-    let mut before = 0;
-    for entry in entries {
-        write_column_behind(out, layout, grid, before, entry)?;
-        before += 1;
-    }
-    Ok(())
+    write_heading(out, frame.text, at, line_of(entry))?;
+    write_processors(
+        out,
+        frame.layout,
+        frame.rows,
+        at,
+        acts_in(entry),
+        met_in(entry),
+    )
 }

@@ -1,10 +1,21 @@
 //! The picture of a run that is told statement by statement.
 #![tactic(auto)]
 
+mod bands;
 mod columns;
-mod grid;
+mod drawn;
+mod foot;
+mod frame;
+mod head;
 mod marks;
 mod measure;
 mod picture;
+mod picture_laws;
+mod program_lines;
+mod rows;
 
 pub use picture::write_picture;
+pub use picture_laws::{
+    a_fault_is_drawn, each_processor_has_a_box, each_row_has_its_name, each_statement_has_a_column,
+    rows_are_of_those_that_act, what_is_left_out_is_told,
+};

@@ -97,8 +97,8 @@ fn write_title<W: Out>(out: &mut W, layout: &Layout, act: &Act) -> Result<(), Wr
 pub(crate) struct Corner {
     pub(crate) x: usize,
     pub(crate) y: usize,
-    ghost right: { x ≤ 10000 },
-    ghost down: { y ≤ 10000 },
+    ghost right: { x ≤ 2000 },
+    ghost down: { y ≤ 30000 },
 }
 
 // Where a coloured field stands, and the letter in it.
@@ -234,10 +234,26 @@ pub(crate) fn write_box<W: Out>(
     write_box_rest(out, at, act)
 }
 
-/// Writes the outline of a processor that met others.
-pub(crate) fn write_outline<W: Out>(out: &mut W, at: Corner, index: i64) -> Result<(), WriteFault>
+// The word beside it.
+fn write_met_word<W: Out>(out: &mut W, x: usize, y: usize) -> Result<(), WriteFault>
     requires counted { (W.Out.state out.old).failures < 2 ^ 63 }
-    ensures written { Writes (W.Out.state out.old) (W.Out.state out.new) (spec.outline at.x at.y index) result }
+    ensures written { Writes (W.Out.state out.old) (W.Out.state out.new) (spec.met_word x y) result }
+{
+    let mut left = Buffer::new();
+    let mut down = Buffer::new();
+    out.write_parts(&[
+        b"<text x='",
+        left.format(x).as_bytes(),
+        b"' y='",
+        down.format(y).as_bytes(),
+        b"'>met</text>\n",
+    ])
+}
+
+// The outline itself.
+fn write_frame<W: Out>(out: &mut W, at: Corner, index: i64) -> Result<(), WriteFault>
+    requires counted { (W.Out.state out.old).failures < 2 ^ 63 }
+    ensures written { Writes (W.Out.state out.old) (W.Out.state out.new) (spec.frame at.x at.y index) result }
 {
     let mut left = Buffer::new();
     let mut top = Buffer::new();
@@ -251,4 +267,13 @@ pub(crate) fn write_outline<W: Out>(out: &mut W, at: Corner, index: i64) -> Resu
         digits.format(index).as_bytes(),
         b" met</title></rect>\n",
     ])
+}
+
+/// Writes the outline of a processor that met others, and that word in it.
+pub(crate) fn write_outline<W: Out>(out: &mut W, at: Corner, index: i64) -> Result<(), WriteFault>
+    requires counted { (W.Out.state out.old).failures < 2 ^ 63 }
+    ensures written { Writes (W.Out.state out.old) (W.Out.state out.new) (spec.outline at.x at.y index) result }
+{
+    write_frame(out, at, index)?;
+    write_met_word(out, at.x + 33, at.y + 13)
 }

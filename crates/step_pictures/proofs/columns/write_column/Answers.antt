@@ -1,27 +1,33 @@
-use Rattle.std.proofs.Common.{ℕ, List, ◌∙◌, ap, map, subst, sym}
-use Rattle.text_out.specs.Out.{Writes}
+use Rattle.std.proofs.Common.{◌≡◌, ◌++◌, ap, map, sym}
+use Rattle.text_out.proofs.Progress.{breaks_off, closes, goes_on, starts}
 use Rattle.step_entries.specs.Entries.{act_is, entry_is}
-use Rattle.step_pictures.specs.Columns.{column, fault_column, ran_column}
-use Rattle.step_pictures.specs.Measures.{grid_is}
+use Rattle.step_pictures.specs.Columns.{heading, processors}
+use Rattle.step_pictures.specs.Drawn.{acts_in, met_in}
+use Rattle.step_pictures.specs.Measures.{column_is}
+use Rattle.step_pictures.specs.ProgramLines.{line_of}
 use Rattle.step_pictures.proofs.columns.write_column.Goals as goal
 
-pub returns-in-Ran : goal.returns-in-Ran
-returns-in-Ran g c =
-    let layout = c.args.layout.now in
-    let rows = grid_is c.args.grid in
+pub returns-in_err-write_heading : goal.returns-in_err-write_heading
+returns-in_err-write_heading g c =
+    let e = entry_is c.args.entry.now in
+    let behind = processors c.args.frame.now.layout.now c.args.frame.now.rows.now (column_is c.args.at) (acts_in e) (met_in e) in
+    let at = ap (λ l. heading c.args.frame.now.text.now (column_is c.args.at) l ++ behind) (sym c.line_of.ensures) in
     record {
-      written = subst (λ (t : List ℕ). Writes (g.W.Out.state c.args.out.now) (g.W.Out.state c.write_ran.new.out) t c.write_ran.result)
-          ((λ i. ran_column layout rows c.args.at.x c.args.at.k c.in-Ran.location.line (map act_is (c.deref.ensures.value i)))
-          ∙ ap (λ e. column layout rows c.args.at.x c.args.at.k (entry_is e)) (sym c.in-Ran.is)) c.write_ran.ensures.written;
+      written = breaks_off _ _ _ _ _ _ behind c.from_residual.result _ c.from_residual.ensures.1 (starts _ _ c.requires.counted) at
+          c.in_err-write_heading.ensures.written;
     }
 
-pub returns-in-Faulted : goal.returns-in-Faulted
-returns-in-Faulted g c =
-    let layout = c.args.layout.now in
-    let rows = grid_is c.args.grid in
-    record {
-      written = subst (λ (t : List ℕ). Writes (g.W.Out.state c.args.out.now) (g.W.Out.state c.write_faulted.new.out) t c.write_faulted.result)
-          ((λ i. fault_column layout rows c.args.at.x c.args.at.k c.in-Faulted.fault (map act_is (c.deref-in-Faulted.ensures.value i))
-          (c.deref-in-Faulted-2.ensures.value i))
-          ∙ ap (λ e. column layout rows c.args.at.x c.args.at.k (entry_is e)) (sym c.in-Faulted.is)) c.write_faulted.ensures.written;
-    }
+pub returns : goal.returns
+returns g c =
+    let e = entry_is c.args.entry.now in
+    let layout = c.args.frame.now.layout.now in
+    let rows = c.args.frame.now.rows.now in
+    let text = c.args.frame.now.text.now in
+    let at : heading text (column_is c.args.at) (line_of e) ++ processors layout rows (column_is c.args.at) (acts_in e) (met_in e)
+    ≡ heading text (column_is c.args.at) c.line_of.result
+    ++ processors layout rows (column_is c.args.at) (map act_is c.acts_in.result.now) c.met_in.result.now =
+    λ i. heading text (column_is c.args.at) (sym c.line_of.ensures i)
+    ++ processors layout rows (column_is c.args.at) (sym c.acts_in.ensures i) (sym c.met_in.ensures i) in
+    let after_1 = goes_on _ _ _ _ _ _ (processors layout rows (column_is c.args.at) (map act_is c.acts_in.result.now) c.met_in.result.now)
+    (starts _ _ c.requires.counted) at c.in_ok-write_heading.ensures.written in
+    record { written = closes _ _ _ _ _ c.write_processors.result after_1 c.write_processors.ensures.written }

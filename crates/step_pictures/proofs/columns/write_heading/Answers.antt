@@ -1,14 +1,15 @@
-use Rattle.std.proofs.Common.{ℕ, List, ◌++◌, ◌∙◌, subst}
-use Rattle.std.specs.Prelude.{codes}
-use Rattle.text_out.specs.Out.{Writes}
+use Rattle.std.proofs.Common.{◌-◌, ◌++◌, sym}
+use Rattle.text_out.proofs.Progress.{breaks_off, closes, goes_on, starts}
+use Rattle.step_pictures.specs.Columns.{numbers_text}
+use Rattle.step_pictures.specs.Measures.{column_is}
+use Rattle.step_pictures.specs.ProgramLines.{code_rows}
 use Rattle.step_pictures.proofs.columns.write_heading.Goals as goal
+
+pub returns-in_err-write_code : goal.returns-in_err-write_code
+returns-in_err-write_code g c =
+    record { written = breaks_off _ _ _ _ _ _ (numbers_text (column_is c.args.at) c.args.line) c.from_residual.result _ c.from_residual.ensures.1 (starts _ _ c.requires.counted) (λ i. code_rows c.args.at.x (c.args.at.y - 42) (sym c.code_of.ensures i) ++ numbers_text (column_is c.args.at) c.args.line) c.in_err-write_code.ensures.written }
 
 pub returns : goal.returns
 returns g c =
-    let x = c.as_bytes-from.ensures.value ∙ c.format.ensures.text in
-    let k = c.as_bytes.ensures.value ∙ c.format-2.ensures.text in
-    let line = c.as_bytes-2.ensures.value ∙ c.format-3.ensures.text in
-    record {
-      written = subst (λ (t : List ℕ). Writes (g.W.Out.state c.args.out.now) (g.W.Out.state c.write_parts.new.self) t c.write_parts.result)
-          (λ i. codes "<text x='" ++ (x i ++ (codes "' y='80'>" ++ (k i ++ (codes "</text>\n<text x='" ++ (x i ++ (codes "' y='96'>line " ++ (line i ++ (codes "</text>\n"))))))))) c.write_parts.ensures.written;
-    }
+    let after_1 = goes_on _ _ _ _ _ _ (numbers_text (column_is c.args.at) c.args.line) (starts _ _ c.requires.counted) (λ i. code_rows c.args.at.x (c.args.at.y - 42) (sym c.code_of.ensures i) ++ numbers_text (column_is c.args.at) c.args.line) c.in_ok-write_code.ensures.written in
+    record { written = closes _ _ _ _ _ c.write_numbers.result after_1 c.write_numbers.ensures.written }

@@ -1,0 +1,11 @@
+use Rattle.std.proofs.Common.{map}
+use Rattle.step_entries.specs.Entries.{entry_is}
+use Rattle.step_pictures.specs.Bands.{columns_from}
+use Rattle.step_pictures.specs.Measures.{frame_is}
+use Rattle.step_pictures.proofs.ColumnTexts.{InColumns}
+use Rattle.step_pictures.proofs.bands.write_columns.Given as goal
+
+abbrev pub invariant-loop-entry : goal.invariant-loop-entry
+invariant-loop-entry g l = InColumns (g.W.Out.state l.fn.out) (g.W.Out.state l.out)
+    (columns_from (frame_is l.fn.frame) l.fn.first l.fn.number (map entry_is l.fn.entries)) (frame_is l.fn.frame) l.fn.first l.fn.number
+    l.fn.entries l.entry-index l.before

@@ -1,0 +1,16 @@
+use Rattle.std.proofs.Common.{FitsSigned, List, ap, rules, subst, w64, ℕ, ◌++◌, ◌∙◌}
+use Rattle.std.specs.Prelude.{codes}
+use Rattle.text_out.specs.Out.{Writes}
+use Rattle.std.proofs.lemmas.Int.{to_z-of_z}
+use Rattle.std.specs.Fmt.{signed_decimal}
+use Rattle.step_pictures.proofs.bands.write_label.Goals as goal
+
+pub returns : goal.returns
+returns g c =
+    let fits : FitsSigned w64 c.args.index.now = search rules in
+    let y = c.as_bytes.ensures.value ∙ c.format.ensures.text in
+    let index = c.as_bytes-2.ensures.value ∙ c.format-2.ensures.text ∙ ap signed_decimal (to_z-of_z w64 c.args.index.now fits) in
+    record {
+      written = subst (λ (t : List ℕ). Writes (g.W.Out.state c.args.out.now) (g.W.Out.state c.write_parts.new.self) t c.write_parts.result)
+          (λ i. codes "<text x='12' y='" ++ (y i ++ (codes "'>" ++ (index i ++ (codes "</text>\n"))))) c.write_parts.ensures.written;
+    }

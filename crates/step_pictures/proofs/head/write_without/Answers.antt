@@ -1,0 +1,14 @@
+use Rattle.std.proofs.Common.{List, subst, ℕ, ◌++◌, ◌∙◌}
+use Rattle.std.specs.Prelude.{codes}
+use Rattle.text_out.specs.Out.{Writes}
+use Rattle.step_pictures.proofs.head.write_without.Goals as goal
+
+pub returns : goal.returns
+returns g c =
+    let all = c.as_bytes.ensures.value ∙ c.format.ensures.text in
+    let without = c.as_bytes-2.ensures.value ∙ c.format-2.ensures.text in
+    let last = c.as_bytes-3.ensures.value ∙ c.format-3.ensures.text in
+    record {
+      written = subst (λ (t : List ℕ). Writes (g.W.Out.state c.args.out.now) (g.W.Out.state c.write_parts.new.self) t c.write_parts.result)
+          (λ i. codes "<text x='12' y='20'>statements " ++ (all i ++ (codes ", without the " ++ (without i ++ (codes " from 97 to " ++ (last i ++ (codes "</text>\n"))))))) c.write_parts.ensures.written;
+    }

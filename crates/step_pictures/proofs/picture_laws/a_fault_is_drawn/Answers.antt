@@ -1,0 +1,12 @@
+use Rattle.step_pictures.proofs.Contained.{has_row}
+use Rattle.step_pictures.proofs.Standings.{last_is_drawn, outline_stands}
+use Rattle.step_pictures.proofs.picture_laws.a_fault_is_drawn.Goals as goal
+
+pub returns-clause-drawn : goal.returns-clause-drawn
+returns-clause-drawn c = last_is_drawn
+
+pub returns-clause-rows : goal.returns-clause-rows
+returns-clause-rows c = has_row
+
+pub returns-clause-outlined : goal.returns-clause-outlined
+returns-clause-outlined c = outline_stands

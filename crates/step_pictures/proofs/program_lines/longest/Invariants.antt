@@ -1,0 +1,10 @@
+use Rattle.std.proofs.Common.{◌≡◌, ◌≤◌, drop, map, max}
+use Rattle.step_entries.specs.Entries.{entry_is}
+use Rattle.step_pictures.specs.ProgramLines.{longest}
+use Rattle.step_pictures.proofs.program_lines.longest.Given as goal
+
+abbrev pub invariant-loop-entry : goal.invariant-loop-entry
+invariant-loop-entry l = record {
+  so_far : max l.most (longest l.text (map entry_is (drop l.entry-index l.entries))) ≡ longest l.text (map entry_is l.entries);
+  short : l.most ≤ 36;
+}

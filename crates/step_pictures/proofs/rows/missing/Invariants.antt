@@ -1,0 +1,10 @@
+use Rattle.std.proofs.Common.{◌≡◌, ◌≤◌, ◌+◌, drop, map}
+use Rattle.step_entries.specs.Entries.{act_is}
+use Rattle.step_pictures.specs.Drawn.{missing}
+use Rattle.step_pictures.proofs.rows.missing.Given as goal
+
+abbrev pub invariant-loop-act : goal.invariant-loop-act
+invariant-loop-act l = record {
+  so_far : l.count + missing l.rows (map act_is (drop l.act-index l.acts)) ≡ missing l.rows (map act_is l.acts);
+  few : l.count ≤ l.act-index;
+}

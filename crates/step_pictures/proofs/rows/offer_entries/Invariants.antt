@@ -1,0 +1,11 @@
+use Rattle.std.proofs.Common.{◌≡◌, ◌≤◌, ◌-◌, drop, length, map}
+use Rattle.step_entries.specs.Entries.{entry_is}
+use Rattle.step_pictures.specs.Drawn.{acting, with_others}
+use Rattle.step_pictures.proofs.rows.offer_entries.Given as goal
+
+abbrev pub invariant-loop-entry : goal.invariant-loop-entry
+invariant-loop-entry l = record {
+  so_far : with_others l.fn.those l.rows.items (acting (map entry_is (drop l.entry-index l.fn.entries)))
+      ≡ with_others l.fn.those l.fn.rows.items (acting (map entry_is l.fn.entries));
+  few : length l.rows.items ≤ 64 - length l.fn.those;
+}

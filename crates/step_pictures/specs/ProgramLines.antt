@@ -1,0 +1,77 @@
+-- The program's text of a statement's line, as it stands above its column.
+use Rattle.std.specs.Prelude.{ℕ, ◌+◌, ◌-◌, min, max, nat_eq, nat_lt, ◌||◌, if◌then◌else◌, List, [], ◌∷◌, ◌++◌, length, take, drop}
+use Rattle.std.specs.Prelude.{codes, decimal}
+use Rattle.std.specs.Char.{is_ascii_whitespace}
+use Rattle.std.specs.List.{prefix_len, suffix_len}
+use Rattle.text_places.specs.Places.{line_text}
+use Rattle.step_entries.specs.Entries.{Entry, Ran, Faulting}
+
+-- ---- bytes in a text of SVG: a tab is a blank, and what is no printed letter of ASCII a question mark
+
+abbrev pub letter : ℕ → List ℕ
+letter b =
+    if nat_eq b 38 then codes "&amp;"
+    else if nat_eq b 60 then codes "&lt;"
+    else if nat_eq b 62 then codes "&gt;"
+    else if nat_eq b 9 then codes " "
+    else if nat_lt b 32 || nat_lt 126 b then codes "?"
+    else b ∷ []
+
+abbrev pub letters : List ℕ → List ℕ
+letters [] = []
+letters (b ∷ bytes) = letter b ++ letters bytes
+
+-- ---- the text of a line
+
+abbrev pub without_front : List ℕ → List ℕ
+without_front bytes = drop (prefix_len is_ascii_whitespace bytes) bytes
+
+abbrev pub without_end : List ℕ → List ℕ
+without_end bytes = take (length bytes - suffix_len is_ascii_whitespace bytes) bytes
+
+-- what stands between its ends, without blanks at both ends
+abbrev pub code_of : (text : List ℕ) → (line : ℕ) → List ℕ
+code_of text line = without_end (without_front (line_text text line))
+
+-- of what is longer than a row, that it goes on
+abbrev pub with_dots : List ℕ → List ℕ
+with_dots bytes = letters bytes ++ codes ".."
+
+abbrev pub cut : List ℕ → List ℕ
+cut bytes = if nat_lt 36 (length bytes) then with_dots (take 34 bytes) else letters bytes
+
+abbrev pub turned : (x y : ℕ) → List ℕ
+turned x y = codes "<text transform='translate(" ++ (decimal x ++ (codes " " ++ (decimal y
+    ++ codes ") rotate(-90)' font-family='monospace' font-size='11'>")))
+
+-- a row that reads upwards from there
+abbrev pub upright : (x y : ℕ) → List ℕ → List ℕ
+upright x y bytes = turned x y ++ (cut bytes ++ codes "</text>\n")
+
+abbrev pub more_code : (x y : ℕ) → List ℕ → List ℕ
+more_code x y [] = []
+more_code x y (b ∷ bytes) = upright x y (b ∷ bytes)
+
+-- what fits into a row, and what doesn't
+abbrev pub first_row : List ℕ → List ℕ
+first_row bytes = if nat_lt 36 (length bytes) then take 36 bytes else bytes
+
+abbrev pub next_row : List ℕ → List ℕ
+next_row bytes = if nat_lt 36 (length bytes) then drop 36 bytes else []
+
+-- two rows
+abbrev pub code_rows : (x y : ℕ) → List ℕ → List ℕ
+code_rows x y bytes = upright (x + 24) y (first_row bytes) ++ more_code (x + 38) y (next_row bytes)
+
+-- ---- how long the longest row is, which says how tall a band is
+
+abbrev pub line_of : Entry → ℕ
+line_of (Ran here acts cells variables locals items) = here.line
+line_of (Faulting here fault cause acts met) = fault.line
+
+abbrev pub row_length : (text : List ℕ) → Entry → ℕ
+row_length text e = min 36 (length (code_of text (line_of e)))
+
+abbrev pub longest : (text : List ℕ) → List Entry → ℕ
+longest text [] = 0
+longest text (e ∷ es) = max (row_length text e) (longest text es)

@@ -1,0 +1,24 @@
+-- What a reader relies on: which texts stand in a picture.
+use Rattle.std.specs.Prelude.{◌≡◌, ℕ, ◌<◌, List, ◌++◌, length, slice_index_or}
+use Rattle.pram_model.specs.Layout.{SharedEntry}
+use Rattle.step_entries.specs.Entries.{Entry}
+use Rattle.step_pictures.specs.Drawn.{Numbered, drawn}
+use Rattle.step_pictures.specs.Measures.{Column, column_at, frame_of, rows_top}
+
+-- a text stands within another one
+pub record StandsIn (part whole : List ℕ) : Type 0 where
+  pub before : List ℕ
+  pub behind : List ℕ
+  pub is : whole ≡ before ++ (part ++ behind)
+
+-- the statement that is drawn behind j others
+abbrev pub StandsAt : List Entry → (j : ℕ) → Numbered → Type 0
+StandsAt es j d = (j < length (drawn es)) × (slice_index_or (drawn es) j d ≡ d)
+
+-- its column
+abbrev pub column_of : List SharedEntry → (text : List ℕ) → List Entry → (j : ℕ) → Numbered → Column
+column_of layout text es j d = column_at (frame_of layout text es) j d.number
+
+-- where the rows of its column begin
+abbrev pub top_of : List SharedEntry → (text : List ℕ) → List Entry → (j : ℕ) → ℕ
+top_of layout text es j = rows_top (frame_of layout text es) j

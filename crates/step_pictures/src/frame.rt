@@ -1,0 +1,27 @@
+//! What a picture is drawn by.
+
+ghost use Rattle.std.specs.Prelude.{◌≤◌, length};
+
+use pram_trees::Layout;
+
+/// The names of shared memory, the program's text, the indices that have a row, and how many letters stand above a column at most.
+#[derive(Drop)]
+pub(crate) struct Frame<'a> {
+    pub(crate) layout: &'a Layout,
+    pub(crate) text: &'a [u8],
+    pub(crate) rows: &'a [i64],
+    pub(crate) letters: usize,
+    ghost few: { length rows.now ≤ 64 },
+    ghost short: { letters ≤ 36 },
+}
+
+/// Where a column begins, where its rows begin, and the number of its statement.
+#[derive(Clone, Copy)]
+pub(crate) struct Column {
+    pub(crate) x: usize,
+    pub(crate) y: usize,
+    pub(crate) number: usize,
+    ghost right: { x ≤ 2000 },
+    ghost some: { 42 ≤ y },
+    ghost down: { y ≤ 20000 },
+}

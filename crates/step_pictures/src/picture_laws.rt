@@ -1,0 +1,71 @@
+//! The laws of this crate.
+
+ghost use Rattle.std.specs.Prelude.{◌≡◌, ◌≤◌, ◌<◌, ◌+◌, ◌-◌, ◌++◌, ◌∷◌, ◌⊎◌, ℕ, List, Some, [], ℤ, int_lt, true, length};
+ghost use Rattle.std.specs.List.{AllPairs, Contains};
+ghost use Rattle.pram_model.specs.Layout.{SharedEntry};
+ghost use Rattle.step_entries.specs.Entries.{Act, Entry};
+ghost use Rattle.step_pictures.specs.Bands.{label, label_line};
+ghost use Rattle.step_pictures.specs.Columns.{column, more_at};
+ghost use Rattle.step_pictures.specs.Drawn.{Numbered, acting_drawn, acts_in, drawn, met_in, met_of, missing, place_of, rows_of};
+ghost use Rattle.step_pictures.specs.Marks.{box, outline};
+ghost use Rattle.step_pictures.specs.Measures.{Frame, column_left, frame_of, row_top, rows_top};
+ghost use Rattle.step_pictures.specs.Picture.{picture, without_text};
+ghost use Rattle.step_pictures.specs.Standing.{StandsAt, StandsIn, column_of, top_of};
+
+/// Each statement that is drawn has a column, at a place that is no other's and within 1200 pixels: the 16 of a band stand beside one
+/// another, and the next band below.
+pub fn each_statement_has_a_column()
+    ensures stands { (layout : List SharedEntry) (text : List ℕ) (es : List Entry) (j : ℕ) (d : Numbered) → StandsAt es j d →
+        StandsIn (column (frame_of layout text es) (column_of layout text es j d) d.entry) (picture layout text es) }
+    ensures one { (f : Frame) (i j : ℕ) → column_left i ≡ column_left j → rows_top f i ≡ rows_top f j → i ≡ j }
+    ensures page { (j : ℕ) → column_left j + 64 ≤ 1200 }
+{}
+
+/// A processor that acts in a statement that is drawn, and has a row, has a box in that row of the column.
+pub fn each_processor_has_a_box()
+    ensures stands { (layout : List SharedEntry) (text : List ℕ) (es : List Entry) (j : ℕ) (d : Numbered) (a : Act) (i : ℤ) →
+        StandsAt es j d → Contains (acts_in d.entry) a → a.processor ≡ Some i → Contains (rows_of es) i →
+        StandsIn (box layout (column_left j) (row_top (top_of layout text es j) (place_of (rows_of es) i + 1)) a)
+        (picture layout text es) }
+{}
+
+/// No row is of an index that neither acts in a statement that is drawn nor met at the fault; rows ascend, each index once, and there are
+/// at most 64. Where there are fewer, each index that acts in a statement that is drawn has one.
+pub fn rows_are_of_those_that_act()
+    ensures acts { (es : List Entry) (i : ℤ) → Contains (rows_of es) i → Contains (acting_drawn es) i ⊎ Contains (met_of es) i }
+    ensures ascend { (es : List Entry) → AllPairs (λ x y. int_lt x y ≡ true) (rows_of es) }
+    ensures few { (es : List Entry) → length (rows_of es) ≤ 64 }
+    ensures all { (es : List Entry) (i : ℤ) → length (rows_of es) < 64 → Contains (acting_drawn es) i → Contains (rows_of es) i }
+{}
+
+/// An index that has a row has its name in front of that row, in each band.
+pub fn each_row_has_its_name()
+    ensures stands { (layout : List SharedEntry) (text : List ℕ) (es : List Entry) (j : ℕ) (d : Numbered) (i : ℤ) →
+        StandsAt es j d → Contains (rows_of es) i →
+        StandsIn (label (label_line (top_of layout text es j) (place_of (rows_of es) i + 1)) i) (picture layout text es) }
+{}
+
+/// The last statement is drawn, where alone a run faults; of those that met there, at most 64, each has a row, and in it an outline with
+/// the word.
+pub fn a_fault_is_drawn()
+    ensures drawn { (es : List Entry) (e : Entry) →
+        Contains (drawn (es ++ e ∷ [])) (record { number = length es + 1; entry = e }) }
+    ensures rows { (es : List Entry) (e : Entry) (i : ℤ) → length (met_in e) ≤ 64 → Contains (met_in e) i →
+        Contains (rows_of (es ++ e ∷ [])) i }
+    ensures outlined { (layout : List SharedEntry) (text : List ℕ) (es : List Entry) (j : ℕ) (d : Numbered) (i : ℤ) →
+        StandsAt es j d → Contains (met_in d.entry) i → Contains (rows_of es) i →
+        StandsIn (outline (column_left j) (row_top (top_of layout text es j) (place_of (rows_of es) i + 1)) i)
+        (picture layout text es) }
+{}
+
+/// Of more statements than are drawn it is told how many are not, and from which number to which; and below each column how many more
+/// processors act in its statement than have a row.
+pub fn what_is_left_out_is_told()
+    ensures statements { (layout : List SharedEntry) (text : List ℕ) (es : List Entry) → length (drawn es) < length es →
+        StandsIn (without_text (length es)) (picture layout text es) }
+    ensures count { (es : List Entry) → length (drawn es) < length es → length (drawn es) + (length es - 112) ≡ length es }
+    ensures processors { (layout : List SharedEntry) (text : List ℕ) (es : List Entry) (j : ℕ) (d : Numbered) → StandsAt es j d →
+        0 < missing (rows_of es) (acts_in d.entry) →
+        StandsIn (more_at (column_left j) (row_top (top_of layout text es j) (length (rows_of es) + 1) + 13)
+        (missing (rows_of es) (acts_in d.entry))) (picture layout text es) }
+{}
