@@ -1,0 +1,80 @@
+-- The options of a command line that take a word: their names, and which words they take.
+use Rattle.std.specs.Prelude.{◌≡◌, ◌⊎◌, ℕ, ◌<◌, ℤ, List, Option, Some, None, codes, if◌then◌else◌}
+use Rattle.pram_model.specs.Names.{same_text}
+use Rattle.run_options.specs.Maps.{IsPair, Names}
+use Rattle.run_options.specs.Numbers.{number_of}
+use Rattle.run_options.specs.declared.map_choice.MapChoice.{MapChoice}
+use Rattle.drawn_inputs.specs.Intervals.{IsInterval}
+use Rattle.word_faults.specs.declared.given.Given.{Given}
+use Rattle.word_faults.specs.declared.given.Given.TheVariants as given
+
+-- how an option stands on a command line
+abbrev pub name : Given → List ℕ
+name given.Bound = codes "--bound"
+name given.Workers = codes "--workers"
+name given.Map = codes "--map"
+name given.Reserve = codes "--reserve"
+name given.Schedule = codes "--schedule"
+name given.From = codes "--from"
+name given.To = codes "--to"
+name given.Random = codes "--random"
+name given.Seed = codes "--seed"
+name given.Size = codes "--size"
+name given.Sweep = codes "--sweep"
+name given.Format = codes "--format"
+name given.Show = codes "--show"
+name given.Subject = codes "explain"
+
+-- the option of that name, among those of what is told or shown
+abbrev pub named_telling : List ℕ → Option Given
+named_telling word =
+    if same_text word (codes "--schedule") then Some given.Schedule
+    else if same_text word (codes "--from") then Some given.From
+    else if same_text word (codes "--to") then Some given.To
+    else if same_text word (codes "--format") then Some given.Format
+    else if same_text word (codes "--show") then Some given.Show
+    else if same_text word (codes "explain") then Some given.Subject
+    else None
+
+-- among those of the cells and of the text
+abbrev pub named_opening : List ℕ → Option Given
+named_opening word =
+    if same_text word (codes "--random") then Some given.Random
+    else if same_text word (codes "--seed") then Some given.Seed
+    else if same_text word (codes "--size") then Some given.Size
+    else if same_text word (codes "--sweep") then Some given.Sweep
+    else named_telling word
+
+-- the option of that name, if there is one
+abbrev pub named : List ℕ → Option Given
+named word =
+    if same_text word (codes "--bound") then Some given.Bound
+    else if same_text word (codes "--workers") then Some given.Workers
+    else if same_text word (codes "--map") then Some given.Map
+    else if same_text word (codes "--reserve") then Some given.Reserve
+    else named_opening word
+
+abbrev pub IsNumber : List ℕ → Type 0
+IsNumber word = (n : ℕ) × (number_of word ≡ Some n)
+
+-- a number of processors
+abbrev pub IsCount : List ℕ → Type 0
+IsCount word = (n : ℕ) × (number_of word ≡ Some n) × (0 < n)
+
+-- An option takes a word, whatever else is asked for and whatever stands in files. Of a size, a sweep, names and `csv` that is known of no
+-- word.
+abbrev pub Takes : Given → List ℕ → Type 0
+Takes given.Bound word = IsNumber word
+Takes given.Workers word = IsNumber word
+Takes given.Map word = (map : MapChoice) × Names word map
+Takes given.Reserve word = (items : ℕ) × (exchanges : ℕ) × IsPair word items exchanges
+Takes given.Schedule word = IsCount word
+Takes given.From word = IsNumber word
+Takes given.To word = IsNumber word
+Takes given.Random word = (low : ℤ) × (high : ℤ) × IsInterval word low high
+Takes given.Seed word = IsNumber word
+Takes given.Size word = ⊥
+Takes given.Sweep word = ⊥
+Takes given.Format word = (word ≡ codes "text") ⊎ (word ≡ codes "json")
+Takes given.Show word = ⊥
+Takes given.Subject word = ⊥

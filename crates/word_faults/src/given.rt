@@ -1,0 +1,47 @@
+//! The options that take a word.
+
+ghost use Rattle.std.specs.Prelude.{◌≡◌};
+ghost use Rattle.word_faults.specs.Options as spec;
+
+/// What a word of the command line is given for: an option, or the subject of `explain`.
+#[derive(Clone, Copy, Debug, Drop, PartialEq, Eq)]
+pub enum Given {
+    Bound,
+    Workers,
+    Map,
+    Reserve,
+    Schedule,
+    From,
+    To,
+    Random,
+    Seed,
+    Size,
+    Sweep,
+    Format,
+    Show,
+    Subject,
+}
+
+impl Given {
+    /// How it stands on a command line.
+    pub fn name(self) -> &'static [u8]
+        ensures { result.now ≡ spec.name self }
+    {
+        match self {
+            Given::Bound => b"--bound",
+            Given::Workers => b"--workers",
+            Given::Map => b"--map",
+            Given::Reserve => b"--reserve",
+            Given::Schedule => b"--schedule",
+            Given::From => b"--from",
+            Given::To => b"--to",
+            Given::Random => b"--random",
+            Given::Seed => b"--seed",
+            Given::Size => b"--size",
+            Given::Sweep => b"--sweep",
+            Given::Format => b"--format",
+            Given::Show => b"--show",
+            Given::Subject => b"explain",
+        }
+    }
+}

@@ -1,0 +1,69 @@
+//! The option of a name.
+
+ghost use Rattle.std.specs.Prelude.{◌≡◌};
+ghost use Rattle.pram_model.specs.Names.{same_text};
+ghost use Rattle.word_faults.specs.Options as spec;
+
+use crate::given::Given;
+
+/// Whether two texts are one.
+pub(crate) fn is_same(a: &[u8], b: &[u8]) -> bool
+    ensures { result ≡ same_text a.now b.now }
+{
+    a == b
+}
+
+// An option of what is told or shown.
+fn named_telling(word: &[u8]) -> Option<Given>
+    ensures { result ≡ spec.named_telling word.now }
+{
+    if is_same(word, b"--schedule") {
+        Some(Given::Schedule)
+    } else if is_same(word, b"--from") {
+        Some(Given::From)
+    } else if is_same(word, b"--to") {
+        Some(Given::To)
+    } else if is_same(word, b"--format") {
+        Some(Given::Format)
+    } else if is_same(word, b"--show") {
+        Some(Given::Show)
+    } else if is_same(word, b"explain") {
+        Some(Given::Subject)
+    } else {
+        None
+    }
+}
+
+// One of the cells or of the text, or one of those.
+fn named_opening(word: &[u8]) -> Option<Given>
+    ensures { result ≡ spec.named_opening word.now }
+{
+    if is_same(word, b"--random") {
+        Some(Given::Random)
+    } else if is_same(word, b"--seed") {
+        Some(Given::Seed)
+    } else if is_same(word, b"--size") {
+        Some(Given::Size)
+    } else if is_same(word, b"--sweep") {
+        Some(Given::Sweep)
+    } else {
+        named_telling(word)
+    }
+}
+
+/// The option of that name, if there is one.
+pub(crate) fn named(word: &[u8]) -> Option<Given>
+    ensures { result ≡ spec.named word.now }
+{
+    if is_same(word, b"--bound") {
+        Some(Given::Bound)
+    } else if is_same(word, b"--workers") {
+        Some(Given::Workers)
+    } else if is_same(word, b"--map") {
+        Some(Given::Map)
+    } else if is_same(word, b"--reserve") {
+        Some(Given::Reserve)
+    } else {
+        named_opening(word)
+    }
+}

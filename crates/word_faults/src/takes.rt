@@ -1,0 +1,79 @@
+//! Whether an option takes a word.
+
+ghost use Rattle.std.specs.Prelude.{◌≡◌, ◌⊎◌, MatchBool, codes, ℕ, ℤ};
+ghost use Rattle.run_options.specs.Maps.{IsPair, Names};
+ghost use Rattle.run_options.specs.declared.map_choice.MapChoice.{MapChoice};
+ghost use Rattle.drawn_inputs.specs.Intervals.{IsInterval};
+ghost use Rattle.word_faults.specs.Options as spec;
+
+use crate::given::Given;
+use drawn_inputs::read_interval;
+use run_options::{read_map, read_number, read_pair};
+
+fn is_number(word: &str) -> bool
+    ensures { MatchBool result (spec.IsNumber word.now) (¬ (spec.IsNumber word.now)) }
+{
+    match read_number(word) {
+        Some(_) => true,
+        None => false,
+    }
+}
+
+fn is_count(word: &str) -> bool
+    ensures { MatchBool result (spec.IsCount word.now) (¬ (spec.IsCount word.now)) }
+{
+    match read_number(word) {
+        Some(number) => number > 0,
+        None => false,
+    }
+}
+
+fn is_map(word: &str) -> bool
+    ensures { MatchBool result ((map : MapChoice) × Names word.now map) (¬ ((map : MapChoice) × Names word.now map)) }
+{
+    match read_map(word) {
+        Some(_) => true,
+        None => false,
+    }
+}
+
+fn is_pair(word: &str) -> bool
+    ensures { MatchBool result ((a : ℕ) × (b : ℕ) × IsPair word.now a b) (¬ ((a : ℕ) × (b : ℕ) × IsPair word.now a b)) }
+{
+    match read_pair(word) {
+        Some(_) => true,
+        None => false,
+    }
+}
+
+fn is_interval(word: &str) -> bool
+    ensures { MatchBool result ((low : ℤ) × (high : ℤ) × IsInterval word.now low high)
+        (¬ ((low : ℤ) × (high : ℤ) × IsInterval word.now low high)) }
+{
+    match read_interval(word) {
+        Some(_) => true,
+        None => false,
+    }
+}
+
+fn is_format(word: &str) -> bool
+    ensures { MatchBool result ((word.now ≡ codes "text") ⊎ (word.now ≡ codes "json"))
+        (¬ ((word.now ≡ codes "text") ⊎ (word.now ≡ codes "json"))) }
+{
+    word == "text" || word == "json"
+}
+
+/// Whether an option takes a word, whatever else is asked for and whatever stands in files.
+pub(crate) fn takes(given: Given, word: &str) -> bool
+    ensures { MatchBool result (spec.Takes given word.now) (¬ (spec.Takes given word.now)) }
+{
+    match given {
+        Given::Bound | Given::Workers | Given::From | Given::To | Given::Seed => is_number(word),
+        Given::Schedule => is_count(word),
+        Given::Map => is_map(word),
+        Given::Reserve => is_pair(word),
+        Given::Random => is_interval(word),
+        Given::Format => is_format(word),
+        Given::Size | Given::Sweep | Given::Show | Given::Subject => false,
+    }
+}
