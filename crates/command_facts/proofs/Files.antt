@@ -1,5 +1,5 @@
 -- What is read of a file that is not too long is all of it.
-use Rattle.std.proofs.Common.{◌≤◌, ◌++◌, ℕ, List, subst, sym}
+use Rattle.std.proofs.Common.{◌≤◌, ◌++◌, ℕ, List, refl, subst, sym}
 use Rattle.std.proofs.lemmas.List.{append-nil}
 use Rattle.std.specs.Prelude.{Option, Some, length}
 use Rattle.system_files.specs.Files.{IsReadFrom}
@@ -30,7 +30,8 @@ code_stops holds name most text (stop.Refused refusal.InputTooLong) a read h = a
 code_stops holds name most text (stop.Refused refusal.BadMap) a read h = absurd h
 code_stops holds name most text (stop.Refused refusal.BadWorkers) a read h = absurd h
 code_stops holds name most text (stop.Refused refusal.OutOfReserve) a read h = absurd h
-code_stops holds name most text (stop.Refused refusal.OutOfMemory) about.Nothing read h = tt
+code_stops holds name most text (stop.Refused refusal.OutOfMemory) about.Nothing read h = refl
+code_stops holds name most text (stop.Refused refusal.OutOfMemory) (about.File u) read h = absurd h
 code_stops holds name most text (stop.Refused refusal.OutOfMemory) (about.Text s) read h = absurd h
 code_stops holds name most text (stop.Refused refusal.OutOfMemory) (about.Line s line) read h = absurd h
 code_stops holds name most text (stop.Refused refusal.OutOfMemory) (about.Values values cells) read h = absurd h
@@ -39,6 +40,7 @@ code_stops holds name most text (stop.NotVerified at word) (about.Text s) read h
 code_stops holds name most text (stop.NotVerified at word) (about.Line s line) read h =
     (subst (IsReadFrom holds most) (sym h.0) read, h.1, h.2)
 code_stops holds name most text (stop.NotVerified at word) (about.Values values cells) read h = absurd h
+code_stops holds name most text (stop.NotVerified at word) (about.File u) read h = absurd h
 code_stops holds name most text (stop.BadListing at) a read h = absurd h
 code_stops holds name most text stop.WriteFailed a read h = absurd h
 code_stops holds name most text (stop.BadSize at reason) a read h = absurd h
@@ -49,5 +51,23 @@ pub memory_stops : (holds : Option (List ℕ) → Type 0) (name : List ℕ) (lay
 memory_stops holds name layout text why (about.Text s) read h =
     (subst (IsReadFrom holds longest) (sym h.0) read, h.1, subst (IsOfMemory layout why) (sym h.0) h.2)
 memory_stops holds name layout text why (about.Values values cells) read h = (text, read, h)
-memory_stops holds name layout text why about.Nothing read h = subst (IsUnread holds name) (sym h) tt
+memory_stops holds name layout text why about.Nothing read h = h
 memory_stops holds name layout text why (about.Line s line) read h = absurd h
+memory_stops holds name layout text why (about.File u) read h = absurd h
+
+-- a file that wasn't read
+pub unread_file : (holds : Option (List ℕ) → Type 0) (name : List ℕ) (most : ℕ) (Has : Stop → List ℕ → Type 0) (why : Stop) (a : About) →
+    IsUnread holds name why a → IsAtFile holds name most Has why a
+unread_file holds name most Has why (about.File u) h = h
+unread_file holds name most Has why about.Nothing h = h
+unread_file holds name most Has why (about.Text s) h = absurd h
+unread_file holds name most Has why (about.Line s line) h = absurd h
+unread_file holds name most Has why (about.Values values cells) h = absurd h
+
+pub unread_memory : (holds : Option (List ℕ) → Type 0) (name : List ℕ) (layout : List SharedEntry) (why : Stop) (a : About) →
+    IsUnread holds name why a → IsAtMemory holds name layout why a
+unread_memory holds name layout why (about.File u) h = h
+unread_memory holds name layout why about.Nothing h = h
+unread_memory holds name layout why (about.Text s) h = absurd h
+unread_memory holds name layout why (about.Line s line) h = absurd h
+unread_memory holds name layout why (about.Values values cells) h = absurd h

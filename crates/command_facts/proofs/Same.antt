@@ -4,7 +4,6 @@ use Rattle.std.specs.Prelude.{Option, Some, None}
 use Rattle.pram_model.specs.Layout.{SharedEntry}
 use Rattle.pram_tokens.specs.Scanning.{longest}
 use Rattle.system_files.specs.Files.{IsReadFrom, IsSame}
-use Rattle.program_texts.specs.declared.from_text.Refusal.TheVariants as refusal
 use Rattle.program_texts.specs.declared.stop.Stop.{Stop}
 use Rattle.program_texts.specs.declared.stop.Stop.TheVariants as stop
 use Rattle.diagnoses.specs.declared.about.About.{About}
@@ -24,7 +23,7 @@ use Rattle.sweep_texts.specs.declared.size_row.SizeRow.{SizeRow}
 use Rattle.command_facts.specs.declared.found.FoundRun.{FoundRun}
 use Rattle.command_facts.specs.declared.loaded.Loaded.{Loaded}
 use Rattle.command_facts.specs.Found.{IsLoaded, IsOpening, IsRunFound}
-use Rattle.command_facts.specs.Held.{IsAtFile, IsAtMemory, IsAtProgram, IsAtText, IsExpansionIn, IsOfInput, IsUnread, StopsAtProgram}
+use Rattle.command_facts.specs.Held.{IsAtFile, IsAtMemory, IsAtProgram, IsAtText, IsExpansionIn, IsNoFile, IsOfInput, StopsAtProgram}
 use Rattle.command_facts.specs.Refused.{IsProgramIn, RefusesRun, StopsAtOpening, StopsBefore}
 use Rattle.command_facts.specs.Sweeps.{ComesOut, IsProgramRefused, IsRow, RunsAs}
 
@@ -41,15 +40,9 @@ module _ (now before : List ℕ → Option (List ℕ) → Type 0) (same : IsSame
   read_from : (name : List ℕ) (most : ℕ) (bytes : List ℕ) → IsReadFrom (now name) most bytes → IsReadFrom (before name) most bytes
   read_from name most bytes h = (h.0, (same name _).0 h.1, h.2)
 
-  unread : (name : List ℕ) (why : Stop) → IsUnread (now name) name why → IsUnread (before name) name why
+  unread : (name : List ℕ) (why : Stop) → IsNoFile (now name) name why → IsNoFile (before name) name why
   unread name (stop.Unreadable word) h = (h.0, (same name None).0 h.1)
-  unread name (stop.Refused refusal.OutOfMemory) h = h
-  unread name (stop.Refused (refusal.Text fault)) h = absurd h
-  unread name (stop.Refused (refusal.Program breach)) h = absurd h
-  unread name (stop.Refused refusal.InputTooLong) h = absurd h
-  unread name (stop.Refused refusal.BadMap) h = absurd h
-  unread name (stop.Refused refusal.BadWorkers) h = absurd h
-  unread name (stop.Refused refusal.OutOfReserve) h = absurd h
+  unread name (stop.Refused r) h = absurd h
   unread name (stop.Words text) h = absurd h
   unread name (stop.Number word) h = absurd h
   unread name (stop.NotVerified at word) h = absurd h
@@ -59,7 +52,8 @@ module _ (now before : List ℕ → Option (List ℕ) → Type 0) (same : IsSame
 
   at_file : (name : List ℕ) (most : ℕ) (Has : Stop → List ℕ → Type 0) (why : Stop) (a : About) → IsAtFile (now name) name most Has why a →
       IsAtFile (before name) name most Has why a
-  at_file name most Has why about.Nothing h = unread name why h
+  at_file name most Has why about.Nothing h = h
+  at_file name most Has why (about.File u) h = unread name why h
   at_file name most Has why (about.Text s) h = (read_from name most s.bytes.items h.0, h.1, h.2)
   at_file name most Has (stop.NotVerified at word) (about.Line s line) h = (read_from name most s.bytes.items h.0, h.1, h.2)
   at_file name most Has (stop.Words text) (about.Line s line) h = absurd h
@@ -73,7 +67,8 @@ module _ (now before : List ℕ → Option (List ℕ) → Type 0) (same : IsSame
 
   at_memory : (name : List ℕ) (layout : List SharedEntry) (why : Stop) (a : About) → IsAtMemory (now name) name layout why a →
       IsAtMemory (before name) name layout why a
-  at_memory name layout why about.Nothing h = unread name why h
+  at_memory name layout why about.Nothing h = h
+  at_memory name layout why (about.File u) h = unread name why h
   at_memory name layout why (about.Text s) h = (read_from name longest s.bytes.items h.0, h.1, h.2)
   at_memory name layout why (about.Values values cells) h = (h.0, read_from name longest h.0 h.1, h.2)
   at_memory name layout why (about.Line s line) h = absurd h
@@ -101,8 +96,8 @@ module _ (now before : List ℕ → Option (List ℕ) → Type 0) (same : IsSame
   }
 
   at_text : (file : ProgramFile) (why : Stop) (a : About) → IsAtText (now file.name.now) file why a → IsAtText (before file.name.now) file why a
-  at_text file why about.Nothing (inl h) = inl h
-  at_text file why about.Nothing (inr h) = inr (unread file.name.now why h)
+  at_text file why about.Nothing h = h
+  at_text file why (about.File u) h = unread file.name.now why h
   at_text file why (about.Text s) h = (read_from file.name.now longest s.bytes.items h.0, h.1, h.2)
   at_text file why (about.Line s line) h = absurd h
   at_text file why (about.Values values cells) h = absurd h
@@ -113,6 +108,7 @@ module _ (now before : List ℕ → Option (List ℕ) → Type 0) (same : IsSame
   at_program file why about.Nothing h = absurd h
   at_program file why (about.Line s line) h = absurd h
   at_program file why (about.Values values cells) h = absurd h
+  at_program file why (about.File u) h = absurd h
 
   program_stops : (file : ProgramFile) (h : Halted) → StopsAtProgram (now file.name.now) file h → StopsAtProgram (before file.name.now) file h
   program_stops file h (inl stops) = inl (at_text file h.stop h.about stops)

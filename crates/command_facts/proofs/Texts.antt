@@ -1,6 +1,6 @@
 -- Texts that were read, with their expansions or without.
-use Rattle.std.proofs.Common.{◌≡◌, ℕ, List, subst, sym}
-use Rattle.std.specs.Prelude.{◌⊎◌, Option, Some, None, Result, Ok, Err, IfErr, IsErrAnd}
+use Rattle.std.proofs.Common.{◌≡◌, ℕ, List, inl, inr, subst, sym}
+use Rattle.std.specs.Prelude.{Option, Some, None, Result, Ok, Err, IfErr, IsErrAnd}
 use Rattle.pram_tokens.specs.Scanning.{longest}
 use Rattle.sized_texts.specs.Faults.{shown}
 use Rattle.sized_texts.specs.declared.expanded.Expanded.{Expanded}
@@ -18,15 +18,23 @@ use Rattle.command_facts.specs.Held.{IsAtText, IsUnread, StopsAtText}
 use Rattle.command_facts.proofs.Files.{read_whole}
 
 module _ (holds : Option (List ℕ) → Type 0) (file : ProgramFile) where
-  -- a word gives no size, or the file wasn't read
-  pub stops_before_text : (h : Halted) (why : Stop) → (h.stop ≡ why) × (h.about ≡ about.Nothing) →
-      IsOfSizes file.sizes.items why ⊎ IsUnread holds file.name.now why → StopsAtText holds file h
+  -- a word gives no size
+  pub stops_before_text : (h : Halted) (why : Stop) → (h.stop ≡ why) × (h.about ≡ about.Nothing) → IsOfSizes file.sizes.items why →
+      StopsAtText holds file h
   stops_before_text h why is said = subst (λ (a : About). IsAtText holds file h.stop a) (sym is.1)
-      (subst (λ (s : Stop). IsOfSizes file.sizes.items s ⊎ IsUnread holds file.name.now s) (sym is.0) said)
+      (inl (subst (λ (s : Stop). IsOfSizes file.sizes.items s) (sym is.0) said))
+
+  -- the file wasn't read
+  pub unread_text : (why : Stop) (a : About) → IsUnread holds file.name.now why a → IsAtText holds file why a
+  unread_text why (about.File u) h = h
+  unread_text why about.Nothing h = inr h
+  unread_text why (about.Text s) h = absurd h
+  unread_text why (about.Line s line) h = absurd h
+  unread_text why (about.Values values cells) h = absurd h
 
   -- so says an answer
   pub stops_with : {X : Type 0} (r : Result X Halted) (why : Stop) → IsErrAnd r (λ h. (h.stop ≡ why) × (h.about ≡ about.Nothing)) →
-      IsOfSizes file.sizes.items why ⊎ IsUnread holds file.name.now why → IfErr r (StopsAtText holds file)
+      IsOfSizes file.sizes.items why → IfErr r (StopsAtText holds file)
   stops_with (Ok x) why is said = absurd is
   stops_with (Err h) why is said = stops_before_text h why is said
 

@@ -41,11 +41,16 @@ IsMemoryIn holds layout values = (text : List ℕ) × holds (Some text) × IsMem
 abbrev pub IsListingIn : (Option (List ℕ) → Type 0) → SuperstepCode → Type 0
 IsListingIn holds code = (text : List ℕ) × holds (Some text) × IsListing text code
 
--- The name stands for no file that can be read; or memory was refused.
-abbrev pub IsUnread : (Option (List ℕ) → Type 0) → List ℕ → Stop → Type 0
-IsUnread holds name (stop.Unreadable word) = (word.now ≡ name) × holds None
-IsUnread holds name (stop.Refused refusal.OutOfMemory) = Unit {0}
-IsUnread holds name _ = ⊥
+-- The name stands for no file that can be read.
+abbrev pub IsNoFile : (Option (List ℕ) → Type 0) → List ℕ → Stop → Type 0
+IsNoFile holds name (stop.Unreadable word) = (word.now ≡ name) × holds None
+IsNoFile holds name _ = ⊥
+
+-- That is so, and why is told; or memory was refused.
+abbrev pub IsUnread : (Option (List ℕ) → Type 0) → List ℕ → Stop → About → Type 0
+IsUnread holds name why (about.File u) = IsNoFile holds name why
+IsUnread holds name why about.Nothing = why ≡ stop.Refused refusal.OutOfMemory
+IsUnread holds name why _ = ⊥
 
 -- a text that was read is all that the file holds, and has its expansion by the sizes of the words
 abbrev pub IsTextIn : (Option (List ℕ) → Type 0) → (words : List SizeWord) → Source → Type 0
@@ -57,7 +62,8 @@ IsExpansionIn holds words e = (text : List ℕ) × holds (Some text) × IsExpand
 
 -- A call stops at a file that stands for itself: it wasn't read; or what it holds, as far as it was read, has what is told.
 abbrev pub IsAtFile : (Option (List ℕ) → Type 0) → List ℕ → (most : ℕ) → (Stop → List ℕ → Type 0) → Stop → About → Type 0
-IsAtFile holds name most Has why about.Nothing = IsUnread holds name why
+IsAtFile holds name most Has why about.Nothing = why ≡ stop.Refused refusal.OutOfMemory
+IsAtFile holds name most Has why (about.File u) = IsNoFile holds name why
 IsAtFile holds name most Has why (about.Text s) = IsReadFrom holds most s.bytes.items × (s.expansion ≡ None) × Has why s.bytes.items
 IsAtFile holds name most Has (stop.NotVerified at word) (about.Line s line) =
     IsReadFrom holds most s.bytes.items × (s.expansion ≡ None) × IsUnverifiedText at word.now s.bytes.items line
@@ -66,7 +72,8 @@ IsAtFile holds name most Has why _ = ⊥
 -- A call stops at the text of a program: a word gives no size; or the file wasn't read; or what it holds, as far as it was read, has no
 -- expansion by the sizes of the words.
 abbrev pub IsAtText : (Option (List ℕ) → Type 0) → ProgramFile → Stop → About → Type 0
-IsAtText holds file why about.Nothing = IsOfSizes file.sizes.items why ⊎ IsUnread holds file.name.now why
+IsAtText holds file why about.Nothing = IsOfSizes file.sizes.items why ⊎ (why ≡ stop.Refused refusal.OutOfMemory)
+IsAtText holds file why (about.File u) = IsNoFile holds file.name.now why
 IsAtText holds file why (about.Text s) =
     IsReadFrom holds longest s.bytes.items × (s.expansion ≡ None) × HasNoExpansion file.sizes.items s.bytes.items why
 IsAtText holds file why _ = ⊥
@@ -123,10 +130,12 @@ IsOfMemoryIn layout text why (about.Text s) = (s.bytes.items ≡ text) × (s.exp
 IsOfMemoryIn layout text why (about.Values values cells) = IsTooMuch layout values cells why text
 IsOfMemoryIn layout text why about.Nothing = why ≡ stop.Refused refusal.OutOfMemory
 IsOfMemoryIn layout text why (about.Line s line) = ⊥
+IsOfMemoryIn layout text why (about.File u) = ⊥
 
 -- at the file of a memory: it wasn't read, or its text is refused
 abbrev pub IsAtMemory : (Option (List ℕ) → Type 0) → List ℕ → List SharedEntry → Stop → About → Type 0
-IsAtMemory holds name layout why about.Nothing = IsUnread holds name why
+IsAtMemory holds name layout why about.Nothing = why ≡ stop.Refused refusal.OutOfMemory
+IsAtMemory holds name layout why (about.File u) = IsNoFile holds name why
 IsAtMemory holds name layout why (about.Text s) = IsReadFrom holds longest s.bytes.items × (s.expansion ≡ None) × IsOfMemory layout why s.bytes.items
 IsAtMemory holds name layout why (about.Values values cells) = (text : List ℕ) × IsReadFrom holds longest text × IsTooMuch layout values cells why text
 IsAtMemory holds name layout why (about.Line s line) = ⊥

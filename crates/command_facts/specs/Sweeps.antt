@@ -74,8 +74,8 @@ with_opening words o = record {
   reserve = words.reserve;
   costs = words.costs;
   steps = words.steps;
-  svg = words.svg;
-  html = words.html;
+  trace = words.trace;
+  form = words.form;
   shown = words.shown;
 }
 
@@ -158,7 +158,7 @@ pub record IsSwept (holds : List ℕ → Option (List ℕ) → Type 0) (file : P
   pub rows : AllZip (IsRow holds file asked.word.now words) f.sweep.sizes.items f.rows.items
   pub time : IsToldOf f.growths.time (table Time f.rows.items)
   pub work : IsToldOf f.growths.work (table Work f.rows.items)
-  pub svg : f.svg ≡ words.svg
+  pub form : f.form ≡ words.form
   pub csv : f.csv ≡ asked.csv
 
 -- ---- why a sweep finds nothing

@@ -2,7 +2,7 @@
 
 use crate::loaded::Loaded;
 use bsp_verify::Verified;
-use command_requests::RunWords;
+use command_requests::{Form, RunWords};
 use diagnoses::Source;
 use exchange_counts::Counts;
 use explanations::Subject;
@@ -53,8 +53,8 @@ pub struct FoundSweep {
     pub rows: Vec<SizeRow>,
     pub growths: Growths,
     /// Whether they are drawn.
-    pub svg: bool,
-    /// Whether they are written as a table of values separated by commas.
+    pub form: Form,
+    /// Whether they are written as a table of values separated by commas, where they aren't drawn.
     pub csv: bool,
 }
 

@@ -7,6 +7,8 @@ ghost use Rattle.superstep_listing.specs.Text.{IsFaultOf, IsListing};
 ghost use Rattle.bsp_verify.specs.WellFormed.{IsWellFormed};
 ghost use Rattle.bsp_verify.specs.FirstFault.{IsRefusal};
 ghost use Rattle.system_files.specs.Files.{IsReadFrom, IsSame};
+ghost use Rattle.program_texts.specs.declared.stop.Stop.TheVariants.{Unreadable};
+ghost use Rattle.diagnoses.specs.declared.about.About.TheVariants.{File};
 ghost use Rattle.command_facts.specs.Found.{IsLoaded};
 ghost use Rattle.command_facts.specs.Held.{IsListingIn, IsOfCodeIn, IsTextIn, IsUnread, StopsAtListing, StopsAtProgram, StopsAtText};
 ghost use Rattle.command_facts.specs.Listings.{IsOfListing, line_of_instruction};
@@ -17,7 +19,7 @@ use crate::loaded::Loaded;
 use bsp_verify::{Reason, Verified, VerifyFault, verify};
 use command_requests::ProgramFile;
 use command_sizes::{expanded, sizes_of};
-use diagnoses::{About, Kind, Source};
+use diagnoses::{About, Kind, Source, Unread};
 use pram_tokens::LONGEST;
 use pram_trees::TextFault;
 use program_texts::{Refusal, Stop, read_program};
@@ -26,21 +28,33 @@ use superstep_instructions::Code;
 use superstep_listing::{LONGEST as LONGEST_LISTING, ListingFault, read_listing};
 use system_files::{SourceFault, Sources};
 
+fn no_file<'a>(name: &'a str, why: Unread) -> Halted<'a>
+    ensures stop { result.stop ≡ Unreadable name.entry }
+    ensures about { result.about ≡ File why }
+{
+    Halted {
+        stop: Stop::Unreadable(name),
+        about: About::File(why),
+    }
+}
+
 /// The bytes of a file, up to one more than the most that its text may have.
 pub(crate) fn load<'a, S: Sources>(
     alloc: Global,
     sources: &mut S,
     name: &'a str,
     most: u32,
-) -> Result<Vec<u8>, Stop<'a>>
+) -> Result<Vec<u8>, Halted<'a>>
     ensures bytes { IfOk result (λ bytes. IsReadFrom (S.Sources.holds sources.old name.now) most bytes.items) }
-    ensures unread { IfErr result (IsUnread (S.Sources.holds sources.old name.now) name.now) }
+    ensures unread { IfErr result (λ h. IsUnread (S.Sources.holds sources.old name.now) name.now h.stop h.about) }
     ensures same { IsSame (S.Sources.holds sources.new) (S.Sources.holds sources.old) }
 {
     match sources.read(alloc, name, most) {
         Ok(bytes) => Ok(bytes),
-        Err(SourceFault::Unreadable) => Err(Stop::Unreadable(name)),
-        Err(SourceFault::OutOfMemory) => Err(Stop::Refused(Refusal::OutOfMemory)),
+        Err(SourceFault::Missing) => Err(no_file(name, Unread::Missing)),
+        Err(SourceFault::Directory) => Err(no_file(name, Unread::Directory)),
+        Err(SourceFault::Unreadable) => Err(no_file(name, Unread::Other)),
+        Err(SourceFault::OutOfMemory) => Err(Halted::from(Stop::Refused(Refusal::OutOfMemory))),
     }
 }
 

@@ -174,8 +174,8 @@ fn with_opening<'a>(words: RunWords<'a>, opening: Opening<'a>) -> RunWords<'a>
         reserve: words.reserve,
         costs: words.costs,
         steps: words.steps,
-        svg: words.svg,
-        html: words.html,
+        trace: words.trace,
+        form: words.form,
         shown: words.shown,
     }
 }
@@ -389,7 +389,7 @@ pub(crate) fn find_sweep<'a, R: Threads + Wait + Sync, S: Sources>(
         sweep,
         rows,
         growths,
-        svg: words.svg,
+        form: words.form,
         csv: asked.csv,
     })
 }

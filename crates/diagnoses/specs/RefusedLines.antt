@@ -14,6 +14,7 @@ refusal_about about.Nothing r = r
 refusal_about (about.Text s) r = as_it_stands s r
 refusal_about (about.Line s line) r = r
 refusal_about (about.Values values cells) r = r
+refusal_about (about.File u) r = r
 
 -- a reason for a stop with its offset in the file of the text that it is about
 abbrev pub stop_as_it_stands : About → Stop → Stop

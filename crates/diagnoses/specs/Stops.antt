@@ -15,6 +15,8 @@ use Rattle.program_texts.specs.declared.stop.Stop.TheVariants as stop
 use Rattle.diagnoses.specs.declared.source.Source.{Source}
 use Rattle.diagnoses.specs.declared.about.About.{About}
 use Rattle.diagnoses.specs.declared.about.About.TheVariants as about
+use Rattle.diagnoses.specs.declared.about.Unread.{Unread}
+use Rattle.diagnoses.specs.declared.about.Unread.TheVariants as unread
 use Rattle.diagnoses.specs.Remarks.{Remark, IsExpectation, IsRemark, Nothing}
 use Rattle.diagnoses.specs.Sources.{text_in}
 use Rattle.diagnoses.specs.SizeFaults.{size_fault}
@@ -27,6 +29,7 @@ of_text f about.Nothing r = []
 of_text f (about.Text s) r = text_diagnosis s f r
 of_text f (about.Line s line) r = []
 of_text f (about.Values values cells) r = []
+of_text f (about.File u) r = []
 
 -- a program that is refused
 abbrev pub of_program : Breach → About → Remark → List ℕ
@@ -34,6 +37,7 @@ of_program b about.Nothing r = []
 of_program b (about.Text s) r = breach_diagnosis s b r
 of_program b (about.Line s line) r = []
 of_program b (about.Values values cells) r = []
+of_program b (about.File u) r = []
 
 abbrev pub too_many : (values cells : ℕ) → List ℕ
 too_many values cells = codes "there are " ++ (decimal values ++ (codes " values, and the cells for them are " ++ (decimal cells ++ codes "\n")))
@@ -44,13 +48,14 @@ of_input about.Nothing = []
 of_input (about.Text s) = []
 of_input (about.Line s line) = []
 of_input (about.Values values cells) = too_many values cells
+of_input (about.File u) = []
 
 abbrev pub of_refusal : Refusal → About → Remark → List ℕ
 of_refusal (refusal.Text f) a r = of_text f a r
 of_refusal (refusal.Program b) a r = of_program b a r
 of_refusal refusal.InputTooLong a r = of_input a
-of_refusal refusal.BadMap a r = codes "a map affine:A,B wants an odd A, so that no two cells have one place\n"
-of_refusal refusal.BadWorkers a r = codes "a run has from 1 to 32 workers\n"
+of_refusal refusal.BadMap a r = codes "`--map` wants affine:A,B with an odd A, so that no two cells have one place\n"
+of_refusal refusal.BadWorkers a r = codes "`--workers` wants a number from 1 to 32\n"
 of_refusal refusal.OutOfMemory a r = no_memory
 of_refusal refusal.OutOfReserve a r = codes "the run prints more numbers, or has more exchanges, than its reserve was made for\n"
 
@@ -66,6 +71,7 @@ of_listing at about.Nothing = []
 of_listing at (about.Text s) = line_fault s at
 of_listing at (about.Line s line) = []
 of_listing at (about.Values values cells) = []
+of_listing at (about.File u) = []
 
 -- what the word for the reason means
 abbrev pub reason_sentence : List ℕ → List ℕ
@@ -88,6 +94,7 @@ meant_line about.Nothing = []
 meant_line (about.Text s) = []
 meant_line (about.Line s line) = line_excerpt s.name.now s.bytes.items line
 meant_line (about.Values values cells) = []
+meant_line (about.File u) = []
 
 -- code that isn't well formed
 abbrev pub of_code : ℕ → List ℕ → About → List ℕ
@@ -99,12 +106,26 @@ of_size at r about.Nothing = []
 of_size at r (about.Text s) = size_fault s at r
 of_size at r (about.Line s line) = []
 of_size at r (about.Values values cells) = []
+of_size at r (about.File u) = []
+
+abbrev pub file_sentence : Unread → List ℕ
+file_sentence unread.Missing = codes "there is no file of this name\n"
+file_sentence unread.Directory = codes "this is a directory\n"
+file_sentence unread.Other = codes "this file can't be read\n"
+
+-- why a file can't be read, where that is known
+abbrev pub unread_sentence : About → List ℕ
+unread_sentence (about.File u) = file_sentence u
+unread_sentence about.Nothing = file_sentence unread.Other
+unread_sentence (about.Text s) = file_sentence unread.Other
+unread_sentence (about.Line s line) = file_sentence unread.Other
+unread_sentence (about.Values values cells) = file_sentence unread.Other
 
 -- what is said behind the line, by what is known besides, and by what there is to say of a name or of a token
 abbrev pub stop_diagnosis : Stop → About → Remark → List ℕ
 stop_diagnosis (stop.Words text) a r = []
 stop_diagnosis (stop.Number word) a r = []
-stop_diagnosis (stop.Unreadable name) a r = codes "this file can't be read\n"
+stop_diagnosis (stop.Unreadable name) a r = unread_sentence a
 stop_diagnosis (stop.Refused refusal) a r = of_refusal refusal a r
 stop_diagnosis (stop.NotVerified at word) a r = of_code at word.now a
 stop_diagnosis (stop.BadListing at) a r = of_listing at a
@@ -117,6 +138,7 @@ IsRemarkIn b about.Nothing r = r ≡ Nothing
 IsRemarkIn b (about.Text s) r = (tree : ProgramTree) → IsTextOf (text_in s) tree → IsRemark (text_in s) tree b r
 IsRemarkIn b (about.Line s line) r = r ≡ Nothing
 IsRemarkIn b (about.Values values cells) r = r ≡ Nothing
+IsRemarkIn b (about.File u) r = r ≡ Nothing
 
 -- and of a token with which no program goes on
 abbrev pub IsExpectationIn : ℕ → About → Remark → Type 0
@@ -124,6 +146,7 @@ IsExpectationIn at about.Nothing r = r ≡ Nothing
 IsExpectationIn at (about.Text s) r = IsExpectation (text_in s) at r
 IsExpectationIn at (about.Line s line) r = r ≡ Nothing
 IsExpectationIn at (about.Values values cells) r = r ≡ Nothing
+IsExpectationIn at (about.File u) r = r ≡ Nothing
 
 abbrev pub HasRemark : Stop → About → Remark → Type 0
 HasRemark (stop.Refused (refusal.Program b)) a r = IsRemarkIn b a r

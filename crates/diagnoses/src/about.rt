@@ -2,6 +2,17 @@
 
 use crate::source::Source;
 
+/// Why a file can't be read.
+#[derive(Clone, Copy, Debug, Drop, PartialEq, Eq)]
+pub enum Unread {
+    /// There is none of its name.
+    Missing,
+    /// It is a directory.
+    Directory,
+    /// For another reason.
+    Other,
+}
+
 /// What a message may speak of, beside a refusal's line.
 #[derive(Drop)]
 pub enum About<'a> {
@@ -13,4 +24,6 @@ pub enum About<'a> {
     Line { source: Source<'a>, line: usize },
     /// How many values an input has, and how many cells there are for them.
     Values { values: usize, cells: u32 },
+    /// Why a file can't be read.
+    File(Unread),
 }

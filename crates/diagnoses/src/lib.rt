@@ -16,7 +16,7 @@ mod stops;
 mod syntax_faults;
 mod text_faults;
 
-pub use about::About;
+pub use about::{About, Unread};
 pub use breaches::write_breach;
 pub use fault_text::{write_fault_sentence, write_run_fault};
 pub use reason::{Reason, run_reason};

@@ -62,6 +62,7 @@ fn refusal_about(refusal: Refusal, about: &About<'_>) -> Refusal
         About::Nothing => refusal,
         About::Line { .. } => refusal,
         About::Values { .. } => refusal,
+        About::File(_) => refusal,
     }
 }
 

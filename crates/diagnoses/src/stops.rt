@@ -6,7 +6,7 @@ ghost use Rattle.text_out.specs.Out.{Writes};
 ghost use Rattle.diagnoses.specs.Remarks.{Remark as SaidOf, remark_is};
 ghost use Rattle.diagnoses.specs.Stops as spec;
 
-use crate::about::About;
+use crate::about::{About, Unread};
 use crate::breaches::write_breach;
 use crate::remark::{Remark, expected_at, remark_of};
 use crate::size_faults::write_size_fault;
@@ -35,6 +35,7 @@ fn write_text<W: Out>(
         About::Nothing => out.write_all(b""),
         About::Line { .. } => out.write_all(b""),
         About::Values { .. } => out.write_all(b""),
+        About::File(_) => out.write_all(b""),
     }
 }
 
@@ -52,6 +53,7 @@ fn write_program<W: Out>(
         About::Nothing => out.write_all(b""),
         About::Line { .. } => out.write_all(b""),
         About::Values { .. } => out.write_all(b""),
+        About::File(_) => out.write_all(b""),
     }
 }
 
@@ -79,6 +81,7 @@ fn write_input<W: Out>(out: &mut W, about: &About<'_>) -> Result<(), WriteFault>
         About::Nothing => out.write_all(b""),
         About::Text(_) => out.write_all(b""),
         About::Line { .. } => out.write_all(b""),
+        About::File(_) => out.write_all(b""),
     }
 }
 
@@ -96,9 +99,11 @@ fn write_refusal<W: Out>(
         Refusal::Program(breach) => write_program(out, breach, about, remark),
         Refusal::InputTooLong => write_input(out, about),
         Refusal::BadMap => {
-            out.write_all(b"a map affine:A,B wants an odd A, so that no two cells have one place\n")
+            out.write_all(
+                b"`--map` wants affine:A,B with an odd A, so that no two cells have one place\n",
+            )
         }
-        Refusal::BadWorkers => out.write_all(b"a run has from 1 to 32 workers\n"),
+        Refusal::BadWorkers => out.write_all(b"`--workers` wants a number from 1 to 32\n"),
         Refusal::OutOfMemory => {
             out.write_all(
                 b"memory was refused: nothing is said of the text or the run, and with more memory it may go well\n",
@@ -134,6 +139,7 @@ fn write_listing<W: Out>(out: &mut W, at: u32, about: &About<'_>) -> Result<(), 
         About::Nothing => out.write_all(b""),
         About::Line { .. } => out.write_all(b""),
         About::Values { .. } => out.write_all(b""),
+        About::File(_) => out.write_all(b""),
     }
 }
 
@@ -191,6 +197,7 @@ fn write_line<W: Out>(out: &mut W, about: &About<'_>) -> Result<(), WriteFault>
         About::Nothing => out.write_all(b""),
         About::Text(_) => out.write_all(b""),
         About::Values { .. } => out.write_all(b""),
+        About::File(_) => out.write_all(b""),
     }
 }
 
@@ -222,6 +229,30 @@ fn write_size<W: Out>(
         About::Nothing => out.write_all(b""),
         About::Line { .. } => out.write_all(b""),
         About::Values { .. } => out.write_all(b""),
+        About::File(_) => out.write_all(b""),
+    }
+}
+
+fn file_sentence(unread: Unread) -> &'static [u8]
+    ensures { result.now ≡ spec.file_sentence unread }
+{
+    match unread {
+        Unread::Missing => b"there is no file of this name\n",
+        Unread::Directory => b"this is a directory\n",
+        Unread::Other => b"this file can't be read\n",
+    }
+}
+
+// Why a file can't be read, where that is known.
+fn unread_sentence(about: &About<'_>) -> &'static [u8]
+    ensures { result.now ≡ spec.unread_sentence about.now }
+{
+    match about {
+        About::File(unread) => file_sentence(*unread),
+        About::Nothing => file_sentence(Unread::Other),
+        About::Text(_) => file_sentence(Unread::Other),
+        About::Line { .. } => file_sentence(Unread::Other),
+        About::Values { .. } => file_sentence(Unread::Other),
     }
 }
 
@@ -238,7 +269,7 @@ fn write_said<W: Out>(
     match stop {
         Stop::Words(_) => out.write_all(b""),
         Stop::Number(_) => out.write_all(b""),
-        Stop::Unreadable(_) => out.write_all(b"this file can't be read\n"),
+        Stop::Unreadable(_) => out.write_all(unread_sentence(about)),
         Stop::Refused(refusal) => write_refusal(out, *refusal, about, remark),
         Stop::NotVerified(at, reason) => write_code(out, *at, reason.as_bytes(), about),
         Stop::BadListing(at) => write_listing(out, *at, about),
@@ -258,6 +289,7 @@ fn remark_in(alloc: Global, breach: Breach, about: &About<'_>) -> Remark
         About::Nothing => Remark::Nothing,
         About::Line { .. } => Remark::Nothing,
         About::Values { .. } => Remark::Nothing,
+        About::File(_) => Remark::Nothing,
     }
 }
 
@@ -270,6 +302,7 @@ fn expected_in(alloc: Global, at: u32, about: &About<'_>) -> Remark
         About::Nothing => Remark::Nothing,
         About::Line { .. } => Remark::Nothing,
         About::Values { .. } => Remark::Nothing,
+        About::File(_) => Remark::Nothing,
     }
 }
 

@@ -7,7 +7,7 @@ ghost use Rattle.system_files.specs.Held.{held_at};
 use crate::sources::{SourceFault, Sources};
 use std::alloc::Global;
 use std::fs::{File, Files};
-use std::io::{ErrorKind, Print, Read};
+use std::io::{ErrorKind, Print, Read, Stdin};
 use text_out::{Out, OutFailed};
 
 /// A stream of the system, to which bytes go by up to 4,096 at a time. What it took is with the
@@ -96,10 +96,25 @@ impl<P: Print> Out for Stream<P> {
     }
 }
 
-/// The files of the system.
+/// The name that stands for standard input.
+const INPUT: &str = "-";
+
+/// The files of the system, of which `-` is standard input, once.
 #[derive(Drop)]
 pub struct SystemFiles<'a, R: Files> {
-    pub system: &'a R,
+    system: &'a R,
+    // until it is read
+    input: Option<Stdin>,
+}
+
+impl<'a, R: Files> SystemFiles<'a, R> {
+    /// Those of this system, whose standard input wasn't read yet.
+    pub fn new(system: &'a R, input: Stdin) -> SystemFiles<'a, R> {
+        SystemFiles {
+            system,
+            input: Some(input),
+        }
+    }
 }
 
 impl<'a, R: Files> Sources for SystemFiles<'a, R> {
@@ -107,21 +122,34 @@ impl<'a, R: Files> Sources for SystemFiles<'a, R> {
     ghost holds = { λ s name bytes. Unit {0} };
 
     fn read(&mut self, alloc: Global, name: &str, most: u32) -> Result<Vec<u8>, SourceFault> {
-        let file = match File::open(self.system, name) {
-            Ok(file) => file,
-            Err(fault) => return Err(why(fault.kind())),
-        };
-        let mut bytes = Vec::new(alloc);
-        match file.take(u64::from(most) + 1).read_to_end(&mut bytes) {
-            Ok(_) => Ok(bytes),
+        if name == INPUT {
+            // what was read of it is gone
+            return match self.input.take() {
+                Some(input) => read_most(alloc, input, most),
+                None => Err(SourceFault::Unreadable),
+            };
+        }
+        match File::open(self.system, name) {
+            Ok(file) => read_most(alloc, file, most),
             Err(fault) => Err(why(fault.kind())),
         }
+    }
+}
+
+// The bytes of a stream, or a beginning of more than `most`.
+fn read_most<S: Read + Drop>(alloc: Global, stream: S, most: u32) -> Result<Vec<u8>, SourceFault> {
+    let mut bytes = Vec::new(alloc);
+    match stream.take(u64::from(most) + 1).read_to_end(&mut bytes) {
+        Ok(_) => Ok(bytes),
+        Err(fault) => Err(why(fault.kind())),
     }
 }
 
 fn why(kind: ErrorKind) -> SourceFault {
     match kind {
         ErrorKind::OutOfMemory => SourceFault::OutOfMemory,
+        ErrorKind::NotFound | ErrorKind::NotADirectory => SourceFault::Missing,
+        ErrorKind::IsADirectory => SourceFault::Directory,
         _ => SourceFault::Unreadable,
     }
 }

@@ -2,7 +2,7 @@
 
 ghost use Rattle.std.specs.Prelude.{◌≡◌, ℕ, List, Option, None, IfOk, Err};
 ghost use Rattle.system_files.specs.Files.{IsReadFrom, IsSame};
-ghost use Rattle.system_files.specs.declared.sources.SourceFault.TheVariants.{Unreadable};
+ghost use Rattle.system_files.specs.declared.sources.SourceFault.TheVariants.{Directory, Missing, Unreadable};
 
 use std::alloc::Global;
 use thiserror::Error;
@@ -10,7 +10,13 @@ use thiserror::Error;
 /// Why the bytes of a file are not there.
 #[derive(Clone, Copy, Debug, Drop, PartialEq, Eq, Error)]
 pub enum SourceFault {
-    /// P2: there is no such file, or it can't be read.
+    /// P2: there is no such file.
+    #[error("P2")]
+    Missing,
+    /// P2: it is a directory.
+    #[error("P2")]
+    Directory,
+    /// P2: it can't be read, for another reason.
     #[error("P2")]
     Unreadable,
     /// E16: memory was refused.
@@ -26,6 +32,8 @@ pub trait Sources {
     /// The bytes of a file, or a beginning of it where it has more than `most`, which has more than `most` too.
     fn read(&mut self, alloc: Global, name: &str, most: u32) -> Result<Vec<u8>, SourceFault>
         ensures bytes { IfOk result (λ bytes. IsReadFrom (holds self.old name.now) most bytes.items) }
+        ensures missing { result ≡ Err Missing → holds self.old name.now None }
+        ensures directory { result ≡ Err Directory → holds self.old name.now None }
         ensures unreadable { result ≡ Err Unreadable → holds self.old name.now None }
         ensures same { IsSame (holds self.new) (holds self.old) };
 }

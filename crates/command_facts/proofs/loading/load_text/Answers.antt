@@ -1,7 +1,8 @@
-use Rattle.std.proofs.Common.{List, inl, inr, subst}
+use Rattle.std.proofs.Common.{List, subst}
 use Rattle.command_requests.specs.declared.request.SizeWord.{SizeWord}
 use Rattle.command_sizes.specs.Given.{IsOfSizes}
-use Rattle.command_facts.proofs.Texts.{stops_at_text, stops_with, text_held}
+use Rattle.command_sizes.proofs.Sizes.{hands_on}
+use Rattle.command_facts.proofs.Texts.{stops_at_text, stops_with, text_held, unread_text}
 use Rattle.command_facts.proofs.loading.load_text.Goals as goal
 
 -- a word gives no size
@@ -9,14 +10,15 @@ pub returns-in_err-sizes-clause-refused : goal.returns-in_err-sizes-clause-refus
 returns-in_err-sizes-clause-refused g c =
     stops_with (g.S.Sources.holds c.args.sources.now c.args.file.now.name.now) c.args.file.now c.from_residual.result
     c.in_err-sizes.field-0.0
-    c.from_residual.ensures.1 (inl (subst (λ (ws : List SizeWord). IsOfSizes ws c.in_err-sizes.field-0.0)
-    c.deref.ensures.value c.in_err-sizes.ensures.refused))
+    c.from_residual.ensures.1 (subst (λ (ws : List SizeWord). IsOfSizes ws c.in_err-sizes.field-0.0)
+    c.deref.ensures.value c.in_err-sizes.ensures.refused)
 
 -- the file wasn't read
 pub returns-in_err-bytes-clause-refused : goal.returns-in_err-bytes-clause-refused
 returns-in_err-bytes-clause-refused g c =
-    stops_with (g.S.Sources.holds c.args.sources.now c.args.file.now.name.now) c.args.file.now c.from_residual-in_err-bytes.result
-    c.in_err-bytes.field-0.0 c.from_residual-in_err-bytes.ensures.1 (inr c.in_err-bytes.ensures.unread)
+    let h = c.in_err-bytes.field-0.0 in
+    hands_on _ h _ c.from_residual-in_err-bytes.ensures.1
+    (unread_text (g.S.Sources.holds c.args.sources.now c.args.file.now.name.now) c.args.file.now h.stop h.about c.in_err-bytes.ensures.unread)
 
 pub returns-in-Ok-clause-text : goal.returns-in-Ok-clause-text
 returns-in-Ok-clause-text g c =
