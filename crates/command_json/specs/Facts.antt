@@ -14,6 +14,7 @@ use Rattle.command_facts.specs.declared.found.Facts.{Facts}
 use Rattle.command_facts.specs.declared.found.Facts.TheVariants as facts
 use Rattle.command_facts.specs.declared.found.Found.{Found}
 use Rattle.command_facts.specs.declared.found.Found.TheVariants as found
+use Rattle.command_facts.specs.declared.found.FoundCode.{FoundCode}
 use Rattle.command_facts.specs.declared.found.FoundRun.{FoundRun}
 use Rattle.json_texts.specs.AcceptedFacts.{accepted_facts}
 use Rattle.json_texts.specs.CostFacts.{cost_facts}
@@ -33,12 +34,17 @@ run_facts r (facts.Steps entries) =
     r.words.steps.to
 run_facts r (facts.Exchanges exchanges) = trace_facts exchanges (verdict_of r.outcome)
 
--- the facts of what was found; texts, code, what comes of a listing, explanations and the version are not told as JSON
+-- a run of a listing: its outcome
+abbrev pub code_facts : FoundCode → Data
+code_facts c = chosen_facts c.shown c.code.layout (verdict_of c.outcome)
+
+-- the facts of what was found; texts, code, explanations and the version are not told as JSON
 abbrev pub AreFactsOf : Found → List Data → Type 0
 AreFactsOf (found.Accepted l) told = told ≡ accepted_facts l.program ∷ []
 AreFactsOf (found.Compared c) told = told ≡ comparison_facts c ∷ []
 AreFactsOf (found.Run r) told = told ≡ run_facts r r.facts
 AreFactsOf (found.Swept s) told = told ≡ sweep_facts s.sweep.name s.rows.items s.growths
+AreFactsOf (found.Executed c) told = told ≡ code_facts c ∷ []
 AreFactsOf _ told = ⊥
 
 -- lines of JSON that say them
@@ -51,7 +57,6 @@ IsUntold found.Version = Unit {0}
 IsUntold (found.Explanation subject) = Unit {0}
 IsUntold (found.Expanded s) = Unit {0}
 IsUntold (found.Planned code) = Unit {0}
-IsUntold (found.Executed c) = Unit {0}
 IsUntold _ = ⊥
 
 -- why no lines are made: memory was refused, or what was found is not told so

@@ -1,5 +1,6 @@
 -- What a call that tells its facts as JSON leaves on its streams.
 use Rattle.std.specs.Prelude.{◌≡◌, ◌⊎◌, ℕ, List, [], ◌∷◌, Option, Result, Ok, Err}
+use Rattle.serde_json.specs.Data.{Data}
 use Rattle.json_lines.specs.Lines.{IsJson}
 use Rattle.text_out.specs.Out.{OutState, with_bytes}
 use Rattle.diagnoses.specs.declared.about.About.{About}
@@ -15,7 +16,7 @@ use Rattle.command_facts.specs.declared.found.Found.{Found}
 use Rattle.command_facts.specs.declared.halted.Halted.{Halted}
 use Rattle.command_facts.specs.Calls.{Finds, IsStop, status_of_found}
 use Rattle.command_facts.specs.Written.{IsReported}
-use Rattle.json_texts.specs.RefusalFacts.{stop_facts}
+use Rattle.json_texts.specs.RefusalFacts.{stop_facts, unverified_at}
 use Rattle.command_json.specs.Facts.{IsJsonOf, WritesFound}
 
 -- ---- standard error
@@ -26,11 +27,17 @@ text_of about.Nothing = []
 text_of (about.Text s) = s.bytes.items
 text_of (about.Line s line) = []
 text_of (about.Values values cells) = []
+text_of (about.File u) = []
 
--- The line of a refusal stands there, as far as it is taken: its facts, with its place in the file of the text that was refused.
+-- the facts of a refusal, with its place in the file of the text that was refused, and of code with the line of the instruction
+abbrev pub refusal_facts : About → Stop → Data
+refusal_facts (about.Line s line) (stop.NotVerified at reason) = unverified_at at reason.now line
+refusal_facts a why = stop_facts (text_of a) (stop_as_it_stands a why)
+
+-- The line of a refusal stands there, as far as it is taken.
 pub record IsRefusalTold (why : Stop) (a : About) (old new : OutState) : Type 0 where
   pub line : List ℕ
-  pub json : IsJson (stop_facts (text_of a) (stop_as_it_stands a why) ∷ []) line
+  pub json : IsJson (refusal_facts a why ∷ []) line
   pub reported : IsReported old new line
 
 -- so it is; or memory for its line was refused, and that is told

@@ -9,7 +9,7 @@ ghost use Rattle.command_json.specs.Left as spec;
 
 use command_facts::Halted;
 use diagnoses::{About, refusal_as_it_stands};
-use json_texts::{json_stop, out_of_memory_line};
+use json_texts::{json_stop, json_unverified, out_of_memory_line};
 use program_texts::Stop;
 use std::alloc::{AllocError, Global};
 use text_out::Out;
@@ -23,11 +23,12 @@ fn text_of<'a>(about: &'a About<'_>) -> &'a [u8]
         About::Text(source) => source.bytes.as_slice(),
         About::Line { .. } => b"",
         About::Values { .. } => b"",
+        About::File(_) => b"",
     }
 }
 
 // The line of a refusal, with its offset in the file.
-fn refusal_line(alloc: Global, stop: &Stop<'_>, about: &About<'_>) -> Result<String, AllocError>
+fn placed_line(alloc: Global, stop: &Stop<'_>, about: &About<'_>) -> Result<String, AllocError>
     ensures told { IfOk result (λ line. IsJson (stop_facts (spec.text_of about.now) (stop_as_it_stands about.now stop.now) ∷ [])
         (string_bytes line)) }
 {
@@ -35,6 +36,18 @@ fn refusal_line(alloc: Global, stop: &Stop<'_>, about: &About<'_>) -> Result<Str
     match refusal_as_it_stands(stop, about) {
         Some(refusal) => json_stop(alloc, text, &Stop::Refused(refusal)),
         None => json_stop(alloc, text, stop),
+    }
+}
+
+// The line of a refusal, of code with the line of the instruction.
+fn refusal_line(alloc: Global, stop: &Stop<'_>, about: &About<'_>) -> Result<String, AllocError>
+    ensures told { IfOk result (λ line. IsJson (spec.refusal_facts about.now stop.now ∷ []) (string_bytes line)) }
+{
+    match (about, stop) {
+        (About::Line { line, .. }, Stop::NotVerified(at, reason)) => {
+            json_unverified(alloc, *at, reason, *line)
+        }
+        _ => placed_line(alloc, stop, about),
     }
 }
 

@@ -1,13 +1,13 @@
 //! What was found, told on standard output.
 
-ghost use Rattle.std.specs.Prelude.{◌<◌, ◌^◌, IfOk, IfErr};
+ghost use Rattle.std.specs.Prelude.{◌<◌, ◌^◌, ◌∷◌, [], IfOk, IfErr};
 ghost use Rattle.std.specs.String.{string_bytes};
 ghost use Rattle.json_lines.specs.Lines.{IsJson};
 ghost use Rattle.json_texts.specs.SweepFacts.{sweep_facts};
 ghost use Rattle.command_json.specs.Facts as spec;
 
 use crate::writing::write_json;
-use command_facts::{Facts, Found, FoundRun, FoundSweep, status_of};
+use command_facts::{Facts, Found, FoundCode, FoundRun, FoundSweep, status_of};
 use json_texts::{
     json_accepted, json_comparison, json_cost, json_outcome, json_steps, json_sweep, json_trace,
 };
@@ -40,6 +40,13 @@ fn run_text(alloc: Global, run: &FoundRun<'_>) -> Result<String, AllocError>
     }
 }
 
+// A run of a listing.
+fn code_text(alloc: Global, run: &FoundCode<'_>) -> Result<String, AllocError>
+    ensures told { IfOk result (λ text. IsJson (spec.code_facts run.now ∷ []) (string_bytes text)) }
+{
+    json_outcome(alloc, run.code.code().layout(), &run.outcome, run.shown)
+}
+
 // The runs at several sizes.
 fn sweep_text(alloc: Global, swept: &FoundSweep) -> Result<String, AllocError>
     ensures told { IfOk result (λ text. IsJson (sweep_facts swept.now.sweep.name swept.now.rows.items swept.now.growths) (string_bytes text)) }
@@ -62,11 +69,11 @@ fn text_of<'a>(alloc: Global, found: &Found<'_>) -> Result<String, Stop<'a>>
         Found::Compared(comparison) => Ok(json_comparison(alloc, comparison)?),
         Found::Run(run) => Ok(run_text(alloc, run)?),
         Found::Swept(swept) => Ok(sweep_text(alloc, swept)?),
+        Found::Executed(run) => Ok(code_text(alloc, run)?),
         Found::Version => Err(Stop::Number(JSON)),
         Found::Explanation(_) => Err(Stop::Number(JSON)),
         Found::Expanded(_) => Err(Stop::Number(JSON)),
         Found::Planned(_) => Err(Stop::Number(JSON)),
-        Found::Executed(_) => Err(Stop::Number(JSON)),
     }
 }
 

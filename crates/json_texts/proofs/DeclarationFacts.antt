@@ -1,5 +1,5 @@
 -- The declarations, one by one.
-use Rattle.std.proofs.Common.{◌≡◌, ◌<◌, ◌+◌, ◌++◌, ◌∙◌, ◌∷◌, [], Bool, List, ℕ, ap, append_assoc, drop, false, length, map, refl, slice_get}
+use Rattle.std.proofs.Common.{◌≡◌, ◌<◌, ◌+◌, ◌++◌, ◌∙◌, ◌∷◌, Bool, List, ℕ, ap, append_assoc, drop, false, length, refl, slice_get}
 use Rattle.std.proofs.Common.{sym, take, true}
 use Rattle.std.specs.Prelude.{ℤ, Option, IfSome}
 use Rattle.serde_json.specs.Data.{Data}

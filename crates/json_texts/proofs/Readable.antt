@@ -1,5 +1,5 @@
 -- What is told can be read: it has no float, and nests five levels at most.
-use Rattle.std.proofs.Common.{ℕ, List, [], ◌∷◌, length, lit≤, map, take, drop, arith, refl}
+use Rattle.std.proofs.Common.{ℕ, List, [], ◌∷◌, length, lit≤, map, arith, refl}
 use Rattle.std.specs.Prelude.{Bool, true, false, ℤ, Option, Some, None, codes, slice_get}
 use Rattle.json_lines.specs.Facts.{Field, list, object_of, value}
 use Rattle.json_lines.specs.Small.{IsReadable, IsSmall}
@@ -9,7 +9,7 @@ use Rattle.pram_tokens.specs.declared.error.TextFault.{TextFault}
 use Rattle.pram_tokens.specs.declared.error.TextFault.TheVariants as text
 use Rattle.pram_names.specs.declared.fault.Cause.{Cause}
 use Rattle.pram_names.specs.declared.fault.Cause.TheVariants as cause
-use Rattle.pram_model.specs.Layout.{SharedEntry, size, subscripts}
+use Rattle.pram_model.specs.Layout.{SharedEntry, subscripts}
 use Rattle.pram_model.specs.declared.rule.Rule.{Rule}
 use Rattle.pram_check.specs.Checked.{Checked}
 use Rattle.write_rules.specs.declared.fault.Fault.{Fault}

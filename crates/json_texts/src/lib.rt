@@ -19,7 +19,7 @@ mod trace;
 pub use accepted::json_accepted;
 pub use cost::json_cost;
 pub use outcome::json_outcome;
-pub use refusal::{json_stop, out_of_memory_line};
+pub use refusal::{json_stop, json_unverified, out_of_memory_line};
 pub use rules::json_comparison;
 pub use steps::json_steps;
 pub use sweep::json_sweep;

@@ -204,6 +204,22 @@ pub fn json_stop(alloc: Global, source: &[u8], stop: &Stop<'_>) -> Result<String
     line_of(alloc, &object.into_value())
 }
 
+/// Code that isn't well formed, by the instruction, the word for the reason, and the line of the listing where the instruction stands,
+/// counted from 1: `{"instruction":0,"line":7,"name":"NotVerified","reason":"exchange","refused":"E14"}`.
+pub fn json_unverified(
+    alloc: Global,
+    at: u32,
+    reason: &str,
+    line: usize,
+) -> Result<String, AllocError>
+    ensures json { IfOk result (λ text. IsJson (spec.unverified_at at reason.now line ∷ []) (string_bytes text)) }
+{
+    let mut object = Object::new(alloc);
+    put_unverified(&mut object, at, reason)?;
+    object.put_count("line", line as u64)?;
+    line_of(alloc, &object.into_value())
+}
+
 /// The line of a call that stops where memory was refused (E16). It takes no memory.
 pub fn out_of_memory_line() -> &'static [u8]
     ensures json { (source : List ℕ) → IsJson (spec.stop_facts source (Stop.Refused Refusal.OutOfMemory) ∷ []) result.now }
