@@ -20,10 +20,11 @@ abbrev pub IsAsked : List (List ℕ) → Result Request Stop → Type 0
 IsAsked words asked = (AsksForVersion words → asked ≡ Ok request.Version) × IfErr asked IsOfWords
 
 -- what is left, in JSON or in words
-abbrev pub LeavesIn : Bool → (List ℕ → Option (List ℕ) → Type 0) → Terminal → Result Request Stop → (out out_new err err_new : OutState) → Status → Type 0
-LeavesIn true holds on asked out out_new err err_new ends = LeavesJson holds asked out out_new err err_new ends
-LeavesIn false holds on asked out out_new err err_new ends = Leaves holds on asked out out_new err err_new ends
+abbrev pub LeavesIn : Bool → (List ℕ → Option (List ℕ) → Type 0) → Terminal → List (List ℕ) → Result Request Stop
+    → (out out_new err err_new : OutState) → Status → Type 0
+LeavesIn true holds on words asked out out_new err err_new ends = LeavesJson holds asked out out_new err err_new ends
+LeavesIn false holds on words asked out out_new err err_new ends = Leaves holds on words asked out out_new err err_new ends
 
 abbrev pub LeavesAs : (List ℕ → Option (List ℕ) → Type 0) → Terminal → List (List ℕ) → (out out_new err err_new : OutState) → Status → Type 0
 LeavesAs holds on words out out_new err err_new ends = (asked : Result Request Stop) × IsAsked words asked
-    × LeavesIn (asks_for_json words) holds (explaining on words) asked out out_new err err_new ends
+    × LeavesIn (asks_for_json words) holds (explaining on words) words asked out out_new err err_new ends

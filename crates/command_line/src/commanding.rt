@@ -51,6 +51,6 @@ pub fn command<R: Threads + Wait + Sync, W: Reader, S: Sources, O: Out, E: Out>(
         answer_in_json(rt, alloc, asked, sources, out, err)
     } else {
         let on = explaining(terminal, words);
-        answer(rt, alloc, asked, on, sources, out, err)
+        answer(rt, alloc, asked, words, on, sources, out, err)
     }
 }

@@ -55,7 +55,7 @@ fn main(rt: HostRuntime) -> ExitCode {
         }
     };
     let terminal = terminal(&rt);
-    let mut files = SystemFiles { system: &rt };
+    let mut files = SystemFiles::new(&rt, rt.stdin());
     let mut out = Stream::new(rt.stdout());
     let status = command(
         &rt,

@@ -3,19 +3,23 @@
 
 mod cost_words;
 mod explain_word;
+mod form;
 mod format_word;
 mod opening;
 mod reader;
 mod request;
 mod same_word;
 mod step_words;
+mod trace_words;
 mod version;
 
 pub use cost_words::CostWords;
 pub use explain_word::asks_to_explain;
+pub use form::Form;
 pub use format_word::asks_for_json;
 pub use opening::Opening;
 pub use reader::Reader;
 pub use request::{ProgramFile, Request, RunWords, SizeWord, SweepWords, Verb};
 pub use step_words::StepWords;
+pub use trace_words::TraceWords;
 pub use version::{VERSION, asks_for_version};

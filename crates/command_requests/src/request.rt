@@ -1,8 +1,10 @@
 //! What a call of the program asks for.
 
 use crate::cost_words::CostWords;
+use crate::form::Form;
 use crate::opening::Opening;
 use crate::step_words::StepWords;
+use crate::trace_words::TraceWords;
 use explanations::Subject;
 use memory_texts::Choice;
 use run_options::{Options, Reserve};
@@ -57,10 +59,9 @@ pub struct RunWords<'a> {
     pub reserve: Option<Reserve>,
     pub costs: CostWords,
     pub steps: StepWords,
-    /// Whether exchanges, or statements, are drawn.
-    pub svg: bool,
-    /// Whether a page is made that steps through the statements.
-    pub html: bool,
+    pub trace: TraceWords,
+    /// How statements, exchanges or costs at several sizes are told.
+    pub form: Form,
     /// Which shared declarations are written where the run ends.
     pub shown: Choice<'a>,
 }

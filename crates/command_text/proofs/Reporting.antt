@@ -1,6 +1,6 @@
 -- What is left on standard error.
 use Rattle.std.proofs.Common.{◌≡◌, ℕ, inr, refl, sym, subst}
-use Rattle.std.specs.Prelude.{Bool, true, false, Result, IsErrAnd}
+use Rattle.std.specs.Prelude.{Bool, true, false, Option, Result, IsErrAnd}
 use Rattle.text_out.specs.Out.{OutState, StopsIn, Writes, with_bytes}
 use Rattle.text_out.proofs.Writing.{writes_stopped}
 use Rattle.text_places.proofs.Pieces.{both, stops_in_first}
@@ -12,22 +12,25 @@ use Rattle.diagnoses.specs.declared.about.About.{About}
 use Rattle.diagnoses.specs.declared.about.About.TheVariants as about
 use Rattle.diagnoses.specs.RefusedLines.{stop_line}
 use Rattle.diagnoses.specs.Remarks.{Remark, Nothing}
-use Rattle.diagnoses.specs.Stops.{HasRemark, IsExpectationIn, IsRemarkIn, stop_diagnosis}
+use Rattle.diagnoses.specs.Stops.{HasRemark, IsExpectationIn, IsRemarkIn}
 use Rattle.pram_tokens.specs.declared.error.TextFault.{TextFault}
 use Rattle.pram_tokens.specs.declared.error.TextFault.TheVariants as fault
-use Rattle.command_text.specs.Explained.{refusal_text}
+use Rattle.word_faults.specs.declared.given.Given.{Given}
+use Rattle.command_text.specs.Explained.{refusal_text, said_behind}
 
 nothing_in : (b : Breach) (a : About) → IsRemarkIn b a Nothing
 nothing_in b about.Nothing = refl
 nothing_in b (about.Text s) = λ tree is. inr refl
 nothing_in b (about.Line s line) = refl
 nothing_in b (about.Values values cells) = refl
+nothing_in b (about.File u) = refl
 
 nothing_at : (at : ℕ) (a : About) → IsExpectationIn at a Nothing
 nothing_at at about.Nothing = refl
 nothing_at at (about.Text s) = inr refl
 nothing_at at (about.Line s line) = refl
 nothing_at at (about.Values values cells) = refl
+nothing_at at (about.File u) = refl
 
 nothing_of : (f : TextFault) (a : About) → HasRemark (stop.Refused (refusal.Text f)) a Nothing
 nothing_of (fault.NotAscii at) a = refl
@@ -55,15 +58,17 @@ nothing_said stop.WriteFailed a = refl
 nothing_said (stop.BadSize at reason) a = refl
 
 -- the stream failed within the line
-pub line_cut_off : {E : Type 0} (explains : Bool) (why : Stop) (a : About) (r : Remark) (old new : OutState) (res : Result Unit E) (P : E → Type 0) →
-    IsErrAnd res P → StopsIn old new (stop_line why a) → Writes old new (refusal_text explains why a r) res
-line_cut_off false why a r old new res P is s = writes_stopped old new (stop_line why a) res P is s
-line_cut_off true why a r old new res P is s = stops_in_first old new _ (stop_line why a) (stop_diagnosis why a r) res P refl is s
+pub line_cut_off : {E : Type 0} (explains : Bool) (why : Stop) (a : About) (r : Remark) (wrong : Option Given) (old new : OutState)
+    (res : Result Unit E) (P : E → Type 0) → IsErrAnd res P → StopsIn old new (stop_line why a) →
+    Writes old new (refusal_text explains why a r wrong) res
+line_cut_off false why a r wrong old new res P is s = writes_stopped old new (stop_line why a) res P is s
+line_cut_off true why a r wrong old new res P is s =
+    stops_in_first old new _ (stop_line why a) (said_behind why a r wrong) res P refl is s
 
 -- the line, and what is said behind it
-pub said_behind : {E : Type 0} (explains : Bool) (why : Stop) (a : About) (r : Remark) (old mid new : OutState) (res : Result Unit E) →
-    explains ≡ true → mid ≡ with_bytes old (stop_line why a) → Writes mid new (stop_diagnosis why a r) res →
-    Writes old new (refusal_text explains why a r) res
-said_behind explains why a r old mid new res on first second =
-    subst (λ b. Writes old new (refusal_text b why a r) res) (sym on)
-    (both old mid new _ (stop_line why a) (stop_diagnosis why a r) res refl first second)
+pub with_more : {E : Type 0} (explains : Bool) (why : Stop) (a : About) (r : Remark) (wrong : Option Given) (old mid new : OutState)
+    (res : Result Unit E) → explains ≡ true → mid ≡ with_bytes old (stop_line why a) → Writes mid new (said_behind why a r wrong) res →
+    Writes old new (refusal_text explains why a r wrong) res
+with_more explains why a r wrong old mid new res on first second =
+    subst (λ b. Writes old new (refusal_text b why a r wrong) res) (sym on)
+    (both old mid new _ (stop_line why a) (said_behind why a r wrong) res refl first second)

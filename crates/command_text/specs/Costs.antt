@@ -4,10 +4,11 @@ use Rattle.work_time.specs.declared.cost.Cost.{Cost}
 use Rattle.write_rules.specs.Verdict.{Verdict}
 use Rattle.cost_texts.specs.CostText.{cost_text, lines_text}
 
-abbrev pub if_lines : Bool → List ℕ → List ℕ
-if_lines true text = text
-if_lines false text = []
+-- a text where it is asked for
+abbrev pub if_asked : Bool → List ℕ → List ℕ
+if_asked true text = text
+if_asked false text = []
 
 -- the costs of a run, and where it is asked for those of each line
 abbrev pub costs_text : Verdict → Cost → Option ℕ → Bool → List ℕ
-costs_text v c schedule lines = cost_text v c schedule ++ if_lines lines (lines_text c.lines.items)
+costs_text v c schedule lines = cost_text v c schedule ++ if_asked lines (lines_text c.lines.items)

@@ -1,9 +1,10 @@
 -- What is said on standard error.
-use Rattle.std.specs.Prelude.{◌≡◌, ◌⊎◌, ℕ, List, ◌++◌, Bool, true, false, codes, decimal}
+use Rattle.std.specs.Prelude.{◌≡◌, ◌⊎◌, ℕ, List, ◌++◌, Bool, true, false, Option, None, codes, decimal}
 use Rattle.text_out.specs.Out.{OutState}
 use Rattle.write_rules.specs.declared.outcome.Outcome.{Outcome}
 use Rattle.write_rules.specs.declared.outcome.Outcome.TheVariants.{Faulted, GoesOn}
 use Rattle.program_texts.specs.declared.stop.Stop.{Stop}
+use Rattle.program_texts.specs.declared.stop.Stop.TheVariants as stop
 use Rattle.diagnoses.specs.declared.about.About.{About}
 use Rattle.diagnoses.specs.FaultTexts.{fault_diagnosis, fault_sentence}
 use Rattle.diagnoses.specs.Reasons.{Reason, run_reason, unknown}
@@ -15,19 +16,34 @@ use Rattle.command_facts.specs.declared.found.Found.TheVariants as found
 use Rattle.command_facts.specs.declared.found.FoundCode.{FoundCode}
 use Rattle.command_facts.specs.declared.found.FoundRun.{FoundRun}
 use Rattle.command_facts.specs.Written.{IsReported}
+use Rattle.word_faults.specs.Sentences.{word_fault}
+use Rattle.word_faults.specs.Values.{IsWrong}
+use Rattle.word_faults.specs.declared.given.Given.{Given}
 
 -- ---- refusals
 
--- the line of a refusal, with its offset in the file, and where it is asked for what is said behind it
-abbrev pub refusal_text : Bool → Stop → About → Remark → List ℕ
-refusal_text false why a r = stop_line why a
-refusal_text true why a r = stop_line why a ++ stop_diagnosis why a r
+-- of a word of the command line the first option of the call that doesn't take it
+abbrev pub IsWrongOf : (words : List (List ℕ)) → Stop → Option Given → Type 0
+IsWrongOf words (stop.Number word) wrong = IsWrong words word.now wrong
+IsWrongOf words _ wrong = wrong ≡ None
 
--- That stands on standard error, as far as it takes it.
-pub record IsRefusalReported (explains : Bool) (why : Stop) (a : About) (old new : OutState) : Type 0 where
+-- what is said behind the line: of such a word by that option, and of anything else by what is known besides
+abbrev pub said_behind : Stop → About → Remark → Option Given → List ℕ
+said_behind (stop.Number word) a r wrong = word_fault wrong word.now
+said_behind why a r wrong = stop_diagnosis why a r
+
+-- the line of a refusal, with its offset in the file, and where it is asked for what is said behind it
+abbrev pub refusal_text : Bool → Stop → About → Remark → Option Given → List ℕ
+refusal_text false why a r wrong = stop_line why a
+refusal_text true why a r wrong = stop_line why a ++ said_behind why a r wrong
+
+-- That stands on standard error, as far as it takes it. The words are those of the call.
+pub record IsRefusalReported (explains : Bool) (words : List (List ℕ)) (why : Stop) (a : About) (old new : OutState) : Type 0 where
   pub remark : Remark
   pub said : HasRemark why a remark
-  pub reported : IsReported old new (refusal_text explains why a remark)
+  pub wrong : Option Given
+  pub found : IsWrongOf words why wrong
+  pub reported : IsReported old new (refusal_text explains why a remark wrong)
 
 -- ---- faults
 

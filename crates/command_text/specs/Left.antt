@@ -16,17 +16,17 @@ use Rattle.command_text.specs.Texts.{IsTextOf, NeedsMemory}
 
 -- Both streams after what was found is told, with the exit status: it stands on standard output, whole, and on standard error nothing, but
 -- a fault where that is to be explained; or standard output failed in it, or memory for it was refused, and that is told.
-pub data LeavesFound (on : Terminal) (found : Found) (out out_new err err_new : OutState) : Status → Type 0 where
+pub data LeavesFound (on : Terminal) (words : List (List ℕ)) (found : Found) (out out_new err err_new : OutState) : Status → Type 0 where
   Told : (text : List ℕ) → IsTextOf on found text → out_new ≡ with_bytes out text → IsExplained on.errors found err err_new
-      → LeavesFound on found out out_new err err_new (status_of_found found)
+      → LeavesFound on words found out out_new err err_new (status_of_found found)
   CutOff : (why : Stop) → WroteSome (status_of_found found) (NeedsMemory found) (IsTextOf on found) out out_new (Err why)
-      → IsRefusalReported on.errors why about.Nothing err err_new → LeavesFound on found out out_new err err_new status.Refused
+      → IsRefusalReported on.errors words why about.Nothing err err_new → LeavesFound on words found out out_new err err_new status.Refused
 
--- Both streams after a call. What was found is of all that the files hold which the request names. A refusal's line goes to standard error,
--- and behind it what is said of it, if that is asked for; nothing is on standard output then.
-pub data Leaves (holds : List ℕ → Option (List ℕ) → Type 0) (on : Terminal) (asked : Result Request Stop) (out out_new err err_new : OutState)
-    : Status → Type 0 where
+-- Both streams after a call of these words. What was found is of all that the files hold which the request names. A refusal's line goes to
+-- standard error, and behind it what is said of it, if that is asked for; nothing is on standard output then.
+pub data Leaves (holds : List ℕ → Option (List ℕ) → Type 0) (on : Terminal) (words : List (List ℕ)) (asked : Result Request Stop)
+    (out out_new err err_new : OutState) : Status → Type 0 where
   Answered : (request : Request) (found : Found) (ends : Status) → asked ≡ Ok request → Finds holds request found
-      → LeavesFound on found out out_new err err_new ends → Leaves holds on asked out out_new err err_new ends
-  Stopped : (h : Halted) → IsStop holds asked h → out_new ≡ out → IsRefusalReported on.errors h.stop h.about err err_new
-      → Leaves holds on asked out out_new err err_new status.Refused
+      → LeavesFound on words found out out_new err err_new ends → Leaves holds on words asked out out_new err err_new ends
+  Stopped : (h : Halted) → IsStop holds asked h → out_new ≡ out → IsRefusalReported on.errors words h.stop h.about err err_new
+      → Leaves holds on words asked out out_new err err_new status.Refused

@@ -8,6 +8,7 @@ use Rattle.superstep_machine.specs.Trace.{Exchange}
 use Rattle.tracer.specs.Traced.{trace_text}
 use Rattle.tracer.specs.Picture as trace
 use Rattle.step_pictures.specs.Picture as steps
+use Rattle.flow_pictures.specs.Picture.{flow}
 use Rattle.sweep_pictures.specs.Picture as sweeps
 use Rattle.sweep_texts.specs.CsvText.{csv_text}
 use Rattle.sweep_texts.specs.SweepText.{sweep_text}
@@ -19,6 +20,8 @@ use Rattle.explanations.specs.Explained.{explanation}
 use Rattle.rule_comparison.specs.ComparisonText.{comparison_text}
 use Rattle.step_entries.specs.Entries.{Entry, entry_is}
 use Rattle.step_texts.specs.declared.telling.Telling.{Telling}
+use Rattle.command_requests.specs.declared.form.Form.{Form}
+use Rattle.command_requests.specs.declared.form.Form.TheVariants as form
 use Rattle.command_facts.specs.declared.found.Facts.{Facts}
 use Rattle.command_facts.specs.declared.found.Facts.TheVariants as facts
 use Rattle.command_facts.specs.declared.found.Found.{Found}
@@ -26,7 +29,7 @@ use Rattle.command_facts.specs.declared.found.Found.TheVariants as found
 use Rattle.command_facts.specs.declared.found.FoundRun.{FoundRun}
 use Rattle.command_facts.specs.declared.found.FoundSweep.{FoundSweep}
 use Rattle.command_text.specs.declared.terminal.Terminal.{Terminal}
-use Rattle.command_text.specs.Costs.{costs_text}
+use Rattle.command_text.specs.Costs.{costs_text, if_asked}
 use Rattle.command_text.specs.Steps.{IsPage, IsTelling, told_text}
 
 abbrev pub version_text : List ℕ
@@ -38,20 +41,32 @@ accepted_line program =
     line (codes "accepted cells " ++ (decimal (total_size program.layout)
     ++ (codes " procs " ++ (decimal program.procs ++ (codes " rule " ++ rule_word program.rule)))))
 
--- the exchanges of a run, in words or drawn
-abbrev pub counts_text : Bool → List Exchange → List ℕ
-counts_text false exchanges = trace_text exchanges
-counts_text true exchanges = trace.picture exchanges
+-- the exchanges of a run in words, and where that is asked for its outcome
+abbrev pub exchanges_text : (outcome : Bool) → (told : List ℕ) → List Exchange → List ℕ
+exchanges_text outcome told exchanges = trace_text exchanges ++ if_asked outcome told
+
+-- or drawn
+abbrev pub counts_text : Form → (outcome : Bool) → (told : List ℕ) → List Exchange → List ℕ
+counts_text form.Picture outcome told exchanges = trace.picture exchanges
+counts_text form.Words outcome told exchanges = exchanges_text outcome told exchanges
+counts_text form.Flow outcome told exchanges = exchanges_text outcome told exchanges
+counts_text form.Page outcome told exchanges = exchanges_text outcome told exchanges
 
 -- the outcome of a run, with all of its memory
 abbrev pub outcome_text : FoundRun → List ℕ
 outcome_text r = shown r.loaded.program.layout (verdict_of r.outcome)
 
--- runs at several sizes: drawn, as values separated by commas, or a line each and how they grow
-abbrev pub swept_text : (svg csv : Bool) → FoundSweep → List ℕ
-swept_text true csv s = sweeps.picture s.sweep.name s.rows.items
-swept_text false true s = csv_text s.sweep.name s.rows.items
-swept_text false false s = sweep_text s.sweep.name s.rows.items s.growths
+-- runs at several sizes, as values separated by commas, or a line each and how they grow
+abbrev pub table_text : (csv : Bool) → FoundSweep → List ℕ
+table_text true s = csv_text s.sweep.name s.rows.items
+table_text false s = sweep_text s.sweep.name s.rows.items s.growths
+
+-- or drawn
+abbrev pub swept_text : Form → (csv : Bool) → FoundSweep → List ℕ
+swept_text form.Picture csv s = sweeps.picture s.sweep.name s.rows.items
+swept_text form.Words csv s = table_text csv s
+swept_text form.Flow csv s = table_text csv s
+swept_text form.Page csv s = table_text csv s
 
 -- a run statement by statement: in words, between the numbers that are asked for, with locals if these are, beside the text as it stands in
 -- its file, and then its outcome
@@ -60,19 +75,29 @@ IsInWords on r entries text = (telling : Telling)
     × IsTelling on r.loaded.source.bytes.items r.words.steps.locals r.loaded.program.tree telling
     × (text ≡ told_text r.loaded.program.layout telling r.outcome entries r.words.steps.from r.words.steps.to)
 
--- drawn, or as a page with the text that its sizes give, where that is asked for
-abbrev pub AreStepsText : (svg html : Bool) → Terminal → FoundRun → List Entry → List ℕ → Type 0
-AreStepsText true html on r entries text = text ≡ steps.picture r.loaded.program.layout entries
-AreStepsText false true on r entries text = IsPage (text_in r.loaded.source) r.loaded.program r.input.items r.outcome entries text
-AreStepsText false false on r entries text = IsInWords on r entries text
+-- drawn, beside the text as it stands in its file
+abbrev pub picture_text : FoundRun → List Entry → List ℕ
+picture_text r entries = steps.picture r.loaded.program.layout r.loaded.source.bytes.items entries
+
+-- the flow of data between the numbers that are asked for, drawn beside the text that its sizes give, of which statements have their places
+abbrev pub flow_text : FoundRun → List Entry → List ℕ
+flow_text r entries =
+    flow r.loaded.program.layout (text_in r.loaded.source) r.input.items entries r.words.steps.from r.words.steps.to
+
+-- in words, drawn, or as a page with the text that its sizes give
+abbrev pub AreStepsText : Form → Terminal → FoundRun → List Entry → List ℕ → Type 0
+AreStepsText form.Words on r entries text = IsInWords on r entries text
+AreStepsText form.Picture on r entries text = text ≡ picture_text r entries
+AreStepsText form.Flow on r entries text = text ≡ flow_text r entries
+AreStepsText form.Page on r entries text = IsPage (text_in r.loaded.source) r.loaded.program r.input.items r.outcome entries text
 
 -- the text of a run, by what was found beside its outcome
 abbrev pub IsRunText : Terminal → FoundRun → Facts → List ℕ → Type 0
 IsRunText on r facts.Nothing text = text ≡ shown_by r.words.shown r.loaded.program.layout (verdict_of r.outcome)
 IsRunText on r (facts.Cost c) text =
     text ≡ costs_text (verdict_of r.outcome) c r.words.costs.schedule r.words.costs.lines ++ outcome_text r
-IsRunText on r (facts.Steps entries) text = AreStepsText r.words.svg r.words.html on r (map entry_is entries.items) text
-IsRunText on r (facts.Exchanges exchanges) text = text ≡ counts_text r.words.svg exchanges
+IsRunText on r (facts.Steps entries) text = AreStepsText r.words.form on r (map entry_is entries.items) text
+IsRunText on r (facts.Exchanges exchanges) text = text ≡ counts_text r.words.form r.words.trace.outcome (outcome_text r) exchanges
 
 -- the text of what was found
 abbrev pub IsTextOf : Terminal → Found → List ℕ → Type 0
@@ -83,15 +108,15 @@ IsTextOf on (found.Expanded s) text = text ≡ text_in s
 IsTextOf on (found.Planned code) text = text ≡ spelling code
 IsTextOf on (found.Compared c) text = text ≡ comparison_text c
 IsTextOf on (found.Run r) text = IsRunText on r r.facts text
-IsTextOf on (found.Swept s) text = text ≡ swept_text s.svg s.csv s
+IsTextOf on (found.Swept s) text = text ≡ swept_text s.form s.csv s
 IsTextOf on (found.Executed c) text = text ≡ shown_by c.shown c.code.layout (verdict_of c.outcome)
 
 -- only a page is put together before it is written
-abbrev pub IsAPage : (svg html : Bool) → Type 0
-IsAPage svg html = (svg ≡ false) × (html ≡ true)
+abbrev pub IsAPage : Form → Type 0
+IsAPage f = f ≡ form.Page
 
 abbrev pub IsPaged : FoundRun → Facts → Type 0
-IsPaged r (facts.Steps entries) = IsAPage r.words.svg r.words.html
+IsPaged r (facts.Steps entries) = IsAPage r.words.form
 IsPaged r _ = ⊥
 
 abbrev pub NeedsMemory : Found → Type 0

@@ -1,6 +1,7 @@
 //! How the program answers a request.
 
-ghost use Rattle.std.specs.Prelude.{◌<◌, ◌^◌};
+ghost use Rattle.std.specs.Prelude.{◌<◌, ◌^◌, map};
+ghost use Rattle.std.specs.String.{string_bytes};
 ghost use Rattle.command_text.specs.Left.{Leaves, LeavesFound};
 
 use crate::explaining::{explain, report};
@@ -18,6 +19,7 @@ use text_out::Out;
 // What was found is told.
 fn tell<O: Out, E: Out>(
     alloc: Global,
+    words: &[String],
     on: Terminal,
     found: &Found<'_>,
     out: &mut O,
@@ -25,7 +27,8 @@ fn tell<O: Out, E: Out>(
 ) -> Status
     requires out { (O.Out.state out.old).failures < 2 ^ 62 }
     requires err { (E.Out.state err.old).failures < 2 ^ 62 }
-    ensures leaves { LeavesFound on found.now (O.Out.state out.old) (O.Out.state out.new) (E.Out.state err.old) (E.Out.state err.new) result }
+    ensures leaves { LeavesFound on (map string_bytes words.now) found.now (O.Out.state out.old) (O.Out.state out.new)
+        (E.Out.state err.old) (E.Out.state err.new) result }
 {
     match write_found(alloc, on, found, out) {
         Ok(status) => {
@@ -33,7 +36,7 @@ fn tell<O: Out, E: Out>(
             status
         }
         Err(stop) => {
-            report(alloc, err, &Halted::from(stop), on.errors);
+            report(alloc, err, words, &Halted::from(stop), on.errors);
             Status::Refused
         }
     }
@@ -44,6 +47,7 @@ fn answer_request<R: Threads + Wait + Sync, S: Sources, O: Out, E: Out>(
     rt: &R,
     alloc: Global,
     request: Request<'_>,
+    words: &[String],
     on: Terminal,
     sources: &mut S,
     out: &mut O,
@@ -51,19 +55,19 @@ fn answer_request<R: Threads + Wait + Sync, S: Sources, O: Out, E: Out>(
 ) -> Status
     requires out { (O.Out.state out.old).failures < 2 ^ 62 }
     requires err { (E.Out.state err.old).failures < 2 ^ 62 }
-    ensures leaves { Leaves (S.Sources.holds sources.old) on (Ok request.entry)
+    ensures leaves { Leaves (S.Sources.holds sources.old) on (map string_bytes words.now) (Ok request.entry)
         (O.Out.state out.old) (O.Out.state out.new) (E.Out.state err.old) (E.Out.state err.new) result }
 {
     match find(rt, alloc, request, sources) {
-        Ok(found) => tell(alloc, on, &found, out, err),
+        Ok(found) => tell(alloc, words, on, &found, out, err),
         Err(halted) => {
-            report(alloc, err, &halted, on.errors);
+            report(alloc, err, words, &halted, on.errors);
             Status::Refused
         }
     }
 }
 
-/// Answers a request, or says why the words of a call are none, and answers the exit status.
+/// Answers the request of a call of these words, or says why they are none, and answers the exit status.
 ///
 /// `check FILE` writes `accepted cells N procs M rule R`; `expand FILE` the text of the language that the sizes of a text give; `plan FILE` the
 /// listing of the program's code; `meaning FILE` the outcome by the definition, `cost FILE` what that run costs and then its outcome,
@@ -76,12 +80,14 @@ fn answer_request<R: Threads + Wait + Sync, S: Sources, O: Out, E: Out>(
 /// [`find`](command_facts::find) refuses, E17 is told where standard output failed, and E16 where memory for a page was refused.
 ///
 /// Where the errors are to be explained, what a reader needs follows there: the place, its line and a caret, and a
-/// sentence; and so of a fault, of a program's run with its line. Where standard output is a terminal, statements stand beside their lines
-/// of the program's text, and what changes is coloured if that is wanted.
+/// sentence, of a word the option that doesn't take it and what that wants; and so of a fault, of a program's run with its line. Where
+/// standard output is a terminal, statements stand beside their lines of the program's text, and what changes is coloured if that is
+/// wanted.
 pub fn answer<'a, R: Threads + Wait + Sync, S: Sources, O: Out, E: Out>(
     rt: &R,
     alloc: Global,
     asked: Result<Request<'a>, Stop<'a>>,
+    words: &[String],
     on: Terminal,
     sources: &mut S,
     out: &mut O,
@@ -89,13 +95,13 @@ pub fn answer<'a, R: Threads + Wait + Sync, S: Sources, O: Out, E: Out>(
 ) -> Status
     requires out { (O.Out.state out.old).failures < 2 ^ 62 }
     requires err { (E.Out.state err.old).failures < 2 ^ 62 }
-    ensures leaves { Leaves (S.Sources.holds sources.old) on asked.entry
+    ensures leaves { Leaves (S.Sources.holds sources.old) on (map string_bytes words.now) asked.entry
         (O.Out.state out.old) (O.Out.state out.new) (E.Out.state err.old) (E.Out.state err.new) result }
 {
     match asked {
-        Ok(request) => answer_request(rt, alloc, request, on, sources, out, err),
+        Ok(request) => answer_request(rt, alloc, request, words, on, sources, out, err),
         Err(stop) => {
-            report(alloc, err, &Halted::from(stop), on.errors);
+            report(alloc, err, words, &Halted::from(stop), on.errors);
             Status::Refused
         }
     }

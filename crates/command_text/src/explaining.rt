@@ -1,12 +1,14 @@
 //! What a call writes to standard error.
 
-ghost use Rattle.std.specs.Prelude.{◌≡◌, ◌⊎◌, ◌<◌, ◌^◌};
+ghost use Rattle.std.specs.Prelude.{◌≡◌, ◌⊎◌, ◌<◌, ◌^◌, map, Option};
+ghost use Rattle.std.specs.String.{string_bytes};
 ghost use Rattle.text_out.specs.Out.{Writes};
 ghost use Rattle.diagnoses.specs.FaultTexts.{fault_diagnosis, fault_sentence};
 ghost use Rattle.diagnoses.specs.Reasons.{Reason as Why, reason_is, run_reason as why, unknown};
 ghost use Rattle.diagnoses.specs.Remarks.{Remark};
 ghost use Rattle.diagnoses.specs.Stops.{HasRemark};
 ghost use Rattle.command_facts.specs.Written.{IsReported};
+ghost use Rattle.word_faults.specs.declared.given.Given.{Given as Wrong};
 ghost use Rattle.command_text.specs.Explained as spec;
 
 use command_facts::{Found, FoundCode, FoundRun, Halted};
@@ -16,35 +18,74 @@ use diagnoses::{
 };
 use itoa::Buffer;
 use pram_check::Program;
+use program_texts::Stop;
 use std::alloc::Global;
 use text_out::{Out, WriteFault};
+use word_faults::{Given, write_word_fault, wrong_option};
 use write_rules::{Fault, Outcome};
+
+// The option of the call that doesn't take the word for which it stops.
+fn wrong_of(words: &[String], stop: &Stop<'_>) -> Option<Given>
+    ensures { spec.IsWrongOf (map string_bytes words.now) stop.now result }
+{
+    match stop {
+        Stop::Number(word) => wrong_option(words, word),
+        _ => None,
+    }
+}
+
+// What is said behind the line of a refusal.
+fn write_behind<E: Out>(
+    alloc: Global,
+    err: &mut E,
+    halted: &Halted<'_>,
+    wrong: Option<Given>,
+) -> Result<(), WriteFault>
+    requires err { (E.Out.state err.old).failures < 2 ^ 62 }
+    ensures written { (r : Remark) × HasRemark halted.now.stop halted.now.about r × Writes (E.Out.state err.old) (E.Out.state err.new)
+        (spec.said_behind halted.now.stop halted.now.about r wrong) result }
+{
+    match &halted.stop {
+        Stop::Number(word) => write_word_fault(err, wrong, word),
+        _ => write_stop_diagnosis(alloc, err, &halted.stop, &halted.about),
+    }
+}
 
 // The line of a refusal, and if that is asked for what is said behind it.
 fn write_halt<E: Out>(
     alloc: Global,
     err: &mut E,
+    words: &[String],
     halted: &Halted<'_>,
     explains: bool,
 ) -> Result<(), WriteFault>
     requires err { (E.Out.state err.old).failures < 2 ^ 62 }
-    ensures written { (r : Remark) × HasRemark halted.now.stop halted.now.about r × Writes (E.Out.state err.old) (E.Out.state err.new)
-        (spec.refusal_text explains halted.now.stop halted.now.about r) result }
+    ensures written { (r : Remark) × HasRemark halted.now.stop halted.now.about r
+        × (wrong : Option Wrong) × spec.IsWrongOf (map string_bytes words.now) halted.now.stop wrong
+        × Writes (E.Out.state err.old) (E.Out.state err.new) (spec.refusal_text explains halted.now.stop halted.now.about r wrong) result }
 {
+    let wrong = wrong_of(words, &halted.stop);
     write_refused_line(err, &halted.stop, &halted.about)?;
     if explains {
-        write_stop_diagnosis(alloc, err, &halted.stop, &halted.about)
+        write_behind(alloc, err, halted, wrong)
     } else {
         Ok(())
     }
 }
 
-/// Writes what is refused to standard error. That it fails changes no status.
-pub(crate) fn report<E: Out>(alloc: Global, err: &mut E, halted: &Halted<'_>, explains: bool)
+/// Writes what is refused, of a call of these words, to standard error. That it fails changes no status.
+pub(crate) fn report<E: Out>(
+    alloc: Global,
+    err: &mut E,
+    words: &[String],
+    halted: &Halted<'_>,
+    explains: bool,
+)
     requires err { (E.Out.state err.old).failures < 2 ^ 62 }
-    ensures written { spec.IsRefusalReported explains halted.now.stop halted.now.about (E.Out.state err.old) (E.Out.state err.new) }
+    ensures written { spec.IsRefusalReported explains (map string_bytes words.now) halted.now.stop halted.now.about
+        (E.Out.state err.old) (E.Out.state err.new) }
 {
-    if write_halt(alloc, err, halted, explains).is_ok() {
+    if write_halt(alloc, err, words, halted, explains).is_ok() {
         let _ = err.flush();
     }
 }

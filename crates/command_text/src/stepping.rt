@@ -4,6 +4,7 @@ ghost use Rattle.std.specs.Prelude.{◌<◌, ◌^◌, ℕ, IfOk, List, map};
 ghost use Rattle.std.specs.String.{string_bytes};
 ghost use Rattle.text_out.specs.Out.{Writes};
 ghost use Rattle.diagnoses.specs.Sources.{text_in};
+ghost use Rattle.flow_pictures.specs.Picture.{flow};
 ghost use Rattle.command_facts.specs.Written.{Wrote, WroteSome};
 ghost use Rattle.program_texts.specs.Status.{status_of};
 ghost use Rattle.step_entries.specs.Entries.{entry_is};
@@ -15,7 +16,8 @@ ghost use Rattle.command_text.specs.Texts as texts;
 
 use crate::terminal::Terminal;
 use command_facts::FoundRun;
-use command_requests::StepWords;
+use command_requests::{Form, StepWords};
+use flow_pictures::write_flow;
 use json_texts::json_steps;
 use pram_trees::{Layout, Tree};
 use program_texts::{Status, Stop, finish, show};
@@ -123,19 +125,71 @@ fn write_in_words<'a, O: Out>(
     )
 }
 
-// Writes a picture of a run's statements.
+// Writes a picture of statements beside the lines of this text.
 fn write_pictured<'a, O: Out>(
     out: &mut O,
     layout: &Layout,
+    text: &[u8],
     outcome: &Outcome,
     entries: &[Entry],
 ) -> Result<Status, Stop<'a>>
     requires out { (O.Out.state out.old).failures < 2 ^ 62 }
-    ensures written { Wrote (status_of outcome.now) (picture layout.now (map entry_is entries.now))
+    ensures written { Wrote (status_of outcome.now) (picture layout.now text.now (map entry_is entries.now))
         (O.Out.state out.old) (O.Out.state out.new) result }
 {
-    write_picture(out, layout, entries)?;
+    write_picture(out, layout, text, entries)?;
     finish(out, Status::of(outcome))
+}
+
+// A picture of a run's statements.
+fn write_as_picture<'a, O: Out>(
+    run: &FoundRun<'_>,
+    entries: &[Entry],
+    out: &mut O,
+) -> Result<Status, Stop<'a>>
+    requires out { (O.Out.state out.old).failures < 2 ^ 62 }
+    ensures written { Wrote (status_of run.now.outcome) (texts.picture_text run.now (map entry_is entries.now))
+        (O.Out.state out.old) (O.Out.state out.new) result }
+{
+    let layout = run.loaded.program.layout();
+    let text = run.loaded.source.bytes.as_slice();
+    write_pictured(out, layout, text, &run.outcome, entries)
+}
+
+// Draws the flow of data between these numbers, whose statements have their places in this text.
+fn write_flowing<'a, O: Out>(
+    out: &mut O,
+    layout: &Layout,
+    text: &[u8],
+    opening: &[i64],
+    outcome: &Outcome,
+    entries: &[Entry],
+    words: StepWords,
+) -> Result<Status, Stop<'a>>
+    requires out { (O.Out.state out.old).failures < 2 ^ 62 }
+    ensures written { Wrote (status_of outcome.now)
+        (flow layout.now text.now opening.now (map entry_is entries.now) words.from words.to)
+        (O.Out.state out.old) (O.Out.state out.new) result }
+{
+    let (first, last) = (words.from as usize, words.to as usize);
+    write_flow(out, layout, text, opening, entries, first, last)?;
+    finish(out, Status::of(outcome))
+}
+
+// The flow of data in a run, drawn.
+fn write_as_flow<'a, O: Out>(
+    run: &FoundRun<'_>,
+    entries: &[Entry],
+    out: &mut O,
+) -> Result<Status, Stop<'a>>
+    requires out { (O.Out.state out.old).failures < 2 ^ 62 }
+    ensures written { Wrote (status_of run.now.outcome) (texts.flow_text run.now (map entry_is entries.now))
+        (O.Out.state out.old) (O.Out.state out.new) result }
+{
+    let layout = run.loaded.program.layout();
+    let text = run.loaded.source.text();
+    let words = run.words.steps;
+    write_flowing(out, layout, text, &run.input, &run.outcome, entries, words)
 }
 
 // The facts of a run, for its page: what is known before the first statement, all entries, and the outcome. Their offsets are of the text
@@ -196,15 +250,14 @@ pub(crate) fn write_steps_of<'a, O: Out>(
     out: &mut O,
 ) -> Result<Status, Stop<'a>>
     requires out { (O.Out.state out.old).failures < 2 ^ 62 }
-    ensures written { WroteSome (status_of run.now.outcome) (texts.IsAPage run.now.words.svg run.now.words.html)
-        (texts.AreStepsText run.now.words.svg run.now.words.html on run.now (map entry_is entries.now))
+    ensures written { WroteSome (status_of run.now.outcome) (texts.IsAPage run.now.words.form)
+        (texts.AreStepsText run.now.words.form on run.now (map entry_is entries.now))
         (O.Out.state out.old) (O.Out.state out.new) result }
 {
-    if run.words.svg {
-        write_pictured(out, run.loaded.program.layout(), &run.outcome, entries)
-    } else if run.words.html {
-        write_as_page(alloc, run, entries, out)
-    } else {
-        write_in_words(on, run, entries, out)
+    match run.words.form {
+        Form::Words => write_in_words(on, run, entries, out),
+        Form::Picture => write_as_picture(run, entries, out),
+        Form::Flow => write_as_flow(run, entries, out),
+        Form::Page => write_as_page(alloc, run, entries, out),
     }
 }

@@ -14,26 +14,29 @@ use crate::writing::{
     write_rules, write_subject, write_text, write_version,
 };
 use command_facts::{Facts, Found, FoundRun, status_of};
+use command_requests::Form;
 use exchange_counts::Counts;
 use program_texts::{Status, Stop};
 use std::alloc::Global;
 use text_out::Out;
-use write_rules::Outcome;
 
 // The exchanges of a run, in words or drawn.
 fn write_counts<'a, O: Out>(
     out: &mut O,
-    outcome: &Outcome,
+    run: &FoundRun<'_>,
     counts: &Counts,
-    svg: bool,
 ) -> Result<Status, Stop<'a>>
     requires out { (O.Out.state out.old).failures < 2 ^ 62 }
-    ensures written { Wrote (status_of outcome.now) (spec.counts_text svg counts.now) (O.Out.state out.old) (O.Out.state out.new) result }
+    ensures written { Wrote (status_of run.now.outcome)
+        (spec.counts_text run.now.words.form run.now.words.trace.outcome (spec.outcome_text run.now) counts.now)
+        (O.Out.state out.old) (O.Out.state out.new) result }
 {
-    if svg {
-        write_drawn(out, outcome, counts)
-    } else {
-        write_exchanges(out, outcome, counts)
+    let (layout, words) = (run.loaded.program.layout(), run.words.trace);
+    match run.words.form {
+        Form::Picture => write_drawn(out, &run.outcome, counts),
+        Form::Words => write_exchanges(out, layout, &run.outcome, counts, words),
+        Form::Flow => write_exchanges(out, layout, &run.outcome, counts, words),
+        Form::Page => write_exchanges(out, layout, &run.outcome, counts, words),
     }
 }
 
@@ -52,7 +55,7 @@ fn write_run<'a, O: Out>(
     match &run.facts {
         Facts::Nothing => write_outcome(out, layout, &run.outcome, run.words.shown),
         Facts::Cost(cost) => write_costs(out, layout, &run.outcome, cost, run.words.costs),
-        Facts::Exchanges(counts) => write_counts(out, &run.outcome, counts, run.words.svg),
+        Facts::Exchanges(counts) => write_counts(out, run, counts),
         Facts::Steps(entries) => write_steps_of(alloc, on, run, entries, out),
     }
 }

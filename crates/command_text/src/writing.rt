@@ -11,12 +11,11 @@ ghost use Rattle.explanations.specs.Explained.{explanation};
 ghost use Rattle.rule_comparison.specs.ComparisonText.{comparison_text};
 ghost use Rattle.superstep_listing.specs.Listing.{spelling};
 ghost use Rattle.tracer.specs.Picture.{picture};
-ghost use Rattle.tracer.specs.Traced.{trace_text};
 ghost use Rattle.command_text.specs.Costs.{costs_text};
 ghost use Rattle.command_facts.specs.Written.{Wrote};
-ghost use Rattle.command_text.specs.Texts.{accepted_line, version_text};
+ghost use Rattle.command_text.specs.Texts.{accepted_line, exchanges_text, version_text};
 
-use command_requests::{CostWords, VERSION};
+use command_requests::{CostWords, TraceWords, VERSION};
 use cost_texts::{write_cost, write_lines};
 use exchange_counts::Counts;
 use explanations::{Subject, write_explanation};
@@ -113,17 +112,40 @@ pub(crate) fn write_rules<'a, O: Out>(
     finish(out, Status::Done)
 }
 
-/// Writes the exchanges of a run.
-pub(crate) fn write_exchanges<'a, O: Out>(
+// The exchanges of a run, and behind them its outcome where that is asked for.
+fn write_counts_and_outcome<O: Out>(
     out: &mut O,
+    layout: &Layout,
     outcome: &Outcome,
     counts: &Counts,
-) -> Result<Status, Stop<'a>>
+    words: TraceWords,
+) -> Result<(), WriteFault>
     requires out { (O.Out.state out.old).failures < 2 ^ 62 }
-    ensures written { Wrote (status_of outcome.now) (trace_text counts.now)
-        (O.Out.state out.old) (O.Out.state out.new) result }
+    ensures written { Writes (O.Out.state out.old) (O.Out.state out.new)
+        (exchanges_text words.outcome (shown layout.now (verdict_of outcome.now)) counts.now) result }
 {
     write_trace(counts, out)?;
+    if words.outcome {
+        show(layout, outcome, out)
+    } else {
+        Ok(())
+    }
+}
+
+/// Writes the exchanges of a run, and behind them its outcome where that is asked for.
+pub(crate) fn write_exchanges<'a, O: Out>(
+    out: &mut O,
+    layout: &Layout,
+    outcome: &Outcome,
+    counts: &Counts,
+    words: TraceWords,
+) -> Result<Status, Stop<'a>>
+    requires out { (O.Out.state out.old).failures < 2 ^ 62 }
+    ensures written { Wrote (status_of outcome.now)
+        (exchanges_text words.outcome (shown layout.now (verdict_of outcome.now)) counts.now)
+        (O.Out.state out.old) (O.Out.state out.new) result }
+{
+    write_counts_and_outcome(out, layout, outcome, counts, words)?;
     finish(out, Status::of(outcome))
 }
 

@@ -28,9 +28,13 @@ pub(crate) const TO: &str = "to";
 
 pub(crate) const LOCALS: &str = "locals";
 
+pub(crate) const OUTCOME: &str = "outcome";
+
 pub(crate) const SVG: &str = "svg";
 
 pub(crate) const HTML: &str = "html";
+
+pub(crate) const FLOW: &str = "flow";
 
 pub(crate) const FORMAT: &str = "format";
 
@@ -67,77 +71,77 @@ const CHECK: Subcommand = Subcommand {
     name: "check",
     about: "Says whether the program is accepted",
     over: PROGRAM,
-    example: "Example: pramc check examples/sum.pram",
+    example: "Example: pramc check examples/sum.pram\nMore: pramc explain check",
 };
 
 const PLAN: Subcommand = Subcommand {
     name: "plan",
     about: "Writes the superstep code of the program",
     over: PROGRAM,
-    example: "Example: pramc plan examples/sum.pram > sum.bsp",
+    example: "Example: pramc plan examples/sum.pram > sum.bsp\nMore: pramc explain plan",
 };
 
 const MEANING: Subcommand = Subcommand {
     name: "meaning",
     about: "Runs the program by its definition",
     over: PROGRAM,
-    example: "Example: pramc meaning examples/tree_sum.pram --input examples/tree_sum.in",
+    example: "Example: pramc meaning examples/tree_sum.pram --input examples/tree_sum.in\nMore: pramc explain meaning",
 };
 
 const COST: Subcommand = Subcommand {
     name: "cost",
     about: "Counts time, work, shared accesses and exchanges of the run, beside its outcome",
     over: PROGRAM,
-    example: "Example: pramc cost examples/tree_sum.pram --input examples/tree_sum.in --schedule 2",
+    example: "Example: pramc cost examples/tree_sum.pram --input examples/tree_sum.in --schedule 2\nMore: pramc explain cost",
 };
 
 const STEPS: Subcommand = Subcommand {
     name: "steps",
     about: "Tells the run statement by statement, and then its outcome",
     over: PROGRAM,
-    example: "Example: pramc steps examples/tree_sum.pram --input examples/tree_sum.in --from 3 --to 7",
+    example: "Example: pramc steps examples/tree_sum.pram --input examples/tree_sum.in --from 3 --to 7\nMore: pramc explain steps",
 };
 
 const RULES: Subcommand = Subcommand {
     name: "rules",
     about: "Compares what the program comes to under each rule",
     over: PROGRAM,
-    example: "Example: pramc rules examples/maximum.pram --input examples/maximum.in",
+    example: "Example: pramc rules examples/maximum.pram --input examples/maximum.in\nMore: pramc explain rules",
 };
 
 const RUN: Subcommand = Subcommand {
     name: "run",
     about: "Compiles the program and runs it",
     over: PROGRAM,
-    example: "Example: pramc run examples/tree_sum.pram --input examples/tree_sum.in --workers 2",
+    example: "Example: pramc run examples/tree_sum.pram --input examples/tree_sum.in --workers 2\nMore: pramc explain run",
 };
 
 const TRACE: Subcommand = Subcommand {
     name: "trace",
     about: "Writes the exchanges of the same run",
     over: PROGRAM,
-    example: "Example: pramc trace examples/tree_sum.pram --input examples/tree_sum.in --workers 2",
+    example: "Example: pramc trace examples/tree_sum.pram --input examples/tree_sum.in --workers 2\nMore: pramc explain trace",
 };
 
 const EXPAND: Subcommand = Subcommand {
     name: "expand",
     about: "Writes the text that its sizes give",
     over: PROGRAM,
-    example: "Example: pramc expand examples/tree_sum.pram --size n=16",
+    example: "Example: pramc expand examples/tree_sum.pram --size n=16\nMore: pramc explain expand",
 };
 
 const EXEC: Subcommand = Subcommand {
     name: "exec",
     about: "Runs a listing",
     over: LISTING,
-    example: "Example: pramc exec sum.bsp --workers 2 --map affine:5,3",
+    example: "Example: pramc exec sum.bsp --workers 2 --map affine:5,3\nMore: pramc explain exec",
 };
 
 const EXPLAIN: Subcommand = Subcommand {
     name: "explain",
     about: "Says what a refusal, a fault or a command is, with an example",
     over: "A refusal, as E6, a fault, as read-conflict, a command, or language or options",
-    example: "Example: pramc explain E6",
+    example: "Example: pramc explain E6\nMore: pramc explain",
 };
 
 // A subcommand over a word, which may be left out.
@@ -278,6 +282,10 @@ fn over_steps<'a>(alloc: Global, words: &Subcommand) -> Result<Command<'a>, Allo
         .long(SVG)
         .action(ArgAction::SetTrue)
         .help("Draws them all, as SVG");
+    let flow = Arg::new(alloc, FLOW)
+        .long(FLOW)
+        .action(ArgAction::SetTrue)
+        .help("Draws the flow of data between the shared cells, as SVG");
     let html = Arg::new(alloc, HTML)
         .long(HTML)
         .action(ArgAction::SetTrue)
@@ -287,6 +295,7 @@ fn over_steps<'a>(alloc: Global, words: &Subcommand) -> Result<Command<'a>, Allo
         .arg(to)?
         .arg(locals)?
         .arg(svg)?
+        .arg(flow)?
         .arg(html)
 }
 
@@ -315,14 +324,18 @@ fn over_trace<'a>(alloc: Global, words: &Subcommand) -> Result<Command<'a>, Allo
         .long(SVG)
         .action(ArgAction::SetTrue)
         .help("Draws them, as SVG");
-    over_workers(alloc, words)?.arg(svg)
+    let outcome = Arg::new(alloc, OUTCOME)
+        .long(OUTCOME)
+        .action(ArgAction::SetTrue)
+        .help("Tells the run's outcome behind them");
+    over_workers(alloc, words)?.arg(svg)?.arg(outcome)
 }
 
 /// The subcommands, their options and the help of each.
 pub(crate) fn grammar<'a>(alloc: Global) -> Result<Command<'a>, AllocError> {
     Command::new(alloc, "pramc")
         .about("Runs programs of a parallel random access machine")
-        .after_help("Example: pramc run examples/sum.pram")
+        .after_help("Example: pramc run examples/sum.pram\nMore: pramc explain")
         .no_binary_name(true)
         .subcommand_required(true)
         .version(VERSION)
@@ -336,6 +349,6 @@ pub(crate) fn grammar<'a>(alloc: Global) -> Result<Command<'a>, AllocError> {
         .subcommand(of_program(alloc, shown(alloc, over_workers(alloc, &RUN)?)?)?)?
         .subcommand(of_program(alloc, over_trace(alloc, &TRACE)?)?)?
         .subcommand(sized(alloc, over_file(alloc, &EXPAND)?)?)?
-        .subcommand(shown(alloc, over_workers(alloc, &EXEC)?)?)?
+        .subcommand(in_formats(alloc, shown(alloc, over_workers(alloc, &EXEC)?)?)?)?
         .subcommand(over_word(alloc, &EXPLAIN)?)
 }

@@ -6,14 +6,14 @@ ghost use Rattle.std.specs.String.{string_bytes};
 ghost use Rattle.command_requests.specs.Words.{AsksForVersion, IsOfWords};
 
 use crate::grammar::{
-    BOUND, FILE, FORMAT, FROM, HTML, INPUT, LINES, LOCALS, MAP, MEMORY, QUIET, RANDOM, RESERVE,
-    SCHEDULE, SEED, SHOW, SIZE, SVG, SWEEP, TO, WORD, WORKERS, grammar,
+    BOUND, FILE, FLOW, FORMAT, FROM, HTML, INPUT, LINES, LOCALS, MAP, MEMORY, OUTCOME, QUIET,
+    RANDOM, RESERVE, SCHEDULE, SEED, SHOW, SIZE, SVG, SWEEP, TO, WORD, WORKERS, grammar,
 };
 use clap::ArgMatches;
 use clap::error::ErrorKind;
 use command_requests::{
-    CostWords, Opening, ProgramFile, Request, RunWords, SizeWord, StepWords, SweepWords, Verb,
-    asks_for_version,
+    CostWords, Form, Opening, ProgramFile, Request, RunWords, SizeWord, StepWords, SweepWords,
+    TraceWords, Verb, asks_for_version,
 };
 use drawn_inputs::{Drawing, read_interval};
 use explanations::subject_of;
@@ -151,6 +151,19 @@ fn choice_of<'a>(words: &ArgMatches<'a>) -> Result<Choice<'a>, Stop<'a>>
     }
 }
 
+// How it is told, of which two are refused together.
+fn form_of(words: &ArgMatches<'_>) -> Form {
+    if words.get_flag(SVG) {
+        Form::Picture
+    } else if words.get_flag(FLOW) {
+        Form::Flow
+    } else if words.get_flag(HTML) {
+        Form::Page
+    } else {
+        Form::Words
+    }
+}
+
 fn run_words<'a>(words: &ArgMatches<'a>) -> Result<RunWords<'a>, Stop<'a>>
     ensures { IfErr result IsOfWords }
 {
@@ -160,6 +173,7 @@ fn run_words<'a>(words: &ArgMatches<'a>) -> Result<RunWords<'a>, Stop<'a>>
     let reserve = reserve_of(words)?;
     let costs = cost_words(words)?;
     let steps = step_words(words)?;
+    let outcome = words.get_flag(OUTCOME);
     let opening = opening_of(words)?;
     let shown = choice_of(words)?;
     Ok(RunWords {
@@ -172,8 +186,8 @@ fn run_words<'a>(words: &ArgMatches<'a>) -> Result<RunWords<'a>, Stop<'a>>
         reserve,
         costs,
         steps,
-        svg: words.get_flag(SVG),
-        html: words.get_flag(HTML),
+        trace: TraceWords { outcome },
+        form: form_of(words),
         shown,
     })
 }
@@ -208,6 +222,12 @@ fn check_format<'a>(words: &ArgMatches<'a>, sweeps: bool) -> Result<bool, Stop<'
     }
     if format != Format::Text && svg {
         return Err(Stop::Number("--svg"));
+    }
+    if words.get_flag(FLOW) && (format != Format::Text || svg || words.get_flag(HTML)) {
+        return Err(Stop::Number("--flow"));
+    }
+    if words.get_flag(OUTCOME) && svg {
+        return Err(Stop::Number("--outcome"));
     }
     if format == Format::Csv && !sweeps {
         return Err(Stop::Number("csv"));
@@ -286,6 +306,7 @@ fn asked_costs<'a>(alloc: Global, matches: &ArgMatches<'a>) -> Result<Request<'a
 fn asked_listing<'a>(matches: &ArgMatches<'a>) -> Result<Request<'a>, Stop<'a>>
     ensures { IfErr result IsOfWords }
 {
+    check_format(matches, false)?;
     let words = run_words(matches)?;
     let file = matches.get_str(FILE).unwrap_or("");
     Ok(Request::Listing { file, words })
@@ -302,6 +323,26 @@ fn asked_subject<'a>(matches: &ArgMatches<'a>) -> Result<Request<'a>, Stop<'a>>
     }
 }
 
+// How the parser's tip to write an option behind `--` begins. It would be the name of a file there.
+const TIP: &str = "  tip: to pass ";
+
+// The parser's words, without that tip.
+fn told(alloc: Global, error: &clap::Error) -> Result<String, AllocError> {
+    let text = format!(in alloc; "{error}")?;
+    let mut kept = String::new(alloc);
+    let mut is_behind = false;
+    for line in text.lines() {
+        let is_tip = line.starts_with(TIP);
+        // the empty line behind the tip goes with it
+        if !is_tip && !(is_behind && line.is_empty()) {
+            kept.push_str(line)?;
+            kept.push('\n')?;
+        }
+        is_behind = is_tip;
+    }
+    Ok(kept)
+}
+
 // The words of the parser, where it refused the command line.
 fn refused<'a>(alloc: Global, error: clap::Error) -> Stop<'a>
     ensures { IsOfWords result }
@@ -309,9 +350,9 @@ fn refused<'a>(alloc: Global, error: clap::Error) -> Stop<'a>
     if error.kind() == ErrorKind::OutOfMemory {
         return Stop::Refused(Refusal::OutOfMemory);
     }
-    match format!(in alloc; "{error}") {
+    match told(alloc, &error) {
         Ok(text) => Stop::Words(text),
-        Err(_) => Stop::Refused(Refusal::OutOfMemory),
+        Err(AllocError) => Stop::Refused(Refusal::OutOfMemory),
     }
 }
 

@@ -51,7 +51,7 @@ Limits: numbers of 64 bits, 16384 processors, 1048576 cells, 16384 tokens,
 8 shared reads in a statement, 64 levels of blocks and of expressions.
 ";
 
-pub(crate) const OPTIONS: [u8; 1974] = *b"The options, and which commands take them.
+pub(crate) const OPTIONS: [u8; 2166] = *b"The options, and which commands take them.
 
 All but explain:
 
@@ -84,7 +84,7 @@ How they run; of run, trace and exec:
 What is written:
 
 --format FORMAT     text, or json for programs that read; of a sweep also csv:
-                    check, meaning, cost, steps, rules, run, trace
+                    check, meaning, cost, steps, rules, run, trace, exec
 --show NAMES        these declarations alone, as a,b: meaning, run, exec
 --quiet             printed numbers and no memory: meaning, run, exec
 --lines             counts for each line of the program too: cost
@@ -93,7 +93,11 @@ What is written:
 --from K, --to K    these statements alone, counted from 1: steps
 --locals            tells of variables, locals and printed numbers too: steps
 --html              a page that steps through the run: steps
+--flow              a picture of the flow of data between cells: steps
+--outcome           behind the exchanges what run writes: trace
 --svg               a picture: steps, trace, and cost with --sweep
+
+A FILE named - is standard input, once in a call.
 
 `pramc --version` writes the version. `pramc explain cost` says what cost takes.
 ";

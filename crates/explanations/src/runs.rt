@@ -168,9 +168,10 @@ This is mended:
 $ pramc run sum.pram --bound 100
 ";
 
-pub(crate) const UNREADABLE_FILE: [u8; 220] = *b"P2: a file that can't be read.
+pub(crate) const UNREADABLE_FILE: [u8; 289] = *b"P2: a file that can't be read.
 
-There is none of that name, or it is a folder, or its owner doesn't let you read it.
+There is none of that name, or it is a folder, or its owner doesn't let you read it;
+or it is a second -, which is standard input, and that is read once.
 
 This has it:
 

@@ -26,7 +26,7 @@ ended
 Exit status: 0 it ended, 1 it faulted, 2 it was refused, 3 it met the bound.
 ";
 
-pub(crate) const TRACE: [u8; 1027] = *b"pramc trace FILE: the exchanges of a run by workers.
+pub(crate) const TRACE: [u8; 1084] = *b"pramc trace FILE: the exchanges of a run by workers.
 
 It writes a line for each exchange: what it was for, how many words each worker
 sent and received, and h, the greatest of these numbers. It writes no result.
@@ -34,6 +34,7 @@ sent and received, and h, the greatest of these numbers. It writes no result.
 $ pramc trace examples/sum.pram
 1 close sent 0 0 0 0 received 0 0 0 0 h 0
 
+--outcome           writes behind them what `run` writes
 --svg               draws them, as SVG
 --workers P         how many workers, 1 to 32, else 4
 --map affine:A,B    puts the cells at other workers; A is odd
@@ -50,7 +51,7 @@ $ pramc trace examples/sum.pram
 Exit status: 0 it ended, 1 it faulted, 2 it was refused, 3 it met the bound.
 ";
 
-pub(crate) const EXEC: [u8; 985] = *b"pramc exec LISTING: runs superstep code.
+pub(crate) const EXEC: [u8; 1035] = *b"pramc exec LISTING: runs superstep code.
 
 The listing is one that `pramc plan` wrote, or one of your own. It is verified
 first, and then it is run by workers. It writes what `run` writes. Type this:
@@ -70,6 +71,7 @@ ended
 --random LO..HI     draws the values of all cells, by --seed S
 --show NAMES        writes these declarations alone, as a,b
 --quiet             writes printed numbers, and no memory
+--format json       tells it to programs, as JSON
 --explain           says more of a refusal or a fault
 
 Exit status: 0 it ended, 1 it faulted, 2 it was refused, 3 it met the bound.

@@ -1,4 +1,5 @@
-use Rattle.std.proofs.Common.{subst, sym}
+use Rattle.std.proofs.Common.{map, subst, sym}
+use Rattle.std.specs.String.{string_bytes}
 use Rattle.command_facts.proofs.Alone.{told_alone}
 use Rattle.command_text.specs.Explained.{IsRefusalReported}
 use Rattle.command_text.specs.Left.{CutOff, LeavesFound, Told}
@@ -7,10 +8,14 @@ use Rattle.command_text.proofs.answering.tell.Goals as goal
 pub returns-in-Ok : goal.returns-in-Ok
 returns-in-Ok g c =
     let w = c.in-Ok.ensures.written in
-    record { leaves = subst (LeavesFound c.args.on c.args.found.now _ _ _ _) (sym w.0) (Told w.1.0 w.1.1 w.1.2 c.explain.ensures.left) }
+    let words = map string_bytes c.args.words.now in
+    record {
+      leaves = subst (LeavesFound c.args.on words c.args.found.now _ _ _ _) (sym w.0) (Told w.1.0 w.1.1 w.1.2 c.explain.ensures.left);
+    }
 
 pub returns-in-Err : goal.returns-in-Err
 returns-in-Err g c = record {
   leaves = CutOff c.in-Err.stop c.in-Err.ensures.written
-      (told_alone (IsRefusalReported c.args.on.errors) c.from.result c.in-Err.stop _ _ c.from.ensures c.report.ensures.written);
+      (told_alone (IsRefusalReported c.args.on.errors (map string_bytes c.args.words.now)) c.from.result c.in-Err.stop _ _
+      c.from.ensures c.report.ensures.written);
 }

@@ -9,7 +9,9 @@ returns-then-is_ok g c =
       written = record {
         remark = w.0;
         said = w.1;
-        reported = reported _ _ _ _ _ c.write_halt.result c.flush.result refl w.2 c.if-is_ok.ensures.value c.flush.ensures.ok c.flush.ensures.failed;
+        wrong = w.2;
+        found = w.3;
+        reported = reported _ _ _ _ _ c.write_halt.result c.flush.result refl w.4 c.if-is_ok.ensures.value c.flush.ensures.ok c.flush.ensures.failed;
       };
     }
 
@@ -17,5 +19,11 @@ pub returns-else-is_ok : goal.returns-else-is_ok
 returns-else-is_ok g c =
     let w = c.write_halt.ensures.written in
     record {
-      written = record { remark = w.0; said = w.1; reported = reported_in_part _ _ _ _ c.write_halt.result refl w.2 c.if-is_ok.ensures.value };
+      written = record {
+        remark = w.0;
+        said = w.1;
+        wrong = w.2;
+        found = w.3;
+        reported = reported_in_part _ _ _ _ c.write_halt.result refl w.4 c.if-is_ok.ensures.value;
+      };
     }

@@ -1,4 +1,4 @@
-use Rattle.std.proofs.Common.{◌≡◌, ◌∙◌, ◌⊎◌, ap, subst, ℤ, List}
+use Rattle.std.proofs.Common.{◌≡◌, ◌⊎◌, ap, subst, ℤ, List}
 use Rattle.pram_model.specs.Layout.{SharedEntry}
 use Rattle.diagnoses.specs.FaultTexts.{fault_diagnosis}
 use Rattle.diagnoses.specs.Reasons.{reason_is, run_reason, unknown}

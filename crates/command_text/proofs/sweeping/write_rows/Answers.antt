@@ -1,19 +1,20 @@
-use Rattle.std.proofs.Common.{Bool, List, ℕ, subst, sym}
+use Rattle.std.proofs.Common.{List, ℕ, subst, sym}
 use Rattle.text_out.specs.Out.{Writes}
 use Rattle.sweep_texts.specs.declared.size_row.SizeRow.{SizeRow}
 use Rattle.sweep_pictures.specs.Picture.{picture}
+use Rattle.command_requests.specs.declared.form.Form.{Form}
 use Rattle.command_text.specs.Texts.{swept_text}
 use Rattle.command_text.proofs.sweeping.write_rows.Goals as goal
 
-pub returns-then-swept : goal.returns-then-swept
-returns-then-swept g c =
+pub returns-in-Picture : goal.returns-in-Picture
+returns-in-Picture g c =
     let s = c.args.swept.now in
     let old = g.O.Out.state c.args.out.now in
     let new = g.O.Out.state c.write_sweep_picture.new.out in
-    let named = subst (λ (name : List ℕ). Writes old new (picture name c.deref.result.now) c.write_sweep_picture.result) c.as_slice-name.ensures
+    let named = subst (λ (name : List ℕ). Writes old new (picture name c.deref.result.now) c.write_sweep_picture.result) c.as_slice.ensures
     c.write_sweep_picture.ensures.written in
     let drawn = subst (λ (rows : List SizeRow). Writes old new (picture s.sweep.name rows) c.write_sweep_picture.result) c.deref.ensures.value
     named in
     record {
-      written = subst (λ (svg : Bool). Writes old new (swept_text svg s.csv s) c.write_sweep_picture.result) (sym c.if-swept.true) drawn;
+      written = subst (λ (f : Form). Writes old new (swept_text f s.csv s) c.write_sweep_picture.result) (sym c.in-Picture.is) drawn;
     }

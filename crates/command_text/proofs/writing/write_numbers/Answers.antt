@@ -4,7 +4,7 @@ use Rattle.write_rules.specs.Verdict.{verdict_of}
 use Rattle.work_time.specs.declared.line_cost.LineCost.{LineCost}
 use Rattle.text_out.proofs.Progress.{breaks_off, closes, goes_on, starts}
 use Rattle.cost_texts.specs.CostText.{cost_text, lines_text}
-use Rattle.command_text.specs.Costs.{if_lines}
+use Rattle.command_text.specs.Costs.{if_asked}
 use Rattle.command_text.proofs.Room.{room}
 use Rattle.command_text.proofs.writing.write_numbers.Goals as goal
 
@@ -13,7 +13,7 @@ returns-in_err-write_cost g c =
     let cost = c.args.cost.now in
     let words = c.args.words in
     record {
-      written = breaks_off _ _ _ _ _ (cost_text (verdict_of c.args.outcome.now) cost words.schedule) (if_lines words.lines (lines_text cost.lines.items))
+      written = breaks_off _ _ _ _ _ (cost_text (verdict_of c.args.outcome.now) cost words.schedule) (if_asked words.lines (lines_text cost.lines.items))
           c.from_residual.result _ c.from_residual.ensures.1 (starts _ _ (room _ c.requires.out)) refl c.in_err-write_cost.ensures.written;
     }
 
@@ -21,12 +21,12 @@ pub returns-then-words : goal.returns-then-words
 returns-then-words g c =
     let cost = c.args.cost.now in
     let words = c.args.words in
-    let told = goes_on _ _ _ _ _ (cost_text (verdict_of c.args.outcome.now) cost words.schedule) (if_lines words.lines (lines_text cost.lines.items))
+    let told = goes_on _ _ _ _ _ (cost_text (verdict_of c.args.outcome.now) cost words.schedule) (if_asked words.lines (lines_text cost.lines.items))
     (starts _ _ (room _ c.requires.out)) refl c.in_ok-write_cost.ensures.written in
     let P : List LineCost → Type 0 = λ ls. Writes (g.O.Out.state c.write_cost.new.out) (g.O.Out.state c.write_lines.new.out) (lines_text ls)
     c.write_lines.result in
     let lines = subst P c.deref.ensures.value c.write_lines.ensures.written in
     record {
       written = closes _ _ _ _ _ c.write_lines.result told
-          (rw (ap (λ b. if_lines b (lines_text cost.lines.items)) c.if-words.true) lines);
+          (rw (ap (λ b. if_asked b (lines_text cost.lines.items)) c.if-words.true) lines);
     }
