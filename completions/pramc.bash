@@ -19,10 +19,10 @@ _pramc() {
             meaning) words="--bound $cells --show --quiet --size --format --explain --help" ;;
             rules) words="--bound $cells --size --format --explain --help" ;;
             cost) words="--bound $cells --schedule --lines --sweep --svg --size --format --explain --help" ;;
-            steps) words="--bound $cells --from --to --locals --svg --html --size --format --explain --help" ;;
+            steps) words="--bound $cells --from --to --locals --svg --flow --html --size --format --explain --help" ;;
             run) words="--bound $cells --workers --map --reserve --show --quiet --size --format --explain --help" ;;
-            exec) words="--bound $cells --workers --map --reserve --show --quiet --explain --help" ;;
-            trace) words="--bound $cells --workers --map --reserve --svg --size --format --explain --help" ;;
+            exec) words="--bound $cells --workers --map --reserve --show --quiet --format --explain --help" ;;
+            trace) words="--bound $cells --workers --map --reserve --outcome --svg --size --format --explain --help" ;;
             explain)
                 words="$(echo E{1..19}) P1 P2 overflow divide-by-zero out-of-range too-wide read-conflict write-conflict check plan meaning cost steps rules run trace expand exec explain language options --help"
                 ;;

@@ -286,6 +286,9 @@ def of_example(name, text, folder):
         calls += [(["meaning", *more], meaning), (["run", *more, "--workers", "3"], meaning), (["rules", *more], rules)]
         calls += [(["cost", *more, "--lines", "--schedule", "3"], costs), (["steps", *more], steps)]
         calls += [(["trace", *more, "--workers", "2"], exchanges)]
+    plan = folder / f"{name}.bsp"
+    plan.write_text(called(["plan", file])[1])
+    calls += [(["exec", plan, *values, "--workers", "2"], meaning), (["exec", plan, *values, "--bound", "5"], meaning)]
     found = [wrong(*it) for it in calls] + [wrong_locals(["steps", file, *values])]
     for at, changed in enumerate(changed_texts(text)):
         other = folder / f"{name}_{at}.pram"
@@ -311,8 +314,8 @@ def of_sizes(name, text):
 
 def of_words():
     """Calls that the command line is refused for, each with what stands in its object."""
-    rows = [(["plan", "x"], "message"), (["exec", "x"], "message"), (["explain", "E6"], "message"), (["check"], "message")]
-    rows += [(["check", "nowhere"], "file"), (["cost", "x", "--schedule", "0"], "word"), (["trace", "x", "--svg"], "word")]
+    rows = [(["plan", "x"], "message"), (["expand", "x"], "message"), (["explain", "E6"], "message"), (["check"], "message")]
+    rows += [(["check", "nowhere"], "file"), (["exec", "nowhere"], "file"), (["cost", "x", "--schedule", "0"], "word"), (["trace", "x", "--svg"], "word")]
     for words, name in rows:
         code, out, err = called([*words, "--format", "json"])
         said = read(err)
