@@ -21,7 +21,7 @@ SVG = "{http://www.w3.org/2000/svg}"
 SHOWN = ["tree_sum", "prefix_sums", "bitonic_sort", "pointer_jumping", "conflict_erew"]
 MOST = 64
 # where rows and columns stand, and how far before its column a line begins
-LEFT, WIDE, TOP, TALL, BACK, BASE = 168, 100, 310, 24, 70, 4
+LEFT, WIDE, TOP, TALL, BACK, BASE = 168, 100, 310, 24, 60, 4
 ENTRY = re.compile(r"(?:cell (\w+)|array (\w+) (\d+) (\d+))")
 LINE = re.compile(r"M(\d+) (\d+)L(\d+) (\d+)")
 
@@ -114,7 +114,8 @@ def wrong(name, _text):
     checks += [kinds <= {"svg", "rect", "text", "path", "circle"}, root.get("version") == "1.1"]
     if name in SHOWN:
         checks.append((EXAMPLES / "flows" / f"{name}.svg").read_text() == text)
-    return [] if all(checks) else [f"{name}: {checks}\n{names} {labels(root, len(names))}\n{columns}\n{shown(root, names)}"]
+    other = [pair for pair in zip(columns, shown(root, names)) if pair[0] != pair[1]][:1]
+    return [] if all(checks) else [f"{name}: {checks} {other}"]
 
 
 def main():
