@@ -46,7 +46,7 @@ abbrev pub IsNoFile : (Option (List ℕ) → Type 0) → List ℕ → Stop → T
 IsNoFile holds name (stop.Unreadable word) = (word.now ≡ name) × holds None
 IsNoFile holds name _ = ⊥
 
--- That is so, and why is told; or memory was refused.
+-- That is so, with a reason, of which nothing is known here; or memory was refused.
 abbrev pub IsUnread : (Option (List ℕ) → Type 0) → List ℕ → Stop → About → Type 0
 IsUnread holds name why (about.File u) = IsNoFile holds name why
 IsUnread holds name why about.Nothing = why ≡ stop.Refused refusal.OutOfMemory

@@ -52,7 +52,7 @@ pub struct FoundSweep {
     /// A row for each size, in order.
     pub rows: Vec<SizeRow>,
     pub growths: Growths,
-    /// Whether they are drawn.
+    /// Whether they are drawn or told in words.
     pub form: Form,
     /// Whether they are written as a table of values separated by commas, where they aren't drawn.
     pub csv: bool,

@@ -7,6 +7,7 @@ mod columns;
 mod entries;
 mod faults;
 mod flow_laws;
+mod head;
 mod letters;
 mod links;
 mod marks;

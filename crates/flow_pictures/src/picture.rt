@@ -1,6 +1,6 @@
 //! All of a picture.
 
-ghost use Rattle.std.specs.Prelude.{◌≡◌, ◌≤◌, ◌<◌, ◌-◌, ◌^◌, length, map};
+ghost use Rattle.std.specs.Prelude.{◌≤◌, ◌<◌, ◌-◌, ◌^◌, length, map};
 ghost use Rattle.text_out.specs.Out.{Writes};
 ghost use Rattle.step_entries.specs.Entries.{entry_is};
 ghost use Rattle.flow_pictures.specs.Picture as spec;
@@ -11,6 +11,7 @@ ghost use Rattle.flow_pictures.specs.Values as values;
 
 use crate::choice::{Choice, asked, choose, drawn_count, number_at};
 use crate::columns::write_columns;
+use crate::head::write_head;
 use crate::measure::{picture_height, picture_width, y_at};
 use crate::rows::{drawn_rows, rows_and_next};
 use crate::shapes::{write_line_front, write_value};
@@ -40,152 +41,6 @@ fn write_opening<W: Out>(out: &mut W, wide: u128, tall: u128) -> Result<(), Writ
         b"' height='",
         down,
         b"' fill='#ffffff'/>\n",
-    ])
-}
-
-// Between which numbers, where not all are asked for.
-fn write_range<W: Out>(
-    out: &mut W,
-    from: usize,
-    to: usize,
-    statements: usize,
-) -> Result<(), WriteFault>
-    requires counted { (W.Out.state out.old).failures < 2 ^ 63 }
-    ensures written { Writes (W.Out.state out.old) (W.Out.state out.new) (spec.range_text from to statements) result }
-{
-    if from <= 1 && statements <= to {
-        return Ok(());
-    }
-    let mut first = Buffer::new();
-    let mut last = Buffer::new();
-    out.write_parts(&[
-        b" from ",
-        first.format(from).as_bytes(),
-        b" to ",
-        last.format(to.min(statements)).as_bytes(),
-    ])
-}
-
-// How many have no room.
-fn write_statement_cut<W: Out>(
-    out: &mut W,
-    columns: usize,
-    touching: usize,
-) -> Result<(), WriteFault>
-    requires counted { (W.Out.state out.old).failures < 2 ^ 63 }
-    ensures written { Writes (W.Out.state out.old) (W.Out.state out.new) (spec.statement_cut columns touching) result }
-{
-    if touching > columns {
-        let mut digits = Buffer::new();
-        out.write_parts(&[
-            b", without ",
-            digits.format(touching - columns).as_bytes(),
-            b" for which there is no room</text>\n",
-        ])
-    } else {
-        out.write_all(b"</text>\n")
-    }
-}
-
-fn write_statements<W: Out>(
-    out: &mut W,
-    statements: usize,
-    columns: usize,
-) -> Result<(), WriteFault>
-    requires counted { (W.Out.state out.old).failures < 2 ^ 63 }
-    ensures written { Writes (W.Out.state out.old) (W.Out.state out.new) (spec.statements_text statements columns) result }
-{
-    let mut all = Buffer::new();
-    let mut some = Buffer::new();
-    out.write_parts(&[
-        b"<text x='12' y='20'>",
-        all.format(statements).as_bytes(),
-        b" statements, ",
-        some.format(columns).as_bytes(),
-        b" of them drawn: those that touch shared memory",
-    ])
-}
-
-fn write_statement_line<W: Out>(
-    out: &mut W,
-    from: usize,
-    to: usize,
-    statements: usize,
-    columns: usize,
-    touching: usize,
-) -> Result<(), WriteFault>
-    requires counted { (W.Out.state out.old).failures < 2 ^ 63 }
-    ensures written { Writes (W.Out.state out.old) (W.Out.state out.new)
-        (spec.statement_line from to statements columns touching) result }
-{
-    write_statements(out, statements, columns)?;
-    write_range(out, from, to, statements)?;
-    write_statement_cut(out, columns, touching)
-}
-
-// That more cells are touched than are drawn.
-fn cell_cut(found: usize) -> &'static [u8]
-    ensures { result.now ≡ spec.cell_cut found }
-{
-    if found > 64 {
-        b"the first 64 that these statements touch"
-    } else {
-        b"those that these statements touch"
-    }
-}
-
-fn write_cell_line<W: Out>(
-    out: &mut W,
-    cells: u32,
-    rows: usize,
-    found: usize,
-) -> Result<(), WriteFault>
-    requires counted { (W.Out.state out.old).failures < 2 ^ 63 }
-    ensures written { Writes (W.Out.state out.old) (W.Out.state out.new) (spec.cell_line cells rows found) result }
-{
-    let mut all = Buffer::new();
-    let mut some = Buffer::new();
-    let mut others = Buffer::new();
-    let left = (cells as usize).saturating_sub(rows);
-    let cut = cell_cut(found);
-    out.write_parts(&[
-        b"<text x='12' y='38'>",
-        all.format(cells).as_bytes(),
-        b" cells, ",
-        some.format(rows).as_bytes(),
-        b" of them drawn, ",
-        others.format(left).as_bytes(),
-        b" not: ",
-        cut,
-        b"</text>\n",
-    ])
-}
-
-// How many cells are drawn, and how many not.
-fn write_cells<W: Out>(
-    out: &mut W,
-    layout: &Layout,
-    rows: usize,
-    found: usize,
-) -> Result<(), WriteFault>
-    requires counted { (W.Out.state out.old).failures < 2 ^ 63 }
-    ensures written { Writes (W.Out.state out.old) (W.Out.state out.new) (spec.cells_text layout.now rows found) result }
-{
-    write_cell_line(out, layout.cells(), rows, found)
-}
-
-// What is what.
-fn write_key<W: Out>(out: &mut W) -> Result<(), WriteFault>
-    requires counted { (W.Out.state out.old).failures < 2 ^ 63 }
-    ensures written { Writes (W.Out.state out.old) (W.Out.state out.new) (spec.key_text) result }
-{
-    out.write_parts(&[
-        b"<rect x='12' y='48' width='22' height='18' fill='#ffffff' stroke='#000000'/>\n<text x='19' y='61'>7</text>\n",
-        b"<text x='40' y='61'>written, with the new value</text>\n<path d='M220 57H250' stroke='#000000' stroke-width='1.5'/>\n",
-        b"<text x='256' y='61'>from a cell that the writer read</text>\n",
-        b"<circle cx='456' cy='57' r='4' fill='#ffffff' stroke='#000000'/>\n<text x='466' y='61'>read alone</text>\n",
-        b"<rect x='548' y='48' width='22' height='18' fill='none' stroke='#000000' stroke-width='3'/>\n",
-        b"<text x='578' y='61'>fault</text>\n",
     ])
 }
 
@@ -265,27 +120,6 @@ fn write_row_heads<W: Out>(
         row += 1;
     }
     Ok(())
-}
-
-// What stands above the rows.
-fn write_head<W: Out>(
-    out: &mut W,
-    layout: &Layout,
-    statements: usize,
-    from: usize,
-    to: usize,
-    columns: usize,
-    touching: usize,
-    rows: usize,
-    found: usize,
-) -> Result<(), WriteFault>
-    requires counted { (W.Out.state out.old).failures < 2 ^ 63 }
-    ensures written { Writes (W.Out.state out.old) (W.Out.state out.new)
-        (spec.head layout.now statements from to columns touching rows found) result }
-{
-    write_statement_line(out, from, to, statements, columns, touching)?;
-    write_cells(out, layout, rows, found)?;
-    write_key(out)
 }
 
 // The rows, with the values before the first statement that is drawn.

@@ -1,7 +1,7 @@
 use Rattle.std.proofs.Common.{ℕ, List, ◌++◌, ◌∙◌, ap, subst}
 use Rattle.std.specs.Prelude.{codes, decimal}
 use Rattle.text_out.specs.Out.{Writes}
-use Rattle.flow_pictures.proofs.picture.write_cell_line.Goals as goal
+use Rattle.flow_pictures.proofs.head.write_cell_line.Goals as goal
 
 pub returns : goal.returns
 returns g c =

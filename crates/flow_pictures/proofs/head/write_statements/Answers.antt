@@ -1,7 +1,7 @@
 use Rattle.std.proofs.Common.{ℕ, List, ◌++◌, ◌∙◌, subst}
 use Rattle.std.specs.Prelude.{codes}
 use Rattle.text_out.specs.Out.{Writes}
-use Rattle.flow_pictures.proofs.picture.write_statements.Goals as goal
+use Rattle.flow_pictures.proofs.head.write_statements.Goals as goal
 
 pub returns : goal.returns
 returns g c =

@@ -1,7 +1,7 @@
 use Rattle.std.proofs.Common.{◌++◌, refl}
 use Rattle.text_out.proofs.Progress.{breaks_off, closes, goes_on, starts}
 use Rattle.flow_pictures.specs.Picture.{cells_text, key_text, statement_line}
-use Rattle.flow_pictures.proofs.picture.write_head.Goals as goal
+use Rattle.flow_pictures.proofs.head.write_head.Goals as goal
 
 pub returns-in_err-write_statement_line : goal.returns-in_err-write_statement_line
 returns-in_err-write_statement_line g c =

@@ -1,7 +1,7 @@
 use Rattle.std.proofs.Common.{◌++◌, refl}
 use Rattle.text_out.proofs.Progress.{breaks_off, closes, goes_on, starts}
 use Rattle.flow_pictures.specs.Picture.{range_text, statement_cut, statements_text}
-use Rattle.flow_pictures.proofs.picture.write_statement_line.Goals as goal
+use Rattle.flow_pictures.proofs.head.write_statement_line.Goals as goal
 
 pub returns-in_err-write_statements : goal.returns-in_err-write_statements
 returns-in_err-write_statements g c =
