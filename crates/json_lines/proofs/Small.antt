@@ -1,11 +1,11 @@
 -- Facts of small parts are small.
 use Rattle.std.proofs.Common.{◌≡◌, ◌≤◌, ◌∙◌, ℕ, suc, max, Bool, true, false, ◌||◌, ◌++◌, List, [], ◌∷◌}
 use Rattle.std.proofs.Common.{Ordering, Less, Equal, Greater, ap, arith, refl, sym, map}
-use Rattle.std.specs.Prelude.{ℤ}
+use Rattle.std.specs.Prelude.{ℤ, if◌then◌else◌, nat_lt, decimal}
 use Rattle.std.proofs.lemmas.Bool.{or_parts}
 use Rattle.std.specs.Ordering.{nat_cmp, match_ordering}
 use Rattle.std.specs.Cmp.Lexicographic.{slice_cmp}
-use Rattle.serde_json.specs.Data.{Data, Items, Members, no_members, member, depth, items_depth, members_depth, put}
+use Rattle.serde_json.specs.Data.{Data, number, string, unsigned, Items, Members, no_members, member, depth, items_depth, members_depth, put}
 use Rattle.serde_json.specs.View.{items_of}
 use Rattle.serde_json.specs.Written.{has_float, items_have_float, members_have_float}
 use Rattle.json_lines.specs.Facts.{Field, count, counts, flag, large, letters, list, object_of, value, values, with_fields, word}
@@ -26,7 +26,11 @@ pub small_value : (n : ℕ) (v : ℤ) → IsSmall n (value v)
 small_value n v = record { nests = omega arith; no_float = refl }
 
 pub small_large : (n k : ℕ) → IsSmall n (large k)
-small_large n k = record { nests = omega arith; no_float = refl }
+small_large n k = by (nat_lt k 9007199254740992)
+  where
+    by : (b : Bool) → IsSmall n (if b then number (unsigned k) else string (decimal k))
+    by true = record { nests = omega arith; no_float = refl }
+    by false = record { nests = omega arith; no_float = refl }
 
 pub small_count : (n k : ℕ) → IsSmall n (count k)
 small_count n k = record { nests = omega arith; no_float = refl }

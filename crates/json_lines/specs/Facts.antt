@@ -1,5 +1,5 @@
--- Facts as JSON data. Numbers that may come to 2^53 or more are strings, and so is every value of a program.
-use Rattle.std.specs.Prelude.{ℕ, ℤ, Bool, List, [], ◌∷◌, decimal, map}
+-- Facts as JSON data. Numbers of 2^53 and more are strings, and so is every value of a program.
+use Rattle.std.specs.Prelude.{ℕ, ℤ, Bool, if◌then◌else◌, nat_lt, List, [], ◌∷◌, decimal, map}
 use Rattle.std.specs.Fmt.{signed_decimal}
 use Rattle.std.specs.Str.Lossy.{utf8_lossy}
 use Rattle.serde_json.specs.Data.{Data, boolean, number, unsigned, string, array, object, Members, no_members, put}
@@ -19,9 +19,9 @@ letters bytes = string (utf8_lossy bytes)
 abbrev pub value : ℤ → Data
 value v = string (signed_decimal v)
 
--- a count that may come to 2^53 or more, in decimal
+-- a sum: a number below 2^53, which every reader of JSON takes exactly, and from there on in decimal
 abbrev pub large : ℕ → Data
-large n = string (decimal n)
+large n = if nat_lt n 9007199254740992 then number (unsigned n) else string (decimal n)
 
 -- any other count
 abbrev pub count : ℕ → Data

@@ -72,7 +72,7 @@ impl Object {
         self.put(name, list)
     }
 
-    /// A count that may come to 2^53 or more: a string, in decimal.
+    /// A sum: a number below 2^53, and from there on a string, in decimal.
     pub fn put_large(&mut self, name: &str, count: u128) -> Result<(), AllocError>
         ensures ok { OnOk result (shown self.new ≡ with_member name.now (facts.large count) (shown self.old)) }
         ensures err { OnErr result (shown self.new ≡ shown self.old) }

@@ -1,6 +1,7 @@
 //! Facts as values of JSON.
 
-ghost use Rattle.std.specs.Prelude.{◌≡◌, IfOk};
+ghost use Rattle.std.specs.Prelude.{◌≡◌, IfOk, decimal};
+ghost use Rattle.serde_json.specs.Data.{string};
 ghost use Rattle.serde_json.specs.View.{view};
 ghost use Rattle.json_lines.specs.Facts as facts;
 
@@ -24,12 +25,25 @@ pub fn value_of(alloc: Global, value: i64) -> Result<Value, AllocError>
     Value::try_from_str(alloc, digits.format(value))
 }
 
-/// A count that may come to 2^53 or more: a string, in decimal.
-pub(crate) fn large_of(alloc: Global, count: u128) -> Result<Value, AllocError>
-    ensures { IfOk result (λ v. view v ≡ facts.large count) }
+// Below this every reader of JSON takes a number exactly, also one that holds it as a float of 64 bits.
+const EXACT: u128 = 9_007_199_254_740_992;
+
+fn digits_of(alloc: Global, count: u128) -> Result<Value, AllocError>
+    ensures { IfOk result (λ v. view v ≡ string (decimal count)) }
 {
     let mut digits = Buffer::new();
     Value::try_from_str(alloc, digits.format(count))
+}
+
+/// A sum: a number below 2^53, and from there on a string, in decimal.
+pub(crate) fn large_of(alloc: Global, count: u128) -> Result<Value, AllocError>
+    ensures { IfOk result (λ v. view v ≡ facts.large count) }
+{
+    if count < EXACT {
+        Ok(Value::from(count as u64))
+    } else {
+        digits_of(alloc, count)
+    }
 }
 
 /// Values of a program, in order.

@@ -3,7 +3,7 @@
 ghost use Rattle.std.specs.Prelude.{◌≡◌, ◌<◌, ◌^◌};
 ghost use Rattle.text_out.specs.Out.{Writes};
 ghost use Rattle.program_texts.specs.Stopped as stopped;
-ghost use Rattle.program_texts.specs.StoppedFields.{bad_size_line, stop_text, unverified_line};
+ghost use Rattle.program_texts.specs.StoppedFields.{bad_size_line, name_end, named_line, stop_text, unverified_line};
 ghost use Rattle.program_texts.specs.declared.stop.Stop.TheVariants.{Refused, WriteFailed};
 ghost use Rattle.program_texts.specs.declared.from_text.Refusal.TheVariants.{OutOfMemory};
 
@@ -15,13 +15,14 @@ use sized_texts::{Reason, reason_word};
 use std::alloc::AllocError;
 use std::fmt;
 use text_out::{Out, WriteFault};
+use text_places::write_escaped;
 use thiserror::Error;
 
 // Want of memory has one spelling, whoever asked.
 const OUT_OF_MEMORY: &str = "E16 OutOfMemory";
 
 /// Why a call of the program comes to no end of its own. Its text is what `write_stop` writes, but
-/// for the word `refused` and the end of the line.
+/// for the word `refused` and the end of the line, and with control bytes of a word or a name as they are.
 #[derive(Debug, Drop, Error)]
 pub enum Stop<'a> {
     /// P1, in the words of the parser of command lines.
@@ -81,14 +82,31 @@ pub fn write_stop<W: Out>(out: &mut W, stop: &Stop<'_>) -> Result<(), WriteFault
 {
     match stop {
         Stop::Words(text) => out.write_all(text.as_bytes()),
-        Stop::Number(word) => out.write_parts(&[b"refused P1 ", word.as_bytes(), b"\n"]),
-        Stop::Unreadable(name) => out.write_parts(&[b"refused P2 ", name.as_bytes(), b"\n"]),
+        Stop::Number(word) => write_named(out, b"refused P1 ", word.as_bytes()),
+        Stop::Unreadable(name) => write_named(out, b"refused P2 ", name.as_bytes()),
         Stop::Refused(refusal) => write_refusal(out, *refusal),
         Stop::NotVerified(at, reason) => write_unverified(out, *at, reason),
         Stop::BadListing(at) => write_refused(out, "E15 BadListing", Some(*at)),
         Stop::WriteFailed => out.write_all(b"refused E17 WriteFailed\n"),
         Stop::BadSize(at, reason) => write_bad_size(out, *at, *reason),
     }
+}
+
+fn write_name<W: Out>(out: &mut W, name: &[u8]) -> Result<(), WriteFault>
+    requires counted { (W.Out.state out.old).failures < 2 ^ 63 }
+    ensures written { Writes (W.Out.state out.old) (W.Out.state out.new) (name_end name.now) result }
+{
+    write_escaped(out, name)?;
+    out.write_all(b"\n")
+}
+
+// `refused P2 sum.pram`, on one line whatever stands in the name.
+fn write_named<W: Out>(out: &mut W, front: &[u8], name: &[u8]) -> Result<(), WriteFault>
+    requires counted { (W.Out.state out.old).failures < 2 ^ 63 }
+    ensures written { Writes (W.Out.state out.old) (W.Out.state out.new) (named_line front.now name.now) result }
+{
+    out.write_all(front)?;
+    write_name(out, name)
 }
 
 // `refused E14 NotVerified at 0 exchange`.

@@ -9,7 +9,7 @@ use Rattle.sweep_pictures.specs.declared.labels.Kind.TheVariants.{Sizes, Numbers
 use Rattle.sweep_pictures.specs.Labels.{labels}
 use Rattle.sweep_pictures.specs.Marks.{line_text, marks}
 use Rattle.sweep_pictures.specs.Places.{drawn, high_place, low_place, most_of, top, y_of}
-use Rattle.sweep_pictures.specs.Titles.{letters}
+use Rattle.svg_texts.specs.Letters.{letters}
 
 -- ---- a panel
 

@@ -1,5 +1,6 @@
 -- What a mark says where it is pointed at: `n 8 time 17`.
-use Rattle.std.specs.Prelude.{ℕ, nat_eq, nat_lt, ◌||◌, if◌then◌else◌, List, [], ◌∷◌, ◌++◌, codes, decimal}
+use Rattle.std.specs.Prelude.{ℕ, List, [], ◌++◌, codes, decimal}
+use Rattle.svg_texts.specs.Letters.{letters}
 use Rattle.sweep_texts.specs.Tables.{number}
 use Rattle.sweep_texts.specs.declared.measure.Measure.{Measure}
 use Rattle.sweep_texts.specs.declared.measure.Measure.TheVariants.{Time, Work}
@@ -7,19 +8,6 @@ use Rattle.sweep_texts.specs.declared.size_row.Counts.{Counts}
 use Rattle.sweep_texts.specs.declared.size_row.Ending.{Ending}
 use Rattle.sweep_texts.specs.declared.size_row.Ending.TheVariants.{Ended, GoesOn, Faulted, Refused}
 use Rattle.sweep_texts.specs.declared.size_row.SizeRow.{SizeRow}
-
--- a byte in a text of SVG: one that is no printed letter of ASCII is a question mark
-abbrev pub letter : ℕ → List ℕ
-letter b =
-    if nat_eq b 38 then codes "&amp;"
-    else if nat_eq b 60 then codes "&lt;"
-    else if nat_eq b 62 then codes "&gt;"
-    else if nat_lt b 32 || nat_lt 126 b then codes "?"
-    else b ∷ []
-
-abbrev pub letters : List ℕ → List ℕ
-letters [] = []
-letters (b ∷ bytes) = letter b ++ letters bytes
 
 abbrev pub word : Measure → List ℕ
 word Time = codes " time "

@@ -9,8 +9,8 @@ use crate::labels::{Kind, write_labels};
 use crate::line::write_line;
 use crate::marks::write_marks;
 use crate::measure::{top, y_of};
-use crate::titles::write_letters;
 use itoa::Buffer;
+use svg_texts::write_letters;
 use sweep_texts::{Measure, SizeRow};
 use text_out::{Out, WriteFault};
 
@@ -113,7 +113,7 @@ fn write_name<W: Out>(name: &[u8], frame: Frame, out: &mut W) -> Result<(), Writ
     ensures written { Writes (W.Out.state out.old) (W.Out.state out.new) (spec.name_text name.now frame) result }
 {
     write_name_front(frame, out)?;
-    write_letters(name, out)?;
+    write_letters(out, name)?;
     out.write_all(b"</text>\n")
 }
 

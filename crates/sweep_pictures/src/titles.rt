@@ -5,37 +5,9 @@ ghost use Rattle.text_out.specs.Out.{Writes};
 ghost use Rattle.sweep_pictures.specs.Titles as spec;
 
 use itoa::Buffer;
+use svg_texts::write_letters;
 use sweep_texts::{Counts, Ending, Measure, SizeRow};
 use text_out::{Out, WriteFault};
-
-// A byte in a text of SVG.
-fn write_letter<W: Out>(byte: u8, out: &mut W) -> Result<(), WriteFault>
-    requires counted { (W.Out.state out.old).failures < 2 ^ 63 }
-    ensures written { Writes (W.Out.state out.old) (W.Out.state out.new) (spec.letter byte) result }
-{
-    if byte == b'&' {
-        out.write_all(b"&amp;")
-    } else if byte == b'<' {
-        out.write_all(b"&lt;")
-    } else if byte == b'>' {
-        out.write_all(b"&gt;")
-    } else if byte < 32 || byte > 126 {
-        out.write_all(b"?")
-    } else {
-        out.write_all(&[byte])
-    }
-}
-
-/// Writes bytes as a text of SVG.
-pub(crate) fn write_letters<W: Out>(bytes: &[u8], out: &mut W) -> Result<(), WriteFault>
-    requires counted { (W.Out.state out.old).failures < 2 ^ 63 }
-    ensures written { Writes (W.Out.state out.old) (W.Out.state out.new) (spec.letters bytes.now) result }
-{
-    for byte in bytes {
-        write_letter(*byte, out)?;
-    }
-    Ok(())
-}
 
 fn word(measure: Measure) -> &'static [u8]
     ensures { result.now ≡ spec.word measure }
@@ -77,7 +49,7 @@ fn write_fault<W: Out>(
     ensures written { Writes (W.Out.state out.old) (W.Out.state out.new) (spec.fault_text measure counts.now fault.now) result }
 {
     write_number(measure, counts, b" ", out)?;
-    write_letters(fault, out)
+    write_letters(out, fault)
 }
 
 fn write_refusal<W: Out>(refusal: &[u8], out: &mut W) -> Result<(), WriteFault>
@@ -85,7 +57,7 @@ fn write_refusal<W: Out>(refusal: &[u8], out: &mut W) -> Result<(), WriteFault>
     ensures written { Writes (W.Out.state out.old) (W.Out.state out.new) (spec.refusal_text refusal.now) result }
 {
     out.write_all(b" ")?;
-    write_letters(refusal, out)
+    write_letters(out, refusal)
 }
 
 fn write_ending<W: Out>(measure: Measure, ending: &Ending, out: &mut W) -> Result<(), WriteFault>
@@ -125,7 +97,7 @@ fn write_title<W: Out>(
     requires counted { (W.Out.state out.old).failures < 2 ^ 63 }
     ensures written { Writes (W.Out.state out.old) (W.Out.state out.new) (spec.title_text name.now measure row.now) result }
 {
-    write_letters(name, out)?;
+    write_letters(out, name)?;
     write_row(measure, row, out)
 }
 

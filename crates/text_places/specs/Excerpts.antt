@@ -2,6 +2,7 @@
 use Rattle.std.specs.Prelude.{ℕ, ◌-◌, ◌==◌, ◌&&◌, ◌||◌, if◌then◌else◌, nat_le, nat_lt, List, [], ◌∷◌, ◌++◌, map, take, length}
 use Rattle.std.specs.Prelude.{slice_index, codes, decimal}
 use Rattle.text_places.specs.declared.place.Place.{Place}
+use Rattle.text_places.specs.Escaped.{escaped}
 use Rattle.text_places.specs.Places.{line_text, place_of}
 
 -- A byte as it is shown: a printable ASCII character and a tab as they are, and `?` for any other, so that nothing in a text can steer a
@@ -29,9 +30,13 @@ shown_line text line = shown (without_return (line_text text line)) ++ 10 ∷ []
 abbrev pub caret_line : List ℕ → ℕ → List ℕ
 caret_line bytes column = map blank_byte (take (column - 1) bytes) ++ codes "^\n"
 
+-- `:4:7`
+abbrev pub place_numbers : Place → List ℕ
+place_numbers p = codes ":" ++ (decimal p.line ++ (codes ":" ++ (decimal p.column ++ codes "\n")))
+
 -- `sum.pram:4:7`
 abbrev pub place_line : List ℕ → Place → List ℕ
-place_line name p = name ++ (codes ":" ++ (decimal p.line ++ (codes ":" ++ (decimal p.column ++ codes "\n"))))
+place_line name p = escaped name ++ place_numbers p
 
 -- the line of a place, and below it the caret
 abbrev pub marked_line : List ℕ → Place → List ℕ
@@ -41,9 +46,13 @@ marked_line text p = shown_line text p.line ++ caret_line (line_text text p.line
 abbrev pub excerpt : (name text : List ℕ) → ℕ → List ℕ
 excerpt name text at = place_line name (place_of text at) ++ marked_line text (place_of text at)
 
+-- `:4`
+abbrev pub line_number : ℕ → List ℕ
+line_number line = codes ":" ++ (decimal line ++ codes "\n")
+
 -- `sum.pram:4`
 abbrev pub line_place : List ℕ → ℕ → List ℕ
-line_place name line = name ++ (codes ":" ++ (decimal line ++ codes "\n"))
+line_place name line = escaped name ++ line_number line
 
 -- which line of the text of that name is meant, and the line
 abbrev pub line_excerpt : (name text : List ℕ) → ℕ → List ℕ

@@ -4,6 +4,7 @@ ghost use Rattle.std.specs.Prelude.{◌≡◌, ◌<◌, ◌^◌, ◌++◌, map};
 ghost use Rattle.text_out.specs.Out.{Writes};
 ghost use Rattle.text_places.specs.Excerpts as spec;
 
+use crate::escaped::write_escaped;
 use crate::lines::line_text;
 use crate::place::{Place, front, place_of};
 use itoa::Buffer;
@@ -82,21 +83,29 @@ fn write_caret<W: Out>(out: &mut W, line: &[u8], column: usize) -> Result<(), Wr
     out.write_all(b"^\n")
 }
 
-// Where a place is: `sum.pram:4:7`.
-fn write_place<W: Out>(out: &mut W, name: &[u8], place: Place) -> Result<(), WriteFault>
+// `:4:7`, to the end of the line.
+fn write_numbers<W: Out>(out: &mut W, place: Place) -> Result<(), WriteFault>
     requires counted { (W.Out.state out.old).failures < 2 ^ 63 }
-    ensures written { Writes (W.Out.state out.old) (W.Out.state out.new) (spec.place_line name.now place) result }
+    ensures written { Writes (W.Out.state out.old) (W.Out.state out.new) (spec.place_numbers place) result }
 {
     let mut line = Buffer::new();
     let mut column = Buffer::new();
     out.write_parts(&[
-        name,
         b":",
         line.format(place.line).as_bytes(),
         b":",
         column.format(place.column).as_bytes(),
         b"\n",
     ])
+}
+
+// Where a place is: `sum.pram:4:7`.
+fn write_place<W: Out>(out: &mut W, name: &[u8], place: Place) -> Result<(), WriteFault>
+    requires counted { (W.Out.state out.old).failures < 2 ^ 63 }
+    ensures written { Writes (W.Out.state out.old) (W.Out.state out.new) (spec.place_line name.now place) result }
+{
+    write_escaped(out, name)?;
+    write_numbers(out, place)
 }
 
 // The line of a place, and below it a caret at its column.
@@ -125,13 +134,22 @@ pub fn write_excerpt<W: Out>(
     write_marked(out, text, place)
 }
 
+// `:4`, to the end of the line.
+fn write_number<W: Out>(out: &mut W, line: usize) -> Result<(), WriteFault>
+    requires counted { (W.Out.state out.old).failures < 2 ^ 63 }
+    ensures written { Writes (W.Out.state out.old) (W.Out.state out.new) (spec.line_number line) result }
+{
+    let mut digits = Buffer::new();
+    out.write_parts(&[b":", digits.format(line).as_bytes(), b"\n"])
+}
+
 // Where a line is: `sum.pram:4`.
 fn write_line_place<W: Out>(out: &mut W, name: &[u8], line: usize) -> Result<(), WriteFault>
     requires counted { (W.Out.state out.old).failures < 2 ^ 63 }
     ensures written { Writes (W.Out.state out.old) (W.Out.state out.new) (spec.line_place name.now line) result }
 {
-    let mut digits = Buffer::new();
-    out.write_parts(&[name, b":", digits.format(line).as_bytes(), b"\n"])
+    write_escaped(out, name)?;
+    write_number(out, line)
 }
 
 /// Writes which line of the text of that name is meant, as `sum.pram:4`, and the line. The error is that the writer failed (E17).

@@ -1,6 +1,6 @@
 use Rattle.std.proofs.Common.{refl}
 use Rattle.std.specs.Prelude.{codes}
-use Rattle.sweep_pictures.specs.Titles.{letters}
+use Rattle.svg_texts.specs.Letters.{letters}
 use Rattle.text_out.proofs.Progress.{breaks_off, closes, goes_on, starts}
 use Rattle.sweep_pictures.proofs.titles.write_refusal.Goals as goal
 

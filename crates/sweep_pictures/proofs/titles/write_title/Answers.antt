@@ -1,5 +1,6 @@
 use Rattle.std.proofs.Common.{refl}
-use Rattle.sweep_pictures.specs.Titles.{letters, row_text}
+use Rattle.svg_texts.specs.Letters.{letters}
+use Rattle.sweep_pictures.specs.Titles.{row_text}
 use Rattle.text_out.proofs.Progress.{breaks_off, closes, goes_on, starts}
 use Rattle.sweep_pictures.proofs.titles.write_title.Goals as goal
 

@@ -1,7 +1,7 @@
 use Rattle.std.proofs.Common.{drop}
 use Rattle.text_out.proofs.Progress.{Progress}
-use Rattle.sweep_pictures.specs.Titles.{letters}
-use Rattle.sweep_pictures.proofs.titles.write_letters.Given as goal
+use Rattle.svg_texts.specs.Letters.{letters}
+use Rattle.svg_texts.proofs.letters.write_letters.Given as goal
 
 abbrev pub invariant-loop-byte : goal.invariant-loop-byte
 invariant-loop-byte g l =

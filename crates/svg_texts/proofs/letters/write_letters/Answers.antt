@@ -1,8 +1,8 @@
 use Rattle.std.proofs.lemmas.List.{at_drop_more}
 use Rattle.text_out.proofs.Writing.{writes_stopped}
 use Rattle.text_out.proofs.Progress.{goes_on, stops}
-use Rattle.sweep_pictures.specs.Titles.{letters}
-use Rattle.sweep_pictures.proofs.titles.write_letters.Goals as goal
+use Rattle.svg_texts.specs.Letters.{letters}
+use Rattle.svg_texts.proofs.letters.write_letters.Goals as goal
 
 pub returns-in_err-write_letter : goal.returns-in_err-write_letter
 returns-in_err-write_letter g c =

@@ -1,0 +1,7 @@
+use Rattle.std.proofs.Common.{drop}
+use Rattle.text_out.proofs.Progress.{Progress}
+use Rattle.text_places.specs.Escaped.{escaped}
+use Rattle.text_places.proofs.escaped.write_escaped.Given as goal
+
+abbrev pub invariant-loop-byte : goal.invariant-loop-byte
+invariant-loop-byte g l = Progress (g.W.Out.state l.fn.out) (g.W.Out.state l.out) (escaped l.fn.name) (escaped (drop l.byte-index l.fn.name))
