@@ -1,4 +1,4 @@
-pub mod BreachSentences
 pub mod CauseLemmas
 pub mod LastReason
-pub mod FaultSentences
+pub mod Remarked
+pub mod Guessed

@@ -1,5 +1,5 @@
 -- What is said of the first thing that is wrong with a program: E6 to E10.
-use Rattle.std.specs.Prelude.{ℕ, if◌then◌else◌, List, [], ◌∷◌, ◌++◌, codes, decimal, length}
+use Rattle.std.specs.Prelude.{ℕ, if◌then◌else◌, List, [], ◌∷◌, ◌++◌, Option, Some, None, codes, decimal, length}
 use Rattle.pram_model.specs.Names.{is_one_of}
 use Rattle.pram_names.specs.declared.fault.Cause.{Cause}
 use Rattle.pram_names.specs.declared.fault.Cause.TheVariants as cause
@@ -10,7 +10,8 @@ use Rattle.pram_names.specs.declared.fault.Spot.TheVariants as spot
 use Rattle.pram_names.specs.declared.fault.Breach.{Breach}
 use Rattle.scope_names.specs.declared.known.Sort.{Sort}
 use Rattle.scope_names.specs.declared.known.Sort.TheVariants as sort
-use Rattle.text_places.specs.Excerpts.{excerpt}
+use Rattle.refusal_messages.specs.declared.message.Point.TheVariants.{Byte}
+use Rattle.refusal_messages.specs.Messages.{Message, said, with_meant}
 use Rattle.diagnoses.specs.declared.source.Kind.{Kind}
 use Rattle.diagnoses.specs.declared.source.Kind.TheVariants as kind
 use Rattle.diagnoses.specs.declared.source.Source.{Source}
@@ -27,39 +28,39 @@ sort_text sort.Local = codes "a local of a pardo"
 
 -- what is not allowed with a name of that sort, where another kind is wanted
 abbrev pub kind_reason : Sort → List ℕ
-kind_reason sort.Cell = codes "it has no subscript, and no for runs over it\n"
-kind_reason sort.Array = codes "it wants a subscript, and no for runs over it\n"
-kind_reason sort.Variable = codes "it has no subscript, and inside pardo a local or a shared cell is set, and no variable\n"
-kind_reason sort.Index = codes "it has no subscript\n"
-kind_reason sort.Local = codes "it has no subscript\n"
+kind_reason sort.Cell = codes "it has no subscript, and no for runs over it"
+kind_reason sort.Array = codes "it wants a subscript, and no for runs over it"
+kind_reason sort.Variable = codes "it has no subscript, and inside pardo a local or a shared cell is set, and no variable"
+kind_reason sort.Index = codes "it has no subscript"
+kind_reason sort.Local = codes "it has no subscript"
 
 -- why a variable of a loop can't be set
 abbrev pub loop_reason : Sort → List ℕ
-loop_reason sort.Variable = codes "it is the variable of a for around this, and is not set in its body\n"
-loop_reason sort.Cell = codes "it is not set here\n"
-loop_reason sort.Array = codes "it is not set here\n"
-loop_reason sort.Index = codes "an index is never set\n"
-loop_reason sort.Local = codes "it is not set here\n"
+loop_reason sort.Variable = codes "it is the variable of a for around this, and is not set in its body"
+loop_reason sort.Cell = codes "it is not set here"
+loop_reason sort.Array = codes "it is not set here"
+loop_reason sort.Index = codes "an index is never set"
+loop_reason sort.Local = codes "it is not set here"
 
 abbrev pub reason : Cause → Sort → List ℕ
-reason cause.UnknownName s = codes "it is not in scope here\n"
-reason cause.DoubleName s = codes "it can't be declared again here, and a pardo declares its index\n"
+reason cause.UnknownName s = codes "it is not in scope here"
+reason cause.DoubleName s = codes "it can't be declared again here, and a pardo declares its index"
 reason cause.WrongKind s = kind_reason s
 reason cause.AssignedLoopVariable s = loop_reason s
-reason (cause.Limit l) s = codes "it passes a limit\n"
+reason (cause.Limit l) s = codes "it passes a limit"
 
 -- what is said behind a word of which no more is known
 abbrev pub wrong_kind : List ℕ → List ℕ
 wrong_kind word =
-    if is_one_of (codes "print" ∷ codes "for" ∷ []) word then codes " has no place inside pardo: print behind it, loop in it by while and a local, and run over pairs by one range\n"
-    else codes " is of another kind than what may stand here\n"
+    if is_one_of (codes "print" ∷ codes "for" ∷ []) word then codes " has no place inside pardo: print behind it, loop in it by while and a local, and run over pairs by one range"
+    else codes " is of another kind than what may stand here"
 
 abbrev pub bare : List ℕ → Cause → List ℕ
-bare word cause.UnknownName = codes " is not declared here\n"
-bare word cause.DoubleName = codes " is declared already\n"
+bare word cause.UnknownName = codes " is not declared here"
+bare word cause.DoubleName = codes " is declared already"
 bare word cause.WrongKind = wrong_kind word
-bare word cause.AssignedLoopVariable = codes " is the variable of a loop, and is not set in its body\n"
-bare word (cause.Limit l) = codes " passes a limit\n"
+bare word cause.AssignedLoopVariable = codes " is the variable of a loop, and is not set in its body"
+bare word (cause.Limit l) = codes " passes a limit"
 
 -- as what and where it is declared, and what is wrong with that
 abbrev pub declared_text : Cause → Sort → ℕ → List ℕ
@@ -69,22 +70,22 @@ declared_text c s line =
 -- as what and where it is declared in a pardo, and that it holds there alone
 abbrev pub elsewhere_text : Sort → ℕ → List ℕ
 elsewhere_text s line =
-    codes " is " ++ (sort_text s ++ (codes ", declared at line " ++ (decimal line ++ codes ": it holds in the body of that pardo alone\n")))
+    codes " is " ++ (sort_text s ++ (codes ", declared at line " ++ (decimal line ++ codes ": it holds in the body of that pardo alone")))
 
 -- what is said behind the word
 abbrev pub remarked : List ℕ → Cause → Remark → List ℕ
 remarked word c Nothing = bare word c
-remarked word c (Nearest name) = codes " is not declared here; did you mean \"" ++ (name ++ codes "\"?\n")
+remarked word c (Nearest name) = codes " is not declared here; did you mean \"" ++ (name ++ codes "\"?")
 remarked word c (Declared s line) = declared_text c s line
 remarked word c (Elsewhere s line) = elsewhere_text s line
 remarked word c (Expected found hint) = bare word c
 
 abbrev pub limit_sentence : Limit → List ℕ
-limit_sentence limit.Cells = codes "with this the program has more than 1048576 shared cells, the most that there may be\n"
-limit_sentence limit.Procs = codes "procs is a number from 1 to 16384\n"
-limit_sentence limit.Bounds = codes "the first bound of an array is at most its last\n"
-limit_sentence limit.Reads = codes "this is the ninth shared read of the statement, which has at most 8: split it in two\n"
-limit_sentence limit.Tokens = codes "a program has at most 16384 tokens\n"
+limit_sentence limit.Cells = codes "with this the program has more than 1048576 shared cells, the most that there may be"
+limit_sentence limit.Procs = codes "procs is a number from 1 to 16384"
+limit_sentence limit.Bounds = codes "the first bound of an array is at most its last"
+limit_sentence limit.Reads = codes "this is the ninth shared read of the statement, which has at most 8: split it in two"
+limit_sentence limit.Tokens = codes "a program has at most 16384 tokens"
 
 abbrev pub named_sentence : List ℕ → Cause → Remark → List ℕ
 named_sentence word c r = quoted word ++ remarked word c r
@@ -95,7 +96,7 @@ breach_sentence word c r = named_sentence word c r
 
 -- of a name in a memory
 abbrev pub unnamed : List ℕ → List ℕ
-unnamed word = quoted word ++ codes " names no shared cells of the program\n"
+unnamed word = quoted word ++ codes " names no shared cells of the program"
 
 -- of a word in a text of that kind
 abbrev pub said_of : Kind → List ℕ → Cause → Remark → List ℕ
@@ -113,9 +114,23 @@ offset_of text spot.TextEnd = length text
 abbrev pub word_at : List ℕ → Spot → List ℕ
 word_at text s = token_at text (offset_of text s)
 
--- what is said of the first thing that is wrong with the program of a text: its place in the file, and of the word there by what there is
--- to say of its name
-abbrev pub breach_diagnosis : Source → Breach → Remark → List ℕ
-breach_diagnosis s b r =
-    excerpt s.name.now s.bytes.items (offset_of s.bytes.items (spot_as_it_stands s b.spot))
-    ++ said_of s.kind (word_at (text_in s) b.spot) b.cause r
+-- the name that was meant, if that is known
+abbrev pub meant_name : Remark → Option (List ℕ)
+meant_name (Nearest name) = Some name
+meant_name _ = None
+
+-- of a name in a text of that kind
+abbrev pub meant_in : Kind → Remark → Option (List ℕ)
+meant_in kind.Program r = meant_name r
+meant_in kind.Input r = meant_name r
+meant_in kind.Memory r = None
+meant_in kind.Listing r = meant_name r
+
+-- a sentence about that place, which may be the end of the text
+abbrev pub at_spot : Source → Spot → List ℕ → Message
+at_spot s at sentence = said (Some (Byte (offset_of s.bytes.items (spot_as_it_stands s at)))) sentence
+
+-- what is said of the first thing that is wrong with the program of a text: of the word there by what there is to say of its name
+abbrev pub breach_message : Source → Breach → Remark → Message
+breach_message s b r =
+    with_meant (at_spot s b.spot (said_of s.kind (word_at (text_in s) b.spot) b.cause r)) (meant_in s.kind r)

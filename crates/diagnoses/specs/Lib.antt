@@ -1,3 +1,4 @@
+pub mod Files
 pub mod Sources
 pub mod RefusedLines
 pub mod Places
@@ -9,3 +10,5 @@ pub mod SizeFaults
 pub mod Stops
 pub mod Reasons
 pub mod FaultTexts
+pub mod Guesses
+pub mod Numbers

@@ -1,12 +1,14 @@
 -- What there is to say of a name that is wrong: which name was meant, or as what and where it is declared; and of a token, what could stand
 -- in its place.
-use Rattle.std.specs.Prelude.{◌≡◌, ◌⊎◌, ℕ, List, Option, Some, None, take}
+use Rattle.std.specs.Prelude.{◌≡◌, ℕ, ◌<◌, List, Option, Some, None, Err, length, take}
 use Rattle.pram_names.specs.declared.fault.Cause.{Cause}
 use Rattle.pram_names.specs.declared.fault.Cause.TheVariants as cause
 use Rattle.pram_names.specs.declared.fault.Spot.{Spot}
 use Rattle.pram_names.specs.declared.fault.Spot.TheVariants as spot
 use Rattle.pram_names.specs.declared.fault.Breach.{Breach}
+use Rattle.pram_tokens.specs.Scanning.{cut_of, longest}
 use Rattle.pram_trees.specs.Program.{ProgramTree}
+use Rattle.pram_trees.specs.Text.{IsTextOf}
 use Rattle.scope_names.specs.Bound.{bound_in}
 use Rattle.scope_names.specs.InScope.{Known, names_at}
 use Rattle.scope_names.specs.Nearness.{named, nearest}
@@ -64,13 +66,15 @@ remark_at text tree (spot.Offset at) c = remark_on (bound_in tree (token_at text
 abbrev pub remark_of : (text : List ℕ) → ProgramTree → Breach → Remark
 remark_of text tree b = remark_at text tree b.spot b.cause
 
--- what is said, or nothing where memory was refused
-abbrev pub IsRemark : (text : List ℕ) → ProgramTree → Breach → Remark → Type 0
-IsRemark text tree b r = (r ≡ remark_of text tree b) ⊎ (r ≡ Nothing)
+-- what there is to say of it, by the one tree of the text; of a text that has none nothing
+pub data IsRemark (text : List ℕ) (b : Breach) : Remark → Type 0 where
+  OfTree : (tree : ProgramTree) → IsTextOf text tree → IsRemark text b (remark_of text tree b)
+  OfNone : ((tree : ProgramTree) → ¬ (IsTextOf text tree)) → IsRemark text b Nothing
 
--- the kinds of tokens that could stand at a place, behind what stands before it, and what else there is to say of it; or nothing where memory
--- was refused
-abbrev pub IsExpectation : (text : List ℕ) → ℕ → Remark → Type 0
-IsExpectation text at r =
-    ((found : List Choice) × (hint : Hint) × (r ≡ Expected found hint) × AreChoicesBehind (take at text) found × IsHint text at found hint)
-    ⊎ (r ≡ Nothing)
+-- The kinds of tokens that could stand at a place, behind what stands before it, and what else there is to say of it. Nothing is said of a
+-- text that is too long, nor where something before the place is no token.
+pub data IsExpectation (text : List ℕ) (at : ℕ) : Remark → Type 0 where
+  Expects : (found : List Choice) (hint : Hint) → AreChoicesBehind (take at text) found → IsHint text at found hint
+      → IsExpectation text at (Expected found hint)
+  TooLong : longest < length text → IsExpectation text at Nothing
+  NoToken : (bad : ℕ) → cut_of (take at text) ≡ Err bad → IsExpectation text at Nothing

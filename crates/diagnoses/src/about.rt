@@ -3,10 +3,10 @@
 use crate::source::Source;
 
 /// Why a file can't be read.
-#[derive(Clone, Copy, Debug, Drop, PartialEq, Eq)]
+#[derive(Debug, Drop)]
 pub enum Unread {
-    /// There is none of its name.
-    Missing,
+    /// There is none of its name; and the name of one beside it that is spelled nearly so, if there is one.
+    Missing(Option<Vec<u8>>),
     /// It is a directory.
     Directory,
     /// For another reason.

@@ -1,20 +1,24 @@
 //! What is said of the first thing that is wrong with a program.
 
-ghost use Rattle.std.specs.Prelude.{◌≡◌, ◌++◌, ◌<◌, ◌^◌};
+ghost use Rattle.std.specs.Prelude.{◌≡◌, ◌<◌, ◌^◌, IfOk};
+ghost use Rattle.std.specs.Option.{option_map};
 ghost use Rattle.text_out.specs.Out.{Writes};
+ghost use Rattle.refusal_messages.specs.Messages.{message_is};
 ghost use Rattle.diagnoses.specs.Remarks.{remark_is};
 ghost use Rattle.diagnoses.specs.Breaches as spec;
-ghost use Rattle.diagnoses.specs.Sources.{spot_as_it_stands};
+ghost use Rattle.diagnoses.specs.Sources.{spot_as_it_stands, text_in};
 
+use crate::parts::at_byte;
 use crate::places::{token_at, write_quoted};
 use crate::remark::Remark;
 use crate::source::{Kind, Source};
 use crate::standing::spot_as_it_stands;
-use itoa::Buffer;
+use itoa::Buffer as Digits;
 use pram_check::{Breach, Cause, Limit, Spot};
+use refusal_messages::Message;
 use scope_names::Sort;
-use text_out::{Out, WriteFault};
-use text_places::write_excerpt;
+use std::alloc::{AllocError, Global};
+use text_out::{Buffer, Out, WriteFault};
 
 fn sort_text(sort: Sort) -> &'static [u8]
     ensures { result.now ≡ spec.sort_text sort }
@@ -32,12 +36,12 @@ fn kind_reason(sort: Sort) -> &'static [u8]
     ensures { result.now ≡ spec.kind_reason sort }
 {
     match sort {
-        Sort::Cell => b"it has no subscript, and no for runs over it\n",
-        Sort::Array => b"it wants a subscript, and no for runs over it\n",
+        Sort::Cell => b"it has no subscript, and no for runs over it",
+        Sort::Array => b"it wants a subscript, and no for runs over it",
         Sort::Variable =>
-            b"it has no subscript, and inside pardo a local or a shared cell is set, and no variable\n",
-        Sort::Index => b"it has no subscript\n",
-        Sort::Local => b"it has no subscript\n",
+            b"it has no subscript, and inside pardo a local or a shared cell is set, and no variable",
+        Sort::Index => b"it has no subscript",
+        Sort::Local => b"it has no subscript",
     }
 }
 
@@ -45,11 +49,9 @@ fn loop_reason(sort: Sort) -> &'static [u8]
     ensures { result.now ≡ spec.loop_reason sort }
 {
     match sort {
-        Sort::Variable => {
-            b"it is the variable of a for around this, and is not set in its body\n"
-        }
-        Sort::Index => b"an index is never set\n",
-        Sort::Cell | Sort::Array | Sort::Local => b"it is not set here\n",
+        Sort::Variable => { b"it is the variable of a for around this, and is not set in its body" }
+        Sort::Index => b"an index is never set",
+        Sort::Cell | Sort::Array | Sort::Local => b"it is not set here",
     }
 }
 
@@ -57,11 +59,11 @@ fn reason(cause: Cause, sort: Sort) -> &'static [u8]
     ensures { result.now ≡ spec.reason cause sort }
 {
     match cause {
-        Cause::UnknownName => b"it is not in scope here\n",
-        Cause::DoubleName => b"it can't be declared again here, and a pardo declares its index\n",
+        Cause::UnknownName => b"it is not in scope here",
+        Cause::DoubleName => b"it can't be declared again here, and a pardo declares its index",
         Cause::WrongKind => kind_reason(sort),
         Cause::AssignedLoopVariable => loop_reason(sort),
-        Cause::Limit(_) => b"it passes a limit\n",
+        Cause::Limit(_) => b"it passes a limit",
     }
 }
 
@@ -70,9 +72,9 @@ fn wrong_kind(word: &[u8]) -> &'static [u8]
 {
     match word {
         b"print" | b"for" => {
-            b" has no place inside pardo: print behind it, loop in it by while and a local, and run over pairs by one range\n"
+            b" has no place inside pardo: print behind it, loop in it by while and a local, and run over pairs by one range"
         }
-        _ => b" is of another kind than what may stand here\n",
+        _ => b" is of another kind than what may stand here",
     }
 }
 
@@ -80,11 +82,11 @@ fn bare(word: &[u8], cause: Cause) -> &'static [u8]
     ensures { result.now ≡ spec.bare word.now cause }
 {
     match cause {
-        Cause::UnknownName => b" is not declared here\n",
-        Cause::DoubleName => b" is declared already\n",
+        Cause::UnknownName => b" is not declared here",
+        Cause::DoubleName => b" is declared already",
         Cause::WrongKind => wrong_kind(word),
-        Cause::AssignedLoopVariable => b" is the variable of a loop, and is not set in its body\n",
-        Cause::Limit(_) => b" passes a limit\n",
+        Cause::AssignedLoopVariable => b" is the variable of a loop, and is not set in its body",
+        Cause::Limit(_) => b" passes a limit",
     }
 }
 
@@ -97,7 +99,7 @@ fn write_declared<W: Out>(
     requires counted { (W.Out.state out.old).failures < 2 ^ 63 }
     ensures written { Writes (W.Out.state out.old) (W.Out.state out.new) (spec.declared_text cause sort line) result }
 {
-    let mut digits = Buffer::new();
+    let mut digits = Digits::new();
     out.write_parts(&[
         b" is ",
         sort_text(sort),
@@ -112,13 +114,13 @@ fn write_elsewhere<W: Out>(out: &mut W, sort: Sort, line: u32) -> Result<(), Wri
     requires counted { (W.Out.state out.old).failures < 2 ^ 63 }
     ensures written { Writes (W.Out.state out.old) (W.Out.state out.new) (spec.elsewhere_text sort line) result }
 {
-    let mut digits = Buffer::new();
+    let mut digits = Digits::new();
     out.write_parts(&[
         b" is ",
         sort_text(sort),
         b", declared at line ",
         digits.format(line).as_bytes(),
-        b": it holds in the body of that pardo alone\n",
+        b": it holds in the body of that pardo alone",
     ])
 }
 
@@ -137,7 +139,7 @@ fn write_remarked<W: Out>(
         Remark::Nearest(name) => out.write_parts(&[
             b" is not declared here; did you mean \"",
             name.as_slice(),
-            b"\"?\n",
+            b"\"?",
         ]),
         Remark::Declared(sort, line) => write_declared(out, cause, *sort, *line),
         Remark::Elsewhere(sort, line) => write_elsewhere(out, *sort, *line),
@@ -150,13 +152,13 @@ fn limit_sentence(limit: Limit) -> &'static [u8]
 {
     match limit {
         Limit::Cells => {
-            b"with this the program has more than 1048576 shared cells, the most that there may be\n"
+            b"with this the program has more than 1048576 shared cells, the most that there may be"
         }
-        Limit::Procs => b"procs is a number from 1 to 16384\n",
-        Limit::Bounds => b"the first bound of an array is at most its last\n",
+        Limit::Procs => b"procs is a number from 1 to 16384",
+        Limit::Bounds => b"the first bound of an array is at most its last",
         Limit::Reads =>
-            b"this is the ninth shared read of the statement, which has at most 8: split it in two\n",
-        Limit::Tokens => b"a program has at most 16384 tokens\n",
+            b"this is the ninth shared read of the statement, which has at most 8: split it in two",
+        Limit::Tokens => b"a program has at most 16384 tokens",
     }
 }
 
@@ -194,7 +196,7 @@ fn write_unnamed<W: Out>(out: &mut W, word: &[u8]) -> Result<(), WriteFault>
     ensures written { Writes (W.Out.state out.old) (W.Out.state out.new) (spec.unnamed word.now) result }
 {
     write_quoted(out, word)?;
-    out.write_all(b" names no shared cells of the program\n")
+    out.write_all(b" names no shared cells of the program")
 }
 
 // The sentence on a word, by the kind of text in which it stands.
@@ -237,29 +239,57 @@ fn offset_in(source: &Source<'_>, spot: Spot) -> usize
     offset_of(source.bytes.as_slice(), spot_as_it_stands(source, spot))
 }
 
-/// Writes what is said of the first thing that is wrong with a program (E6 to E10), or with a name in a memory (E6): where in the file, with
-/// the line and a caret, and a sentence on the name there by what there is to say of it, or on the limit. The error is that the writer failed
-/// (E17).
-pub fn write_breach<W: Out>(
-    out: &mut W,
+// The sentence on the word at a place.
+fn at_spot(
+    alloc: Global,
     source: &Source<'_>,
     breach: Breach,
     remark: &Remark,
-) -> Result<(), WriteFault>
-    requires counted { (W.Out.state out.old).failures < 2 ^ 63 }
-    ensures written { Writes (W.Out.state out.old) (W.Out.state out.new) (spec.breach_diagnosis source.now breach (remark_is remark.now)) result }
+) -> Result<Message, AllocError>
+    ensures { IfOk result (λ m. message_is m ≡ spec.at_spot source.now breach.spot
+        (spec.said_of source.now.kind (spec.word_at (text_in source.now) breach.spot) breach.cause (remark_is remark.now))) }
 {
-    write_excerpt(
-        out,
-        source.name.as_bytes(),
-        source.bytes.as_slice(),
-        offset_in(source, breach.spot),
-    )?;
-    write_said(
-        out,
-        source.kind,
-        word_at(source.text(), breach.spot),
-        breach.cause,
-        remark,
-    )
+    let mut out = Buffer::new(alloc);
+    let word = word_at(source.text(), breach.spot);
+    match write_said(&mut out, source.kind, word, breach.cause, remark) {
+        Ok(()) => at_byte(alloc, offset_in(source, breach.spot), out.bytes()),
+        Err(WriteFault) => Err(AllocError),
+    }
+}
+
+fn meant_name(alloc: Global, remark: &Remark) -> Result<Option<Vec<u8>>, AllocError>
+    ensures { IfOk result (λ meant. option_map (λ v. v.items) meant ≡ spec.meant_name (remark_is remark.now)) }
+{
+    match remark {
+        Remark::Nearest(name) => Ok(Some(name.clone()?)),
+        Remark::Nothing => Ok(None),
+        Remark::Declared(_, _) => Ok(None),
+        Remark::Elsewhere(_, _) => Ok(None),
+        Remark::Expected(_, _) => Ok(None),
+    }
+}
+
+// The name that was meant, in a text of that kind.
+fn meant_in(alloc: Global, kind: Kind, remark: &Remark) -> Result<Option<Vec<u8>>, AllocError>
+    ensures { IfOk result (λ meant. option_map (λ v. v.items) meant ≡ spec.meant_in kind (remark_is remark.now)) }
+{
+    match kind {
+        Kind::Memory => Ok(None),
+        Kind::Program | Kind::Input | Kind::Listing => meant_name(alloc, remark),
+    }
+}
+
+/// What is said of the first thing that is wrong with a program (E6 to E10), or with a name in a memory (E6): where in the file, and a
+/// sentence on the name there by what there is to say of it, or on the limit. The error is that memory was refused.
+pub(crate) fn breach_message(
+    alloc: Global,
+    source: &Source<'_>,
+    breach: Breach,
+    remark: &Remark,
+) -> Result<Message, AllocError>
+    ensures { IfOk result (λ m. message_is m ≡ spec.breach_message source.now breach (remark_is remark.now)) }
+{
+    let meant = meant_in(alloc, source.kind, remark)?;
+    let message = at_spot(alloc, source, breach, remark)?;
+    Ok(message.with_meant(meant))
 }

@@ -1,11 +1,9 @@
 //! What there is to say of a name that is wrong, and of a token with which no program goes on.
 
-ghost use Rattle.std.specs.Prelude.{◌≡◌, ◌≤◌, List, ℕ, IfOk, Err, length, map, take};
+ghost use Rattle.std.specs.Prelude.{◌≡◌, ◌≤◌, IfOk, length, map, take};
 ghost use Rattle.pram_tokens.specs.Scanning.{longest};
 ghost use Rattle.token_choices.specs.Choices.{AreChoicesBehind};
 ghost use Rattle.std.specs.Option.{option_map};
-ghost use Rattle.pram_trees.specs.Program.{ProgramTree};
-ghost use Rattle.pram_trees.specs.Text.{IsTextOf};
 ghost use Rattle.scope_names.specs.InScope.{known_is};
 ghost use Rattle.scope_names.specs.Nearness as near;
 ghost use Rattle.diagnoses.specs.Remarks as spec;
@@ -13,8 +11,8 @@ ghost use Rattle.diagnoses.specs.Remarks as spec;
 use crate::places::{front, token_at};
 use pram_check::{Breach, Cause, Spot};
 use pram_parser::parse;
-use pram_tokens::LONGEST;
-use pram_trees::Tree;
+use pram_tokens::{LONGEST, LexError};
+use pram_trees::{TextFault, Tree};
 use scope_names::{Known, Sort, bound_in, find, names_at, nearest};
 use std::alloc::{AllocError, Global};
 use syntax_hints::{Hint, hint_at};
@@ -23,7 +21,7 @@ use token_choices::{Choice, choices_behind};
 /// What there is to say of a name that is wrong, or of a token with which no program goes on.
 #[derive(Drop)]
 pub enum Remark {
-    /// Nothing: no name is near, or memory was refused.
+    /// Nothing: no name is near, or the text says nothing of it.
     Nothing,
     /// This name in scope was meant.
     Nearest(Vec<u8>),
@@ -105,42 +103,51 @@ fn remark_in(alloc: Global, text: &[u8], tree: &Tree, breach: Breach) -> Result<
     }
 }
 
-/// What there is to say of the first thing that is wrong with a program, by its text. Nothing is said where memory was refused.
-pub fn remark_of(alloc: Global, text: &[u8], breach: Breach) -> Remark
-    ensures { (tree : ProgramTree) → IsTextOf text.now tree → spec.IsRemark text.now tree breach (spec.remark_is result) }
+/// What there is to say of the first thing that is wrong with a program, by its text. The error is that memory was refused.
+pub fn remark_of(alloc: Global, text: &[u8], breach: Breach) -> Result<Remark, AllocError>
+    ensures { IfOk result (λ r. spec.IsRemark text.now breach (spec.remark_is r)) }
 {
     match parse(alloc, text) {
-        Ok(tree) => match remark_in(alloc, text, &tree, breach) {
-            Ok(remark) => remark,
-            Err(AllocError) => Remark::Nothing,
-        },
-        Err(_) => Remark::Nothing,
+        Ok(tree) => remark_in(alloc, text, &tree, breach),
+        Err(TextFault::NotAscii(_)) => Ok(Remark::Nothing),
+        Err(TextFault::TextTooLong) => Ok(Remark::Nothing),
+        Err(TextFault::BadToken(_)) => Ok(Remark::Nothing),
+        Err(TextFault::Syntax(_)) => Ok(Remark::Nothing),
+        Err(TextFault::TooDeep(_)) => Ok(Remark::Nothing),
+        Err(TextFault::OutOfMemory) => Err(AllocError),
     }
 }
 
 // What else there is to say of a place where these kinds of tokens could stand.
-fn hinted(alloc: Global, text: &[u8], at: u32, found: Vec<Choice>) -> Remark
+fn hinted(alloc: Global, text: &[u8], at: u32, found: Vec<Choice>) -> Result<Remark, AllocError>
     requires fits { length text.now ≤ longest }
     requires choices { AreChoicesBehind (take at text.now) found.items }
-    ensures { spec.IsExpectation text.now at (spec.remark_is result) }
+    ensures { IfOk result (λ r. spec.IsExpectation text.now at (spec.remark_is r)) }
 {
-    match hint_at(alloc, text, at, &found) {
-        Ok(hint) => Remark::Expected(found, hint),
-        Err(AllocError) => Remark::Nothing,
+    let hint = hint_at(alloc, text, at, &found)?;
+    Ok(Remark::Expected(found, hint))
+}
+
+// The same of a text that isn't too long.
+fn expected_in(alloc: Global, text: &[u8], at: u32) -> Result<Remark, AllocError>
+    requires fits { length text.now ≤ longest }
+    ensures { IfOk result (λ r. spec.IsExpectation text.now at (spec.remark_is r)) }
+{
+    match choices_behind(alloc, front(text, at as usize)) {
+        Ok(found) => hinted(alloc, text, at, found),
+        Err(LexError::BadToken(_)) => Ok(Remark::Nothing),
+        Err(LexError::OutOfMemory) => Err(AllocError),
     }
 }
 
-/// Which kinds of tokens could stand at a place, behind what stands before it, and what else there is to say of it. Nothing is said where
+/// Which kinds of tokens could stand at a place, behind what stands before it, and what else there is to say of it. The error is that
 /// memory was refused.
-pub fn expected_at(alloc: Global, text: &[u8], at: u32) -> Remark
-    ensures { spec.IsExpectation text.now at (spec.remark_is result) }
+pub fn expected_at(alloc: Global, text: &[u8], at: u32) -> Result<Remark, AllocError>
+    ensures { IfOk result (λ r. spec.IsExpectation text.now at (spec.remark_is r)) }
 {
-    let before = front(text, at as usize);
-    if LONGEST < text.len() || LONGEST < before.len() {
-        return Remark::Nothing;
-    }
-    match choices_behind(alloc, before) {
-        Ok(found) => hinted(alloc, text, at, found),
-        Err(_) => Remark::Nothing,
+    if LONGEST < text.len() {
+        Ok(Remark::Nothing)
+    } else {
+        expected_in(alloc, text, at)
     }
 }

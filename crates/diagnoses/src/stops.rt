@@ -1,59 +1,61 @@
 //! What is said behind the line of a refusal.
 
-ghost use Rattle.std.specs.Prelude.{◌≡◌, ◌<◌, ◌^◌};
+ghost use Rattle.std.specs.Prelude.{◌≡◌, ◌<◌, ◌^◌, List, ℕ, IfOk, None};
 ghost use Rattle.pram_model.specs.Names.{same_text};
 ghost use Rattle.text_out.specs.Out.{Writes};
-ghost use Rattle.diagnoses.specs.Remarks.{Remark as SaidOf, remark_is};
+ghost use Rattle.refusal_messages.specs.Messages.{message_is, said};
+ghost use Rattle.diagnoses.specs.Remarks.{remark_is};
 ghost use Rattle.diagnoses.specs.Stops as spec;
 
-use crate::about::{About, Unread};
-use crate::breaches::write_breach;
+use crate::about::About;
+use crate::breaches::breach_message;
+use crate::files::file_message;
+use crate::parts::{at_byte, plain};
 use crate::remark::{Remark, expected_at, remark_of};
-use crate::size_faults::write_size_fault;
-use crate::source::Source;
-use crate::text_faults::write_text_fault;
-use itoa::Buffer;
+use crate::size_faults::size_message;
+use crate::text_faults::text_message;
+use itoa::Buffer as Digits;
 use pram_check::Breach;
 use pram_trees::TextFault;
 use program_texts::{Refusal, Stop};
+use refusal_messages::{Message, Point, write_message};
 use sized_texts::Reason;
-use std::alloc::Global;
-use text_out::{Out, WriteFault};
-use text_places::{write_excerpt, write_line_excerpt};
+use std::alloc::{AllocError, Global};
+use text_out::{Buffer, Out, WriteFault};
 
-fn write_text<W: Out>(
-    out: &mut W,
+// A text that is refused.
+fn of_text(
+    alloc: Global,
     fault: TextFault,
     about: &About<'_>,
     remark: &Remark,
-) -> Result<(), WriteFault>
-    requires counted { (W.Out.state out.old).failures < 2 ^ 63 }
-    ensures written { Writes (W.Out.state out.old) (W.Out.state out.new) (spec.of_text fault about.now (remark_is remark.now)) result }
+) -> Result<Message, AllocError>
+    ensures { IfOk result (λ m. message_is m ≡ spec.of_text fault about.now (remark_is remark.now)) }
 {
     match about {
-        About::Text(source) => write_text_fault(out, source, fault, remark),
-        About::Nothing => out.write_all(b""),
-        About::Line { .. } => out.write_all(b""),
-        About::Values { .. } => out.write_all(b""),
-        About::File(_) => out.write_all(b""),
+        About::Text(source) => text_message(alloc, source, fault, remark),
+        About::Nothing => Ok(Message::nothing(alloc)),
+        About::Line { .. } => Ok(Message::nothing(alloc)),
+        About::Values { .. } => Ok(Message::nothing(alloc)),
+        About::File(_) => Ok(Message::nothing(alloc)),
     }
 }
 
-fn write_program<W: Out>(
-    out: &mut W,
+// A program that is refused.
+fn of_program(
+    alloc: Global,
     breach: Breach,
     about: &About<'_>,
     remark: &Remark,
-) -> Result<(), WriteFault>
-    requires counted { (W.Out.state out.old).failures < 2 ^ 63 }
-    ensures written { Writes (W.Out.state out.old) (W.Out.state out.new) (spec.of_program breach about.now (remark_is remark.now)) result }
+) -> Result<Message, AllocError>
+    ensures { IfOk result (λ m. message_is m ≡ spec.of_program breach about.now (remark_is remark.now)) }
 {
     match about {
-        About::Text(source) => write_breach(out, source, breach, remark),
-        About::Nothing => out.write_all(b""),
-        About::Line { .. } => out.write_all(b""),
-        About::Values { .. } => out.write_all(b""),
-        About::File(_) => out.write_all(b""),
+        About::Text(source) => breach_message(alloc, source, breach, remark),
+        About::Nothing => Ok(Message::nothing(alloc)),
+        About::Line { .. } => Ok(Message::nothing(alloc)),
+        About::Values { .. } => Ok(Message::nothing(alloc)),
+        About::File(_) => Ok(Message::nothing(alloc)),
     }
 }
 
@@ -61,85 +63,87 @@ fn write_too_many<W: Out>(out: &mut W, values: usize, cells: u32) -> Result<(), 
     requires counted { (W.Out.state out.old).failures < 2 ^ 63 }
     ensures written { Writes (W.Out.state out.old) (W.Out.state out.new) (spec.too_many values cells) result }
 {
-    let mut count = Buffer::new();
-    let mut room = Buffer::new();
+    let mut count = Digits::new();
+    let mut room = Digits::new();
     out.write_parts(&[
         b"there are ",
         count.format(values).as_bytes(),
         b" values, and the cells for them are ",
         room.format(cells).as_bytes(),
-        b"\n",
     ])
 }
 
-fn write_input<W: Out>(out: &mut W, about: &About<'_>) -> Result<(), WriteFault>
-    requires counted { (W.Out.state out.old).failures < 2 ^ 63 }
-    ensures written { Writes (W.Out.state out.old) (W.Out.state out.new) (spec.of_input about.now) result }
+fn of_values(alloc: Global, values: usize, cells: u32) -> Result<Message, AllocError>
+    ensures { IfOk result (λ m. message_is m ≡ said None (spec.too_many values cells)) }
 {
-    match about {
-        About::Values { values, cells } => write_too_many(out, *values, *cells),
-        About::Nothing => out.write_all(b""),
-        About::Text(_) => out.write_all(b""),
-        About::Line { .. } => out.write_all(b""),
-        About::File(_) => out.write_all(b""),
+    let mut out = Buffer::new(alloc);
+    match write_too_many(&mut out, values, cells) {
+        Ok(()) => plain(alloc, out.bytes()),
+        Err(WriteFault) => Err(AllocError),
     }
 }
 
-fn write_refusal<W: Out>(
-    out: &mut W,
+// An input that is too long.
+fn of_input(alloc: Global, about: &About<'_>) -> Result<Message, AllocError>
+    ensures { IfOk result (λ m. message_is m ≡ spec.of_input about.now) }
+{
+    match about {
+        About::Values { values, cells } => of_values(alloc, *values, *cells),
+        About::Nothing => Ok(Message::nothing(alloc)),
+        About::Line { .. } => Ok(Message::nothing(alloc)),
+        About::Text(_) => Ok(Message::nothing(alloc)),
+        About::File(_) => Ok(Message::nothing(alloc)),
+    }
+}
+
+fn of_refusal(
+    alloc: Global,
     refusal: Refusal,
     about: &About<'_>,
     remark: &Remark,
-) -> Result<(), WriteFault>
-    requires counted { (W.Out.state out.old).failures < 2 ^ 63 }
-    ensures written { Writes (W.Out.state out.old) (W.Out.state out.new) (spec.of_refusal refusal about.now (remark_is remark.now)) result }
+) -> Result<Message, AllocError>
+    ensures { IfOk result (λ m. message_is m ≡ spec.of_refusal refusal about.now (remark_is remark.now)) }
 {
     match refusal {
-        Refusal::Text(fault) => write_text(out, fault, about, remark),
-        Refusal::Program(breach) => write_program(out, breach, about, remark),
-        Refusal::InputTooLong => write_input(out, about),
-        Refusal::BadMap => {
-            out.write_all(
-                b"`--map` wants affine:A,B with an odd A, so that no two cells have one place\n",
-            )
-        }
-        Refusal::BadWorkers => out.write_all(b"`--workers` wants a number from 1 to 32\n"),
-        Refusal::OutOfMemory => {
-            out.write_all(
-                b"memory was refused: nothing is said of the text or the run, and with more memory it may go well\n",
-            )
-        }
-        Refusal::OutOfReserve => {
-            out.write_all(
-                b"the run prints more numbers, or has more exchanges, than its reserve was made for\n",
-            )
-        }
+        Refusal::Text(fault) => of_text(alloc, fault, about, remark),
+        Refusal::Program(breach) => of_program(alloc, breach, about, remark),
+        Refusal::InputTooLong => of_input(alloc, about),
+        Refusal::BadMap => plain(
+            alloc,
+            b"`--map` wants affine:A,B with an odd A, so that no two cells have one place",
+        ),
+        Refusal::BadWorkers => plain(alloc, b"`--workers` wants a number from 1 to 32"),
+        Refusal::OutOfMemory => plain(
+            alloc,
+            b"memory was refused: nothing is said of the text or the run, and with more memory it may go well",
+        ),
+        Refusal::OutOfReserve => plain(
+            alloc,
+            b"the run prints more numbers, or has more exchanges, than its reserve was made for",
+        ),
     }
 }
 
-fn write_line_fault<W: Out>(out: &mut W, source: &Source<'_>, at: u32) -> Result<(), WriteFault>
-    requires counted { (W.Out.state out.old).failures < 2 ^ 63 }
-    ensures written { Writes (W.Out.state out.old) (W.Out.state out.new) (spec.line_fault source.now at) result }
+fn of_line(alloc: Global, at: u32) -> Result<Message, AllocError>
+    ensures { IfOk result (λ m. message_is m ≡ spec.line_fault at) }
 {
-    write_excerpt(
-        out,
-        source.name.as_bytes(),
-        source.bytes.as_slice(),
+    at_byte(
+        alloc,
         at as usize,
-    )?;
-    out.write_all(b"no listing goes on with this line, or one is missing here\n")
+        b"no listing goes on with this line, or one is missing here",
+    )
 }
 
-fn write_listing<W: Out>(out: &mut W, at: u32, about: &About<'_>) -> Result<(), WriteFault>
-    requires counted { (W.Out.state out.old).failures < 2 ^ 63 }
-    ensures written { Writes (W.Out.state out.old) (W.Out.state out.new) (spec.of_listing at about.now) result }
+// A text that is no listing.
+fn of_listing(alloc: Global, at: u32, about: &About<'_>) -> Result<Message, AllocError>
+    ensures { IfOk result (λ m. message_is m ≡ spec.of_listing at about.now) }
 {
     match about {
-        About::Text(source) => write_line_fault(out, source, at),
-        About::Nothing => out.write_all(b""),
-        About::Line { .. } => out.write_all(b""),
-        About::Values { .. } => out.write_all(b""),
-        About::File(_) => out.write_all(b""),
+        About::Text(_) => of_line(alloc, at),
+        About::Nothing => Ok(Message::nothing(alloc)),
+        About::Line { .. } => Ok(Message::nothing(alloc)),
+        About::Values { .. } => Ok(Message::nothing(alloc)),
+        About::File(_) => Ok(Message::nothing(alloc)),
     }
 }
 
@@ -154,21 +158,21 @@ fn reason_sentence(word: &[u8]) -> &'static [u8]
     ensures { result.now ≡ spec.reason_sentence word.now }
 {
     if is_same(word, b"state") {
-        b"no lower place leads here, or one that does comes in another state\n"
+        b"no lower place leads here, or one that does comes in another state"
     } else if is_same(word, b"register") {
-        b"it names a register that isn't there\n"
+        b"it names a register that isn't there"
     } else if is_same(word, b"entry") {
-        b"it names an entry that the layout doesn't have\n"
+        b"it names an entry that the layout doesn't have"
     } else if is_same(word, b"target") {
-        b"its target is no instruction, or is neither above it nor a mark\n"
+        b"its target is no instruction, or is neither above it nor a mark"
     } else if is_same(word, b"mode") {
-        b"it may not stand there: some stand outside of a range alone, some within\n"
+        b"it may not stand there: some stand outside of a range alone, some within"
     } else if is_same(word, b"mask") {
-        b"it is a 65th mask, or wants one that isn't on, or leaves one on\n"
+        b"it is a 65th mask, or wants one that isn't on, or leaves one on"
     } else if is_same(word, b"exchange") {
-        b"an exchange, a reply, a read or a put may not stand there\n"
+        b"an exchange, a reply, a read or a put may not stand there"
     } else {
-        b"it is the last one and goes on, or there are no instructions\n"
+        b"it is the last one and goes on, or there are no instructions"
     }
 }
 
@@ -176,7 +180,7 @@ fn write_instruction_fault<W: Out>(out: &mut W, at: u32, word: &[u8]) -> Result<
     requires counted { (W.Out.state out.old).failures < 2 ^ 63 }
     ensures written { Writes (W.Out.state out.old) (W.Out.state out.new) (spec.instruction_fault at word.now) result }
 {
-    let mut digits = Buffer::new();
+    let mut digits = Digits::new();
     out.write_parts(&[
         b"instruction ",
         digits.format(at).as_bytes(),
@@ -186,140 +190,160 @@ fn write_instruction_fault<W: Out>(out: &mut W, at: u32, word: &[u8]) -> Result<
 }
 
 // The line that is meant, where one is known.
-fn write_line<W: Out>(out: &mut W, about: &About<'_>) -> Result<(), WriteFault>
-    requires counted { (W.Out.state out.old).failures < 2 ^ 63 }
-    ensures written { Writes (W.Out.state out.old) (W.Out.state out.new) (spec.meant_line about.now) result }
+fn meant_line(about: &About<'_>) -> Option<Point>
+    ensures { result ≡ spec.meant_line about.now }
 {
     match about {
-        About::Line { source, line } => {
-            write_line_excerpt(out, source.name.as_bytes(), source.bytes.as_slice(), *line)
-        }
-        About::Nothing => out.write_all(b""),
-        About::Text(_) => out.write_all(b""),
-        About::Values { .. } => out.write_all(b""),
-        About::File(_) => out.write_all(b""),
+        About::Line { line, .. } => Some(Point::Line(*line)),
+        About::Nothing => None,
+        About::Text(_) => None,
+        About::Values { .. } => None,
+        About::File(_) => None,
     }
 }
 
-fn write_code<W: Out>(
-    out: &mut W,
-    at: u32,
-    word: &[u8],
-    about: &About<'_>,
-) -> Result<(), WriteFault>
-    requires counted { (W.Out.state out.old).failures < 2 ^ 63 }
-    ensures written { Writes (W.Out.state out.old) (W.Out.state out.new) (spec.of_code at word.now about.now) result }
+fn instruction_sentence(alloc: Global, at: u32, word: &[u8]) -> Result<Vec<u8>, AllocError>
+    ensures { IfOk result (λ sentence. sentence.items ≡ spec.instruction_fault at word.now) }
 {
-    write_line(out, about)?;
-    write_instruction_fault(out, at, word)
+    let mut out = Buffer::new(alloc);
+    match write_instruction_fault(&mut out, at, word) {
+        Ok(()) => Vec::from_slice(alloc, out.bytes()),
+        Err(WriteFault) => Err(AllocError),
+    }
+}
+
+// Code that isn't well formed.
+fn of_code(alloc: Global, at: u32, word: &[u8], about: &About<'_>) -> Result<Message, AllocError>
+    ensures { IfOk result (λ m. message_is m ≡ spec.of_code at word.now about.now) }
+{
+    let sentence = instruction_sentence(alloc, at, word)?;
+    Ok(Message::said(alloc, meant_line(about), sentence))
 }
 
 // A text with sizes that has no expansion.
-fn write_size<W: Out>(
-    out: &mut W,
-    at: u32,
-    reason: Reason,
-    about: &About<'_>,
-) -> Result<(), WriteFault>
-    requires counted { (W.Out.state out.old).failures < 2 ^ 63 }
-    ensures written { Writes (W.Out.state out.old) (W.Out.state out.new) (spec.of_size at reason about.now) result }
+fn of_size(alloc: Global, at: u32, reason: Reason, about: &About<'_>) -> Result<Message, AllocError>
+    ensures { IfOk result (λ m. message_is m ≡ spec.of_size at reason about.now) }
 {
     match about {
-        About::Text(source) => write_size_fault(out, source, at, reason),
-        About::Nothing => out.write_all(b""),
-        About::Line { .. } => out.write_all(b""),
-        About::Values { .. } => out.write_all(b""),
-        About::File(_) => out.write_all(b""),
-    }
-}
-
-fn file_sentence(unread: Unread) -> &'static [u8]
-    ensures { result.now ≡ spec.file_sentence unread }
-{
-    match unread {
-        Unread::Missing => b"there is no file of this name\n",
-        Unread::Directory => b"this is a directory\n",
-        Unread::Other => b"this file can't be read\n",
-    }
-}
-
-// Why a file can't be read, where that is known.
-fn unread_sentence(about: &About<'_>) -> &'static [u8]
-    ensures { result.now ≡ spec.unread_sentence about.now }
-{
-    match about {
-        About::File(unread) => file_sentence(*unread),
-        About::Nothing => file_sentence(Unread::Other),
-        About::Text(_) => file_sentence(Unread::Other),
-        About::Line { .. } => file_sentence(Unread::Other),
-        About::Values { .. } => file_sentence(Unread::Other),
+        About::Text(source) => size_message(alloc, source, at, reason),
+        About::Nothing => Ok(Message::nothing(alloc)),
+        About::Line { .. } => Ok(Message::nothing(alloc)),
+        About::Values { .. } => Ok(Message::nothing(alloc)),
+        About::File(_) => Ok(Message::nothing(alloc)),
     }
 }
 
 // What is said, by what there is to say of a name or of a token.
-fn write_said<W: Out>(
-    out: &mut W,
+fn stop_message(
+    alloc: Global,
     stop: &Stop<'_>,
     about: &About<'_>,
     remark: &Remark,
-) -> Result<(), WriteFault>
-    requires counted { (W.Out.state out.old).failures < 2 ^ 63 }
-    ensures written { Writes (W.Out.state out.old) (W.Out.state out.new) (spec.stop_diagnosis stop.now about.now (remark_is remark.now)) result }
+) -> Result<Message, AllocError>
+    ensures { IfOk result (λ m. message_is m ≡ spec.stop_message stop.now about.now (remark_is remark.now)) }
 {
     match stop {
-        Stop::Words(_) => out.write_all(b""),
-        Stop::Number(_) => out.write_all(b""),
-        Stop::Unreadable(_) => out.write_all(unread_sentence(about)),
-        Stop::Refused(refusal) => write_refusal(out, *refusal, about, remark),
-        Stop::NotVerified(at, reason) => write_code(out, *at, reason.as_bytes(), about),
-        Stop::BadListing(at) => write_listing(out, *at, about),
-        Stop::WriteFailed => {
-            out.write_all(b"standard output failed: what stands there is a beginning of the text\n")
-        }
-        Stop::BadSize(at, reason) => write_size(out, *at, *reason, about),
+        Stop::Words(_) => Ok(Message::nothing(alloc)),
+        Stop::Number(_) => Ok(Message::nothing(alloc)),
+        Stop::Unreadable(_) => file_message(alloc, about),
+        Stop::Refused(refusal) => of_refusal(alloc, *refusal, about, remark),
+        Stop::NotVerified(at, reason) => of_code(alloc, *at, reason.as_bytes(), about),
+        Stop::BadListing(at) => of_listing(alloc, *at, about),
+        Stop::WriteFailed => plain(
+            alloc,
+            b"standard output failed: what stands there is a beginning of the text",
+        ),
+        Stop::BadSize(at, reason) => of_size(alloc, *at, *reason, about),
     }
 }
 
 // What there is to say of a name, of a program whose text is at hand.
-fn remark_in(alloc: Global, breach: Breach, about: &About<'_>) -> Remark
-    ensures { spec.IsRemarkIn breach about.now (remark_is result) }
+fn remark_in(alloc: Global, breach: Breach, about: &About<'_>) -> Result<Remark, AllocError>
+    ensures { IfOk result (λ r. spec.IsRemarkIn breach about.now (remark_is r)) }
 {
     match about {
         About::Text(source) => remark_of(alloc, source.text(), breach),
-        About::Nothing => Remark::Nothing,
-        About::Line { .. } => Remark::Nothing,
-        About::Values { .. } => Remark::Nothing,
-        About::File(_) => Remark::Nothing,
+        About::Nothing => Ok(Remark::Nothing),
+        About::Line { .. } => Ok(Remark::Nothing),
+        About::Values { .. } => Ok(Remark::Nothing),
+        About::File(_) => Ok(Remark::Nothing),
     }
 }
 
 // What there is to say of a token with which no program goes on, of a text that is at hand.
-fn expected_in(alloc: Global, at: u32, about: &About<'_>) -> Remark
-    ensures { spec.IsExpectationIn at about.now (remark_is result) }
+fn expected_in(alloc: Global, at: u32, about: &About<'_>) -> Result<Remark, AllocError>
+    ensures { IfOk result (λ r. spec.IsExpectationIn at about.now (remark_is r)) }
 {
     match about {
         About::Text(source) => expected_at(alloc, source.text(), at),
-        About::Nothing => Remark::Nothing,
-        About::Line { .. } => Remark::Nothing,
-        About::Values { .. } => Remark::Nothing,
-        About::File(_) => Remark::Nothing,
+        About::Nothing => Ok(Remark::Nothing),
+        About::Line { .. } => Ok(Remark::Nothing),
+        About::Values { .. } => Ok(Remark::Nothing),
+        About::File(_) => Ok(Remark::Nothing),
     }
 }
 
-fn remark_on(alloc: Global, stop: &Stop<'_>, about: &About<'_>) -> Remark
-    ensures { spec.HasRemark stop.now about.now (remark_is result) }
+fn remark_on(alloc: Global, stop: &Stop<'_>, about: &About<'_>) -> Result<Remark, AllocError>
+    ensures { IfOk result (λ r. spec.HasRemark stop.now about.now (remark_is r)) }
 {
     match stop {
         Stop::Refused(Refusal::Program(breach)) => remark_in(alloc, *breach, about),
         Stop::Refused(Refusal::Text(TextFault::Syntax(at))) => expected_in(alloc, *at, about),
-        _ => Remark::Nothing,
+        _ => Ok(Remark::Nothing),
     }
 }
 
-/// Writes what a reader needs behind the line of a refusal: the place with its line and a caret, where it has one, and a sentence; of a token
-/// with which no program goes on (E4) also what could stand there. Of a name that is wrong, and of such a token, nothing more than that is
-/// said where memory was refused. Nothing is written where nothing is known beside the line,
-/// as of a text that isn't at hand. The error is that the writer failed (E17).
+/// What there is to say of a refusal beside its line: where it is, and a sentence; of a token with which no program goes on (E4) also what could
+/// stand there, and of a name which one was meant. The message says nothing where nothing is known beside the line, as of a text that isn't
+/// at hand. The error is that memory was refused.
+pub fn message_of(alloc: Global, stop: &Stop<'_>, about: &About<'_>) -> Result<Message, AllocError>
+    ensures { IfOk result (λ m. spec.IsMessageOf stop.now about.now (message_is m)) }
+{
+    let remark = remark_on(alloc, stop, about)?;
+    stop_message(alloc, stop, about, &remark)
+}
+
+/// The name of the file that a refusal is about, and nothing where it is about none.
+pub fn name_in<'a>(about: &'a About<'_>) -> &'a [u8]
+    ensures { result.now ≡ spec.name_in about.now }
+{
+    match about {
+        About::Text(source) => source.name.as_bytes(),
+        About::Line { source, .. } => source.name.as_bytes(),
+        About::Nothing => b"",
+        About::Values { .. } => b"",
+        About::File(_) => b"",
+    }
+}
+
+/// All that this file holds.
+pub fn bytes_in<'a>(about: &'a About<'_>) -> &'a [u8]
+    ensures { result.now ≡ spec.bytes_in about.now }
+{
+    match about {
+        About::Text(source) => source.bytes.as_slice(),
+        About::Line { source, .. } => source.bytes.as_slice(),
+        About::Nothing => b"",
+        About::Values { .. } => b"",
+        About::File(_) => b"",
+    }
+}
+
+/// Writes a message on what a refusal is about, as text. The error is that the writer failed (E17).
+pub fn write_message_about<W: Out>(
+    out: &mut W,
+    about: &About<'_>,
+    message: &Message,
+) -> Result<(), WriteFault>
+    requires counted { (W.Out.state out.old).failures < 2 ^ 63 }
+    ensures written { Writes (W.Out.state out.old) (W.Out.state out.new) (spec.text_about about.now (message_is message.now)) result }
+{
+    write_message(out, name_in(about), bytes_in(about), message)
+}
+
+/// Writes what a reader needs behind the line of a refusal: the place with its line and a caret, where it has one, and the sentences of its
+/// message (`message_of`), or a sentence that says that memory for this was refused. Nothing is written where nothing is known beside the
+/// line. The error is that the writer failed (E17).
 pub fn write_stop_diagnosis<W: Out>(
     alloc: Global,
     out: &mut W,
@@ -327,9 +351,11 @@ pub fn write_stop_diagnosis<W: Out>(
     about: &About<'_>,
 ) -> Result<(), WriteFault>
     requires counted { (W.Out.state out.old).failures < 2 ^ 63 }
-    ensures written { (r : SaidOf) × spec.HasRemark stop.now about.now r
-        × Writes (W.Out.state out.old) (W.Out.state out.new) (spec.stop_diagnosis stop.now about.now r) result }
+    ensures written { (text : List ℕ) × spec.IsSaid stop.now about.now text
+        × Writes (W.Out.state out.old) (W.Out.state out.new) text result }
 {
-    let remark = remark_on(alloc, stop, about);
-    write_said(out, stop, about, &remark)
+    match message_of(alloc, stop, about) {
+        Ok(message) => write_message_about(out, about, &message),
+        Err(AllocError) => out.write_all(b"memory was refused for what there is to say of it\n"),
+    }
 }

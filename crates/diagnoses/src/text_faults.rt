@@ -1,29 +1,34 @@
 //! What is said of a text that is refused before it is a program.
 
-ghost use Rattle.std.specs.Prelude.{◌≡◌, ◌<◌, ◌+◌, ◌^◌, slice_index};
+ghost use Rattle.std.specs.Prelude.{◌≡◌, ◌<◌, ◌+◌, ◌^◌, IfOk, slice_index};
 ghost use Rattle.text_out.specs.Out.{Writes};
+ghost use Rattle.refusal_messages.specs.Messages.{message_is};
 ghost use Rattle.diagnoses.specs.Remarks.{remark_is};
+ghost use Rattle.diagnoses.specs.Sources.{text_in};
+ghost use Rattle.diagnoses.specs.SyntaxFaults.{placed as placed_in};
 ghost use Rattle.diagnoses.specs.TextFaults as spec;
 
+use crate::parts::{placed, plain};
 use crate::places::byte_at;
 use crate::remark::Remark;
 use crate::source::{Kind, Source};
-use crate::syntax_faults::{write_bad_syntax, write_syntax_fault};
-use itoa::Buffer;
+use crate::syntax_messages::syntax_message;
+use itoa::Buffer as Digits;
 use pram_trees::TextFault;
+use refusal_messages::Message;
+use std::alloc::{AllocError, Global};
 use syntax_hints::stray_sentence;
-use text_out::{Out, WriteFault};
-use text_places::write_excerpt;
+use text_out::{Buffer, Out, WriteFault};
 
 fn write_not_ascii<W: Out>(out: &mut W, byte: u8) -> Result<(), WriteFault>
     requires counted { (W.Out.state out.old).failures < 2 ^ 63 }
     ensures written { Writes (W.Out.state out.old) (W.Out.state out.new) (spec.not_ascii byte) result }
 {
-    let mut digits = Buffer::new();
+    let mut digits = Digits::new();
     out.write_parts(&[
         b"byte ",
         digits.format(byte).as_bytes(),
-        b" is no ASCII: a text has bytes from 0 to 127 alone, in comments too\n",
+        b" is no ASCII: a text has bytes from 0 to 127 alone, in comments too",
     ])
 }
 
@@ -31,10 +36,10 @@ fn too_long(kind: Kind) -> &'static [u8]
     ensures { result.now ≡ spec.too_long kind }
 {
     match kind {
-        Kind::Program => b"a program has at most 1048576 bytes\n",
-        Kind::Input => b"an input has at most 1048576 bytes\n",
-        Kind::Memory => b"a memory has at most 1048576 bytes\n",
-        Kind::Listing => b"a listing has at most 8388608 bytes\n",
+        Kind::Program => b"a program has at most 1048576 bytes",
+        Kind::Input => b"an input has at most 1048576 bytes",
+        Kind::Memory => b"a memory has at most 1048576 bytes",
+        Kind::Listing => b"a listing has at most 8388608 bytes",
     }
 }
 
@@ -71,86 +76,66 @@ fn bad_token(kind: Kind, text: &[u8], at: usize) -> &'static [u8]
 {
     match kind {
         Kind::Input => {
-            b"an input has whole numbers from -9223372036854775808 to 9223372036854775807, with white space between them\n"
+            b"an input has whole numbers from -9223372036854775808 to 9223372036854775807, with white space between them"
         }
         Kind::Memory => {
-            b"a line of a memory is a name, the bounds of some of its cells if they are not all meant, = and their values, as a[1..4] = 4 3 2 1\n"
+            b"a line of a memory is a name, the bounds of some of its cells if they are not all meant, = and their values, as a[1..4] = 4 3 2 1"
         }
         Kind::Program => no_token(text, at),
         Kind::Listing => no_token(text, at),
     }
 }
 
-// The sentence of a fault.
-fn write_sentence<W: Out>(
-    out: &mut W,
-    source: &Source<'_>,
-    fault: TextFault,
-    remark: &Remark,
-) -> Result<(), WriteFault>
-    requires counted { (W.Out.state out.old).failures < 2 ^ 63 }
-    ensures written { Writes (W.Out.state out.old) (W.Out.state out.new)
-        (spec.text_sentence source.now fault (remark_is remark.now)) result }
+// What is said of a byte that is no ASCII.
+fn of_byte(alloc: Global, source: &Source<'_>, at: u32, byte: u8) -> Result<Message, AllocError>
+    ensures { IfOk result (λ m. message_is m ≡ placed_in source.now at (spec.not_ascii byte)) }
 {
-    let text = source.text();
-    match fault {
-        TextFault::NotAscii(at) => write_not_ascii(out, byte_at(text, at as usize)),
-        TextFault::TextTooLong => out.write_all(too_long(source.kind)),
-        TextFault::BadToken(at) => out.write_all(bad_token(source.kind, text, at as usize)),
-        TextFault::Syntax(at) => write_bad_syntax(out, text, at as usize, remark),
-        TextFault::TooDeep(_) => {
-            out.write_all(
-                b"this is one level too many: blocks nest at most 64 deep, and so do expressions\n",
-            )
-        }
-        TextFault::OutOfMemory => {
-            out.write_all(
-                b"memory was refused: nothing is said of the text or the run, and with more memory it may go well\n",
-            )
-        }
+    let mut out = Buffer::new(alloc);
+    match write_not_ascii(&mut out, byte) {
+        Ok(()) => placed(alloc, source, at, out.bytes()),
+        Err(WriteFault) => Err(AllocError),
     }
 }
 
-// The place in the file and its line, and then the sentence.
-fn write_placed<W: Out>(
-    out: &mut W,
-    source: &Source<'_>,
-    at: u32,
-    fault: TextFault,
-    remark: &Remark,
-) -> Result<(), WriteFault>
-    requires counted { (W.Out.state out.old).failures < 2 ^ 63 }
-    ensures written { Writes (W.Out.state out.old) (W.Out.state out.new)
-        (spec.placed source.now (Some at) (spec.text_sentence source.now fault (remark_is remark.now))) result }
+fn of_other_byte(alloc: Global, source: &Source<'_>, at: u32) -> Result<Message, AllocError>
+    ensures { IfOk result (λ m. message_is m
+        ≡ placed_in source.now at (spec.not_ascii (slice_index (text_in source.now) at))) }
 {
-    write_excerpt(
-        out,
-        source.name.as_bytes(),
-        source.bytes.as_slice(),
-        source.origin(at) as usize,
-    )?;
-    write_sentence(out, source, fault, remark)
+    of_byte(alloc, source, at, byte_at(source.text(), at as usize))
 }
 
-/// Writes what is said of a text that is refused for E1 to E5: where, with the line and a caret, and a sentence that says what is there.
-/// E2 has no place. Of E4 the remark says what could stand there. The error is that the writer failed (E17).
-pub fn write_text_fault<W: Out>(
-    out: &mut W,
+fn of_bad_token(alloc: Global, source: &Source<'_>, at: u32) -> Result<Message, AllocError>
+    ensures { IfOk result (λ m. message_is m
+        ≡ placed_in source.now at (spec.bad_token source.now.kind (text_in source.now) at)) }
+{
+    let sentence = bad_token(source.kind, source.text(), at as usize);
+    placed(alloc, source, at, sentence)
+}
+
+/// What is said of a text that is refused for E1 to E5: where, and a sentence that says what is there. E2 has no place. Of E4 the remark
+/// says what could stand there. The error is that memory was refused.
+pub(crate) fn text_message(
+    alloc: Global,
     source: &Source<'_>,
     fault: TextFault,
     remark: &Remark,
-) -> Result<(), WriteFault>
-    requires counted { (W.Out.state out.old).failures < 2 ^ 63 }
-    ensures written { Writes (W.Out.state out.old) (W.Out.state out.new)
-        (spec.text_diagnosis source.now fault (remark_is remark.now)) result }
+) -> Result<Message, AllocError>
+    ensures { IfOk result (λ m. message_is m ≡ spec.text_message source.now fault (remark_is remark.now)) }
 {
     match fault {
-        TextFault::Syntax(at) => write_syntax_fault(out, source, at, remark),
-        TextFault::NotAscii(at) | TextFault::BadToken(at) | TextFault::TooDeep(at) => {
-            write_placed(out, source, at, fault, remark)
-        }
-        TextFault::TextTooLong | TextFault::OutOfMemory => {
-            write_sentence(out, source, fault, remark)
-        }
+        TextFault::NotAscii(at) => of_other_byte(alloc, source, at),
+        TextFault::TextTooLong => plain(alloc, too_long(source.kind)),
+        TextFault::BadToken(at) => of_bad_token(alloc, source, at),
+        TextFault::Syntax(at) => syntax_message(alloc, source, at, remark),
+        TextFault::TooDeep(at) => placed(
+            alloc,
+            source,
+            at,
+            b"this is one level too many: blocks nest at most 64 deep, and so do expressions",
+        ),
+        TextFault::OutOfMemory => plain(
+            alloc,
+            b"memory was refused: nothing is said of the text or the run, and with more memory it may go well",
+        ),
     }
 }

@@ -2,3 +2,4 @@ pub mod Reaching
 pub mod Inserting
 pub mod Farthest
 pub mod Together
+pub mod OpenBlocks

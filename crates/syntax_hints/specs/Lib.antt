@@ -4,3 +4,4 @@ pub mod Habits
 pub mod Blocks
 pub mod Missing
 pub mod Hints
+pub mod OpenBlocks

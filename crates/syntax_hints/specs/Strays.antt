@@ -3,32 +3,32 @@ use Rattle.std.specs.Prelude.{ℕ, ◌==◌, ◌||◌, if◌then◌else◌, List
 use Rattle.pram_model.specs.Names.{is_digit}
 
 abbrev pub number_sentence : List ℕ
-number_sentence = codes "a number is at most 9223372036854775807, and no letter follows it at once\n"
+number_sentence = codes "a number is at most 9223372036854775807, and no letter follows it at once"
 
 abbrev pub no_sentence : List ℕ
-no_sentence = codes "nothing of the language begins so\n"
+no_sentence = codes "nothing of the language begins so"
 
 abbrev pub of_exclamation : ℕ → List ℕ
 of_exclamation next =
-    if next == 61 then codes "\"<>\" compares what differs\n" else codes "\"not\" turns a condition around\n"
+    if next == 61 then codes "\"<>\" compares what differs" else codes "\"not\" turns a condition around"
 
 -- a dot behind a digit
 abbrev pub of_dot : ℕ → List ℕ
-of_dot before = if is_digit before then codes "there are no fractions: values are whole numbers\n" else no_sentence
+of_dot before = if is_digit before then codes "there are no fractions: values are whole numbers" else no_sentence
 
 -- `/` `%` `&` `|` `^` `{` `}` `"` `'` `,` `:` `_`
 abbrev pub of_symbol : ℕ → List ℕ
 of_symbol b =
-    if b == 47 then codes "division is \"div\", and its remainder \"mod\"; a comment begins with \"#\"\n"
-    else (if b == 37 then codes "the remainder of a division is \"mod\"\n"
-    else (if b == 38 then codes "\"and\" joins two conditions\n"
-    else (if b == 124 then codes "\"or\" joins two conditions\n"
-    else (if b == 94 then codes "there is no power: x * x is the square of x\n"
-    else (if b == 123 || b == 125 then codes "there are no braces: a block goes up to its \"end\", and a comment begins with \"#\"\n"
-    else (if b == 34 || b == 39 then codes "there are no texts: \"print\" prints numbers\n"
-    else (if b == 44 then codes "there are no commas: a declaration has one name, an array one subscript, a print one number\n"
-    else (if b == 58 then codes "\":=\" assigns, and names have no types\n"
-    else (if b == 95 then codes "a name begins with a letter\n" else no_sentence)))))))))
+    if b == 47 then codes "division is \"div\", and its remainder \"mod\"; a comment begins with \"#\""
+    else (if b == 37 then codes "the remainder of a division is \"mod\""
+    else (if b == 38 then codes "\"and\" joins two conditions"
+    else (if b == 124 then codes "\"or\" joins two conditions"
+    else (if b == 94 then codes "there is no power: x * x is the square of x"
+    else (if b == 123 || b == 125 then codes "there are no braces: a block goes up to its \"end\", and a comment begins with \"#\""
+    else (if b == 34 || b == 39 then codes "there are no texts: \"print\" prints numbers"
+    else (if b == 44 then codes "there are no commas: a declaration has one name, an array one subscript, a print one number"
+    else (if b == 58 then codes "\":=\" assigns, and names have no types"
+    else (if b == 95 then codes "a name begins with a letter" else no_sentence)))))))))
 
 -- by the byte before it and the one behind it
 abbrev pub stray_sentence : (before byte next : ℕ) → List ℕ

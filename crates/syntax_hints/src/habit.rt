@@ -58,34 +58,34 @@ pub fn habit_text(habit: Habit) -> &'static [u8]
 {
     match habit {
         Habit::ElseIf =>
-            b" is no word of the language: write \"else if\", and an \"end\" for each \"if\"\n",
-        Habit::BlockEnd => b" is no word of the language: a block ends with \"end\"\n",
-        Habit::Compare => b" can't stand here: one \"=\" compares, and \":=\" assigns\n",
-        Habit::Assign => b" can't stand here: \":=\" assigns, as in x := x + 1\n",
-        Habit::Declaration => b" can't stand here: declarations stand before \"begin\"\n",
-        Habit::Local => b" can't stand here: locals are declared first in the body of a pardo\n",
-        Habit::Do => b" can't stand here: the body begins with \"do\"\n",
-        Habit::Then => b" can't stand here: what an \"if\" does begins with \"then\"\n",
-        Habit::Pardo => b" can't stand here: the body of a range begins with \"pardo\"\n",
+            b" is no word of the language: write \"else if\", and an \"end\" for each \"if\"",
+        Habit::BlockEnd => b" is no word of the language: a block ends with \"end\"",
+        Habit::Compare => b" can't stand here: one \"=\" compares, and \":=\" assigns",
+        Habit::Assign => b" can't stand here: \":=\" assigns, as in x := x + 1",
+        Habit::Declaration => b" can't stand here: declarations stand before \"begin\"",
+        Habit::Local => b" can't stand here: locals are declared first in the body of a pardo",
+        Habit::Do => b" can't stand here: the body begins with \"do\"",
+        Habit::Then => b" can't stand here: what an \"if\" does begins with \"then\"",
+        Habit::Pardo => b" can't stand here: the body of a range begins with \"pardo\"",
         Habit::Begin =>
-            b" can't stand here: a program has one \"begin\", and a block goes up to its \"end\"\n",
+            b" can't stand here: a program has one \"begin\", and a block goes up to its \"end\"",
         Habit::Call =>
-            b" can't stand here: there are no functions, and a subscript stands between [ and ]\n",
-        Habit::Keyword => b" is a keyword, and no name\n",
+            b" can't stand here: there are no functions, and a subscript stands between [ and ]",
+        Habit::Keyword => b" is a keyword, and no name",
         Habit::Word =>
-            b" is no word of the language: a statement is an assignment, print, while, if or for\n",
-        Habit::Capitals => b" is a name here: keywords have small letters\n",
+            b" is no word of the language: a statement is an assignment, print, while, if or for",
+        Habit::Capitals => b" is a name here: keywords have small letters",
         Habit::In =>
-            b" can't stand here: a loop is \"for i := 1 to 8 do\", and a pardo \"for 1 <= i <= 8 pardo\"\n",
+            b" can't stand here: a loop is \"for i := 1 to 8 do\", and a pardo \"for 1 <= i <= 8 pardo\"",
         Habit::Semicolon =>
-            b" can't stand here: there is none behind \"begin\", \"do\", \"then\", \"else\", \"pardo\" or \"end\", and no two in a row\n",
-        Habit::Range => b" can't stand here: a pardo is written \"for 1 <= i <= 8 pardo\"\n",
-        Habit::Value => b" can't stand here: a declaration has no value, and all begin with 0\n",
+            b" can't stand here: there is none behind \"begin\", \"do\", \"then\", \"else\", \"pardo\" or \"end\", and no two in a row",
+        Habit::Range => b" can't stand here: a pardo is written \"for 1 <= i <= 8 pardo\"",
+        Habit::Value => b" can't stand here: a declaration has no value, and all begin with 0",
         Habit::Bounds =>
-            b" can't stand here: an array has a first and a last subscript, as a[1..8]\n",
+            b" can't stand here: an array has a first and a last subscript, as a[1..8]",
         Habit::Constant =>
-            b" can't stand here: a number has to, or with a first line \"# size n = 8\" a size, as {n}\n",
-        Habit::Subscript => b" can't stand here: an array has one subscript\n",
-        Habit::Order => b" can't stand here: the comparisons are \">=\" and \"<=\"\n",
+            b" can't stand here: a number has to, or with a first line \"# size n = 8\" a size, as {n}",
+        Habit::Subscript => b" can't stand here: an array has one subscript",
+        Habit::Order => b" can't stand here: the comparisons are \">=\" and \"<=\"",
     }
 }

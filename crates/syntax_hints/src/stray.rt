@@ -3,18 +3,17 @@
 ghost use Rattle.std.specs.Prelude.{◌≡◌};
 ghost use Rattle.syntax_hints.specs.Strays as spec;
 
-const NUMBER: &[u8] =
-    b"a number is at most 9223372036854775807, and no letter follows it at once\n";
+const NUMBER: &[u8] = b"a number is at most 9223372036854775807, and no letter follows it at once";
 
-const NOTHING: &[u8] = b"nothing of the language begins so\n";
+const NOTHING: &[u8] = b"nothing of the language begins so";
 
 fn of_exclamation(next: u8) -> &'static [u8]
     ensures { result.now ≡ spec.of_exclamation next }
 {
     if next == b'=' {
-        b"\"<>\" compares what differs\n"
+        b"\"<>\" compares what differs"
     } else {
-        b"\"not\" turns a condition around\n"
+        b"\"not\" turns a condition around"
     }
 }
 
@@ -22,7 +21,7 @@ fn of_dot(before: u8) -> &'static [u8]
     ensures { result.now ≡ spec.of_dot before }
 {
     if before.is_ascii_digit() {
-        b"there are no fractions: values are whole numbers\n"
+        b"there are no fractions: values are whole numbers"
     } else {
         NOTHING
     }
@@ -32,18 +31,18 @@ fn of_symbol(byte: u8) -> &'static [u8]
     ensures { result.now ≡ spec.of_symbol byte }
 {
     match byte {
-        b'/' => b"division is \"div\", and its remainder \"mod\"; a comment begins with \"#\"\n",
-        b'%' => b"the remainder of a division is \"mod\"\n",
-        b'&' => b"\"and\" joins two conditions\n",
-        b'|' => b"\"or\" joins two conditions\n",
-        b'^' => b"there is no power: x * x is the square of x\n",
+        b'/' => b"division is \"div\", and its remainder \"mod\"; a comment begins with \"#\"",
+        b'%' => b"the remainder of a division is \"mod\"",
+        b'&' => b"\"and\" joins two conditions",
+        b'|' => b"\"or\" joins two conditions",
+        b'^' => b"there is no power: x * x is the square of x",
         b'{' | b'}' =>
-            b"there are no braces: a block goes up to its \"end\", and a comment begins with \"#\"\n",
-        b'"' | b'\'' => b"there are no texts: \"print\" prints numbers\n",
+            b"there are no braces: a block goes up to its \"end\", and a comment begins with \"#\"",
+        b'"' | b'\'' => b"there are no texts: \"print\" prints numbers",
         b',' =>
-            b"there are no commas: a declaration has one name, an array one subscript, a print one number\n",
-        b':' => b"\":=\" assigns, and names have no types\n",
-        b'_' => b"a name begins with a letter\n",
+            b"there are no commas: a declaration has one name, an array one subscript, a print one number",
+        b':' => b"\":=\" assigns, and names have no types",
+        b'_' => b"a name begins with a letter",
         _ => NOTHING,
     }
 }

@@ -1,14 +1,15 @@
-use Rattle.std.proofs.Common.{◌++◌, ◌∙◌, List, ℕ, ap, codes, subst}
-use Rattle.std.specs.Fmt.{decimal}
+use Rattle.std.proofs.Common.{◌++◌, ◌∙◌, List, ℕ, ap, codes, decimal, subst}
+use Rattle.std.proofs.lemmas.List.{append-nil}
 use Rattle.text_out.specs.Out.{Writes}
 use Rattle.diagnoses.proofs.stops.write_too_many.Goals as goal
 
 pub returns : goal.returns
 returns g c =
-    let told = λ (d e : List ℕ). codes "there are " ++ (d ++ (codes " values, and the cells for them are " ++ (e ++ codes "\n"))) in
+    let told = λ (d e : List ℕ). codes "there are " ++ (d ++ (codes " values, and the cells for them are " ++ e)) in
+    let end = ap (told c.as_bytes.result.now) (append-nil c.as_bytes-2.result.now) in
     let values = ap (λ d. told d c.as_bytes-2.result.now) (c.as_bytes.ensures.value ∙ c.format.ensures.text) in
     let cells = ap (λ e. told (decimal c.args.values) e) (c.as_bytes-2.ensures.value ∙ c.format-2.ensures.text) in
     record {
       written = subst (λ (t : List ℕ). Writes (g.W.Out.state c.args.out.now) (g.W.Out.state c.write_parts.new.self) t c.write_parts.result)
-          (values ∙ cells) c.write_parts.ensures.written;
+          (end ∙ values ∙ cells) c.write_parts.ensures.written;
     }
