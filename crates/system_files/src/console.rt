@@ -4,8 +4,9 @@ ghost use Rattle.std.specs.Prelude.{◌≡◌, ◌⊎◌, ◌+◌, ◌++◌, ◌
 ghost use Rattle.text_out.specs.Out.{OutState, with_failure};
 ghost use Rattle.system_files.specs.Held.{held_at};
 
-use crate::sources::{SourceFault, Sources};
-use std::alloc::Global;
+use crate::folder::{names_in, parted};
+use crate::sources::{Beside, SourceFault, Sources};
+use std::alloc::{Alloc, AllocError, Global};
 use std::fs::{File, Files};
 use std::io::{ErrorKind, Print, Read, Stdin};
 use text_out::{Out, OutFailed};
@@ -101,13 +102,13 @@ const INPUT: &str = "-";
 
 /// The files of the system, of which `-` is standard input, once.
 #[derive(Drop)]
-pub struct SystemFiles<'a, R: Files> {
+pub struct SystemFiles<'a, R: Files + Alloc + Clone + Drop> {
     system: &'a R,
     // until it is read
     input: Option<Stdin>,
 }
 
-impl<'a, R: Files> SystemFiles<'a, R> {
+impl<'a, R: Files + Alloc + Clone + Drop> SystemFiles<'a, R> {
     /// Those of this system, whose standard input wasn't read yet.
     pub fn new(system: &'a R, input: Stdin) -> SystemFiles<'a, R> {
         SystemFiles {
@@ -117,7 +118,7 @@ impl<'a, R: Files> SystemFiles<'a, R> {
     }
 }
 
-impl<'a, R: Files> Sources for SystemFiles<'a, R> {
+impl<'a, R: Files + Alloc + Clone + Drop> Sources for SystemFiles<'a, R> {
     // what the system's files hold isn't known
     ghost holds = { λ s name bytes. Unit {0} };
 
@@ -133,6 +134,14 @@ impl<'a, R: Files> Sources for SystemFiles<'a, R> {
             Ok(file) => read_most(alloc, file, most),
             Err(fault) => Err(why(fault.kind())),
         }
+    }
+
+    fn beside(&mut self, alloc: Global, name: &str) -> Result<Beside, AllocError> {
+        let (folder, last) = parted(name);
+        Ok(Beside {
+            name: Vec::from_slice(alloc, last.as_bytes())?,
+            others: names_in(self.system, alloc, folder)?,
+        })
     }
 }
 

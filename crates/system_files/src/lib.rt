@@ -2,7 +2,8 @@
 #![tactic(auto)]
 
 mod console;
+mod folder;
 mod sources;
 
 pub use console::{Stream, SystemFiles};
-pub use sources::{SourceFault, Sources};
+pub use sources::{Beside, SourceFault, Sources};

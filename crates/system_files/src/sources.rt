@@ -4,7 +4,7 @@ ghost use Rattle.std.specs.Prelude.{◌≡◌, ℕ, List, Option, None, IfOk, Er
 ghost use Rattle.system_files.specs.Files.{IsReadFrom, IsSame};
 ghost use Rattle.system_files.specs.declared.sources.SourceFault.TheVariants.{Directory, Missing, Unreadable};
 
-use std::alloc::Global;
+use std::alloc::{AllocError, Global};
 use thiserror::Error;
 
 /// Why the bytes of a file are not there.
@@ -24,6 +24,15 @@ pub enum SourceFault {
     OutOfMemory,
 }
 
+/// What stands beside a file.
+#[derive(Drop)]
+pub struct Beside {
+    /// The name of the file in its folder.
+    pub name: Vec<u8>,
+    /// The names of what stands in that folder, in order, as far as they can be read.
+    pub others: Vec<Vec<u8>>,
+}
+
 /// Files by their names.
 pub trait Sources {
     /// What a name may stand for: a file with these bytes, or none that can be read.
@@ -35,5 +44,9 @@ pub trait Sources {
         ensures missing { result ≡ Err Missing → holds self.old name.now None }
         ensures directory { result ≡ Err Directory → holds self.old name.now None }
         ensures unreadable { result ≡ Err Unreadable → holds self.old name.now None }
+        ensures same { IsSame (holds self.new) (holds self.old) };
+
+    /// What stands beside a file of that name, which need not be there: for whoever wrote the name wrong. `AllocError`: memory was refused.
+    fn beside(&mut self, alloc: Global, name: &str) -> Result<Beside, AllocError>
         ensures same { IsSame (holds self.new) (holds self.old) };
 }
