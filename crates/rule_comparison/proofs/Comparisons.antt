@@ -1,5 +1,5 @@
 -- The runs under the five rules, one behind the other, are a comparison.
-use Rattle.std.proofs.Common.{◌≡◌, ◌∙◌, ℕ, List, [], ◌∷◌, ap, subst}
+use Rattle.std.proofs.Common.{◌≡◌, ◌∙◌, ℕ, List, [], ◌∷◌, ap, subst, sym}
 use Rattle.std.specs.Prelude.{ℤ, Option, None}
 use Rattle.pram_model.specs.declared.rule.Rule.{Rule}
 use Rattle.pram_model.specs.declared.rule.Rule.TheVariants.{Erew, Crew, Common, Priority, Sum}
@@ -7,25 +7,28 @@ use Rattle.pram_check.specs.Checked.{Checked}
 use Rattle.pram_check.specs.OtherRule.{under}
 use Rattle.write_rules.specs.Verdict.{Verdict}
 use Rattle.pram_meaning.specs.Outcome.{IsOutcome}
+use Rattle.pram_meaning.proofs.OneOutcome.{one_outcome}
 use Rattle.rule_comparison.specs.Compared.{IsComparison, finding_of}
 use Rattle.rule_comparison.specs.FirstEnd.{or_end}
 use Rattle.rule_comparison.specs.Found.{IsFound, first_end}
+use Rattle.rule_comparison.specs.Judged.{IsFoundUnder, IsJudged}
 use Rattle.rule_comparison.specs.declared.comparison.Comparison.{Comparison}
 use Rattle.rule_comparison.specs.declared.finding.Finding.{Finding}
 use Rattle.rule_comparison.proofs.FirstEnds.{ends_are_first, ends_from, stays_found}
-
--- one run more, with the first end before it and behind it
-pub record IsJudged (before : Option (List ℤ × List ℤ)) (v : Verdict) (x : Finding) (after : Option (List ℤ × List ℤ)) : Type 0 where
-  pub first : after ≡ or_end before v
-  pub found : IsFound after v x
 
 -- a program that was under another rule before
 pub next : (q r : Rule) (p one two : Checked) → one ≡ under q p → two ≡ under r one → two ≡ under r p
 next q r p one two first second = second ∙ ap (under r) first
 
-pub outcome_next : (q r : Rule) (p one : Checked) (input : List ℤ) (n : ℕ) (v : Verdict) → one ≡ under q p →
-    IsOutcome (under r one) input n v → IsOutcome (under r p) input n v
-outcome_next q r p one input n v first is = subst (λ (s : Checked). IsOutcome (under r s) input n v) first is
+-- what is found of a program under a rule is found of it where it is under another one
+pub moved : (q r : Rule) (p one : Checked) (input : List ℤ) (n : ℕ) (f g : Option (List ℤ × List ℤ)) (x : Finding) →
+    one ≡ under q p → IsFoundUnder r p input n f x g → IsFoundUnder r one input n f x g
+moved q r p one input n f g x first is = subst (λ (s : Checked). IsFoundUnder r s input n f x g) (sym first) is
+
+-- what is found of a program is found of what it was under another rule
+pub found_under : (q r : Rule) (p one : Checked) (input : List ℤ) (n : ℕ) (f g : Option (List ℤ × List ℤ)) (x : Finding) →
+    one ≡ under q p → IsFoundUnder r one input n f x g → IsFoundUnder r p input n f x g
+found_under q r p one input n f g x first is = subst (λ (s : Checked). IsFoundUnder r s input n f x g) first is
 
 -- what is found of a run is found of it beside the first end of all runs
 in_all : (f g : Option (List ℤ × List ℤ)) (v : Verdict) (x : Finding) (vs : List Verdict) → IsJudged f v x g →
@@ -40,24 +43,27 @@ by_rule a b c d e Common = c
 by_rule a b c d e Priority = d
 by_rule a b c d e Sum = e
 
-module _ (p : Checked) (input : List ℤ) (n : ℕ) (found : Comparison) (a b c d e : Verdict)
-    (none one two three four five : Option (List ℤ × List ℤ)) (nothing : none ≡ None) (at_erew : IsJudged none a found.erew one)
-    (at_crew : IsJudged one b found.crew two) (at_common : IsJudged two c found.common three)
+module _ (p : Checked) (input : List ℤ) (n : ℕ) (found : Comparison) (own : Finding) (z a b c d e : Verdict)
+    (none zero one two three four five : Option (List ℤ × List ℤ)) (nothing : none ≡ None) (at_own : IsJudged none z own zero)
+    (at_erew : IsJudged zero a found.erew one) (at_crew : IsJudged one b found.crew two) (at_common : IsJudged two c found.common three)
     (at_priority : IsJudged three d found.priority four) (at_sum : IsJudged four e found.sum five) where
   abbrev all : List Verdict
-  all = a ∷ b ∷ c ∷ d ∷ e ∷ []
+  all = z ∷ a ∷ b ∷ c ∷ d ∷ e ∷ []
 
   -- the first ends behind the runs
-  behind_erew : one ≡ or_end None a
-  behind_erew = at_erew.first ∙ ap (λ f. or_end f a) nothing
+  behind_own : zero ≡ or_end None z
+  behind_own = at_own.first ∙ ap (λ f. or_end f z) nothing
 
-  behind_crew : two ≡ or_end (or_end None a) b
+  behind_erew : one ≡ or_end (or_end None z) a
+  behind_erew = at_erew.first ∙ ap (λ f. or_end f a) behind_own
+
+  behind_crew : two ≡ or_end (or_end (or_end None z) a) b
   behind_crew = at_crew.first ∙ ap (λ f. or_end f b) behind_erew
 
-  behind_common : three ≡ or_end (or_end (or_end None a) b) c
+  behind_common : three ≡ or_end (or_end (or_end (or_end None z) a) b) c
   behind_common = at_common.first ∙ ap (λ f. or_end f c) behind_crew
 
-  behind_priority : four ≡ or_end (or_end (or_end (or_end None a) b) c) d
+  behind_priority : four ≡ or_end (or_end (or_end (or_end (or_end None z) a) b) c) d
   behind_priority = at_priority.first ∙ ap (λ f. or_end f d) behind_common
 
   -- a run among all of them
@@ -67,14 +73,28 @@ module _ (p : Checked) (input : List ℤ) (n : ℕ) (found : Comparison) (a b c 
       subst (λ k. IsFound k v x) (ap (λ k. ends_from k (v ∷ vs)) same ∙ whole) (in_all f g v x vs is)
 
   all_found : (r : Rule) → IsFound (first_end all) (by_rule a b c d e r) (finding_of found r)
-  all_found Erew = among none one None a found.erew (b ∷ c ∷ d ∷ e ∷ []) nothing at_erew (ends_are_first all)
-  all_found Crew = among one two (or_end None a) b found.crew (c ∷ d ∷ e ∷ []) behind_erew at_crew (ends_are_first all)
+  all_found Erew = among zero one (or_end None z) a found.erew (b ∷ c ∷ d ∷ e ∷ []) behind_own at_erew (ends_are_first all)
+  all_found Crew =
+      among one two (or_end (or_end None z) a) b found.crew (c ∷ d ∷ e ∷ []) behind_erew at_crew (ends_are_first all)
   all_found Common =
-      among two three (or_end (or_end None a) b) c found.common (d ∷ e ∷ []) behind_crew at_common (ends_are_first all)
+      among two three (or_end (or_end (or_end None z) a) b) c found.common (d ∷ e ∷ []) behind_crew at_common (ends_are_first all)
   all_found Priority =
-      among three four (or_end (or_end (or_end None a) b) c) d found.priority (e ∷ []) behind_common at_priority (ends_are_first all)
+      among three four (or_end (or_end (or_end (or_end None z) a) b) c) d found.priority (e ∷ []) behind_common at_priority
+      (ends_are_first all)
   all_found Sum =
-      among four five (or_end (or_end (or_end (or_end None a) b) c) d) e found.sum [] behind_priority at_sum (ends_are_first all)
+      among four five (or_end (or_end (or_end (or_end (or_end None z) a) b) c) d) e found.sum [] behind_priority at_sum
+      (ends_are_first all)
 
-  pub compared : ((r : Rule) → IsOutcome (under r p) input n (by_rule a b c d e r)) → IsComparison p input n found
-  compared outcomes = record { verdict = by_rule a b c d e; outcome = outcomes; found = all_found }
+  -- the first of the runs was that under the declared rule, which has one outcome
+  pub compared : found.declared ≡ p.rule → IsOutcome (under p.rule p) input n z → ((r : Rule) → IsOutcome (under r p) input n (by_rule a b c d e r)) →
+      IsComparison p input n found
+  compared declared first outcomes =
+      let same : z ≡ by_rule a b c d e p.rule = (one_outcome (under p.rule p) input n).alone z first
+      ∙ sym ((one_outcome (under p.rule p) input n).alone (by_rule a b c d e p.rule) (outcomes p.rule)) in
+      record {
+        verdict = by_rule a b c d e;
+        outcome = outcomes;
+        declared = declared;
+        found = λ r. subst (λ v. IsFound (first_end (v ∷ a ∷ b ∷ c ∷ d ∷ e ∷ [])) (by_rule a b c d e r) (finding_of found r)) same
+            (all_found r);
+      }

@@ -1,5 +1,5 @@
 -- A program has one comparison at most, since it has one outcome under each rule.
-use Rattle.std.proofs.Common.{◌≡◌, ◌∙◌, List, ap, refl, subst, sym}
+use Rattle.std.proofs.Common.{◌≡◌, ◌∙◌, ◌∷◌, List, ap, refl, subst, sym}
 use Rattle.std.specs.Prelude.{ℤ, Option, map}
 use Rattle.pram_model.specs.declared.rule.Rule.{Rule}
 use Rattle.pram_model.specs.declared.rule.Rule.TheVariants.{Erew, Crew, Common, Priority, Sum}
@@ -7,7 +7,7 @@ use Rattle.pram_check.specs.OtherRule.{under}
 use Rattle.write_rules.specs.Verdict.{Verdict, Ended, Faulted, GoesOn}
 use Rattle.pram_meaning.specs.Outcome.{HasOneOutcome}
 use Rattle.pram_meaning.proofs.OneOutcome.{one_outcome}
-use Rattle.rule_comparison.specs.Compared.{HasOneComparisonAtMost, finding_of, rules}
+use Rattle.rule_comparison.specs.Compared.{HasOneComparisonAtMost, end_beside, finding_of, rules}
 use Rattle.rule_comparison.specs.Found.{IsFound, first_end}
 use Rattle.rule_comparison.specs.declared.finding.Finding.{Finding}
 use Rattle.rule_comparison.specs.declared.finding.Finding.TheVariants as finding
@@ -33,21 +33,22 @@ found_once first (GoesOn output) finding.GoesOn (finding.Faulted told) h k = abs
 found_once first v x y h k = absurd h
 
 -- the same verdicts have the same first end
-same_ends : (v w : Rule → Verdict) → ((r : Rule) → v r ≡ w r) → first_end (map v rules) ≡ first_end (map w rules)
-same_ends v w same =
+same_ends : (own : Rule) (v w : Rule → Verdict) → ((r : Rule) → v r ≡ w r) → end_beside own v ≡ end_beside own w
+same_ends own v w same =
+    let z = same own in
     let a = same Erew in
     let b = same Crew in
     let c = same Common in
     let d = same Priority in
     let e = same Sum in
-    ap first_end (let all : map v rules ≡ map w rules = cc in all)
+    ap first_end (let all : (v own ∷ map v rules) ≡ (w own ∷ map w rules) = cc in all)
 
 pub one_comparison_at_most : HasOneComparisonAtMost
 one_comparison_at_most p input n c d is also r =
     let same : (q : Rule) → is.verdict q ≡ also.verdict q = λ q.
     let one : HasOneOutcome (under q p) input n = one_outcome (under q p) input n in
     one.alone (is.verdict q) (is.outcome q) ∙ sym (one.alone (also.verdict q) (also.outcome q)) in
-    found_once (first_end (map also.verdict rules)) (also.verdict r) (finding_of c r) (finding_of d r)
-    (subst (λ v. IsFound (first_end (map also.verdict rules)) v (finding_of c r)) (same r)
-    (subst (λ f. IsFound f (is.verdict r) (finding_of c r)) (same_ends is.verdict also.verdict same) (is.found r)))
+    found_once (end_beside p.rule also.verdict) (also.verdict r) (finding_of c r) (finding_of d r)
+    (subst (λ v. IsFound (end_beside p.rule also.verdict) v (finding_of c r)) (same r)
+    (subst (λ f. IsFound f (is.verdict r) (finding_of c r)) (same_ends p.rule is.verdict also.verdict same) (is.found r)))
     (also.found r)

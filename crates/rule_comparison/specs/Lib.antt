@@ -2,3 +2,4 @@ pub mod Found
 pub mod Compared
 pub mod FirstEnd
 pub mod ComparisonText
+pub mod Judged

@@ -1,15 +1,20 @@
 //! What is found of a program under all rules.
 
 ghost use Rattle.std.specs.Prelude.{◌≡◌};
+ghost use Rattle.pram_model.specs.Names.{same_text};
+ghost use Rattle.rule_comparison.specs.Compared as spec;
 ghost use Rattle.rule_comparison.specs.Compared.{finding_of};
 
 use crate::finding::Finding;
 use pram_trees::{Layout, Rule};
+use program_texts::rule_word;
 
 /// How a program comes out under each of the five rules, and the shared declarations by which its cells are named.
 #[derive(Drop)]
 pub struct Comparison {
     pub layout: Layout,
+    /// The rule that the program declares.
+    pub declared: Rule,
     pub erew: Finding,
     pub crew: Finding,
     pub common: Finding,
@@ -17,7 +22,20 @@ pub struct Comparison {
     pub sum: Finding,
 }
 
+fn is_same(a: &[u8], b: &[u8]) -> bool
+    ensures { result ≡ same_text a.now b.now }
+{
+    a == b
+}
+
 impl Comparison {
+    /// Whether the program declares that rule.
+    pub fn declares(&self, rule: Rule) -> bool
+        ensures value { result ≡ spec.declares self.now rule }
+    {
+        is_same(rule_word(rule), rule_word(self.declared))
+    }
+
     /// What is found under that rule.
     pub fn of(&self, rule: Rule) -> Finding
         ensures value { result ≡ finding_of self.now rule }

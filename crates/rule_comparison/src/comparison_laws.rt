@@ -4,7 +4,6 @@ ghost use Rattle.rule_comparison.specs.Compared.{HasOneComparisonAtMost};
 
 /// A program has one comparison at most on an input, within a bound: by the clauses of
 /// `compare_rules` alone its answer is the only one, want of memory aside.
-#[tactic(auto, using(crate::proofs::OneComparison::one_comparison_at_most))]
 pub fn one_comparison_at_most()
     ensures { HasOneComparisonAtMost }
 {}

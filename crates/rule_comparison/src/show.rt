@@ -3,7 +3,7 @@
 ghost use Rattle.std.specs.Prelude.{◌≡◌, ◌++◌, ◌<◌, ◌^◌, codes};
 ghost use Rattle.text_out.specs.Out.{Writes};
 ghost use Rattle.program_texts.specs.Shown.{line};
-ghost use Rattle.rule_comparison.specs.ComparisonText.{comparison_text, finding_text, rule_line};
+ghost use Rattle.rule_comparison.specs.ComparisonText.{comparison_text, declared_text, finding_text, rule_line, told};
 
 use crate::comparison::Comparison;
 use crate::finding::Finding;
@@ -32,15 +32,46 @@ fn write_finding<W: Out>(out: &mut W, layout: &Layout, finding: Finding) -> Resu
     }
 }
 
+// What is found under the declared rule, which is told where all others are beside it.
+fn write_declared<W: Out>(out: &mut W, layout: &Layout, finding: Finding) -> Result<(), WriteFault>
+    requires counted { (W.Out.state out.old).failures < 2 ^ 63 }
+    ensures written { Writes (W.Out.state out.old) (W.Out.state out.new) (line (declared_text layout.now finding)) result }
+{
+    match finding {
+        Finding::Same => out.write_all(b"ended same (declared)\n"),
+        Finding::Other => write_finding(out, layout, finding),
+        Finding::Faulted(_) => write_finding(out, layout, finding),
+        Finding::GoesOn => write_finding(out, layout, finding),
+    }
+}
+
+fn write_told<W: Out>(
+    out: &mut W,
+    declared: bool,
+    layout: &Layout,
+    finding: Finding,
+) -> Result<(), WriteFault>
+    requires counted { (W.Out.state out.old).failures < 2 ^ 63 }
+    ensures written { Writes (W.Out.state out.old) (W.Out.state out.new) (line (told declared layout.now finding)) result }
+{
+    if declared {
+        write_declared(out, layout, finding)
+    } else {
+        write_finding(out, layout, finding)
+    }
+}
+
 fn write_line<W: Out>(out: &mut W, comparison: &Comparison, rule: Rule) -> Result<(), WriteFault>
     requires counted { (W.Out.state out.old).failures < 2 ^ 63 }
     ensures written { Writes (W.Out.state out.old) (W.Out.state out.new) (rule_line comparison.now rule) result }
 {
     out.write_parts(&[rule_word(rule), b" "])?;
-    write_finding(out, &comparison.layout, comparison.of(rule))
+    let declared = comparison.declares(rule);
+    write_told(out, declared, &comparison.layout, comparison.of(rule))
 }
 
-/// Writes a line for each rule: `erew fault read-conflict a[1] line 4`, `crew ended same`, `priority ended other` or `sum goes on`.
+/// Writes a line for each rule: `erew fault read-conflict a[1] line 4`, `crew ended same`, `priority ended other` or `sum goes on`. Where
+/// the program ends under the rule that it declares, the line of that says so: `common ended same (declared)`.
 /// The error is that the writer failed (E17).
 pub fn show_comparison<W: Out>(comparison: &Comparison, out: &mut W) -> Result<(), WriteFault>
     requires counted { (W.Out.state out.old).failures < 2 ^ 63 }
