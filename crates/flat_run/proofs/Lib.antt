@@ -7,3 +7,4 @@ pub mod OutcomeLemmas
 pub mod SameLemmas
 pub mod AlikeLemmas
 pub mod ExchangeLemmas
+pub mod LineLemmas

@@ -1,3 +1,4 @@
 pub mod Views
 pub mod RunViews
 pub mod Exchanged
+pub mod Lined

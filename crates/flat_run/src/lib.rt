@@ -5,6 +5,7 @@ mod conflict;
 mod exchange;
 mod followed;
 mod instruct;
+mod lined;
 mod machine;
 mod processor;
 mod processor_fault;
@@ -18,5 +19,6 @@ mod vote;
 
 pub use exchange::Exchange;
 pub use followed::flat_exchanges;
+pub use lined::flat_lines;
 pub use program::flat_run;
 pub use superstep_machine::Purpose;

@@ -1,0 +1,3 @@
+pub mod Workers
+pub mod LineLists
+pub mod Listed
