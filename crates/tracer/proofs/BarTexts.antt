@@ -1,9 +1,9 @@
 -- Bars, one behind the other, and how tall each is.
-use Rattle.std.proofs.Common.{◌≡◌, ℕ, ◌+◌, ◌<◌, ◌≤◌, List, ◌++◌, length, drop, get_or, refl, ap, arith, sym, ◌∙◌}
+use Rattle.std.proofs.Common.{◌≡◌, ℕ, suc, ◌+◌, ◌-◌, ◌<◌, ◌≤◌, List, ◌++◌, length, drop, get_or, refl, ap, arith, sym, ◌∙◌}
 use Rattle.std.proofs.lemmas.List.{drop_more}
 use Rattle.superstep_machine.specs.Trace.{Exchange, greatest, relation_of}
 use Rattle.exchange_counts.proofs.Greatest.{at_most_greatest, relation_is}
-use Rattle.tracer.specs.Picture.{received_bar, received_bars, sent_bar, sent_bars}
+use Rattle.tracer.specs.Picture.{received_bar, received_bars, sent_bar, sent_bars, worker_number, worker_numbers}
 
 pub sent_at : (most x w : ℕ) (ns : List ℕ) (words : ℕ) → w < length ns → words ≡ get_or ns w 0 →
     sent_bars most x w (drop w ns) ≡ sent_bar most x w words ++ sent_bars most x (w + 1) (drop (w + 1) ns)
@@ -30,3 +30,10 @@ received_fits e w words most below is h =
     let least = at_most_greatest e.received w below in
     let all = relation_is e (greatest e.sent) (greatest e.received) refl refl in
     omega (arith, least, all, is, h)
+
+-- the number of worker w, and those behind it
+pub number_at : (x w workers : ℕ) → w < workers →
+    worker_numbers x w (workers - w) ≡ worker_number x w ++ worker_numbers x (w + 1) (workers - (w + 1))
+number_at x w workers below =
+    let one : workers - w ≡ suc (workers - (w + 1)) = omega (arith, below) in
+    ap (worker_numbers x w) one

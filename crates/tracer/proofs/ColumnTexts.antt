@@ -1,27 +1,32 @@
 -- Columns, one behind the other, and the most words of all.
-use Rattle.std.proofs.Common.{◌≡◌, ℕ, zero, suc, ◌+◌, ◌-◌, ◌<◌, ◌≤◌, max, List, [], ◌∷◌, ◌++◌, length, drop, take, get_or, refl, ap}
+use Rattle.std.proofs.Common.{◌≡◌, ℕ, zero, suc, ◌+◌, ◌-◌, ◌<◌, ◌≤◌, max, List, [], ◌∷◌, ◌++◌, length, drop, get_or, refl, ap}
 use Rattle.std.proofs.Common.{sym, ◌∙◌, arith}
 use Rattle.std.proofs.lemmas.List.{drop_all, drop_more, get_or-take, length-take}
 use Rattle.superstep_machine.specs.Trace.{Exchange, relation_of}
 use Rattle.exchange_counts.specs.CountedExchanges.{exchange_at, no_exchange}
+use Rattle.std.specs.Prelude.{Option}
+use Rattle.tracer.specs.Traced.{line_of}
 use Rattle.tracer.specs.Picture.{column, columns_from, drawn, most_words, workers_of}
 
 -- an exchange that is drawn is that of the run
-same_exchange : (es : List Exchange) (i : ℕ) → i < 200 → get_or (drawn es) i no_exchange ≡ exchange_at es (i + 1)
+pub same_exchange : (es : List Exchange) (i : ℕ) → i < 200 → get_or (drawn es) i no_exchange ≡ exchange_at es (i + 1)
 same_exchange es i few =
     let back : i ≡ i + 1 - 1 = omega arith in
     get_or-take 200 es i no_exchange few ∙ ap (λ j. get_or es j no_exchange) back
 
-few_drawn : (es : List Exchange) (i : ℕ) → i < length (drawn es) → i < 200
+pub few_drawn : (es : List Exchange) (i : ℕ) → i < length (drawn es) → i < 200
 few_drawn es i below = let long = length-take 200 es in omega (arith, below, long)
 
-pub columns_at : (workers most : ℕ) (es : List Exchange) (i : ℕ) → i < length (drawn es) →
-    columns_from workers most (i + 1) (drop i (drawn es)) ≡
-    column workers most (i + 1) (exchange_at es (i + 1)) ++ columns_from workers most (i + 1 + 1) (drop (i + 1) (drawn es))
-columns_at workers most es i below =
-    ap (columns_from workers most (i + 1)) (drop_more (drawn es) i no_exchange below)
-    ∙ ap (λ e. column workers most (i + 1) e ++ columns_from workers most (i + 1 + 1) (drop (i + 1) (drawn es)))
+pub columns_at : (workers most : ℕ) (lines : List ℕ) (es : List Exchange) (i : ℕ) (line : Option ℕ) → i < length (drawn es) →
+    line ≡ line_of lines (i + 1) →
+    columns_from workers most lines (i + 1) (drop i (drawn es)) ≡
+    column workers most (i + 1) line (exchange_at es (i + 1)) ++ columns_from workers most lines (i + 1 + 1) (drop (i + 1) (drawn es))
+columns_at workers most lines es i line below is =
+    ap (columns_from workers most lines (i + 1)) (drop_more (drawn es) i no_exchange below)
+    ∙ ap (λ e. column workers most (i + 1) (line_of lines (i + 1)) e ++ columns_from workers most lines (i + 1 + 1) (drop (i + 1) (drawn es)))
     (same_exchange es i (few_drawn es i below))
+    ∙ ap (λ l. column workers most (i + 1) l (exchange_at es (i + 1)) ++ columns_from workers most lines (i + 1 + 1) (drop (i + 1) (drawn es)))
+    (sym is)
 
 at_most : (es : List Exchange) (i : ℕ) → i < length es → relation_of (get_or es i no_exchange) ≤ most_words es
 at_most [] i l = omega (arith, l)

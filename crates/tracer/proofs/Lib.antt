@@ -1,3 +1,5 @@
 pub mod TraceLemmas
 pub mod BarTexts
 pub mod ColumnTexts
+pub mod CostSums
+pub mod Standing

@@ -1,2 +1,3 @@
 pub mod Traced
 pub mod Picture
+pub mod Cost

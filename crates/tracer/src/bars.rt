@@ -6,11 +6,13 @@ ghost use Rattle.exchange_counts.specs.CountedExchanges.{exchange_at};
 ghost use Rattle.superstep_machine.specs.Trace.{relation_of};
 ghost use Rattle.tracer.specs.Picture as spec;
 
+use crate::numbers::{Spot, write_number};
 use exchange_counts::Counts;
 use itoa::Buffer;
 use text_out::{Out, WriteFault};
 
-const AXIS: u128 = 184;
+/// Where the axis stands.
+pub(crate) const AXIS: u128 = 214;
 
 const TALLEST: u128 = 100;
 
@@ -22,8 +24,8 @@ pub(crate) struct Scale {
     ghost near: { x < 2 ^ 100 },
 }
 
-// How tall the bar of so many words is.
-fn bar_height(most: u64, words: u64) -> u128
+/// How tall the bar of so many words is.
+pub(crate) fn bar_height(most: u64, words: u64) -> u128
     requires { words ≤ most }
     ensures height { result ≡ spec.bar_height most words }
     ensures low { result ≤ 100 }
@@ -38,9 +40,10 @@ fn bar_height(most: u64, words: u64) -> u128
 // Where a worker's bars begin.
 fn bar_left(x: u128, worker: usize) -> u128
     requires { x < 2 ^ 100 }
-    ensures { result ≡ spec.bar_left x worker }
+    ensures left { result ≡ spec.bar_left x worker }
+    ensures near { result < 2 ^ 101 }
 {
-    x + 4 + 10 * worker as u128
+    x + 4 + 14 * worker as u128
 }
 
 // Where a bar stands, and how tall it is.
@@ -61,13 +64,13 @@ struct Share {
 fn write_bar<W: Out>(
     out: &mut W,
     bar: Bar,
-    colour: &[u8],
+    paint: &[u8],
     did: &[u8],
     share: Share,
 ) -> Result<(), WriteFault>
     requires counted { (W.Out.state out.old).failures < 2 ^ 63 }
     ensures written { Writes (W.Out.state out.old) (W.Out.state out.new)
-        (spec.bar bar.x bar.y bar.height colour.now share.worker did.now share.words) result }
+        (spec.bar bar.x bar.y bar.height paint.now share.worker did.now share.words) result }
 {
     let mut x = Buffer::new();
     let mut y = Buffer::new();
@@ -79,11 +82,11 @@ fn write_bar<W: Out>(
         x.format(bar.x).as_bytes(),
         b"' y='",
         y.format(bar.y).as_bytes(),
-        b"' width='8' height='",
+        b"' width='12' height='",
         height.format(bar.height).as_bytes(),
-        b"' fill='",
-        colour,
-        b"'><title>worker ",
+        b"' ",
+        paint,
+        b"><title>worker ",
         number.format(share.worker).as_bytes(),
         did,
         count.format(share.words).as_bytes(),
@@ -102,7 +105,7 @@ fn write_sent_bar<W: Out>(out: &mut W, scale: Scale, share: Share) -> Result<(),
         y: AXIS - height,
         height,
     };
-    write_bar(out, bar, b"#0072b2", b" sent ", share)
+    write_bar(out, bar, b"fill='#0072b2'", b" sent ", share)
 }
 
 fn write_received_bar<W: Out>(out: &mut W, scale: Scale, share: Share) -> Result<(), WriteFault>
@@ -117,7 +120,13 @@ fn write_received_bar<W: Out>(out: &mut W, scale: Scale, share: Share) -> Result
         y: AXIS,
         height,
     };
-    write_bar(out, bar, b"#e69f00", b" received ", share)
+    write_bar(
+        out,
+        bar,
+        b"fill='url(#received)' stroke='#b06000'",
+        b" received ",
+        share,
+    )
 }
 
 /// Writes the bars of what each worker sent in an exchange, from 1.
@@ -166,6 +175,41 @@ pub(crate) fn write_received_bars<W: Out>(
             words: counts.received(k, w),
         };
         write_received_bar(out, scale, share)?;
+    }
+    Ok(())
+}
+
+// A worker's number below its bars.
+fn write_worker_number<W: Out>(out: &mut W, x: u128, worker: usize) -> Result<(), WriteFault>
+    requires counted { (W.Out.state out.old).failures < 2 ^ 63 }
+    requires near { x < 2 ^ 100 }
+    ensures written { Writes (W.Out.state out.old) (W.Out.state out.new) (spec.worker_number x worker) result }
+{
+    let spot = Spot {
+        x: bar_left(x, worker) + 6,
+        y: 327,
+    };
+    write_number(
+        out,
+        spot,
+        b" font-size='10' text-anchor='middle'",
+        b"",
+        worker as u64,
+    )
+}
+
+/// Writes the numbers of so many workers below their bars.
+pub(crate) fn write_worker_numbers<W: Out>(
+    out: &mut W,
+    x: u128,
+    workers: usize,
+) -> Result<(), WriteFault>
+    requires counted { (W.Out.state out.old).failures < 2 ^ 63 }
+    requires near { x < 2 ^ 100 }
+    ensures written { Writes (W.Out.state out.old) (W.Out.state out.new) (spec.worker_numbers x 0 workers) result }
+{
+    'workers: for w in 0..workers {
+        write_worker_number(out, x, w)?;
     }
     Ok(())
 }

@@ -7,13 +7,14 @@ ghost use Rattle.superstep_machine.specs.Purposes.{purpose_is};
 ghost use Rattle.exchange_counts.specs.CountedExchanges.{exchange_at};
 ghost use Rattle.tracer.specs.Picture as spec;
 
-use crate::bars::{Scale, write_received_bars, write_sent_bars};
+use crate::bars::{Scale, write_received_bars, write_sent_bars, write_worker_numbers};
 use crate::exchange_line::kind_word;
+use crate::numbers::{Spot, write_number};
 use exchange_counts::{Counts, Purpose};
 use itoa::Buffer;
 use text_out::{Out, WriteFault};
 
-const LEFT: u128 = 72;
+const LEFT: u128 = 168;
 
 /// How the columns of a run are drawn: how wide each is, in pixels, and for how many words the tallest bar is.
 #[derive(Clone, Copy, Debug)]
@@ -27,7 +28,7 @@ pub(crate) fn column_width(workers: usize) -> u128
     ensures width { result ≡ spec.column_width workers }
     ensures fits { result < 2 ^ 70 }
 {
-    10 * workers as u128 + 50
+    14 * workers as u128 + 50
 }
 
 // What stands behind a column.
@@ -66,7 +67,7 @@ fn write_front<W: Out>(
         left.format(x).as_bytes(),
         b"' y='50' width='",
         wide.format(width).as_bytes(),
-        b"' height='264' fill='",
+        b"' height='300' fill='",
         ground(purpose),
         b"'/>\n<text x='",
         words,
@@ -78,10 +79,49 @@ fn write_front<W: Out>(
         kind_word(purpose),
         b"</text>\n<text x='",
         words,
-        b"' y='304'>h ",
+        b"' y='344'>h ",
         relation.format(h).as_bytes(),
         b"</text>\n",
     ])
+}
+
+// The line of the statement that an exchange serves, where it is known.
+fn write_column_line<W: Out>(out: &mut W, x: u128, line: Option<u32>) -> Result<(), WriteFault>
+    requires counted { (W.Out.state out.old).failures < 2 ^ 63 }
+    requires near { x < 2 ^ 100 }
+    ensures written { Writes (W.Out.state out.old) (W.Out.state out.new) (spec.column_line x line) result }
+{
+    match line {
+        None => Ok(()),
+        Some(line) => write_number(
+            out,
+            Spot { x: x + 4, y: 92 },
+            b"",
+            b"line ",
+            u64::from(line),
+        ),
+    }
+}
+
+// What stands above and below the bars of exchange k.
+fn write_head<W: Out>(
+    out: &mut W,
+    counts: &Counts,
+    x: u128,
+    width: u128,
+    k: usize,
+    line: Option<u32>,
+) -> Result<(), WriteFault>
+    requires counted { (W.Out.state out.old).failures < 2 ^ 63 }
+    requires near { x < 2 ^ 100 }
+    requires first { 1 ≤ k }
+    requires last { k ≤ length counts.now }
+    ensures written { Writes (W.Out.state out.old) (W.Out.state out.new)
+        (spec.column_head x width k line (exchange_at counts.now k)) result }
+{
+    let (purpose, h) = counts.exchange(k);
+    write_front(out, x, width, k, purpose, h)?;
+    write_column_line(out, x, line)
 }
 
 // The bars of an exchange in a column.
@@ -102,6 +142,25 @@ fn write_bars<W: Out>(
     write_received_bars(out, counts, scale, k)
 }
 
+// The bars, and the numbers of their workers.
+fn write_body<W: Out>(
+    out: &mut W,
+    counts: &Counts,
+    scale: Scale,
+    k: usize,
+) -> Result<(), WriteFault>
+    requires counted { (W.Out.state out.old).failures < 2 ^ 63 }
+    requires first { 1 ≤ k }
+    requires last { k ≤ length counts.now }
+    requires most { relation_of (exchange_at counts.now k) ≤ scale.most }
+    ensures written { Writes (W.Out.state out.old) (W.Out.state out.new)
+        (spec.column_body scale.most scale.x (exchange_at counts.now k)) result }
+{
+    let workers = counts.workers();
+    write_bars(out, counts, scale, k)?;
+    write_worker_numbers(out, scale.x, workers)
+}
+
 // Where the column of exchange k begins.
 fn column_left(measure: Measure, k: usize) -> u128
     requires first { 1 ≤ k }
@@ -118,6 +177,7 @@ pub(crate) fn write_column<W: Out>(
     counts: &Counts,
     measure: Measure,
     k: usize,
+    line: Option<u32>,
 ) -> Result<(), WriteFault>
     requires counted { (W.Out.state out.old).failures < 2 ^ 63 }
     requires first { 1 ≤ k }
@@ -125,15 +185,14 @@ pub(crate) fn write_column<W: Out>(
     requires few { k ≤ 200 }
     requires most { relation_of (exchange_at counts.now k) ≤ measure.most }
     ensures written { Writes (W.Out.state out.old) (W.Out.state out.new)
-        (spec.column measure.workers measure.most k (exchange_at counts.now k)) result }
+        (spec.column measure.workers measure.most k line (exchange_at counts.now k)) result }
 {
     let x = column_left(measure, k);
     let width = column_width(measure.workers);
-    let (purpose, h) = counts.exchange(k);
-    write_front(out, x, width, k, purpose, h)?;
+    write_head(out, counts, x, width, k, line)?;
     let scale = Scale {
         x,
         most: measure.most,
     };
-    write_bars(out, counts, scale, k)
+    write_body(out, counts, scale, k)
 }

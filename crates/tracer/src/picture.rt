@@ -1,14 +1,15 @@
 //! All of a picture.
 
-ghost use Rattle.std.specs.Prelude.{◌≡◌, ◌≤◌, ◌<◌, ◌^◌, length};
+ghost use Rattle.std.specs.Prelude.{◌≡◌, ◌≤◌, ◌<◌, ◌^◌, ◌++◌, length};
 ghost use Rattle.text_out.specs.Out.{Writes};
-ghost use Rattle.superstep_machine.specs.Trace.{relation_of};
-ghost use Rattle.exchange_counts.specs.CountedExchanges.{exchange_at};
 ghost use Rattle.tracer.specs.Picture as spec;
 
 use crate::columns::{Measure, column_width, write_column};
+use crate::exchange_line::line_of;
+use crate::scale::write_scale;
 use exchange_counts::Counts;
 use itoa::Buffer;
+use svg_texts::write_letters;
 use text_out::{Out, WriteFault};
 
 // No more exchanges are drawn.
@@ -50,7 +51,7 @@ fn picture_width(workers: usize, columns: usize) -> u128
     requires { columns ≤ 200 }
     ensures { result ≡ spec.picture_width workers columns }
 {
-    (72 + column_width(workers) * columns as u128).max(260)
+    (180 + column_width(workers) * columns as u128).max(620)
 }
 
 // The opening of a picture of that width.
@@ -63,9 +64,9 @@ fn write_opening<W: Out>(out: &mut W, width: u128) -> Result<(), WriteFault>
     out.write_parts(&[
         b"<svg xmlns='http://www.w3.org/2000/svg' version='1.1' width='",
         wide,
-        b"' height='324' font-family='sans-serif' font-size='12'>\n<rect x='0' y='0' width='",
+        b"' height='386' font-family='sans-serif' font-size='12'>\n<rect x='0' y='0' width='",
         wide,
-        b"' height='324' fill='#ffffff'/>\n",
+        b"' height='386' fill='#ffffff'/>\n",
     ])
 }
 
@@ -97,60 +98,123 @@ fn write_head<W: Out>(out: &mut W, workers: usize, exchanges: usize) -> Result<(
     ])
 }
 
-// Which colour is which.
+// Which bars are which.
 fn write_key<W: Out>(out: &mut W) -> Result<(), WriteFault>
     requires counted { (W.Out.state out.old).failures < 2 ^ 63 }
     ensures written { Writes (W.Out.state out.old) (W.Out.state out.new) spec.key_text result }
 {
     out.write_parts(&[
-        b"<rect x='12' y='28' width='12' height='12' fill='#0072b2'/>\n<text x='28' y='38'>words sent</text>\n",
-        b"<rect x='112' y='28' width='12' height='12' fill='#e69f00'/>\n<text x='128' y='38'>words received</text>\n",
+        b"<defs><pattern id='received' width='4' height='4' patternUnits='userSpaceOnUse'><rect width='4' height='4' fill='#ffffff'/>",
+        b"<rect width='4' height='2' fill='#e69f00'/></pattern></defs>\n<rect x='12' y='28' width='12' height='12' fill='#0072b2'/>\n",
+        b"<text x='28' y='38'>words sent</text>\n",
+        b"<rect x='112' y='28' width='12' height='12' fill='url(#received)' stroke='#b06000'/>\n<text x='128' y='38'>words received</text>\n",
+        b"<text x='236' y='38'>h: the most words that one worker sent or received</text>\n",
     ])
 }
 
+fn write_named_key<W: Out>(out: &mut W, workers: usize, exchanges: usize) -> Result<(), WriteFault>
+    requires counted { (W.Out.state out.old).failures < 2 ^ 63 }
+    ensures written { Writes (W.Out.state out.old) (W.Out.state out.new)
+        (spec.head_text workers exchanges ++ spec.key_text) result }
+{
+    write_head(out, workers, exchanges)?;
+    write_key(out)
+}
+
+// What stands above the columns.
+fn write_above<W: Out>(
+    out: &mut W,
+    width: u128,
+    workers: usize,
+    exchanges: usize,
+) -> Result<(), WriteFault>
+    requires counted { (W.Out.state out.old).failures < 2 ^ 63 }
+    ensures written { Writes (W.Out.state out.old) (W.Out.state out.new) (spec.above width workers exchanges) result }
+{
+    write_opening(out, width)?;
+    write_named_key(out, workers, exchanges)
+}
+
 // The columns of the exchanges that are drawn.
-fn write_columns<W: Out>(out: &mut W, counts: &Counts, measure: Measure) -> Result<(), WriteFault>
+fn write_columns<W: Out>(
+    out: &mut W,
+    counts: &Counts,
+    lines: &[u32],
+    measure: Measure,
+) -> Result<(), WriteFault>
     requires counted { (W.Out.state out.old).failures < 2 ^ 63 }
     requires most { measure.most ≡ spec.most_words (spec.drawn counts.now) }
     ensures written { Writes (W.Out.state out.old) (W.Out.state out.new)
-        (spec.columns_from measure.workers measure.most 1 (spec.drawn counts.now)) result }
+        (spec.columns_from measure.workers measure.most lines.now 1 (spec.drawn counts.now)) result }
 {
     'exchanges: for i in 0..drawn(counts) {
-        write_column(out, counts, measure, i + 1)?;
+        write_column(out, counts, measure, i + 1, line_of(lines, i + 1))?;
     }
     Ok(())
 }
 
-// The axis, its names, and the end of a picture of that width.
-fn write_ending<W: Out>(out: &mut W, width: u128) -> Result<(), WriteFault>
+// How the run came out, and the end of the picture.
+fn write_outcome<W: Out>(out: &mut W, outcome: &[u8]) -> Result<(), WriteFault>
     requires counted { (W.Out.state out.old).failures < 2 ^ 63 }
-    ensures written { Writes (W.Out.state out.old) (W.Out.state out.new) (spec.ending_text width) result }
+    ensures written { Writes (W.Out.state out.old) (W.Out.state out.new) (spec.outcome_text outcome.now) result }
 {
-    let mut digits = Buffer::new();
-    out.write_parts(&[
-        b"<line x1='72' y1='184' x2='",
-        digits.format(width).as_bytes(),
-        b"' y2='184' stroke='#000000'/>\n",
-        b"<text x='12' y='180'>sent</text>\n<text x='12' y='198'>received</text>\n</svg>\n",
-    ])
+    out.write_all(b"<text x='12' y='372'>")?;
+    write_letters(out, outcome)?;
+    out.write_all(b"</text>\n</svg>\n")
 }
 
-/// Writes a picture of a run's exchanges, as SVG 1.1: a column for each of the first 200, with its number from 1, what it was for, and its
-/// h, the most words that one worker sent or received in it; in it each worker has a bar up for the words that it sent, and one down for
-/// those that it received, in proportion to the most of all. `WriteFault` (E17) says that the writer failed; what it took is a beginning
-/// of the picture.
-pub fn write_picture<W: Out>(counts: &Counts, out: &mut W) -> Result<(), WriteFault>
+// What stands around the columns, and below them.
+fn write_ending<W: Out>(
+    out: &mut W,
+    width: u128,
+    most: u64,
+    outcome: &[u8],
+) -> Result<(), WriteFault>
     requires counted { (W.Out.state out.old).failures < 2 ^ 63 }
-    ensures written { Writes (W.Out.state out.old) (W.Out.state out.new) (spec.picture counts.now) result }
+    ensures written { Writes (W.Out.state out.old) (W.Out.state out.new) (spec.ending_text width most outcome.now) result }
+{
+    write_scale(out, width, most)?;
+    write_outcome(out, outcome)
+}
+
+// A picture of that width, and measured so.
+fn write_measured<W: Out>(
+    out: &mut W,
+    counts: &Counts,
+    lines: &[u32],
+    outcome: &[u8],
+    width: u128,
+    measure: Measure,
+) -> Result<(), WriteFault>
+    requires counted { (W.Out.state out.old).failures < 2 ^ 63 }
+    requires most { measure.most ≡ spec.most_words (spec.drawn counts.now) }
+    ensures written { Writes (W.Out.state out.old) (W.Out.state out.new)
+        (spec.picture_of width measure.workers measure.most lines.now outcome.now counts.now) result }
+{
+    let exchanges = counts.len();
+    write_above(out, width, measure.workers, exchanges)?;
+    write_columns(out, counts, lines, measure)?;
+    write_ending(out, width, measure.most, outcome)
+}
+
+/// Writes a picture of a run's exchanges, as SVG 1.1: a column for each of the first 200, with its number from 1, what it was for, the line
+/// of the statement that it serves where `lines` has one for it, and its h, the most words that one worker sent or received in it. In it
+/// each worker has a full bar up for the words that it sent, and a striped one down for those that it received, in proportion to the most
+/// of all, by a scale on the left; below stands its number. The last line of text is `outcome`, in which a byte that is no printed letter of
+/// ASCII is a question mark. `WriteFault` (E17) says that the writer failed; what it took is a beginning of the picture.
+pub fn write_picture<W: Out>(
+    counts: &Counts,
+    lines: &[u32],
+    outcome: &[u8],
+    out: &mut W,
+) -> Result<(), WriteFault>
+    requires counted { (W.Out.state out.old).failures < 2 ^ 63 }
+    ensures written { Writes (W.Out.state out.old) (W.Out.state out.new) (spec.picture lines.now outcome.now counts.now) result }
 {
     let measure = Measure {
         workers: workers_of(counts),
         most: most_words(counts),
     };
     let width = picture_width(measure.workers, drawn(counts));
-    write_opening(out, width)?;
-    write_head(out, measure.workers, counts.len())?;
-    write_key(out)?;
-    write_columns(out, counts, measure)?;
-    write_ending(out, width)
+    write_measured(out, counts, lines, outcome, width, measure)
 }

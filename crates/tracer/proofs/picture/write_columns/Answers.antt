@@ -1,8 +1,6 @@
-use Rattle.std.proofs.Common.{◌+◌, ◌<◌, ◌≤◌, length, arith, subst, sym}
+use Rattle.std.proofs.Common.{◌<◌, length, arith}
 use Rattle.text_out.proofs.Writing.{writes_stopped}
 use Rattle.text_out.proofs.Progress.{goes_on, stops}
-use Rattle.superstep_machine.specs.Trace.{relation_of}
-use Rattle.exchange_counts.specs.CountedExchanges.{exchange_at}
 use Rattle.tracer.specs.Picture.{drawn}
 use Rattle.tracer.proofs.ColumnTexts.{column_fits, columns_at}
 use Rattle.tracer.proofs.picture.write_columns.Goals as goal
@@ -25,7 +23,7 @@ returns-in_err-write_column g c =
     record {
       written = writes_stopped _ _ _ c.from_residual.result _ c.from_residual.ensures.1
           (stops _ _ _ _ _ _ _ c.exchanges.invariant.progress
-          (columns_at c.args.measure.workers c.args.measure.most c.args.counts.now c.exchanges.i below) c.in_err-write_column.ensures.written);
+          (columns_at c.args.measure.workers c.args.measure.most c.args.lines.now c.args.counts.now c.exchanges.i c.line_of.result below c.line_of.ensures) c.in_err-write_column.ensures.written);
     }
 
 pub exchanges-preserved : goal.exchanges-preserved
@@ -35,5 +33,5 @@ exchanges-preserved g c =
     let below : c.exchanges.i < length (drawn c.args.counts.now) = omega (arith, test, long) in
     record {
       progress = goes_on _ _ _ _ _ _ _ c.exchanges.invariant.progress
-          (columns_at c.args.measure.workers c.args.measure.most c.args.counts.now c.exchanges.i below) c.in_ok-write_column.ensures.written;
+          (columns_at c.args.measure.workers c.args.measure.most c.args.lines.now c.args.counts.now c.exchanges.i c.line_of.result below c.line_of.ensures) c.in_ok-write_column.ensures.written;
     }

@@ -1,12 +1,21 @@
-use Rattle.std.proofs.Common.{ℕ, List, ◌++◌, ◌∙◌, subst}
-use Rattle.std.specs.Prelude.{codes}
-use Rattle.text_out.specs.Out.{Writes}
+use Rattle.std.proofs.Common.{refl}
+use Rattle.tracer.specs.Picture.{outcome_text, scale}
+use Rattle.text_out.proofs.Progress.{breaks_off, closes, goes_on, starts}
 use Rattle.tracer.proofs.picture.write_ending.Goals as goal
+
+pub returns-in_err-write_scale : goal.returns-in_err-write_scale
+returns-in_err-write_scale g c =
+    let part1 = scale c.args.width c.args.most in
+    let part2 = outcome_text c.args.outcome.now in
+    record {
+      written = breaks_off _ _ _ _ _ part1 part2 c.from_residual.result _ c.from_residual.ensures.1 (starts _ _ c.requires.counted) refl c.in_err-write_scale.ensures.written;
+    }
 
 pub returns : goal.returns
 returns g c =
-    let digits = c.as_bytes.ensures.value ∙ c.format.ensures.text in
+    let part1 = scale c.args.width c.args.most in
+    let part2 = outcome_text c.args.outcome.now in
+    let after1 = goes_on _ _ _ _ _ part1 part2 (starts _ _ c.requires.counted) refl c.in_ok-write_scale.ensures.written in
     record {
-      written = subst (λ (t : List ℕ). Writes (g.W.Out.state c.args.out.now) (g.W.Out.state c.write_parts.new.self) t c.write_parts.result)
-          (λ i. codes "<line x1='72' y1='184' x2='" ++ (digits i ++ (codes "' y2='184' stroke='#000000'/>\n" ++ (codes "<text x='12' y='180'>sent</text>\n<text x='12' y='198'>received</text>\n</svg>\n")))) c.write_parts.ensures.written;
+      written = closes _ _ _ _ _ c.write_outcome.result after1 c.write_outcome.ensures.written;
     }

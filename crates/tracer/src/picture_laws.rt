@@ -1,0 +1,30 @@
+//! The laws of the picture.
+
+ghost use Rattle.std.specs.Prelude.{ℕ, List, ◌≤◌, ◌<◌, length, slice_index_or};
+ghost use Rattle.superstep_machine.specs.Trace.{Exchange};
+ghost use Rattle.exchange_counts.specs.CountedExchanges.{exchange_at};
+ghost use Rattle.svg_texts.specs.Standing.{StandsIn};
+ghost use Rattle.tracer.specs.Picture.{column, column_left, drawn, most_words, picture, received_bar, sent_bar, worker_number, workers_of};
+ghost use Rattle.tracer.specs.Traced.{line_of};
+
+/// Each exchange that is drawn has its column, with the line that is given for it.
+pub fn each_exchange_is_a_column()
+    ensures { (lines outcome : List ℕ) (es : List Exchange) (k : ℕ) → 1 ≤ k → k ≤ length (drawn es) →
+        StandsIn (column (workers_of es) (most_words (drawn es)) k (line_of lines k) (exchange_at es k)) (picture lines outcome es) }
+{}
+
+/// In the column of an exchange each worker has a bar for the words that it sent there, one for those that it received, and below them its
+/// number.
+pub fn each_worker_has_its_bars()
+    ensures sent { (lines outcome : List ℕ) (es : List Exchange) (k w : ℕ) → 1 ≤ k → k ≤ length (drawn es) →
+        w < length (exchange_at es k).sent →
+        StandsIn (sent_bar (most_words (drawn es)) (column_left (workers_of es) k) w (slice_index_or (exchange_at es k).sent w 0))
+        (picture lines outcome es) }
+    ensures received { (lines outcome : List ℕ) (es : List Exchange) (k w : ℕ) → 1 ≤ k → k ≤ length (drawn es) →
+        w < length (exchange_at es k).received →
+        StandsIn (received_bar (most_words (drawn es)) (column_left (workers_of es) k) w (slice_index_or (exchange_at es k).received w 0))
+        (picture lines outcome es) }
+    ensures number { (lines outcome : List ℕ) (es : List Exchange) (k w : ℕ) → 1 ≤ k → k ≤ length (drawn es) →
+        w < length (exchange_at es k).sent →
+        StandsIn (worker_number (column_left (workers_of es) k) w) (picture lines outcome es) }
+{}
