@@ -1,10 +1,11 @@
 -- What a box and a line of a column say of processors.
-use Rattle.std.proofs.Common.{◌≡◌, ◌∙◌, ℕ, ℤ, Bool, true, false, ◌&&◌, List, Option, None, Some, ap, arith, get_or, nat_eq, refl, subst}
+use Rattle.std.proofs.Common.{◌≡◌, ◌∙◌, ℕ, ℤ, Bool, true, false, not, ◌&&◌, List, Option, None, Some, ap, arith, get_or, nat_eq, refl, subst}
 use Rattle.std.proofs.lemmas.Bool.Decides.{nat_tests}
 use Rattle.std.proofs.lemmas.List.Folds.{Any-from_list_any, list_any_at}
 use Rattle.std.specs.List.{Contains, filter}
 use Rattle.step_entries.specs.Entries.{Act}
-use Rattle.flow_pictures.specs.Marks.{Arrow, arrow, arrows, arrows_to, carries, carries_one, has_read, is_written, node, nodes, writes}
+use Rattle.flow_pictures.specs.Marks.{Arrow, arrow_by, arrows, arrows_to, carries, carries_one, has_read, is_written, node}
+use Rattle.flow_pictures.specs.Marks.{nodes, values, writes}
 use Rattle.flow_pictures.proofs.Members.{kept, mapped, of_mapped, of_spread, passes_test, spread}
 
 same_cell : (c : ℕ) → nat_eq c c ≡ true
@@ -42,21 +43,22 @@ carries_is acts a from to one read is =
     (ap (λ b. carries_one b from (Some to)) one.2
     ∙ ap (λ w. w && has_read a.reads from) (one_writes a to is) ∙ has_read_is a.reads from read)
 
-pub arrow_is : (rows : List ℕ) (column : ℕ) (acts : List Act) (a : Act) (from to : ℕ) → Contains acts a → Contains a.reads from →
-    a.write ≡ Some to → Contains rows from → Contains rows to → Contains (arrows rows column acts) (arrow column to from)
-arrow_is rows column acts a from to one read is row_from row_to =
-    spread (arrows_to rows column acts) (filter (writes acts) rows) to (arrow column to from)
+pub arrow_is : (rows : List ℕ) (column : ℕ) (aside : List Bool) (acts : List Act) (a : Act) (from to : ℕ) → Contains acts a → Contains a.reads from →
+    a.write ≡ Some to → Contains rows from → Contains rows to → Contains (arrows rows column aside acts) (arrow_by column aside acts to from)
+arrow_is rows column aside acts a from to one read is row_from row_to =
+    spread (arrows_to rows column aside acts) (filter (writes acts) rows) to (arrow_by column aside acts to from)
     (kept (writes acts) rows to row_to (writes_is acts a to one is))
-    (mapped (arrow column to) (filter (λ from. carries acts from (Some to)) rows) from
+    (mapped (arrow_by column aside acts to) (filter (λ from. carries acts from (Some to)) rows) from
     (kept (λ from. carries acts from (Some to)) rows from row_from (carries_is acts a from to one read is)))
 
 -- the processor of a line
-pub record IsOf (acts : List Act) (column : ℕ) (l : Arrow) : Type 0 where
+pub record IsOf (aside : List Bool) (acts : List Act) (column : ℕ) (l : Arrow) : Type 0 where
   pub act : Act
   pub acting : Contains acts act
   pub reads : Contains act.reads l.from
   pub writes : act.write ≡ Some l.to
   pub same : l.column ≡ column
+  pub dashed : l.dashed ≡ not (values aside acts l.from (Some l.to))
 
 both : (a b : Bool) → (a && b) ≡ true → (a ≡ true) × (b ≡ true)
 both true b h = (refl, h)
@@ -68,8 +70,9 @@ read_is reads c h =
     let same : some.1 ≡ c = grind (arith, nat_tests, some.4) in
     (some.0, some.2, subst (λ r. get_or reads some.0 r ≡ r) same some.3)
 
-carried : (acts : List Act) (column from to : ℕ) → carries acts from (Some to) ≡ true → IsOf acts column (arrow column to from)
-carried acts column from to h =
+carried : (aside : List Bool) (acts : List Act) (column from to : ℕ) → carries acts from (Some to) ≡ true →
+    IsOf aside acts column (arrow_by column aside acts to from)
+carried aside acts column from to h =
     let some = Any-from_list_any (λ a. carries_one a from (Some to)) acts h in
     let a = some.1 in
     let parts = both (is_written a.write (Some to)) (has_read a.reads from) some.4 in
@@ -79,11 +82,13 @@ carried acts column from to h =
       reads = read_is a.reads from parts.1;
       writes = written_is a.write to parts.0;
       same = refl;
+      dashed = refl;
     }
 
-pub line_is_of : (rows : List ℕ) (column : ℕ) (acts : List Act) (l : Arrow) → Contains (arrows rows column acts) l → IsOf acts column l
-line_is_of rows column acts l one =
-    let to = of_spread (arrows_to rows column acts) (filter (writes acts) rows) l one in
-    let from = of_mapped (arrow column to.from) (filter (λ from. carries acts from (Some to.from)) rows) l to.holds in
-    subst (IsOf acts column) from.holds
-    (carried acts column from.from to.from (passes_test (λ from. carries acts from (Some to.from)) rows from.from from.item))
+pub line_is_of : (rows : List ℕ) (column : ℕ) (aside : List Bool) (acts : List Act) (l : Arrow) → Contains (arrows rows column aside acts) l →
+    IsOf aside acts column l
+line_is_of rows column aside acts l one =
+    let to = of_spread (arrows_to rows column aside acts) (filter (writes acts) rows) l one in
+    let from = of_mapped (arrow_by column aside acts to.from) (filter (λ from. carries acts from (Some to.from)) rows) l to.holds in
+    subst (IsOf aside acts column) from.holds
+    (carried aside acts column from.from to.from (passes_test (λ from. carries acts from (Some to.from)) rows from.from from.item))

@@ -1,6 +1,8 @@
 -- Rows and columns, one behind the other.
 use Rattle.std.proofs.Common.{◌≡◌, ◌∙◌, ℕ, ℤ, ◌+◌, ◌<◌, ◌≤◌, Bool, true, false, List, [], ◌∷◌, ◌++◌, ap, arith, drop, get_or, length, map, refl}
 use Rattle.std.specs.Prelude.{if◌then◌else◌}
+use Rattle.std.specs.Prelude.{Vec}
+use Rattle.std.specs.Global.{Global}
 use Rattle.pram_model.specs.Layout.{SharedEntry}
 use Rattle.step_entries.specs.declared.entry as entry
 use Rattle.step_entries.specs.Entries.{Entry, entry_is}
@@ -38,35 +40,35 @@ row_head_written old now new all layout wide value rows i row c s h is w =
 
 -- ---- columns
 
-one_column : (layout : List SharedEntry) (text : List ℕ) (opening : List ℤ) (es : List Entry) (c : Choice) (rows : List ℕ)
+one_column : (layout : List SharedEntry) (text : List ℕ) (asides : List (Vec Bool Global)) (opening : List ℤ) (es : List Entry) (c : Choice) (rows : List ℕ)
     (j n : ℕ) (e : Entry) (rest : List Entry) (b : Bool) → b ≡ is_drawn c (n, e) →
-    columns layout text opening es rows j (drawn_from c n (e ∷ rest)) ≡
-    (if b then column_text layout text rows j n (value_behind opening es n) e else [])
-    ++ columns layout text opening es rows (if b then j + 1 else j) (drawn_from c (n + 1) rest)
-one_column layout text opening es c rows j n e rest true is = grind (arith, is)
-one_column layout text opening es c rows j n e rest false is = grind (arith, is)
+    columns layout text asides opening es rows j (drawn_from c n (e ∷ rest)) ≡
+    (if b then column_text layout text asides rows j n (value_behind opening es n) e else [])
+    ++ columns layout text asides opening es rows (if b then j + 1 else j) (drawn_from c (n + 1) rest)
+one_column layout text asides opening es c rows j n e rest true is = grind (arith, is)
+one_column layout text asides opening es c rows j n e rest false is = grind (arith, is)
 
 next_column : (b : Bool) (before j : ℕ) → j ≡ (if b then before + 1 else before) → (if b then (before + 1) + 1 else before + 1) ≡ j + 1
 next_column true before j is = omega (arith, is)
 next_column false before j is = omega (arith, is)
 
-pub columns_at : (layout : List SharedEntry) (text : List ℕ) (opening : List ℤ) (es : List entry.Entry.Entry) (c : Choice) (rows : List ℕ)
+pub columns_at : (layout : List SharedEntry) (text : List ℕ) (asides : List (Vec Bool Global)) (opening : List ℤ) (es : List entry.Entry.Entry) (c : Choice) (rows : List ℕ)
     (i before number : ℕ) (e : entry.Entry.Entry) (b : Bool) (j : ℕ) → i < length es → e ≡ get_or es i e →
     b ≡ is_drawn c (number + 1, entry_is e) → j ≡ (if b then before + 1 else before) →
-    columns layout text opening (map entry_is es) rows (before + 1) (drawn_from c (number + 1) (map entry_is (drop i es))) ≡
-    (if b then column_text layout text rows (before + 1) (number + 1) (value_behind opening (map entry_is es) (number + 1)) (entry_is e) else [])
-    ++ columns layout text opening (map entry_is es) rows (j + 1) (drawn_from c ((number + 1) + 1) (map entry_is (drop (i + 1) es)))
-columns_at layout text opening es c rows i before number e b j h is d n =
-    at_item (λ xs. columns layout text opening (map entry_is es) rows (before + 1) (drawn_from c (number + 1) (map entry_is xs))) es i e h is
-    ∙ one_column layout text opening (map entry_is es) c rows (before + 1) (number + 1) (entry_is e) (map entry_is (drop (i + 1) es)) b d
-    ∙ ap (λ k. (if b then column_text layout text rows (before + 1) (number + 1) (value_behind opening (map entry_is es) (number + 1)) (entry_is e)
-    else []) ++ columns layout text opening (map entry_is es) rows k (drawn_from c ((number + 1) + 1) (map entry_is (drop (i + 1) es))))
+    columns layout text asides opening (map entry_is es) rows (before + 1) (drawn_from c (number + 1) (map entry_is (drop i es))) ≡
+    (if b then column_text layout text asides rows (before + 1) (number + 1) (value_behind opening (map entry_is es) (number + 1)) (entry_is e) else [])
+    ++ columns layout text asides opening (map entry_is es) rows (j + 1) (drawn_from c ((number + 1) + 1) (map entry_is (drop (i + 1) es)))
+columns_at layout text asides opening es c rows i before number e b j h is d n =
+    at_item (λ xs. columns layout text asides opening (map entry_is es) rows (before + 1) (drawn_from c (number + 1) (map entry_is xs))) es i e h is
+    ∙ one_column layout text asides opening (map entry_is es) c rows (before + 1) (number + 1) (entry_is e) (map entry_is (drop (i + 1) es)) b d
+    ∙ ap (λ k. (if b then column_text layout text asides rows (before + 1) (number + 1) (value_behind opening (map entry_is es) (number + 1)) (entry_is e)
+    else []) ++ columns layout text asides opening (map entry_is es) rows k (drawn_from c ((number + 1) + 1) (map entry_is (drop (i + 1) es))))
     (next_column b before j n)
 
-pub record InColumns (old new : OutState) (all : List ℕ) (layout : List SharedEntry) (text : List ℕ) (opening : List ℤ)
+pub record InColumns (old new : OutState) (all : List ℕ) (layout : List SharedEntry) (text : List ℕ) (asides : List (Vec Bool Global)) (opening : List ℤ)
     (es : List entry.Entry.Entry) (c : Choice) (rows : List ℕ) (i before number : ℕ) : Type 0 where
   pub progress : Progress old new all
-      (columns layout text opening (map entry_is es) rows (before + 1) (drawn_from c (number + 1) (map entry_is (drop i es))))
+      (columns layout text asides opening (map entry_is es) rows (before + 1) (drawn_from c (number + 1) (map entry_is (drop i es))))
   pub numbered : number ≡ i
   pub few : before ≤ i
 
@@ -74,16 +76,16 @@ fewer : (b : Bool) (before j i : ℕ) → before ≤ i → j ≡ (if b then befo
 fewer true before j i few n = omega (arith, few, n)
 fewer false before j i few n = omega (arith, few, n)
 
-pub column_written : (old now new : OutState) (all : List ℕ) (layout : List SharedEntry) (text : List ℕ) (opening : List ℤ)
+pub column_written : (old now new : OutState) (all : List ℕ) (layout : List SharedEntry) (text : List ℕ) (asides : List (Vec Bool Global)) (opening : List ℤ)
     (es : List entry.Entry.Entry) (c : Choice) (rows : List ℕ) (i before number : ℕ) (e : entry.Entry.Entry) (b : Bool) (j : ℕ) →
-    InColumns old now all layout text opening es c rows i before number → i < length es → e ≡ get_or es i e →
+    InColumns old now all layout text asides opening es c rows i before number → i < length es → e ≡ get_or es i e →
     b ≡ is_drawn c (number + 1, entry_is e) → j ≡ (if b then before + 1 else before) →
-    new ≡ with_bytes now (if b then column_text layout text rows (before + 1) (number + 1) (value_behind opening (map entry_is es) (number + 1))
-    (entry_is e) else []) → InColumns old new all layout text opening es c rows (i + 1) j (number + 1)
-column_written old now new all layout text opening es c rows i before number e b j s h is d n w =
+    new ≡ with_bytes now (if b then column_text layout text asides rows (before + 1) (number + 1) (value_behind opening (map entry_is es) (number + 1))
+    (entry_is e) else []) → InColumns old new all layout text asides opening es c rows (i + 1) j (number + 1)
+column_written old now new all layout text asides opening es c rows i before number e b j s h is d n w =
     let numbered = s.numbered in
     record {
-      progress = goes_on _ _ _ _ _ _ _ s.progress (columns_at layout text opening es c rows i before number e b j h is d n) w;
+      progress = goes_on _ _ _ _ _ _ _ s.progress (columns_at layout text asides opening es c rows i before number e b j h is d n) w;
       numbered = omega (arith, numbered);
       few = fewer b before j i s.few n;
     }

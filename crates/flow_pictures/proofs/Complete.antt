@@ -7,6 +7,7 @@ use Rattle.std.proofs.lemmas.List.{get_or_past, length-map, take_all}
 use Rattle.std.specs.List.{Contains, enumerate_from, fold, list_any}
 use Rattle.std.specs.Prelude.{if◌then◌else◌}
 use Rattle.step_entries.specs.Entries.{Entry}
+use Rattle.flow_pictures.specs.declared.spans.CellSpan.{CellSpan}
 use Rattle.flow_pictures.specs.Cells.{least_from, nearer, rows_and_next, rows_from, touched, with_row}
 use Rattle.flow_pictures.specs.Choice.{acts_in, asked, choice, drawn, is_access, is_drawn, is_fault, number_at, room}
 use Rattle.flow_pictures.specs.Laws.{cells, statements}
@@ -124,10 +125,10 @@ row_or_full (suc more) x c ds one h =
       by (inl a) others = inr (others a)
       by (inr b) others = inl b
 
-pub touched_has_row : (es : List Entry) (from to c : ℕ) → Contains (touched (choice from to es) es) c →
-    length (rows_and_next (choice from to es) es) ≤ 64 → Contains (cells es from to) c
-touched_has_row es from to c one few =
-    by (row_or_full 65 0 c (touched (choice from to es) es) one (omega arith)) where
-      by : RowOrFull 65 0 c (touched (choice from to es) es) → Contains (cells es from to) c
-      by (inl row) = subst (λ (rows : List ℕ). Contains rows c) (sym (take_all 64 (rows_and_next (choice from to es) es) few)) row
+pub touched_has_row : (only : List CellSpan) (es : List Entry) (from to c : ℕ) → Contains (touched only (choice from to es) es) c →
+    length (rows_and_next only (choice from to es) es) ≤ 64 → Contains (cells only es from to) c
+touched_has_row only es from to c one few =
+    by (row_or_full 65 0 c (touched only (choice from to es) es) one (omega arith)) where
+      by : RowOrFull 65 0 c (touched only (choice from to es) es) → Contains (cells only es from to) c
+      by (inl row) = subst (λ (rows : List ℕ). Contains rows c) (sym (take_all 64 (rows_and_next only (choice from to es) es) few)) row
       by (inr full) = absurd (omega (arith, full, few))

@@ -1,101 +1,119 @@
 -- The least of some cells, one by one.
-use Rattle.std.proofs.Common.{◌≡◌, ◌∙◌, ℕ, ◌+◌, ◌<◌, ◌≤◌, Bool, true, false, List, ◌∷◌, ◌++◌, Option, None, ap, arith, drop, get_or, length, map, refl, sym}
+use Rattle.std.proofs.Common.{◌≡◌, ◌∙◌, ℕ, ◌+◌, ◌<◌, ◌≤◌, Bool, true, false, List, [], ◌∷◌, ◌++◌, Option, None, ap, arith, drop, get_or, length, map, refl, sym}
 use Rattle.std.proofs.lemmas.List.{drop_all}
 use Rattle.std.proofs.lemmas.List.Sums.{fold-append}
-use Rattle.std.specs.List.{flat_map, fold}
+use Rattle.std.specs.List.{filter, flat_map, fold}
+use Rattle.std.proofs.Common.{cond}
+use Rattle.flow_pictures.specs.declared.spans.CellSpan.{CellSpan}
 use Rattle.std.specs.Prelude.{if◌then◌else◌}
 use Rattle.step_entries.specs.declared.act as act
 use Rattle.step_entries.specs.declared.entry as entry
 use Rattle.step_entries.specs.Entries.{Act, Entry, act_is, entry_is}
 use Rattle.flow_pictures.specs.declared.choice.Choice.{Choice}
-use Rattle.flow_pictures.specs.Cells.{act_cells, entry_cells, fault_cells, least_from, nearer, optional, touched}
+use Rattle.flow_pictures.specs.Cells.{act_cells, entry_cells, fault_cells, least_from, nearer, nearer_if, optional, is_chosen, touched}
 use Rattle.flow_pictures.specs.Choice.{acts_in, drawn_from, is_drawn}
 use Rattle.flow_pictures.proofs.Kept.{at_item}
 
-pub record InReads (x : ℕ) (start : Option ℕ) (cs : List ℕ) (i : ℕ) (now : Option ℕ) : Type 0 where
-  pub same : fold (nearer x) start cs ≡ fold (nearer x) now (drop i cs)
+pub record InReads (only : List CellSpan) (x : ℕ) (start : Option ℕ) (cs : List ℕ) (i : ℕ) (now : Option ℕ) : Type 0 where
+  pub same : fold (nearer_if only x) start cs ≡ fold (nearer_if only x) now (drop i cs)
 
-pub reads_start : (x : ℕ) (start : Option ℕ) (cs : List ℕ) → InReads x start cs 0 start
-reads_start x start cs = record { same = refl }
+pub reads_start : (only : List CellSpan) (x : ℕ) (start : Option ℕ) (cs : List ℕ) → InReads only x start cs 0 start
+reads_start only x start cs = record { same = refl }
 
-pub reads_go : (x : ℕ) (start : Option ℕ) (cs : List ℕ) (i c : ℕ) (now new : Option ℕ) → InReads x start cs i now → i < length cs →
-    c ≡ get_or cs i c → new ≡ nearer x now c → InReads x start cs (i + 1) new
-reads_go x start cs i c now new b h is e = record {
-  same = b.same ∙ at_item (fold (nearer x) now) cs i c h is ∙ ap (λ o. fold (nearer x) o (drop (i + 1) cs)) (sym e);
+pub reads_go : (only : List CellSpan) (x : ℕ) (start : Option ℕ) (cs : List ℕ) (i c : ℕ) (now new : Option ℕ) → InReads only x start cs i now → i < length cs →
+    c ≡ get_or cs i c → new ≡ nearer_if only x now c → InReads only x start cs (i + 1) new
+reads_go only x start cs i c now new b h is e = record {
+  same = b.same ∙ at_item (fold (nearer_if only x) now) cs i c h is ∙ ap (λ o. fold (nearer_if only x) o (drop (i + 1) cs)) (sym e);
 }
 
-pub reads_end : (x : ℕ) (start : Option ℕ) (cs : List ℕ) (i : ℕ) (now : Option ℕ) → InReads x start cs i now → length cs ≤ i →
-    now ≡ fold (nearer x) start cs
-reads_end x start cs i now b h = sym (b.same ∙ ap (fold (nearer x) now) (drop_all i cs h))
+pub reads_end : (only : List CellSpan) (x : ℕ) (start : Option ℕ) (cs : List ℕ) (i : ℕ) (now : Option ℕ) → InReads only x start cs i now → length cs ≤ i →
+    now ≡ fold (nearer_if only x) start cs
+reads_end only x start cs i now b h = sym (b.same ∙ ap (fold (nearer_if only x) now) (drop_all i cs h))
 
 -- the cells of two lists
-joined : (x : ℕ) (start now new : Option ℕ) (front back : List ℕ) → now ≡ fold (nearer x) start front → new ≡ fold (nearer x) now back →
-    new ≡ fold (nearer x) start (front ++ back)
-joined x start now new front back f b =
-    b ∙ ap (λ o. fold (nearer x) o back) f ∙ sym (fold-append (nearer x) start front back)
+joined : (only : List CellSpan) (x : ℕ) (start now new : Option ℕ) (front back : List ℕ) → now ≡ fold (nearer_if only x) start front → new ≡ fold (nearer_if only x) now back →
+    new ≡ fold (nearer_if only x) start (front ++ back)
+joined only x start now new front back f b =
+    b ∙ ap (λ o. fold (nearer_if only x) o back) f ∙ sym (fold-append (nearer_if only x) start front back)
 
-pub act_is_taken : (x : ℕ) (start now new : Option ℕ) (reads : List ℕ) (write : Option ℕ) → now ≡ fold (nearer x) start reads →
-    new ≡ fold (nearer x) now (optional write) → new ≡ fold (nearer x) start (reads ++ optional write)
-act_is_taken x start now new reads write f b = joined x start now new reads (optional write) f b
+pub act_is_taken : (only : List CellSpan) (x : ℕ) (start now new : Option ℕ) (reads : List ℕ) (write : Option ℕ) → now ≡ fold (nearer_if only x) start reads →
+    new ≡ fold (nearer_if only x) now (optional write) → new ≡ fold (nearer_if only x) start (reads ++ optional write)
+act_is_taken only x start now new reads write f b = joined only x start now new reads (optional write) f b
 
-pub record InActs (x : ℕ) (start : Option ℕ) (acts : List act.Act.Act) (i : ℕ) (now : Option ℕ) : Type 0 where
-  pub same : fold (nearer x) start (flat_map act_cells (map act_is acts)) ≡
-      fold (nearer x) now (flat_map act_cells (map act_is (drop i acts)))
+pub record InActs (only : List CellSpan) (x : ℕ) (start : Option ℕ) (acts : List act.Act.Act) (i : ℕ) (now : Option ℕ) : Type 0 where
+  pub same : fold (nearer_if only x) start (flat_map act_cells (map act_is acts)) ≡
+      fold (nearer_if only x) now (flat_map act_cells (map act_is (drop i acts)))
 
-pub acts_start : (x : ℕ) (start : Option ℕ) (acts : List act.Act.Act) → InActs x start acts 0 start
-acts_start x start acts = record { same = refl }
+pub acts_start : (only : List CellSpan) (x : ℕ) (start : Option ℕ) (acts : List act.Act.Act) → InActs only x start acts 0 start
+acts_start only x start acts = record { same = refl }
 
-pub acts_go : (x : ℕ) (start : Option ℕ) (acts : List act.Act.Act) (i : ℕ) (a : act.Act.Act) (now new : Option ℕ) →
-    InActs x start acts i now → i < length acts → a ≡ get_or acts i a → new ≡ fold (nearer x) now (act_cells (act_is a)) →
-    InActs x start acts (i + 1) new
-acts_go x start acts i a now new b h is e = record {
-  same = b.same ∙ at_item (λ xs. fold (nearer x) now (flat_map act_cells (map act_is xs))) acts i a h is
-      ∙ fold-append (nearer x) now (act_cells (act_is a)) (flat_map act_cells (map act_is (drop (i + 1) acts)))
-      ∙ ap (λ o. fold (nearer x) o (flat_map act_cells (map act_is (drop (i + 1) acts)))) (sym e);
+pub acts_go : (only : List CellSpan) (x : ℕ) (start : Option ℕ) (acts : List act.Act.Act) (i : ℕ) (a : act.Act.Act) (now new : Option ℕ) →
+    InActs only x start acts i now → i < length acts → a ≡ get_or acts i a → new ≡ fold (nearer_if only x) now (act_cells (act_is a)) →
+    InActs only x start acts (i + 1) new
+acts_go only x start acts i a now new b h is e = record {
+  same = b.same ∙ at_item (λ xs. fold (nearer_if only x) now (flat_map act_cells (map act_is xs))) acts i a h is
+      ∙ fold-append (nearer_if only x) now (act_cells (act_is a)) (flat_map act_cells (map act_is (drop (i + 1) acts)))
+      ∙ ap (λ o. fold (nearer_if only x) o (flat_map act_cells (map act_is (drop (i + 1) acts)))) (sym e);
 }
 
-pub acts_end : (x : ℕ) (start : Option ℕ) (acts : List act.Act.Act) (i : ℕ) (now : Option ℕ) → InActs x start acts i now →
-    length acts ≤ i → now ≡ fold (nearer x) start (flat_map act_cells (map act_is acts))
-acts_end x start acts i now b h =
-    sym (b.same ∙ ap (λ xs. fold (nearer x) now (flat_map act_cells (map act_is xs))) (drop_all i acts h))
+pub acts_end : (only : List CellSpan) (x : ℕ) (start : Option ℕ) (acts : List act.Act.Act) (i : ℕ) (now : Option ℕ) → InActs only x start acts i now →
+    length acts ≤ i → now ≡ fold (nearer_if only x) start (flat_map act_cells (map act_is acts))
+acts_end only x start acts i now b h =
+    sym (b.same ∙ ap (λ xs. fold (nearer_if only x) now (flat_map act_cells (map act_is xs))) (drop_all i acts h))
 
-pub entry_is_taken : (x : ℕ) (start now new : Option ℕ) (acts : List Act) (e : Entry) → acts ≡ acts_in e →
-    now ≡ fold (nearer x) start (flat_map act_cells acts) → new ≡ fold (nearer x) now (fault_cells e) →
-    new ≡ fold (nearer x) start (entry_cells e)
-entry_is_taken x start now new acts e same f b =
-    joined x start now new (flat_map act_cells (acts_in e)) (fault_cells e) (f ∙ ap (λ l. fold (nearer x) start (flat_map act_cells l)) same) b
+pub entry_is_taken : (only : List CellSpan) (x : ℕ) (start now new : Option ℕ) (acts : List Act) (e : Entry) → acts ≡ acts_in e →
+    now ≡ fold (nearer_if only x) start (flat_map act_cells acts) → new ≡ fold (nearer_if only x) now (fault_cells e) →
+    new ≡ fold (nearer_if only x) start (entry_cells e)
+entry_is_taken only x start now new acts e same f b =
+    joined only x start now new (flat_map act_cells (acts_in e)) (fault_cells e) (f ∙ ap (λ l. fold (nearer_if only x) start (flat_map act_cells l)) same) b
 
 -- those of statements that are drawn, from number k on
 abbrev touched_from : Choice → ℕ → List Entry → List ℕ
 touched_from c k es = flat_map (λ p. entry_cells p.1) (drawn_from c k es)
 
-pub record InEntries (x : ℕ) (c : Choice) (es : List entry.Entry.Entry) (i : ℕ) (now : Option ℕ) (number : ℕ) : Type 0 where
-  pub same : least_from x (touched c (map entry_is es)) ≡
-      fold (nearer x) now (flat_map (λ p. entry_cells p.1) (drawn_from c (number + 1) (map entry_is (drop i es))))
+-- the least of those that are chosen
+chosen_by : (only : List CellSpan) (x : ℕ) (now : Option ℕ) (c : ℕ) (cs : List ℕ) (b : Bool) → is_chosen only c ≡ b →
+    ((o : Option ℕ) → fold (nearer x) o (filter (is_chosen only) cs) ≡ fold (nearer_if only x) o cs) →
+    fold (nearer x) now (filter (is_chosen only) (c ∷ cs)) ≡ fold (nearer_if only x) now (c ∷ cs)
+chosen_by only x now c cs true is rest =
+    ap (λ t. fold (nearer x) now (cond t (c ∷ filter (is_chosen only) cs) (filter (is_chosen only) cs))) is ∙ rest (nearer x now c)
+    ∙ ap (λ t. fold (nearer_if only x) (if t then nearer x now c else now) cs) (sym is)
+chosen_by only x now c cs false is rest =
+    ap (λ t. fold (nearer x) now (cond t (c ∷ filter (is_chosen only) cs) (filter (is_chosen only) cs))) is ∙ rest now
+    ∙ ap (λ t. fold (nearer_if only x) (if t then nearer x now c else now) cs) (sym is)
+
+chosen_folds : (only : List CellSpan) (x : ℕ) (now : Option ℕ) (cs : List ℕ) →
+    fold (nearer x) now (filter (is_chosen only) cs) ≡ fold (nearer_if only x) now cs
+chosen_folds only x now [] = refl
+chosen_folds only x now (c ∷ cs) = chosen_by only x now c cs (is_chosen only c) refl (λ o. chosen_folds only x o cs)
+
+pub record InEntries (only : List CellSpan) (x : ℕ) (c : Choice) (es : List entry.Entry.Entry) (i : ℕ) (now : Option ℕ) (number : ℕ) : Type 0 where
+  pub same : least_from x (touched only c (map entry_is es)) ≡
+      fold (nearer_if only x) now (flat_map (λ p. entry_cells p.1) (drawn_from c (number + 1) (map entry_is (drop i es))))
   pub numbered : number ≡ i
 
-pub entries_start : (x : ℕ) (c : Choice) (es : List entry.Entry.Entry) → InEntries x c es 0 None 0
-entries_start x c es = record { same = refl; numbered = refl }
+pub entries_start : (only : List CellSpan) (x : ℕ) (c : Choice) (es : List entry.Entry.Entry) → InEntries only x c es 0 None 0
+entries_start only x c es = record { same = chosen_folds only x None (flat_map (λ p. entry_cells p.1) (drawn_from c 1 (map entry_is es))); numbered = refl }
 
-one_taken : (x : ℕ) (c : Choice) (now : Option ℕ) (n : ℕ) (e : Entry) (es : List Entry) (b : Bool) → b ≡ is_drawn c (n, e) →
-    fold (nearer x) now (touched_from c n (e ∷ es)) ≡
-    fold (nearer x) (if b then fold (nearer x) now (entry_cells e) else now) (touched_from c (n + 1) es)
-one_taken x c now n e es true is = grind (arith, is, fold-append)
-one_taken x c now n e es false is = grind (arith, is)
+one_taken : (only : List CellSpan) (x : ℕ) (c : Choice) (now : Option ℕ) (n : ℕ) (e : Entry) (es : List Entry) (b : Bool) → b ≡ is_drawn c (n, e) →
+    fold (nearer_if only x) now (touched_from c n (e ∷ es)) ≡
+    fold (nearer_if only x) (if b then fold (nearer_if only x) now (entry_cells e) else now) (touched_from c (n + 1) es)
+one_taken only x c now n e es true is = grind (arith, is, fold-append)
+one_taken only x c now n e es false is = grind (arith, is)
 
-pub entries_go : (x : ℕ) (c : Choice) (es : List entry.Entry.Entry) (i : ℕ) (e : entry.Entry.Entry) (now new : Option ℕ) (number : ℕ)
-    (b : Bool) → InEntries x c es i now number → i < length es → e ≡ get_or es i e → b ≡ is_drawn c (number + 1, entry_is e) →
-    new ≡ (if b then fold (nearer x) now (entry_cells (entry_is e)) else now) → InEntries x c es (i + 1) new (number + 1)
-entries_go x c es i e now new number b s h is d n =
+pub entries_go : (only : List CellSpan) (x : ℕ) (c : Choice) (es : List entry.Entry.Entry) (i : ℕ) (e : entry.Entry.Entry) (now new : Option ℕ) (number : ℕ)
+    (b : Bool) → InEntries only x c es i now number → i < length es → e ≡ get_or es i e → b ≡ is_drawn c (number + 1, entry_is e) →
+    new ≡ (if b then fold (nearer_if only x) now (entry_cells (entry_is e)) else now) → InEntries only x c es (i + 1) new (number + 1)
+entries_go only x c es i e now new number b s h is d n =
     let numbered = s.numbered in
     record {
-      same = s.same ∙ at_item (λ xs. fold (nearer x) now (touched_from c (number + 1) (map entry_is xs))) es i e h is
-          ∙ one_taken x c now (number + 1) (entry_is e) (map entry_is (drop (i + 1) es)) b d
-          ∙ ap (λ o. fold (nearer x) o (touched_from c ((number + 1) + 1) (map entry_is (drop (i + 1) es)))) (sym n);
+      same = s.same ∙ at_item (λ xs. fold (nearer_if only x) now (touched_from c (number + 1) (map entry_is xs))) es i e h is
+          ∙ one_taken only x c now (number + 1) (entry_is e) (map entry_is (drop (i + 1) es)) b d
+          ∙ ap (λ o. fold (nearer_if only x) o (touched_from c ((number + 1) + 1) (map entry_is (drop (i + 1) es)))) (sym n);
       numbered = omega (arith, numbered);
     }
 
-pub entries_end : (x : ℕ) (c : Choice) (es : List entry.Entry.Entry) (i : ℕ) (now : Option ℕ) (number : ℕ) → InEntries x c es i now number →
-    length es ≤ i → now ≡ least_from x (touched c (map entry_is es))
-entries_end x c es i now number s h =
-    sym (s.same ∙ ap (λ xs. fold (nearer x) now (touched_from c (number + 1) (map entry_is xs))) (drop_all i es h))
+pub entries_end : (only : List CellSpan) (x : ℕ) (c : Choice) (es : List entry.Entry.Entry) (i : ℕ) (now : Option ℕ) (number : ℕ) → InEntries only x c es i now number →
+    length es ≤ i → now ≡ least_from x (touched only c (map entry_is es))
+entries_end only x c es i now number s h =
+    sym (s.same ∙ ap (λ xs. fold (nearer_if only x) now (touched_from c (number + 1) (map entry_is xs))) (drop_all i es h))

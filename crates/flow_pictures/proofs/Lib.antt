@@ -8,3 +8,5 @@ pub mod Least
 pub mod Members
 pub mod RowLists
 pub mod Standing
+pub mod AsideLists
+pub mod ChosenRows

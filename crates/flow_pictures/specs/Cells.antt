@@ -1,9 +1,11 @@
 -- Which cells are drawn: the first of those that the drawn statements touched.
 use Rattle.std.specs.Prelude.{ℕ, zero, suc, ◌+◌, min, nat_lt, if◌then◌else◌, List, [], ◌∷◌, ◌++◌, Option, Some, None, take}
-use Rattle.std.specs.List.{flat_map, fold}
+use Rattle.std.specs.Prelude.{nat_le, Bool, true, false, ◌&&◌, ◌||◌}
+use Rattle.std.specs.List.{filter, flat_map, fold}
 use Rattle.pram_values.specs.declared.place.Place.{Place}
 use Rattle.pram_values.specs.declared.place.Place.TheVariants as place
 use Rattle.step_entries.specs.Entries.{Act, Entry, Ran, Faulting}
+use Rattle.flow_pictures.specs.declared.spans.CellSpan.{CellSpan}
 use Rattle.flow_pictures.specs.declared.choice.Choice.{Choice}
 use Rattle.flow_pictures.specs.Choice.{acts_in, drawn}
 
@@ -29,8 +31,17 @@ fault_cells (Faulting here fault cause acts met) = place_cells fault.place
 abbrev pub entry_cells : Entry → List ℕ
 entry_cells e = flat_map act_cells (acts_in e) ++ fault_cells e
 
-abbrev pub touched : Choice → List Entry → List ℕ
-touched c es = flat_map (λ p. entry_cells p.1) (drawn c es)
+-- those of some declarations alone, where any are given
+abbrev pub is_among : List CellSpan → (cell : ℕ) → Bool
+is_among [] cell = false
+is_among (s ∷ ss) cell = (nat_le s.first cell && nat_le cell s.last) || is_among ss cell
+
+abbrev pub is_chosen : List CellSpan → (cell : ℕ) → Bool
+is_chosen [] cell = true
+is_chosen (s ∷ ss) cell = is_among (s ∷ ss) cell
+
+abbrev pub touched : List CellSpan → Choice → List Entry → List ℕ
+touched only c es = filter (is_chosen only) (flat_map (λ p. entry_cells p.1) (drawn c es))
 
 -- ---- in ascending order
 
@@ -38,6 +49,9 @@ touched c es = flat_map (λ p. entry_cells p.1) (drawn c es)
 abbrev pub nearer : (x : ℕ) → Option ℕ → ℕ → Option ℕ
 nearer x None c = if nat_lt c x then None else Some c
 nearer x (Some b) c = if nat_lt c x then Some b else Some (min b c)
+
+abbrev pub nearer_if : List CellSpan → (x : ℕ) → Option ℕ → ℕ → Option ℕ
+nearer_if only x best c = if is_chosen only c then nearer x best c else best
 
 -- the least of the cells from x on
 abbrev pub least_from : (x : ℕ) → List ℕ → Option ℕ
@@ -53,8 +67,8 @@ rows_from zero x cells = []
 rows_from (suc more) x cells = with_row (least_from x cells) (λ y. rows_from more y cells)
 
 -- one more than are drawn
-abbrev pub rows_and_next : Choice → List Entry → List ℕ
-rows_and_next c es = rows_from 65 0 (touched c es)
+abbrev pub rows_and_next : List CellSpan → Choice → List Entry → List ℕ
+rows_and_next only c es = rows_from 65 0 (touched only c es)
 
-abbrev pub rows : Choice → List Entry → List ℕ
-rows c es = take 64 (rows_and_next c es)
+abbrev pub rows : List CellSpan → Choice → List Entry → List ℕ
+rows only c es = take 64 (rows_and_next only c es)

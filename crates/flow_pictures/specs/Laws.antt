@@ -3,8 +3,11 @@ use Rattle.std.specs.Prelude.{◌≡◌, ℕ, ◌+◌, ◌<◌, List, [], ◌∷
 use Rattle.std.specs.List.{Contains}
 use Rattle.step_entries.specs.Entries.{Act, Entry}
 use Rattle.flow_pictures.specs.Cells.{rows_and_next}
+use Rattle.flow_pictures.specs.declared.spans.CellSpan.{CellSpan}
 use Rattle.flow_pictures.specs.Choice.{acts_in, choice, drawn}
-use Rattle.flow_pictures.specs.Marks.{Arrow, Node, arrows, nodes}
+use Rattle.std.specs.Prelude.{Bool, Vec, not}
+use Rattle.std.specs.Global.{Global}
+use Rattle.flow_pictures.specs.Marks.{Arrow, Node, arrows, aside_of, nodes, values}
 use Rattle.flow_pictures.specs.Values.{value_behind}
 
 -- ---- the statements and the cells of a picture
@@ -12,8 +15,8 @@ use Rattle.flow_pictures.specs.Values.{value_behind}
 abbrev pub statements : List Entry → (from to : ℕ) → List (ℕ × Entry)
 statements es from to = drawn (choice from to es) es
 
-abbrev pub cells : List Entry → (from to : ℕ) → List ℕ
-cells es from to = take 64 (rows_and_next (choice from to es) es)
+abbrev pub cells : List CellSpan → List Entry → (from to : ℕ) → List ℕ
+cells only es from to = take 64 (rows_and_next only (choice from to es) es)
 
 -- column 1 + i is of this statement
 pub record IsColumn (ps : List (ℕ × Entry)) (i : ℕ) (p : ℕ × Entry) : Type 0 where
@@ -28,18 +31,18 @@ nodes_from opening es rows j [] = []
 nodes_from opening es rows j (p ∷ ps) =
     nodes rows j (value_behind opening es p.0) (acts_in p.1) ++ nodes_from opening es rows (j + 1) ps
 
-abbrev pub arrows_from : List ℕ → (j : ℕ) → List (ℕ × Entry) → List Arrow
-arrows_from rows j [] = []
-arrows_from rows j (p ∷ ps) = arrows rows j (acts_in p.1) ++ arrows_from rows (j + 1) ps
+abbrev pub arrows_from : List (Vec Bool Global) → List ℕ → (j : ℕ) → List (ℕ × Entry) → List Arrow
+arrows_from asides rows j [] = []
+arrows_from asides rows j (p ∷ ps) = arrows rows j (aside_of asides p.0) (acts_in p.1) ++ arrows_from asides rows (j + 1) ps
 
-abbrev pub nodes_of : List ℤ → List Entry → (from to : ℕ) → List Node
-nodes_of opening es from to = nodes_from opening es (cells es from to) 1 (statements es from to)
+abbrev pub nodes_of : List CellSpan → List ℤ → List Entry → (from to : ℕ) → List Node
+nodes_of only opening es from to = nodes_from opening es (cells only es from to) 1 (statements es from to)
 
-abbrev pub arrows_of : List Entry → (from to : ℕ) → List Arrow
-arrows_of es from to = arrows_from (cells es from to) 1 (statements es from to)
+abbrev pub arrows_of : List CellSpan → List (Vec Bool Global) → List Entry → (from to : ℕ) → List Arrow
+arrows_of only asides es from to = arrows_from asides (cells only es from to) 1 (statements es from to)
 
 -- a processor of the statement in its column read the cell where a line begins, and wrote the one where it ends
-pub record IsCarried (j : ℕ) (ps : List (ℕ × Entry)) (l : Arrow) : Type 0 where
+pub record IsCarried (asides : List (Vec Bool Global)) (j : ℕ) (ps : List (ℕ × Entry)) (l : Arrow) : Type 0 where
   pub place : ℕ
   pub statement : ℕ × Entry
   pub within : place < length ps
@@ -49,6 +52,8 @@ pub record IsCarried (j : ℕ) (ps : List (ℕ × Entry)) (l : Arrow) : Type 0 w
   pub acts : Contains (acts_in statement.1) act
   pub reads : Contains act.reads l.from
   pub writes : act.write ≡ Some l.to
+  -- and it is dashed exactly where no processor of it read that cell for the value that it wrote there
+  pub dashed : l.dashed ≡ not (values (aside_of asides statement.0) (acts_in statement.1) l.from (Some l.to))
 
 -- a text stands within another one
 pub record StandsIn (part whole : List ℕ) : Type 0 where

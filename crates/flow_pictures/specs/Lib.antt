@@ -7,3 +7,4 @@ pub mod Texts
 pub mod Columns
 pub mod Picture
 pub mod Laws
+pub mod Asides

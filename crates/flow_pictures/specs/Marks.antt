@@ -1,5 +1,7 @@
 -- The marks of a column: what a statement wrote, from which cells that was computed, and what it read alone.
-use Rattle.std.specs.Prelude.{ℕ, nat_eq, Bool, true, false, ◌&&◌, List, Option, Some, None, ℤ, map}
+use Rattle.std.specs.Prelude.{ℕ, ◌+◌, ◌-◌, nat_eq, Bool, true, false, not, ◌&&◌, ◌||◌, List, [], ◌∷◌, Option, Some, None, ℤ, map, Vec}
+use Rattle.std.specs.Prelude.{slice_get, slice_index_or}
+use Rattle.std.specs.Global.{Global}
 use Rattle.std.specs.List.{filter, flat_map, list_any}
 use Rattle.step_entries.specs.Entries.{Act}
 
@@ -9,11 +11,12 @@ pub record Node : Type 0 where
   pub column : ℕ
   pub value : ℤ
 
--- from a cell that a processor read to the one that it wrote
+-- from a cell that a processor read to the one that it wrote; dashed where it was read for subscripts alone
 pub record Arrow : Type 0 where
   pub from : ℕ
   pub to : ℕ
   pub column : ℕ
+  pub dashed : Bool
 
 -- a cell that was read by a processor that wrote none
 pub record Reading : Type 0 where
@@ -43,6 +46,31 @@ carries_one a from to = is_written a.write to && has_read a.reads from
 abbrev pub carries : List Act → (from : ℕ) → (to : Option ℕ) → Bool
 carries acts from to = list_any (λ a. carries_one a from to) acts
 
+-- ---- which reads of a statement stand in a subscript: `aside` tells it of each, in the order of evaluation
+
+-- those of the statement of that number; nothing is known behind the end
+abbrev pub known : Option (Vec Bool Global) → List Bool
+known None = []
+known (Some aside) = aside.items
+
+abbrev pub aside_of : List (Vec Bool Global) → (number : ℕ) → List Bool
+aside_of asides number = known (slice_get asides (number - 1))
+
+abbrev pub stands_aside : List Bool → (k : ℕ) → Bool
+stands_aside aside k = slice_index_or aside k false
+
+-- a cell is among reads, counted from k on, by one that stands in no subscript
+abbrev pub valued_from : List Bool → (k : ℕ) → (reads : List ℕ) → (cell : ℕ) → Bool
+valued_from aside k [] cell = false
+valued_from aside k (r ∷ reads) cell = (nat_eq r cell && not (stands_aside aside k)) || valued_from aside (k + 1) reads cell
+
+abbrev pub values_one : List Bool → Act → (from : ℕ) → (to : Option ℕ) → Bool
+values_one aside a from to = is_written a.write to && valued_from aside 0 a.reads from
+
+-- a processor computed what it wrote there from the value of the other
+abbrev pub values : List Bool → List Act → (from : ℕ) → (to : Option ℕ) → Bool
+values aside acts from to = list_any (λ a. values_one aside a from to) acts
+
 -- ---- marks, by the cells that are drawn
 
 abbrev pub node : (column : ℕ) → (ℕ → ℤ) → (cell : ℕ) → Node
@@ -51,14 +79,18 @@ node column value cell = record { cell = cell; column = column; value = value ce
 abbrev pub nodes : List ℕ → (column : ℕ) → (ℕ → ℤ) → List Act → List Node
 nodes rows column value acts = map (node column value) (filter (writes acts) rows)
 
-abbrev pub arrow : (column to from : ℕ) → Arrow
-arrow column to from = record { from = from; to = to; column = column }
+abbrev pub arrow : (column to from : ℕ) → (dashed : Bool) → Arrow
+arrow column to from dashed = record { from = from; to = to; column = column; dashed = dashed }
 
-abbrev pub arrows_to : List ℕ → (column : ℕ) → List Act → (to : ℕ) → List Arrow
-arrows_to rows column acts to = map (arrow column to) (filter (λ from. carries acts from (Some to)) rows)
+-- dashed where no processor computed the one from the value of the other
+abbrev pub arrow_by : (column : ℕ) → List Bool → List Act → (to from : ℕ) → Arrow
+arrow_by column aside acts to from = arrow column to from (not (values aside acts from (Some to)))
 
-abbrev pub arrows : List ℕ → (column : ℕ) → List Act → List Arrow
-arrows rows column acts = flat_map (arrows_to rows column acts) (filter (writes acts) rows)
+abbrev pub arrows_to : List ℕ → (column : ℕ) → List Bool → List Act → (to : ℕ) → List Arrow
+arrows_to rows column aside acts to = map (arrow_by column aside acts to) (filter (λ from. carries acts from (Some to)) rows)
+
+abbrev pub arrows : List ℕ → (column : ℕ) → List Bool → List Act → List Arrow
+arrows rows column aside acts = flat_map (arrows_to rows column aside acts) (filter (writes acts) rows)
 
 abbrev pub reading : (column cell : ℕ) → Reading
 reading column cell = record { cell = cell; column = column }

@@ -1,8 +1,11 @@
 -- The picture of what passes through shared memory in a run, as SVG 1.1: a row for each cell, and a column for each statement.
 use Rattle.std.specs.Prelude.{ℕ, ◌+◌, ◌-◌, min, nat_le, nat_lt, ◌&&◌, if◌then◌else◌, List, [], ◌∷◌, ◌++◌, ℤ, length, take, codes, decimal}
+use Rattle.std.specs.Prelude.{Bool, Vec}
+use Rattle.std.specs.Global.{Global}
 use Rattle.pram_model.specs.Layout.{SharedEntry, total_size}
 use Rattle.program_texts.specs.Shown.{cell_text}
 use Rattle.step_entries.specs.Entries.{Entry}
+use Rattle.flow_pictures.specs.declared.spans.CellSpan.{CellSpan}
 use Rattle.flow_pictures.specs.declared.choice.Choice.{Choice}
 use Rattle.flow_pictures.specs.Cells.{rows_and_next}
 use Rattle.flow_pictures.specs.Choice.{asked, choice, drawn, number_at}
@@ -42,13 +45,18 @@ statement_line from to n columns touching =
 abbrev pub cell_cut : (found : ℕ) → List ℕ
 cell_cut found = if nat_lt 64 found then codes "the first 64 that these statements touch" else codes "those that these statements touch"
 
+-- that cells of some declarations alone are drawn
+abbrev pub only_text : List CellSpan → (declarations : ℕ) → List ℕ
+only_text [] n = codes "</text>\n"
+only_text (s ∷ ss) n = codes ", in " ++ (decimal (length (s ∷ ss)) ++ (codes " of " ++ (decimal n ++ codes " declarations</text>\n")))
+
 -- `16 cells, 8 of them drawn, 8 not: those that these statements touch`
 abbrev pub cell_line : (cells rows found : ℕ) → List ℕ
 cell_line cells rows found = codes "<text x='12' y='38'>" ++ (decimal cells ++ (codes " cells, " ++ (decimal rows
-    ++ (codes " of them drawn, " ++ (decimal (cells - rows) ++ (codes " not: " ++ (cell_cut found ++ codes "</text>\n")))))))
+    ++ (codes " of them drawn, " ++ (decimal (cells - rows) ++ (codes " not: " ++ cell_cut found))))))
 
-abbrev pub cells_text : List SharedEntry → (rows found : ℕ) → List ℕ
-cells_text layout rows found = cell_line (total_size layout) rows found
+abbrev pub cells_text : List SharedEntry → List CellSpan → (rows found : ℕ) → List ℕ
+cells_text layout only rows found = cell_line (total_size layout) rows found ++ only_text only (length layout)
 
 -- what is what
 abbrev pub key_text : List ℕ
@@ -57,7 +65,8 @@ key_text = codes "<rect x='12' y='48' width='22' height='18' fill='#ffffff' stro
     ++ (codes "<text x='256' y='61'>from a cell that the writer read</text>\n"
     ++ (codes "<circle cx='456' cy='57' r='4' fill='#ffffff' stroke='#000000'/>\n<text x='466' y='61'>read alone</text>\n"
     ++ (codes "<rect x='548' y='48' width='22' height='18' fill='none' stroke='#000000' stroke-width='3'/>\n"
-    ++ codes "<text x='578' y='61'>fault</text>\n"))))
+    ++ (codes "<text x='578' y='61'>fault</text>\n<path d='M12 80H46' stroke='#000000' stroke-width='1.5' stroke-dasharray='6 4'/>\n"
+    ++ codes "<text x='54' y='84'>dashed: for a subscript alone</text>\n")))))
 
 -- ---- rows
 
@@ -77,42 +86,46 @@ row_heads layout wide value k (c ∷ cells) = row_head layout wide (y_at k) c (v
 
 -- ---- columns, counted from j on
 
-abbrev pub columns : List SharedEntry → List ℕ → List ℤ → List Entry → List ℕ → (j : ℕ) → List (ℕ × Entry) → List ℕ
-columns layout text opening es rows j [] = []
-columns layout text opening es rows j (p ∷ ps) =
-    column_text layout text rows j p.0 (value_behind opening es p.0) p.1 ++ columns layout text opening es rows (j + 1) ps
+abbrev pub columns : List SharedEntry → List ℕ → List (Vec Bool Global) → List ℤ → List Entry → List ℕ → (j : ℕ) → List (ℕ × Entry) → List ℕ
+columns layout text asides opening es rows j [] = []
+columns layout text asides opening es rows j (p ∷ ps) =
+    column_text layout text asides rows j p.0 (value_behind opening es p.0) p.1 ++ columns layout text asides opening es rows (j + 1) ps
 
 -- ---- all of it
 
 -- what stands above the rows
-abbrev pub head : List SharedEntry → (n from to columns touching rows found : ℕ) → List ℕ
-head layout n from to columns touching rows found = statement_line from to n columns touching
-    ++ (cells_text layout rows found ++ key_text)
+abbrev pub head : List SharedEntry → List CellSpan → (n from to columns touching rows found : ℕ) → List ℕ
+head layout only n from to columns touching rows found = statement_line from to n columns touching
+    ++ (cells_text layout only rows found ++ key_text)
 
 -- the values are those before the first statement that is drawn
 abbrev pub rows_text : List SharedEntry → (wide : ℕ) → List ℤ → List Entry → Choice → List ℕ → List ℕ
 rows_text layout wide opening es c rows = row_heads layout wide (value_behind opening es (number_at c es 0 - 1)) 0 rows
 
-abbrev pub table : List SharedEntry → List ℕ → List ℤ → List Entry → Choice → (wide : ℕ) → List ℕ → List ℕ
-table layout text opening es c wide rows =
-    rows_text layout wide opening es c rows ++ (columns layout text opening es rows 1 (drawn c es) ++ codes "</svg>\n")
+abbrev pub table : List SharedEntry → List ℕ → List (Vec Bool Global) → List ℤ → List Entry → Choice → (wide : ℕ) → List ℕ → List ℕ
+table layout text asides opening es c wide rows =
+    rows_text layout wide opening es c rows ++ (columns layout text asides opening es rows 1 (drawn c es) ++ codes "</svg>\n")
 
 -- ---- by a choice of statements, and the cells that were found
 
 abbrev pub size_text : List Entry → Choice → (found : List ℕ) → List ℕ
 size_text es c found = opening_text (picture_width (length (drawn c es))) (picture_height (length (take 64 found)))
 
-abbrev pub counts_text : List SharedEntry → List Entry → (from to : ℕ) → Choice → (found : List ℕ) → List ℕ
-counts_text layout es from to c found =
-    head layout (length es) from to (length (drawn c es)) (length (drawn (asked from to es) es)) (length (take 64 found)) (length found)
+abbrev pub counts_text : List SharedEntry → List CellSpan → List Entry → (from to : ℕ) → Choice → (found : List ℕ) → List ℕ
+counts_text layout only es from to c found =
+    head layout only (length es) from to (length (drawn c es)) (length (drawn (asked from to es) es)) (length (take 64 found))
+    (length found)
 
-abbrev pub drawn_text : List SharedEntry → List ℕ → List ℤ → List Entry → Choice → (found : List ℕ) → List ℕ
-drawn_text layout text opening es c found = table layout text opening es c (picture_width (length (drawn c es))) (take 64 found)
+abbrev pub drawn_text : List SharedEntry → List ℕ → List (Vec Bool Global) → List ℤ → List Entry → Choice → (found : List ℕ) → List ℕ
+drawn_text layout text asides opening es c found =
+    table layout text asides opening es c (picture_width (length (drawn c es))) (take 64 found)
 
-abbrev pub picture_of : List SharedEntry → List ℕ → List ℤ → List Entry → (from to : ℕ) → Choice → (found : List ℕ) → List ℕ
-picture_of layout text opening es from to c found =
-    size_text es c found ++ (counts_text layout es from to c found ++ drawn_text layout text opening es c found)
+abbrev pub picture_of : List SharedEntry → List ℕ → List (Vec Bool Global) → List ℤ → List Entry → List CellSpan → (from to : ℕ) →
+    Choice → (found : List ℕ) → List ℕ
+picture_of layout text asides opening es only from to c found =
+    size_text es c found ++ (counts_text layout only es from to c found ++ drawn_text layout text asides opening es c found)
 
 -- of the statements from one number to another
-abbrev pub flow : List SharedEntry → List ℕ → List ℤ → List Entry → (from to : ℕ) → List ℕ
-flow layout text opening es from to = picture_of layout text opening es from to (choice from to es) (rows_and_next (choice from to es) es)
+abbrev pub flow : List SharedEntry → List ℕ → List (Vec Bool Global) → List ℤ → List Entry → List CellSpan → (from to : ℕ) → List ℕ
+flow layout text asides opening es only from to =
+    picture_of layout text asides opening es only from to (choice from to es) (rows_and_next only (choice from to es) es)

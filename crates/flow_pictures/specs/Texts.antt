@@ -1,8 +1,9 @@
 -- How marks are written, as SVG 1.1.
-use Rattle.std.specs.Prelude.{ℕ, ◌+◌, ◌-◌, ◌*◌, ◌/◌, min, nat_eq, nat_lt, ◌||◌, if◌then◌else◌, List, [], ◌∷◌, ◌++◌, ℤ, length, take, drop}
-use Rattle.std.specs.Prelude.{codes, decimal}
+use Rattle.std.specs.Prelude.{ℕ, ◌+◌, ◌-◌, ◌*◌, ◌/◌, min, nat_lt, if◌then◌else◌, List, ◌++◌, ℤ, length, take, drop}
+use Rattle.std.specs.Prelude.{codes, decimal, Bool, true, false}
 use Rattle.std.specs.Fmt.{signed_decimal}
 use Rattle.std.specs.List.{flat_map}
+use Rattle.svg_texts.specs.Letters.{letters}
 use Rattle.step_entries.specs.Entries.{Act, Entry}
 use Rattle.text_places.specs.Places.{line_text}
 use Rattle.flow_pictures.specs.Choice.{acts_in}
@@ -10,18 +11,6 @@ use Rattle.flow_pictures.specs.Marks.{Arrow, Node, Reading, arrows, nodes, readi
 use Rattle.flow_pictures.specs.Places.{x_of, y_of}
 
 -- ---- texts of a program
-
--- a byte in a text of SVG: one that is no printed letter of ASCII is a question mark
-abbrev pub letter : ℕ → List ℕ
-letter b =
-    if nat_eq b 38 then codes "&amp;"
-    else if nat_eq b 60 then codes "&lt;"
-    else if nat_eq b 62 then codes "&gt;"
-    else if nat_lt b 32 || nat_lt 126 b then codes "?"
-    else b ∷ []
-
-abbrev pub letters : List ℕ → List ℕ
-letters bytes = flat_map letter bytes
 
 -- what stands in the line of an offset, from there on
 abbrev pub source_at : List ℕ → (offset : ℕ) → List ℕ
@@ -74,13 +63,17 @@ box x y wide v = outline x y wide ++ value_text x (y + 4) (codes "middle") v
 abbrev pub node_text : List ℕ → Node → List ℕ
 node_text rows n = box (x_of n.column) (y_of rows n.cell) (min 76 (value_width n.value)) n.value
 
-abbrev pub line_between : (x y to_x to_y : ℕ) → List ℕ
-line_between x y to_x to_y = codes "<path d='M" ++ (decimal x ++ (codes " " ++ (decimal y ++ (codes "L" ++ (decimal to_x ++ (codes " "
-    ++ (decimal to_y ++ codes "' stroke='#000000' stroke-width='1.5'/>\n")))))))
+abbrev pub stroke : (dashed : Bool) → List ℕ
+stroke true = codes "' stroke='#000000' stroke-width='1.5' stroke-dasharray='6 4'/>\n"
+stroke false = codes "' stroke='#000000' stroke-width='1.5'/>\n"
+
+abbrev pub line_between : (x y to_x to_y : ℕ) → (how : List ℕ) → List ℕ
+line_between x y to_x to_y how = codes "<path d='M" ++ (decimal x ++ (codes " " ++ (decimal y ++ (codes "L" ++ (decimal to_x ++ (codes " "
+    ++ (decimal to_y ++ how)))))))
 
 -- from the column before, behind its boxes
 abbrev pub arrow_text : List ℕ → Arrow → List ℕ
-arrow_text rows a = line_between (x_of a.column - 60) (y_of rows a.from) (x_of a.column) (y_of rows a.to)
+arrow_text rows a = line_between (x_of a.column - 60) (y_of rows a.from) (x_of a.column) (y_of rows a.to) (stroke a.dashed)
 
 abbrev pub ring : (x y : ℕ) → List ℕ
 ring x y = codes "<circle cx='" ++ (decimal x ++ (codes "' cy='" ++ (decimal y ++ codes "' r='4' fill='#ffffff' stroke='#000000'/>\n")))
@@ -89,12 +82,12 @@ abbrev pub reading_text : List ℕ → Reading → List ℕ
 reading_text rows r = ring (x_of r.column) (y_of rows r.cell)
 
 -- the lines first, so that boxes stand in front of them
-abbrev pub marks_of : List ℕ → (column : ℕ) → (ℕ → ℤ) → List Act → List ℕ
-marks_of rows column value acts = flat_map (arrow_text rows) (arrows rows column acts)
+abbrev pub marks_of : List ℕ → (column : ℕ) → List Bool → (ℕ → ℤ) → List Act → List ℕ
+marks_of rows column aside value acts = flat_map (arrow_text rows) (arrows rows column aside acts)
     ++ (flat_map (node_text rows) (nodes rows column value acts) ++ flat_map (reading_text rows) (readings rows column acts))
 
-abbrev pub marks_text : List ℕ → (column : ℕ) → (ℕ → ℤ) → Entry → List ℕ
-marks_text rows column value e = marks_of rows column value (acts_in e)
+abbrev pub marks_text : List ℕ → (column : ℕ) → List Bool → (ℕ → ℤ) → Entry → List ℕ
+marks_text rows column aside value e = marks_of rows column aside value (acts_in e)
 
 -- the beginning of a line of text
 abbrev pub line_front : (y : ℕ) → List ℕ

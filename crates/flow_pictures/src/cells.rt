@@ -7,6 +7,7 @@ ghost use Rattle.flow_pictures.specs.Cells as spec;
 
 use crate::choice::{Choice, is_drawn};
 use crate::entries::acts_in;
+use crate::spans::{CellSpan, is_chosen};
 use pram_values::Place;
 use step_entries::{Act, Entry};
 
@@ -32,77 +33,104 @@ fn nearer(start: u64, best: Option<u32>, cell: u32) -> Option<u32>
     }
 }
 
+// The same where a cell is chosen.
+fn nearer_if(only: &[CellSpan], start: u64, best: Option<u32>, cell: u32) -> Option<u32>
+    ensures { result ≡ spec.nearer_if only.now start best cell }
+{
+    if is_chosen(only, cell) {
+        nearer(start, best, cell)
+    } else {
+        best
+    }
+}
+
 #[tactic(auto, using(crate::proofs::Least::reads_start, crate::proofs::Least::reads_go, crate::proofs::Least::reads_end))]
-fn with_reads(start: u64, best: Option<u32>, reads: &[u32]) -> Option<u32>
-    ensures { result ≡ fold (spec.nearer start) best reads.now }
+fn with_reads(only: &[CellSpan], start: u64, best: Option<u32>, reads: &[u32]) -> Option<u32>
+    ensures { result ≡ fold (spec.nearer_if only.now start) best reads.now }
 {
     let mut least = best;
     for cell in reads {
-        least = nearer(start, least, *cell);
+        least = nearer_if(only, start, least, *cell);
     }
     least
 }
 
-fn with_optional(start: u64, best: Option<u32>, cell: Option<u32>) -> Option<u32>
-    ensures { result ≡ fold (spec.nearer start) best (spec.optional cell) }
+fn with_optional(only: &[CellSpan], start: u64, best: Option<u32>, cell: Option<u32>) -> Option<u32>
+    ensures { result ≡ fold (spec.nearer_if only.now start) best (spec.optional cell) }
 {
     match cell {
         None => best,
-        Some(cell) => nearer(start, best, cell),
+        Some(cell) => nearer_if(only, start, best, cell),
     }
 }
 
 #[tactic(auto, using(crate::proofs::Least::act_is_taken))]
-fn with_act(start: u64, best: Option<u32>, act: &Act) -> Option<u32>
-    ensures { result ≡ fold (spec.nearer start) best (spec.act_cells (act_is act.now)) }
+fn with_act(only: &[CellSpan], start: u64, best: Option<u32>, act: &Act) -> Option<u32>
+    ensures { result ≡ fold (spec.nearer_if only.now start) best (spec.act_cells (act_is act.now)) }
 {
-    with_optional(start, with_reads(start, best, &act.reads), act.write)
+    with_optional(
+        only,
+        start,
+        with_reads(only, start, best, &act.reads),
+        act.write,
+    )
 }
 
 #[tactic(auto, using(crate::proofs::Least::acts_start, crate::proofs::Least::acts_go, crate::proofs::Least::acts_end))]
-fn with_acts(start: u64, best: Option<u32>, acts: &[Act]) -> Option<u32>
-    ensures { result ≡ fold (spec.nearer start) best (flat_map spec.act_cells (map act_is acts.now)) }
+fn with_acts(only: &[CellSpan], start: u64, best: Option<u32>, acts: &[Act]) -> Option<u32>
+    ensures { result ≡ fold (spec.nearer_if only.now start) best (flat_map spec.act_cells (map act_is acts.now)) }
 {
     let mut least = best;
     for act in acts {
-        least = with_act(start, least, act);
+        least = with_act(only, start, least, act);
     }
     least
 }
 
-fn with_place(start: u64, best: Option<u32>, place: Place) -> Option<u32>
-    ensures { result ≡ fold (spec.nearer start) best (spec.place_cells place) }
+fn with_place(only: &[CellSpan], start: u64, best: Option<u32>, place: Place) -> Option<u32>
+    ensures { result ≡ fold (spec.nearer_if only.now start) best (spec.place_cells place) }
 {
     match place {
         Place::All => best,
         Place::Processor(_) => best,
-        Place::Cell(cell) => nearer(start, best, cell),
+        Place::Cell(cell) => nearer_if(only, start, best, cell),
     }
 }
 
 // The cell at which it faulted, if it did at one.
-fn with_fault(start: u64, best: Option<u32>, entry: &Entry) -> Option<u32>
-    ensures { result ≡ fold (spec.nearer start) best (spec.fault_cells (entry_is entry.now)) }
+fn with_fault(only: &[CellSpan], start: u64, best: Option<u32>, entry: &Entry) -> Option<u32>
+    ensures { result ≡ fold (spec.nearer_if only.now start) best (spec.fault_cells (entry_is entry.now)) }
 {
     match entry {
         Entry::Ran { .. } => best,
-        Entry::Faulted { fault, .. } => with_place(start, best, fault.place),
+        Entry::Faulted { fault, .. } => with_place(only, start, best, fault.place),
     }
 }
 
 #[tactic(auto, using(crate::proofs::Least::entry_is_taken))]
-fn with_entry(start: u64, best: Option<u32>, entry: &Entry) -> Option<u32>
-    ensures { result ≡ fold (spec.nearer start) best (spec.entry_cells (entry_is entry.now)) }
+fn with_entry(only: &[CellSpan], start: u64, best: Option<u32>, entry: &Entry) -> Option<u32>
+    ensures { result ≡ fold (spec.nearer_if only.now start) best (spec.entry_cells (entry_is entry.now)) }
 {
-    with_fault(start, with_acts(start, best, acts_in(entry)), entry)
+    with_fault(
+        only,
+        start,
+        with_acts(only, start, best, acts_in(entry)),
+        entry,
+    )
 }
 
 // The same where a statement is drawn.
-fn with_entry_if(start: u64, best: Option<u32>, entry: &Entry, drawn: bool) -> Option<u32>
-    ensures { result ≡ if drawn then fold (spec.nearer start) best (spec.entry_cells (entry_is entry.now)) else best }
+fn with_entry_if(
+    only: &[CellSpan],
+    start: u64,
+    best: Option<u32>,
+    entry: &Entry,
+    drawn: bool,
+) -> Option<u32>
+    ensures { result ≡ if drawn then fold (spec.nearer_if only.now start) best (spec.entry_cells (entry_is entry.now)) else best }
 {
     if drawn {
-        with_entry(start, best, entry)
+        with_entry(only, start, best, entry)
     } else {
         best
     }
@@ -110,15 +138,20 @@ fn with_entry_if(start: u64, best: Option<u32>, entry: &Entry, drawn: bool) -> O
 
 /// The least cell that is touched, from one on.
 #[tactic(auto, using(crate::proofs::Least::entries_start, crate::proofs::Least::entries_go, crate::proofs::Least::entries_end))]
-pub(crate) fn least_from(start: u64, choice: Choice, entries: &[Entry]) -> Option<u32>
-    ensures { result ≡ spec.least_from start (spec.touched choice (map entry_is entries.now)) }
+pub(crate) fn least_from(
+    only: &[CellSpan],
+    start: u64,
+    choice: Choice,
+    entries: &[Entry],
+) -> Option<u32>
+    ensures { result ≡ spec.least_from start (spec.touched only.now choice (map entry_is entries.now)) }
 {
     let mut least = None;
     let mut number = 0;
     for entry in entries {
         number += 1;
         let drawn = is_drawn(choice, number, entry);
-        least = with_entry_if(start, least, entry, drawn);
+        least = with_entry_if(only, start, least, entry, drawn);
     }
     least
 }

@@ -6,12 +6,15 @@ ghost use Rattle.step_entries.specs.Entries.{entry_is};
 ghost use Rattle.flow_pictures.specs.Choice as choosing;
 ghost use Rattle.flow_pictures.specs.Picture as picture;
 ghost use Rattle.flow_pictures.specs.Columns as spec;
+ghost use Rattle.flow_pictures.specs.Marks as marks;
+ghost use Rattle.flow_pictures.specs.Texts as texts;
 ghost use Rattle.flow_pictures.specs.Values as values;
 
 use crate::choice::{Choice, counted, is_drawn};
 use crate::entries::location_in;
 use crate::faults::write_fault_part;
 use crate::letters::{source_at, write_source};
+use crate::links::aside_of;
 use crate::marks::write_marks;
 use crate::measure::{x_of, y_at};
 use itoa::Buffer;
@@ -113,10 +116,33 @@ fn write_column_fault<W: Out>(
     write_fault_part(out, layout, rows, x_of(column), bottom(rows), entry)
 }
 
+// The marks of the statement of that number, by which of its reads stand in a subscript.
+fn write_marks_by<W: Out>(
+    out: &mut W,
+    rows: &[u32],
+    column: usize,
+    asides: &[Vec<bool>],
+    opening: &[i64],
+    entries: &[Entry],
+    number: usize,
+    entry: &Entry,
+) -> Result<(), WriteFault>
+    requires counted { (W.Out.state out.old).failures < 2 ^ 63 }
+    requires first { 1 ≤ number }
+    requires within { number ≤ length entries.now }
+    ensures written { Writes (W.Out.state out.old) (W.Out.state out.new)
+        (texts.marks_text rows.now column (marks.aside_of asides.now number)
+        (values.value_behind opening.now (map entry_is entries.now) number) (entry_is entry.now)) result }
+{
+    let aside = aside_of(asides, number);
+    write_marks(out, rows, column, aside, opening, entries, number, entry)
+}
+
 fn write_column<W: Out>(
     out: &mut W,
     layout: &Layout,
     text: &[u8],
+    asides: &[Vec<bool>],
     opening: &[i64],
     entries: &[Entry],
     rows: &[u32],
@@ -125,12 +151,14 @@ fn write_column<W: Out>(
     entry: &Entry,
 ) -> Result<(), WriteFault>
     requires counted { (W.Out.state out.old).failures < 2 ^ 63 }
+    requires first { 1 ≤ number }
     requires within { number ≤ length entries.now }
-    ensures written { Writes (W.Out.state out.old) (W.Out.state out.new) (spec.column_text layout.now text.now rows.now column number
+    ensures written { Writes (W.Out.state out.old) (W.Out.state out.new)
+        (spec.column_text layout.now text.now asides.now rows.now column number
         (values.value_behind opening.now (map entry_is entries.now) number) (entry_is entry.now)) result }
 {
     write_heading(out, text, column, number, entry)?;
-    write_marks(out, rows, column, opening, entries, number, entry)?;
+    write_marks_by(out, rows, column, asides, opening, entries, number, entry)?;
     write_column_fault(out, layout, rows, column, entry)
 }
 
@@ -139,6 +167,7 @@ fn write_column_if<W: Out>(
     out: &mut W,
     layout: &Layout,
     text: &[u8],
+    asides: &[Vec<bool>],
     opening: &[i64],
     entries: &[Entry],
     rows: &[u32],
@@ -148,13 +177,15 @@ fn write_column_if<W: Out>(
     drawn: bool,
 ) -> Result<(), WriteFault>
     requires counted { (W.Out.state out.old).failures < 2 ^ 63 }
+    requires first { 1 ≤ number }
     requires within { number ≤ length entries.now }
-    ensures written { Writes (W.Out.state out.old) (W.Out.state out.new) (if drawn then spec.column_text layout.now text.now rows.now column
+    ensures written { Writes (W.Out.state out.old) (W.Out.state out.new)
+        (if drawn then spec.column_text layout.now text.now asides.now rows.now column
         number (values.value_behind opening.now (map entry_is entries.now) number) (entry_is entry.now) else []) result }
 {
     if drawn {
         write_column(
-            out, layout, text, opening, entries, rows, column, number, entry,
+            out, layout, text, asides, opening, entries, rows, column, number, entry,
         )
     } else {
         Ok(())
@@ -166,13 +197,14 @@ pub(crate) fn write_columns<W: Out>(
     out: &mut W,
     layout: &Layout,
     text: &[u8],
+    asides: &[Vec<bool>],
     opening: &[i64],
     entries: &[Entry],
     choice: Choice,
     rows: &[u32],
 ) -> Result<(), WriteFault>
     requires counted { (W.Out.state out.old).failures < 2 ^ 63 }
-    ensures written { Writes (W.Out.state out.old) (W.Out.state out.new) (picture.columns layout.now text.now opening.now
+    ensures written { Writes (W.Out.state out.old) (W.Out.state out.new) (picture.columns layout.now text.now asides.now opening.now
         (map entry_is entries.now) rows.now 1 (choosing.drawn choice (map entry_is entries.now))) result }
 {
     let mut before = 0usize;
@@ -184,6 +216,7 @@ pub(crate) fn write_columns<W: Out>(
             out,
             layout,
             text,
+            asides,
             opening,
             entries,
             rows,

@@ -1,13 +1,16 @@
 //! The laws of this crate.
 
 ghost use Rattle.std.specs.Prelude.{◌≡◌, ℕ, ◌+◌, ◌<◌, ◌≤◌, ℤ, List, Some, length, slice_index_or, true};
+ghost use Rattle.std.specs.Prelude.{Bool, Vec};
+ghost use Rattle.std.specs.Global.{Global};
 ghost use Rattle.std.specs.List.{Contains};
 ghost use Rattle.pram_model.specs.Layout.{SharedEntry};
 ghost use Rattle.step_entries.specs.Entries.{Act, Entry};
-ghost use Rattle.flow_pictures.specs.Cells.{rows_and_next, touched};
+ghost use Rattle.flow_pictures.specs.declared.spans.CellSpan.{CellSpan};
+ghost use Rattle.flow_pictures.specs.Cells.{is_chosen, rows_and_next, touched};
 ghost use Rattle.flow_pictures.specs.Choice.{acts_in, asked, choice, drawn, is_fault, room};
 ghost use Rattle.flow_pictures.specs.Laws.{IsCarried, IsColumn, StandsIn, arrows_of, cells, nodes_of, statements};
-ghost use Rattle.flow_pictures.specs.Marks.{Arrow, Node, arrow, node};
+ghost use Rattle.flow_pictures.specs.Marks.{Arrow, Node, arrow_by, aside_of, node};
 ghost use Rattle.flow_pictures.specs.Picture.{flow};
 ghost use Rattle.flow_pictures.specs.Texts.{arrow_text, node_text};
 ghost use Rattle.flow_pictures.specs.Values.{value_behind};
@@ -15,34 +18,41 @@ ghost use Rattle.flow_pictures.specs.Values.{value_behind};
 /// Each write of a statement in column 1 + i to a cell that has a row is a box of that column and that row, with the value that the cell
 /// has behind the statement; and each box stands in the picture.
 pub fn each_write_is_a_node()
-    ensures node { (opening : List ℤ) (es : List Entry) (from to i : ℕ) (p : ℕ × Entry) (a : Act) (cell : ℕ) →
-        IsColumn (statements es from to) i p → Contains (acts_in p.1) a → a.write ≡ Some cell → Contains (cells es from to) cell →
-        Contains (nodes_of opening es from to) (node (1 + i) (value_behind opening es p.0) cell) }
-    ensures drawn { (layout : List SharedEntry) (text : List ℕ) (opening : List ℤ) (es : List Entry) (from to : ℕ) (n : Node) →
-        Contains (nodes_of opening es from to) n →
-        StandsIn (node_text (cells es from to) n) (flow layout text opening es from to) }
+    ensures node { (only : List CellSpan) (opening : List ℤ) (es : List Entry) (from to i : ℕ) (p : ℕ × Entry) (a : Act) (cell : ℕ) →
+        IsColumn (statements es from to) i p → Contains (acts_in p.1) a → a.write ≡ Some cell → Contains (cells only es from to) cell →
+        Contains (nodes_of only opening es from to) (node (1 + i) (value_behind opening es p.0) cell) }
+    ensures drawn { (only : List CellSpan) (layout : List SharedEntry) (text : List ℕ) (asides : List (Vec Bool Global))
+        (opening : List ℤ) (es : List Entry) (from to : ℕ) (n : Node) →
+        Contains (nodes_of only opening es from to) n →
+        StandsIn (node_text (cells only es from to) n) (flow layout text asides opening es only from to) }
 {}
 
 /// From each cell that a processor read comes a line to the cell that it wrote, where both have a row; each line stands in the picture; and
-/// there is no other: a line of column 1 + i begins at a cell that a processor of that statement read, and ends at the one that it wrote.
+/// there is no other: a line of column 1 + i begins at a cell that a processor of that statement read, and ends at the one that it wrote;
+/// and it is dashed exactly where no processor of it read that cell for the value that it wrote there, but for subscripts alone.
 pub fn lines_come_from_reads()
-    ensures line { (es : List Entry) (from to i : ℕ) (p : ℕ × Entry) (a : Act) (source cell : ℕ) →
+    ensures line { (only : List CellSpan) (asides : List (Vec Bool Global)) (es : List Entry) (from to i : ℕ) (p : ℕ × Entry)
+        (a : Act) (source cell : ℕ) →
         IsColumn (statements es from to) i p → Contains (acts_in p.1) a → Contains a.reads source → a.write ≡ Some cell →
-        Contains (cells es from to) source → Contains (cells es from to) cell →
-        Contains (arrows_of es from to) (arrow (1 + i) cell source) }
-    ensures drawn { (layout : List SharedEntry) (text : List ℕ) (opening : List ℤ) (es : List Entry) (from to : ℕ) (l : Arrow) →
-        Contains (arrows_of es from to) l → StandsIn (arrow_text (cells es from to) l) (flow layout text opening es from to) }
-    ensures carried { (es : List Entry) (from to : ℕ) (l : Arrow) → Contains (arrows_of es from to) l →
-        IsCarried 1 (statements es from to) l }
+        Contains (cells only es from to) source → Contains (cells only es from to) cell →
+        Contains (arrows_of only asides es from to) (arrow_by (1 + i) (aside_of asides p.0) (acts_in p.1) cell source) }
+    ensures drawn { (only : List CellSpan) (layout : List SharedEntry) (text : List ℕ) (asides : List (Vec Bool Global))
+        (opening : List ℤ) (es : List Entry) (from to : ℕ) (l : Arrow) → Contains (arrows_of only asides es from to) l →
+        StandsIn (arrow_text (cells only es from to) l) (flow layout text asides opening es only from to) }
+    ensures carried { (only : List CellSpan) (asides : List (Vec Bool Global)) (es : List Entry) (from to : ℕ) (l : Arrow) →
+        Contains (arrows_of only asides es from to) l → IsCarried asides 1 (statements es from to) l }
 {}
 
 /// Nothing is left out where it has room: a statement that faulted has a column where it is asked for, fewer than 64 statements that touch
-/// shared memory (63 where one faulted) have all a column, and no more than 64 cells that these touch have all a row.
+/// shared memory (63 where one faulted) have all a column, and no more than 64 cells that these touch and that are chosen have all a row. And
+/// none has that isn't chosen.
 pub fn what_has_room_is_drawn()
     ensures fault { (es : List Entry) (from to i : ℕ) (e : Entry) → i < length es → slice_index_or es i e ≡ e → is_fault e ≡ true →
         from ≤ 1 + i → 1 + i ≤ to → Contains (statements es from to) (1 + i, e) }
     ensures statements { (es : List Entry) (from to : ℕ) → length (drawn (asked from to es) es) < room es →
         statements es from to ≡ drawn (asked from to es) es }
-    ensures cells { (es : List Entry) (from to cell : ℕ) → Contains (touched (choice from to es) es) cell →
-        length (rows_and_next (choice from to es) es) ≤ 64 → Contains (cells es from to) cell }
+    ensures cells { (only : List CellSpan) (es : List Entry) (from to cell : ℕ) → Contains (touched only (choice from to es) es) cell →
+        length (rows_and_next only (choice from to es) es) ≤ 64 → Contains (cells only es from to) cell }
+    ensures chosen { (only : List CellSpan) (es : List Entry) (from to cell : ℕ) → Contains (cells only es from to) cell →
+        is_chosen only cell ≡ true }
 {}

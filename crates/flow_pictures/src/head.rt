@@ -1,9 +1,10 @@
 //! What is said above the rows: how many statements and cells are drawn, and what is what.
 
-ghost use Rattle.std.specs.Prelude.{◌≡◌, ◌<◌, ◌^◌};
+ghost use Rattle.std.specs.Prelude.{◌≡◌, ◌<◌, ◌^◌, ◌++◌, codes, decimal};
 ghost use Rattle.text_out.specs.Out.{Writes};
 ghost use Rattle.flow_pictures.specs.Picture as spec;
 
+use crate::spans::CellSpan;
 use itoa::Buffer;
 use pram_trees::Layout;
 use text_out::{Out, WriteFault};
@@ -122,21 +123,52 @@ fn write_cell_line<W: Out>(
         others.format(left).as_bytes(),
         b" not: ",
         cut,
-        b"</text>\n",
     ])
+}
+
+fn write_some_only<W: Out>(out: &mut W, only: usize, declarations: usize) -> Result<(), WriteFault>
+    requires counted { (W.Out.state out.old).failures < 2 ^ 63 }
+    ensures written { Writes (W.Out.state out.old) (W.Out.state out.new)
+        (codes ", in " ++ (decimal only ++ (codes " of " ++ (decimal declarations ++ codes " declarations</text>\n")))) result }
+{
+    let mut some = Buffer::new();
+    let mut all = Buffer::new();
+    out.write_parts(&[
+        b", in ",
+        some.format(only).as_bytes(),
+        b" of ",
+        all.format(declarations).as_bytes(),
+        b" declarations</text>\n",
+    ])
+}
+
+// That cells of some declarations alone are drawn.
+fn write_only<W: Out>(out: &mut W, only: &[CellSpan], declarations: usize) -> Result<(), WriteFault>
+    requires counted { (W.Out.state out.old).failures < 2 ^ 63 }
+    ensures written { Writes (W.Out.state out.old) (W.Out.state out.new) (spec.only_text only.now declarations) result }
+{
+    if only.is_empty() {
+        out.write_all(b"</text>\n")
+    } else {
+        write_some_only(out, only.len(), declarations)
+    }
 }
 
 // How many cells are drawn, and how many not.
 fn write_cells<W: Out>(
     out: &mut W,
     layout: &Layout,
+    only: &[CellSpan],
     rows: usize,
     found: usize,
 ) -> Result<(), WriteFault>
     requires counted { (W.Out.state out.old).failures < 2 ^ 63 }
-    ensures written { Writes (W.Out.state out.old) (W.Out.state out.new) (spec.cells_text layout.now rows found) result }
+    ensures written { Writes (W.Out.state out.old) (W.Out.state out.new) (spec.cells_text layout.now only.now rows found) result }
 {
-    write_cell_line(out, layout.cells(), rows, found)
+    let cells = layout.cells();
+    let declarations = layout.len();
+    write_cell_line(out, cells, rows, found)?;
+    write_only(out, only, declarations)
 }
 
 // What is what.
@@ -150,7 +182,8 @@ fn write_key<W: Out>(out: &mut W) -> Result<(), WriteFault>
         b"<text x='256' y='61'>from a cell that the writer read</text>\n",
         b"<circle cx='456' cy='57' r='4' fill='#ffffff' stroke='#000000'/>\n<text x='466' y='61'>read alone</text>\n",
         b"<rect x='548' y='48' width='22' height='18' fill='none' stroke='#000000' stroke-width='3'/>\n",
-        b"<text x='578' y='61'>fault</text>\n",
+        b"<text x='578' y='61'>fault</text>\n<path d='M12 80H46' stroke='#000000' stroke-width='1.5' stroke-dasharray='6 4'/>\n",
+        b"<text x='54' y='84'>dashed: for a subscript alone</text>\n",
     ])
 }
 
@@ -158,6 +191,7 @@ fn write_key<W: Out>(out: &mut W) -> Result<(), WriteFault>
 pub(crate) fn write_head<W: Out>(
     out: &mut W,
     layout: &Layout,
+    only: &[CellSpan],
     statements: usize,
     from: usize,
     to: usize,
@@ -168,9 +202,9 @@ pub(crate) fn write_head<W: Out>(
 ) -> Result<(), WriteFault>
     requires counted { (W.Out.state out.old).failures < 2 ^ 63 }
     ensures written { Writes (W.Out.state out.old) (W.Out.state out.new)
-        (spec.head layout.now statements from to columns touching rows found) result }
+        (spec.head layout.now only.now statements from to columns touching rows found) result }
 {
     write_statement_line(out, from, to, statements, columns, touching)?;
-    write_cells(out, layout, rows, found)?;
+    write_cells(out, layout, only, rows, found)?;
     write_key(out)
 }

@@ -2,42 +2,16 @@
 
 ghost use Rattle.std.specs.Prelude.{◌≡◌, ◌<◌, ◌^◌, drop, take};
 ghost use Rattle.text_out.specs.Out.{Writes};
+ghost use Rattle.svg_texts.specs.Letters as svg;
 ghost use Rattle.flow_pictures.specs.Texts as spec;
 
 use itoa::Buffer;
+use svg_texts::write_letters;
 use text_out::{Out, WriteFault};
 use text_places::line_text;
 
 // No more of a line is shown.
 const MOST: usize = 24;
-
-// A byte in a text of SVG.
-fn write_letter<W: Out>(out: &mut W, byte: u8) -> Result<(), WriteFault>
-    requires counted { (W.Out.state out.old).failures < 2 ^ 63 }
-    ensures written { Writes (W.Out.state out.old) (W.Out.state out.new) (spec.letter byte) result }
-{
-    if byte == b'&' {
-        out.write_all(b"&amp;")
-    } else if byte == b'<' {
-        out.write_all(b"&lt;")
-    } else if byte == b'>' {
-        out.write_all(b"&gt;")
-    } else if byte < 32 || byte > 126 {
-        out.write_all(b"?")
-    } else {
-        out.write_all(&[byte])
-    }
-}
-
-fn write_letters<W: Out>(out: &mut W, bytes: &[u8]) -> Result<(), WriteFault>
-    requires counted { (W.Out.state out.old).failures < 2 ^ 63 }
-    ensures written { Writes (W.Out.state out.old) (W.Out.state out.new) (spec.letters bytes.now) result }
-{
-    for byte in bytes {
-        write_letter(out, *byte)?;
-    }
-    Ok(())
-}
 
 // What stands behind an offset, and nothing where there is no such.
 fn behind(text: &[u8], offset: usize) -> &[u8]
@@ -70,7 +44,7 @@ fn front(source: &[u8]) -> &[u8]
 
 fn write_shown<W: Out>(out: &mut W, source: &[u8]) -> Result<(), WriteFault>
     requires counted { (W.Out.state out.old).failures < 2 ^ 63 }
-    ensures written { Writes (W.Out.state out.old) (W.Out.state out.new) (spec.letters (take 24 source.now)) result }
+    ensures written { Writes (W.Out.state out.old) (W.Out.state out.new) (svg.letters (take 24 source.now)) result }
 {
     write_letters(out, front(source))
 }

@@ -1,6 +1,7 @@
 //! The picture of what passes through shared memory in a run.
 #![tactic(auto)]
 
+mod asides;
 mod cells;
 mod choice;
 mod columns;
@@ -15,9 +16,12 @@ mod measure;
 mod picture;
 mod rows;
 mod shapes;
+mod spans;
 #[cfg(test)]
 mod tests;
 mod values;
 
+pub use asides::asides_of;
 pub use flow_laws::{each_write_is_a_node, lines_come_from_reads, what_has_room_is_drawn};
 pub use picture::write_flow;
+pub use spans::CellSpan;

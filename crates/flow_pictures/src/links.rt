@@ -1,6 +1,6 @@
 //! What the processors of a statement did at a cell.
 
-ghost use Rattle.std.specs.Prelude.{◌≡◌, Some, map};
+ghost use Rattle.std.specs.Prelude.{◌≡◌, ◌≤◌, Some, map};
 ghost use Rattle.step_entries.specs.Entries.{act_is};
 ghost use Rattle.flow_pictures.specs.Marks as spec;
 
@@ -57,4 +57,55 @@ pub(crate) fn carries(acts: &[Act], from: u32, to: Option<u32>) -> bool
         }
     }
     false
+}
+
+// Whether a read stands in a subscript, as far as that is known.
+fn stands_aside(aside: &[bool], k: usize) -> bool
+    ensures { result ≡ spec.stands_aside aside.now k }
+{
+    match aside.get(k) {
+        Some(aside) => *aside,
+        None => false,
+    }
+}
+
+// Whether a cell is among reads by one that stands in no subscript.
+fn is_valued(aside: &[bool], reads: &[u32], cell: u32) -> bool
+    ensures { result ≡ spec.valued_from aside.now 0 reads.now cell }
+{
+    'reads: for k in 0..reads.len() {
+        if reads[k] == cell && !stands_aside(aside, k) {
+            return true;
+        }
+    }
+    false
+}
+
+fn is_valuer(aside: &[bool], act: &Act, from: u32, to: Option<u32>) -> bool
+    ensures { result ≡ spec.values_one aside.now (act_is act.now) from to }
+{
+    is_written(act.write, to) && is_valued(aside, &act.reads, from)
+}
+
+/// Whether a processor computed what it wrote there from the value of the other.
+pub(crate) fn values(aside: &[bool], acts: &[Act], from: u32, to: Option<u32>) -> bool
+    ensures { result ≡ spec.values aside.now (map act_is acts.now) from to }
+{
+    for act in acts {
+        if is_valuer(aside, act, from, to) {
+            return true;
+        }
+    }
+    false
+}
+
+/// Which reads of the statement of that number stand in a subscript.
+pub(crate) fn aside_of(asides: &[Vec<bool>], number: usize) -> &[bool]
+    requires { 1 ≤ number }
+    ensures { result.now ≡ spec.aside_of asides.now number }
+{
+    match asides.get(number - 1) {
+        Some(aside) => aside.as_slice(),
+        None => &[],
+    }
 }

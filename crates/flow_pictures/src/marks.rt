@@ -6,10 +6,10 @@ ghost use Rattle.text_out.specs.Out.{Writes};
 ghost use Rattle.step_entries.specs.Entries.{act_is, entry_is};
 ghost use Rattle.flow_pictures.specs.Marks as spec;
 ghost use Rattle.flow_pictures.specs.Texts as texts;
-ghost use Rattle.flow_pictures.specs.Values as values;
+ghost use Rattle.flow_pictures.specs.Values as cell_values;
 
 use crate::entries::acts_in;
-use crate::links::{carries, writes};
+use crate::links::{carries, values, writes};
 use crate::measure::{value_width, x_of, y_of};
 use crate::shapes::{write_box, write_line, write_ring};
 use crate::values::value_behind;
@@ -47,7 +47,7 @@ fn write_node_if<W: Out>(
     requires within { number ≤ length entries.now }
     ensures written { Writes (W.Out.state out.old) (W.Out.state out.new)
         (if spec.writes (map act_is acts.now) cell
-        then texts.node_text rows.now (spec.node column (values.value_behind opening.now (map entry_is entries.now) number) cell)
+        then texts.node_text rows.now (spec.node column (cell_values.value_behind opening.now (map entry_is entries.now) number) cell)
         else []) result }
 {
     if writes(acts, cell) {
@@ -70,12 +70,24 @@ fn write_nodes<W: Out>(
     requires counted { (W.Out.state out.old).failures < 2 ^ 63 }
     requires within { number ≤ length entries.now }
     ensures written { Writes (W.Out.state out.old) (W.Out.state out.new) (flat_map (texts.node_text rows.now)
-        (spec.nodes rows.now column (values.value_behind opening.now (map entry_is entries.now) number) (map act_is acts.now))) result }
+        (spec.nodes rows.now column (cell_values.value_behind opening.now (map entry_is entries.now) number)
+        (map act_is acts.now))) result }
 {
     for cell in rows {
         write_node_if(out, rows, column, *cell, opening, entries, number, acts)?;
     }
     Ok(())
+}
+
+// How a line is drawn.
+fn stroke(dashed: bool) -> &'static [u8]
+    ensures { result.now ≡ texts.stroke dashed }
+{
+    if dashed {
+        b"' stroke='#000000' stroke-width='1.5' stroke-dasharray='6 4'/>\n"
+    } else {
+        b"' stroke='#000000' stroke-width='1.5'/>\n"
+    }
 }
 
 // From a cell that a processor read to the one that it wrote.
@@ -85,9 +97,11 @@ fn write_arrow<W: Out>(
     column: usize,
     to: u32,
     from: u32,
+    dashed: bool,
 ) -> Result<(), WriteFault>
     requires counted { (W.Out.state out.old).failures < 2 ^ 63 }
-    ensures written { Writes (W.Out.state out.old) (W.Out.state out.new) (texts.arrow_text rows.now (spec.arrow column to from)) result }
+    ensures written { Writes (W.Out.state out.old) (W.Out.state out.new)
+        (texts.arrow_text rows.now (spec.arrow column to from dashed)) result }
 {
     let x = x_of(column);
     write_line(
@@ -96,13 +110,33 @@ fn write_arrow<W: Out>(
         y_of(rows, from),
         x,
         y_of(rows, to),
+        stroke(dashed),
     )
+}
+
+// By what processors did.
+fn write_arrow_by<W: Out>(
+    out: &mut W,
+    rows: &[u32],
+    column: usize,
+    aside: &[bool],
+    acts: &[Act],
+    to: u32,
+    from: u32,
+) -> Result<(), WriteFault>
+    requires counted { (W.Out.state out.old).failures < 2 ^ 63 }
+    ensures written { Writes (W.Out.state out.old) (W.Out.state out.new)
+        (texts.arrow_text rows.now (spec.arrow_by column aside.now (map act_is acts.now) to from)) result }
+{
+    let dashed = !values(aside, acts, from, Some(to));
+    write_arrow(out, rows, column, to, from, dashed)
 }
 
 fn write_arrow_if<W: Out>(
     out: &mut W,
     rows: &[u32],
     column: usize,
+    aside: &[bool],
     to: u32,
     from: u32,
     acts: &[Act],
@@ -110,10 +144,10 @@ fn write_arrow_if<W: Out>(
     requires counted { (W.Out.state out.old).failures < 2 ^ 63 }
     ensures written { Writes (W.Out.state out.old) (W.Out.state out.new)
         (if spec.carries (map act_is acts.now) from (Some to)
-        then texts.arrow_text rows.now (spec.arrow column to from) else []) result }
+        then texts.arrow_text rows.now (spec.arrow_by column aside.now (map act_is acts.now) to from) else []) result }
 {
     if carries(acts, from, Some(to)) {
-        write_arrow(out, rows, column, to, from)
+        write_arrow_by(out, rows, column, aside, acts, to, from)
     } else {
         Ok(())
     }
@@ -123,15 +157,16 @@ fn write_arrows_to<W: Out>(
     out: &mut W,
     rows: &[u32],
     column: usize,
+    aside: &[bool],
     acts: &[Act],
     to: u32,
 ) -> Result<(), WriteFault>
     requires counted { (W.Out.state out.old).failures < 2 ^ 63 }
     ensures written { Writes (W.Out.state out.old) (W.Out.state out.new)
-        (flat_map (texts.arrow_text rows.now) (spec.arrows_to rows.now column (map act_is acts.now) to)) result }
+        (flat_map (texts.arrow_text rows.now) (spec.arrows_to rows.now column aside.now (map act_is acts.now) to)) result }
 {
     for from in rows {
-        write_arrow_if(out, rows, column, to, *from, acts)?;
+        write_arrow_if(out, rows, column, aside, to, *from, acts)?;
     }
     Ok(())
 }
@@ -141,16 +176,17 @@ fn write_arrows_if<W: Out>(
     out: &mut W,
     rows: &[u32],
     column: usize,
+    aside: &[bool],
     acts: &[Act],
     to: u32,
 ) -> Result<(), WriteFault>
     requires counted { (W.Out.state out.old).failures < 2 ^ 63 }
     ensures written { Writes (W.Out.state out.old) (W.Out.state out.new)
         (if spec.writes (map act_is acts.now) to
-        then flat_map (texts.arrow_text rows.now) (spec.arrows_to rows.now column (map act_is acts.now) to) else []) result }
+        then flat_map (texts.arrow_text rows.now) (spec.arrows_to rows.now column aside.now (map act_is acts.now) to) else []) result }
 {
     if writes(acts, to) {
-        write_arrows_to(out, rows, column, acts, to)
+        write_arrows_to(out, rows, column, aside, acts, to)
     } else {
         Ok(())
     }
@@ -160,14 +196,15 @@ fn write_arrows<W: Out>(
     out: &mut W,
     rows: &[u32],
     column: usize,
+    aside: &[bool],
     acts: &[Act],
 ) -> Result<(), WriteFault>
     requires counted { (W.Out.state out.old).failures < 2 ^ 63 }
     ensures written { Writes (W.Out.state out.old) (W.Out.state out.new)
-        (flat_map (texts.arrow_text rows.now) (spec.arrows rows.now column (map act_is acts.now))) result }
+        (flat_map (texts.arrow_text rows.now) (spec.arrows rows.now column aside.now (map act_is acts.now))) result }
 {
     for to in rows {
-        write_arrows_if(out, rows, column, acts, *to)?;
+        write_arrows_if(out, rows, column, aside, acts, *to)?;
     }
     Ok(())
 }
@@ -212,6 +249,7 @@ fn write_acts<W: Out>(
     out: &mut W,
     rows: &[u32],
     column: usize,
+    aside: &[bool],
     opening: &[i64],
     entries: &[Entry],
     number: usize,
@@ -219,10 +257,10 @@ fn write_acts<W: Out>(
 ) -> Result<(), WriteFault>
     requires counted { (W.Out.state out.old).failures < 2 ^ 63 }
     requires within { number ≤ length entries.now }
-    ensures written { Writes (W.Out.state out.old) (W.Out.state out.new) (texts.marks_of rows.now column
-        (values.value_behind opening.now (map entry_is entries.now) number) (map act_is acts.now)) result }
+    ensures written { Writes (W.Out.state out.old) (W.Out.state out.new) (texts.marks_of rows.now column aside.now
+        (cell_values.value_behind opening.now (map entry_is entries.now) number) (map act_is acts.now)) result }
 {
-    write_arrows(out, rows, column, acts)?;
+    write_arrows(out, rows, column, aside, acts)?;
     write_nodes(out, rows, column, opening, entries, number, acts)?;
     write_readings(out, rows, column, acts)
 }
@@ -232,6 +270,7 @@ pub(crate) fn write_marks<W: Out>(
     out: &mut W,
     rows: &[u32],
     column: usize,
+    aside: &[bool],
     opening: &[i64],
     entries: &[Entry],
     number: usize,
@@ -239,8 +278,17 @@ pub(crate) fn write_marks<W: Out>(
 ) -> Result<(), WriteFault>
     requires counted { (W.Out.state out.old).failures < 2 ^ 63 }
     requires within { number ≤ length entries.now }
-    ensures written { Writes (W.Out.state out.old) (W.Out.state out.new) (texts.marks_text rows.now column
-        (values.value_behind opening.now (map entry_is entries.now) number) (entry_is entry.now)) result }
+    ensures written { Writes (W.Out.state out.old) (W.Out.state out.new) (texts.marks_text rows.now column aside.now
+        (cell_values.value_behind opening.now (map entry_is entries.now) number) (entry_is entry.now)) result }
 {
-    write_acts(out, rows, column, opening, entries, number, acts_in(entry))
+    write_acts(
+        out,
+        rows,
+        column,
+        aside,
+        opening,
+        entries,
+        number,
+        acts_in(entry),
+    )
 }

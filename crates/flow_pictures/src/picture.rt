@@ -15,6 +15,7 @@ use crate::head::write_head;
 use crate::measure::{picture_height, picture_width, y_at};
 use crate::rows::{drawn_rows, rows_and_next};
 use crate::shapes::{write_line_front, write_value};
+use crate::spans::CellSpan;
 use crate::values::value_behind;
 use itoa::Buffer;
 use pram_trees::Layout;
@@ -145,6 +146,7 @@ fn write_table<W: Out>(
     out: &mut W,
     layout: &Layout,
     text: &[u8],
+    asides: &[Vec<bool>],
     opening: &[i64],
     entries: &[Entry],
     choice: Choice,
@@ -153,10 +155,10 @@ fn write_table<W: Out>(
 ) -> Result<(), WriteFault>
     requires counted { (W.Out.state out.old).failures < 2 ^ 63 }
     ensures written { Writes (W.Out.state out.old) (W.Out.state out.new)
-        (spec.table layout.now text.now opening.now (map entry_is entries.now) choice wide rows.now) result }
+        (spec.table layout.now text.now asides.now opening.now (map entry_is entries.now) choice wide rows.now) result }
 {
     write_rows(out, layout, wide, opening, entries, choice, rows)?;
-    write_columns(out, layout, text, opening, entries, choice, rows)?;
+    write_columns(out, layout, text, asides, opening, entries, choice, rows)?;
     out.write_all(b"</svg>\n")
 }
 
@@ -177,6 +179,7 @@ fn write_size<W: Out>(
 fn write_counts<W: Out>(
     out: &mut W,
     layout: &Layout,
+    only: &[CellSpan],
     entries: &[Entry],
     from: usize,
     to: usize,
@@ -185,13 +188,14 @@ fn write_counts<W: Out>(
 ) -> Result<(), WriteFault>
     requires counted { (W.Out.state out.old).failures < 2 ^ 63 }
     ensures written { Writes (W.Out.state out.old) (W.Out.state out.new)
-        (spec.counts_text layout.now (map entry_is entries.now) from to choice found.now) result }
+        (spec.counts_text layout.now only.now (map entry_is entries.now) from to choice found.now) result }
 {
     let columns = drawn_count(choice, entries);
     let touching = drawn_count(asked(from, to, entries), entries);
     write_head(
         out,
         layout,
+        only,
         entries.len(),
         from,
         to,
@@ -206,6 +210,7 @@ fn write_drawn<W: Out>(
     out: &mut W,
     layout: &Layout,
     text: &[u8],
+    asides: &[Vec<bool>],
     opening: &[i64],
     entries: &[Entry],
     choice: Choice,
@@ -213,11 +218,13 @@ fn write_drawn<W: Out>(
 ) -> Result<(), WriteFault>
     requires counted { (W.Out.state out.old).failures < 2 ^ 63 }
     ensures written { Writes (W.Out.state out.old) (W.Out.state out.new)
-        (spec.drawn_text layout.now text.now opening.now (map entry_is entries.now) choice found.now) result }
+        (spec.drawn_text layout.now text.now asides.now opening.now (map entry_is entries.now) choice found.now) result }
 {
     let wide = picture_width(drawn_count(choice, entries));
     let rows = drawn_rows(found);
-    write_table(out, layout, text, opening, entries, choice, wide, rows)
+    write_table(
+        out, layout, text, asides, opening, entries, choice, wide, rows,
+    )
 }
 
 // A picture of these rows, one more of which may have been found.
@@ -225,8 +232,10 @@ fn write_found<W: Out>(
     out: &mut W,
     layout: &Layout,
     text: &[u8],
+    asides: &[Vec<bool>],
     opening: &[i64],
     entries: &[Entry],
+    only: &[CellSpan],
     from: usize,
     to: usize,
     choice: Choice,
@@ -234,11 +243,11 @@ fn write_found<W: Out>(
 ) -> Result<(), WriteFault>
     requires counted { (W.Out.state out.old).failures < 2 ^ 63 }
     ensures written { Writes (W.Out.state out.old) (W.Out.state out.new)
-        (spec.picture_of layout.now text.now opening.now (map entry_is entries.now) from to choice found.now) result }
+        (spec.picture_of layout.now text.now asides.now opening.now (map entry_is entries.now) only.now from to choice found.now) result }
 {
     write_size(out, entries, choice, found)?;
-    write_counts(out, layout, entries, from, to, choice, found)?;
-    write_drawn(out, layout, text, opening, entries, choice, found)
+    write_counts(out, layout, only, entries, from, to, choice, found)?;
+    write_drawn(out, layout, text, asides, opening, entries, choice, found)
 }
 
 /// Writes a picture of what passes through shared memory in a run, as SVG 1.1, of the statements from one number to another: a row for
@@ -246,30 +255,37 @@ fn write_found<W: Out>(
 /// and what stands there in the text. In a column the cells that were written have a box with their new value, and from each cell that the
 /// writer read a line comes to it; a cell that was read alone has a ring. A fault has a heavy frame, and below the rows it is said what was
 /// wrong and who met. `text` is what was read as a program, where the entries stand; `opening` has the values of the first cells before
-/// the first statement, and the others have 0. Of more than 64 statements the first are drawn and the one that faulted, of more than 64
+/// the first statement, and the others have 0. Where `only` has the cells of some declarations, no others have a row, and
+/// the picture says so. `asides` tells of each statement which of a processor's reads stand in a subscript, in the order of evaluation: a line
+/// for those alone is dashed, and what isn't told counts as read for its value. Of more than 64 statements the first are drawn and the one that
+/// faulted, of more than 64
 /// cells the first, and the picture says so. `WriteFault` (E17)
 /// says that the writer failed; what it took is a beginning of the picture.
 pub fn write_flow<W: Out>(
     out: &mut W,
     layout: &Layout,
     text: &[u8],
+    asides: &[Vec<bool>],
     opening: &[i64],
     entries: &[Entry],
+    only: &[CellSpan],
     from: usize,
     to: usize,
 ) -> Result<(), WriteFault>
     requires counted { (W.Out.state out.old).failures < 2 ^ 63 }
     ensures written { Writes (W.Out.state out.old) (W.Out.state out.new)
-        (spec.flow layout.now text.now opening.now (map entry_is entries.now) from to) result }
+        (spec.flow layout.now text.now asides.now opening.now (map entry_is entries.now) only.now from to) result }
 {
     let choice = choose(from, to, entries);
-    let found = rows_and_next(choice, entries);
+    let found = rows_and_next(only, choice, entries);
     write_found(
         out,
         layout,
         text,
+        asides,
         opening,
         entries,
+        only,
         from,
         to,
         choice,

@@ -6,6 +6,7 @@ ghost use Rattle.flow_pictures.specs.Cells as spec;
 
 use crate::cells::least_from;
 use crate::choice::Choice;
+use crate::spans::CellSpan;
 use arrayvec::ArrayVec;
 use step_entries::Entry;
 
@@ -17,13 +18,17 @@ const MOST_FOUND: usize = 65;
 
 /// The first cells that are touched, in ascending order, and one more than are drawn.
 #[tactic(auto, using(crate::proofs::RowLists::rows_start, crate::proofs::RowLists::rows_go, crate::proofs::RowLists::rows_over, crate::proofs::RowLists::rows_full))]
-pub(crate) fn rows_and_next(choice: Choice, entries: &[Entry]) -> ArrayVec<u32, MOST_FOUND>
-    ensures { result.items ≡ spec.rows_and_next choice (map entry_is entries.now) }
+pub(crate) fn rows_and_next(
+    only: &[CellSpan],
+    choice: Choice,
+    entries: &[Entry],
+) -> ArrayVec<u32, MOST_FOUND>
+    ensures { result.items ≡ spec.rows_and_next only.now choice (map entry_is entries.now) }
 {
     let mut found = ArrayVec::new();
     let mut start = 0u64;
     'rows: while found.len() < MOST_FOUND {
-        match least_from(start, choice, entries) {
+        match least_from(only, start, choice, entries) {
             None => return found,
             Some(cell) => {
                 found.push(cell);

@@ -126,9 +126,10 @@ pub(crate) fn write_line<W: Out>(
     y: u128,
     to_x: u128,
     to_y: u128,
+    how: &[u8],
 ) -> Result<(), WriteFault>
     requires counted { (W.Out.state out.old).failures < 2 ^ 63 }
-    ensures written { Writes (W.Out.state out.old) (W.Out.state out.new) (spec.line_between x y to_x to_y) result }
+    ensures written { Writes (W.Out.state out.old) (W.Out.state out.new) (spec.line_between x y to_x to_y how.now) result }
 {
     let mut across = Buffer::new();
     let mut down = Buffer::new();
@@ -143,7 +144,7 @@ pub(crate) fn write_line<W: Out>(
         to_across.format(to_x).as_bytes(),
         b" ",
         to_down.format(to_y).as_bytes(),
-        b"' stroke='#000000' stroke-width='1.5'/>\n",
+        how,
     ])
 }
 

@@ -1,6 +1,6 @@
 //! What no clause says: that a picture is made; and pictures of few statements, letter by letter.
 
-use crate::write_flow;
+use crate::{CellSpan, write_flow};
 use pram_tokens::Location;
 use pram_trees::Layout;
 use pram_values::{Kind, Place};
@@ -67,16 +67,47 @@ fn stands(part: &[u8], whole: &[u8]) -> bool {
     false
 }
 
+fn picture_by(
+    alloc: Global,
+    layout: &Layout,
+    asides: &[Vec<bool>],
+    entries: &[Entry],
+    only: &[CellSpan],
+    from: usize,
+) -> Result<Buffer, WriteFault> {
+    let mut out = Buffer::new(alloc);
+    let text = b"a < b; end\nmore";
+    write_flow(
+        &mut out,
+        layout,
+        text,
+        asides,
+        &[4, 7],
+        entries,
+        only,
+        from,
+        100,
+    )?;
+    Ok(out)
+}
+
 fn picture(
     alloc: Global,
     layout: &Layout,
     entries: &[Entry],
     from: usize,
 ) -> Result<Buffer, WriteFault> {
-    let mut out = Buffer::new(alloc);
-    let text = b"a < b; end\nmore";
-    write_flow(&mut out, layout, text, &[4, 7], entries, from, 100)?;
-    Ok(out)
+    let none: Vec<Vec<bool>> = Vec::new(alloc);
+    picture_by(alloc, layout, none.as_slice(), entries, &[], from)
+}
+
+// Of the third statement, which reads a[0] twice, these reads stand in a subscript.
+fn third_by(alloc: Global, first: bool, second: bool) -> Result<Vec<Vec<bool>>, AllocError> {
+    let mut asides = Vec::new(alloc);
+    asides.push(Vec::new(alloc))?;
+    asides.push(Vec::new(alloc))?;
+    asides.push(Vec::from_slice(alloc, &[first, second])?)?;
+    Ok(asides)
 }
 
 // Cells a[0], a[1] and s.
@@ -114,6 +145,64 @@ fn marks_stand_where_they_should(rt: HostRuntime) -> Result<(), Fail> {
         )
     );
     assert!(rt; stands(b"<circle cx='468' cy='334'", text));
+    Ok(())
+}
+
+// A line is dashed where each read of it stands in a subscript.
+#[test]
+fn lines_for_subscripts_are_dashed(rt: HostRuntime) -> Result<(), Fail> {
+    let alloc = rt.alloc();
+    let layout = three_cells(alloc)?;
+    let entries = four_statements(alloc)?;
+    let dashed = picture_by(
+        alloc,
+        &layout,
+        &third_by(alloc, true, true)?,
+        &entries,
+        &[],
+        0,
+    )?;
+    assert!(rt;
+        stands(
+            b"L368 334' stroke='#000000' stroke-width='1.5' stroke-dasharray='6 4'/>",
+            dashed.bytes()
+        )
+    );
+    let full = picture_by(
+        alloc,
+        &layout,
+        &third_by(alloc, true, false)?,
+        &entries,
+        &[],
+        0,
+    )?;
+    assert!(rt;
+        stands(
+            b"L368 334' stroke='#000000' stroke-width='1.5'/>",
+            full.bytes()
+        )
+    );
+    Ok(())
+}
+
+// Of s alone there is a row, which is the first.
+#[test]
+fn chosen_cells_alone_are_drawn(rt: HostRuntime) -> Result<(), Fail> {
+    let alloc = rt.alloc();
+    let layout = three_cells(alloc)?;
+    let entries = four_statements(alloc)?;
+    let none: Vec<Vec<bool>> = Vec::new(alloc);
+    let only = [CellSpan { first: 2, last: 2 }];
+    let out = picture_by(alloc, &layout, none.as_slice(), &entries, &only, 0)?;
+    let text = out.bytes();
+    assert!(rt;
+        stands(
+            b">3 cells, 1 of them drawn, 2 not: those that these statements touch, in 1 of 2 declarations</text>",
+            text
+        )
+    );
+    assert!(rt; stands(b"<text x='12' y='314'>s</text>", text));
+    assert!(rt; !stands(b"<path d='M308 ", text));
     Ok(())
 }
 

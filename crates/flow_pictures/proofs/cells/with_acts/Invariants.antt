@@ -2,4 +2,4 @@ use Rattle.flow_pictures.proofs.Least.{InActs}
 use Rattle.flow_pictures.proofs.cells.with_acts.Given as goal
 
 abbrev pub invariant-loop-act : goal.invariant-loop-act
-invariant-loop-act l = InActs l.start l.fn.best l.acts l.act-index l.least
+invariant-loop-act l = InActs l.only l.start l.fn.best l.acts l.act-index l.least

@@ -6,7 +6,7 @@ use Rattle.flow_pictures.proofs.head.write_head.Goals as goal
 pub returns-in_err-write_statement_line : goal.returns-in_err-write_statement_line
 returns-in_err-write_statement_line g c =
     let part1 = statement_line c.args.from c.args.to c.args.statements c.args.columns c.args.touching in
-    let part2 = cells_text c.args.layout.now c.args.rows c.args.found in
+    let part2 = cells_text c.args.layout.now c.args.only.now c.args.rows c.args.found in
     let part3 = key_text in
     record {
       written = breaks_off _ _ _ _ _ part1 (part2 ++ part3) c.from_residual.result _ c.from_residual.ensures.1 (starts _ _ c.requires.counted) refl c.in_err-write_statement_line.ensures.written;
@@ -15,7 +15,7 @@ returns-in_err-write_statement_line g c =
 pub returns-in_err-write_cells : goal.returns-in_err-write_cells
 returns-in_err-write_cells g c =
     let part1 = statement_line c.args.from c.args.to c.args.statements c.args.columns c.args.touching in
-    let part2 = cells_text c.args.layout.now c.args.rows c.args.found in
+    let part2 = cells_text c.args.layout.now c.args.only.now c.args.rows c.args.found in
     let part3 = key_text in
     let after1 = goes_on _ _ _ _ _ part1 (part2 ++ part3) (starts _ _ c.requires.counted) refl c.in_ok-write_statement_line.ensures.written in
     record {
@@ -25,7 +25,7 @@ returns-in_err-write_cells g c =
 pub returns : goal.returns
 returns g c =
     let part1 = statement_line c.args.from c.args.to c.args.statements c.args.columns c.args.touching in
-    let part2 = cells_text c.args.layout.now c.args.rows c.args.found in
+    let part2 = cells_text c.args.layout.now c.args.only.now c.args.rows c.args.found in
     let part3 = key_text in
     let after1 = goes_on _ _ _ _ _ part1 (part2 ++ part3) (starts _ _ c.requires.counted) refl c.in_ok-write_statement_line.ensures.written in
     let after2 = goes_on _ _ _ _ _ part2 part3 after1 refl c.in_ok-write_cells.ensures.written in

@@ -1,6 +1,7 @@
 use Rattle.std.proofs.Common.{◌++◌, refl, take}
 use Rattle.text_out.proofs.Progress.{breaks_off, closes, goes_on, starts}
-use Rattle.flow_pictures.specs.Texts.{letters, source_cut, source_front}
+use Rattle.svg_texts.specs.Letters.{letters}
+use Rattle.flow_pictures.specs.Texts.{source_cut, source_front}
 use Rattle.flow_pictures.proofs.letters.write_source.Goals as goal
 
 pub returns-in_err-write_source_front : goal.returns-in_err-write_source_front

@@ -13,6 +13,6 @@ returns g c =
     let touching = c.drawn_count-touching.ensures ∙ ap (λ a. length (drawn a es)) c.asked.ensures in
     record {
       written = subst (λ (t : List ℕ). Writes (g.W.Out.state c.args.out.now) (g.W.Out.state c.write_head.new.out) t c.write_head.result)
-          (λ i. head c.args.layout.now (count i) c.args.from c.args.to (c.drawn_count-columns.ensures i) (touching i)
+          (λ i. head c.args.layout.now c.args.only.now (count i) c.args.from c.args.to (c.drawn_count-columns.ensures i) (touching i)
           (length (c.drawn_rows.ensures i)) (length c.args.found.now)) c.write_head.ensures.written;
     }

@@ -7,8 +7,8 @@ use Rattle.flow_pictures.proofs.picture.write_found.Goals as goal
 pub returns-in_err-write_size : goal.returns-in_err-write_size
 returns-in_err-write_size g c =
     let part1 = size_text (map entry_is c.args.entries.now) c.args.choice c.args.found.now in
-    let part2 = counts_text c.args.layout.now (map entry_is c.args.entries.now) c.args.from c.args.to c.args.choice c.args.found.now in
-    let part3 = drawn_text c.args.layout.now c.args.text.now c.args.opening.now (map entry_is c.args.entries.now) c.args.choice c.args.found.now in
+    let part2 = counts_text c.args.layout.now c.args.only.now (map entry_is c.args.entries.now) c.args.from c.args.to c.args.choice c.args.found.now in
+    let part3 = drawn_text c.args.layout.now c.args.text.now c.args.asides.now c.args.opening.now (map entry_is c.args.entries.now) c.args.choice c.args.found.now in
     record {
       written = breaks_off _ _ _ _ _ part1 (part2 ++ part3) c.from_residual.result _ c.from_residual.ensures.1 (starts _ _ c.requires.counted) refl c.in_err-write_size.ensures.written;
     }
@@ -16,8 +16,8 @@ returns-in_err-write_size g c =
 pub returns-in_err-write_counts : goal.returns-in_err-write_counts
 returns-in_err-write_counts g c =
     let part1 = size_text (map entry_is c.args.entries.now) c.args.choice c.args.found.now in
-    let part2 = counts_text c.args.layout.now (map entry_is c.args.entries.now) c.args.from c.args.to c.args.choice c.args.found.now in
-    let part3 = drawn_text c.args.layout.now c.args.text.now c.args.opening.now (map entry_is c.args.entries.now) c.args.choice c.args.found.now in
+    let part2 = counts_text c.args.layout.now c.args.only.now (map entry_is c.args.entries.now) c.args.from c.args.to c.args.choice c.args.found.now in
+    let part3 = drawn_text c.args.layout.now c.args.text.now c.args.asides.now c.args.opening.now (map entry_is c.args.entries.now) c.args.choice c.args.found.now in
     let after1 = goes_on _ _ _ _ _ part1 (part2 ++ part3) (starts _ _ c.requires.counted) refl c.in_ok-write_size.ensures.written in
     record {
       written = breaks_off _ _ _ _ _ part2 part3 c.from_residual-in_err-write_counts.result _ c.from_residual-in_err-write_counts.ensures.1 after1 refl c.in_err-write_counts.ensures.written;
@@ -26,8 +26,8 @@ returns-in_err-write_counts g c =
 pub returns : goal.returns
 returns g c =
     let part1 = size_text (map entry_is c.args.entries.now) c.args.choice c.args.found.now in
-    let part2 = counts_text c.args.layout.now (map entry_is c.args.entries.now) c.args.from c.args.to c.args.choice c.args.found.now in
-    let part3 = drawn_text c.args.layout.now c.args.text.now c.args.opening.now (map entry_is c.args.entries.now) c.args.choice c.args.found.now in
+    let part2 = counts_text c.args.layout.now c.args.only.now (map entry_is c.args.entries.now) c.args.from c.args.to c.args.choice c.args.found.now in
+    let part3 = drawn_text c.args.layout.now c.args.text.now c.args.asides.now c.args.opening.now (map entry_is c.args.entries.now) c.args.choice c.args.found.now in
     let after1 = goes_on _ _ _ _ _ part1 (part2 ++ part3) (starts _ _ c.requires.counted) refl c.in_ok-write_size.ensures.written in
     let after2 = goes_on _ _ _ _ _ part2 part3 after1 refl c.in_ok-write_counts.ensures.written in
     record {

@@ -9,7 +9,7 @@ use Rattle.flow_pictures.proofs.picture.write_table.Goals as goal
 pub returns-in_err-write_rows : goal.returns-in_err-write_rows
 returns-in_err-write_rows g c =
     let part1 = rows_text c.args.layout.now c.args.wide c.args.opening.now (map entry_is c.args.entries.now) c.args.choice c.args.rows.now in
-    let part2 = columns c.args.layout.now c.args.text.now c.args.opening.now (map entry_is c.args.entries.now) c.args.rows.now 1 (drawn c.args.choice (map entry_is c.args.entries.now)) in
+    let part2 = columns c.args.layout.now c.args.text.now c.args.asides.now c.args.opening.now (map entry_is c.args.entries.now) c.args.rows.now 1 (drawn c.args.choice (map entry_is c.args.entries.now)) in
     let part3 = codes "</svg>\n" in
     record {
       written = breaks_off _ _ _ _ _ part1 (part2 ++ part3) c.from_residual.result _ c.from_residual.ensures.1 (starts _ _ c.requires.counted) refl c.in_err-write_rows.ensures.written;
@@ -18,7 +18,7 @@ returns-in_err-write_rows g c =
 pub returns-in_err-write_columns : goal.returns-in_err-write_columns
 returns-in_err-write_columns g c =
     let part1 = rows_text c.args.layout.now c.args.wide c.args.opening.now (map entry_is c.args.entries.now) c.args.choice c.args.rows.now in
-    let part2 = columns c.args.layout.now c.args.text.now c.args.opening.now (map entry_is c.args.entries.now) c.args.rows.now 1 (drawn c.args.choice (map entry_is c.args.entries.now)) in
+    let part2 = columns c.args.layout.now c.args.text.now c.args.asides.now c.args.opening.now (map entry_is c.args.entries.now) c.args.rows.now 1 (drawn c.args.choice (map entry_is c.args.entries.now)) in
     let part3 = codes "</svg>\n" in
     let after1 = goes_on _ _ _ _ _ part1 (part2 ++ part3) (starts _ _ c.requires.counted) refl c.in_ok-write_rows.ensures.written in
     record {
@@ -28,7 +28,7 @@ returns-in_err-write_columns g c =
 pub returns : goal.returns
 returns g c =
     let part1 = rows_text c.args.layout.now c.args.wide c.args.opening.now (map entry_is c.args.entries.now) c.args.choice c.args.rows.now in
-    let part2 = columns c.args.layout.now c.args.text.now c.args.opening.now (map entry_is c.args.entries.now) c.args.rows.now 1 (drawn c.args.choice (map entry_is c.args.entries.now)) in
+    let part2 = columns c.args.layout.now c.args.text.now c.args.asides.now c.args.opening.now (map entry_is c.args.entries.now) c.args.rows.now 1 (drawn c.args.choice (map entry_is c.args.entries.now)) in
     let part3 = codes "</svg>\n" in
     let after1 = goes_on _ _ _ _ _ part1 (part2 ++ part3) (starts _ _ c.requires.counted) refl c.in_ok-write_rows.ensures.written in
     let after2 = goes_on _ _ _ _ _ part2 part3 after1 refl c.in_ok-write_columns.ensures.written in

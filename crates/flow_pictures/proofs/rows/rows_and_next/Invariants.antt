@@ -5,7 +5,7 @@ use Rattle.flow_pictures.proofs.RowLists.{InRows}
 use Rattle.flow_pictures.proofs.rows.rows_and_next.Given as goal
 
 abbrev pub invariant-rows : goal.invariant-rows
-invariant-rows l = InRows (touched l.fn.choice (map entry_is l.fn.entries)) l.found.items l.start
+invariant-rows l = InRows (touched l.fn.only l.fn.choice (map entry_is l.fn.entries)) l.found.items l.start
 
 abbrev pub decreases-rows : goal.decreases-rows
 decreases-rows l = 65 - length l.found.items
