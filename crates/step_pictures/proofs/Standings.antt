@@ -19,7 +19,8 @@ use Rattle.step_pictures.specs.Drawn.{Numbered, acts_in, drawn, first_drawn, las
 use Rattle.step_pictures.specs.Drawn.{place_of, rows_of}
 use Rattle.step_pictures.specs.Marks.{box, outline}
 use Rattle.step_pictures.specs.Measures.{Column, Frame, band_height, bands_end, column_at, column_left, frame_of, row_top, rows_top}
-use Rattle.step_pictures.specs.Picture.{foot, head, opening, picture, rows_text, key_text, statements_text, table, without_text}
+use Rattle.step_pictures.specs.Picture.{foot, gap_text, head, opening, picture, rest_text, rows_text, key_text, statements_front, table}
+use Rattle.step_pictures.specs.declared.frame.Part.{Part}
 use Rattle.step_pictures.specs.ProgramLines.{line_of}
 use Rattle.step_pictures.specs.Standing.{StandsAt, StandsIn, column_of, top_of}
 use Rattle.step_pictures.proofs.ColumnTexts.{front_here}
@@ -125,18 +126,18 @@ table_holds f es j d at =
     (columns_hold f 96 (last_number es) (last_drawn es) m d inner is))))
     (cases_lt j (length front))
 
-with_front_stands : (layout : List SharedEntry) (text : List ℕ) (es : List Entry) (j : ℕ) (d : Numbered) → StandsAt es j d →
-    StandsIn (with_front (frame_of layout text es) j d.number d.entry) (picture layout text es)
-with_front_stands layout text es j d at =
-    let f = frame_of layout text es in
-    stands_behind (opening f (length es)) (stands_behind (head (length es) (length f.rows))
+with_front_stands : (layout : List SharedEntry) (text : List ℕ) (part : Part) (es : List Entry) (j : ℕ) (d : Numbered) → StandsAt es j d →
+    StandsIn (with_front (frame_of layout text part es) j d.number d.entry) (picture layout text part es)
+with_front_stands layout text part es j d at =
+    let f = frame_of layout text part es in
+    stands_behind (opening f (length es)) (stands_behind (head f.part (length es) (length f.rows))
     (stands_before (foot f es) (table_holds f es j d at)))
 
-pub column_stands : (layout : List SharedEntry) (text : List ℕ) (es : List Entry) (j : ℕ) (d : Numbered) → StandsAt es j d →
-    StandsIn (column (frame_of layout text es) (column_of layout text es j d) d.entry) (picture layout text es)
-column_stands layout text es j d at =
-    let f = frame_of layout text es in
-    stands_within (stands_behind (front_of f j) (stands (column f (column_at f j d.number) d.entry))) (with_front_stands layout text es j d at)
+pub column_stands : (layout : List SharedEntry) (text : List ℕ) (part : Part) (es : List Entry) (j : ℕ) (d : Numbered) → StandsAt es j d →
+    StandsIn (column (frame_of layout text part es) (column_of layout text part es j d) d.entry) (picture layout text part es)
+column_stands layout text part es j d at =
+    let f = frame_of layout text part es in
+    stands_within (stands_behind (front_of f j) (stands (column f (column_at f j d.number) d.entry))) (with_front_stands layout text part es j d at)
 
 -- ---- the last statement
 
@@ -199,17 +200,18 @@ left_out es less =
     let back_long = length-drop (length es - 16) es in
     omega (arith, many, long, front, back, back_long)
 
-told : (n : ℕ) → 112 < n → without_text n ≡ statements_text n
-told n many = grind (arith, common_steps)
+told : (p : Part) (n : ℕ) → 112 < n → gap_text p n ≡ rest_text p n
+told p n many = grind (arith, common_steps)
 
-pub statements_told : (layout : List SharedEntry) (text : List ℕ) (es : List Entry) → length (drawn es) < length es →
-    StandsIn (without_text (length es)) (picture layout text es)
-statements_told layout text es less =
-    let f = frame_of layout text es in
+pub statements_told : (layout : List SharedEntry) (text : List ℕ) (part : Part) (es : List Entry) → length (drawn es) < length es →
+    StandsIn (gap_text part (length es)) (picture layout text part es)
+statements_told layout text part es less =
+    let f = frame_of layout text part es in
     let n = length es in
     stands_behind (opening f n) (stands_before (table f es ++ foot f es)
     (stands_before (rows_text (length f.rows) ++ key_text)
-    (subst (λ t. StandsIn (without_text n) t) (told n (many_more es less)) (stands (without_text n)))))
+    (stands_behind (statements_front part n)
+    (subst (λ t. StandsIn (gap_text part n) t) (told part n (many_more es less)) (stands (gap_text part n))))))
 
 -- ---- processors in their column
 
@@ -256,52 +258,52 @@ boxed layout rows c n a within = grind (arith, common_steps)
 outlined : (rows : List ℤ) (c : Column) (n : ℕ) (i : ℤ) → n < length rows → met_at rows c n i ≡ outline c.x (row_top c.y (n + 1)) i
 outlined rows c n i within = grind (arith, common_steps)
 
-pub box_stands : (layout : List SharedEntry) (text : List ℕ) (es : List Entry) (j : ℕ) (d : Numbered) (a : Act) (i : ℤ) →
+pub box_stands : (layout : List SharedEntry) (text : List ℕ) (part : Part) (es : List Entry) (j : ℕ) (d : Numbered) (a : Act) (i : ℤ) →
     StandsAt es j d →
     Contains (acts_in d.entry) a → a.processor ≡ Some i → Contains (rows_of es) i →
-    StandsIn (box layout (column_left j) (row_top (top_of layout text es j) (place_of (rows_of es) i + 1)) a) (picture layout text es)
-box_stands layout text es j d a i at one is has =
-    let f = frame_of layout text es in
-    let c = column_of layout text es j d in
+    StandsIn (box layout (column_left j) (row_top (top_of layout text es j) (place_of (rows_of es) i + 1)) a) (picture layout text part es)
+box_stands layout text part es j d a i at one is has =
+    let f = frame_of layout text part es in
+    let c = column_of layout text part es j d in
     let rows = rows_of es in
     let drawn_is : act_drawn layout rows c a ≡ box layout c.x (row_top c.y (place_of rows i + 1)) a =
     ap (λ p. act_drawn_by layout rows c a p) is ∙ boxed layout rows c (place_of rows i) a (is_found rows i has) in
     let stands_there = acts_hold layout rows c (acts_in d.entry) one.0 a one.1 one.2 in
     let in_column : StandsIn (act_drawn layout rows c a) (column f c d.entry) =
     stands_behind (heading text c (line_of d.entry)) (stands_before (all_met rows c (met_in d.entry) ++ missing_text rows c (acts_in d.entry)) stands_there) in
-    stands_within (subst (λ t. StandsIn t (column f c d.entry)) drawn_is in_column) (column_stands layout text es j d at)
+    stands_within (subst (λ t. StandsIn t (column f c d.entry)) drawn_is in_column) (column_stands layout text part es j d at)
 
-pub outline_stands : (layout : List SharedEntry) (text : List ℕ) (es : List Entry) (j : ℕ) (d : Numbered) (i : ℤ) → StandsAt es j d →
+pub outline_stands : (layout : List SharedEntry) (text : List ℕ) (part : Part) (es : List Entry) (j : ℕ) (d : Numbered) (i : ℤ) → StandsAt es j d →
     Contains (met_in d.entry) i → Contains (rows_of es) i →
-    StandsIn (outline (column_left j) (row_top (top_of layout text es j) (place_of (rows_of es) i + 1)) i) (picture layout text es)
-outline_stands layout text es j d i at one has =
-    let f = frame_of layout text es in
-    let c = column_of layout text es j d in
+    StandsIn (outline (column_left j) (row_top (top_of layout text es j) (place_of (rows_of es) i + 1)) i) (picture layout text part es)
+outline_stands layout text part es j d i at one has =
+    let f = frame_of layout text part es in
+    let c = column_of layout text part es j d in
     let rows = rows_of es in
     let drawn_is = outlined rows c (place_of rows i) i (is_found rows i has) in
     let stands_there = met_hold rows c (met_in d.entry) one.0 i one.1 one.2 in
     let in_column : StandsIn (met_drawn rows c i) (column f c d.entry) =
     stands_behind (heading text c (line_of d.entry)) (stands_behind (acts_drawn layout rows c (acts_in d.entry))
     (stands_before (missing_text rows c (acts_in d.entry)) stands_there)) in
-    stands_within (subst (λ t. StandsIn t (column f c d.entry)) drawn_is in_column) (column_stands layout text es j d at)
+    stands_within (subst (λ t. StandsIn t (column f c d.entry)) drawn_is in_column) (column_stands layout text part es j d at)
 
 more_is : (rows : ℕ) (c : Column) (n : ℕ) → 0 < n → more_at c.x (row_top c.y (rows + 1) + 13) n ≡ more_text rows c n
 more_is rows c n some = grind (arith, common_steps)
 
-pub more_told : (layout : List SharedEntry) (text : List ℕ) (es : List Entry) (j : ℕ) (d : Numbered) → StandsAt es j d →
+pub more_told : (layout : List SharedEntry) (text : List ℕ) (part : Part) (es : List Entry) (j : ℕ) (d : Numbered) → StandsAt es j d →
     0 < missing (rows_of es) (acts_in d.entry) →
     StandsIn (more_at (column_left j) (row_top (top_of layout text es j) (length (rows_of es) + 1) + 13) (missing (rows_of es) (acts_in d.entry)))
-    (picture layout text es)
-more_told layout text es j d at some =
-    let f = frame_of layout text es in
-    let c = column_of layout text es j d in
+    (picture layout text part es)
+more_told layout text part es j d at some =
+    let f = frame_of layout text part es in
+    let c = column_of layout text part es j d in
     let rows = rows_of es in
     let n = missing rows (acts_in d.entry) in
-    let part = more_at c.x (row_top c.y (length rows + 1) + 13) n in
-    let in_column : StandsIn part (column f c d.entry) =
+    let told = more_at c.x (row_top c.y (length rows + 1) + 13) n in
+    let in_column : StandsIn told (column f c d.entry) =
     stands_behind (heading text c (line_of d.entry)) (stands_behind (acts_drawn layout rows c (acts_in d.entry))
-    (stands_behind (all_met rows c (met_in d.entry)) (subst (λ t. StandsIn part t) (more_is (length rows) c n some) (stands part)))) in
-    stands_within in_column (column_stands layout text es j d at)
+    (stands_behind (all_met rows c (met_in d.entry)) (subst (λ t. StandsIn told t) (more_is (length rows) c n some) (stands told)))) in
+    stands_within in_column (column_stands layout text part es j d at)
 
 -- ---- places
 
@@ -347,11 +349,11 @@ labels_hold : (rows : List ℤ) (i : ℤ) (top row : ℕ) → Contains rows i �
 labels_hold [] i top row c = let within = c.1 in absurd (omega (arith, within))
 labels_hold (x ∷ xs) i top row c = labels_by top row x xs i (int_eq x i) c.0 (labels_hold xs i top (row + 1)) refl c.1 c.2
 
-pub name_stands : (layout : List SharedEntry) (text : List ℕ) (es : List Entry) (j : ℕ) (d : Numbered) (i : ℤ) → StandsAt es j d →
+pub name_stands : (layout : List SharedEntry) (text : List ℕ) (part : Part) (es : List Entry) (j : ℕ) (d : Numbered) (i : ℤ) → StandsAt es j d →
     Contains (rows_of es) i →
-    StandsIn (label (label_line (top_of layout text es j) (place_of (rows_of es) i + 1)) i) (picture layout text es)
-name_stands layout text es j d i at has =
-    let f = frame_of layout text es in
+    StandsIn (label (label_line (top_of layout text es j) (place_of (rows_of es) i + 1)) i) (picture layout text part es)
+name_stands layout text part es j d i at has =
+    let f = frame_of layout text part es in
     let rows = rows_of es in
     let b = (j / 16) * 16 in
     let bound = at.0 in
@@ -359,7 +361,7 @@ name_stands layout text es j d i at has =
     let start : b % 16 ≡ 0 = omega arith in
     let band : b / 16 ≡ j / 16 = omega arith in
     let e : Numbered = get_or (drawn es) b d in
-    let found = with_front_stands layout text es b e (within, sym (get_or_default (drawn es) b d e within)) in
+    let found = with_front_stands layout text part es b e (within, sym (get_or_default (drawn es) b d e within)) in
     let top : rows_top f b ≡ rows_top f j = ap (λ n. bands_end f n + (7 * f.letters + 50)) band in
     let front : band_front rows (rows_top f j) ≡ front_of f b = front_here f b (rows_top f j) start (sym top) in
     let number : 1 + place_of rows i ≡ place_of rows i + 1 = omega arith in

@@ -6,22 +6,25 @@ use Rattle.step_pictures.specs.Drawn.{first_drawn, last_drawn, rows_of}
 use Rattle.step_pictures.specs.ProgramLines.{longest}
 use Rattle.step_pictures.specs.declared.frame as rust
 
--- the names of shared memory, the program's text, the indices that have a row, and how many letters stand above a column at most
+-- the names of shared memory, the program's text, the indices that have a row, how many letters stand above a column at most, and which
+-- part of the run is drawn
 pub record Frame : Type 0 where
   pub layout : List SharedEntry
   pub text : List ℕ
   pub rows : List ℤ
   pub letters : ℕ
+  pub part : rust.Part.Part
 
 abbrev pub frame_is : rust.Frame.Frame → Frame
-frame_is f = record { layout = f.layout.now; text = f.text.now; rows = f.rows.now; letters = f.letters }
+frame_is f = record { layout = f.layout.now; text = f.text.now; rows = f.rows.now; letters = f.letters; part = f.part }
 
 abbrev pub letters_of : (text : List ℕ) → List Entry → ℕ
 letters_of text es = max (longest text (first_drawn es)) (longest text (last_drawn es))
 
 -- the frame of these entries
-abbrev pub frame_of : List SharedEntry → (text : List ℕ) → List Entry → Frame
-frame_of layout text es = record { layout = layout; text = text; rows = rows_of es; letters = letters_of text es }
+abbrev pub frame_of : List SharedEntry → (text : List ℕ) → rust.Part.Part → List Entry → Frame
+frame_of layout text part es =
+    record { layout = layout; text = text; rows = rows_of es; letters = letters_of text es; part = part }
 
 -- ---- columns: 16 to a band; j others stand before it, in all bands
 
@@ -53,9 +56,9 @@ pub record Column : Type 0 where
 abbrev pub column_is : rust.Column.Column → Column
 column_is c = record { x = c.x; y = c.y; number = c.number }
 
--- that of a statement, where j others stand before it
+-- that of a statement, where j others stand before it; its number is that in the part, and those before that are counted too
 abbrev pub column_at : Frame → (j number : ℕ) → Column
-column_at f j number = record { x = column_left j; y = rows_top f j; number = number }
+column_at f j number = record { x = column_left j; y = rows_top f j; number = number + f.part.skipped }
 
 -- ---- all of it, of so many columns
 

@@ -5,6 +5,7 @@ use Rattle.pram_model.specs.Layout.{SharedEntry}
 use Rattle.write_rules.specs.declared.fault.Fault.{Fault}
 use Rattle.program_texts.specs.Shown.{fault_text}
 use Rattle.step_entries.specs.Entries.{Entry, Ran, Faulting}
+use Rattle.step_pictures.specs.declared.frame.Part.{Part}
 use Rattle.step_pictures.specs.Bands.{columns_from}
 use Rattle.step_pictures.specs.Drawn.{first_drawn, last_drawn, last_number}
 use Rattle.step_pictures.specs.Measures.{Frame, bands_end, bands_of, count_drawn, frame_of, picture_height, picture_width}
@@ -17,16 +18,24 @@ opening_text wide tall = codes "<svg xmlns='http://www.w3.org/2000/svg' version=
 
 -- ---- what stands above the bands
 
--- which statements are not drawn, and how many
-abbrev pub without_text : (statements : ℕ) → List ℕ
-without_text n = codes "<text x='12' y='20'>statements " ++ (decimal n ++ (codes ", without the " ++ (decimal (n - 112)
-    ++ (codes " from 97 to " ++ (decimal (n - 16) ++ codes "</text>\n")))))
+-- of so many statements: `30`, or `5 to 9 of 30` where others stand before or behind them
+abbrev pub count_text : Part → (statements : ℕ) → List ℕ
+count_text p n = if nat_eq p.whole n then decimal n
+    else decimal (p.skipped + 1) ++ (codes " to " ++ (decimal (p.skipped + n) ++ (codes " of " ++ decimal p.whole)))
 
-abbrev pub all_text : (statements : ℕ) → List ℕ
-all_text n = codes "<text x='12' y='20'>statements " ++ (decimal n ++ codes "</text>\n")
+abbrev pub statements_front : Part → (statements : ℕ) → List ℕ
+statements_front p n = codes "<text x='12' y='20'>statements " ++ count_text p n
 
-abbrev pub statements_text : ℕ → List ℕ
-statements_text n = if nat_lt 112 n then without_text n else all_text n
+-- which of them are not drawn, and how many
+abbrev pub gap_text : Part → (statements : ℕ) → List ℕ
+gap_text p n = codes ", without the " ++ (decimal (n - 112) ++ (codes " from " ++ (decimal (97 + p.skipped)
+    ++ (codes " to " ++ (decimal (n - 16 + p.skipped) ++ codes "</text>\n")))))
+
+abbrev pub rest_text : Part → (statements : ℕ) → List ℕ
+rest_text p n = if nat_lt 112 n then gap_text p n else codes "</text>\n"
+
+abbrev pub statements_text : Part → ℕ → List ℕ
+statements_text p n = statements_front p n ++ rest_text p n
 
 abbrev pub some_rows : ℕ → List ℕ
 some_rows n = codes "<text x='12' y='38'>processors " ++ (decimal n ++ codes "</text>\n")
@@ -47,8 +56,8 @@ key_text = codes "<rect x='12' y='48' width='60' height='18' fill='#e0e0e0'/>\n<
     ++ (codes "<text x='317' y='61'>met</text>\n<text x='350' y='61'>met at a fault</text>\n"
     ++ codes "<text x='450' y='61'>+n</text>\n<text x='474' y='61'>n more act, which have no row</text>\n"))))
 
-abbrev pub head : (statements rows : ℕ) → List ℕ
-head n rows = statements_text n ++ (rows_text rows ++ key_text)
+abbrev pub head : Part → (statements rows : ℕ) → List ℕ
+head p n rows = statements_text p n ++ (rows_text rows ++ key_text)
 
 -- ---- what stands below them: a fault, and those that met there
 
@@ -113,8 +122,19 @@ abbrev pub opening : Frame → (statements : ℕ) → List ℕ
 opening f n = opening_text (picture_width (count_drawn n)) (picture_height f (count_drawn n))
 
 abbrev pub picture_of : Frame → List Entry → List ℕ
-picture_of f es = opening f (length es) ++ (head (length es) (length f.rows) ++ (table f es ++ foot f es))
+picture_of f es = opening f (length es) ++ (head f.part (length es) (length f.rows) ++ (table f es ++ foot f es))
 
--- a picture of all entries of a run of that text
-abbrev pub picture : List SharedEntry → (text : List ℕ) → List Entry → List ℕ
-picture layout text es = picture_of (frame_of layout text es) es
+-- a picture of these entries, which are that part of a run of that text
+abbrev pub picture : List SharedEntry → (text : List ℕ) → Part → List Entry → List ℕ
+picture layout text part es = picture_of (frame_of layout text part es) es
+
+-- ---- of the statements from one number to another
+
+abbrev pub chosen : {A : Type 0} → (from to : ℕ) → List A → List A
+chosen from to es = take (to - (from - 1)) (drop (from - 1) es)
+
+abbrev pub part_of : (from whole : ℕ) → Part
+part_of from whole = record { skipped = from - 1; whole = whole }
+
+abbrev pub picture_from : List SharedEntry → (text : List ℕ) → List Entry → (from to : ℕ) → List ℕ
+picture_from layout text es from to = picture layout text (part_of from (length es)) (chosen from to es)

@@ -1,25 +1,11 @@
 -- The program's text of a statement's line, as it stands above its column.
-use Rattle.std.specs.Prelude.{ℕ, ◌+◌, ◌-◌, min, max, nat_eq, nat_lt, ◌||◌, if◌then◌else◌, List, [], ◌∷◌, ◌++◌, length, take, drop}
+use Rattle.std.specs.Prelude.{ℕ, ◌+◌, ◌-◌, min, max, nat_lt, if◌then◌else◌, List, [], ◌∷◌, ◌++◌, length, take, drop}
 use Rattle.std.specs.Prelude.{codes, decimal}
 use Rattle.std.specs.Char.{is_ascii_whitespace}
 use Rattle.std.specs.List.{prefix_len, suffix_len}
+use Rattle.svg_texts.specs.Letters.{letters}
 use Rattle.text_places.specs.Places.{line_text}
 use Rattle.step_entries.specs.Entries.{Entry, Ran, Faulting}
-
--- ---- bytes in a text of SVG: a tab is a blank, and what is no printed letter of ASCII a question mark
-
-abbrev pub letter : ℕ → List ℕ
-letter b =
-    if nat_eq b 38 then codes "&amp;"
-    else if nat_eq b 60 then codes "&lt;"
-    else if nat_eq b 62 then codes "&gt;"
-    else if nat_eq b 9 then codes " "
-    else if nat_lt b 32 || nat_lt 126 b then codes "?"
-    else b ∷ []
-
-abbrev pub letters : List ℕ → List ℕ
-letters [] = []
-letters (b ∷ bytes) = letter b ++ letters bytes
 
 -- ---- the text of a line
 

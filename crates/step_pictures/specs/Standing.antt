@@ -2,6 +2,7 @@
 use Rattle.std.specs.Prelude.{◌≡◌, ℕ, ◌<◌, List, ◌++◌, length, slice_index_or}
 use Rattle.pram_model.specs.Layout.{SharedEntry}
 use Rattle.step_entries.specs.Entries.{Entry}
+use Rattle.step_pictures.specs.declared.frame.Part.{Part}
 use Rattle.step_pictures.specs.Drawn.{Numbered, drawn}
 use Rattle.step_pictures.specs.Measures.{Column, column_at, frame_of, rows_top}
 
@@ -16,9 +17,9 @@ abbrev pub StandsAt : List Entry → (j : ℕ) → Numbered → Type 0
 StandsAt es j d = (j < length (drawn es)) × (slice_index_or (drawn es) j d ≡ d)
 
 -- its column
-abbrev pub column_of : List SharedEntry → (text : List ℕ) → List Entry → (j : ℕ) → Numbered → Column
-column_of layout text es j d = column_at (frame_of layout text es) j d.number
+abbrev pub column_of : List SharedEntry → (text : List ℕ) → Part → List Entry → (j : ℕ) → Numbered → Column
+column_of layout text part es j d = column_at (frame_of layout text part es) j d.number
 
--- where the rows of its column begin
+-- where the rows of its column begin, in whatever part of a run
 abbrev pub top_of : List SharedEntry → (text : List ℕ) → List Entry → (j : ℕ) → ℕ
-top_of layout text es j = rows_top (frame_of layout text es) j
+top_of layout text es j = rows_top (frame_of layout text (record { skipped = 0; whole = 0 }) es) j

@@ -105,7 +105,7 @@ fn column_of(frame: &Frame<'_>, before: usize, number: usize) -> Column
     Column {
         x: column_left(before),
         y: rows_top(frame, before),
-        number,
+        number: number as u128 + frame.part.skipped as u128,
     }
 }
 

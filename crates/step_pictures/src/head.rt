@@ -1,9 +1,10 @@
 //! What stands above the bands.
 
-ghost use Rattle.std.specs.Prelude.{◌≡◌, ◌≤◌, ◌<◌, ◌+◌, ◌-◌, ◌^◌};
+ghost use Rattle.std.specs.Prelude.{◌≡◌, ◌≤◌, ◌<◌, ◌+◌, ◌-◌, ◌^◌, ◌++◌, codes, decimal};
 ghost use Rattle.text_out.specs.Out.{Writes};
 ghost use Rattle.step_pictures.specs.Picture as spec;
 
+use crate::frame::Part;
 use itoa::Buffer;
 use text_out::{Out, WriteFault};
 
@@ -33,47 +34,96 @@ pub(crate) fn write_opening<W: Out>(
     ])
 }
 
-// How many statements there were, and which of them are not drawn.
-fn write_without<W: Out>(out: &mut W, statements: usize) -> Result<(), WriteFault>
+// Those of a part of a run: `5 to 9 of 30`.
+fn write_between<W: Out>(out: &mut W, part: Part, statements: usize) -> Result<(), WriteFault>
     requires counted { (W.Out.state out.old).failures < 2 ^ 63 }
-    requires many { 112 < statements }
-    ensures written { Writes (W.Out.state out.old) (W.Out.state out.new) (spec.without_text statements) result }
+    ensures written { Writes (W.Out.state out.old) (W.Out.state out.new)
+        (decimal (part.skipped + 1) ++ (codes " to " ++ (decimal (part.skipped + statements)
+        ++ (codes " of " ++ decimal part.whole)))) result }
 {
-    let mut all = Buffer::new();
-    let mut without = Buffer::new();
+    let mut first = Buffer::new();
     let mut last = Buffer::new();
+    let mut all = Buffer::new();
     out.write_parts(&[
-        b"<text x='12' y='20'>statements ",
-        all.format(statements).as_bytes(),
-        b", without the ",
-        without.format(statements - 112).as_bytes(),
-        b" from 97 to ",
-        last.format(statements - 16).as_bytes(),
-        b"</text>\n",
+        first.format(part.skipped as u128 + 1).as_bytes(),
+        b" to ",
+        last.format(part.skipped as u128 + statements as u128)
+            .as_bytes(),
+        b" of ",
+        all.format(part.whole).as_bytes(),
     ])
 }
 
-fn write_all<W: Out>(out: &mut W, statements: usize) -> Result<(), WriteFault>
+fn write_whole<W: Out>(out: &mut W, statements: usize) -> Result<(), WriteFault>
     requires counted { (W.Out.state out.old).failures < 2 ^ 63 }
-    ensures written { Writes (W.Out.state out.old) (W.Out.state out.new) (spec.all_text statements) result }
+    ensures written { Writes (W.Out.state out.old) (W.Out.state out.new) (decimal statements) result }
 {
     let mut digits = Buffer::new();
+    out.write_all(digits.format(statements).as_bytes())
+}
+
+// Of how many statements.
+fn write_count<W: Out>(out: &mut W, part: Part, statements: usize) -> Result<(), WriteFault>
+    requires counted { (W.Out.state out.old).failures < 2 ^ 63 }
+    ensures written { Writes (W.Out.state out.old) (W.Out.state out.new) (spec.count_text part statements) result }
+{
+    if part.whole == statements {
+        write_whole(out, statements)
+    } else {
+        write_between(out, part, statements)
+    }
+}
+
+fn write_statements_front<W: Out>(
+    out: &mut W,
+    part: Part,
+    statements: usize,
+) -> Result<(), WriteFault>
+    requires counted { (W.Out.state out.old).failures < 2 ^ 63 }
+    ensures written { Writes (W.Out.state out.old) (W.Out.state out.new) (spec.statements_front part statements) result }
+{
+    out.write_all(b"<text x='12' y='20'>statements ")?;
+    write_count(out, part, statements)
+}
+
+// Which of them are not drawn.
+fn write_gap<W: Out>(out: &mut W, part: Part, statements: usize) -> Result<(), WriteFault>
+    requires counted { (W.Out.state out.old).failures < 2 ^ 63 }
+    requires many { 112 < statements }
+    ensures written { Writes (W.Out.state out.old) (W.Out.state out.new) (spec.gap_text part statements) result }
+{
+    let mut without = Buffer::new();
+    let mut first = Buffer::new();
+    let mut last = Buffer::new();
     out.write_parts(&[
-        b"<text x='12' y='20'>statements ",
-        digits.format(statements).as_bytes(),
+        b", without the ",
+        without.format(statements - 112).as_bytes(),
+        b" from ",
+        first.format(97 + part.skipped as u128).as_bytes(),
+        b" to ",
+        last.format((statements - 16) as u128 + part.skipped as u128)
+            .as_bytes(),
         b"</text>\n",
     ])
 }
 
-fn write_statements<W: Out>(out: &mut W, statements: usize) -> Result<(), WriteFault>
+fn write_rest<W: Out>(out: &mut W, part: Part, statements: usize) -> Result<(), WriteFault>
     requires counted { (W.Out.state out.old).failures < 2 ^ 63 }
-    ensures written { Writes (W.Out.state out.old) (W.Out.state out.new) (spec.statements_text statements) result }
+    ensures written { Writes (W.Out.state out.old) (W.Out.state out.new) (spec.rest_text part statements) result }
 {
     if statements > 112 {
-        write_without(out, statements)
+        write_gap(out, part, statements)
     } else {
-        write_all(out, statements)
+        out.write_all(b"</text>\n")
     }
+}
+
+fn write_statements<W: Out>(out: &mut W, part: Part, statements: usize) -> Result<(), WriteFault>
+    requires counted { (W.Out.state out.old).failures < 2 ^ 63 }
+    ensures written { Writes (W.Out.state out.old) (W.Out.state out.new) (spec.statements_text part statements) result }
+{
+    write_statements_front(out, part, statements)?;
+    write_rest(out, part, statements)
 }
 
 fn write_some_rows<W: Out>(out: &mut W, rows: usize) -> Result<(), WriteFault>
@@ -122,13 +172,14 @@ fn write_key<W: Out>(out: &mut W) -> Result<(), WriteFault>
 /// Writes what stands above the bands.
 pub(crate) fn write_head<W: Out>(
     out: &mut W,
+    part: Part,
     statements: usize,
     rows: usize,
 ) -> Result<(), WriteFault>
     requires counted { (W.Out.state out.old).failures < 2 ^ 63 }
-    ensures written { Writes (W.Out.state out.old) (W.Out.state out.new) (spec.head statements rows) result }
+    ensures written { Writes (W.Out.state out.old) (W.Out.state out.new) (spec.head part statements rows) result }
 {
-    write_statements(out, statements)?;
+    write_statements(out, part, statements)?;
     write_rows(out, rows)?;
     write_key(out)
 }

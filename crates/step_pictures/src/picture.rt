@@ -1,6 +1,6 @@
 //! All of a picture.
 
-ghost use Rattle.std.specs.Prelude.{◌≡◌, ◌≤◌, ◌<◌, ◌^◌, length, map};
+ghost use Rattle.std.specs.Prelude.{◌≡◌, ◌≤◌, ◌<◌, ◌^◌, drop, length, map, take};
 ghost use Rattle.text_out.specs.Out.{Writes};
 ghost use Rattle.step_entries.specs.Entries.{entry_is};
 ghost use Rattle.step_pictures.specs.Measures.{frame_is};
@@ -10,7 +10,7 @@ ghost use Rattle.step_pictures.specs.Picture as spec;
 use crate::bands::write_columns;
 use crate::drawn::{count_drawn, first_drawn, last_drawn, last_number};
 use crate::foot::write_ending;
-use crate::frame::Frame;
+use crate::frame::{Frame, Part};
 use crate::head::{write_head, write_opening};
 use crate::measure::{bands_end, bands_of, letters_of, picture_height, picture_width};
 use crate::rows::rows_of;
@@ -60,27 +60,22 @@ fn write_framed<W: Out>(out: &mut W, frame: &Frame<'_>, entries: &[Entry]) -> Re
         (spec.picture_of (frame_is frame.now) (map entry_is entries.now)) result }
 {
     write_front(out, frame, entries.len())?;
-    write_head(out, entries.len(), frame.rows.len())?;
+    write_head(out, frame.part, entries.len(), frame.rows.len())?;
     write_table(out, frame, entries)?;
     write_foot(out, frame, entries)
 }
 
-/// Writes a picture of a run's entries, as SVG 1.1, by the program's text: a column for each statement, in bands of 16, with its line of
-/// the program, its number from 1 and the line's, and a row for each index that acts, below one for the processor outside pardo. A
-/// processor that acts has a box, with a mark where it reads shared cells and one where it writes one, and says which where it is pointed
-/// at; those that met at a fault are outlined, and the fault and who met stands below the bands. Of more than 112 statements the first 96
-/// and the last 16 are drawn, and of more than 64 indices those that met and the first others have rows; the picture says how many
-/// statements are left out, and below each column how many more act. `WriteFault` (E17) says that the writer failed; what it took is a
-/// beginning of the picture.
-pub fn write_picture<W: Out>(
+// The picture of a part of a run.
+fn write_part<W: Out>(
     out: &mut W,
     layout: &Layout,
     text: &[u8],
+    part: Part,
     entries: &[Entry],
 ) -> Result<(), WriteFault>
     requires counted { (W.Out.state out.old).failures < 2 ^ 63 }
     ensures written { Writes (W.Out.state out.old) (W.Out.state out.new)
-        (spec.picture layout.now text.now (map entry_is entries.now)) result }
+        (spec.picture layout.now text.now part (map entry_is entries.now)) result }
 {
     let rows = rows_of(entries);
     let letters = letters_of(text, entries);
@@ -89,6 +84,70 @@ pub fn write_picture<W: Out>(
         text,
         rows: rows.as_slice(),
         letters,
+        part,
     };
     write_framed(out, &frame, entries)
+}
+
+// Those behind so many.
+fn behind(entries: &[Entry], count: usize) -> &[Entry]
+    ensures { result.now ≡ drop count entries.now }
+{
+    if count < entries.len() {
+        entries.split_at(count).1
+    } else {
+        &[]
+    }
+}
+
+// The first of them.
+fn front(entries: &[Entry], count: usize) -> &[Entry]
+    ensures { result.now ≡ take count entries.now }
+{
+    if count < entries.len() {
+        entries.split_at(count).0
+    } else {
+        entries
+    }
+}
+
+// Those from one number to another.
+fn chosen(entries: &[Entry], from: usize, to: usize) -> &[Entry]
+    ensures { result.now ≡ spec.chosen from to entries.now }
+{
+    let skipped = from.saturating_sub(1);
+    front(behind(entries, skipped), to.saturating_sub(skipped))
+}
+
+fn part_of(from: usize, whole: usize) -> Part
+    ensures { result ≡ spec.part_of from whole }
+{
+    Part {
+        skipped: from.saturating_sub(1),
+        whole,
+    }
+}
+
+/// Writes a picture of a run's entries from one number to another, as SVG 1.1, by the program's text: a column for each statement, in bands
+/// of 16, with its line of the program, its number in the run, counted from 1, and the line's, and a row for each index that acts, below
+/// one for the processor outside pardo. A processor that acts has a box, with a mark where it reads shared cells and one where it writes one,
+/// and says which where it is pointed at; those that met at a fault are outlined, and the fault and who met stands below the bands. Where
+/// statements stand before or behind those that are asked for, the picture says which of how many it is of. Of more than 112 statements the
+/// first 96 and the last 16 are drawn, and of more than 64 indices those that met and the first others have rows; the picture says how many
+/// statements are left out, and below each column how many more act. `WriteFault` (E17) says that the writer failed; what it took is a
+/// beginning of the picture.
+pub fn write_picture<W: Out>(
+    out: &mut W,
+    layout: &Layout,
+    text: &[u8],
+    entries: &[Entry],
+    from: usize,
+    to: usize,
+) -> Result<(), WriteFault>
+    requires counted { (W.Out.state out.old).failures < 2 ^ 63 }
+    ensures written { Writes (W.Out.state out.old) (W.Out.state out.new)
+        (spec.picture_from layout.now text.now (map entry_is entries.now) from to) result }
+{
+    let part = part_of(from, entries.len());
+    write_part(out, layout, text, part, chosen(entries, from, to))
 }

@@ -1,4 +1,4 @@
-//! The laws of this crate.
+//! The laws of this crate: of a picture of any part of a run.
 
 ghost use Rattle.std.specs.Prelude.{◌≡◌, ◌≤◌, ◌<◌, ◌+◌, ◌-◌, ◌++◌, ◌∷◌, ◌⊎◌, ℕ, List, Some, [], ℤ, int_lt, true, length};
 ghost use Rattle.std.specs.List.{AllPairs, Contains};
@@ -6,27 +6,28 @@ ghost use Rattle.pram_model.specs.Layout.{SharedEntry};
 ghost use Rattle.step_entries.specs.Entries.{Act, Entry};
 ghost use Rattle.step_pictures.specs.Bands.{label, label_line};
 ghost use Rattle.step_pictures.specs.Columns.{column, more_at};
+ghost use Rattle.step_pictures.specs.declared.frame.Part.{Part};
 ghost use Rattle.step_pictures.specs.Drawn.{Numbered, acting_drawn, acts_in, drawn, met_in, met_of, missing, place_of, rows_of};
 ghost use Rattle.step_pictures.specs.Marks.{box, outline};
 ghost use Rattle.step_pictures.specs.Measures.{Frame, column_left, frame_of, row_top, rows_top};
-ghost use Rattle.step_pictures.specs.Picture.{picture, without_text};
+ghost use Rattle.step_pictures.specs.Picture.{gap_text, picture};
 ghost use Rattle.step_pictures.specs.Standing.{StandsAt, StandsIn, column_of, top_of};
 
 /// Each statement that is drawn has a column, at a place that is no other's and within 1200 pixels: the 16 of a band stand beside one
 /// another, and the next band below.
 pub fn each_statement_has_a_column()
-    ensures stands { (layout : List SharedEntry) (text : List ℕ) (es : List Entry) (j : ℕ) (d : Numbered) → StandsAt es j d →
-        StandsIn (column (frame_of layout text es) (column_of layout text es j d) d.entry) (picture layout text es) }
+    ensures stands { (layout : List SharedEntry) (text : List ℕ) (part : Part) (es : List Entry) (j : ℕ) (d : Numbered) → StandsAt es j d →
+        StandsIn (column (frame_of layout text part es) (column_of layout text part es j d) d.entry) (picture layout text part es) }
     ensures one { (f : Frame) (i j : ℕ) → column_left i ≡ column_left j → rows_top f i ≡ rows_top f j → i ≡ j }
     ensures page { (j : ℕ) → column_left j + 64 ≤ 1200 }
 {}
 
 /// A processor that acts in a statement that is drawn, and has a row, has a box in that row of the column.
 pub fn each_processor_has_a_box()
-    ensures stands { (layout : List SharedEntry) (text : List ℕ) (es : List Entry) (j : ℕ) (d : Numbered) (a : Act) (i : ℤ) →
+    ensures stands { (layout : List SharedEntry) (text : List ℕ) (part : Part) (es : List Entry) (j : ℕ) (d : Numbered) (a : Act) (i : ℤ) →
         StandsAt es j d → Contains (acts_in d.entry) a → a.processor ≡ Some i → Contains (rows_of es) i →
         StandsIn (box layout (column_left j) (row_top (top_of layout text es j) (place_of (rows_of es) i + 1)) a)
-        (picture layout text es) }
+        (picture layout text part es) }
 {}
 
 /// No row is of an index that neither acts in a statement that is drawn nor met at the fault; rows ascend, each index once, and there are
@@ -40,9 +41,9 @@ pub fn rows_are_of_those_that_act()
 
 /// An index that has a row has its name in front of that row, in each band.
 pub fn each_row_has_its_name()
-    ensures stands { (layout : List SharedEntry) (text : List ℕ) (es : List Entry) (j : ℕ) (d : Numbered) (i : ℤ) →
+    ensures stands { (layout : List SharedEntry) (text : List ℕ) (part : Part) (es : List Entry) (j : ℕ) (d : Numbered) (i : ℤ) →
         StandsAt es j d → Contains (rows_of es) i →
-        StandsIn (label (label_line (top_of layout text es j) (place_of (rows_of es) i + 1)) i) (picture layout text es) }
+        StandsIn (label (label_line (top_of layout text es j) (place_of (rows_of es) i + 1)) i) (picture layout text part es) }
 {}
 
 /// The last statement is drawn, where alone a run faults; of those that met there, at most 64, each has a row, and in it an outline with
@@ -52,20 +53,20 @@ pub fn a_fault_is_drawn()
         Contains (drawn (es ++ e ∷ [])) (record { number = length es + 1; entry = e }) }
     ensures rows { (es : List Entry) (e : Entry) (i : ℤ) → length (met_in e) ≤ 64 → Contains (met_in e) i →
         Contains (rows_of (es ++ e ∷ [])) i }
-    ensures outlined { (layout : List SharedEntry) (text : List ℕ) (es : List Entry) (j : ℕ) (d : Numbered) (i : ℤ) →
+    ensures outlined { (layout : List SharedEntry) (text : List ℕ) (part : Part) (es : List Entry) (j : ℕ) (d : Numbered) (i : ℤ) →
         StandsAt es j d → Contains (met_in d.entry) i → Contains (rows_of es) i →
         StandsIn (outline (column_left j) (row_top (top_of layout text es j) (place_of (rows_of es) i + 1)) i)
-        (picture layout text es) }
+        (picture layout text part es) }
 {}
 
 /// Of more statements than are drawn it is told how many are not, and from which number to which; and below each column how many more
 /// processors act in its statement than have a row.
 pub fn what_is_left_out_is_told()
-    ensures statements { (layout : List SharedEntry) (text : List ℕ) (es : List Entry) → length (drawn es) < length es →
-        StandsIn (without_text (length es)) (picture layout text es) }
+    ensures statements { (layout : List SharedEntry) (text : List ℕ) (part : Part) (es : List Entry) → length (drawn es) < length es →
+        StandsIn (gap_text part (length es)) (picture layout text part es) }
     ensures count { (es : List Entry) → length (drawn es) < length es → length (drawn es) + (length es - 112) ≡ length es }
-    ensures processors { (layout : List SharedEntry) (text : List ℕ) (es : List Entry) (j : ℕ) (d : Numbered) → StandsAt es j d →
+    ensures processors { (layout : List SharedEntry) (text : List ℕ) (part : Part) (es : List Entry) (j : ℕ) (d : Numbered) → StandsAt es j d →
         0 < missing (rows_of es) (acts_in d.entry) →
         StandsIn (more_at (column_left j) (row_top (top_of layout text es j) (length (rows_of es) + 1) + 13)
-        (missing (rows_of es) (acts_in d.entry))) (picture layout text es) }
+        (missing (rows_of es) (acts_in d.entry))) (picture layout text part es) }
 {}

@@ -7,41 +7,12 @@ ghost use Rattle.step_pictures.specs.ProgramLines as spec;
 
 use itoa::Buffer;
 use step_entries::Entry;
+use svg_texts::write_letters;
 use text_out::{Out, WriteFault};
 use text_places::line_text;
 
 // No more letters stand in a row.
 const MOST_LETTERS: usize = 36;
-
-// A byte in a text of SVG.
-fn write_letter<W: Out>(out: &mut W, byte: u8) -> Result<(), WriteFault>
-    requires counted { (W.Out.state out.old).failures < 2 ^ 63 }
-    ensures written { Writes (W.Out.state out.old) (W.Out.state out.new) (spec.letter byte) result }
-{
-    if byte == b'&' {
-        out.write_all(b"&amp;")
-    } else if byte == b'<' {
-        out.write_all(b"&lt;")
-    } else if byte == b'>' {
-        out.write_all(b"&gt;")
-    } else if byte == b'\t' {
-        out.write_all(b" ")
-    } else if byte < 32 || byte > 126 {
-        out.write_all(b"?")
-    } else {
-        out.write_all(&[byte])
-    }
-}
-
-fn write_letters<W: Out>(out: &mut W, bytes: &[u8]) -> Result<(), WriteFault>
-    requires counted { (W.Out.state out.old).failures < 2 ^ 63 }
-    ensures written { Writes (W.Out.state out.old) (W.Out.state out.new) (spec.letters bytes.now) result }
-{
-    for byte in bytes {
-        write_letter(out, *byte)?;
-    }
-    Ok(())
-}
 
 /// The text of a line, without blanks at both ends.
 pub(crate) fn code_of(text: &[u8], line: u32) -> &[u8]

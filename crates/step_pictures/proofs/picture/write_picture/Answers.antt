@@ -1,16 +1,19 @@
-use Rattle.std.proofs.Common.{ℕ, List, ◌∙◌, map, subst}
+use Rattle.std.proofs.Common.{ℕ, ◌-◌, List, ◌∙◌, ap, drop, map, subst, sym, take}
+use Rattle.std.proofs.lemmas.List.{drop-map, length-map, take-map}
 use Rattle.text_out.specs.Out.{Writes}
 use Rattle.step_entries.specs.Entries.{entry_is}
-use Rattle.step_pictures.specs.Picture.{picture_of}
+use Rattle.step_pictures.specs.Picture.{part_of, picture}
 use Rattle.step_pictures.proofs.picture.write_picture.Goals as goal
 
 pub returns : goal.returns
 returns g c =
-    let es = map entry_is c.args.entries.now in
-    let rows = c.as_slice.ensures.value ∙ c.rows_of-rows.ensures.rows in
-    let letters = c.letters_of-letters.ensures.letters in
+    let es = c.args.entries.now in
+    let skipped = c.args.from - 1 in
+    let count = c.args.to - skipped in
+    let part = c.part_of-part.ensures ∙ ap (part_of c.args.from) (sym (length-map es entry_is)) in
+    let those = ap (map entry_is) c.chosen.ensures ∙ sym (take-map entry_is count (drop skipped es))
+    ∙ ap (take count) (sym (drop-map entry_is skipped es)) in
     record {
-      written = subst (λ (t : List ℕ). Writes (g.W.Out.state c.args.out.now) (g.W.Out.state c.write_framed.new.out) t c.write_framed.result)
-          (λ i. picture_of (record { layout = c.args.layout.now; text = c.args.text.now; rows = rows i; letters = letters i }) es)
-          c.write_framed.ensures.written;
+      written = subst (λ (t : List ℕ). Writes (g.W.Out.state c.args.out.now) (g.W.Out.state c.write_part.new.out) t c.write_part.result)
+          (λ i. picture c.args.layout.now c.args.text.now (part i) (those i)) c.write_part.ensures.written;
     }
