@@ -1,8 +1,11 @@
 pub mod LineEnds
 pub mod AsList
-pub mod Cutting
+pub mod Fronting
+pub mod Tailing
+pub mod Values
 pub mod Embedding
 pub mod Lexed
 pub mod Readable
 pub mod Sizes
+pub mod StatementPardos
 pub mod Strings

@@ -1,10 +1,10 @@
 -- The text of facts has the ends of its lines, and no others: so a front of whole lines is the text of the first facts.
-use Rattle.std.proofs.Common.{◌≡◌, ◌∙◌, ◌+◌, ◌-◌, ◌<◌, ◌≤◌, ◌^◌, ◌%◌, ◌++◌, ◌∷◌, [], true, false, Bool, List, ℕ, zero, suc, ap, arith, decimal, drop}
-use Rattle.std.proofs.Common.{append_assoc, get_or, inl, inr, length, refl, sym, take}
+use Rattle.std.proofs.Common.{◌≡◌, ◌∙◌, ◌+◌, ◌-◌, ◌<◌, ◌≤◌, ◌^◌, ◌%◌, ◌++◌, ◌∷◌, [], true, false, Bool, List, ℕ, zero, suc, ap, append-nil, arith, decimal, drop}
+use Rattle.std.proofs.Common.{append_assoc, get_or, inl, inr, length, refl, subst, sym, take}
 use Rattle.std.specs.Prelude.{◌⊎◌}
 use Rattle.std.proofs.lemmas.Bool.{cases_eq, cases_lt, ne_eqb}
 use Rattle.std.proofs.lemmas.Fmt.{decimal_by_steps}
-use Rattle.std.proofs.lemmas.List.{length-append}
+use Rattle.std.proofs.lemmas.List.{drop_all, drop_at, get_or_append_left, length-append, length-take-le, take-append-drop, take-take, take_all, take_at}
 use Rattle.json.specs.Print.{escape, escape_byte, quoted}
 use Rattle.json.proofs.Printed.Strings.{escape_byte_plain}
 use Rattle.json.specs.Text.{code_unit, short_escape}
@@ -12,6 +12,7 @@ use Rattle.serde_json.specs.Data.{unsigned, negative, float, Data, null, boolean
 use Rattle.serde_json.specs.Data.{no_members, member}
 use Rattle.serde_json.specs.Written.{comma_if, compact_text, items_text, members_text}
 use Rattle.json_lines.specs.Lines.{json_line, json_lines}
+use Rattle.step_pages.specs.Cut.{IsLastLine}
 use Rattle.step_pages.specs.Facts.{BeginsLine, line_count, line_end}
 use Rattle.step_pages.specs.Stand.{AreTold, HasCounts, ItemsHaveCounts, MembersHaveCounts}
 use Rattle.step_pages.proofs.Strings.{Each, each_sound}
@@ -197,6 +198,11 @@ lines_end (d ∷ ds) h =
     let a = line_count-append (json_line d) (json_lines ds) in let b = line_ends d h.0.0 in let c = lines_end ds h.1 in
     omega (arith, a, b, c)
 
+pub first_told : (k : ℕ) (ds : List Data) → AreTold ds → AreTold (take k ds)
+first_told zero ds h = tt
+first_told (suc k) [] h = tt
+first_told (suc k) (d ∷ ds) h = (h.0, first_told k ds h.1)
+
 -- ---- places behind a front
 
 take_past : {X : Type 0} (c r : List X) (n j : ℕ) → n ≡ length c + j → take n (c ++ r) ≡ c ++ take j r
@@ -266,3 +272,102 @@ cut_at (d ∷ ds) (suc at) h b l = by (cut_at ds j h.1) (cases_lt (suc at) (leng
       let s = length-append (json_line d) (json_lines ds) in
       let r = rest (begins_behind (json_line d) (json_lines ds) (suc at) j e b) (omega (arith, s, l, i)) in
       (suc r.0, one_more d ds (suc at) j r.0 e r.1)
+
+-- ---- where lines begin
+
+-- a line that begins behind another, or right at its end
+begins_past : (line r : List ℕ) (n j : ℕ) → n ≡ length line + j → (j ≡ 0 → BeginsLine (line ++ r) n) → BeginsLine r j → BeginsLine (line ++ r) n
+begins_past line r zero j e z b = tt
+begins_past line r (suc at) zero e z b = z refl
+begins_past line r (suc at) (suc i) e z b = get_past line r at i (omega (arith, e)) ∙ b
+
+line_begins : (c r : List ℕ) (n : ℕ) → n ≡ length (c ++ 10 ∷ []) → BeginsLine ((c ++ 10 ∷ []) ++ r) n
+line_begins c r zero e = tt
+line_begins c r (suc at) e =
+    let l = length-append c (10 ∷ []) in
+    ap (λ t. get_or t at 0) (append_assoc c (10 ∷ []) r) ∙ get_past c (10 ∷ r) at 0 (omega (arith, e, l))
+
+-- behind all lines one may begin
+pub whole_begins : (ds : List Data) → BeginsLine (json_lines ds) (length (json_lines ds))
+whole_begins [] = tt
+whole_begins (d ∷ ds) =
+    let l = length-append (json_line d) (json_lines ds) in
+    begins_past (json_line d) (json_lines ds) (length (json_lines (d ∷ ds))) (length (json_lines ds)) l
+    (λ z. line_begins (compact_text d) (json_lines ds) (length (json_lines (d ∷ ds))) (omega (arith, l, z))) (whole_begins ds)
+
+begins_still : (a r : List ℕ) (n : ℕ) → n ≤ length a → BeginsLine a n → BeginsLine (a ++ r) n
+begins_still a r zero l b = tt
+begins_still a r (suc at) l b = get_or_append_left a r 0 at (omega (arith, l)) ∙ b
+
+-- ---- all, and the last of all
+
+pub all_at : (facts : List Data) (kept : ℕ) → length (json_lines facts) ≤ kept → IsCutAt facts kept (length facts)
+all_at facts kept over = record {
+  within = omega arith;
+  front = take_all kept (json_lines facts) over ∙ ap json_lines (sym (take_all (length facts) facts (omega arith)));
+  back = drop_all kept (json_lines facts) over ∙ ap json_lines (sym (drop_all (length facts) facts (omega arith)));
+}
+
+pub lines-append : (a b : List Data) → json_lines (a ++ b) ≡ json_lines a ++ json_lines b
+lines-append [] b = refl
+lines-append (d ∷ a) b = ap (λ l. json_line d ++ l) (lines-append a b) ∙ sym (append_assoc (json_line d) (json_lines a) (json_lines b))
+
+module _ (before : List Data) (last : Data) where
+  pub last_at : IsCutAt (before ++ last ∷ []) (length (json_lines before)) (length before)
+  last_at =
+      let whole = lines-append before (last ∷ []) in
+      let l = length-append before (last ∷ []) in
+      record {
+        within = omega (arith, l);
+        front =
+            ap (take (length (json_lines before))) whole
+            ∙ take_at (json_lines before) (json_lines (last ∷ [])) (length (json_lines before)) refl
+            ∙ ap json_lines (sym (take_at before (last ∷ []) (length before) refl));
+        back =
+            ap (drop (length (json_lines before))) whole
+            ∙ drop_at (json_lines before) (json_lines (last ∷ [])) (length (json_lines before)) refl
+            ∙ ap json_lines (sym (drop_at before (last ∷ []) (length before) refl));
+      }
+
+  pub last_begins : BeginsLine (json_lines (before ++ last ∷ [])) (length (json_lines before))
+  last_begins =
+      subst (λ t. BeginsLine t (length (json_lines before))) (sym (lines-append before (last ∷ [])))
+      (begins_still (json_lines before) (json_lines (last ∷ [])) (length (json_lines before)) (omega arith) (whole_begins before))
+
+  pub last_length : length (json_lines (before ++ last ∷ [])) ≡ length (json_lines before) + length (json_line last)
+  last_length =
+      let l = length-append (json_lines before) (json_lines (last ∷ [])) in
+      let m = length-append (json_line last) [] in
+      let whole = ap length (lines-append before (last ∷ [])) in
+      omega (arith, whole, l, m)
+
+  -- behind it no line begins
+  pub last_alone : HasCounts last → IsLastLine (json_lines (before ++ last ∷ [])) (length (json_lines before))
+  last_alone h n past below b =
+      by (n - length (json_lines before)) (omega (arith, past)) (subst (λ t. BeginsLine t n) (lines-append before (last ∷ [])) b)
+    where
+      by : (j : ℕ) → n ≡ length (json_lines before) + j → BeginsLine (json_lines before ++ json_lines (last ∷ [])) n → ⊥
+      by zero e b = omega (arith, e, past)
+      by (suc i) e b =
+          let whole = last_length in
+          not_inside last [] i h (begins_behind (json_lines before) (json_lines (last ∷ [])) n (suc i) e b) (omega (arith, whole, e, below))
+
+  pub last_line : drop (length (json_lines before)) (json_lines (before ++ last ∷ [])) ≡ json_line last
+  last_line =
+      ap (drop (length (json_lines before))) (lines-append before (last ∷ []))
+      ∙ drop_at (json_lines before) (json_lines (last ∷ [])) (length (json_lines before)) refl ∙ append-nil (json_line last)
+
+-- a place before another has no more facts before it
+pub ordered : (facts : List Data) (from to a k : ℕ) → AreTold facts → IsCutAt facts from a → IsCutAt facts to k → from ≤ to → a ≤ k
+ordered facts from to a k told first last order =
+    let t = take to (json_lines facts) in
+    let within : a ≤ length facts = first.within in
+    let inside : k ≤ length facts = last.within in
+    let firsts : line_count (take from (json_lines facts)) ≡ a =
+    ap line_count first.front ∙ lines_end (take a facts) (first_told a facts told) ∙ length-take-le a facts within in
+    let lasts : line_count t ≡ k =
+    ap line_count last.front ∙ lines_end (take k facts) (first_told k facts told) ∙ length-take-le k facts inside in
+    let split : line_count t ≡ line_count (take from t) + line_count (drop from t) =
+    ap line_count (sym (take-append-drop from t)) ∙ line_count-append (take from t) (drop from t) in
+    let same = ap line_count (take-take from to (json_lines facts) order) in
+    omega (arith, firsts, lasts, split, same)

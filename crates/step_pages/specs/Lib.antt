@@ -1,4 +1,7 @@
 pub mod Opening
+pub mod Pardos
+pub mod Cut
 pub mod Facts
 pub mod Page
 pub mod Stand
+pub mod State

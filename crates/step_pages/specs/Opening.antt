@@ -1,14 +1,16 @@
 -- What is known of a run before its first statement, as facts.
-use Rattle.std.specs.Prelude.{ℕ, ℤ, List, [], ◌∷◌, codes}
+use Rattle.std.specs.Prelude.{ℕ, ℤ, List, [], ◌∷◌, ◌++◌, codes, map}
 use Rattle.std.specs.List.{flat_map}
 use Rattle.serde_json.specs.Data.{Data}
-use Rattle.json_lines.specs.Facts.{Field, letters, list, object_of, value, values, word}
+use Rattle.json_lines.specs.Facts.{Field, count, letters, list, object_of, value, values, word}
 use Rattle.pram_model.specs.Rules.{rule_word}
+use Rattle.pram_model.specs.declared.rule.Rule.{Rule}
 use Rattle.pram_trees.specs.declared.tree.Declaration.{Declaration}
 use Rattle.pram_trees.specs.declared.tree.Declaration.TheVariants as declare
 use Rattle.pram_trees.specs.Program.{ProgramTree}
 use Rattle.pram_tokens.specs.declared.token.Name.{Name}
 use Rattle.pram_tokens.specs.declared.token.Numeral.{Numeral}
+use Rattle.step_pages.specs.Pardos.{pardo_facts, pardos_of}
 
 -- a single cell, and an array with its bounds
 abbrev pub single_facts : Name → Data
@@ -30,13 +32,21 @@ variables_of (declare.Cell x) = []
 variables_of (declare.Array x low high) = []
 variables_of (declare.Uniform x) = letters x.text ∷ []
 
--- the program's text, its rule, its shared declarations and the names of its uniform variables, in order, and the input, which are the
--- values of the first cells
-abbrev pub opening_fields : List ℕ → ProgramTree → List ℤ → List Field
-opening_fields text tree input =
-    (codes "program", letters text) ∷ (codes "rule", word (rule_word tree.rule))
-    ∷ (codes "cells", list (flat_map cells_of tree.declarations))
-    ∷ (codes "variables", list (flat_map variables_of tree.declarations)) ∷ (codes "input", values input) ∷ []
+-- what the file is called, the program's text and its rule, the input, which are the values of the first cells, and how many statements
+-- there are
+abbrev pub source_fields : (file text : List ℕ) → Rule → (input : List ℤ) → (statements : ℕ) → List Field
+source_fields file text rule input statements =
+    (codes "file", letters file) ∷ (codes "program", letters text) ∷ (codes "rule", word (rule_word rule)) ∷ (codes "input", values input)
+    ∷ (codes "statements", count statements) ∷ []
 
-abbrev pub opening_facts : List ℕ → ProgramTree → List ℤ → Data
-opening_facts text tree input = object_of (opening_fields text tree input)
+-- its shared declarations, the names of its uniform variables, and its pardos, in order
+abbrev pub names_fields : ProgramTree → List Field
+names_fields tree =
+    (codes "cells", list (flat_map cells_of tree.declarations)) ∷ (codes "variables", list (flat_map variables_of tree.declarations))
+    ∷ (codes "pardos", list (map pardo_facts (pardos_of tree.body))) ∷ []
+
+abbrev pub opening_fields : (file text : List ℕ) → ProgramTree → (input : List ℤ) → (statements : ℕ) → List Field
+opening_fields file text tree input statements = source_fields file text tree.rule input statements ++ names_fields tree
+
+abbrev pub opening_facts : (file text : List ℕ) → ProgramTree → (input : List ℤ) → (statements : ℕ) → Data
+opening_facts file text tree input statements = object_of (opening_fields file text tree input statements)

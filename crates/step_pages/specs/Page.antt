@@ -1,32 +1,54 @@
 -- The page of a run: one file of HTML that fetches nothing, with the facts of the run in it.
 use Rattle.std.specs.Prelude.{ℕ, List, ◌++◌}
-use Rattle.step_pages.specs.declared.markup.TheConstants.{STYLE, BODY, CLOSING}
-use Rattle.step_pages.specs.declared.script.TheConstants.{DRAWING, MOVING, MARKING, STEPPING}
+use Rattle.step_pages.specs.declared.markup.TheConstants.{STYLE, NARROW, BODY, CLOSING}
+use Rattle.step_pages.specs.declared.moving.TheConstants.{READING, MOVING}
+use Rattle.step_pages.specs.declared.drawing.TheConstants.{PLACING, DRAWING}
+use Rattle.step_pages.specs.declared.telling.TheConstants.{TELLING, MARKING}
+use Rattle.step_pages.specs.declared.stepping.TheConstants.{STEPPING, GUIDING}
 use Rattle.step_pages.specs.Facts.{facts_text}
 
--- how it looks, what is seen, and the beginning of the facts
+-- how it looks: everywhere, and where it is narrow or printed
+abbrev pub style : List ℕ
+style = STYLE ++ NARROW
+
+-- what is seen, and the beginning of the facts
 abbrev pub front : List ℕ
-front = STYLE ++ BODY
+front = style ++ BODY
+
+-- ---- the script
+
+abbrev pub reading : List ℕ
+reading = READING ++ MOVING
 
 abbrev pub drawing : List ℕ
-drawing = DRAWING ++ MOVING
+drawing = PLACING ++ DRAWING
+
+abbrev pub telling : List ℕ
+telling = TELLING ++ MARKING
 
 abbrev pub stepping : List ℕ
-stepping = MARKING ++ STEPPING
+stepping = STEPPING ++ GUIDING
 
--- the end of the facts, and the script
+abbrev pub earlier : List ℕ
+earlier = reading ++ drawing
+
+abbrev pub later : List ℕ
+later = telling ++ stepping
+
 abbrev pub script : List ℕ
-script = drawing ++ stepping
+script = earlier ++ later
+
+-- ---- the page
 
 abbrev pub back : List ℕ
 back = script ++ CLOSING
 
-abbrev pub rest : (facts : List ℕ) → ℕ → List ℕ
-rest facts kept = facts_text facts kept ++ back
+abbrev pub rest : (facts state : List ℕ) → (front back : ℕ) → List ℕ
+rest facts state from to = facts_text facts state from to ++ back
 
--- the page of facts of which so many bytes stand in it
-abbrev pub page : (facts : List ℕ) → ℕ → List ℕ
-page facts kept = front ++ rest facts kept
+-- the page of facts of which the lines before one place and from another on stand in it, with the state behind those between
+abbrev pub page : (facts state : List ℕ) → (front back : ℕ) → List ℕ
+page facts state from to = front ++ rest facts state from to
 
 -- 2 MiB
 abbrev pub most_bytes : ℕ

@@ -1,11 +1,13 @@
 -- The facts that stand in a page, read as JSON.
-use Rattle.std.specs.Prelude.{◌≡◌, ℕ, ◌-◌, ◌<◌, ◌≤◌, ◌^◌, List, [], ◌∷◌, ◌++◌, Some, codes, length, take}
+use Rattle.std.specs.Prelude.{◌≡◌, ℕ, ◌-◌, ◌<◌, ◌≤◌, ◌^◌, List, [], ◌∷◌, ◌++◌, Some, codes, drop, length, take}
+use Rattle.std.specs.Prelude.{◌&&◌, if◌then◌else◌, nat_le, nat_lt}
 use Rattle.serde_json.specs.Data.{Num, unsigned, negative, float, Data, null, boolean, number, string, array, object, Items, no_items, item, Members}
 use Rattle.serde_json.specs.Data.{no_members, member, depth}
 use Rattle.serde_json.specs.Read.{read}
 use Rattle.json_lines.specs.Facts.{count, list, object_of}
-use Rattle.json_lines.specs.Lines.{IsJson}
-use Rattle.step_pages.specs.Facts.{IsCut, facts_text}
+use Rattle.json_lines.specs.Lines.{IsJson, json_line}
+use Rattle.step_pages.specs.Cut.{IsCut, room}
+use Rattle.step_pages.specs.Facts.{embedded, facts_text, state_room}
 
 -- a count below 2^64
 abbrev pub IsCount : Num → Type 0
@@ -36,18 +38,38 @@ abbrev pub AreTold : List Data → Type 0
 AreTold [] = Unit {0}
 AreTold (d ∷ ds) = (HasCounts d × (depth d ≤ 126)) × AreTold ds
 
--- how many lines are left out, as a fact
-abbrev pub left_out_fact : ℕ → Data
-left_out_fact n = object_of ((codes "left_out", count n) ∷ [])
+-- behind how many lines some are left out, and how many, as a fact
+abbrev pub gap_fact : (behind left : ℕ) → Data
+gap_fact behind left = object_of ((codes "behind", count behind) ∷ (codes "left_out", count left) ∷ [])
 
--- Where all lines of facts have room, what stands in the page is read as the list of these facts, and of the fact that none is left out.
-abbrev pub FactsAreRead : Type 0
-FactsAreRead = (facts : List Data) (text : List ℕ) → AreTold facts → IsJson facts text →
-    read (codes "[" ++ facts_text text (length text)) ≡ Some (list (facts ++ left_out_fact 0 ∷ []))
+-- the state behind what is left out, as facts, where it stands in the page
+abbrev pub states_shown : List Data → (state : List ℕ) → (front back : ℕ) → List Data
+states_shown states state front back = if nat_lt front back && nat_le (length (embedded state)) state_room then states else []
 
--- Where a front of the lines stands in the page, as many as have room, it is read as the list of the first facts, and of the fact of how many
--- are left out.
+-- Of these facts the first `a`, the state, those behind the first `k`, and which are left out: what stands in a page, where the lines
+-- before one place and from another on do, is read as that.
+pub record IsReadAs (facts states : List Data) (text state : List ℕ) (front back a k : ℕ) : Type 0 where
+  pub in_order : a ≤ k
+  pub within : k ≤ length facts
+  pub reads : read (codes "[" ++ facts_text text state front back)
+      ≡ Some (list (take a facts ++ (states_shown states state front back ++ (drop k facts ++ gap_fact a (k - a) ∷ []))))
+
+-- Of lines of facts the first and the last ones stand in the page, as many as have room, and read as JSON they are these facts, with the
+-- state between them, and which are left out.
 abbrev pub CutFactsAreRead : Type 0
-CutFactsAreRead = (facts : List Data) (text : List ℕ) (kept : ℕ) → AreTold facts → IsJson facts text → length facts < 2 ^ 64 → IsCut text kept →
-    (k : ℕ) × (k ≤ length facts)
-    × (read (codes "[" ++ facts_text text kept) ≡ Some (list (take k facts ++ left_out_fact (length facts - k) ∷ [])))
+CutFactsAreRead = (facts states : List Data) (text state : List ℕ) (front back : ℕ) → AreTold facts → AreTold states → IsJson facts text →
+    IsJson states state → length facts < 2 ^ 64 → IsCut text front back →
+    (a : ℕ) × (k : ℕ) × IsReadAs facts states text state front back a k
+
+-- Where all lines have room, it is read as the list of all facts, and none is left out.
+abbrev pub FactsAreRead : Type 0
+FactsAreRead = (facts states : List Data) (text state : List ℕ) (front back : ℕ) → AreTold facts → AreTold states → IsJson facts text →
+    IsJson states state → length facts < 2 ^ 64 → IsCut text front back → length (embedded text) ≤ room →
+    (a : ℕ) × (read (codes "[" ++ facts_text text state front back) ≡ Some (list (facts ++ gap_fact a 0 ∷ [])))
+
+-- Where the last line has room, which is that of the outcome, it is among those that stand in the page.
+abbrev pub OutcomeIsRead : Type 0
+OutcomeIsRead = (before states : List Data) (outcome : Data) (text state : List ℕ) (front back : ℕ) → AreTold (before ++ outcome ∷ []) →
+    AreTold states → IsJson (before ++ outcome ∷ []) text → IsJson states state → length (before ++ outcome ∷ []) < 2 ^ 64 →
+    IsCut text front back → length (embedded (json_line outcome)) ≤ room →
+    (a : ℕ) × (k : ℕ) × IsReadAs (before ++ outcome ∷ []) states text state front back a k × (k ≤ length before)

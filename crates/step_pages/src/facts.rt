@@ -1,9 +1,10 @@
 //! Facts as they stand in the page.
 
-ghost use Rattle.std.specs.Prelude.{◌≡◌, ◌≤◌, ◌<◌, ◌^◌, drop, length, take};
+ghost use Rattle.std.specs.Prelude.{◌≡◌, ◌≤◌, ◌<◌, ◌^◌, drop, length, nat_le, take};
 ghost use Rattle.text_out.specs.Out.{Writes};
 ghost use Rattle.step_pages.specs.Facts as spec;
 
+use crate::cut::{STATE_ROOM, width};
 use itoa::Buffer;
 use text_out::{Out, WriteFault};
 
@@ -30,8 +31,8 @@ fn write_lines<W: Out>(out: &mut W, facts: &[u8]) -> Result<(), WriteFault>
     Ok(())
 }
 
-// How many lines end in a text.
-fn line_count(text: &[u8]) -> usize
+/// How many lines end in a text.
+pub(crate) fn line_count(text: &[u8]) -> usize
     ensures value { result ≡ spec.line_count text.now }
     ensures within { result ≤ length text.now }
 {
@@ -44,22 +45,106 @@ fn line_count(text: &[u8]) -> usize
     count
 }
 
-// How many lines are left out.
-fn write_left_out<W: Out>(out: &mut W, count: usize) -> Result<(), WriteFault>
+// Which lines are left out: behind how many, and how many.
+fn write_gap<W: Out>(out: &mut W, behind: usize, left: usize) -> Result<(), WriteFault>
     requires counted { (W.Out.state out.old).failures < 2 ^ 63 }
-    ensures written { Writes (W.Out.state out.old) (W.Out.state out.new) (spec.left_out_text count) result }
+    ensures written { Writes (W.Out.state out.old) (W.Out.state out.new) (spec.gap_text behind left) result }
 {
-    let mut digits = Buffer::new();
-    out.write_parts(&[b"{\"left_out\":", digits.format(count).as_bytes(), b"}]"])
+    let mut first = Buffer::new();
+    let mut second = Buffer::new();
+    out.write_parts(&[
+        b"{\"behind\":",
+        first.format(behind).as_bytes(),
+        b",\"left_out\":",
+        second.format(left).as_bytes(),
+        b"}]",
+    ])
 }
 
-/// The first bytes of the facts as a list, and how many lines are left out.
-pub(crate) fn write_facts<W: Out>(out: &mut W, facts: &[u8], kept: usize) -> Result<(), WriteFault>
-    requires counted { (W.Out.state out.old).failures < 2 ^ 63 }
-    requires within { kept ≤ length facts.now }
-    ensures written { Writes (W.Out.state out.old) (W.Out.state out.new) (spec.facts_text facts.now kept) result }
+// Whether the state behind lines that are left out has room.
+fn has_room(state: &[u8]) -> bool
+    ensures { result ≡ nat_le (length (spec.embedded state.now)) spec.state_room }
 {
-    let (front, back) = facts.split_at(kept);
-    write_lines(out, front)?;
-    write_left_out(out, line_count(back))
+    let mut size = 0;
+    for byte in state {
+        size += width(*byte);
+        if STATE_ROOM < size {
+            return false;
+        }
+    }
+    true
+}
+
+// The state, where lines are left out and it has room.
+fn state_shown(state: &[u8], front: usize, back: usize) -> &[u8]
+    ensures { result.now ≡ spec.state_shown state.now front back }
+{
+    if front < back && has_room(state) {
+        state
+    } else {
+        &[]
+    }
+}
+
+// The last lines, and which are left out before them.
+fn write_last<W: Out>(
+    out: &mut W,
+    last: &[u8],
+    behind: usize,
+    left: usize,
+) -> Result<(), WriteFault>
+    requires counted { (W.Out.state out.old).failures < 2 ^ 63 }
+    ensures written { Writes (W.Out.state out.old) (W.Out.state out.new) (spec.last_text last.now behind left) result }
+{
+    write_lines(out, last)?;
+    write_gap(out, behind, left)
+}
+
+// The state behind what is left out, the last lines, and which are left out.
+fn write_behind<W: Out>(
+    out: &mut W,
+    state: &[u8],
+    last: &[u8],
+    behind: usize,
+    left: usize,
+) -> Result<(), WriteFault>
+    requires counted { (W.Out.state out.old).failures < 2 ^ 63 }
+    ensures written { Writes (W.Out.state out.old) (W.Out.state out.new) (spec.behind_text state.now last.now behind left) result }
+{
+    write_lines(out, state)?;
+    write_last(out, last, behind, left)
+}
+
+// The first lines, the state and the last lines, and how many are left out.
+fn write_both<W: Out>(
+    out: &mut W,
+    first: &[u8],
+    state: &[u8],
+    last: &[u8],
+    left: usize,
+) -> Result<(), WriteFault>
+    requires counted { (W.Out.state out.old).failures < 2 ^ 63 }
+    ensures written { Writes (W.Out.state out.old) (W.Out.state out.new) (spec.both_text first.now state.now last.now left) result }
+{
+    write_lines(out, first)?;
+    write_behind(out, state, last, line_count(first), left)
+}
+
+/// The facts before one place and from another on as a list, the state behind those between, and which lines are left out.
+pub(crate) fn write_facts<W: Out>(
+    out: &mut W,
+    facts: &[u8],
+    state: &[u8],
+    front: usize,
+    back: usize,
+) -> Result<(), WriteFault>
+    requires counted { (W.Out.state out.old).failures < 2 ^ 63 }
+    requires front_within { front ≤ length facts.now }
+    requires back_within { back ≤ length facts.now }
+    ensures written { Writes (W.Out.state out.old) (W.Out.state out.new) (spec.facts_text facts.now state.now front back) result }
+{
+    let (first, rest) = facts.split_at(front);
+    let (_, last) = facts.split_at(back);
+    let left = line_count(rest).saturating_sub(line_count(last));
+    write_both(out, first, state_shown(state, front, back), last, left)
 }

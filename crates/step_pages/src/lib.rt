@@ -2,13 +2,21 @@
 #![tactic(auto)]
 
 mod cut;
+mod drawing;
 mod facts;
 mod markup;
+mod moving;
 mod opening;
 mod page;
-mod script;
+mod page_parts;
+mod pardos;
+mod state;
+mod stepping;
+mod telling;
 
+pub use cut::{Kept, gap_end, kept_lines};
 pub use opening::opening_line;
 pub use page::write_page;
+pub use state::state_line;
 
 pub mod page_laws;

@@ -9,6 +9,7 @@ ghost use Rattle.json_lines.specs.Shown.{shown};
 ghost use Rattle.pram_model.specs.Rules.{rule_word};
 ghost use Rattle.step_pages.specs.Opening as spec;
 
+use crate::pardos::pardos_facts;
 use json_lines::{Object, Value, line_of};
 use pram_trees::{Declaration, Name, Numeral, Rule, Tree};
 use std::alloc::{AllocError, Global};
@@ -107,48 +108,67 @@ fn variables_facts(alloc: Global, declarations: &[Declaration]) -> Result<Vec<Va
     Ok(list)
 }
 
-fn put_opening(
-    alloc: Global,
-    object: &mut Object,
-    text: &[u8],
-    tree: &Tree,
-    input: &[i64],
-) -> Result<(), AllocError>
-    ensures { OnOk result (shown object.new
-        ≡ with_fields (spec.opening_fields text.now tree.now input.now) (shown object.old)) }
+// What the program declares: its shared cells, its uniform variables, and its pardos with their locals.
+fn put_names(alloc: Global, object: &mut Object, tree: &Tree) -> Result<(), AllocError>
+    ensures { OnOk result (shown object.new ≡ with_fields (spec.names_fields tree.now) (shown object.old)) }
 {
     let cells = cells_facts(alloc, tree.declarations())?;
     let variables = variables_facts(alloc, tree.declarations())?;
-    object.put_letters("program", text)?;
-    object.put_word("rule", rule_name(tree.rule()))?;
+    let pardos = pardos_facts(alloc, tree.body())?;
     object.put_list("cells", cells)?;
     object.put_list("variables", variables)?;
-    object.put_values("input", input)
+    object.put_list("pardos", pardos)
+}
+
+// What a run is of: its file, its text and rule, its input, and how many statements it has.
+fn put_source(
+    object: &mut Object,
+    file: &[u8],
+    text: &[u8],
+    rule: Rule,
+    input: &[i64],
+    statements: u64,
+) -> Result<(), AllocError>
+    ensures { OnOk result (shown object.new
+        ≡ with_fields (spec.source_fields file.now text.now rule input.now statements) (shown object.old)) }
+{
+    object.put_letters("file", file)?;
+    object.put_letters("program", text)?;
+    object.put_word("rule", rule_name(rule))?;
+    object.put_values("input", input)?;
+    object.put_count("statements", statements)
 }
 
 fn opening_value(
     alloc: Global,
+    file: &[u8],
     text: &[u8],
     tree: &Tree,
     input: &[i64],
+    statements: u64,
 ) -> Result<Value, AllocError>
-    ensures { IfOk result (λ v. view v ≡ spec.opening_facts text.now tree.now input.now) }
+    ensures { IfOk result (λ v. view v ≡ spec.opening_facts file.now text.now tree.now input.now statements) }
 {
     let mut object = Object::new(alloc);
-    put_opening(alloc, &mut object, text, tree, input)?;
+    put_source(&mut object, file, text, tree.rule(), input, statements)?;
+    put_names(alloc, &mut object, tree)?;
     Ok(object.into_value())
 }
 
-/// What a page says before the first statement, on a line: the program's text, its rule, its shared declarations with their bounds, the
-/// names of its uniform variables, and the input. `AllocError`: memory was refused.
+/// What a page says before the first statement, on a line: what the program's file is called, its text and its rule, the input, how many
+/// statements the run has, the shared declarations with their bounds, the names of the uniform variables, and the pardos with the names of
+/// their locals. `AllocError`: memory was refused.
 pub fn opening_line(
     alloc: Global,
+    file: &[u8],
     text: &[u8],
     tree: &Tree,
     input: &[i64],
+    statements: u64,
 ) -> Result<String, AllocError>
-    ensures json { IfOk result (λ line. IsJson (spec.opening_facts text.now tree.now input.now ∷ []) (string_bytes line)) }
+    ensures json { IfOk result
+        (λ line. IsJson (spec.opening_facts file.now text.now tree.now input.now statements ∷ []) (string_bytes line)) }
 {
-    let facts = opening_value(alloc, text, tree, input)?;
+    let facts = opening_value(alloc, file, text, tree, input, statements)?;
     line_of(alloc, &facts)
 }

@@ -1,13 +1,15 @@
 //! What holds of every page.
 
 ghost use Rattle.std.specs.Prelude.{ℕ, List, ◌<◌, ◌≤◌, ◌^◌, length};
-ghost use Rattle.step_pages.specs.Facts.{HasNoTag, IsCut, embedded};
+ghost use Rattle.step_pages.specs.Cut.{IsCut};
+ghost use Rattle.step_pages.specs.Facts.{HasNoTag, embedded};
 ghost use Rattle.step_pages.specs.Page.{most_bytes, page};
-ghost use Rattle.step_pages.specs.Stand.{CutFactsAreRead, FactsAreRead};
+ghost use Rattle.step_pages.specs.Stand.{CutFactsAreRead, FactsAreRead, OutcomeIsRead};
 
 /// A page has at most 2 MiB.
 pub fn pages_are_small()
-    ensures { (facts : List ℕ) (kept : ℕ) → length facts < 2 ^ 64 → IsCut facts kept → length (page facts kept) ≤ most_bytes }
+    ensures { (facts state : List ℕ) (front back : ℕ) → length facts < 2 ^ 64 → IsCut facts front back →
+        length (page facts state front back) ≤ most_bytes }
 {}
 
 /// Facts never end the script that they stand in: no `<` is in them.
@@ -15,13 +17,18 @@ pub fn facts_have_no_tag()
     ensures { (facts : List ℕ) → HasNoTag (embedded facts) }
 {}
 
-/// Where all lines of facts have room, what stands in the page is read as the list of these facts.
+/// What stands in the page is read as the list of the first facts and the last ones, with the state between them, and says which are left
+/// out.
+pub fn cut_facts_are_read()
+    ensures { CutFactsAreRead }
+{}
+
+/// Where all lines of facts have room, none is left out.
 pub fn facts_are_read()
     ensures { FactsAreRead }
 {}
 
-/// Where some lines have no room, what stands in the page is read as the list of the first facts, and
-/// says how many are left out.
-pub fn cut_facts_are_read()
-    ensures { CutFactsAreRead }
+/// The line of the outcome, which is the last, stands in the page if it has room at all.
+pub fn outcome_is_read()
+    ensures { OutcomeIsRead }
 {}

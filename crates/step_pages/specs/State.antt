@@ -1,0 +1,35 @@
+-- What cells and uniform variables hold behind a statement, as facts.
+use Rattle.std.specs.Prelude.{ℕ, zero, suc, ℤ, List, [], ◌∷◌, codes, pos, take}
+use Rattle.std.specs.List.{fold}
+use Rattle.serde_json.specs.Data.{Data}
+use Rattle.json_lines.specs.Facts.{Field, count, object_of, values}
+use Rattle.step_entries.specs.declared.change.Change.{Change}
+use Rattle.step_entries.specs.Entries.{Entry, Faulting, Ran}
+
+-- a value at a number of a list, behind which all are 0
+abbrev pub with_value : List ℤ → ℕ → ℤ → List ℤ
+with_value [] zero v = v ∷ []
+with_value [] (suc at) v = pos 0 ∷ with_value [] at v
+with_value (x ∷ xs) zero v = v ∷ xs
+with_value (x ∷ xs) (suc at) v = x ∷ with_value xs at v
+
+abbrev pub with_change : List ℤ → Change → List ℤ
+with_change xs d = with_value xs d.cell d.after
+
+-- the cells behind a statement, by those before it, and the uniform variables
+abbrev pub with_cells : List ℤ → Entry → List ℤ
+with_cells xs (Ran here acts cells variables locals printed) = fold with_change xs cells
+with_cells xs (Faulting here fault cause acts met) = xs
+
+abbrev pub with_variables : List ℤ → Entry → List ℤ
+with_variables xs (Ran here acts cells variables locals printed) = fold with_change xs variables
+with_variables xs (Faulting here fault cause acts met) = xs
+
+-- both behind the first `k` statements of a run on this input
+abbrev pub state_fields : (input : List ℤ) → List Entry → (k : ℕ) → List Field
+state_fields input entries k =
+    (codes "state", count k) ∷ (codes "cells", values (fold with_cells input (take k entries)))
+    ∷ (codes "variables", values (fold with_variables [] (take k entries))) ∷ []
+
+abbrev pub state_facts : (input : List ℤ) → List Entry → (k : ℕ) → Data
+state_facts input entries k = object_of (state_fields input entries k)
