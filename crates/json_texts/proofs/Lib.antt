@@ -4,3 +4,4 @@ pub mod EntryFacts
 pub mod ExchangeFacts
 pub mod Readable
 pub mod SweepReadable
+pub mod MessageReadable

@@ -1,5 +1,5 @@
 -- What is told can be read: it has no float, and nests five levels at most.
-use Rattle.std.proofs.Common.{ℕ, List, [], ◌∷◌, length, lit≤, map, arith, refl}
+use Rattle.std.proofs.Common.{ℕ, List, [], ◌∷◌, ◌++◌, length, lit≤, map, arith, refl}
 use Rattle.std.specs.Prelude.{Bool, true, false, ℤ, Option, Some, None, codes, slice_get}
 use Rattle.json_lines.specs.Facts.{Field, list, object_of, value}
 use Rattle.json_lines.specs.Small.{IsReadable, IsSmall}
@@ -20,8 +20,7 @@ use Rattle.program_texts.specs.declared.from_text.Refusal.{Refusal}
 use Rattle.program_texts.specs.declared.from_text.Refusal.TheVariants as refusal
 use Rattle.program_texts.specs.declared.stop.Stop.{Stop}
 use Rattle.program_texts.specs.declared.stop.Stop.TheVariants as stop
-use Rattle.program_texts.specs.Stopped.{refusal_place}
-use Rattle.rule_comparison.specs.Compared.{finding_of, rules}
+use Rattle.rule_comparison.specs.Compared.{declares, finding_of, rules}
 use Rattle.rule_comparison.specs.declared.comparison.Comparison.{Comparison}
 use Rattle.rule_comparison.specs.declared.finding.Finding.{Finding}
 use Rattle.rule_comparison.specs.declared.finding.Finding.TheVariants as finding
@@ -37,8 +36,8 @@ use Rattle.memory_texts.specs.Chosen.{chosen}
 use Rattle.memory_texts.specs.declared.choice.Choice.{Choice}
 use Rattle.memory_texts.specs.declared.choice.Choice.TheVariants.{All}
 use Rattle.json_texts.specs.OutcomeFacts.{bounds_fields, chosen_facts, chosen_fields, entry_facts, fault_fields, memory_facts, outcome_facts, outcome_fields}
-use Rattle.json_texts.specs.RefusalFacts.{cause_fields, place_fields, reason_fields, stop_facts, stop_fields, text_fields}
-use Rattle.json_texts.specs.RuleFacts.{comparison_facts, finding_fields, rule_facts}
+use Rattle.json_texts.specs.RefusalFacts.{cause_fields, place_fields, reason_fields, stop_facts, stop_fields, text_fields, told_place}
+use Rattle.json_texts.specs.RuleFacts.{comparison_facts, declared_fields, finding_fields, rule_facts}
 use Rattle.json_texts.specs.ActFacts.{act_facts, cell_fact, processor_fact, write_fact}
 use Rattle.json_texts.specs.CauseFacts.{beyond_fields, known_fields, why_fields, write_facts}
 use Rattle.json_texts.specs.StepFacts.{change_facts, local_facts, step_facts, told_fields, variable_facts}
@@ -71,7 +70,7 @@ small_chosen choice layout (GoesOn output) = (small_word 3 _, (small_values 2 ou
 small_outcome : (layout : List SharedEntry) (v : Verdict) → HasSmall 3 (outcome_fields layout v)
 small_outcome layout v = small_chosen All layout v
 
-readable : (fields : List Field) → HasSmall 3 fields → IsReadable (object_of fields)
+pub readable : (fields : List Field) → HasSmall 3 fields → IsReadable (object_of fields)
 readable fields h = smaller 4 127 (object_of fields) (lit≤ tt) (small_object 3 fields h)
 
 pub readable_chosen : (choice : Choice) (layout : List SharedEntry) (v : Verdict) → IsReadable (chosen_facts choice layout v)
@@ -116,12 +115,12 @@ small_reason refusal.BadWorkers = (small_word 3 _, (small_word 3 _, tt))
 small_reason refusal.OutOfMemory = (small_word 3 _, (small_word 3 _, tt))
 small_reason refusal.OutOfReserve = (small_word 3 _, (small_word 3 _, tt))
 
-small_stop : (source : List ℕ) (why : Stop) → HasSmall 3 (stop_fields source why)
+pub small_stop : (source : List ℕ) (why : Stop) → HasSmall 3 (stop_fields source why)
 small_stop source (stop.Words message) = (small_word 3 _, (small_word 3 _, tt))
 small_stop source (stop.Number w) = (small_word 3 _, (small_word 3 _, tt))
 small_stop source (stop.Unreadable file) = (small_word 3 _, (small_word 3 _, tt))
 small_stop source (stop.Refused r) =
-    has_all 3 (reason_fields r) (place_fields source (refusal_place r)) (small_reason r) (small_place source (refusal_place r))
+    has_all 3 (reason_fields r) (place_fields source (told_place source r)) (small_reason r) (small_place source (told_place source r))
 small_stop source (stop.NotVerified at reason) = (small_word 3 _, (small_word 3 _, (small_count 3 at, (small_word 3 _, tt))))
 small_stop source (stop.BadListing at) = (small_word 3 _, (small_word 3 _, small_place source (Some at)))
 small_stop source stop.WriteFailed = (small_word 3 _, (small_word 3 _, tt))
@@ -179,9 +178,19 @@ small_finding layout finding.Other = (small_word 1 _, (small_word 1 _, tt))
 small_finding layout (finding.Faulted fault) = (small_word 1 _, small_fault 1 layout fault)
 small_finding layout finding.GoesOn = (small_word 1 _, tt)
 
+small_declared : (d : Bool) (f : Finding) → HasSmall 1 (declared_fields d f)
+small_declared true finding.Same = (small_flag 1 true, tt)
+small_declared true finding.Other = tt
+small_declared true (finding.Faulted fault) = tt
+small_declared true finding.GoesOn = tt
+small_declared false f = tt
+
 small_rule : (c : Comparison) (r : Rule) → IsSmall 2 (rule_facts c r)
 small_rule c r =
-    small_object 1 ((codes "rule", _) ∷ finding_fields c.layout (finding_of c r)) (small_word 1 _, small_finding c.layout (finding_of c r))
+    let found = finding_fields c.layout (finding_of c r) in
+    let declared = declared_fields (declares c r) (finding_of c r) in
+    small_object 1 ((codes "rule", _) ∷ (found ++ declared))
+    (small_word 1 _, has_all 1 found declared (small_finding c.layout (finding_of c r)) (small_declared (declares c r) (finding_of c r)))
 
 pub readable_comparison : (c : Comparison) → IsReadable (comparison_facts c)
 readable_comparison c = readable ((codes "rules", _) ∷ [])

@@ -1,6 +1,7 @@
 pub mod OutcomeFacts
 pub mod AcceptedFacts
 pub mod RefusalFacts
+pub mod MessageFacts
 pub mod CostFacts
 pub mod RuleFacts
 pub mod ActFacts

@@ -1,5 +1,5 @@
 -- What JSON says of a refusal.
-use Rattle.std.specs.Prelude.{ℕ, List, [], ◌∷◌, ◌++◌, Option, Some, None, codes}
+use Rattle.std.specs.Prelude.{ℕ, List, [], ◌∷◌, ◌++◌, Option, Some, None, codes, length}
 use Rattle.serde_json.specs.Data.{Data}
 use Rattle.json_lines.specs.Facts.{Field, count, object_of, word}
 use Rattle.pram_tokens.specs.declared.error.TextFault.{TextFault}
@@ -8,6 +8,8 @@ use Rattle.pram_names.specs.declared.fault.Cause.{Cause}
 use Rattle.pram_names.specs.declared.fault.Cause.TheVariants as cause
 use Rattle.pram_names.specs.declared.fault.Limit.{Limit}
 use Rattle.pram_names.specs.declared.fault.Limit.TheVariants as limit
+use Rattle.pram_names.specs.declared.fault.Spot.{Spot}
+use Rattle.pram_names.specs.declared.fault.Spot.TheVariants as spot
 use Rattle.sized_texts.specs.declared.reason.Reason.{Reason}
 use Rattle.sized_texts.specs.Reasons.{reason_word}
 use Rattle.program_texts.specs.declared.from_text.Refusal.{Refusal}
@@ -77,12 +79,27 @@ abbrev pub size_fields : List ℕ → ℕ → Reason → List Field
 size_fields source at r =
     named (codes "E19") (codes "BadSize") ++ ((codes "reason", word (reason_word r)) ∷ place_fields source (Some at))
 
+-- a place of the text, which may be its end
+abbrev pub offset_of : List ℕ → Spot → ℕ
+offset_of source (spot.Offset at) = at
+offset_of source spot.TextEnd = length source
+
+-- where a refusal stands in the text, of a limit too
+abbrev pub told_place : List ℕ → Refusal → Option ℕ
+told_place source (refusal.Text fault) = refusal_place (refusal.Text fault)
+told_place source (refusal.Program breach) = Some (offset_of source breach.spot)
+told_place source refusal.InputTooLong = None
+told_place source refusal.BadMap = None
+told_place source refusal.BadWorkers = None
+told_place source refusal.OutOfMemory = None
+told_place source refusal.OutOfReserve = None
+
 -- why a call stops, where this text was refused
 abbrev pub stop_fields : List ℕ → Stop → List Field
 stop_fields source (stop.Words message) = about (codes "P1") (codes "message") message.bytes.items
 stop_fields source (stop.Number w) = about (codes "P1") (codes "word") w.now
 stop_fields source (stop.Unreadable file) = about (codes "P2") (codes "file") file.now
-stop_fields source (stop.Refused r) = reason_fields r ++ place_fields source (refusal_place r)
+stop_fields source (stop.Refused r) = reason_fields r ++ place_fields source (told_place source r)
 stop_fields source (stop.NotVerified at reason) = unverified_fields at reason.now
 stop_fields source (stop.BadListing at) = named (codes "E15") (codes "BadListing") ++ place_fields source (Some at)
 stop_fields source stop.WriteFailed = named (codes "E17") (codes "WriteFailed")

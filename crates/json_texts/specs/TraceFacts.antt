@@ -1,7 +1,8 @@
 -- What JSON says of the exchanges of a run.
-use Rattle.std.specs.Prelude.{ℕ, ◌+◌, List, [], ◌∷◌, ◌++◌, codes}
+use Rattle.std.specs.Prelude.{ℕ, ◌+◌, ◌-◌, List, [], ◌∷◌, ◌++◌, Option, Some, None, codes}
+use Rattle.std.specs.List.{slice_get}
 use Rattle.serde_json.specs.Data.{Data}
-use Rattle.json_lines.specs.Facts.{Field, count, counts, object_of, word}
+use Rattle.json_lines.specs.Facts.{Field, count, counts, large, object_of, word}
 use Rattle.superstep_machine.specs.Run.{Purpose, Sends, Replies, Votes, Closes}
 use Rattle.superstep_machine.specs.Trace.{Exchange, relation_of}
 use Rattle.write_rules.specs.Verdict.{Verdict, Ended, Faulted, GoesOn}
@@ -19,13 +20,22 @@ exchange_fields k e =
     (codes "exchange", count k) ∷ (codes "for", word (purpose_word e.purpose)) ∷ (codes "sent", counts e.sent)
     ∷ (codes "received", counts e.received) ∷ (codes "h", count (relation_of e)) ∷ []
 
-abbrev pub exchange_facts : ℕ → Exchange → Data
-exchange_facts k e = object_of (exchange_fields k e)
+-- and the line of the statement that it serves, where that is known
+abbrev pub line_fields : Option ℕ → List Field
+line_fields None = []
+line_fields (Some line) = (codes "line", count line) ∷ []
+
+abbrev pub exchange_facts : ℕ → Option ℕ → Exchange → Data
+exchange_facts k line e = object_of (exchange_fields k e ++ line_fields line)
+
+-- the line of exchange k, counted from 1, where there is one
+abbrev pub line_of : (lines : List ℕ) → (k : ℕ) → Option ℕ
+line_of lines k = slice_get lines (k - 1)
 
 -- those of exchanges that are numbered from k on
-abbrev pub exchanges_from : ℕ → List Exchange → List Data
-exchanges_from k [] = []
-exchanges_from k (e ∷ es) = exchange_facts k e ∷ exchanges_from (k + 1) es
+abbrev pub exchanges_from : (lines : List ℕ) → ℕ → List Exchange → List Data
+exchanges_from lines k [] = []
+exchanges_from lines k (e ∷ es) = exchange_facts k (line_of lines k) e ∷ exchanges_from lines (k + 1) es
 
 -- how a run came out
 abbrev pub way : Verdict → List ℕ
@@ -33,9 +43,14 @@ way (Ended output memory) = codes "ended"
 way (Faulted fault output) = codes "fault"
 way (GoesOn output) = codes "goes on"
 
-abbrev pub way_facts : Verdict → Data
-way_facts v = object_of ((codes "outcome", word (way v)) ∷ [])
+-- what its exchanges cost, where that is told
+abbrev pub cost_fields : Option ℕ → List Field
+cost_fields None = []
+cost_fields (Some n) = (codes "cost", large n) ∷ []
+
+abbrev pub way_facts : Verdict → (cost : Option ℕ) → Data
+way_facts v cost = object_of ((codes "outcome", word (way v)) ∷ cost_fields cost)
 
 -- the exchanges of a run, from number 1 on, and behind them how it came out
-abbrev pub trace_facts : List Exchange → Verdict → List Data
-trace_facts es v = exchanges_from 1 es ++ way_facts v ∷ []
+abbrev pub trace_facts : (lines : List ℕ) → (cost : Option ℕ) → List Exchange → Verdict → List Data
+trace_facts lines cost es v = exchanges_from lines 1 es ++ way_facts v cost ∷ []

@@ -1,9 +1,11 @@
 //! One exchange.
 
-ghost use Rattle.std.specs.Prelude.{◌≡◌, ◌≤◌, ◌<◌, IfOk, length};
+ghost use Rattle.std.specs.Prelude.{◌≡◌, ◌≤◌, ◌<◌, IfOk, OnOk, length};
 ghost use Rattle.serde_json.specs.View.{view};
 ghost use Rattle.superstep_machine.specs.Purposes.{purpose_is};
 ghost use Rattle.exchange_counts.specs.CountedExchanges.{exchange_at};
+ghost use Rattle.json_lines.specs.Facts.{with_fields};
+ghost use Rattle.json_lines.specs.Shown.{shown};
 ghost use Rattle.json_texts.specs.TraceFacts as spec;
 
 use exchange_counts::{Counts, Purpose};
@@ -49,20 +51,60 @@ fn received_of(alloc: Global, counts: &Counts, k: usize) -> Result<Vec<u64>, All
     Ok(words)
 }
 
-/// The facts of an exchange, from 1.
-pub(crate) fn exchange_facts(alloc: Global, counts: &Counts, k: usize) -> Result<Value, AllocError>
+// What is so of an exchange, whatever line it serves.
+fn put_exchange(
+    alloc: Global,
+    object: &mut Object,
+    counts: &Counts,
+    k: usize,
+) -> Result<(), AllocError>
     requires first { 1 ≤ k }
     requires last { k ≤ length counts.now }
-    ensures { IfOk result (λ v. view v ≡ spec.exchange_facts k (exchange_at counts.now k)) }
+    ensures { OnOk result (shown object.new ≡ with_fields (spec.exchange_fields k (exchange_at counts.now k)) (shown object.old)) }
 {
     let (purpose, h) = counts.exchange(k);
     let sent = sent_of(alloc, counts, k)?;
     let received = received_of(alloc, counts, k)?;
-    let mut object = Object::new(alloc);
     object.put_count("exchange", k as u64)?;
     object.put_word("for", purpose_word(purpose))?;
     object.put("sent", counts_of(alloc, &sent)?)?;
     object.put("received", counts_of(alloc, &received)?)?;
-    object.put_count("h", h)?;
+    object.put_count("h", h)
+}
+
+fn put_line(object: &mut Object, line: Option<u32>) -> Result<(), AllocError>
+    ensures { OnOk result (shown object.new ≡ with_fields (spec.line_fields line) (shown object.old)) }
+{
+    match line {
+        None => Ok(()),
+        Some(line) => object.put_count("line", u64::from(line)),
+    }
+}
+
+/// The line of exchange k, counted from 1, where there is one.
+pub(crate) fn line_of(lines: &[u32], k: usize) -> Option<u32>
+    requires first { 1 ≤ k }
+    ensures { result ≡ spec.line_of lines.now k }
+{
+    match lines.get(k - 1) {
+        Some(line) => Some(*line),
+        None => None,
+    }
+}
+
+/// The facts of an exchange, from 1, that serves the statement of that line.
+pub(crate) fn exchange_facts(
+    alloc: Global,
+    counts: &Counts,
+    line: Option<u32>,
+    k: usize,
+) -> Result<Value, AllocError>
+    requires first { 1 ≤ k }
+    requires last { k ≤ length counts.now }
+    ensures { IfOk result (λ v. view v ≡ spec.exchange_facts k line (exchange_at counts.now k)) }
+{
+    let mut object = Object::new(alloc);
+    put_exchange(alloc, &mut object, counts, k)?;
+    put_line(&mut object, line)?;
     Ok(object.into_value())
 }

@@ -8,6 +8,7 @@ mod cost;
 mod exchange;
 mod fault;
 mod memory;
+mod message;
 mod outcome;
 mod refusal;
 mod rule;
@@ -18,6 +19,7 @@ mod trace;
 
 pub use accepted::json_accepted;
 pub use cost::json_cost;
+pub use message::json_refusal;
 pub use outcome::json_outcome;
 pub use refusal::{json_stop, json_unverified, out_of_memory_line};
 pub use rules::json_comparison;

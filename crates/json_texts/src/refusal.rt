@@ -8,7 +8,7 @@ ghost use Rattle.program_texts.specs.Stopped as texts;
 ghost use Rattle.json_texts.specs.RefusalFacts as spec;
 
 use json_lines::{Object, line_of};
-use pram_check::{Breach, Cause, Limit, Spot};
+use pram_check::{Cause, Limit, Spot};
 use pram_trees::TextFault;
 use program_texts::{Refusal, Stop};
 use sized_texts::{Reason, reason_word};
@@ -24,16 +24,16 @@ fn put_named(object: &mut Object, number: &str, name: &str) -> Result<(), AllocE
 }
 
 // The offset of a place, its line and its column.
-fn put_offset(object: &mut Object, source: &[u8], offset: u32) -> Result<(), AllocError>
+fn put_offset(object: &mut Object, source: &[u8], offset: usize) -> Result<(), AllocError>
     ensures { OnOk result (shown object.new ≡ with_fields (spec.place_fields source.now (Some offset)) (shown object.old)) }
 {
-    let place = place_of(source, offset as usize);
-    object.put_count("offset", u64::from(offset))?;
+    let place = place_of(source, offset);
+    object.put_count("offset", offset as u64)?;
     object.put_count("line", place.line as u64)?;
     object.put_count("column", place.column as u64)
 }
 
-fn put_place(object: &mut Object, source: &[u8], place: Option<u32>) -> Result<(), AllocError>
+fn put_place(object: &mut Object, source: &[u8], place: Option<usize>) -> Result<(), AllocError>
     ensures { OnOk result (shown object.new ≡ with_fields (spec.place_fields source.now place) (shown object.old)) }
 {
     match place {
@@ -100,34 +100,34 @@ fn put_reason(object: &mut Object, refusal: Refusal) -> Result<(), AllocError>
     }
 }
 
-fn text_place(fault: TextFault) -> Option<u32>
+fn text_place(fault: TextFault) -> Option<usize>
     ensures { result ≡ texts.text_place fault }
 {
     match fault {
         TextFault::NotAscii(at)
         | TextFault::BadToken(at)
         | TextFault::Syntax(at)
-        | TextFault::TooDeep(at) => Some(at),
+        | TextFault::TooDeep(at) => Some(at as usize),
         TextFault::TextTooLong | TextFault::OutOfMemory => None,
     }
 }
 
-fn breach_place(breach: Breach) -> Option<u32>
-    ensures { result ≡ texts.cause_place breach.spot breach.cause }
+fn offset_of(source: &[u8], spot: Spot) -> usize
+    ensures { result ≡ spec.offset_of source.now spot }
 {
-    match (breach.cause, breach.spot) {
-        (Cause::Limit(_), _) | (_, Spot::TextEnd) => None,
-        (_, Spot::Offset(at)) => Some(at),
+    match spot {
+        Spot::Offset(at) => at as usize,
+        Spot::TextEnd => source.len(),
     }
 }
 
-// The offset of a refusal that has one.
-fn offset_of(refusal: Refusal) -> Option<u32>
-    ensures { result ≡ texts.refusal_place refusal }
+// Where a refusal stands that has a place.
+fn told_place(source: &[u8], refusal: Refusal) -> Option<usize>
+    ensures { result ≡ spec.told_place source.now refusal }
 {
     match refusal {
         Refusal::Text(fault) => text_place(fault),
-        Refusal::Program(breach) => breach_place(breach),
+        Refusal::Program(breach) => Some(offset_of(source, breach.spot)),
         Refusal::InputTooLong => None,
         Refusal::BadMap => None,
         Refusal::BadWorkers => None,
@@ -140,7 +140,7 @@ fn put_refusal(object: &mut Object, source: &[u8], refusal: Refusal) -> Result<(
     ensures { OnOk result (shown object.new ≡ with_fields (spec.stop_fields source.now (Stop.Refused refusal)) (shown object.old)) }
 {
     put_reason(object, refusal)?;
-    put_place(object, source, offset_of(refusal))
+    put_place(object, source, told_place(source, refusal))
 }
 
 fn put_unverified(object: &mut Object, at: u32, reason: &str) -> Result<(), AllocError>
@@ -155,7 +155,7 @@ fn put_bad_listing(object: &mut Object, source: &[u8], at: u32) -> Result<(), Al
     ensures { OnOk result (shown object.new ≡ with_fields (spec.stop_fields source.now (Stop.BadListing at)) (shown object.old)) }
 {
     put_named(object, "E15", "BadListing")?;
-    put_offset(object, source, at)
+    put_offset(object, source, at as usize)
 }
 
 fn put_bad_size(
@@ -168,7 +168,7 @@ fn put_bad_size(
 {
     put_named(object, "E19", "BadSize")?;
     object.put_word("reason", reason_word(reason))?;
-    put_offset(object, source, at)
+    put_offset(object, source, at as usize)
 }
 
 // A word of the command line, or a file, that was refused.
@@ -179,7 +179,12 @@ fn put_about(object: &mut Object, number: &str, name: &str, word: &str) -> Resul
     object.put_word(name, word)
 }
 
-fn put_stop(object: &mut Object, source: &[u8], stop: &Stop<'_>) -> Result<(), AllocError>
+/// Why a call stops.
+pub(crate) fn put_stop(
+    object: &mut Object,
+    source: &[u8],
+    stop: &Stop<'_>,
+) -> Result<(), AllocError>
     ensures { OnOk result (shown object.new ≡ with_fields (spec.stop_fields source.now stop.now) (shown object.old)) }
 {
     match stop {

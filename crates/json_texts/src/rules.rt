@@ -50,13 +50,27 @@ fn put_finding(
     }
 }
 
+fn put_declared(object: &mut Object, declared: bool, finding: Finding) -> Result<(), AllocError>
+    ensures { OnOk result (shown object.new ≡ with_fields (spec.declared_fields declared finding) (shown object.old)) }
+{
+    match (declared, finding) {
+        (true, Finding::Same) => object.put("declared", Value::from(true)),
+        (true, Finding::Other) => Ok(()),
+        (true, Finding::Faulted(_)) => Ok(()),
+        (true, Finding::GoesOn) => Ok(()),
+        (false, _) => Ok(()),
+    }
+}
+
 // What is found under a rule.
 fn rule_facts(alloc: Global, comparison: &Comparison, rule: Rule) -> Result<Value, AllocError>
     ensures { IfOk result (λ v. view v ≡ spec.rule_facts comparison.now rule) }
 {
     let mut object = Object::new(alloc);
     object.put_word("rule", rule_name(rule))?;
-    put_finding(alloc, &mut object, &comparison.layout, comparison.of(rule))?;
+    let finding = comparison.of(rule);
+    put_finding(alloc, &mut object, &comparison.layout, finding)?;
+    put_declared(&mut object, comparison.declares(rule), finding)?;
     Ok(object.into_value())
 }
 

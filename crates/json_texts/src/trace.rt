@@ -2,12 +2,14 @@
 
 ghost use Rattle.std.specs.Prelude.{◌≡◌, ◌≤◌, ◌∷◌, [], IfOk, OnOk, length, string_bytes};
 ghost use Rattle.serde_json.specs.View.{view};
+ghost use Rattle.json_lines.specs.Facts.{with_fields};
 ghost use Rattle.json_lines.specs.Lines.{Adds, IsJson};
+ghost use Rattle.json_lines.specs.Shown.{shown};
 ghost use Rattle.write_rules.specs.Verdict.{verdict_of};
 ghost use Rattle.exchange_counts.specs.CountedExchanges.{exchange_at};
 ghost use Rattle.json_texts.specs.TraceFacts as spec;
 
-use crate::exchange::exchange_facts;
+use crate::exchange::{exchange_facts, line_of};
 use exchange_counts::Counts;
 use json_lines::{Object, Value, push_line};
 use std::alloc::{AllocError, Global};
@@ -24,11 +26,21 @@ fn way_of(outcome: &Outcome) -> &'static str
     }
 }
 
-fn way_facts(alloc: Global, outcome: &Outcome) -> Result<Value, AllocError>
-    ensures { IfOk result (λ v. view v ≡ spec.way_facts (verdict_of outcome.now)) }
+fn put_cost(object: &mut Object, cost: Option<u128>) -> Result<(), AllocError>
+    ensures { OnOk result (shown object.new ≡ with_fields (spec.cost_fields cost) (shown object.old)) }
+{
+    match cost {
+        None => Ok(()),
+        Some(cost) => object.put_large("cost", cost),
+    }
+}
+
+fn way_facts(alloc: Global, outcome: &Outcome, cost: Option<u128>) -> Result<Value, AllocError>
+    ensures { IfOk result (λ v. view v ≡ spec.way_facts (verdict_of outcome.now) cost) }
 {
     let mut object = Object::new(alloc);
     object.put_word("outcome", way_of(outcome))?;
+    put_cost(&mut object, cost)?;
     Ok(object.into_value())
 }
 
@@ -37,43 +49,57 @@ fn push_exchange(
     alloc: Global,
     text: &mut String,
     counts: &Counts,
+    line: Option<u32>,
     k: usize,
 ) -> Result<(), AllocError>
     requires first { 1 ≤ k }
     requires last { k ≤ length counts.now }
-    ensures json { OnOk result (Adds (spec.exchange_facts k (exchange_at counts.now k) ∷ [])
+    ensures json { OnOk result (Adds (spec.exchange_facts k line (exchange_at counts.now k) ∷ [])
         (string_bytes text.old) (string_bytes text.new)) }
 {
-    let facts = exchange_facts(alloc, counts, k)?;
+    let facts = exchange_facts(alloc, counts, line, k)?;
     push_line(alloc, text, &facts)
 }
 
 // The lines of the exchanges.
-fn exchanges_text(alloc: Global, counts: &Counts) -> Result<String, AllocError>
-    ensures json { IfOk result (λ text. IsJson (spec.exchanges_from 1 counts.now) (string_bytes text)) }
+fn exchanges_text(alloc: Global, counts: &Counts, lines: &[u32]) -> Result<String, AllocError>
+    ensures json { IfOk result (λ text. IsJson (spec.exchanges_from lines.now 1 counts.now) (string_bytes text)) }
 {
     let mut text = String::new(alloc);
     'exchanges: for i in 0..counts.len() {
-        push_exchange(alloc, &mut text, counts, i + 1)?;
+        push_exchange(alloc, &mut text, counts, line_of(lines, i + 1), i + 1)?;
     }
     Ok(text)
 }
 
 // The line behind them.
-fn push_way(alloc: Global, text: &mut String, outcome: &Outcome) -> Result<(), AllocError>
-    ensures json { OnOk result (Adds (spec.way_facts (verdict_of outcome.now) ∷ []) (string_bytes text.old) (string_bytes text.new)) }
+fn push_way(
+    alloc: Global,
+    text: &mut String,
+    outcome: &Outcome,
+    cost: Option<u128>,
+) -> Result<(), AllocError>
+    ensures json { OnOk result (Adds (spec.way_facts (verdict_of outcome.now) cost ∷ []) (string_bytes text.old) (string_bytes text.new)) }
 {
-    let facts = way_facts(alloc, outcome)?;
+    let facts = way_facts(alloc, outcome, cost)?;
     push_line(alloc, text, &facts)
 }
 
 /// The exchanges of a run, each on a line, as `{"exchange":2,"for":"reply","h":2,"received":[1,2],"sent":[2,1]}`: its number from 1, what
 /// it was for (`send`, `reply`, `vote` or `close`), how many words each worker sent and received, in order of workers, and the greatest
-/// of these. On the last line how the run came out, as `{"outcome":"ended"}`.
-pub fn json_trace(alloc: Global, counts: &Counts, outcome: &Outcome) -> Result<String, AllocError>
-    ensures json { IfOk result (λ text. IsJson (spec.trace_facts counts.now (verdict_of outcome.now)) (string_bytes text)) }
+/// of these; and the `line` of the statement that it serves, where it is known. On the last line how the run came out, as
+/// `{"outcome":"ended"}`, and what its exchanges `cost`, where that is given.
+pub fn json_trace(
+    alloc: Global,
+    counts: &Counts,
+    lines: &[u32],
+    cost: Option<u128>,
+    outcome: &Outcome,
+) -> Result<String, AllocError>
+    ensures json { IfOk result
+        (λ text. IsJson (spec.trace_facts lines.now cost counts.now (verdict_of outcome.now)) (string_bytes text)) }
 {
-    let mut text = exchanges_text(alloc, counts)?;
-    push_way(alloc, &mut text, outcome)?;
+    let mut text = exchanges_text(alloc, counts, lines)?;
+    push_way(alloc, &mut text, outcome, cost)?;
     Ok(text)
 }

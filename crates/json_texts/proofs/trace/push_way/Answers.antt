@@ -4,4 +4,4 @@ use Rattle.json_texts.proofs.ExchangeFacts.{readable_way}
 use Rattle.json_texts.proofs.trace.push_way.Goals as goal
 
 pub push_line-requires : goal.push_line-requires
-push_line-requires c = record { readable = subst IsReadable (sym c.in_ok-facts.ensures) (readable_way _) }
+push_line-requires c = record { readable = subst IsReadable (sym c.in_ok-facts.ensures) (readable_way _ _) }
