@@ -1,10 +1,11 @@
 -- What calls find of programs, of their runs and of listings.
-use Rattle.std.specs.Prelude.{◌≡◌, ◌≤◌, ℕ, ℤ, List, [], length, map, Option, Some, None, ◌+◌, ◌/◌}
+use Rattle.std.specs.Prelude.{◌≡◌, ◌≤◌, ℕ, ℤ, Bool, true, false, List, [], codes, length, map, Option, Some, None, ◌+◌, ◌/◌}
 use Rattle.pram_model.specs.Layout.{SharedEntry, total_size}
 use Rattle.pram_check.specs.Checked.{Checked}
 use Rattle.superstep_machine.specs.Trace.{Exchange}
 use Rattle.bsp_verify.specs.WellFormed.{IsWellFormed}
-use Rattle.write_rules.specs.Verdict.{verdict_of, Verdict}
+use Rattle.superstep_instructions.specs.Code.{SuperstepCode}
+use Rattle.write_rules.specs.Verdict.{verdict_of, Verdict, Ended, Faulted, GoesOn}
 use Rattle.program_texts.specs.Report.{IsMeaningOf, IsProgramOf}
 use Rattle.work_time.specs.declared.cost.Cost.{Cost}
 use Rattle.work_time.specs.Steps.{run_steps}
@@ -13,6 +14,9 @@ use Rattle.work_time.specs.Cost as cost
 use Rattle.exchange_bound.specs.Bound.{exchange_bound}
 use Rattle.rule_comparison.specs.Compared.{IsComparison}
 use Rattle.rule_comparison.specs.declared.comparison.Comparison.{Comparison}
+use Rattle.exchange_lines.specs.Lines.{AreLinesOf}
+use Rattle.program_texts.specs.Shown.{fault_text}
+use Rattle.program_runs.specs.Compiled.{IsCodeOf}
 use Rattle.program_runs.specs.Reserved.{IsCodeRunWith, IsProgramRunWith}
 use Rattle.step_entries.specs.Entries.{entry_is}
 use Rattle.step_journal.specs.Entries.{run_entries}
@@ -70,12 +74,24 @@ IsOpening holds layout (opening.Drawn d) values = values ≡ drawn d.low d.high 
 
 -- ---- runs
 
+-- where they are asked for, the lines of the exchanges of the program's code, whatever the workers and their map
+abbrev pub AreLinesAsked : (asked : Bool) → Checked → List ℤ → (bound : ℕ) → List ℕ → Type 0
+AreLinesAsked false program input bound lines = lines ≡ []
+AreLinesAsked true program input bound lines = (code : SuperstepCode) × IsCodeOf program code × AreLinesOf code input bound lines
+
+-- how a run ends
+abbrev pub ending_text : List SharedEntry → Verdict → List ℕ
+ending_text layout (Ended output memory) = codes "ended"
+ending_text layout (Faulted fault output) = fault_text layout fault
+ending_text layout (GoesOn output) = codes "goes on"
+
 -- What is found beside the verdict of a program's run on an input: of its cost, its statements or its exchanges.
 abbrev pub AreFactsOf : Verb → Checked → List ℤ → RunWords → Verdict → Facts → Type 0
 AreFactsOf verb.Cost program input words v (facts.Cost c) = IsCostOf program input words.options.bound words.costs.schedule c
 AreFactsOf verb.Steps program input words v (facts.Steps entries) = map entry_is entries.items ≡ run_entries program input words.options.bound
-AreFactsOf verb.Trace program input words v (facts.Exchanges exchanges) =
-    IsProgramRunWith program input words.options words.reserve v exchanges
+AreFactsOf verb.Trace program input words v (facts.Exchanges t) =
+    IsProgramRunWith program input words.options words.reserve v t.counts
+    × AreLinesAsked words.trace.lines program input words.options.bound t.lines.items × (t.ends.items ≡ ending_text program.layout v)
 AreFactsOf verb.Run program input words v facts.Nothing =
     (exchanges : List Exchange) × IsProgramRunWith program input words.options words.reserve v exchanges
 AreFactsOf verb.Meaning program input words v facts.Nothing = Unit {0}

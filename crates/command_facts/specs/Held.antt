@@ -19,6 +19,7 @@ use Rattle.program_texts.specs.declared.stop.Stop.{Stop}
 use Rattle.program_texts.specs.declared.stop.Stop.TheVariants as stop
 use Rattle.diagnoses.specs.declared.about.About.{About}
 use Rattle.diagnoses.specs.declared.about.About.TheVariants as about
+use Rattle.diagnoses.specs.declared.about.Unread.TheVariants as unread
 use Rattle.command_facts.specs.declared.halted.Halted.{Halted}
 use Rattle.diagnoses.specs.Sources.{text_in}
 use Rattle.command_requests.specs.declared.request.ProgramFile.{ProgramFile}
@@ -45,6 +46,11 @@ IsListingIn holds code = (text : List ℕ) × holds (Some text) × IsListing tex
 abbrev pub IsNoFile : (Option (List ℕ) → Type 0) → List ℕ → Stop → Type 0
 IsNoFile holds name (stop.Unreadable word) = (word.now ≡ name) × holds None
 IsNoFile holds name _ = ⊥
+
+-- there is no file of the name; and one that is spelled nearly so, or none
+abbrev pub IsOfMissing : About → Type 0
+IsOfMissing (about.File (unread.Missing found)) = Unit {0}
+IsOfMissing _ = ⊥
 
 -- That is so, with a reason, of which nothing is known here; or memory was refused.
 abbrev pub IsUnread : (Option (List ℕ) → Type 0) → List ℕ → Stop → About → Type 0

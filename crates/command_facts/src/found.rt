@@ -24,7 +24,17 @@ pub enum Facts {
     /// What is told of its statements.
     Steps(Vec<Entry>),
     /// Its exchanges.
-    Exchanges(Counts),
+    Exchanges(FoundTrace),
+}
+
+/// The exchanges of a run.
+#[derive(Drop)]
+pub struct FoundTrace {
+    pub counts: Counts,
+    /// The line of the statement that each serves, where that is asked for.
+    pub lines: Vec<u32>,
+    /// How the run ends: `ended`, `goes on`, or its fault.
+    pub ends: Vec<u8>,
 }
 
 /// A run of a program: the program with its text, the input's values, how it was asked for, its outcome, and what is found beside that.

@@ -1,6 +1,7 @@
 //! What a call of the program finds in its files, and of their programs' runs, before anything is written of it.
 #![tactic(auto)]
 
+mod ends;
 mod finding;
 mod found;
 mod halted;
@@ -10,9 +11,10 @@ mod opening;
 mod running;
 mod status;
 mod sweeping;
+mod tracing;
 
 pub use finding::find;
-pub use found::{Facts, Found, FoundCode, FoundRun, FoundSweep};
+pub use found::{Facts, Found, FoundCode, FoundRun, FoundSweep, FoundTrace};
 pub use halted::Halted;
 pub use loaded::Loaded;
 pub use status::status_of;

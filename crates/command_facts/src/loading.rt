@@ -10,7 +10,7 @@ ghost use Rattle.system_files.specs.Files.{IsReadFrom, IsSame};
 ghost use Rattle.program_texts.specs.declared.stop.Stop.TheVariants.{Unreadable};
 ghost use Rattle.diagnoses.specs.declared.about.About.TheVariants.{File};
 ghost use Rattle.command_facts.specs.Found.{IsLoaded};
-ghost use Rattle.command_facts.specs.Held.{IsListingIn, IsOfCodeIn, IsTextIn, IsUnread, StopsAtListing, StopsAtProgram, StopsAtText};
+ghost use Rattle.command_facts.specs.Held.{IsOfMissing, IsListingIn, IsOfCodeIn, IsTextIn, IsUnread, StopsAtListing, StopsAtProgram, StopsAtText};
 ghost use Rattle.command_facts.specs.Listings.{IsOfListing, line_of_instruction};
 ghost use Rattle.command_facts.specs.Listings.{reason_word as spec_reason_word};
 
@@ -20,6 +20,7 @@ use bsp_verify::{Reason, Verified, VerifyFault, verify};
 use command_requests::ProgramFile;
 use command_sizes::{expanded, sizes_of};
 use diagnoses::{About, Kind, Source, Unread};
+use near_names::nearest_name;
 use pram_tokens::LONGEST;
 use pram_trees::TextFault;
 use program_texts::{Refusal, Stop, read_program};
@@ -38,6 +39,29 @@ fn no_file<'a>(name: &'a str, why: Unread) -> Halted<'a>
     }
 }
 
+// The name of a file beside one that is not there, if one is spelled nearly so.
+fn near<S: Sources>(alloc: Global, sources: &mut S, name: &str) -> Option<Vec<u8>>
+    ensures same { IsSame (S.Sources.holds sources.new) (S.Sources.holds sources.old) }
+{
+    match sources.beside(alloc, name) {
+        Ok(beside) => match nearest_name(alloc, &beside.others, &beside.name) {
+            Ok(found) => found,
+            Err(_) => None,
+        },
+        Err(_) => None,
+    }
+}
+
+// There is no file of this name.
+fn missing<'a, S: Sources>(alloc: Global, sources: &mut S, name: &'a str) -> Halted<'a>
+    ensures stop { result.stop ≡ Unreadable name.entry }
+    ensures about { IsOfMissing result.about }
+    ensures same { IsSame (S.Sources.holds sources.new) (S.Sources.holds sources.old) }
+{
+    let found = near(alloc, sources, name);
+    no_file(name, Unread::Missing(found))
+}
+
 /// The bytes of a file, up to one more than the most that its text may have.
 pub(crate) fn load<'a, S: Sources>(
     alloc: Global,
@@ -51,7 +75,7 @@ pub(crate) fn load<'a, S: Sources>(
 {
     match sources.read(alloc, name, most) {
         Ok(bytes) => Ok(bytes),
-        Err(SourceFault::Missing) => Err(no_file(name, Unread::Missing)),
+        Err(SourceFault::Missing) => Err(missing(alloc, sources, name)),
         Err(SourceFault::Directory) => Err(no_file(name, Unread::Directory)),
         Err(SourceFault::Unreadable) => Err(no_file(name, Unread::Other)),
         Err(SourceFault::OutOfMemory) => Err(Halted::from(Stop::Refused(Refusal::OutOfMemory))),

@@ -8,6 +8,7 @@ ghost use Rattle.command_facts.specs.Found as spec;
 ghost use Rattle.command_facts.specs.Refused as refused;
 
 use crate::found::Facts;
+use crate::tracing::trace_of;
 use command_requests::{CostWords, RunWords, Verb};
 use exchange_counts::Counts;
 use pram_check::Program;
@@ -94,6 +95,23 @@ fn by_workers<R: Threads + Wait + Sync>(
     run_program(rt, alloc, program, input, options, reserve, &OpenGate)
 }
 
+// The outcome by workers, and what is told of the exchanges.
+fn trace<R: Threads + Wait + Sync>(
+    rt: &R,
+    alloc: Global,
+    program: &Program,
+    input: &[i64],
+    words: RunWords<'_>,
+) -> Result<(Outcome, Facts), Refusal>
+    ensures meaning { IfOk result (λ f. IsMeaningOf program.now input.now words.entry.options.bound (verdict_of f.0)) }
+    ensures facts { IfOk result (λ f. spec.AreFactsOf Verb.Trace program.now input.now words.entry (verdict_of f.0) f.1) }
+    ensures stopped { IfErr result (refused.IsRunRefusedBy Verb.Trace program.now input.now words.entry) }
+{
+    let (outcome, counts) = by_workers(rt, alloc, program, input, words)?;
+    let told = trace_of(alloc, program, input, words, &outcome, counts)?;
+    Ok((outcome, Facts::Exchanges(told)))
+}
+
 /// The outcome of a program, and what the call asks for beside it.
 pub(crate) fn facts_of<R: Threads + Wait + Sync>(
     rt: &R,
@@ -114,10 +132,7 @@ pub(crate) fn facts_of<R: Threads + Wait + Sync>(
             let (outcome, _counts) = by_workers(rt, alloc, program, input, words)?;
             Ok((outcome, Facts::Nothing))
         }
-        Verb::Trace => {
-            let (outcome, counts) = by_workers(rt, alloc, program, input, words)?;
-            Ok((outcome, Facts::Exchanges(counts)))
-        }
+        Verb::Trace => trace(rt, alloc, program, input, words),
         Verb::Meaning | Verb::Check | Verb::Plan | Verb::Rules | Verb::Expand => {
             mean(alloc, program, input, words)
         }

@@ -15,6 +15,7 @@ ghost use Rattle.command_requests.specs.declared.opening.Opening.TheVariants.{In
 ghost use Rattle.command_requests.specs.declared.request.SizeWord.{SizeWord as SizeWordOf};
 ghost use Rattle.command_facts.specs.Sweeps as spec;
 
+use crate::ends::text_of_fault;
 use crate::finding::find_run;
 use crate::found::{Facts, FoundRun, FoundSweep};
 use crate::halted::Halted;
@@ -23,7 +24,7 @@ use command_requests::{Opening, ProgramFile, RunWords, SizeWord, SweepWords, Ver
 use command_sizes::sizes_of;
 use diagnoses::write_refused_line;
 use pram_trees::Layout;
-use program_texts::{Refusal, Stop, write_fault_text};
+use program_texts::{Refusal, Stop};
 use sized_texts::{SizeFault, Sweep, fill, read_sweep};
 use std::alloc::{AllocError, Global};
 use std::str;
@@ -62,17 +63,6 @@ fn counts_of(cost: &Cost) -> Counts
         reads: cost.reads,
         writes: cost.writes,
         most_exchanges: cost.most_exchanges,
-    }
-}
-
-// The text of a fault.
-fn text_of_fault(alloc: Global, layout: &Layout, fault: &Fault) -> Result<Vec<u8>, AllocError>
-    ensures { IfOk result (λ text. text.items ≡ fault_text layout.now fault.now) }
-{
-    let mut text = Buffer::new(alloc);
-    match write_fault_text(&mut text, layout, fault) {
-        Ok(()) => Vec::from_slice(alloc, text.bytes()),
-        Err(_) => Err(AllocError),
     }
 }
 

@@ -1,5 +1,7 @@
 -- The facts by which what was found is told as JSON.
-use Rattle.std.specs.Prelude.{◌≡◌, ◌⊎◌, ℕ, List, [], ◌∷◌, Result, Ok, Err, codes, map}
+use Rattle.std.specs.Prelude.{◌≡◌, ◌⊎◌, ℕ, List, [], ◌∷◌, Option, Some, None, Result, Ok, Err, codes, map}
+use Rattle.superstep_machine.specs.Trace.{Exchange}
+use Rattle.tracer.specs.Cost.{bsp_cost, in_128_bits}
 use Rattle.serde_json.specs.Data.{Data}
 use Rattle.json_lines.specs.Lines.{IsJson}
 use Rattle.text_out.specs.Out.{OutState, StopsIn, with_bytes}
@@ -24,6 +26,11 @@ use Rattle.json_texts.specs.StepFacts.{steps_facts}
 use Rattle.json_texts.specs.SweepFacts.{sweep_facts}
 use Rattle.json_texts.specs.TraceFacts.{trace_facts}
 
+-- what exchanges cost, where that is asked for and a number of 128 bits
+abbrev pub cost_asked : Option (ℕ × ℕ) → List Exchange → Option ℕ
+cost_asked None es = None
+cost_asked (Some rates) es = in_128_bits (bsp_cost rates.0 rates.1 es)
+
 -- a run of a program: its outcome, what it costs, its statements between the numbers that are asked for, or its exchanges
 abbrev pub run_facts : FoundRun → Facts → List Data
 run_facts r facts.Nothing = chosen_facts r.words.shown r.loaded.program.layout (verdict_of r.outcome) ∷ []
@@ -32,7 +39,8 @@ run_facts r (facts.Cost c) =
 run_facts r (facts.Steps entries) =
     steps_facts r.loaded.program.layout r.loaded.program.tree (verdict_of r.outcome) (map entry_is entries.items) r.words.steps.from
     r.words.steps.to
-run_facts r (facts.Exchanges exchanges) = trace_facts exchanges (verdict_of r.outcome)
+run_facts r (facts.Exchanges t) =
+    trace_facts t.lines.items (cost_asked r.words.trace.rates t.counts) t.counts (verdict_of r.outcome)
 
 -- a run of a listing: its outcome
 abbrev pub code_facts : FoundCode → Data

@@ -1,6 +1,7 @@
 //! How the program answers a request in JSON.
 
-ghost use Rattle.std.specs.Prelude.{◌<◌, ◌^◌};
+ghost use Rattle.std.specs.Prelude.{◌<◌, ◌^◌, map};
+ghost use Rattle.std.specs.String.{string_bytes};
 ghost use Rattle.command_json.specs.Left.{LeavesFound, LeavesJson};
 
 use crate::reporting::report;
@@ -15,15 +16,22 @@ use system_files::Sources;
 use text_out::Out;
 
 // What was found is told.
-fn tell<O: Out, E: Out>(alloc: Global, found: &Found<'_>, out: &mut O, err: &mut E) -> Status
+fn tell<O: Out, E: Out>(
+    alloc: Global,
+    words: &[String],
+    found: &Found<'_>,
+    out: &mut O,
+    err: &mut E,
+) -> Status
     requires out { (O.Out.state out.old).failures < 2 ^ 62 }
     requires err { (E.Out.state err.old).failures < 2 ^ 62 }
-    ensures leaves { LeavesFound found.now (O.Out.state out.old) (O.Out.state out.new) (E.Out.state err.old) (E.Out.state err.new) result }
+    ensures leaves { LeavesFound (map string_bytes words.now) found.now (O.Out.state out.old) (O.Out.state out.new)
+        (E.Out.state err.old) (E.Out.state err.new) result }
 {
     match write_found(alloc, found, out) {
         Ok(status) => status,
         Err(stop) => {
-            report(alloc, err, &Halted::from(stop));
+            report(alloc, err, words, &Halted::from(stop));
             Status::Refused
         }
     }
@@ -34,47 +42,49 @@ fn answer_request<R: Threads + Wait + Sync, S: Sources, O: Out, E: Out>(
     rt: &R,
     alloc: Global,
     request: Request<'_>,
+    words: &[String],
     sources: &mut S,
     out: &mut O,
     err: &mut E,
 ) -> Status
     requires out { (O.Out.state out.old).failures < 2 ^ 62 }
     requires err { (E.Out.state err.old).failures < 2 ^ 62 }
-    ensures leaves { LeavesJson (S.Sources.holds sources.old) (Ok request.entry)
+    ensures leaves { LeavesJson (S.Sources.holds sources.old) (map string_bytes words.now) (Ok request.entry)
         (O.Out.state out.old) (O.Out.state out.new) (E.Out.state err.old) (E.Out.state err.new) result }
 {
     match find(rt, alloc, request, sources) {
-        Ok(found) => tell(alloc, &found, out, err),
+        Ok(found) => tell(alloc, words, &found, out, err),
         Err(halted) => {
-            report(alloc, err, &halted);
+            report(alloc, err, words, &halted);
             Status::Refused
         }
     }
 }
 
-/// Answers a request in JSON, or says why the words of a call are none, and answers the exit status.
+/// Answers the request of a call of these words in JSON, or says why they are none, and answers the exit status.
 ///
 /// `check`, `meaning`, `cost`, `rules`, `run` and `exec` write one object; `steps` and `trace` an object a line, and on the last line how the run
-/// came out. What is refused is one object on `err`, and there nothing else is written: what [`find`](command_facts::find) refuses, E17
+/// came out. What is refused is one object on `err`, with what there is to say of it, and there nothing else is written: what [`find`](command_facts::find) refuses, E17
 /// where standard output failed, and E16 where memory was refused. `expand`, `plan`, `explain` and the version are not told as JSON
 /// (P1).
 pub fn answer_in_json<'a, R: Threads + Wait + Sync, S: Sources, O: Out, E: Out>(
     rt: &R,
     alloc: Global,
     asked: Result<Request<'a>, Stop<'a>>,
+    words: &[String],
     sources: &mut S,
     out: &mut O,
     err: &mut E,
 ) -> Status
     requires out { (O.Out.state out.old).failures < 2 ^ 62 }
     requires err { (E.Out.state err.old).failures < 2 ^ 62 }
-    ensures leaves { LeavesJson (S.Sources.holds sources.old) asked.entry
+    ensures leaves { LeavesJson (S.Sources.holds sources.old) (map string_bytes words.now) asked.entry
         (O.Out.state out.old) (O.Out.state out.new) (E.Out.state err.old) (E.Out.state err.new) result }
 {
     match asked {
-        Ok(request) => answer_request(rt, alloc, request, sources, out, err),
+        Ok(request) => answer_request(rt, alloc, request, words, sources, out, err),
         Err(stop) => {
-            report(alloc, err, &Halted::from(stop));
+            report(alloc, err, words, &Halted::from(stop));
             Status::Refused
         }
     }

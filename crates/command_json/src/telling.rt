@@ -1,22 +1,51 @@
 //! What was found, told on standard output.
 
-ghost use Rattle.std.specs.Prelude.{◌<◌, ◌^◌, ◌∷◌, [], IfOk, IfErr};
+ghost use Rattle.std.specs.Prelude.{◌≡◌, ◌<◌, ◌^◌, ◌∷◌, [], IfOk, IfErr};
 ghost use Rattle.std.specs.String.{string_bytes};
 ghost use Rattle.json_lines.specs.Lines.{IsJson};
 ghost use Rattle.json_texts.specs.SweepFacts.{sweep_facts};
+ghost use Rattle.json_texts.specs.TraceFacts.{trace_facts};
+ghost use Rattle.write_rules.specs.Verdict.{verdict_of};
 ghost use Rattle.command_json.specs.Facts as spec;
 
 use crate::writing::write_json;
-use command_facts::{Facts, Found, FoundCode, FoundRun, FoundSweep, status_of};
+use command_facts::{Facts, Found, FoundCode, FoundRun, FoundSweep, FoundTrace, status_of};
+use exchange_counts::Counts;
 use json_texts::{
     json_accepted, json_comparison, json_cost, json_outcome, json_steps, json_sweep, json_trace,
 };
 use program_texts::{Status, Stop};
 use std::alloc::{AllocError, Global};
 use text_out::Out;
+use tracer::{Rates, bsp_cost};
+use write_rules::Outcome;
 
 /// The word that a call is refused for which isn't told as JSON.
 const JSON: &str = "json";
+
+// What exchanges cost, where that is asked for.
+fn cost_of(counts: &Counts, rates: Option<(u32, u32)>) -> Option<u128>
+    ensures { result ≡ spec.cost_asked rates counts.now }
+{
+    match rates {
+        None => None,
+        Some((word, start)) => bsp_cost(counts, Rates { word, start }),
+    }
+}
+
+// The exchanges of a run.
+fn trace_text(
+    alloc: Global,
+    found: &FoundTrace,
+    rates: Option<(u32, u32)>,
+    outcome: &Outcome,
+) -> Result<String, AllocError>
+    ensures told { IfOk result (λ text. IsJson (trace_facts found.now.lines.items (spec.cost_asked rates found.now.counts)
+        found.now.counts (verdict_of outcome.now)) (string_bytes text)) }
+{
+    let cost = cost_of(&found.counts, rates);
+    json_trace(alloc, &found.counts, &found.lines, cost, outcome)
+}
 
 // A run of a program.
 fn run_text(alloc: Global, run: &FoundRun<'_>) -> Result<String, AllocError>
@@ -27,7 +56,7 @@ fn run_text(alloc: Global, run: &FoundRun<'_>) -> Result<String, AllocError>
     let words = &run.words;
     match &run.facts {
         Facts::Nothing => json_outcome(alloc, layout, outcome, words.shown),
-        Facts::Exchanges(counts) => json_trace(alloc, counts, outcome),
+        Facts::Exchanges(found) => trace_text(alloc, found, run.words.trace.rates, outcome),
         Facts::Cost(cost) => {
             let (schedule, lines) = (words.costs.schedule, words.costs.lines);
             json_cost(alloc, layout, outcome, cost, schedule, lines)

@@ -5,7 +5,7 @@ ghost use Rattle.std.specs.String.{string_bytes};
 ghost use Rattle.command_line.specs.Command as spec;
 
 use command_json::answer_in_json;
-use command_requests::{Reader, asks_for_json, asks_to_explain};
+use command_requests::{Reader, asks_for_gnu, asks_for_json, asks_to_explain};
 use command_text::{Terminal, answer};
 use program_texts::Status;
 use std::alloc::Global;
@@ -14,12 +14,14 @@ use std::thread::Threads;
 use system_files::Sources;
 use text_out::Out;
 
-// The streams of the call, of which standard error has explanations where it is a terminal or a word asks for them.
+// The streams of the call, of which standard error has explanations where it is a terminal or a word asks for them, and the lines of editors
+// where words ask for these.
 fn explaining(terminal: Terminal, words: &[String]) -> Terminal
     ensures { result ≡ spec.explaining terminal (map string_bytes words.now) }
 {
     Terminal {
         errors: terminal.errors || asks_to_explain(words),
+        gnu: asks_for_gnu(words),
         output: terminal.output,
         colours: terminal.colours,
     }
@@ -30,7 +32,8 @@ fn explaining(terminal: Terminal, words: &[String]) -> Terminal
 /// What the words ask for is said by their reader, and whether in JSON by
 /// [`asks_for_json`](command_requests::asks_for_json); what is done then by [`answer`](command_text::answer) and
 /// [`answer_in_json`](command_json::answer_in_json). In words a refusal and a fault are explained where standard error is a terminal or one
-/// of the words is `--explain`.
+/// of the words is `--explain`; and a refusal is told in the lines that editors read where
+/// [`asks_for_gnu`](command_requests::asks_for_gnu) says so.
 pub fn command<R: Threads + Wait + Sync, W: Reader, S: Sources, O: Out, E: Out>(
     rt: &R,
     alloc: Global,
@@ -48,7 +51,7 @@ pub fn command<R: Threads + Wait + Sync, W: Reader, S: Sources, O: Out, E: Out>(
 {
     let asked = reader.read(alloc, words);
     if asks_for_json(words) {
-        answer_in_json(rt, alloc, asked, sources, out, err)
+        answer_in_json(rt, alloc, asked, words, sources, out, err)
     } else {
         let on = explaining(terminal, words);
         answer(rt, alloc, asked, words, on, sources, out, err)

@@ -17,6 +17,7 @@ fn terminal(rt: &HostRuntime) -> Terminal {
     };
     Terminal {
         errors: rt.stderr().is_terminal(),
+        gnu: false,
         output: rt.stdout().is_terminal(),
         colours,
     }

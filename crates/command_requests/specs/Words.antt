@@ -1,4 +1,4 @@
--- Which words ask for the version, for an explanation and for JSON, and why a command line is refused.
+-- Which words ask for the version, for an explanation, for JSON and for the lines of editors, and why a command line is refused.
 use Rattle.std.specs.Prelude.{◌≡◌, ◌⊎◌, ℕ, Bool, false, ◌||◌, ◌&&◌, List, [], ◌∷◌, codes}
 use Rattle.std.specs.List.{list_any}
 use Rattle.pram_model.specs.Names.{same_text}
@@ -19,15 +19,23 @@ AsksForVersion (word ∷ other ∷ words) = ⊥
 abbrev pub asks_to_explain : List (List ℕ) → Bool
 asks_to_explain words = list_any (same_text (codes "--explain")) words
 
-abbrev pub begins_with_json : List (List ℕ) → Bool
-begins_with_json [] = false
-begins_with_json (word ∷ words) = same_text (codes "json") word
+abbrev pub begins_with : (name : List ℕ) → List (List ℕ) → Bool
+begins_with name [] = false
+begins_with name (word ∷ words) = same_text name word
+
+-- the name of a format stands behind `--format`, or one of the words is both
+abbrev pub asks_for : (name both : List ℕ) → List (List ℕ) → Bool
+asks_for name both [] = false
+asks_for name both (word ∷ words) =
+    same_text both word || ((same_text (codes "--format") word && begins_with name words) || asks_for name both words)
 
 -- `json` stands behind `--format`, or one of the words is `--format=json`
 abbrev pub asks_for_json : List (List ℕ) → Bool
-asks_for_json [] = false
-asks_for_json (word ∷ words) =
-    same_text (codes "--format=json") word || ((same_text (codes "--format") word && begins_with_json words) || asks_for_json words)
+asks_for_json = asks_for (codes "json") (codes "--format=json")
+
+-- `gnu` stands behind `--format`, or one of the words is `--format=gnu`
+abbrev pub asks_for_gnu : List (List ℕ) → Bool
+asks_for_gnu = asks_for (codes "gnu") (codes "--format=gnu")
 
 -- in the words of the parser of command lines, by the word that is wrong, or for want of memory
 abbrev pub IsOfWords : Stop → Type 0

@@ -1,4 +1,4 @@
-//! What a call of the program may ask for, and which words ask for the version, for explanations and for JSON.
+//! What a call of the program may ask for, and which words ask for the version, for explanations, for JSON and for the lines of editors.
 #![tactic(auto)]
 
 mod cost_words;
@@ -16,7 +16,7 @@ mod version;
 pub use cost_words::CostWords;
 pub use explain_word::asks_to_explain;
 pub use form::Form;
-pub use format_word::asks_for_json;
+pub use format_word::{asks_for_gnu, asks_for_json};
 pub use opening::Opening;
 pub use reader::Reader;
 pub use request::{ProgramFile, Request, RunWords, SizeWord, SweepWords, Verb};

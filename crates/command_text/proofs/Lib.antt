@@ -1,3 +1,5 @@
+pub mod PageParts
 pub mod Reporting
 pub mod Room
 pub mod StepsWritten
+pub mod TracesWritten

@@ -7,15 +7,13 @@ use Rattle.program_texts.specs.declared.from_text.Refusal.TheVariants as refusal
 use Rattle.program_texts.specs.declared.status.Status.{Status}
 use Rattle.program_texts.specs.declared.stop.Stop.{Stop}
 use Rattle.program_texts.specs.declared.stop.Stop.TheVariants as stop
-use Rattle.diagnoses.specs.Sources.{text_in}
 use Rattle.command_requests.specs.declared.form.Form.{Form}
 use Rattle.command_requests.specs.declared.form.Form.TheVariants as form
 use Rattle.command_facts.specs.declared.found.FoundRun.{FoundRun}
 use Rattle.command_facts.specs.Written.{Wrote, WroteSome}
 use Rattle.command_facts.proofs.Writing.{wrote_some}
 use Rattle.command_text.specs.declared.terminal.Terminal.{Terminal}
-use Rattle.command_text.specs.Steps.{IsPage}
-use Rattle.command_text.specs.Texts.{AreStepsText, IsAPage, IsInWords, flow_text, picture_text}
+use Rattle.command_text.specs.Texts.{AreStepsText, IsFlow, IsInWords, IsPageOf, TakesMemory, picture_text}
 
 -- what was written of one kind is of another
 pub wrote_of : (ends : Status) (Needs Wants : Type 0) (Is To : List ℕ → Type 0) (old new : OutState) (r : Result Status Stop) →
@@ -31,26 +29,24 @@ module _ (on : Terminal) (run : FoundRun) (entries : List Entry) (f : Form) (end
 
   -- drawn
   pub wrote_picture : f ≡ form.Picture → Wrote ends (picture_text run entries) old new r →
-      WroteSome ends (IsAPage f) (AreStepsText f on run entries) old new r
-  wrote_picture asked w = wrote_some ends (IsAPage f) (AreStepsText f on run entries) (picture_text run entries) old new r
+      WroteSome ends (TakesMemory f) (AreStepsText f on run entries) old new r
+  wrote_picture asked w = wrote_some ends (TakesMemory f) (AreStepsText f on run entries) (picture_text run entries) old new r
       (as_asked (picture_text run entries) form.Picture asked refl) w
 
   -- the flow of data
-  pub wrote_flow : f ≡ form.Flow → Wrote ends (flow_text run entries) old new r →
-      WroteSome ends (IsAPage f) (AreStepsText f on run entries) old new r
-  wrote_flow asked w = wrote_some ends (IsAPage f) (AreStepsText f on run entries) (flow_text run entries) old new r
-      (as_asked (flow_text run entries) form.Flow asked refl) w
+  pub wrote_flow : f ≡ form.Flow → WroteSome ends (Unit {0}) (IsFlow run entries) old new r →
+      WroteSome ends (TakesMemory f) (AreStepsText f on run entries) old new r
+  wrote_flow asked w = wrote_of ends (Unit {0}) (TakesMemory f) (IsFlow run entries) (AreStepsText f on run entries) old new r
+      (λ _. inr asked) (λ text is. as_asked text form.Flow asked is) w
 
   -- as a page
-  pub wrote_page : f ≡ form.Page → WroteSome ends (Unit {0})
-      (IsPage (text_in run.loaded.source) run.loaded.program run.input.items run.outcome entries) old new r →
-      WroteSome ends (IsAPage f) (AreStepsText f on run entries) old new r
-  wrote_page asked w = wrote_of ends (Unit {0}) (IsAPage f)
-      (IsPage (text_in run.loaded.source) run.loaded.program run.input.items run.outcome entries) (AreStepsText f on run entries)
-      old new r (λ _. asked) (λ text is. as_asked text form.Page asked is) w
+  pub wrote_page : f ≡ form.Page → WroteSome ends (Unit {0}) (IsPageOf run entries) old new r →
+      WroteSome ends (TakesMemory f) (AreStepsText f on run entries) old new r
+  wrote_page asked w = wrote_of ends (Unit {0}) (TakesMemory f) (IsPageOf run entries) (AreStepsText f on run entries) old new r
+      (λ _. inl asked) (λ text is. as_asked text form.Page asked is) w
 
   -- in words
   pub wrote_words : f ≡ form.Words → ((text : List ℕ) × IsInWords on run entries text × Wrote ends text old new r) →
-      WroteSome ends (IsAPage f) (AreStepsText f on run entries) old new r
-  wrote_words asked w = wrote_some ends (IsAPage f) (AreStepsText f on run entries) w.0 old new r
+      WroteSome ends (TakesMemory f) (AreStepsText f on run entries) old new r
+  wrote_words asked w = wrote_some ends (TakesMemory f) (AreStepsText f on run entries) w.0 old new r
       (as_asked w.0 form.Words asked w.1) w.2

@@ -9,8 +9,8 @@ use Rattle.diagnoses.specs.declared.about.About.{About}
 use Rattle.diagnoses.specs.FaultTexts.{fault_diagnosis, fault_sentence}
 use Rattle.diagnoses.specs.Reasons.{Reason, run_reason, unknown}
 use Rattle.diagnoses.specs.RefusedLines.{stop_line}
-use Rattle.diagnoses.specs.Remarks.{Remark}
-use Rattle.diagnoses.specs.Stops.{HasRemark, stop_diagnosis}
+use Rattle.diagnoses.specs.Stops.{IsSaid}
+use Rattle.command_messages.specs.Editors.{IsForEditors}
 use Rattle.command_facts.specs.declared.found.Found.{Found}
 use Rattle.command_facts.specs.declared.found.Found.TheVariants as found
 use Rattle.command_facts.specs.declared.found.FoundCode.{FoundCode}
@@ -19,6 +19,7 @@ use Rattle.command_facts.specs.Written.{IsReported}
 use Rattle.word_faults.specs.Sentences.{word_fault}
 use Rattle.word_faults.specs.Values.{IsWrong}
 use Rattle.word_faults.specs.declared.given.Given.{Given}
+use Rattle.command_text.specs.declared.terminal.Terminal.{Terminal}
 
 -- ---- refusals
 
@@ -27,23 +28,26 @@ abbrev pub IsWrongOf : (words : List (List ℕ)) → Stop → Option Given → T
 IsWrongOf words (stop.Number word) wrong = IsWrong words word.now wrong
 IsWrongOf words _ wrong = wrong ≡ None
 
--- what is said behind the line: of such a word by that option, and of anything else by what is known besides
-abbrev pub said_behind : Stop → About → Remark → Option Given → List ℕ
-said_behind (stop.Number word) a r wrong = word_fault wrong word.now
-said_behind why a r wrong = stop_diagnosis why a r
+-- what is said behind the line of a refusal: of such a word by that option, and of anything else by what is known besides
+abbrev pub IsSaidBehind : (words : List (List ℕ)) → Stop → About → List ℕ → Type 0
+IsSaidBehind words (stop.Number word) a text = (wrong : Option Given) × IsWrong words word.now wrong × (text ≡ word_fault wrong word.now)
+IsSaidBehind words why a text = IsSaid why a text
 
 -- the line of a refusal, with its offset in the file, and where it is asked for what is said behind it
-abbrev pub refusal_text : Bool → Stop → About → Remark → Option Given → List ℕ
-refusal_text false why a r wrong = stop_line why a
-refusal_text true why a r wrong = stop_line why a ++ said_behind why a r wrong
+abbrev pub IsInWords : (explains : Bool) → (words : List (List ℕ)) → Stop → About → List ℕ → Type 0
+IsInWords false words why a text = text ≡ stop_line why a
+IsInWords true words why a text = (said : List ℕ) × IsSaidBehind words why a said × (text ≡ stop_line why a ++ said)
 
--- That stands on standard error, as far as it takes it. The words are those of the call.
-pub record IsRefusalReported (explains : Bool) (words : List (List ℕ)) (why : Stop) (a : About) (old new : OutState) : Type 0 where
-  pub remark : Remark
-  pub said : HasRemark why a remark
-  pub wrong : Option Given
-  pub found : IsWrongOf words why wrong
-  pub reported : IsReported old new (refusal_text explains why a remark wrong)
+-- that, or the lines that editors read
+abbrev pub IsTold : (gnu explains : Bool) → (words : List (List ℕ)) → Stop → About → List ℕ → Type 0
+IsTold true explains words why a text = IsForEditors words why a text
+IsTold false explains words why a text = IsInWords explains words why a text
+
+-- It stands on standard error, as far as that takes it. The words are those of the call.
+pub record IsRefusalReported (on : Terminal) (words : List (List ℕ)) (why : Stop) (a : About) (old new : OutState) : Type 0 where
+  pub text : List ℕ
+  pub told : IsTold on.gnu on.errors words why a text
+  pub reported : IsReported old new text
 
 -- ---- faults
 

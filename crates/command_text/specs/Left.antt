@@ -20,7 +20,7 @@ pub data LeavesFound (on : Terminal) (words : List (List ℕ)) (found : Found) (
   Told : (text : List ℕ) → IsTextOf on found text → out_new ≡ with_bytes out text → IsExplained on.errors found err err_new
       → LeavesFound on words found out out_new err err_new (status_of_found found)
   CutOff : (why : Stop) → WroteSome (status_of_found found) (NeedsMemory found) (IsTextOf on found) out out_new (Err why)
-      → IsRefusalReported on.errors words why about.Nothing err err_new → LeavesFound on words found out out_new err err_new status.Refused
+      → IsRefusalReported on words why about.Nothing err err_new → LeavesFound on words found out out_new err err_new status.Refused
 
 -- Both streams after a call of these words. What was found is of all that the files hold which the request names. A refusal's line goes to
 -- standard error, and behind it what is said of it, if that is asked for; nothing is on standard output then.
@@ -28,5 +28,5 @@ pub data Leaves (holds : List ℕ → Option (List ℕ) → Type 0) (on : Termin
     (out out_new err err_new : OutState) : Status → Type 0 where
   Answered : (request : Request) (found : Found) (ends : Status) → asked ≡ Ok request → Finds holds request found
       → LeavesFound on words found out out_new err err_new ends → Leaves holds on words asked out out_new err err_new ends
-  Stopped : (h : Halted) → IsStop holds asked h → out_new ≡ out → IsRefusalReported on.errors words h.stop h.about err err_new
+  Stopped : (h : Halted) → IsStop holds asked h → out_new ≡ out → IsRefusalReported on words h.stop h.about err err_new
       → Leaves holds on words asked out out_new err err_new status.Refused

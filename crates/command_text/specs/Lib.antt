@@ -1,3 +1,4 @@
+pub mod Traces
 pub mod Costs
 pub mod Steps
 pub mod Texts

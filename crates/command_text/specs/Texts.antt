@@ -1,13 +1,12 @@
 -- The text by which what was found is told.
-use Rattle.std.specs.Prelude.{◌≡◌, ℕ, List, ◌++◌, Bool, true, false, codes, decimal, map}
+use Rattle.std.specs.Prelude.{◌≡◌, ◌⊎◌, ℕ, List, [], ◌++◌, Bool, Vec, true, false, codes, decimal, map}
+use Rattle.std.specs.Global.{Global}
 use Rattle.pram_model.specs.Layout.{total_size}
 use Rattle.pram_model.specs.Rules.{rule_word}
 use Rattle.pram_check.specs.Checked.{Checked}
 use Rattle.superstep_listing.specs.Listing.{spelling}
-use Rattle.superstep_machine.specs.Trace.{Exchange}
-use Rattle.tracer.specs.Traced.{trace_text}
-use Rattle.tracer.specs.Picture as trace
 use Rattle.step_pictures.specs.Picture as steps
+use Rattle.flow_pictures.specs.Asides.{all_of, asides_in}
 use Rattle.flow_pictures.specs.Picture.{flow}
 use Rattle.sweep_pictures.specs.Picture as sweeps
 use Rattle.sweep_texts.specs.CsvText.{csv_text}
@@ -29,8 +28,9 @@ use Rattle.command_facts.specs.declared.found.Found.TheVariants as found
 use Rattle.command_facts.specs.declared.found.FoundRun.{FoundRun}
 use Rattle.command_facts.specs.declared.found.FoundSweep.{FoundSweep}
 use Rattle.command_text.specs.declared.terminal.Terminal.{Terminal}
-use Rattle.command_text.specs.Costs.{costs_text, if_asked}
+use Rattle.command_text.specs.Costs.{costs_text}
 use Rattle.command_text.specs.Steps.{IsPage, IsTelling, told_text}
+use Rattle.command_text.specs.Traces.{counts_text, outcome_text}
 
 abbrev pub version_text : List ℕ
 version_text = line (codes "pramc 0.1.0")
@@ -40,21 +40,6 @@ abbrev pub accepted_line : Checked → List ℕ
 accepted_line program =
     line (codes "accepted cells " ++ (decimal (total_size program.layout)
     ++ (codes " procs " ++ (decimal program.procs ++ (codes " rule " ++ rule_word program.rule)))))
-
--- the exchanges of a run in words, and where that is asked for its outcome
-abbrev pub exchanges_text : (outcome : Bool) → (told : List ℕ) → List Exchange → List ℕ
-exchanges_text outcome told exchanges = trace_text exchanges ++ if_asked outcome told
-
--- or drawn
-abbrev pub counts_text : Form → (outcome : Bool) → (told : List ℕ) → List Exchange → List ℕ
-counts_text form.Picture outcome told exchanges = trace.picture exchanges
-counts_text form.Words outcome told exchanges = exchanges_text outcome told exchanges
-counts_text form.Flow outcome told exchanges = exchanges_text outcome told exchanges
-counts_text form.Page outcome told exchanges = exchanges_text outcome told exchanges
-
--- the outcome of a run, with all of its memory
-abbrev pub outcome_text : FoundRun → List ℕ
-outcome_text r = shown r.loaded.program.layout (verdict_of r.outcome)
 
 -- runs at several sizes, as values separated by commas, or a line each and how they grow
 abbrev pub table_text : (csv : Bool) → FoundSweep → List ℕ
@@ -75,21 +60,32 @@ IsInWords on r entries text = (telling : Telling)
     × IsTelling on r.loaded.source.bytes.items r.words.steps.locals r.loaded.program.tree telling
     × (text ≡ told_text r.loaded.program.layout telling r.outcome entries r.words.steps.from r.words.steps.to)
 
--- drawn, beside the text as it stands in its file
+-- drawn between the numbers that are asked for, beside the text as it stands in its file
 abbrev pub picture_text : FoundRun → List Entry → List ℕ
-picture_text r entries = steps.picture r.loaded.program.layout r.loaded.source.bytes.items entries
+picture_text r entries =
+    steps.picture_from r.loaded.program.layout r.loaded.source.bytes.items entries r.words.steps.from r.words.steps.to
 
--- the flow of data between the numbers that are asked for, drawn beside the text that its sizes give, of which statements have their places
-abbrev pub flow_text : FoundRun → List Entry → List ℕ
-flow_text r entries =
-    flow r.loaded.program.layout (text_in r.loaded.source) r.input.items entries r.words.steps.from r.words.steps.to
+-- the flow of data between the numbers that are asked for, drawn beside the text that its sizes give, of which statements have their places;
+-- which reads of a statement are for subscripts alone is known by the program's tree
+abbrev pub flow_by : FoundRun → List Entry → List (Vec Bool Global) → List ℕ
+flow_by r entries asides =
+    flow r.loaded.program.layout (text_in r.loaded.source) asides r.input.items entries [] r.words.steps.from r.words.steps.to
 
--- in words, drawn, or as a page with the text that its sizes give
+abbrev pub IsFlow : FoundRun → List Entry → List ℕ → Type 0
+IsFlow r entries text = (asides : List (Vec Bool Global)) × (all_of asides ≡ map (asides_in r.loaded.program.body) entries)
+    × (text ≡ flow_by r entries asides)
+
+-- as a page of the statements between the numbers that are asked for, with the text that its sizes give
+abbrev pub IsPageOf : FoundRun → List Entry → List ℕ → Type 0
+IsPageOf r entries shows = IsPage r.loaded.source.name.now (text_in r.loaded.source) r.loaded.program r.input.items r.outcome entries
+    r.words.steps.from r.words.steps.to shows
+
+-- in words, drawn, or as a page
 abbrev pub AreStepsText : Form → Terminal → FoundRun → List Entry → List ℕ → Type 0
 AreStepsText form.Words on r entries text = IsInWords on r entries text
 AreStepsText form.Picture on r entries text = text ≡ picture_text r entries
-AreStepsText form.Flow on r entries text = text ≡ flow_text r entries
-AreStepsText form.Page on r entries text = IsPage (text_in r.loaded.source) r.loaded.program r.input.items r.outcome entries text
+AreStepsText form.Flow on r entries text = IsFlow r entries text
+AreStepsText form.Page on r entries text = IsPageOf r entries text
 
 -- the text of a run, by what was found beside its outcome
 abbrev pub IsRunText : Terminal → FoundRun → Facts → List ℕ → Type 0
@@ -97,7 +93,7 @@ IsRunText on r facts.Nothing text = text ≡ shown_by r.words.shown r.loaded.pro
 IsRunText on r (facts.Cost c) text =
     text ≡ costs_text (verdict_of r.outcome) c r.words.costs.schedule r.words.costs.lines ++ outcome_text r
 IsRunText on r (facts.Steps entries) text = AreStepsText r.words.form on r (map entry_is entries.items) text
-IsRunText on r (facts.Exchanges exchanges) text = text ≡ counts_text r.words.form r.words.trace.outcome (outcome_text r) exchanges
+IsRunText on r (facts.Exchanges t) text = text ≡ counts_text r.words.form r.words.trace (outcome_text r) t
 
 -- the text of what was found
 abbrev pub IsTextOf : Terminal → Found → List ℕ → Type 0
@@ -111,12 +107,12 @@ IsTextOf on (found.Run r) text = IsRunText on r r.facts text
 IsTextOf on (found.Swept s) text = text ≡ swept_text s.form s.csv s
 IsTextOf on (found.Executed c) text = text ≡ shown_by c.shown c.code.layout (verdict_of c.outcome)
 
--- only a page is put together before it is written
-abbrev pub IsAPage : Form → Type 0
-IsAPage f = f ≡ form.Page
+-- only a page is put together before it is written, and what a flow is drawn by
+abbrev pub TakesMemory : Form → Type 0
+TakesMemory f = (f ≡ form.Page) ⊎ (f ≡ form.Flow)
 
 abbrev pub IsPaged : FoundRun → Facts → Type 0
-IsPaged r (facts.Steps entries) = IsAPage r.words.form
+IsPaged r (facts.Steps entries) = TakesMemory r.words.form
 IsPaged r _ = ⊥
 
 abbrev pub NeedsMemory : Found → Type 0

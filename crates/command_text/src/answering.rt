@@ -36,7 +36,7 @@ fn tell<O: Out, E: Out>(
             status
         }
         Err(stop) => {
-            report(alloc, err, words, &Halted::from(stop), on.errors);
+            report(alloc, err, words, &Halted::from(stop), on);
             Status::Refused
         }
     }
@@ -61,7 +61,7 @@ fn answer_request<R: Threads + Wait + Sync, S: Sources, O: Out, E: Out>(
     match find(rt, alloc, request, sources) {
         Ok(found) => tell(alloc, words, on, &found, out, err),
         Err(halted) => {
-            report(alloc, err, words, &halted, on.errors);
+            report(alloc, err, words, &halted, on);
             Status::Refused
         }
     }
@@ -101,7 +101,7 @@ pub fn answer<'a, R: Threads + Wait + Sync, S: Sources, O: Out, E: Out>(
     match asked {
         Ok(request) => answer_request(rt, alloc, request, words, on, sources, out, err),
         Err(stop) => {
-            report(alloc, err, words, &Halted::from(stop), on.errors);
+            report(alloc, err, words, &Halted::from(stop), on);
             Status::Refused
         }
     }

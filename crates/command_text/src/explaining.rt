@@ -1,17 +1,16 @@
 //! What a call writes to standard error.
 
-ghost use Rattle.std.specs.Prelude.{◌≡◌, ◌⊎◌, ◌<◌, ◌^◌, map, Option};
+ghost use Rattle.std.specs.Prelude.{◌≡◌, ◌⊎◌, ◌<◌, ◌^◌, ℕ, List, map};
 ghost use Rattle.std.specs.String.{string_bytes};
 ghost use Rattle.text_out.specs.Out.{Writes};
 ghost use Rattle.diagnoses.specs.FaultTexts.{fault_diagnosis, fault_sentence};
 ghost use Rattle.diagnoses.specs.Reasons.{Reason as Why, reason_is, run_reason as why, unknown};
-ghost use Rattle.diagnoses.specs.Remarks.{Remark};
-ghost use Rattle.diagnoses.specs.Stops.{HasRemark};
 ghost use Rattle.command_facts.specs.Written.{IsReported};
-ghost use Rattle.word_faults.specs.declared.given.Given.{Given as Wrong};
 ghost use Rattle.command_text.specs.Explained as spec;
 
+use crate::terminal::Terminal;
 use command_facts::{Found, FoundCode, FoundRun, Halted};
+use command_messages::write_for_editors;
 use diagnoses::{
     Reason, run_reason, write_fault_sentence, write_refused_line, write_run_fault,
     write_stop_diagnosis,
@@ -38,12 +37,14 @@ fn wrong_of(words: &[String], stop: &Stop<'_>) -> Option<Given>
 fn write_behind<E: Out>(
     alloc: Global,
     err: &mut E,
+    words: &[String],
     halted: &Halted<'_>,
     wrong: Option<Given>,
 ) -> Result<(), WriteFault>
     requires err { (E.Out.state err.old).failures < 2 ^ 62 }
-    ensures written { (r : Remark) × HasRemark halted.now.stop halted.now.about r × Writes (E.Out.state err.old) (E.Out.state err.new)
-        (spec.said_behind halted.now.stop halted.now.about r wrong) result }
+    requires wrong { spec.IsWrongOf (map string_bytes words.now) halted.now.stop wrong }
+    ensures written { (said : List ℕ) × spec.IsSaidBehind (map string_bytes words.now) halted.now.stop halted.now.about said
+        × Writes (E.Out.state err.old) (E.Out.state err.new) said result }
 {
     match &halted.stop {
         Stop::Number(word) => write_word_fault(err, wrong, word),
@@ -52,7 +53,7 @@ fn write_behind<E: Out>(
 }
 
 // The line of a refusal, and if that is asked for what is said behind it.
-fn write_halt<E: Out>(
+fn write_in_words<E: Out>(
     alloc: Global,
     err: &mut E,
     words: &[String],
@@ -60,16 +61,35 @@ fn write_halt<E: Out>(
     explains: bool,
 ) -> Result<(), WriteFault>
     requires err { (E.Out.state err.old).failures < 2 ^ 62 }
-    ensures written { (r : Remark) × HasRemark halted.now.stop halted.now.about r
-        × (wrong : Option Wrong) × spec.IsWrongOf (map string_bytes words.now) halted.now.stop wrong
-        × Writes (E.Out.state err.old) (E.Out.state err.new) (spec.refusal_text explains halted.now.stop halted.now.about r wrong) result }
+    ensures written { (text : List ℕ)
+        × spec.IsInWords explains (map string_bytes words.now) halted.now.stop halted.now.about text
+        × Writes (E.Out.state err.old) (E.Out.state err.new) text result }
 {
     let wrong = wrong_of(words, &halted.stop);
     write_refused_line(err, &halted.stop, &halted.about)?;
     if explains {
-        write_behind(alloc, err, halted, wrong)
+        write_behind(alloc, err, words, halted, wrong)
     } else {
         Ok(())
+    }
+}
+
+fn write_halt<E: Out>(
+    alloc: Global,
+    err: &mut E,
+    words: &[String],
+    halted: &Halted<'_>,
+    on: Terminal,
+) -> Result<(), WriteFault>
+    requires err { (E.Out.state err.old).failures < 2 ^ 62 }
+    ensures written { (text : List ℕ)
+        × spec.IsTold on.gnu on.errors (map string_bytes words.now) halted.now.stop halted.now.about text
+        × Writes (E.Out.state err.old) (E.Out.state err.new) text result }
+{
+    if on.gnu {
+        write_for_editors(alloc, err, words, halted)
+    } else {
+        write_in_words(alloc, err, words, halted, on.errors)
     }
 }
 
@@ -79,13 +99,13 @@ pub(crate) fn report<E: Out>(
     err: &mut E,
     words: &[String],
     halted: &Halted<'_>,
-    explains: bool,
+    on: Terminal,
 )
     requires err { (E.Out.state err.old).failures < 2 ^ 62 }
-    ensures written { spec.IsRefusalReported explains (map string_bytes words.now) halted.now.stop halted.now.about
+    ensures written { spec.IsRefusalReported on (map string_bytes words.now) halted.now.stop halted.now.about
         (E.Out.state err.old) (E.Out.state err.new) }
 {
-    if write_halt(alloc, err, words, halted, explains).is_ok() {
+    if write_halt(alloc, err, words, halted, on).is_ok() {
         let _ = err.flush();
     }
 }

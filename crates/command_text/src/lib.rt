@@ -3,10 +3,12 @@
 
 mod answering;
 mod explaining;
+mod paging;
 mod stepping;
 mod sweeping;
 mod telling;
 mod terminal;
+mod tracing;
 mod writing;
 
 pub use answering::answer;

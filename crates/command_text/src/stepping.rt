@@ -1,6 +1,6 @@
 //! Runs of a program that are told statement by statement: in words, drawn, or as a page.
 
-ghost use Rattle.std.specs.Prelude.{◌<◌, ◌^◌, ℕ, IfOk, List, map};
+ghost use Rattle.std.specs.Prelude.{◌<◌, ◌^◌, ℕ, [], List, map};
 ghost use Rattle.std.specs.String.{string_bytes};
 ghost use Rattle.text_out.specs.Out.{Writes};
 ghost use Rattle.diagnoses.specs.Sources.{text_in};
@@ -8,22 +8,19 @@ ghost use Rattle.flow_pictures.specs.Picture.{flow};
 ghost use Rattle.command_facts.specs.Written.{Wrote, WroteSome};
 ghost use Rattle.program_texts.specs.Status.{status_of};
 ghost use Rattle.step_entries.specs.Entries.{entry_is};
-ghost use Rattle.step_pages.specs.Facts.{IsCut};
-ghost use Rattle.step_pages.specs.Page.{page};
-ghost use Rattle.step_pictures.specs.Picture.{picture};
+ghost use Rattle.step_pictures.specs.Picture.{picture_from};
 ghost use Rattle.command_text.specs.Steps as spec;
 ghost use Rattle.command_text.specs.Texts as texts;
 
+use crate::paging::write_as_page;
 use crate::terminal::Terminal;
 use command_facts::FoundRun;
 use command_requests::{Form, StepWords};
-use flow_pictures::write_flow;
-use json_texts::json_steps;
+use flow_pictures::{asides_of, write_flow};
 use pram_trees::{Layout, Tree};
 use program_texts::{Status, Stop, finish, show};
 use std::alloc::{AllocError, Global};
 use step_entries::Entry;
-use step_pages::{opening_line, write_page};
 use step_pictures::write_picture;
 use step_texts::{Detail, Manner, Telling, write_steps};
 use text_out::{Out, WriteFault};
@@ -132,12 +129,15 @@ fn write_pictured<'a, O: Out>(
     text: &[u8],
     outcome: &Outcome,
     entries: &[Entry],
+    words: StepWords,
 ) -> Result<Status, Stop<'a>>
     requires out { (O.Out.state out.old).failures < 2 ^ 62 }
-    ensures written { Wrote (status_of outcome.now) (picture layout.now text.now (map entry_is entries.now))
+    ensures written { Wrote (status_of outcome.now)
+        (picture_from layout.now text.now (map entry_is entries.now) words.from words.to)
         (O.Out.state out.old) (O.Out.state out.new) result }
 {
-    write_picture(out, layout, text, entries)?;
+    let (first, last) = (words.from as usize, words.to as usize);
+    write_picture(out, layout, text, entries, first, last)?;
     finish(out, Status::of(outcome))
 }
 
@@ -153,7 +153,7 @@ fn write_as_picture<'a, O: Out>(
 {
     let layout = run.loaded.program.layout();
     let text = run.loaded.source.bytes.as_slice();
-    write_pictured(out, layout, text, &run.outcome, entries)
+    write_pictured(out, layout, text, &run.outcome, entries, run.words.steps)
 }
 
 // Draws the flow of data between these numbers, whose statements have their places in this text.
@@ -161,6 +161,7 @@ fn write_flowing<'a, O: Out>(
     out: &mut O,
     layout: &Layout,
     text: &[u8],
+    asides: &[Vec<bool>],
     opening: &[i64],
     outcome: &Outcome,
     entries: &[Entry],
@@ -168,77 +169,63 @@ fn write_flowing<'a, O: Out>(
 ) -> Result<Status, Stop<'a>>
     requires out { (O.Out.state out.old).failures < 2 ^ 62 }
     ensures written { Wrote (status_of outcome.now)
-        (flow layout.now text.now opening.now (map entry_is entries.now) words.from words.to)
+        (flow layout.now text.now asides.now opening.now (map entry_is entries.now) [] words.from words.to)
         (O.Out.state out.old) (O.Out.state out.new) result }
 {
     let (first, last) = (words.from as usize, words.to as usize);
-    write_flow(out, layout, text, opening, entries, first, last)?;
+    write_flow(
+        out,
+        layout,
+        text,
+        asides,
+        opening,
+        entries,
+        &[],
+        first,
+        last,
+    )?;
     finish(out, Status::of(outcome))
 }
 
-// The flow of data in a run, drawn.
-fn write_as_flow<'a, O: Out>(
+// The flow of data in a run, drawn by these reads for subscripts.
+fn write_flow_by<'a, O: Out>(
     run: &FoundRun<'_>,
     entries: &[Entry],
+    asides: &[Vec<bool>],
     out: &mut O,
 ) -> Result<Status, Stop<'a>>
     requires out { (O.Out.state out.old).failures < 2 ^ 62 }
-    ensures written { Wrote (status_of run.now.outcome) (texts.flow_text run.now (map entry_is entries.now))
+    ensures written { Wrote (status_of run.now.outcome) (texts.flow_by run.now (map entry_is entries.now) asides.now)
         (O.Out.state out.old) (O.Out.state out.new) result }
 {
     let layout = run.loaded.program.layout();
     let text = run.loaded.source.text();
     let words = run.words.steps;
-    write_flowing(out, layout, text, &run.input, &run.outcome, entries, words)
-}
-
-// The facts of a run, for its page: what is known before the first statement, all entries, and the outcome. Their offsets are of the text
-// that was read as a program.
-fn page_facts(alloc: Global, run: &FoundRun<'_>, entries: &[Entry]) -> Result<String, AllocError>
-    ensures facts { IfOk result (λ facts. spec.AreFacts (text_in run.now.loaded.source) run.now.loaded.program run.now.input.items
-        run.now.outcome (map entry_is entries.now) (string_bytes facts)) }
-{
-    let program = &run.loaded.program;
-    let text = run.loaded.source.text();
-    let tree = program.tree();
-    let mut facts = opening_line(alloc, text, tree, &run.input)?;
-    let last = entries.len();
-    let lines = json_steps(
-        alloc,
-        program.layout(),
-        tree,
+    write_flowing(
+        out,
+        layout,
+        text,
+        asides,
+        &run.input,
         &run.outcome,
         entries,
-        1,
-        last,
-    )?;
-    facts.push_str(&lines)?;
-    Ok(facts)
+        words,
+    )
 }
 
-// Writes a page of a run's facts.
-fn write_paged<'a, O: Out>(out: &mut O, outcome: &Outcome, facts: &[u8]) -> Result<Status, Stop<'a>>
-    requires out { (O.Out.state out.old).failures < 2 ^ 62 }
-    ensures written { (kept : ℕ) × IsCut facts.now kept
-        × Wrote (status_of outcome.now) (page facts.now kept) (O.Out.state out.old) (O.Out.state out.new) result }
-{
-    write_page(out, facts)?;
-    finish(out, Status::of(outcome))
-}
-
-// As a page.
-fn write_as_page<'a, O: Out>(
+// The flow of data in a run, drawn.
+fn write_as_flow<'a, O: Out>(
     alloc: Global,
     run: &FoundRun<'_>,
     entries: &[Entry],
     out: &mut O,
 ) -> Result<Status, Stop<'a>>
     requires out { (O.Out.state out.old).failures < 2 ^ 62 }
-    ensures written { WroteSome (status_of run.now.outcome) (Unit {0}) (spec.IsPage (text_in run.now.loaded.source)
-        run.now.loaded.program run.now.input.items run.now.outcome (map entry_is entries.now)) (O.Out.state out.old) (O.Out.state out.new) result }
+    ensures written { WroteSome (status_of run.now.outcome) (Unit {0}) (texts.IsFlow run.now (map entry_is entries.now))
+        (O.Out.state out.old) (O.Out.state out.new) result }
 {
-    let facts = page_facts(alloc, run, entries)?;
-    write_paged(out, &run.outcome, facts.as_bytes())
+    let asides = asides_of(alloc, &run.loaded.program, entries)?;
+    write_flow_by(run, entries, &asides, out)
 }
 
 /// A run of a program statement by statement: drawn, as a page, or in words and then its outcome.
@@ -250,14 +237,14 @@ pub(crate) fn write_steps_of<'a, O: Out>(
     out: &mut O,
 ) -> Result<Status, Stop<'a>>
     requires out { (O.Out.state out.old).failures < 2 ^ 62 }
-    ensures written { WroteSome (status_of run.now.outcome) (texts.IsAPage run.now.words.form)
+    ensures written { WroteSome (status_of run.now.outcome) (texts.TakesMemory run.now.words.form)
         (texts.AreStepsText run.now.words.form on run.now (map entry_is entries.now))
         (O.Out.state out.old) (O.Out.state out.new) result }
 {
     match run.words.form {
         Form::Words => write_in_words(on, run, entries, out),
         Form::Picture => write_as_picture(run, entries, out),
-        Form::Flow => write_as_flow(run, entries, out),
+        Form::Flow => write_as_flow(alloc, run, entries, out),
         Form::Page => write_as_page(alloc, run, entries, out),
     }
 }

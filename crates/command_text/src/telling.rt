@@ -9,36 +9,15 @@ ghost use Rattle.command_text.specs.Texts as spec;
 use crate::stepping::write_steps_of;
 use crate::sweeping::write_swept;
 use crate::terminal::Terminal;
+use crate::tracing::write_found_trace;
 use crate::writing::{
-    write_accepted, write_costs, write_drawn, write_exchanges, write_outcome, write_plan,
-    write_rules, write_subject, write_text, write_version,
+    write_accepted, write_costs, write_outcome, write_plan, write_rules, write_subject, write_text,
+    write_version,
 };
 use command_facts::{Facts, Found, FoundRun, status_of};
-use command_requests::Form;
-use exchange_counts::Counts;
 use program_texts::{Status, Stop};
 use std::alloc::Global;
 use text_out::Out;
-
-// The exchanges of a run, in words or drawn.
-fn write_counts<'a, O: Out>(
-    out: &mut O,
-    run: &FoundRun<'_>,
-    counts: &Counts,
-) -> Result<Status, Stop<'a>>
-    requires out { (O.Out.state out.old).failures < 2 ^ 62 }
-    ensures written { Wrote (status_of run.now.outcome)
-        (spec.counts_text run.now.words.form run.now.words.trace.outcome (spec.outcome_text run.now) counts.now)
-        (O.Out.state out.old) (O.Out.state out.new) result }
-{
-    let (layout, words) = (run.loaded.program.layout(), run.words.trace);
-    match run.words.form {
-        Form::Picture => write_drawn(out, &run.outcome, counts),
-        Form::Words => write_exchanges(out, layout, &run.outcome, counts, words),
-        Form::Flow => write_exchanges(out, layout, &run.outcome, counts, words),
-        Form::Page => write_exchanges(out, layout, &run.outcome, counts, words),
-    }
-}
 
 // A run of a program.
 fn write_run<'a, O: Out>(
@@ -55,7 +34,7 @@ fn write_run<'a, O: Out>(
     match &run.facts {
         Facts::Nothing => write_outcome(out, layout, &run.outcome, run.words.shown),
         Facts::Cost(cost) => write_costs(out, layout, &run.outcome, cost, run.words.costs),
-        Facts::Exchanges(counts) => write_counts(out, run, counts),
+        Facts::Exchanges(found) => write_found_trace(out, run, found),
         Facts::Steps(entries) => write_steps_of(alloc, on, run, entries, out),
     }
 }

@@ -10,14 +10,12 @@ ghost use Rattle.memory_texts.specs.Chosen.{shown_by};
 ghost use Rattle.explanations.specs.Explained.{explanation};
 ghost use Rattle.rule_comparison.specs.ComparisonText.{comparison_text};
 ghost use Rattle.superstep_listing.specs.Listing.{spelling};
-ghost use Rattle.tracer.specs.Picture.{picture};
 ghost use Rattle.command_text.specs.Costs.{costs_text};
 ghost use Rattle.command_facts.specs.Written.{Wrote};
-ghost use Rattle.command_text.specs.Texts.{accepted_line, exchanges_text, version_text};
+ghost use Rattle.command_text.specs.Texts.{accepted_line, version_text};
 
-use command_requests::{CostWords, TraceWords, VERSION};
+use command_requests::{CostWords, VERSION};
 use cost_texts::{write_cost, write_lines};
-use exchange_counts::Counts;
 use explanations::{Subject, write_explanation};
 use itoa::Buffer;
 use memory_texts::{Choice, show_chosen};
@@ -28,7 +26,6 @@ use rule_comparison::{Comparison, show_comparison};
 use superstep_instructions::Code;
 use superstep_listing::write_listing;
 use text_out::{Out, WriteFault};
-use tracer::{write_picture, write_trace};
 use work_time::Cost;
 use write_rules::Outcome;
 
@@ -110,57 +107,6 @@ pub(crate) fn write_rules<'a, O: Out>(
 {
     show_comparison(comparison, out)?;
     finish(out, Status::Done)
-}
-
-// The exchanges of a run, and behind them its outcome where that is asked for.
-fn write_counts_and_outcome<O: Out>(
-    out: &mut O,
-    layout: &Layout,
-    outcome: &Outcome,
-    counts: &Counts,
-    words: TraceWords,
-) -> Result<(), WriteFault>
-    requires out { (O.Out.state out.old).failures < 2 ^ 62 }
-    ensures written { Writes (O.Out.state out.old) (O.Out.state out.new)
-        (exchanges_text words.outcome (shown layout.now (verdict_of outcome.now)) counts.now) result }
-{
-    write_trace(counts, out)?;
-    if words.outcome {
-        show(layout, outcome, out)
-    } else {
-        Ok(())
-    }
-}
-
-/// Writes the exchanges of a run, and behind them its outcome where that is asked for.
-pub(crate) fn write_exchanges<'a, O: Out>(
-    out: &mut O,
-    layout: &Layout,
-    outcome: &Outcome,
-    counts: &Counts,
-    words: TraceWords,
-) -> Result<Status, Stop<'a>>
-    requires out { (O.Out.state out.old).failures < 2 ^ 62 }
-    ensures written { Wrote (status_of outcome.now)
-        (exchanges_text words.outcome (shown layout.now (verdict_of outcome.now)) counts.now)
-        (O.Out.state out.old) (O.Out.state out.new) result }
-{
-    write_counts_and_outcome(out, layout, outcome, counts, words)?;
-    finish(out, Status::of(outcome))
-}
-
-/// Writes a picture of the exchanges of a run.
-pub(crate) fn write_drawn<'a, O: Out>(
-    out: &mut O,
-    outcome: &Outcome,
-    counts: &Counts,
-) -> Result<Status, Stop<'a>>
-    requires out { (O.Out.state out.old).failures < 2 ^ 62 }
-    ensures written { Wrote (status_of outcome.now) (picture counts.now)
-        (O.Out.state out.old) (O.Out.state out.new) result }
-{
-    write_picture(counts, out)?;
-    finish(out, Status::of(outcome))
 }
 
 /// Writes a text as it is.

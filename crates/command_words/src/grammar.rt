@@ -30,6 +30,8 @@ pub(crate) const LOCALS: &str = "locals";
 
 pub(crate) const OUTCOME: &str = "outcome";
 
+pub(crate) const BSP: &str = "bsp";
+
 pub(crate) const SVG: &str = "svg";
 
 pub(crate) const HTML: &str = "html";
@@ -183,7 +185,9 @@ fn in_formats<'a>(alloc: Global, command: Command<'a>) -> Result<Command<'a>, Al
         .long(FORMAT)
         .value_name("FORMAT")
         .default_value("text")
-        .help("How it is told: text, or json for programs that read");
+        .help(
+            "How it is told: text, or json for programs that read; of check also gnu, for editors",
+        );
     command.arg(format)
 }
 
@@ -328,7 +332,19 @@ fn over_trace<'a>(alloc: Global, words: &Subcommand) -> Result<Command<'a>, Allo
         .long(OUTCOME)
         .action(ArgAction::SetTrue)
         .help("Tells the run's outcome behind them");
-    over_workers(alloc, words)?.arg(svg)?.arg(outcome)
+    let lines = Arg::new(alloc, LINES)
+        .long(LINES)
+        .action(ArgAction::SetTrue)
+        .help("Tells of each the line of the statement that it serves");
+    let bsp = Arg::new(alloc, BSP)
+        .long(BSP)
+        .value_name("G,L")
+        .help("Tells what they cost: for each G times its h, and L");
+    over_workers(alloc, words)?
+        .arg(svg)?
+        .arg(outcome)?
+        .arg(lines)?
+        .arg(bsp)
 }
 
 /// The subcommands, their options and the help of each.

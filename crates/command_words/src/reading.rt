@@ -6,7 +6,7 @@ ghost use Rattle.std.specs.String.{string_bytes};
 ghost use Rattle.command_requests.specs.Words.{AsksForVersion, IsOfWords};
 
 use crate::grammar::{
-    BOUND, FILE, FLOW, FORMAT, FROM, HTML, INPUT, LINES, LOCALS, MAP, MEMORY, OUTCOME, QUIET,
+    BOUND, BSP, FILE, FLOW, FORMAT, FROM, HTML, INPUT, LINES, LOCALS, MAP, MEMORY, OUTCOME, QUIET,
     RANDOM, RESERVE, SCHEDULE, SEED, SHOW, SIZE, SVG, SWEEP, TO, WORD, WORKERS, grammar,
 };
 use clap::ArgMatches;
@@ -164,6 +164,32 @@ fn form_of(words: &ArgMatches<'_>) -> Form {
     }
 }
 
+// What an exchange costs, if that is asked for.
+fn rates_of<'a>(words: &ArgMatches<'a>) -> Result<Option<(u32, u32)>, Stop<'a>>
+    ensures { IfErr result IsOfWords }
+{
+    match words.get_str(BSP) {
+        None => Ok(None),
+        Some(word) => match read_pair(word) {
+            Some(rates) => Ok(Some(rates)),
+            None => Err(Stop::Number(word)),
+        },
+    }
+}
+
+// A picture and JSON have the lines too.
+fn trace_words<'a>(words: &ArgMatches<'a>) -> Result<TraceWords, Stop<'a>>
+    ensures { IfErr result IsOfWords }
+{
+    let rates = rates_of(words)?;
+    let is_told = words.get_flag(LINES) || words.get_flag(SVG);
+    Ok(TraceWords {
+        outcome: words.get_flag(OUTCOME),
+        lines: is_told || words.get_str(FORMAT) == Some("json"),
+        rates,
+    })
+}
+
 fn run_words<'a>(words: &ArgMatches<'a>) -> Result<RunWords<'a>, Stop<'a>>
     ensures { IfErr result IsOfWords }
 {
@@ -173,7 +199,7 @@ fn run_words<'a>(words: &ArgMatches<'a>) -> Result<RunWords<'a>, Stop<'a>>
     let reserve = reserve_of(words)?;
     let costs = cost_words(words)?;
     let steps = step_words(words)?;
-    let outcome = words.get_flag(OUTCOME);
+    let trace = trace_words(words)?;
     let opening = opening_of(words)?;
     let shown = choice_of(words)?;
     Ok(RunWords {
@@ -186,18 +212,19 @@ fn run_words<'a>(words: &ArgMatches<'a>) -> Result<RunWords<'a>, Stop<'a>>
         reserve,
         costs,
         steps,
-        trace: TraceWords { outcome },
+        trace,
         form: form_of(words),
         shown,
     })
 }
 
-// How something is told. Whether it is JSON `asks_for_json` says.
+// How something is told. Whether it is JSON `asks_for_json` says, and whether it is in the lines of editors `asks_for_gnu`.
 #[derive(Clone, Copy, PartialEq, Eq)]
 enum Format {
     Text,
     Json,
     Csv,
+    Gnu,
 }
 
 fn format_of<'a>(words: &ArgMatches<'a>) -> Result<Format, Stop<'a>>
@@ -207,15 +234,23 @@ fn format_of<'a>(words: &ArgMatches<'a>) -> Result<Format, Stop<'a>>
         None | Some("text") => Ok(Format::Text),
         Some("json") => Ok(Format::Json),
         Some("csv") => Ok(Format::Csv),
+        Some("gnu") => Ok(Format::Gnu),
         Some(word) => Err(Stop::Number(word)),
     }
 }
 
-// Nothing is drawn or made a page in another format than text, and a page isn't drawn. Of a sweep alone there are values separated by commas.
-fn check_format<'a>(words: &ArgMatches<'a>, sweeps: bool) -> Result<bool, Stop<'a>>
+// What is done: a text is checked, something is run, or is run at several sizes.
+#[derive(Clone, Copy, PartialEq, Eq)]
+enum Over {
+    Text,
+    Run,
+    Sizes,
+}
+
+// Nothing is drawn or made a page in another format than text, and a page isn't drawn.
+fn check_drawn<'a>(words: &ArgMatches<'a>, format: Format) -> Result<(), Stop<'a>>
     ensures { IfErr result IsOfWords }
 {
-    let format = format_of(words)?;
     let svg = words.get_flag(SVG);
     if words.get_flag(HTML) && (format != Format::Text || svg) {
         return Err(Stop::Number("--html"));
@@ -229,8 +264,24 @@ fn check_format<'a>(words: &ArgMatches<'a>, sweeps: bool) -> Result<bool, Stop<'
     if words.get_flag(OUTCOME) && svg {
         return Err(Stop::Number("--outcome"));
     }
-    if format == Format::Csv && !sweeps {
+    if words.get_str(BSP).is_some() && svg {
+        return Err(Stop::Number("--bsp"));
+    }
+    Ok(())
+}
+
+// Of a sweep alone there are values separated by commas, of a check alone lines of editors, and nothing is drawn in them. Whether there are
+// such values.
+fn check_format<'a>(words: &ArgMatches<'a>, over: Over) -> Result<bool, Stop<'a>>
+    ensures { IfErr result IsOfWords }
+{
+    let format = format_of(words)?;
+    check_drawn(words, format)?;
+    if format == Format::Csv && over != Over::Sizes {
         return Err(Stop::Number("csv"));
+    }
+    if format == Format::Gnu && over != Over::Text {
+        return Err(Stop::Number("gnu"));
     }
     Ok(format == Format::Csv)
 }
@@ -258,7 +309,12 @@ fn file_of<'a>(alloc: Global, matches: &ArgMatches<'a>) -> Result<ProgramFile<'a
 fn asked<'a>(alloc: Global, verb: Verb, matches: &ArgMatches<'a>) -> Result<Request<'a>, Stop<'a>>
     ensures { IfErr result IsOfWords }
 {
-    check_format(matches, false)?;
+    let over = if verb == Verb::Check {
+        Over::Text
+    } else {
+        Over::Run
+    };
+    check_format(matches, over)?;
     let words = run_words(matches)?;
     let file = file_of(alloc, matches)?;
     Ok(Request::Program { verb, file, words })
@@ -278,7 +334,7 @@ fn asked_sweep<'a>(
     if matches.get_flag(LINES) {
         return Err(Stop::Number("--lines"));
     }
-    let csv = check_format(matches, true)?;
+    let csv = check_format(matches, Over::Sizes)?;
     let words = run_words(matches)?;
     let file = file_of(alloc, matches)?;
     Ok(Request::Sweep {
@@ -306,7 +362,7 @@ fn asked_costs<'a>(alloc: Global, matches: &ArgMatches<'a>) -> Result<Request<'a
 fn asked_listing<'a>(matches: &ArgMatches<'a>) -> Result<Request<'a>, Stop<'a>>
     ensures { IfErr result IsOfWords }
 {
-    check_format(matches, false)?;
+    check_format(matches, Over::Run)?;
     let words = run_words(matches)?;
     let file = matches.get_str(FILE).unwrap_or("");
     Ok(Request::Listing { file, words })
@@ -343,12 +399,34 @@ fn told(alloc: Global, error: &clap::Error) -> Result<String, AllocError> {
     Ok(kept)
 }
 
-// The words of the parser, where it refused the command line.
-fn refused<'a>(alloc: Global, error: clap::Error) -> Stop<'a>
+fn has_control(text: &[u8]) -> bool {
+    for byte in text {
+        if *byte < 32 || *byte == 127 {
+            return true;
+        }
+    }
+    false
+}
+
+// The first word with a control byte, which the parser would write as it is.
+fn steering(words: &[String]) -> Option<&str> {
+    for word in words {
+        if has_control(word.as_bytes()) {
+            return Some(word.as_str());
+        }
+    }
+    None
+}
+
+// The words of the parser, where it refused the command line; of one that could end its lines or steer a terminal that word.
+fn refused<'a>(alloc: Global, words: &'a [String], error: clap::Error) -> Stop<'a>
     ensures { IsOfWords result }
 {
     if error.kind() == ErrorKind::OutOfMemory {
         return Stop::Refused(Refusal::OutOfMemory);
+    }
+    if let Some(word) = steering(words) {
+        return Stop::Number(word);
     }
     match told(alloc, &error) {
         Ok(text) => Stop::Words(text),
@@ -357,13 +435,17 @@ fn refused<'a>(alloc: Global, error: clap::Error) -> Stop<'a>
 }
 
 // The parser has found the version asked for among other words, or it refused the command line.
-fn unmatched<'a>(alloc: Global, error: clap::Error) -> Result<Request<'a>, Stop<'a>>
+fn unmatched<'a>(
+    alloc: Global,
+    words: &'a [String],
+    error: clap::Error,
+) -> Result<Request<'a>, Stop<'a>>
     ensures { IfErr result IsOfWords }
 {
     if error.kind() == ErrorKind::DisplayVersion {
         return Ok(Request::Version);
     }
-    Err(refused(alloc, error))
+    Err(refused(alloc, words, error))
 }
 
 /// Reads the words behind the program's name.
@@ -377,7 +459,7 @@ pub fn read_words<'a>(alloc: Global, words: &'a [String]) -> Result<Request<'a>,
     }
     let matches = match grammar(alloc)?.try_get_matches_from(words) {
         Ok(matches) => matches,
-        Err(error) => return unmatched(alloc, error),
+        Err(error) => return unmatched(alloc, words, error),
     };
     match matches.subcommand() {
         Some(("check", inner)) => asked(alloc, Verb::Check, inner),

@@ -1,6 +1,6 @@
 //! What is said of commands over a program, and of `explain`.
 
-pub(crate) const CHECK: [u8; 578] = *b"pramc check FILE: is the program accepted?
+pub(crate) const CHECK: [u8; 649] = *b"pramc check FILE: is the program accepted?
 
 It reads the program and runs nothing. What is accepted is told in one line: how
 many shared cells it has, its most processors and its rule. Otherwise the first
@@ -15,6 +15,7 @@ Options:
 
 --size NAME=VALUE   another number for a size of the text, as n=16
 --format json       tells it to programs, as JSON
+--format gnu        tells what is wrong in the lines that editors read
 --explain           shows the line that is wrong, and says why
 
 Exit status: 0 it is accepted, 2 it is refused.
@@ -118,11 +119,12 @@ $ pramc steps examples/tree_sum.pram --input examples/tree_sum.in | sed -n 7p
 Exit status: 0 it ended, 1 it faulted, 2 it was refused, 3 it met the bound.
 ";
 
-pub(crate) const RULES: [u8; 1057] =
+pub(crate) const RULES: [u8; 1137] =
     *b"pramc rules FILE: runs the program under each rule of access.
 
-It says how each run comes out, whatever rule the text names. `same`: it ends as
-under the first rule under which it ends. `other`: it ends in another way.
+It says how each run comes out. `same`: it ends as under the rule that the text
+names, or where it doesn't end under that, as under the first under which it
+does. `other`: it ends in another way. `(declared)` is the rule that it names.
 
 Type this:
 

@@ -51,7 +51,7 @@ Limits: numbers of 64 bits, 16384 processors, 1048576 cells, 16384 tokens,
 8 shared reads in a statement, 64 levels of blocks and of expressions.
 ";
 
-pub(crate) const OPTIONS: [u8; 2166] = *b"The options, and which commands take them.
+pub(crate) const OPTIONS: [u8; 2402] = *b"The options, and which commands take them.
 
 All but explain:
 
@@ -83,17 +83,20 @@ How they run; of run, trace and exec:
 
 What is written:
 
---format FORMAT     text, or json for programs that read; of a sweep also csv:
+--format FORMAT     text, or json for programs that read; of a sweep also csv,
+                    and of check also gnu, the lines that editors read:
                     check, meaning, cost, steps, rules, run, trace, exec
 --show NAMES        these declarations alone, as a,b: meaning, run, exec
 --quiet             printed numbers and no memory: meaning, run, exec
---lines             counts for each line of the program too: cost
+--lines             counts for each line of the program too: cost; or tells the
+                    line of the program that each exchange serves: trace
 --schedule P        counts the rounds on P processors too, P from 1: cost
 --sweep NAME=SIZES  counts at n=4,8,16, or n=4..64*2, or n=10..50+10: cost
 --from K, --to K    these statements alone, counted from 1: steps
 --locals            tells of variables, locals and printed numbers too: steps
 --html              a page that steps through the run: steps
 --flow              a picture of the flow of data between cells: steps
+--bsp G,L           what exchanges cost, G a word of h, L an exchange: trace
 --outcome           behind the exchanges what run writes: trace
 --svg               a picture: steps, trace, and cost with --sweep
 

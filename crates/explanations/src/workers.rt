@@ -26,7 +26,7 @@ ended
 Exit status: 0 it ended, 1 it faulted, 2 it was refused, 3 it met the bound.
 ";
 
-pub(crate) const TRACE: [u8; 1084] = *b"pramc trace FILE: the exchanges of a run by workers.
+pub(crate) const TRACE: [u8; 1231] = *b"pramc trace FILE: the exchanges of a run by workers.
 
 It writes a line for each exchange: what it was for, how many words each worker
 sent and received, and h, the greatest of these numbers. It writes no result.
@@ -34,6 +34,8 @@ sent and received, and h, the greatest of these numbers. It writes no result.
 $ pramc trace examples/sum.pram
 1 close sent 0 0 0 0 received 0 0 0 0 h 0
 
+--lines             tells of each the line of the statement that it serves
+--bsp G,L           tells what they cost: for each G times its h, and L
 --outcome           writes behind them what `run` writes
 --svg               draws them, as SVG
 --workers P         how many workers, 1 to 32, else 4

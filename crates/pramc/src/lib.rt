@@ -12,5 +12,5 @@ pub use program_texts::{
     Refusal, Status, Stop, mean_program, meaning_of_text, read_program, show, write_stop,
 };
 pub use run_options::{MapChoice, Options, Reserve};
-pub use system_files::{SourceFault, Sources};
+pub use system_files::{Beside, SourceFault, Sources};
 pub use workers::{Gate, OpenGate};

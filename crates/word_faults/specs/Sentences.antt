@@ -33,8 +33,9 @@ wanted given.Random = codes "LO..HI, as -5..5, two numbers of 64 bits of which L
 wanted given.Seed = codes "a number from 0 to 4294967295"
 wanted given.Size = codes "NAME=VALUE, once for each size that the program declares, VALUE from 0 to 9223372036854775807"
 wanted given.Sweep = codes "NAME=SIZES for a size that the program declares, 1 to 1000 of them, as n=4,8,16 or n=4..64*2 or n=10..50+10"
-wanted given.Format = codes "text or json, or csv with --sweep"
+wanted given.Format = codes "text or json, or csv with --sweep, or gnu with check"
 wanted given.Show = codes "names of shared declarations of the program, as a,b"
+wanted given.Bsp = codes "G,L, two numbers from 0 to 4294967295"
 wanted given.Subject = codes "a refusal, as E6, a fault, as read-conflict, a command, language or options"
 
 abbrev pub wanted_text : Given → List ℕ
@@ -55,6 +56,7 @@ option_sentence word =
     else if same_text word (codes "--svg") then codes "`--svg` goes with no other `--format` than text, and with cost it wants `--sweep`\n"
     else if same_text word (codes "--flow") then codes "`--flow` goes with neither `--svg` nor `--html` nor another `--format` than text\n"
     else if same_text word (codes "--outcome") then codes "`--outcome` doesn't go with `--svg`\n"
+    else if same_text word (codes "--bsp") then codes "`--bsp` doesn't go with `--svg`\n"
     else if same_text word (codes "--schedule") then codes "`--schedule` doesn't go with `--sweep`\n"
     else if same_text word (codes "--lines") then codes "`--lines` doesn't go with `--sweep`\n"
     else []

@@ -19,6 +19,7 @@ pub enum Given {
     Sweep,
     Format,
     Show,
+    Bsp,
     Subject,
 }
 
@@ -41,6 +42,7 @@ impl Given {
             Given::Sweep => b"--sweep",
             Given::Format => b"--format",
             Given::Show => b"--show",
+            Given::Bsp => b"--bsp",
             Given::Subject => b"explain",
         }
     }

@@ -63,8 +63,9 @@ fn wanted(given: Given) -> &'static [u8]
         Given::Sweep => {
             b"NAME=SIZES for a size that the program declares, 1 to 1000 of them, as n=4,8,16 or n=4..64*2 or n=10..50+10"
         }
-        Given::Format => b"text or json, or csv with --sweep",
+        Given::Format => b"text or json, or csv with --sweep, or gnu with check",
         Given::Show => b"names of shared declarations of the program, as a,b",
+        Given::Bsp => b"G,L, two numbers from 0 to 4294967295",
         Given::Subject => {
             b"a refusal, as E6, a fault, as read-conflict, a command, language or options"
         }
@@ -113,6 +114,8 @@ fn option_sentence(word: &[u8]) -> &'static [u8]
         b"`--flow` goes with neither `--svg` nor `--html` nor another `--format` than text\n"
     } else if is_same(word, b"--outcome") {
         b"`--outcome` doesn't go with `--svg`\n"
+    } else if is_same(word, b"--bsp") {
+        b"`--bsp` doesn't go with `--svg`\n"
     } else if is_same(word, b"--schedule") {
         b"`--schedule` doesn't go with `--sweep`\n"
     } else if is_same(word, b"--lines") {

@@ -71,7 +71,7 @@ pub(crate) fn takes(given: Given, word: &str) -> bool
         Given::Bound | Given::Workers | Given::From | Given::To | Given::Seed => is_number(word),
         Given::Schedule => is_count(word),
         Given::Map => is_map(word),
-        Given::Reserve => is_pair(word),
+        Given::Reserve | Given::Bsp => is_pair(word),
         Given::Random => is_interval(word),
         Given::Format => is_format(word),
         Given::Size | Given::Sweep | Given::Show | Given::Subject => false,

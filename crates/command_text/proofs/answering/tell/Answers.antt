@@ -16,6 +16,6 @@ returns-in-Ok g c =
 pub returns-in-Err : goal.returns-in-Err
 returns-in-Err g c = record {
   leaves = CutOff c.in-Err.stop c.in-Err.ensures.written
-      (told_alone (IsRefusalReported c.args.on.errors (map string_bytes c.args.words.now)) c.from.result c.in-Err.stop _ _
+      (told_alone (IsRefusalReported c.args.on (map string_bytes c.args.words.now)) c.from.result c.in-Err.stop _ _
       c.from.ensures c.report.ensures.written);
 }

@@ -7,11 +7,9 @@ returns-then-is_ok g c =
     let w = c.write_halt.ensures.written in
     record {
       written = record {
-        remark = w.0;
-        said = w.1;
-        wrong = w.2;
-        found = w.3;
-        reported = reported _ _ _ _ _ c.write_halt.result c.flush.result refl w.4 c.if-is_ok.ensures.value c.flush.ensures.ok c.flush.ensures.failed;
+        text = w.0;
+        told = w.1;
+        reported = reported _ _ _ _ _ c.write_halt.result c.flush.result refl w.2 c.if-is_ok.ensures.value c.flush.ensures.ok c.flush.ensures.failed;
       };
     }
 
@@ -20,10 +18,8 @@ returns-else-is_ok g c =
     let w = c.write_halt.ensures.written in
     record {
       written = record {
-        remark = w.0;
-        said = w.1;
-        wrong = w.2;
-        found = w.3;
-        reported = reported_in_part _ _ _ _ c.write_halt.result refl w.4 c.if-is_ok.ensures.value;
+        text = w.0;
+        told = w.1;
+        reported = reported_in_part _ _ _ _ c.write_halt.result refl w.2 c.if-is_ok.ensures.value;
       };
     }
