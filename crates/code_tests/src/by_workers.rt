@@ -138,7 +138,7 @@ fn the_exchanges_of_the_worked_listing_are_told(rt: HostRuntime) {
         .ok()
         .expect(&rt, "a run");
     let mut out = Buffer::new(alloc);
-    assert!(rt; write_trace(&counts, &mut out).is_ok());
+    assert!(rt; write_trace(&counts, &[], &mut out).is_ok());
     assert!(rt; out.bytes() == TRACE);
 }
 

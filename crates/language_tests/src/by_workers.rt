@@ -81,11 +81,14 @@ fn a_trace_is_cut_off(rt: HostRuntime) {
     match run_text(&rt, alloc, text, &[], options, &OpenGate) {
         Ok(report) => {
             let mut slow = Narrow::new(alloc, 1, 1000);
-            assert_eq!(rt; write_trace(&report.counts, &mut slow), Ok(()));
+            assert_eq!(rt; write_trace(&report.counts, &[], &mut slow), Ok(()));
             assert_eq!(rt; slow.bytes.as_slice(), TRACE);
             for room in 0..TRACE.len() {
                 let mut short = Narrow::new(alloc, 1, room);
-                assert_eq!(rt; write_trace(&report.counts, &mut short), Err(WriteFault));
+                assert_eq!(rt;
+                    write_trace(&report.counts, &[], &mut short),
+                    Err(WriteFault)
+                );
                 assert_eq!(rt; short.failures, 1);
                 assert_eq!(rt; short.bytes.as_slice(), &TRACE[..room]);
             }

@@ -1,7 +1,7 @@
 // Calls of the program over files in memory: what they print, and the exit status.
 
 use pram_syntax::Buffer;
-use pramc::{CommandLine, SourceFault, Sources, Status, Terminal, command};
+use pramc::{Beside, CommandLine, SourceFault, Sources, Status, Terminal, command};
 use std::alloc::{AllocError, Global};
 use std::sync::Wait;
 use std::thread::Threads;
@@ -27,6 +27,14 @@ impl<'a> Sources for Shelf<'a> {
             Err(_) => Err(SourceFault::OutOfMemory),
         }
     }
+
+    // nothing else stands there
+    fn beside(&mut self, alloc: Global, name: &str) -> Result<Beside, AllocError> {
+        Ok(Beside {
+            name: Vec::from_slice(alloc, name.as_bytes())?,
+            others: Vec::new(alloc),
+        })
+    }
 }
 
 // What a call of the program printed.
@@ -40,6 +48,7 @@ pub(crate) struct Said {
 // No terminal.
 pub(crate) const SILENT: Terminal = Terminal {
     errors: false,
+    gnu: false,
     output: false,
     colours: false,
 };

@@ -20,11 +20,13 @@ fn on_a_terminal_statements_stand_beside_their_lines(rt: HostRuntime) -> Result<
         b"1 line 4 processors 1  |   for 1 <= i <= 2 pardo\n2 line 5 processors 2\x1b[36m a[2] 7 -> 14\x1b[0m  |     a[i] := a[i] * i;\nended\na[1..2] = 3 14\n";
     let coloured_errors = Terminal {
         errors: true,
+        gnu: false,
         output: false,
         colours: true,
     };
     let output = Terminal {
         errors: false,
+        gnu: false,
         output: true,
         colours: false,
     };

@@ -248,7 +248,7 @@ fn is_broadcast<R: Threads + Wait + Sync>(rt: &R, alloc: Global) -> Option<bool>
     let map = Identity::new(8, 2).ok()?;
     let (outcome, counts) = run_crew(rt, alloc, verified.code(), &map, &[9, 8], 2)?;
     let mut out = Buffer::new(alloc);
-    write_trace(&counts, &mut out).ok()?;
+    write_trace(&counts, &[], &mut out).ok()?;
     let has_ended = match &outcome {
         Outcome::Ended { output, memory } => {
             output.is_empty() && memory.as_slice() == [9, 8, 9, 9, 9, 9].as_slice()

@@ -51,7 +51,7 @@ fn is_traced<R: Threads + Wait + Sync>(rt: &R, alloc: Global) -> Option<bool> {
     let map = Identity::new(8, 2).ok()?;
     let (_, counts) = run_workers(rt, alloc, &code, &map, 2, &[9, 8], 2, &OpenGate).ok()?;
     let mut out = Buffer::new(alloc);
-    write_trace(&counts, &mut out).ok()?;
+    write_trace(&counts, &[], &mut out).ok()?;
     Some(out.bytes() == TRACE)
 }
 

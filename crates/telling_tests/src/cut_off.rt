@@ -5,6 +5,11 @@ use pram_syntax::{Buffer, Out, OutFailed};
 use pramc::{CommandLine, Status, command};
 use std::test::Fail;
 
+// What is told where a stream fails.
+const NOT_WRITTEN: &[u8] = b"\
+{\"message\":\"standard output failed: what stands there is a beginning of the text\",\
+\"name\":\"WriteFailed\",\"refused\":\"E17\"}\n";
+
 const SMALL: &[u8] = b"rule crew; procs 1;\nshared s;\nbegin\nprint s;\nend\n";
 
 // Takes some bytes, and then fails.
@@ -59,7 +64,7 @@ fn facts_that_are_cut_off_are_told(rt: HostRuntime) -> Result<(), Fail> {
             let line: &[u8] = if room == size {
                 b""
             } else {
-                b"{\"name\":\"WriteFailed\",\"refused\":\"E17\"}\n"
+                NOT_WRITTEN
             };
             assert!(&rt; (status == Status::Done) == (room == size));
             assert!(&rt; err.bytes() == line);

@@ -41,20 +41,24 @@ fn all_are_refused<R: Threads + Wait + Sync>(rt: &R, alloc: Global, rows: &[Refu
 
 const SMALL: &str = "rule crew; procs 1;\nshared s;\nbegin\nprint s;\nend\n";
 
+const NO_MEMORY_IN_JSON: &str = "\
+{\"message\":\"memory was refused: nothing is said of the text or the run, and with more memory it may go well\",\
+\"name\":\"OutOfMemory\",\"refused\":\"E16\"}\n";
+
 const FILES: [Refused; 2] = [
     Refused {
         words: &["check", "large"],
         text: "",
         input: "",
         said: "refused E16 OutOfMemory\n",
-        json: "{\"name\":\"OutOfMemory\",\"refused\":\"E16\"}\n",
+        json: NO_MEMORY_IN_JSON,
     },
     Refused {
         words: &["meaning", "program", "--input", "large"],
         text: SMALL,
         input: "",
         said: "refused E16 OutOfMemory\n",
-        json: "{\"name\":\"OutOfMemory\",\"refused\":\"E16\"}\n",
+        json: NO_MEMORY_IN_JSON,
     },
 ];
 

@@ -80,7 +80,15 @@ fn is_drawn(alloc: Global, row: &Row) -> Option<bool> {
     let program = check(alloc, tree).ok()?;
     let (_outcome, entries) = steps_of(alloc, &program, &[], 1000).ok()?;
     let mut out = Buffer::new(alloc);
-    write_picture(&mut out, program.layout(), row.text.as_bytes(), &entries).ok()?;
+    write_picture(
+        &mut out,
+        program.layout(),
+        row.text.as_bytes(),
+        &entries,
+        1,
+        entries.len(),
+    )
+    .ok()?;
     let mut wanted = Vec::new(alloc);
     for part in [row.front, KEY, row.table] {
         wanted.extend_from_slice(part.as_bytes()).ok()?;
