@@ -1,17 +1,17 @@
 # Completions of pramc for bash.
 
 _pramc() {
-    local word=${COMP_WORDS[COMP_CWORD]} before=${COMP_WORDS[COMP_CWORD - 1]} words=
+    local word=${COMP_WORDS[COMP_CWORD]} before=${COMP_WORDS[COMP_CWORD - 1]} words= programs=
     local cells="--input --memory --random --seed"
     COMPREPLY=()
     if [ "$COMP_CWORD" -eq 1 ]; then
-        words="check plan meaning cost steps rules run trace expand exec explain --help --version"
+        words="check plan meaning cost steps rules run trace expand exec explain help --help --version"
     else
         case $before in
         --input | --memory) ;;
         --map) words="identity affine:" ;;
-        --format) words="text json csv" ;;
-        --bound | --workers | --reserve | --schedule | --sweep | --from | --to | --size | --random | --seed | --show) return ;;
+        --format) words="text json csv gnu" ;;
+        --bound | --workers | --reserve | --schedule | --sweep | --from | --to | --size | --random | --seed | --show | --bsp) return ;;
         *)
             case ${COMP_WORDS[1]} in
             check) words="--size --format --explain --help" ;;
@@ -22,13 +22,15 @@ _pramc() {
             steps) words="--bound $cells --from --to --locals --svg --flow --html --size --format --explain --help" ;;
             run) words="--bound $cells --workers --map --reserve --show --quiet --size --format --explain --help" ;;
             exec) words="--bound $cells --workers --map --reserve --show --quiet --format --explain --help" ;;
-            trace) words="--bound $cells --workers --map --reserve --outcome --svg --size --format --explain --help" ;;
+            trace) words="--bound $cells --workers --map --reserve --lines --bsp --outcome --svg --size --format --explain --help" ;;
             explain)
                 words="$(echo E{1..19}) P1 P2 overflow divide-by-zero out-of-range too-wide read-conflict write-conflict check plan meaning cost steps rules run trace expand exec explain language options --help"
                 ;;
+            help) words="check plan meaning cost steps rules run trace expand exec explain" ;;
             *) return ;;
             esac
-            [[ $word == -* || ${COMP_WORDS[1]} == explain ]] || words=
+            [[ $word == -* || ${COMP_WORDS[1]} == explain || ${COMP_WORDS[1]} == help ]] || words=
+            [ "${COMP_WORDS[1]}" = exec ] || programs=yes
             ;;
         esac
     fi
@@ -37,7 +39,11 @@ _pramc() {
         [ "${COMPREPLY[*]}" != affine: ] || compopt -o nospace
     else
         compopt -o filenames
-        mapfile -t COMPREPLY < <(compgen -f -- "$word")
+        if [ "$programs" ]; then
+            # Programs and folders, and any file where there are none.
+            mapfile -t COMPREPLY < <(compgen -f -X '!*.pram' -- "$word"; compgen -d -- "$word")
+        fi
+        [ "${#COMPREPLY[@]}" -ne 0 ] || mapfile -t COMPREPLY < <(compgen -f -- "$word")
     fi
 }
 
