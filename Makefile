@@ -1,6 +1,6 @@
 # The crates are proved, built and tested by the toolchain's command `rt`.
 
-.PHONY: all check test examples bench refusals fuzz memory hostile unthreaded page-test dist dist-test clean install uninstall
+.PHONY: all check test examples bench refusals fuzz memory hostile unthreaded page-test editor-test dist dist-test clean install uninstall
 
 sources := $(shell find crates -name out -prune -o \( -name '*.rt' -o -name '*.antt' \) -print) crates.txt
 
@@ -61,9 +61,13 @@ memory:
 unthreaded:
 	bash crates/run_tests/unthreaded/check.sh
 
-# Steps through the pages of four runs in Chromium, and compares what they show with the facts in them.
+# Steps through the pages of nine runs in Chromium, and compares what they show with the facts in them.
 page-test: bin/pramc
 	python3 gate/page_test.py bin/pramc
+
+# Checks programs in Vim by :make, and compares its list with what is wrong in them.
+editor-test: bin/pramc
+	bash gate/vim_test.sh bin/pramc
 
 # Writes an archive and a package for Debian to hand on, in bin/dist.
 dist: bin/pramc
@@ -84,6 +88,8 @@ installed = \
 	$(shared)/bash-completion/completions/pramc=completions/pramc.bash \
 	$(shared)/vim/vimfiles/syntax/pram.vim=editors/vim/syntax/pram.vim \
 	$(shared)/vim/vimfiles/ftdetect/pram.vim=editors/vim/ftdetect/pram.vim \
+	$(shared)/vim/vimfiles/ftplugin/pram.vim=editors/vim/ftplugin/pram.vim \
+	$(shared)/vim/vimfiles/compiler/pramc.vim=editors/vim/compiler/pramc.vim \
 	$(foreach it,$(wildcard editors/textmate/*.json),$(shared)/pramc/textmate/$(notdir $(it))=$(it))
 
 # The program that is installed.

@@ -119,7 +119,7 @@ def completed(*words):
 
 
 def completions():
-    yield "commands", completed("pramc", ""), set(commands()) | {"--help", "--version"}
+    yield "commands", completed("pramc", ""), set(commands()) | {"help", "--help", "--version"}
     for name, options in commands().items():
         yield f"options of {name}", completed("pramc", name, "-"), {f"--{it}" for it in options} | {"--help"}
     yield "subjects", completed("pramc", "explain", "") - {"--help"}, subjects()

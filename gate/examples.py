@@ -40,7 +40,7 @@ def under_each_rule(name, text, output, folder):
     ends = {RULE.search(text)[1]: output}
     said = [it.split(" ", 1) for it in (EXAMPLES / f"{name}.rules").read_text().splitlines()]
     ends.update({rule: it.read_text() for rule, _ in said if (it := EXAMPLES / f"{name}.{rule}.out").exists()})
-    same = next((ends[rule] for rule, how in said if how == "ended same" and rule in ends), None)
+    same = next((ends[rule] for rule, how in said if how.startswith("ended same") and rule in ends), None)
     for rule, how in said:
         program = folder / f"{name}.{rule}.pram"
         program.write_text(RULE.sub(f"rule {rule};", text, count=1))

@@ -30,7 +30,7 @@ BESIDE = re.compile(r"(?P<sets>(?: [^ :]+ -?\d+ -> -?\d+)*)(?P<locals>(?: \w+(?:
                     r"(?P<printed>(?: prints(?: -?\d+)+)?)")
 LOCAL = re.compile(r"(?: ([A-Za-z_]\w*))? (-?\d+): (-?\d+) -> (-?\d+)")
 MOST_LOCALS = 8
-EXCHANGE = re.compile(r"(\d+) (\w+) sent ((?:\d+ )+)received ((?:\d+ )+)h (\d+)")
+EXCHANGE = re.compile(r"(\d+) (\w+) sent ((?:\d+ )+)received ((?:\d+ )+)h (\d+) line (\d+)")
 COUNTS = r" time (\d+) work (\d+) width (\d+) reads (\d+) writes (\d+)(?: exchanges at most (\d+))?"
 SWEPT = re.compile(rf"(\w+) (\d+)(?:{COUNTS})? (ended|goes on|(?:fault|refused) .+)")
 COLUMNS = ["time", "work", "width", "reads", "writes", "exchanges", "outcome"]
@@ -96,11 +96,11 @@ def meaning(lines):
 
 def line_cost(line):
     at, times, work, reads, writes = LINE_COST.fullmatch(line).groups()
-    return {"line": int(at), "times": int(times), "work": work, "reads": reads, "writes": writes}
+    return {"line": int(at), "times": int(times), "work": int(work), "reads": int(reads), "writes": int(writes)}
 
 
 def costs(lines):
-    """Costs with `--lines` and `--schedule`: sums are strings, and other counts are numbers."""
+    """Costs with `--lines` and `--schedule`."""
     said, lines = {"lines": []}, list(lines)
     while re.match(r"[a-z]+ .*\d", lines[0]) and not lines[0].startswith("fault"):
         line = lines.pop(0)
@@ -108,13 +108,13 @@ def costs(lines):
         if line.startswith("line "):
             said["lines"].append(line_cost(line))
         elif line.startswith("exchanges at most"):
-            said["exchanges_at_most"] = words[3]
+            said["exchanges_at_most"] = int(words[3])
         elif line.startswith("rounds on"):
-            said |= {"processors": int(words[2].removesuffix(":")), "rounds": words[3]}
+            said |= {"processors": int(words[2].removesuffix(":")), "rounds": int(words[3])}
         elif line.startswith("at most"):
-            said["rounds_at_most"] = words[2]
+            said["rounds_at_most"] = int(words[2])
         else:
-            said[words[0]] = int(words[1]) if words[0] in ("time", "width") else words[1]
+            said[words[0]] = int(words[1])
     return [said | outcome(lines)]
 
 
@@ -122,7 +122,8 @@ def rules(lines):
     def finding(line):
         rule, said = line.split(" ", 1)
         if said.startswith("ended "):
-            return {"rule": rule, "outcome": "ended", "end": said.split()[1]}
+            declared = {"declared": True} if said.endswith(" (declared)") else {}
+            return {"rule": rule, "outcome": "ended", "end": said.split()[1], **declared}
         return {"rule": rule, **({"outcome": "goes on"} if said == "goes on" else {"outcome": "fault", **fault(said)})}
 
     return [{"rules": [finding(it) for it in lines]}]
@@ -164,8 +165,8 @@ def beside_of(one):
 
 def exchanges(lines):
     def one(line):
-        k, kind, sent, received, h = EXCHANGE.fullmatch(line).groups()
-        return {"exchange": int(k), "for": kind, "sent": numbers(sent), "received": numbers(received), "h": int(h)}
+        k, kind, sent, received, h, at = EXCHANGE.fullmatch(line).groups()
+        return {"exchange": int(k), "for": kind, "sent": numbers(sent), "received": numbers(received), "h": int(h), "line": int(at)}
 
     return [one(it) for it in lines]
 
@@ -174,10 +175,10 @@ def swept(line):
     """What is told of a size."""
     name, value, *counts, end = SWEPT.fullmatch(line).groups()
     numbers = zip(("time", "work", "width", "reads", "writes", "exchanges_at_most"), counts)
-    said = {it: int(n) if it in ("time", "width") else n for it, n in numbers if n}
+    said = {it: int(n) for it, n in numbers if n}
     how, *_ = end.split()
     more = {"fault": {"fault": end}, "refused": {"refusal": end}}.get(how, {})
-    return {"size": name, "value": value, "outcome": how if more else end, **said, **more}
+    return {"size": name, "value": int(value), "outcome": how if more else end, **said, **more}
 
 
 def sweep(lines):
@@ -220,7 +221,7 @@ WAYS = {0: "ended", 1: "fault", 3: "goes on"}
 
 def wrong(words, reader):
     """What is wrong with the JSON of a call that is not refused, if anything is."""
-    status, text, refused = called(words)
+    status, text, refused = called([*words, "--lines"] if words[0] == "trace" else words)
     code, out, err = called([*words, "--format", "json"])
     try:
         said, found = reader(text.splitlines()), read(out)
@@ -257,17 +258,47 @@ def wrong_table(words):
     return [f"pramc {' '.join(map(str, words))} --format csv: status {code}, not {status}\n{said}\n{out}{err}"]
 
 
+def shown_place(place):
+    """How a place is shown in words: where it is, its line, and a caret below its column."""
+    where = ":".join(str(place[it]) for it in ("file", "line", "column") if it in place)
+    lines = Path(place["file"]).read_bytes().split(b"\n")
+    line = lines[place["line"] - 1].removesuffix(b"\r")
+    seen = "".join(chr(it) if it == 9 or 32 <= it < 127 else "?" for it in line)
+    caret = re.sub(r"[^\t]", " ", seen[: place["column"] - 1]) + "^\n" if "column" in place else ""
+    return f"{where}\n{seen}\n{caret}"
+
+
+def in_words(said):
+    """What the members of a refusal say in words, behind its line."""
+    if "message" not in said:
+        return ""
+    notes = said.get("notes", [])
+    first = said.get("place")
+    elsewhere = [it for it in notes if it.get("place") != first]
+    text = (shown_place(first) if first else "") + said["message"] + (":\n" if elsewhere else "\n")
+    text += "".join(it["message"] + "\n" for it in notes if it not in elsewhere)
+    return text + "".join(shown_place(it["place"]) for it in elsewhere)
+
+
+def is_said(found, said, explained):
+    """Whether the one object has these members, and says behind the line what is explained there."""
+    if len(found) != 1 or {name: found[0].get(name) for name in said} != said:
+        return False
+    return "word" in said or in_words(found[0]) == explained.partition("\n")[2]
+
+
 def wrongly_refused(words, text):
     """The same of one that is, for what this text has."""
     status, out, line = called(words)
+    _, _, explained = called([*words, "--explain"])
     code, found, err = called([*words, "--format", "json", "--explain"])
     try:
-        said = refusal(line.removesuffix("\n"), text)
-        if (status, code, out, found) == (2, 2, "", "") and read(err) == said:
+        [said] = refusal(line.removesuffix("\n"), text)
+        if (status, code, out, found) == (2, 2, "", "") and is_said(read(err), said, explained):
             return []
     except (ValueError, AttributeError) as error:
         said = error
-    return [f"pramc {' '.join(map(str, words))}: status {code}, not 2: {said}\n{line}{err}"]
+    return [f"pramc {' '.join(map(str, words))}: status {code}, not 2: {said}\n{line}{explained}{err}"]
 
 
 def changed_texts(text):
@@ -319,7 +350,7 @@ def of_words():
     for words, name in rows:
         code, out, err = called([*words, "--format", "json"])
         said = read(err)
-        if code != 2 or out or len(said) != 1 or sorted(said[0]) != sorted(["refused", name]):
+        if code != 2 or out or len(said) != 1 or not {"refused", name, "message"} <= {*said[0]}:
             yield [f"pramc {' '.join(words)} --format json: {code} {out}{err}"]
         else:
             yield []

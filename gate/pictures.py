@@ -2,8 +2,9 @@
 """Draws the trace of each example, and compares the picture, read as XML, with the trace that is written.
 
 pictures.py PROGRAM: each exchange that is drawn has its number, its kind and its h, and for each worker the words that it sent and
-received, by bars that stand within their column and are as tall as the words are to the most; no element but boxes, lines and texts stands
-there.
+received, by bars that stand within their column and are as tall as the words are to the most, with the worker's number below; the scale
+has marks for 0, the half and the most, where such bars end; the lines of statements are those that the trace has; the last text says how
+the run came out, and no element but boxes, lines and texts stands there.
 """
 import re
 import subprocess
@@ -16,7 +17,7 @@ from gallery import EXAMPLES, programs
 
 PROGRAM = Path(sys.argv[1]).resolve()
 SVG = "{http://www.w3.org/2000/svg}"
-LINE = re.compile(r"(\d+) (\w+) sent ((?:\d+ )+)received ((?:\d+ )+)h (\d+)")
+LINE = re.compile(r"(\d+) (\w+) sent ((?:\d+ )+)received ((?:\d+ )+)h (\d+)(?: line (\d+))?")
 MOST_DRAWN = 200
 
 
@@ -28,9 +29,12 @@ def written(words):
 
 
 def traced(text):
-    """The exchanges of a trace: number, kind, words sent, words received, h."""
+    """The exchanges of a trace: number, kind, words sent, words received, h, and the line where it is told."""
     found = [LINE.fullmatch(line).groups() for line in text.splitlines()]
-    return [(int(k), kind, [*map(int, sent.split())], [*map(int, received.split())], int(h)) for k, kind, sent, received, h in found]
+    return [
+        (int(k), kind, [*map(int, sent.split())], [*map(int, received.split())], int(h), at)
+        for k, kind, sent, received, h, at in found
+    ]
 
 
 def bars(root):
@@ -43,29 +47,45 @@ def bars(root):
             yield name.text, int(it.get("x")), axis - top, top + height - axis
 
 
+def tall(words, most):
+    return -(-words * 100 // most) if most else 0
+
+
 def wanted(exchanges, left, width):
-    most = max(h for *_, h in exchanges)
-    for k, _, sent, received, _ in exchanges:
+    most = max(h for *_, h, _ in exchanges)
+    for k, _, sent, received, _, _ in exchanges:
         for did, words in (("sent", sent), ("received", received)):
             for w, count in enumerate(words):
-                tall = -(-count * 100 // most) if most else 0
-                up, down = (tall, 0) if did == "sent" else (0, tall)
-                yield f"worker {w} {did} {count}", left + width * (k - 1) + 4 + 10 * w, up, down
+                up, down = (tall(count, most), 0) if did == "sent" else (0, tall(count, most))
+                yield f"worker {w} {did} {count}", left + width * (k - 1) + 4 + 14 * w, up, down
+
+
+def marks(most):
+    """The texts of the scale behind its titles."""
+    return [str(n) for n in (most // 2, most) if n for _ in range(2)]
+
+
+def column(k, kind, h, line, workers):
+    return [str(k), kind, f"h {h}", *([f"line {line}"] if line else []), *map(str, range(workers))]
 
 
 def wrong(name, _text):
     """What is wrong with the picture of an example, if anything is."""
     words = [EXAMPLES / f"{name}.pram", "--input", EXAMPLES / f"{name}.in", "--workers", "3"]
-    exchanges = traced(written(["trace", *words]))
+    exchanges = traced(written(["trace", *words, "--lines"]))
     root = tree.fromstring(written(["trace", *words, "--svg"]))
     drawn = exchanges[:MOST_DRAWN]
     texts = [it.text for it in root.iter(f"{SVG}text")]
     cut = f", of which the first {MOST_DRAWN} are drawn" if len(exchanges) > MOST_DRAWN else ""
     said = [f"workers 3, exchanges {len(exchanges)}{cut}", "words sent", "words received"]
-    said += [it for k, kind, _, _, h in drawn for it in (str(k), kind, f"h {h}")] + ["sent", "received"]
+    said += ["h: the most words that one worker sent or received"]
+    said += [it for k, kind, _, _, h, line in drawn for it in column(k, kind, h, line, 3)]
+    said += ["exchange", "words sent", "0", "words received", "worker"]
+    said += marks(max(h for *_, h, _ in drawn))
     kinds = {it.tag.removeprefix(SVG) for it in root.iter()}
-    checks = [texts == said, list(bars(root)) == list(wanted(drawn, 72, 80)), kinds == {"svg", "rect", "line", "text", "title"}]
-    checks += [int(root.get("width")) >= 72 + 80 * len(drawn), root.get("version") == "1.1"]
+    known = {"svg", "rect", "line", "path", "g", "text", "title", "defs", "pattern"}
+    checks = [texts[:-1] == said, list(bars(root)) == list(wanted(drawn, 168, 92)), kinds == known]
+    checks += [int(root.get("width")) >= 180 + 92 * len(drawn), root.get("version") == "1.1"]
     return [] if all(checks) else [f"{name}: {checks}"]
 
 

@@ -37,7 +37,10 @@ REFUSAL = re.compile(
     rb" at [0-9]+|E10 Limit (cells|procs|bounds|reads|tokens)|E11 InputTooLong|E14 NotVerified at [0-9]+ [a-z-]+)\n"
 )
 NO_MEMORY = b"refused E16 OutOfMemory\n"
-NO_MEMORY_IN_JSON = b'{"name":"OutOfMemory","refused":"E16"}\n'
+NO_MEMORY_IN_JSON = (
+    b'{"message":"memory was refused: nothing is said of the text or the run, and with more memory it may go well",'
+    b'"name":"OutOfMemory","refused":"E16"}\n'
+)
 NOT_WRITTEN = b"refused E17 WriteFailed\n"
 
 own = threading.local()
