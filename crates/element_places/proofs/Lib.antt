@@ -1,0 +1,3 @@
+pub mod ExpressionForms
+pub mod Joined
+pub mod StatementForms
