@@ -14,9 +14,10 @@ use Rattle.write_rules.specs.declared.fault.Fault.{Fault}
 use Rattle.write_rules.specs.declared.write.Write.{Write}
 use Rattle.step_entries.specs.Causes.{Before, Between, Beyond, Cause, Meeting, Wide, Writing}
 use Rattle.program_texts.specs.Shown.{cell_text, spaced}
-use Rattle.text_places.specs.Excerpts.{line_excerpt}
+use Rattle.text_places.specs.Excerpts.{excerpt, line_excerpt}
 use Rattle.diagnoses.specs.declared.source.Source.{Source}
 use Rattle.diagnoses.specs.Reasons.{Reason}
+use Rattle.diagnoses.specs.Sources.{origin}
 
 abbrev pub kind_sentence : Kind → List ℕ
 kind_sentence kind.Overflow = codes "a value is outside the range from -9223372036854775808 to 9223372036854775807"
@@ -156,10 +157,11 @@ known_text layout k who (Some c) = cause_text layout k who c
 abbrev pub fault_sentence : List SharedEntry → Fault → Reason → List ℕ
 fault_sentence layout f r = place_prefix layout f.place ++ known_text layout f.kind r.met r.cause
 
--- the line of the text
-abbrev pub fault_place : Source → ℕ → List ℕ
-fault_place s line = line_excerpt s.name.now s.bytes.items line
+-- the line of the text, and where the element is known whose subscript is wrong, its place in the file, with a caret below it
+abbrev pub fault_place : Source → (line : ℕ) → Option ℕ → List ℕ
+fault_place s line None = line_excerpt s.name.now s.bytes.items line
+fault_place s line (Some at) = excerpt s.name.now s.bytes.items (origin s at)
 
 -- what is said of a fault of a program's run
 abbrev pub fault_diagnosis : Source → List SharedEntry → Fault → Reason → List ℕ
-fault_diagnosis s layout f r = fault_place s f.line ++ fault_sentence layout f r
+fault_diagnosis s layout f r = fault_place s f.line r.at ++ fault_sentence layout f r

@@ -8,6 +8,7 @@ pub mod TextFaults
 pub mod Breaches
 pub mod SizeFaults
 pub mod Stops
+pub mod WrongElements
 pub mod Reasons
 pub mod FaultTexts
 pub mod Guesses

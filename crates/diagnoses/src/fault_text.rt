@@ -14,7 +14,7 @@ use pram_trees::Layout;
 use pram_values::{Kind, Place};
 use program_texts::write_cell;
 use text_out::{Out, WriteFault};
-use text_places::write_line_excerpt;
+use text_places::{write_excerpt, write_line_excerpt};
 use write_rules::Fault;
 
 fn write_cell_prefix<W: Out>(out: &mut W, layout: &Layout, cell: usize) -> Result<(), WriteFault>
@@ -72,6 +72,23 @@ pub fn write_fault_sentence<W: Out>(
     write_known(out, layout, fault.kind, reason)
 }
 
+// The line of the program's text where a fault came, with a caret below the element whose subscript is wrong, if that is known.
+fn write_fault_place<W: Out>(
+    out: &mut W,
+    source: &Source<'_>,
+    line: usize,
+    at: Option<u32>,
+) -> Result<(), WriteFault>
+    requires counted { (W.Out.state out.old).failures < 2 ^ 63 }
+    ensures written { Writes (W.Out.state out.old) (W.Out.state out.new) (spec.fault_place source.now line at) result }
+{
+    let (name, text) = (source.name.as_bytes(), source.bytes.as_slice());
+    match at {
+        None => write_line_excerpt(out, name, text, line),
+        Some(at) => write_excerpt(out, name, text, source.origin(at) as usize),
+    }
+}
+
 /// Writes what is said of a fault of a program's run: the line of the program's text where it came, what happened, and why, as far as that
 /// is known. The error is that the writer failed (E17).
 pub fn write_run_fault<W: Out>(
@@ -85,7 +102,6 @@ pub fn write_run_fault<W: Out>(
     ensures written { Writes (W.Out.state out.old) (W.Out.state out.new)
         (spec.fault_diagnosis source.now layout.now fault.now (reason_is reason.now)) result }
 {
-    let line = fault.line as usize;
-    write_line_excerpt(out, source.name.as_bytes(), source.bytes.as_slice(), line)?;
+    write_fault_place(out, source, fault.line as usize, reason.at)?;
     write_fault_sentence(out, layout, fault, reason)
 }

@@ -20,6 +20,7 @@ mod stops;
 mod syntax_faults;
 mod syntax_messages;
 mod text_faults;
+mod wrong_element;
 
 pub use about::{About, Unread};
 pub use fault_text::{write_fault_sentence, write_run_fault};

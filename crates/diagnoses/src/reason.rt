@@ -1,19 +1,22 @@
 //! Why a run faults.
 
-ghost use Rattle.std.specs.Prelude.{◌≡◌, IfSome, map};
+ghost use Rattle.std.specs.Prelude.{◌≡◌, IfOk, IfSome, map};
 ghost use Rattle.step_entries.specs.Entries.{entry_is};
 ghost use Rattle.diagnoses.specs.Reasons as spec;
 
+use crate::wrong_element::wrong_element;
 use pram_check::Program;
-use std::alloc::Global;
+use std::alloc::{AllocError, Global};
 use step_entries::{Cause, Entry};
 use step_journal::steps_of;
 
-/// What is known of why a run faults: the cause, if it is known, and at a cell the processors that met there.
+/// What is known of why a run faults: the cause, if it is known; at a cell the processors that met there; and the offset of the element
+/// whose subscript is wrong, if it is that, in the text that is judged.
 #[derive(Drop)]
 pub struct Reason {
     pub cause: Option<Cause>,
     pub met: Vec<i64>,
+    pub at: Option<u32>,
 }
 
 impl Reason {
@@ -24,20 +27,44 @@ impl Reason {
         Reason {
             cause: None,
             met: Vec::new(alloc),
+            at: None,
         }
+    }
+}
+
+// What an entry tells of it.
+fn reason_of(alloc: Global, program: &Program, entry: Entry) -> Result<Reason, AllocError>
+    ensures { IfOk result (λ reason. spec.reason_is reason ≡ spec.reason_of program.now (entry_is entry)) }
+{
+    match entry {
+        Entry::Faulted {
+            location,
+            fault,
+            cause,
+            acts,
+            met,
+        } => {
+            let at = wrong_element(alloc, program, location, &acts, fault.place, &cause)?;
+            Ok(Reason { cause, met, at })
+        }
+        Entry::Ran { .. } => Ok(Reason::unknown(alloc)),
     }
 }
 
 // What the last entry tells of it.
 #[tactic(auto, using(crate::proofs::LastReason::last_told, crate::proofs::LastReason::none_told))]
-fn last_reason(alloc: Global, entries: Vec<Entry>) -> Reason
-    ensures { spec.reason_is result ≡ spec.last_reason spec.unknown (map entry_is entries.items) }
+fn last_reason(
+    alloc: Global,
+    program: &Program,
+    entries: Vec<Entry>,
+) -> Result<Reason, AllocError>
+    ensures { IfOk result (λ reason. spec.reason_is reason
+        ≡ spec.last_reason program.now spec.unknown (map entry_is entries.items)) }
 {
     let mut rest = entries;
     match rest.pop() {
-        Some(Entry::Faulted { cause, met, .. }) => Reason { cause, met },
-        Some(Entry::Ran { .. }) => Reason::unknown(alloc),
-        None => Reason::unknown(alloc),
+        Some(entry) => reason_of(alloc, program, entry),
+        None => Ok(Reason::unknown(alloc)),
     }
 }
 
@@ -47,7 +74,7 @@ pub fn run_reason(alloc: Global, program: &Program, input: &[i64], bound: u32) -
     ensures { IfSome result (λ reason. spec.reason_is reason ≡ spec.run_reason program.now input.now bound) }
 {
     match steps_of(alloc, program, input, bound) {
-        Ok((_outcome, entries)) => Some(last_reason(alloc, entries)),
+        Ok((_outcome, entries)) => last_reason(alloc, program, entries).ok(),
         Err(_) => None,
     }
 }
