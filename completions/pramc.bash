@@ -11,7 +11,7 @@ _pramc() {
         --input | --memory) ;;
         --map) words="identity affine:" ;;
         --format) words="text json csv gnu" ;;
-        --bound | --workers | --reserve | --schedule | --sweep | --from | --to | --size | --random | --seed | --show | --bsp) return ;;
+        --bound | --workers | --reserve | --schedule | --sweep | --from | --to | --size | --random | --seed | --show | --only | --bsp) return ;;
         *)
             case ${COMP_WORDS[1]} in
             check) words="--size --format --explain --help" ;;
@@ -19,7 +19,7 @@ _pramc() {
             meaning) words="--bound $cells --show --quiet --size --format --explain --help" ;;
             rules) words="--bound $cells --size --format --explain --help" ;;
             cost) words="--bound $cells --schedule --lines --sweep --svg --size --format --explain --help" ;;
-            steps) words="--bound $cells --from --to --locals --svg --flow --html --size --format --explain --help" ;;
+            steps) words="--bound $cells --from --to --locals --svg --flow --only --html --size --format --explain --help" ;;
             run) words="--bound $cells --workers --map --reserve --show --quiet --size --format --explain --help" ;;
             exec) words="--bound $cells --workers --map --reserve --show --quiet --format --explain --help" ;;
             trace) words="--bound $cells --workers --map --reserve --lines --bsp --outcome --svg --size --format --explain --help" ;;

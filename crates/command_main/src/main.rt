@@ -27,6 +27,7 @@ fn terminal(rt: &HostRuntime) -> Terminal {
 const NOT_UTF_8: &[u8] = b"error: invalid UTF-8 was detected in one or more arguments
 
 For more information, try '--help'.
+More: pramc explain
 ";
 
 // What is told where memory for the words was refused.

@@ -62,7 +62,7 @@ pub struct RunWords<'a> {
     pub trace: TraceWords,
     /// How statements, exchanges or costs at several sizes are told.
     pub form: Form,
-    /// Which shared declarations are written where the run ends.
+    /// Which shared declarations are written where the run ends, or drawn in a flow.
     pub shown: Choice<'a>,
 }
 

@@ -1,6 +1,7 @@
 pub mod Traces
 pub mod Costs
 pub mod Steps
+pub mod Spans
 pub mod Texts
 pub mod Explained
 pub mod Left

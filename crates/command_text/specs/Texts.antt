@@ -8,6 +8,7 @@ use Rattle.superstep_listing.specs.Listing.{spelling}
 use Rattle.step_pictures.specs.Picture as steps
 use Rattle.flow_pictures.specs.Asides.{all_of, asides_in}
 use Rattle.flow_pictures.specs.Picture.{flow}
+use Rattle.flow_pictures.specs.declared.spans.CellSpan.{CellSpan}
 use Rattle.sweep_pictures.specs.Picture as sweeps
 use Rattle.sweep_texts.specs.CsvText.{csv_text}
 use Rattle.sweep_texts.specs.SweepText.{sweep_text}
@@ -29,6 +30,7 @@ use Rattle.command_facts.specs.declared.found.FoundRun.{FoundRun}
 use Rattle.command_facts.specs.declared.found.FoundSweep.{FoundSweep}
 use Rattle.command_text.specs.declared.terminal.Terminal.{Terminal}
 use Rattle.command_text.specs.Costs.{costs_text}
+use Rattle.command_text.specs.Spans.{chosen_spans}
 use Rattle.command_text.specs.Steps.{IsPage, IsTelling, told_text}
 use Rattle.command_text.specs.Traces.{counts_text, outcome_text}
 
@@ -66,14 +68,15 @@ picture_text r entries =
     steps.picture_from r.loaded.program.layout r.loaded.source.bytes.items entries r.words.steps.from r.words.steps.to
 
 -- the flow of data between the numbers that are asked for, drawn beside the text that its sizes give, of which statements have their places;
--- which reads of a statement are for subscripts alone is known by the program's tree
-abbrev pub flow_by : FoundRun → List Entry → List (Vec Bool Global) → List ℕ
-flow_by r entries asides =
-    flow r.loaded.program.layout (text_in r.loaded.source) asides r.input.items entries [] r.words.steps.from r.words.steps.to
+-- which reads of a statement are for subscripts alone is known by the program's tree; of these cells, where any are given
+abbrev pub flow_by : FoundRun → List Entry → List (Vec Bool Global) → List CellSpan → List ℕ
+flow_by r entries asides only =
+    flow r.loaded.program.layout (text_in r.loaded.source) asides r.input.items entries only r.words.steps.from r.words.steps.to
 
+-- of those of the declarations that are asked for
 abbrev pub IsFlow : FoundRun → List Entry → List ℕ → Type 0
 IsFlow r entries text = (asides : List (Vec Bool Global)) × (all_of asides ≡ map (asides_in r.loaded.program.body) entries)
-    × (text ≡ flow_by r entries asides)
+    × (text ≡ flow_by r entries asides (chosen_spans r.loaded.program.layout r.words.shown))
 
 -- as a page of the statements between the numbers that are asked for, with the text that its sizes give
 abbrev pub IsPageOf : FoundRun → List Entry → List ℕ → Type 0

@@ -2,6 +2,7 @@
 #![tactic(auto)]
 
 mod answering;
+mod choosing;
 mod explaining;
 mod paging;
 mod stepping;

@@ -1,6 +1,6 @@
 //! Runs of a program that are told statement by statement: in words, drawn, or as a page.
 
-ghost use Rattle.std.specs.Prelude.{◌<◌, ◌^◌, ℕ, [], List, map};
+ghost use Rattle.std.specs.Prelude.{◌<◌, ◌^◌, ℕ, List, map};
 ghost use Rattle.std.specs.String.{string_bytes};
 ghost use Rattle.text_out.specs.Out.{Writes};
 ghost use Rattle.diagnoses.specs.Sources.{text_in};
@@ -12,11 +12,12 @@ ghost use Rattle.step_pictures.specs.Picture.{picture_from};
 ghost use Rattle.command_text.specs.Steps as spec;
 ghost use Rattle.command_text.specs.Texts as texts;
 
+use crate::choosing::chosen_spans;
 use crate::paging::write_as_page;
 use crate::terminal::Terminal;
 use command_facts::FoundRun;
 use command_requests::{Form, StepWords};
-use flow_pictures::{asides_of, write_flow};
+use flow_pictures::{CellSpan, asides_of, write_flow};
 use pram_trees::{Layout, Tree};
 use program_texts::{Status, Stop, finish, show};
 use std::alloc::{AllocError, Global};
@@ -165,37 +166,31 @@ fn write_flowing<'a, O: Out>(
     opening: &[i64],
     outcome: &Outcome,
     entries: &[Entry],
+    only: &[CellSpan],
     words: StepWords,
 ) -> Result<Status, Stop<'a>>
     requires out { (O.Out.state out.old).failures < 2 ^ 62 }
     ensures written { Wrote (status_of outcome.now)
-        (flow layout.now text.now asides.now opening.now (map entry_is entries.now) [] words.from words.to)
+        (flow layout.now text.now asides.now opening.now (map entry_is entries.now) only.now words.from words.to)
         (O.Out.state out.old) (O.Out.state out.new) result }
 {
     let (first, last) = (words.from as usize, words.to as usize);
     write_flow(
-        out,
-        layout,
-        text,
-        asides,
-        opening,
-        entries,
-        &[],
-        first,
-        last,
+        out, layout, text, asides, opening, entries, only, first, last,
     )?;
     finish(out, Status::of(outcome))
 }
 
-// The flow of data in a run, drawn by these reads for subscripts.
+// The flow of data in a run, drawn by these reads for subscripts, between these cells where any are given.
 fn write_flow_by<'a, O: Out>(
     run: &FoundRun<'_>,
     entries: &[Entry],
     asides: &[Vec<bool>],
+    only: &[CellSpan],
     out: &mut O,
 ) -> Result<Status, Stop<'a>>
     requires out { (O.Out.state out.old).failures < 2 ^ 62 }
-    ensures written { Wrote (status_of run.now.outcome) (texts.flow_by run.now (map entry_is entries.now) asides.now)
+    ensures written { Wrote (status_of run.now.outcome) (texts.flow_by run.now (map entry_is entries.now) asides.now only.now)
         (O.Out.state out.old) (O.Out.state out.new) result }
 {
     let layout = run.loaded.program.layout();
@@ -209,6 +204,7 @@ fn write_flow_by<'a, O: Out>(
         &run.input,
         &run.outcome,
         entries,
+        only,
         words,
     )
 }
@@ -225,7 +221,8 @@ fn write_as_flow<'a, O: Out>(
         (O.Out.state out.old) (O.Out.state out.new) result }
 {
     let asides = asides_of(alloc, &run.loaded.program, entries)?;
-    write_flow_by(run, entries, &asides, out)
+    let only = chosen_spans(alloc, run.loaded.program.layout(), run.words.shown)?;
+    write_flow_by(run, entries, &asides, &only, out)
 }
 
 /// A run of a program statement by statement: drawn, as a page, or in words and then its outcome.

@@ -48,6 +48,8 @@ pub(crate) const RANDOM: &str = "random";
 
 pub(crate) const SEED: &str = "seed";
 
+pub(crate) const ONLY: &str = "only";
+
 pub(crate) const SHOW: &str = "show";
 
 pub(crate) const QUIET: &str = "quiet";
@@ -266,6 +268,26 @@ fn over_cost<'a>(alloc: Global, words: &Subcommand) -> Result<Command<'a>, Alloc
         .arg(svg)
 }
 
+// With pictures of a run's statements, and a page of them.
+fn drawn<'a>(alloc: Global, command: Command<'a>) -> Result<Command<'a>, AllocError> {
+    let svg = Arg::new(alloc, SVG)
+        .long(SVG)
+        .action(ArgAction::SetTrue)
+        .help("Draws them all, as SVG");
+    let flow = Arg::new(alloc, FLOW)
+        .long(FLOW)
+        .action(ArgAction::SetTrue)
+        .help("Draws the flow of data between the shared cells, as SVG");
+    let only = Arg::new(alloc, ONLY).long(ONLY).value_name("NAMES").help(
+        "Draws the flow between these shared declarations alone, as a,b",
+    );
+    let html = Arg::new(alloc, HTML)
+        .long(HTML)
+        .action(ArgAction::SetTrue)
+        .help("Makes a page that steps through them all");
+    command.arg(svg)?.arg(flow)?.arg(only)?.arg(html)
+}
+
 // A subcommand that tells a run statement by statement.
 fn over_steps<'a>(alloc: Global, words: &Subcommand) -> Result<Command<'a>, AllocError> {
     let from = Arg::new(alloc, FROM)
@@ -282,25 +304,8 @@ fn over_steps<'a>(alloc: Global, words: &Subcommand) -> Result<Command<'a>, Allo
         .long(LOCALS)
         .action(ArgAction::SetTrue)
         .help("Tells of variables, locals and printed numbers too");
-    let svg = Arg::new(alloc, SVG)
-        .long(SVG)
-        .action(ArgAction::SetTrue)
-        .help("Draws them all, as SVG");
-    let flow = Arg::new(alloc, FLOW)
-        .long(FLOW)
-        .action(ArgAction::SetTrue)
-        .help("Draws the flow of data between the shared cells, as SVG");
-    let html = Arg::new(alloc, HTML)
-        .long(HTML)
-        .action(ArgAction::SetTrue)
-        .help("Makes a page that steps through them all");
-    over_run(alloc, words)?
-        .arg(from)?
-        .arg(to)?
-        .arg(locals)?
-        .arg(svg)?
-        .arg(flow)?
-        .arg(html)
+    let told = over_run(alloc, words)?.arg(from)?.arg(to)?.arg(locals)?;
+    drawn(alloc, told)
 }
 
 // A subcommand that runs it by workers.

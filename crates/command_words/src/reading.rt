@@ -1,222 +1,19 @@
 //! A command line, read.
 
-ghost use Rattle.std.specs.Prelude.{◌≡◌, ◌<◌, IfOk, IfErr, map};
-ghost use Rattle.std.specs.Option.{ForSome};
+ghost use Rattle.std.specs.Prelude.{◌≡◌, IfErr, map};
 ghost use Rattle.std.specs.String.{string_bytes};
 ghost use Rattle.command_requests.specs.Words.{AsksForVersion, IsOfWords};
 
 use crate::grammar::{
-    BOUND, BSP, FILE, FLOW, FORMAT, FROM, HTML, INPUT, LINES, LOCALS, MAP, MEMORY, OUTCOME, QUIET,
-    RANDOM, RESERVE, SCHEDULE, SEED, SHOW, SIZE, SVG, SWEEP, TO, WORD, WORKERS, grammar,
+    BSP, FILE, FLOW, FORMAT, HTML, LINES, OUTCOME, SCHEDULE, SIZE, SVG, SWEEP, WORD, grammar,
 };
+use crate::run_reading::run_words;
 use clap::ArgMatches;
 use clap::error::ErrorKind;
-use command_requests::{
-    CostWords, Form, Opening, ProgramFile, Request, RunWords, SizeWord, StepWords, SweepWords,
-    TraceWords, Verb, asks_for_version,
-};
-use drawn_inputs::{Drawing, read_interval};
+use command_requests::{ProgramFile, Request, SizeWord, SweepWords, Verb, asks_for_version};
 use explanations::subject_of;
-use memory_texts::Choice;
 use program_texts::{Refusal, Stop};
-use run_options::{MapChoice, Options, Reserve, read_map, read_number, read_pair};
 use std::alloc::{AllocError, Global};
-
-// The number of an option, and 0 where the command has no such option.
-fn number_of<'a>(words: &ArgMatches<'a>, option: &str) -> Result<u32, Stop<'a>>
-    ensures { IfErr result IsOfWords }
-{
-    match words.get_str(option) {
-        None => Ok(0),
-        Some(word) => match read_number(word) {
-            Some(number) => Ok(number),
-            None => Err(Stop::Number(word)),
-        },
-    }
-}
-
-// The map, and the identity where the command has no such option.
-fn map_of<'a>(words: &ArgMatches<'a>) -> Result<MapChoice, Stop<'a>>
-    ensures { IfErr result IsOfWords }
-{
-    match words.get_str(MAP) {
-        None => Ok(MapChoice::Identity),
-        Some(word) => match read_map(word) {
-            Some(map) => Ok(map),
-            None => Err(Stop::Number(word)),
-        },
-    }
-}
-
-// The reserve, if the command line has one.
-fn reserve_of<'a>(words: &ArgMatches<'a>) -> Result<Option<Reserve>, Stop<'a>>
-    ensures { IfErr result IsOfWords }
-{
-    match words.get_str(RESERVE) {
-        None => Ok(None),
-        Some(word) => match read_pair(word) {
-            Some((items, exchanges)) => Ok(Some(Reserve { items, exchanges })),
-            None => Err(Stop::Number(word)),
-        },
-    }
-}
-
-// The number of processors, if the command line has one. It is at least 1.
-fn schedule_of<'a>(words: &ArgMatches<'a>) -> Result<Option<u32>, Stop<'a>>
-    ensures some { IfOk result (λ schedule. ForSome schedule (λ q. 0 < q)) }
-    ensures refused { IfErr result IsOfWords }
-{
-    match words.get_str(SCHEDULE) {
-        None => Ok(None),
-        Some(word) => match read_number(word) {
-            Some(0) | None => Err(Stop::Number(word)),
-            Some(processors) => Ok(Some(processors)),
-        },
-    }
-}
-
-fn cost_words<'a>(words: &ArgMatches<'a>) -> Result<CostWords, Stop<'a>>
-    ensures { IfErr result IsOfWords }
-{
-    let schedule = schedule_of(words)?;
-    let lines = words.get_flag(LINES);
-    Ok(CostWords { schedule, lines })
-}
-
-// Both numbers are 0 where the command has no such options.
-fn step_words<'a>(words: &ArgMatches<'a>) -> Result<StepWords, Stop<'a>>
-    ensures { IfErr result IsOfWords }
-{
-    let from = number_of(words, FROM)?;
-    let to = number_of(words, TO)?;
-    let locals = words.get_flag(LOCALS);
-    Ok(StepWords { from, to, locals })
-}
-
-// The seed, and 1 where the command line has none.
-fn seed_of<'a>(words: &ArgMatches<'a>) -> Result<u64, Stop<'a>>
-    ensures { IfErr result IsOfWords }
-{
-    match words.get_str(SEED) {
-        None => Ok(1),
-        Some(word) => match read_number(word) {
-            Some(seed) => Ok(u64::from(seed)),
-            None => Err(Stop::Number(word)),
-        },
-    }
-}
-
-// Numbers of an interval, by the seed.
-fn drawing_of<'a>(words: &ArgMatches<'a>, interval: &'a str) -> Result<Opening<'a>, Stop<'a>>
-    ensures { IfErr result IsOfWords }
-{
-    let seed = seed_of(words)?;
-    match read_interval(interval) {
-        Some((low, high)) => Ok(Opening::Drawn(Drawing { low, high, seed })),
-        None => Err(Stop::Number(interval)),
-    }
-}
-
-// What the cells hold: an input, a memory or numbers that are drawn, and no two of these.
-fn opening_of<'a>(words: &ArgMatches<'a>) -> Result<Opening<'a>, Stop<'a>>
-    ensures { IfErr result IsOfWords }
-{
-    let (input, memory, random) = (
-        words.get_str(INPUT),
-        words.get_str(MEMORY),
-        words.get_str(RANDOM),
-    );
-    if random.is_none() && words.get_str(SEED).is_some() {
-        return Err(Stop::Number("--seed"));
-    }
-    match (input, memory, random) {
-        (None, None, None) => Ok(Opening::Zeros),
-        (Some(name), None, None) => Ok(Opening::Input(name)),
-        (None, Some(name), None) => Ok(Opening::Memory(name)),
-        (None, None, Some(interval)) => drawing_of(words, interval),
-        (_, Some(_), _) => Err(Stop::Number("--memory")),
-        (_, _, _) => Err(Stop::Number("--random")),
-    }
-}
-
-// What is written of the memory.
-fn choice_of<'a>(words: &ArgMatches<'a>) -> Result<Choice<'a>, Stop<'a>>
-    ensures { IfErr result IsOfWords }
-{
-    match (words.get_str(SHOW), words.get_flag(QUIET)) {
-        (None, false) => Ok(Choice::All),
-        (None, true) => Ok(Choice::Nothing),
-        (Some(names), false) => Ok(Choice::Named(names)),
-        (Some(_), true) => Err(Stop::Number("--quiet")),
-    }
-}
-
-// How it is told, of which two are refused together.
-fn form_of(words: &ArgMatches<'_>) -> Form {
-    if words.get_flag(SVG) {
-        Form::Picture
-    } else if words.get_flag(FLOW) {
-        Form::Flow
-    } else if words.get_flag(HTML) {
-        Form::Page
-    } else {
-        Form::Words
-    }
-}
-
-// What an exchange costs, if that is asked for.
-fn rates_of<'a>(words: &ArgMatches<'a>) -> Result<Option<(u32, u32)>, Stop<'a>>
-    ensures { IfErr result IsOfWords }
-{
-    match words.get_str(BSP) {
-        None => Ok(None),
-        Some(word) => match read_pair(word) {
-            Some(rates) => Ok(Some(rates)),
-            None => Err(Stop::Number(word)),
-        },
-    }
-}
-
-// A picture and JSON have the lines too.
-fn trace_words<'a>(words: &ArgMatches<'a>) -> Result<TraceWords, Stop<'a>>
-    ensures { IfErr result IsOfWords }
-{
-    let rates = rates_of(words)?;
-    let is_told = words.get_flag(LINES) || words.get_flag(SVG);
-    Ok(TraceWords {
-        outcome: words.get_flag(OUTCOME),
-        lines: is_told || words.get_str(FORMAT) == Some("json"),
-        rates,
-    })
-}
-
-fn run_words<'a>(words: &ArgMatches<'a>) -> Result<RunWords<'a>, Stop<'a>>
-    ensures { IfErr result IsOfWords }
-{
-    let bound = number_of(words, BOUND)?;
-    let workers = number_of(words, WORKERS)?;
-    let map = map_of(words)?;
-    let reserve = reserve_of(words)?;
-    let costs = cost_words(words)?;
-    let steps = step_words(words)?;
-    let trace = trace_words(words)?;
-    let opening = opening_of(words)?;
-    let shown = choice_of(words)?;
-    Ok(RunWords {
-        opening,
-        options: Options {
-            workers,
-            map,
-            bound,
-        },
-        reserve,
-        costs,
-        steps,
-        trace,
-        form: form_of(words),
-        shown,
-    })
-}
 
 // How something is told. Whether it is JSON `asks_for_json` says, and whether it is in the lines of editors `asks_for_gnu`.
 #[derive(Clone, Copy, PartialEq, Eq)]
@@ -382,8 +179,32 @@ fn asked_subject<'a>(matches: &ArgMatches<'a>) -> Result<Request<'a>, Stop<'a>>
 // How the parser's tip to write an option behind `--` begins. It would be the name of a file there.
 const TIP: &str = "  tip: to pass ";
 
-// The parser's words, without that tip.
-fn told(alloc: Global, error: &clap::Error) -> Result<String, AllocError> {
+// How the parser's last line begins where it refuses words; its help ends with an example.
+const ASIDE: &str = "For more information";
+
+// A call's first word, if there is something to explain of it, as there is of each command.
+fn explained(words: &[String]) -> &str {
+    if let Some(word) = words.first() {
+        if subject_of(word.as_str()).is_some() {
+            return word.as_str();
+        }
+    }
+    ""
+}
+
+// Says what to type to read more.
+fn push_hint(text: &mut String, word: &str) -> Result<(), AllocError> {
+    text.push_str("More: pramc explain")?;
+    if !word.is_empty() {
+        text.push(' ')?;
+        text.push_str(word)?;
+    }
+    text.push('\n')?;
+    Ok(())
+}
+
+// The parser's words, without that tip, and what to type to read more.
+fn told(alloc: Global, words: &[String], error: &clap::Error) -> Result<String, AllocError> {
     let text = format!(in alloc; "{error}")?;
     let mut kept = String::new(alloc);
     let mut is_behind = false;
@@ -393,6 +214,9 @@ fn told(alloc: Global, error: &clap::Error) -> Result<String, AllocError> {
         if !is_tip && !(is_behind && line.is_empty()) {
             kept.push_str(line)?;
             kept.push('\n')?;
+        }
+        if line.starts_with(ASIDE) {
+            push_hint(&mut kept, explained(words))?;
         }
         is_behind = is_tip;
     }
@@ -428,7 +252,7 @@ fn refused<'a>(alloc: Global, words: &'a [String], error: clap::Error) -> Stop<'
     if let Some(word) = steering(words) {
         return Stop::Number(word);
     }
-    match told(alloc, &error) {
+    match told(alloc, words, &error) {
         Ok(text) => Stop::Words(text),
         Err(AllocError) => Stop::Refused(Refusal::OutOfMemory),
     }

@@ -51,7 +51,7 @@ Limits: numbers of 64 bits, 16384 processors, 1048576 cells, 16384 tokens,
 8 shared reads in a statement, 64 levels of blocks and of expressions.
 ";
 
-pub(crate) const OPTIONS: [u8; 2402] = *b"The options, and which commands take them.
+pub(crate) const OPTIONS: [u8; 2477] = *b"The options, and which commands take them.
 
 All but explain:
 
@@ -96,6 +96,7 @@ What is written:
 --locals            tells of variables, locals and printed numbers too: steps
 --html              a page that steps through the run: steps
 --flow              a picture of the flow of data between cells: steps
+--only NAMES        a flow between these declarations alone, as a,b: steps
 --bsp G,L           what exchanges cost, G a word of h, L an exchange: trace
 --outcome           behind the exchanges what run writes: trace
 --svg               a picture: steps, trace, and cost with --sweep

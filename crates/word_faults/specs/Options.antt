@@ -23,6 +23,7 @@ name given.Size = codes "--size"
 name given.Sweep = codes "--sweep"
 name given.Format = codes "--format"
 name given.Show = codes "--show"
+name given.Only = codes "--only"
 name given.Bsp = codes "--bsp"
 name given.Subject = codes "explain"
 
@@ -34,6 +35,7 @@ named_telling word =
     else if same_text word (codes "--to") then Some given.To
     else if same_text word (codes "--format") then Some given.Format
     else if same_text word (codes "--show") then Some given.Show
+    else if same_text word (codes "--only") then Some given.Only
     else if same_text word (codes "--bsp") then Some given.Bsp
     else if same_text word (codes "explain") then Some given.Subject
     else None
@@ -79,5 +81,6 @@ Takes given.Size word = ⊥
 Takes given.Sweep word = ⊥
 Takes given.Format word = (word ≡ codes "text") ⊎ (word ≡ codes "json")
 Takes given.Show word = ⊥
+Takes given.Only word = ⊥
 Takes given.Bsp word = (g : ℕ) × (l : ℕ) × IsPair word g l
 Takes given.Subject word = ⊥

@@ -7,9 +7,10 @@ use Rattle.word_faults.specs.declared.given.Given.{Given}
 use Rattle.word_faults.specs.declared.given.Given.TheVariants as given
 use Rattle.word_faults.specs.Options.{Takes, named}
 
--- whether a word is the value of an option, or one of the names that are to be shown
+-- whether a word is the value of an option, or one of the names that are to be shown or drawn
 abbrev pub holds : Given → (value told : List ℕ) → Bool
 holds given.Show value told = is_one_of (parts value) told
+holds given.Only value told = is_one_of (parts value) told
 holds _ value told = same_text value told
 
 -- the option, where it has this value

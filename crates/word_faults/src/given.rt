@@ -19,6 +19,7 @@ pub enum Given {
     Sweep,
     Format,
     Show,
+    Only,
     Bsp,
     Subject,
 }
@@ -42,6 +43,7 @@ impl Given {
             Given::Sweep => b"--sweep",
             Given::Format => b"--format",
             Given::Show => b"--show",
+            Given::Only => b"--only",
             Given::Bsp => b"--bsp",
             Given::Subject => b"explain",
         }

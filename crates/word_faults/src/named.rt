@@ -27,6 +27,8 @@ fn named_telling(word: &[u8]) -> Option<Given>
         Some(Given::Format)
     } else if is_same(word, b"--show") {
         Some(Given::Show)
+    } else if is_same(word, b"--only") {
+        Some(Given::Only)
     } else if is_same(word, b"--bsp") {
         Some(Given::Bsp)
     } else if is_same(word, b"explain") {

@@ -65,6 +65,7 @@ fn wanted(given: Given) -> &'static [u8]
         }
         Given::Format => b"text or json, or csv with --sweep, or gnu with check",
         Given::Show => b"names of shared declarations of the program, as a,b",
+        Given::Only => b"names of shared declarations of the program, as a,b",
         Given::Bsp => b"G,L, two numbers from 0 to 4294967295",
         Given::Subject => {
             b"a refusal, as E6, a fault, as read-conflict, a command, language or options"
@@ -120,6 +121,8 @@ fn option_sentence(word: &[u8]) -> &'static [u8]
         b"`--schedule` doesn't go with `--sweep`\n"
     } else if is_same(word, b"--lines") {
         b"`--lines` doesn't go with `--sweep`\n"
+    } else if is_same(word, b"--only") {
+        b"`--only` goes with `--flow` alone\n"
     } else {
         b""
     }

@@ -74,6 +74,6 @@ pub(crate) fn takes(given: Given, word: &str) -> bool
         Given::Reserve | Given::Bsp => is_pair(word),
         Given::Random => is_interval(word),
         Given::Format => is_format(word),
-        Given::Size | Given::Sweep | Given::Show | Given::Subject => false,
+        Given::Size | Given::Sweep | Given::Show | Given::Only | Given::Subject => false,
     }
 }

@@ -9,12 +9,12 @@ use crate::named::{is_same, named};
 use crate::takes::takes;
 use memory_texts::{Choice, is_chosen};
 
-// Whether a word is the value of an option, or one of the names that are to be shown.
+// Whether a word is the value of an option, or one of the names that are to be shown or drawn.
 fn holds(given: Given, value: &str, told: &str) -> bool
     ensures { result ≡ spec.holds given value.now told.now }
 {
     match given {
-        Given::Show => is_chosen(Choice::Named(value), told.as_bytes()),
+        Given::Show | Given::Only => is_chosen(Choice::Named(value), told.as_bytes()),
         _ => is_same(value.as_bytes(), told.as_bytes()),
     }
 }
@@ -75,7 +75,7 @@ fn wrong_at(before: Option<Given>, word: &str, told: &str) -> Option<Given>
 }
 
 /// The first option of the words of a call that has this word as its value and doesn't take it: the word stands behind the option's name,
-/// or behind the `=` in one word with it; of names that are to be shown it may be one of them.
+/// or behind the `=` in one word with it; of names that are to be shown or drawn it may be one of them.
 pub fn wrong_option(words: &[String], told: &str) -> Option<Given>
     ensures { spec.IsWrong (map string_bytes words.now) told.now result }
 {

@@ -1,4 +1,4 @@
-use Rattle.std.proofs.Common.{[], List, ℕ, ℤ, map, subst}
+use Rattle.std.proofs.Common.{List, ℕ, ℤ, map, subst}
 use Rattle.pram_model.specs.Layout.{SharedEntry}
 use Rattle.diagnoses.specs.Sources.{text_in}
 use Rattle.flow_pictures.specs.Picture.{flow}
@@ -16,11 +16,11 @@ returns g c =
     let new = g.O.Out.state c.write_flowing.new.out in
     let result = c.write_flowing.result in
     let of_input = subst (λ (v : List ℤ). Wrote (status_of run.outcome)
-    (flow c.layout-layout.result.now c.text-text.result.now c.args.asides.now v entries [] words.from words.to) old new result) c.deref.ensures.value
+    (flow c.layout-layout.result.now c.text-text.result.now c.args.asides.now v entries c.args.only.now words.from words.to) old new result) c.deref.ensures.value
     c.write_flowing.ensures.written in
     let of_text = subst (λ (t : List ℕ). Wrote (status_of run.outcome)
-    (flow c.layout-layout.result.now t c.args.asides.now run.input.items entries [] words.from words.to) old new result) c.text-text.ensures.value of_input in
+    (flow c.layout-layout.result.now t c.args.asides.now run.input.items entries c.args.only.now words.from words.to) old new result) c.text-text.ensures.value of_input in
     record {
       written = subst (λ (l : List SharedEntry). Wrote (status_of run.outcome)
-          (flow l (text_in run.loaded.source) c.args.asides.now run.input.items entries [] words.from words.to) old new result) c.layout-layout.ensures of_text;
+          (flow l (text_in run.loaded.source) c.args.asides.now run.input.items entries c.args.only.now words.from words.to) old new result) c.layout-layout.ensures of_text;
     }

@@ -1,0 +1,220 @@
+//! How something is run, by the options of a command line.
+
+ghost use Rattle.std.specs.Prelude.{◌<◌, IfOk, IfErr};
+ghost use Rattle.std.specs.Option.{ForSome};
+ghost use Rattle.command_requests.specs.Words.{IsOfWords};
+
+use crate::grammar::{
+    BOUND, BSP, FLOW, FORMAT, FROM, HTML, INPUT, LINES, LOCALS, MAP, MEMORY, ONLY, OUTCOME, QUIET,
+    RANDOM, RESERVE, SCHEDULE, SEED, SHOW, SVG, TO, WORKERS,
+};
+use clap::ArgMatches;
+use command_requests::{CostWords, Form, Opening, RunWords, StepWords, TraceWords};
+use drawn_inputs::{Drawing, read_interval};
+use memory_texts::Choice;
+use program_texts::Stop;
+use run_options::{MapChoice, Options, Reserve, read_map, read_number, read_pair};
+
+// The number of an option, and 0 where the command has no such option.
+fn number_of<'a>(words: &ArgMatches<'a>, option: &str) -> Result<u32, Stop<'a>>
+    ensures { IfErr result IsOfWords }
+{
+    match words.get_str(option) {
+        None => Ok(0),
+        Some(word) => match read_number(word) {
+            Some(number) => Ok(number),
+            None => Err(Stop::Number(word)),
+        },
+    }
+}
+
+// The map, and the identity where the command has no such option.
+fn map_of<'a>(words: &ArgMatches<'a>) -> Result<MapChoice, Stop<'a>>
+    ensures { IfErr result IsOfWords }
+{
+    match words.get_str(MAP) {
+        None => Ok(MapChoice::Identity),
+        Some(word) => match read_map(word) {
+            Some(map) => Ok(map),
+            None => Err(Stop::Number(word)),
+        },
+    }
+}
+
+// The reserve, if the command line has one.
+fn reserve_of<'a>(words: &ArgMatches<'a>) -> Result<Option<Reserve>, Stop<'a>>
+    ensures { IfErr result IsOfWords }
+{
+    match words.get_str(RESERVE) {
+        None => Ok(None),
+        Some(word) => match read_pair(word) {
+            Some((items, exchanges)) => Ok(Some(Reserve { items, exchanges })),
+            None => Err(Stop::Number(word)),
+        },
+    }
+}
+
+// The number of processors, if the command line has one. It is at least 1.
+fn schedule_of<'a>(words: &ArgMatches<'a>) -> Result<Option<u32>, Stop<'a>>
+    ensures some { IfOk result (λ schedule. ForSome schedule (λ q. 0 < q)) }
+    ensures refused { IfErr result IsOfWords }
+{
+    match words.get_str(SCHEDULE) {
+        None => Ok(None),
+        Some(word) => match read_number(word) {
+            Some(0) | None => Err(Stop::Number(word)),
+            Some(processors) => Ok(Some(processors)),
+        },
+    }
+}
+
+fn cost_words<'a>(words: &ArgMatches<'a>) -> Result<CostWords, Stop<'a>>
+    ensures { IfErr result IsOfWords }
+{
+    let schedule = schedule_of(words)?;
+    let lines = words.get_flag(LINES);
+    Ok(CostWords { schedule, lines })
+}
+
+// Both numbers are 0 where the command has no such options.
+fn step_words<'a>(words: &ArgMatches<'a>) -> Result<StepWords, Stop<'a>>
+    ensures { IfErr result IsOfWords }
+{
+    let from = number_of(words, FROM)?;
+    let to = number_of(words, TO)?;
+    let locals = words.get_flag(LOCALS);
+    Ok(StepWords { from, to, locals })
+}
+
+// The seed, and 1 where the command line has none.
+fn seed_of<'a>(words: &ArgMatches<'a>) -> Result<u64, Stop<'a>>
+    ensures { IfErr result IsOfWords }
+{
+    match words.get_str(SEED) {
+        None => Ok(1),
+        Some(word) => match read_number(word) {
+            Some(seed) => Ok(u64::from(seed)),
+            None => Err(Stop::Number(word)),
+        },
+    }
+}
+
+// Numbers of an interval, by the seed.
+fn drawing_of<'a>(words: &ArgMatches<'a>, interval: &'a str) -> Result<Opening<'a>, Stop<'a>>
+    ensures { IfErr result IsOfWords }
+{
+    let seed = seed_of(words)?;
+    match read_interval(interval) {
+        Some((low, high)) => Ok(Opening::Drawn(Drawing { low, high, seed })),
+        None => Err(Stop::Number(interval)),
+    }
+}
+
+// What the cells hold: an input, a memory or numbers that are drawn, and no two of these.
+fn opening_of<'a>(words: &ArgMatches<'a>) -> Result<Opening<'a>, Stop<'a>>
+    ensures { IfErr result IsOfWords }
+{
+    let (input, memory, random) = (
+        words.get_str(INPUT),
+        words.get_str(MEMORY),
+        words.get_str(RANDOM),
+    );
+    if random.is_none() && words.get_str(SEED).is_some() {
+        return Err(Stop::Number("--seed"));
+    }
+    match (input, memory, random) {
+        (None, None, None) => Ok(Opening::Zeros),
+        (Some(name), None, None) => Ok(Opening::Input(name)),
+        (None, Some(name), None) => Ok(Opening::Memory(name)),
+        (None, None, Some(interval)) => drawing_of(words, interval),
+        (_, Some(_), _) => Err(Stop::Number("--memory")),
+        (_, _, _) => Err(Stop::Number("--random")),
+    }
+}
+
+// Of what memory is written, or drawn.
+fn choice_of<'a>(words: &ArgMatches<'a>) -> Result<Choice<'a>, Stop<'a>>
+    ensures { IfErr result IsOfWords }
+{
+    if let Some(names) = words.get_str(ONLY) {
+        return if words.get_flag(FLOW) {
+            Ok(Choice::Named(names))
+        } else {
+            Err(Stop::Number("--only"))
+        };
+    }
+    match (words.get_str(SHOW), words.get_flag(QUIET)) {
+        (None, false) => Ok(Choice::All),
+        (None, true) => Ok(Choice::Nothing),
+        (Some(names), false) => Ok(Choice::Named(names)),
+        (Some(_), true) => Err(Stop::Number("--quiet")),
+    }
+}
+
+// How it is told, of which two are refused together.
+fn form_of(words: &ArgMatches<'_>) -> Form {
+    if words.get_flag(SVG) {
+        Form::Picture
+    } else if words.get_flag(FLOW) {
+        Form::Flow
+    } else if words.get_flag(HTML) {
+        Form::Page
+    } else {
+        Form::Words
+    }
+}
+
+// What an exchange costs, if that is asked for.
+fn rates_of<'a>(words: &ArgMatches<'a>) -> Result<Option<(u32, u32)>, Stop<'a>>
+    ensures { IfErr result IsOfWords }
+{
+    match words.get_str(BSP) {
+        None => Ok(None),
+        Some(word) => match read_pair(word) {
+            Some(rates) => Ok(Some(rates)),
+            None => Err(Stop::Number(word)),
+        },
+    }
+}
+
+// A picture and JSON have the lines too.
+fn trace_words<'a>(words: &ArgMatches<'a>) -> Result<TraceWords, Stop<'a>>
+    ensures { IfErr result IsOfWords }
+{
+    let rates = rates_of(words)?;
+    let is_told = words.get_flag(LINES) || words.get_flag(SVG);
+    Ok(TraceWords {
+        outcome: words.get_flag(OUTCOME),
+        lines: is_told || words.get_str(FORMAT) == Some("json"),
+        rates,
+    })
+}
+
+/// How something is run.
+pub(crate) fn run_words<'a>(words: &ArgMatches<'a>) -> Result<RunWords<'a>, Stop<'a>>
+    ensures { IfErr result IsOfWords }
+{
+    let bound = number_of(words, BOUND)?;
+    let workers = number_of(words, WORKERS)?;
+    let map = map_of(words)?;
+    let reserve = reserve_of(words)?;
+    let costs = cost_words(words)?;
+    let steps = step_words(words)?;
+    let trace = trace_words(words)?;
+    let opening = opening_of(words)?;
+    let shown = choice_of(words)?;
+    Ok(RunWords {
+        opening,
+        options: Options {
+            workers,
+            map,
+            bound,
+        },
+        reserve,
+        costs,
+        steps,
+        trace,
+        form: form_of(words),
+        shown,
+    })
+}
