@@ -5,4 +5,5 @@ pub mod Behaviours
 pub mod InsidePardo
 pub mod OutsidePardo
 pub mod Outcomes
+pub mod Samples
 pub mod ToldApart

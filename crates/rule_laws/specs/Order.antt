@@ -1,6 +1,6 @@
 -- The rules of concurrent access are ordered: what is lawful under a stricter one is so, with the same effect, under a weaker one.
 -- JáJá, An Introduction to Parallel Algorithms, chapter 1 (the machines from EREW to priority CRCW). The sum is this project's own profile.
-use Rattle.std.specs.Prelude.{◌≡◌, ◌≢◌, ◌↔◌, true, ℕ, ℤ, List}
+use Rattle.std.specs.Prelude.{◌≡◌, ◌≢◌, ◌⊎◌, true, ℕ, ℤ, List}
 use Rattle.pram_model.specs.declared.rule.Rule.{Rule}
 use Rattle.pram_model.specs.declared.rule.Rule.TheVariants.{Erew, Crew, Common, Priority, Sum}
 use Rattle.pram_values.specs.declared.kind.Kind.{Kind}
@@ -8,7 +8,9 @@ use Rattle.pram_values.specs.declared.kind.Kind.TheVariants.{ReadConflict, Write
 use Rattle.write_rules.specs.Rule.{is_sum, shares_reads}
 use Rattle.write_rules.specs.Verdict.{Verdict, Ended, Faulted, GoesOn}
 use Rattle.pram_check.specs.Bounded.{IsBounded}
-use Rattle.pram_check.specs.Checked.{Checked}
+use Rattle.pram_trees.specs.Program.{IsTree, limit}
+use Rattle.pram_check.specs.Checked.{Checked, IsResolved}
+use Rattle.pram_check.specs.Faults.{IsAccepted}
 use Rattle.pram_check.specs.OtherRule.{under}
 use Rattle.pram_meaning.specs.Outcome.{IsOutcome}
 use Rattle.pram_meaning.specs.Values.{AreValues}
@@ -52,18 +54,36 @@ pub data IsWithin : Rule → Rule → Type 0 where
   from_crew : {rule : Rule} → shares_reads rule ≡ true → IsWithin Crew rule
   to_priority : IsWithin Common Priority
 
--- every outcome under the first rule that is no conflict is the outcome under the second
+-- a program as `check` gives it: of a tree of the grammar in which nothing is wrong
+pub record IsAcceptedProgram (p : Checked) : Type 0 where
+  pub tree : IsTree limit limit p.tree
+  pub accepted : IsAccepted p.tree
+  pub says : IsResolved p
+
+-- Of every such program, on an input of values of 64 bits: each outcome under the first rule that is no conflict is that under the second.
 abbrev pub IsAlwaysKept : Rule → Rule → Type 0
 IsAlwaysKept strict weak =
-    (p : Checked) (input : List ℤ) (n : ℕ) (v : Verdict) → SuitsSum weak p input → IsFreeOf ReadConflict v → IsFreeOf WriteConflict v →
-    IsKept strict weak p input n v
+    (p : Checked) (input : List ℤ) (n : ℕ) (v : Verdict) → IsAcceptedProgram p → AreValues input → IsFreeOf ReadConflict v →
+    IsFreeOf WriteConflict v → IsKept strict weak p input n v
 
--- These are all the pairs: of any other two rules, some program ends under the first and comes to something else under the second.
-abbrev pub OrderIsExact : Type 0
-OrderIsExact = (strict weak : Rule) → IsWithin strict weak ↔ IsAlwaysKept strict weak
+-- some such program ends on the input under the first rule, and doesn't come to that end under the second
+pub record AreToldApart (strict weak : Rule) (input : List ℤ) : Type 0 where
+  pub program : Checked
+  pub is_accepted : IsAcceptedProgram program
+  pub bound : ℕ
+  pub output : List ℤ
+  pub memory : List ℤ
+  pub first : IsOutcome (under strict program) input bound (Ended output memory)
+  pub not_second : IsOutcome (under weak program) input bound (Ended output memory) → ⊥
 
--- Without `SuitsSum` it would be false of sum: a program within bounds ends under erew on an input with a greater value, and faults under sum.
+-- Outcomes are kept from a rule to each that it is within.
+abbrev pub OrderIsKept : Type 0
+OrderIsKept = (strict weak : Rule) → IsWithin strict weak → IsAlwaysKept strict weak
+
+-- And to no other: it and any other rule are told apart on an input of values of 64 bits.
+abbrev pub OrderIsAll : Type 0
+OrderIsAll = (strict weak : Rule) → IsWithin strict weak ⊎ ((input : List ℤ) × AreValues input × AreToldApart strict weak input)
+
+-- On an input of greater values erew and sum are told apart.
 abbrev pub SumNeedsValues : Type 0
-SumNeedsValues =
-    ((p : Checked) (input : List ℤ) (n : ℕ) (v : Verdict) → IsBounded p → IsFreeOf ReadConflict v → IsFreeOf WriteConflict v →
-    IsKept Erew Sum p input n v) → ⊥
+SumNeedsValues = (input : List ℤ) × AreToldApart Erew Sum input

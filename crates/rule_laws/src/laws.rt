@@ -1,6 +1,6 @@
 //! What a program comes to under a stricter rule, it comes to under a weaker one.
 
-ghost use Rattle.rule_laws.specs.Order.{CommonIsPriority, CrewIsConcurrent, ErewIsEveryRule, OrderIsExact, SumNeedsValues};
+ghost use Rattle.rule_laws.specs.Order.{CommonIsPriority, CrewIsConcurrent, ErewIsEveryRule, OrderIsAll, OrderIsKept, SumNeedsValues};
 
 /// Of every program, on every input within every bound: where its outcome under erew is no conflict, of reads or of writes, it is its
 /// outcome under each of the five rules, the fault of arithmetic or of a range included.
@@ -18,9 +18,10 @@ pub fn common_is_priority()
     ensures { CommonIsPriority }
 {}
 
-/// These three say all: of any other two rules some program ends under the first and comes to something else under the second. And what is
-/// asked of the program and its input where the second rule is sum can't be left out.
+/// These three say all: outcomes are kept from a rule to each that it is within, and of any other two rules some accepted program ends
+/// under the first and doesn't come to that end under the second. Nor can be left out what is asked of the input under sum.
 pub fn the_order_is_exact()
-    ensures exact { OrderIsExact }
+    ensures kept { OrderIsKept }
+    ensures all { OrderIsAll }
     ensures needed { SumNeedsValues }
 {}
