@@ -1,0 +1,4 @@
+//! The rules of concurrent access are ordered.
+#![tactic(auto)]
+
+pub mod laws;
