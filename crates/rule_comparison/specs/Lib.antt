@@ -3,3 +3,4 @@ pub mod Compared
 pub mod FirstEnd
 pub mod ComparisonText
 pub mod Judged
+pub mod Told

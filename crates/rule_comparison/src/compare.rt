@@ -1,28 +1,24 @@
 //! A program under each of the five rules.
 
 ghost use Rattle.std.specs.Prelude.{◌≡◌, ◌↔◌, ◌<◌, ◌≤◌, IfOk, length};
-ghost use Rattle.std.specs.Bool.{Decides};
 ghost use Rattle.pram_model.specs.Layout.{total_size};
 ghost use Rattle.pram_check.specs.OtherRule.{under};
 ghost use Rattle.write_rules.specs.Verdict.{verdict_of};
 ghost use Rattle.pram_meaning.specs.Outcome.{IsOutcome};
+ghost use Rattle.pram_meaning.specs.Values.{AreValues};
 ghost use Rattle.rule_comparison.specs.Compared.{IsComparison};
 ghost use Rattle.rule_comparison.specs.Judged.{IsFoundUnder};
+ghost use Rattle.rule_comparison.specs.Told.{IsKnown, ahead};
 
 use crate::comparison::Comparison;
 use crate::finding::Finding;
 use crate::first_end::FirstEnd;
+use crate::input::have_64_bits;
 use pram_check::Program;
 use pram_meaning::{MeaningRefusal, reference_run};
 use pram_trees::Rule;
 use std::alloc::Global;
 use write_rules::Outcome;
-
-fn same_rule(a: Rule, b: Rule) -> bool
-    ensures { Decides result (a ≡ b) }
-{
-    a == b
-}
 
 // The outcome under that rule, and the program under it.
 fn run_under(
@@ -61,35 +57,61 @@ fn find_under(
     Ok((program, finding))
 }
 
-// The same, where what is found under the declared rule is known.
-fn find_beside(
+// What is found under that rule, by a run only where what is known is a conflict.
+fn find(
     alloc: Global,
     program: Program,
     rule: Rule,
+    known: Finding,
     first: &mut FirstEnd,
-    declared: (Rule, Finding),
     input: &[i64],
     bound: u32,
 ) -> Result<(Program, Finding), MeaningRefusal>
     requires fits { length input.now ≤ total_size program.layout }
-    requires declared { IsFoundUnder declared.0 program input.now bound first.old declared.1 first.old }
+    requires values { AreValues input.now }
+    requires known { IsKnown rule program input.now bound first.old known }
     ensures program { IfOk result (λ found. found.0 ≡ under rule program) }
     ensures found { IfOk result (λ found. IsFoundUnder rule program input.now bound first.old found.1 first.new) }
-    ensures declared { IfOk result (λ found. IsFoundUnder declared.0 program input.now bound first.new declared.1 first.new) }
     ensures fitting { result ≡ Err MeaningRefusal.InputTooLong → ⊥ }
 {
-    let (own, finding) = declared;
-    if same_rule(rule, own) {
-        Ok((program.under(rule), finding))
-    } else {
+    program.bounded();
+    if known.is_conflict() {
         find_under(alloc, program, rule, first, input, bound)
+    } else {
+        Ok((program.under(rule), known))
     }
 }
 
-/// Runs the program under each of the five rules on the input for at most `bound` statements, and says of each how it comes out and
-/// whether as under the rule that the program declares, where it ends under that, and else as under the first, in the order erew, crew,
-/// common, priority, sum, under which it ends.
+// Where the program declares sum, its end has to come before that under common, which may be another. What is known of sum from there
+// on: what is found under it, and else what is found under crew.
+fn find_ahead(
+    alloc: Global,
+    program: Program,
+    declared: Rule,
+    crew: Finding,
+    first: &mut FirstEnd,
+    input: &[i64],
+    bound: u32,
+) -> Result<(Program, Finding), MeaningRefusal>
+    requires fits { length input.now ≤ total_size program.layout }
+    requires values { AreValues input.now }
+    requires crew { IsFoundUnder Rule.Crew program input.now bound first.old crew first.old }
+    ensures program { IfOk result (λ found. found.0 ≡ under (ahead declared) program) }
+    ensures found { IfOk result (λ found. IsFoundUnder (ahead declared) program input.now bound first.old found.1 first.new) }
+    ensures fitting { result ≡ Err MeaningRefusal.InputTooLong → ⊥ }
+{
+    match declared {
+        Rule::Erew | Rule::Crew | Rule::Common | Rule::Priority => {
+            Ok((program.under(Rule::Crew), crew))
+        }
+        Rule::Sum => find(alloc, program, Rule::Sum, crew, first, input, bound),
+    }
+}
+
+/// How the program comes out under each of the five rules on the input within `bound` statements, and whether as under the rule that it
+/// declares, where it ends under that, and else as under the first, in the order erew, crew, common, priority, sum, under which it ends.
 /// The first cells get the values of the input. E11 where there are more values than cells; E16 only where memory was refused.
+/// The program is run under a rule only where no run under a stricter one tells: once, where it comes to no conflict under erew.
 pub fn compare_rules(
     alloc: Global,
     program: Program,
@@ -102,31 +124,24 @@ pub fn compare_rules(
     ensures fits { IfOk result (λ c. length input.now ≤ total_size program.layout) }
     ensures too_long { (result ≡ Err MeaningRefusal.InputTooLong) ↔ (total_size program.layout < length input.now) }
 {
-    let mut first = FirstEnd::none();
     let rule = program.rule();
-    let (program, own) = find_under(alloc, program, rule, &mut first, input, bound)?;
-    let known = (rule, own);
-    let (program, erew) = find_beside(alloc, program, Rule::Erew, &mut first, known, input, bound)?;
-    let (program, crew) = find_beside(alloc, program, Rule::Crew, &mut first, known, input, bound)?;
-    let (program, common) = find_beside(
-        alloc,
-        program,
-        Rule::Common,
-        &mut first,
-        known,
-        input,
-        bound,
-    )?;
-    let (program, priority) = find_beside(
+    program.bounded();
+    have_64_bits(input);
+    let mut first = FirstEnd::none();
+    let (program, erew) = find_under(alloc, program, Rule::Erew, &mut first, input, bound)?;
+    let (program, crew) = find(alloc, program, Rule::Crew, erew, &mut first, input, bound)?;
+    let (program, ahead) = find_ahead(alloc, program, rule, crew, &mut first, input, bound)?;
+    let (program, common) = find(alloc, program, Rule::Common, crew, &mut first, input, bound)?;
+    let (program, priority) = find(
         alloc,
         program,
         Rule::Priority,
+        common,
         &mut first,
-        known,
         input,
         bound,
     )?;
-    let (program, sum) = find_beside(alloc, program, Rule::Sum, &mut first, known, input, bound)?;
+    let (program, sum) = find(alloc, program, Rule::Sum, ahead, &mut first, input, bound)?;
     Ok(Comparison {
         layout: program.into_layout(),
         declared: rule,

@@ -6,6 +6,7 @@ mod comparison;
 pub mod comparison_laws;
 mod finding;
 mod first_end;
+mod input;
 mod show;
 
 pub use compare::compare_rules;
