@@ -2,6 +2,7 @@ pub mod Files
 pub mod Sources
 pub mod RefusedLines
 pub mod Places
+pub mod Fitting
 pub mod Remarks
 pub mod SyntaxFaults
 pub mod TextFaults
@@ -12,4 +13,5 @@ pub mod WrongElements
 pub mod Reasons
 pub mod FaultTexts
 pub mod Guesses
+pub mod Against
 pub mod Numbers

@@ -19,6 +19,7 @@ use Rattle.syntax_hints.specs.Hints.{IsHint}
 use Rattle.syntax_hints.specs.declared.hint.Hint.{Hint}
 use Rattle.diagnoses.specs.declared.remark as rust
 use Rattle.diagnoses.specs.declared.remark.Remark.TheVariants as variant
+use Rattle.diagnoses.specs.Fitting.{fitting}
 use Rattle.diagnoses.specs.Places.{token_at}
 
 pub data Remark : Type 0 where
@@ -50,18 +51,20 @@ abbrev pub unknown : (bound near : Option Known) → Remark
 unknown (Some k) near = Elsewhere k.sort k.line
 unknown None near = meant near
 
--- of an unknown name that, and of any other as what and where it is declared; of a limit nothing
-abbrev pub remark_on : (bound : Option Known) → List Known → List ℕ → Cause → Remark
-remark_on bound names word cause.UnknownName = unknown bound (nearest names word)
-remark_on bound names word cause.DoubleName = declared (named names word)
-remark_on bound names word cause.WrongKind = declared (named names word)
-remark_on bound names word cause.AssignedLoopVariable = declared (named names word)
-remark_on bound names word (cause.Limit l) = Nothing
+-- of an unknown name that, by the names that may stand there, and of any other as what and where it is declared; of a limit nothing
+abbrev pub remark_on : (bound : Option Known) → (names fit : List Known) → List ℕ → Cause → Remark
+remark_on bound names fit word cause.UnknownName = unknown bound (nearest fit word)
+remark_on bound names fit word cause.DoubleName = declared (named names word)
+remark_on bound names fit word cause.WrongKind = declared (named names word)
+remark_on bound names fit word cause.AssignedLoopVariable = declared (named names word)
+remark_on bound names fit word (cause.Limit l) = Nothing
 
 -- what there is to say of the first thing that is wrong with a program
 abbrev pub remark_at : (text : List ℕ) → ProgramTree → Spot → Cause → Remark
 remark_at text tree spot.TextEnd c = Nothing
-remark_at text tree (spot.Offset at) c = remark_on (bound_in tree (token_at text at)) (names_at tree at) (token_at text at) c
+remark_at text tree (spot.Offset at) c =
+    let names = names_at tree at in
+    remark_on (bound_in tree (token_at text at)) names (fitting (cut_of text) at names) (token_at text at) c
 
 abbrev pub remark_of : (text : List ℕ) → ProgramTree → Breach → Remark
 remark_of text tree b = remark_at text tree b.spot b.cause

@@ -7,6 +7,7 @@ mod cause_text;
 mod event_text;
 mod fault_text;
 mod files;
+mod fitting;
 mod laws;
 mod numbers;
 mod parts;
@@ -24,7 +25,10 @@ mod wrong_element;
 
 pub use about::{About, Unread};
 pub use fault_text::{write_fault_sentence, write_run_fault};
-pub use laws::a_meant_name_is_in_scope;
+pub use fitting::Role;
+pub use laws::{
+    a_meant_name_may_stand_there, a_name_is_meant_where_one_is_near, what_may_stand_is_not_refused,
+};
 pub use numbers::{stop_number, write_gnu_about};
 pub use reason::{Reason, run_reason};
 pub use remark::{Remark, expected_at, remark_of};

@@ -2,13 +2,20 @@
 
 ghost use Rattle.std.specs.Prelude.{◌≡◌, ◌≤◌, drop, length, slice_index, take};
 ghost use Rattle.std.specs.List.{prefix_len};
-ghost use Rattle.pram_model.specs.Names.{is_word as is_word_byte};
+ghost use Rattle.pram_model.specs.Names.{is_word as is_word_byte, same_text};
 ghost use Rattle.text_out.specs.Out.{Writes};
 ghost use Rattle.std.specs.Prelude.{◌<◌, ◌^◌};
 ghost use Rattle.diagnoses.specs.Places as spec;
 
 use text_out::{Out, WriteFault};
 use text_places::write_shown;
+
+/// Whether two texts are the same.
+pub(crate) fn is_same(a: &[u8], b: &[u8]) -> bool
+    ensures { result ≡ same_text a.now b.now }
+{
+    a == b
+}
 
 /// The byte at a place, and 0 behind the text.
 pub(crate) fn byte_at(text: &[u8], at: usize) -> u8

@@ -1,13 +1,17 @@
 //! What there is to say of a name that is wrong, and of a token with which no program goes on.
 
 ghost use Rattle.std.specs.Prelude.{◌≡◌, ◌≤◌, IfOk, length, map, take};
-ghost use Rattle.pram_tokens.specs.Scanning.{longest};
+ghost use Rattle.pram_tokens.specs.Scanning.{cut_of, longest};
 ghost use Rattle.token_choices.specs.Choices.{AreChoicesBehind};
 ghost use Rattle.std.specs.Option.{option_map};
 ghost use Rattle.scope_names.specs.InScope.{known_is};
 ghost use Rattle.scope_names.specs.Nearness as near;
+ghost use Rattle.diagnoses.specs.Fitting as fit;
+ghost use Rattle.pram_names.specs.declared.fault.Spot.TheVariants.{Offset};
+ghost use Rattle.diagnoses.specs.Places.{token_at as token_of};
 ghost use Rattle.diagnoses.specs.Remarks as spec;
 
+use crate::fitting::fitting_names;
 use crate::places::{front, token_at};
 use pram_check::{Breach, Cause, Spot};
 use pram_parser::parse;
@@ -56,50 +60,54 @@ fn declared(found: Option<Known<'_>>) -> Remark
 // What there is to say of a name that isn't in scope: the pardo in whose body it holds, or else which name was meant.
 fn unknown(
     alloc: Global,
+    text: &[u8],
+    at: u32,
     bound: Option<Known<'_>>,
     names: &[Known<'_>],
-    word: &[u8],
 ) -> Result<Remark, AllocError>
-    ensures { IfOk result (λ r. spec.remark_is r
-        ≡ spec.unknown (option_map known_is bound.entry) (near.nearest (map known_is names.now) word.now)) }
+    requires fits { length text.now ≤ longest }
+    ensures { IfOk result (λ r. spec.remark_is r ≡ spec.unknown (option_map known_is bound.entry)
+        (near.nearest (fit.fitting (cut_of text.now) at (map known_is names.now)) (token_of text.now at))) }
 {
     match bound {
         Some(k) => Ok(Remark::Elsewhere(k.sort, k.line)),
-        None => meant(alloc, nearest(alloc, names, word)?),
+        None => {
+            let fit = fitting_names(alloc, text, at, names)?;
+            meant(alloc, nearest(alloc, &fit, token_at(text, at as usize))?)
+        }
     }
 }
 
-// What there is to say of a word by the names in scope, and by the one of a pardo that is spelled so.
-fn remark_on(
+// What there is to say of the word at a place by the names in scope.
+fn remark_at(
     alloc: Global,
-    bound: Option<Known<'_>>,
-    names: &[Known<'_>],
-    word: &[u8],
+    text: &[u8],
+    tree: &Tree,
+    at: u32,
     cause: Cause,
 ) -> Result<Remark, AllocError>
-    ensures { IfOk result (λ r. spec.remark_is r
-        ≡ spec.remark_on (option_map known_is bound.entry) (map known_is names.now) word.now cause) }
+    requires fits { length text.now ≤ longest }
+    ensures { IfOk result (λ r. spec.remark_is r ≡ spec.remark_at text.now tree.now (Offset at) cause) }
 {
+    let names = names_at(alloc, tree, at)?;
+    let word = token_at(text, at as usize);
     match cause {
-        Cause::UnknownName => unknown(alloc, bound, names, word),
-        Cause::DoubleName => Ok(declared(find(names, word))),
-        Cause::WrongKind => Ok(declared(find(names, word))),
-        Cause::AssignedLoopVariable => Ok(declared(find(names, word))),
+        Cause::UnknownName => unknown(alloc, text, at, bound_in(tree, word), &names),
+        Cause::DoubleName => Ok(declared(find(&names, word))),
+        Cause::WrongKind => Ok(declared(find(&names, word))),
+        Cause::AssignedLoopVariable => Ok(declared(find(&names, word))),
         Cause::Limit(_) => Ok(Remark::Nothing),
     }
 }
 
 // What there is to say of the first thing that is wrong with a program, by its tree.
 fn remark_in(alloc: Global, text: &[u8], tree: &Tree, breach: Breach) -> Result<Remark, AllocError>
+    requires fits { length text.now ≤ longest }
     ensures { IfOk result (λ r. spec.remark_is r ≡ spec.remark_of text.now tree.now breach) }
 {
     match breach.spot {
         Spot::TextEnd => Ok(Remark::Nothing),
-        Spot::Offset(at) => {
-            let names = names_at(alloc, tree, at)?;
-            let word = token_at(text, at as usize);
-            remark_on(alloc, bound_in(tree, word), &names, word, breach.cause)
-        }
+        Spot::Offset(at) => remark_at(alloc, text, tree, at, breach.cause),
     }
 }
 

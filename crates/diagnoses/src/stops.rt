@@ -1,7 +1,6 @@
 //! What is said behind the line of a refusal.
 
 ghost use Rattle.std.specs.Prelude.{◌≡◌, ◌<◌, ◌^◌, List, ℕ, IfOk, None};
-ghost use Rattle.pram_model.specs.Names.{same_text};
 ghost use Rattle.text_out.specs.Out.{Writes};
 ghost use Rattle.refusal_messages.specs.Messages.{message_is, said};
 ghost use Rattle.diagnoses.specs.Remarks.{remark_is};
@@ -11,6 +10,7 @@ use crate::about::About;
 use crate::breaches::breach_message;
 use crate::files::file_message;
 use crate::parts::{at_byte, plain};
+use crate::places::is_same;
 use crate::remark::{Remark, expected_at, remark_of};
 use crate::size_faults::size_message;
 use crate::text_faults::text_message;
@@ -145,12 +145,6 @@ fn of_listing(alloc: Global, at: u32, about: &About<'_>) -> Result<Message, Allo
         About::Values { .. } => Ok(Message::nothing(alloc)),
         About::File(_) => Ok(Message::nothing(alloc)),
     }
-}
-
-fn is_same(a: &[u8], b: &[u8]) -> bool
-    ensures { result ≡ same_text a.now b.now }
-{
-    a == b
 }
 
 // What the word for a reason means.

@@ -3,3 +3,4 @@ pub mod Inserting
 pub mod Farthest
 pub mod Together
 pub mod OpenBlocks
+pub mod OneHint

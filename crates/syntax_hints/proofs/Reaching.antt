@@ -1,10 +1,12 @@
 -- How far the parser's answers say that tokens begin a program.
-use Rattle.std.proofs.Common.{◌≡◌, ◌∙◌, ◌++◌, ◌∷◌, ◌+◌, ◌-◌, ◌<◌, ◌≤◌, [], List, ℕ, ap, arith, length, length-append, subst, sym, take}
+use Rattle.std.proofs.Common.{◌≡◌, ◌∙◌, ◌++◌, ◌∷◌, ◌+◌, ◌-◌, ◌<◌, ◌≤◌, [], List, ℕ, ap, arith, drop, length, length-append, subst, sym}
+use Rattle.std.proofs.Common.{take}
+use Rattle.std.proofs.lemmas.List.{take-append-drop, take-take}
 use Rattle.std.proofs.Math.Seq.{take-append-add, take-append_seam, take-length}
 use Rattle.pram_tokens.specs.declared.token.Token.{Token}
 use Rattle.pram_trees.specs.Faults.{Ends, IsDepthFault, IsSyntaxFault}
 use Rattle.pram_trees.specs.Program.{Begins, ProgramTree, IsTree, limit, program_tokens}
-use Rattle.token_choices.proofs.Beginnings.{begins_whole}
+use Rattle.token_choices.proofs.Beginnings.{begins_front, begins_whole}
 use Rattle.syntax_hints.specs.Missing.{Reaches}
 
 reaches_front : (front back : List Token) → Begins limit limit front →
@@ -55,3 +57,22 @@ reaches_depth ts left f =
     (subst (λ (all : List Token). Reaches all (length f.front)) (sym f.whole)
     (reaches_front f.front (f.opener ∷ f.back) f.begins
     (λ less begun. f.within (subst (Begins limit limit) (one_more f.front f.opener f.back) begun))))
+
+-- ---- a program begins with so many and no more
+
+begins_less : (ts : List Token) (n m : ℕ) → n ≤ m → Begins limit limit (take m ts) → Begins limit limit (take n ts)
+begins_less ts n m le begun =
+    subst (Begins limit limit) (take-take n m ts le)
+    (begins_front (take n (take m ts)) (drop n (take m ts))
+    (subst (Begins limit limit) (sym (take-append-drop n (take m ts))) begun))
+
+no_farther : (ts : List Token) (k m : ℕ) → Reaches ts k → Reaches ts m → k < m → ⊥
+no_farther ts k m a b less =
+    let within = b.within in
+    a.ends (omega (arith, less, within)) (begins_less ts (k + 1) m (omega (arith, less)) b.begins)
+
+pub one_reach : (ts : List Token) (k m : ℕ) → Reaches ts k → Reaches ts m → k ≡ m
+one_reach ts k m a b =
+    let less : k < m → ⊥ = no_farther ts k m a b in
+    let more : m < k → ⊥ = no_farther ts m k b a in
+    omega (arith, less, more)

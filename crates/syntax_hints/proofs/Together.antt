@@ -11,7 +11,7 @@ use Rattle.std.proofs.lemmas.List.{take-append-drop}
 use Rattle.token_choices.specs.declared.choice.Choice.{Choice}
 use Rattle.syntax_hints.specs.declared.hint.Hint.{Hint}
 use Rattle.syntax_hints.specs.Hints.{IsAmong, IsAt, IsBy}
-use Rattle.syntax_hints.specs.Missing.{IsMissing}
+use Rattle.syntax_hints.specs.Missing.{IsWhatIsMissing}
 
 pub real_front : (ts : List Token) (n : ℕ) → AreReal ts → AreReal (take n ts)
 real_front ts n real = front_real (take n ts) (drop n ts) (subst AreReal (sym (take-append-drop n ts)) real)
@@ -24,11 +24,11 @@ kept_before ts kept n is = ap (take n) is ∙ take-take n (n + 8) ts (omega (ari
 pub kept_behind : (ts kept : List Token) (n : ℕ) → kept ≡ take (n + 8) ts → drop n kept ≡ take 8 (drop n ts)
 kept_behind ts kept n is = ap (drop n) is ∙ drop-take n 8 ts
 
-pub as_kept : (ts kept : List Token) (n : ℕ) (found : List Choice) (k : Choice) → kept ≡ take (n + 8) ts →
-    IsMissing (take n kept) (drop n kept) found k → IsMissing (take n ts) (take 8 (drop n ts)) found k
+pub as_kept : (ts kept : List Token) (n : ℕ) (found : List Choice) (k : Option Choice) → kept ≡ take (n + 8) ts →
+    IsWhatIsMissing (take n kept) (drop n kept) found k → IsWhatIsMissing (take n ts) (take 8 (drop n ts)) found k
 as_kept ts kept n found k is missing =
-    subst (λ (front : List Token). IsMissing front (take 8 (drop n ts)) found k) (kept_before ts kept n is)
-    (subst (λ (rest : List Token). IsMissing (take n kept) rest found k) (kept_behind ts kept n is) missing)
+    subst (λ (front : List Token). IsWhatIsMissing front (take 8 (drop n ts)) found k) (kept_before ts kept n is)
+    (subst (λ (rest : List Token). IsWhatIsMissing (take n kept) rest found k) (kept_behind ts kept n is) missing)
 
 nothing_there : (ts : List Token) (i : ℕ) → i < length ts → slice_get ts i ≡ None → ⊥
 nothing_there (t ∷ ts) zero below is = cc

@@ -14,7 +14,7 @@ use Rattle.syntax_hints.specs.declared.hint.Hint.TheVariants.{Nothing, Habit, Mi
 use Rattle.syntax_hints.specs.declared.sign.Sign.TheVariants as sign
 use Rattle.syntax_hints.specs.Blocks.{open_blocks}
 use Rattle.syntax_hints.specs.Habits.{before_habit, habit_of}
-use Rattle.syntax_hints.specs.Missing.{IsMissing}
+use Rattle.syntax_hints.specs.Missing.{IsWhatIsMissing}
 use Rattle.syntax_hints.specs.Signs.{could}
 
 -- how many tokens stand before a place
@@ -66,11 +66,11 @@ end_hint c found = if could sign.End found then block_hint c (last_of (open_bloc
 abbrev pub tried : ℕ
 tried = 8
 
--- the kind that is missing between the tokens, of which a few behind the place are tried
+-- the kind that is missing between the tokens, of which a few behind the place are tried, and nothing where none is
 abbrev pub IsMissingHint : Cut → ℕ → List Choice → Hint → Type 0
-IsMissingHint c n found Nothing = Unit {0}
+IsMissingHint c n found Nothing = IsWhatIsMissing (take n c.tokens) (take tried (drop n c.tokens)) found None
 IsMissingHint c n found (Missing k behind) =
-    IsMissing (take n c.tokens) (take tried (drop n c.tokens)) found k × (behind ≡ slice_index c.offsets (n - 1))
+    IsWhatIsMissing (take n c.tokens) (take tried (drop n c.tokens)) found (Some k) × (behind ≡ slice_index c.offsets (n - 1))
 IsMissingHint c n found _ = ⊥
 
 -- of a token behind another one, with the offsets of both: behind a whole program nothing could stand; and else what is written so elsewhere

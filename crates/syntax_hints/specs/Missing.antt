@@ -1,6 +1,6 @@
 -- Which token is missing: the one kind with which, in between, the program goes on farthest.
-use Rattle.std.specs.Prelude.{◌≡◌, ◌⊎◌, ◌+◌, ◌<◌, ◌≤◌, ℕ, List, ◌∷◌, ◌++◌, length, take}
-use Rattle.std.specs.List.{AllByRecursion}
+use Rattle.std.specs.Prelude.{◌≡◌, ◌⊎◌, ◌+◌, ◌<◌, ◌≤◌, ℕ, List, ◌∷◌, ◌++◌, Option, Some, None, length, take}
+use Rattle.std.specs.List.{AllByRecursion, Contains}
 use Rattle.pram_tokens.specs.declared.token.Token.{Token}
 use Rattle.pram_trees.specs.Program.{Begins, limit}
 use Rattle.token_choices.specs.Kinds.{sample}
@@ -21,9 +21,15 @@ abbrev pub GoesOnLess : (front rest : List Token) → ℕ → Choice → Type 0
 GoesOnLess front rest k c = (m : ℕ) × GoesOn front rest c m × (m < k)
 
 -- Of some kinds that could stand there, a token of this one is missing: with it the program goes on for one token behind it at least, and
--- farther than with any other.
+-- farther than with any other of them.
 pub record IsMissing (front rest : List Token) (found : List Choice) (c : Choice) : Type 0 where
+  pub among : Contains found c
   pub reach : ℕ
   pub goes_on : GoesOn front rest c reach
   pub some : length front + 1 < reach
   pub farthest : AllByRecursion (λ d. (d ≡ c) ⊎ GoesOnLess front rest reach d) found
+
+-- the kind of which a token is missing, and none only where none is missing
+abbrev pub IsWhatIsMissing : (front rest : List Token) → List Choice → Option Choice → Type 0
+IsWhatIsMissing front rest found (Some c) = IsMissing front rest found c
+IsWhatIsMissing front rest found None = (c : Choice) → IsMissing front rest found c → ⊥

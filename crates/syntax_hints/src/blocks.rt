@@ -54,7 +54,7 @@ fn go_on(blocks: &mut Vec<Block>, token: &Token) -> Result<(), AllocError>
 }
 
 /// The blocks that are open behind these tokens, the outermost first. The block of the program isn't among them.
-pub(crate) fn open_blocks(alloc: Global, tokens: &[Token]) -> Result<Vec<Block>, AllocError>
+pub fn open_blocks(alloc: Global, tokens: &[Token]) -> Result<Vec<Block>, AllocError>
     ensures { IfOk result (λ blocks. blocks.items ≡ spec.open_blocks tokens.now) }
 {
     let mut blocks = Vec::new(alloc);

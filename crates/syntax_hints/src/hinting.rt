@@ -18,8 +18,8 @@ use token_choices::Choice;
 // How many tokens behind a place are tried.
 const TRIED: usize = 8;
 
-// How many tokens stand before a place, by their offsets.
-fn before(offsets: &[u32], at: u32) -> usize
+/// How many tokens stand before a place, by their offsets.
+pub fn tokens_before(offsets: &[u32], at: u32) -> usize
     ensures value { result ≡ spec.before at offsets.now }
     ensures within { result ≤ length offsets.now }
 {
@@ -255,7 +255,7 @@ pub fn hint_at(alloc: Global, text: &[u8], at: u32, found: &[Choice]) -> Result<
 {
     match tokenize(alloc, text) {
         Ok((mut tokens, offsets)) => {
-            let count = before(&offsets, at);
+            let count = tokens_before(&offsets, at);
             hint_behind(alloc, &mut tokens, &offsets, count, found)
         }
         Err(LexError::BadToken(_)) => Ok(Hint::Nothing),

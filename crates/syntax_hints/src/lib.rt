@@ -11,8 +11,9 @@ mod sign;
 mod stray;
 mod words;
 
+pub use blocks::{Block, open_blocks};
 pub use habit::{Habit, habit_text};
 pub use hint::Hint;
-pub use hinting::hint_at;
-pub use laws::an_open_block_has_no_end;
+pub use hinting::{hint_at, tokens_before};
+pub use laws::{a_place_has_one_hint, an_open_block_has_no_end};
 pub use stray::stray_sentence;

@@ -1,7 +1,6 @@
 //! Which token is missing.
 
-ghost use Rattle.std.specs.Prelude.{◌≡◌, ◌≤◌, ◌++◌, ◌∷◌, drop, take, length, IfOk, OnOk};
-ghost use Rattle.std.specs.Option.{ForSome};
+ghost use Rattle.std.specs.Prelude.{◌≡◌, ◌≤◌, ◌++◌, ◌∷◌, ◌↔◌, drop, take, length, IfOk, IsTrue, OnOk, Some};
 ghost use Rattle.pram_tokens.specs.Tokens.{AreReal};
 ghost use Rattle.token_choices.specs.Kinds.{sample as sample_of};
 ghost use Rattle.syntax_hints.specs.Missing as spec;
@@ -44,7 +43,15 @@ fn reach_with(
     Ok(reached)
 }
 
-/// Of some kinds that could stand at a place between the tokens, the one of which a token is missing there, if there is one.
+// Whether that kind is the best so far.
+fn is_that(best: Option<Choice>, choice: Choice) -> bool
+    ensures { IsTrue result ↔ (best ≡ Some choice) }
+{
+    best == Some(choice)
+}
+
+/// Of some kinds that could stand at a place between the tokens, the one of which a token is missing there, and none only where none is
+/// missing. A kind that is given twice counts once.
 pub(crate) fn missing_of(
     alloc: Global,
     tokens: &mut Vec<Token>,
@@ -53,7 +60,7 @@ pub(crate) fn missing_of(
 ) -> Result<Option<Choice>, AllocError>
     requires real { AreReal tokens.old.items }
     requires within { at ≤ length tokens.old.items }
-    ensures { IfOk result (λ c. ForSome c (spec.IsMissing (take at tokens.old.items) (drop at tokens.old.items) found.now)) }
+    ensures { IfOk result (spec.IsWhatIsMissing (take at tokens.old.items) (drop at tokens.old.items) found.now) }
 {
     let mut best = None;
     let mut most = at + 1;
@@ -62,7 +69,7 @@ pub(crate) fn missing_of(
         if most < reached {
             best = Some(*choice);
             most = reached;
-        } else if reached == most {
+        } else if reached == most && !is_that(best, *choice) {
             best = None;
         }
     }

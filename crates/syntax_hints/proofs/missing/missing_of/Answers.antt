@@ -1,13 +1,17 @@
 use Rattle.std.proofs.Common.{◌≡◌, ◌∙◌, ◌<◌, ◌≤◌, ℕ, List, drop, get_or, subst, sym, take, arith}
+use Rattle.std.proofs.lemmas.Bool.{iff_false}
 use Rattle.std.proofs.lemmas.List.{take_all, take_more}
 use Rattle.std.specs.Prelude.{Option}
 use Rattle.pram_tokens.specs.declared.token.Token.{Token}
 use Rattle.token_choices.specs.declared.choice.Choice.{Choice}
 use Rattle.token_choices.specs.declared.choice.Choice.TheVariants as choice
-use Rattle.syntax_hints.proofs.Farthest.{AreTried, as_far, best_missing, farther, less_far}
+use Rattle.syntax_hints.proofs.Farthest.{AreTried, as_far, best_missing, farther, less_far, once_more}
 use Rattle.syntax_hints.specs.Missing.{GoesOn}
 use Rattle.syntax_hints.proofs.missing.missing_of.Goals as goal
-use Rattle.syntax_hints.proofs.missing.missing_of.Goals.{then-most-reached, else-most-reached+then-reached-most, else-most-reached+else-reached-most}
+use Rattle.syntax_hints.proofs.missing.missing_of.Goals.{then-most-reached, else-most-reached+then-reached-most+then-not-is_that}
+use Rattle.syntax_hints.proofs.missing.missing_of.Goals.{else-most-reached+else-reached-most}
+use Rattle.syntax_hints.proofs.missing.missing_of.Goals.{else-reached-most-via-then-reached-most+else-not-is_that}
+use Rattle.syntax_hints.proofs.missing.missing_of.Goals.{else-reached-most-via-else-reached-most}
 
 as_is : (front rest : List Token) (tried : List Choice) (most now : ℕ) (best best_now : Option Choice) → most ≡ now → best ≡ best_now →
     AreTried front rest tried most best → AreTried front rest tried now best_now
@@ -38,10 +42,17 @@ loop-choice-preserved c =
           (sym (take_more found i choice.Name c.loop-choice-test.true)) (elim c.if-most-reached.branch [
             | then-most-reached w ↦ as_is front rest _ _ _ _ _ (sym w.most-is) (sym w.best-is)
                 (farther front rest before most n best d tried goes w.if-most-reached.true)
-            | else-most-reached+then-reached-most w ↦ as_is front rest _ _ _ _ _ (sym w.most-is) (sym w.best-is)
-                (as_far front rest before most n best d tried goes w.if-reached-most.true)
+            | else-most-reached+then-reached-most+then-not-is_that w ↦ as_is front rest _ _ _ _ _ (sym w.most-is) (sym w.best-is)
+                (as_far front rest before most n best d tried goes w.if-reached-most.true
+                (iff_false w.is_that.ensures w.if-not-is_that.true))
             | else-most-reached+else-reached-most w ↦ as_is front rest _ _ _ _ _ (sym w.most-is) (sym w.best-is)
-                (less_far front rest before most n best d tried goes (less w.if-most-reached.false w.if-reached-most.false))
+                (elim w.else-reached-most.branch [
+                  | else-reached-most-via-then-reached-most+else-not-is_that v ↦
+                      once_more front rest before most n best d tried goes v.if-reached-most.true
+                      (v.is_that.ensures.0 v.if-not-is_that.false)
+                  | else-reached-most-via-else-reached-most v ↦
+                      less_far front rest before most n best d tried goes (less w.if-most-reached.false v.if-reached-most.false)
+                ])
           ]);
     }
 

@@ -1,7 +1,7 @@
 use Rattle.std.proofs.Common.{◌≡◌, ◌+◌, ◌-◌, ◌≤◌, length, drop}
 use Rattle.std.specs.List.{prefix_len}
 use Rattle.std.specs.Prelude.{nat_lt}
-use Rattle.syntax_hints.proofs.hinting.before.Given as goal
+use Rattle.syntax_hints.proofs.hinting.tokens_before.Given as goal
 
 abbrev pub invariant-loop-count : goal.invariant-loop-count
 invariant-loop-count l = record {
