@@ -1,0 +1,6 @@
+mod Reader
+mod Rests
+mod Sound
+mod Pieces
+mod Complete
+mod Worked
