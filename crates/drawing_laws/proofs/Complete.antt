@@ -7,12 +7,10 @@ use Rattle.pram_model.specs.Declarations.{IsNew}
 use Rattle.pram_model.specs.Names.{is_one_of, same_text}
 use Rattle.pram_model.specs.Names as ascii
 use Rattle.drawing_laws.specs.WellFormed.{AreAttributes, IsContent, IsDocument, IsElement, IsName, IsReference, ampersand, element, empty}
-use Rattle.drawing_laws.specs.WellFormed.{first}
-use Rattle.drawing_laws.specs.WellFormed.{full, greater, is_inner, is_letter, less, letter, longer, more, none, nothing, reference}
+use Rattle.drawing_laws.specs.WellFormed.{first, full, greater, is_inner, is_letter, less, letter, longer, more, none, nothing, reference}
 use Rattle.drawing_laws.proofs.Pieces.{passed, quoted_past, taken}
 use Rattle.drawing_laws.proofs.Reader.{State, attribute, await, awaiting, behind, done, equated, failed, in_tag, inside, named, opened}
-use Rattle.drawing_laws.proofs.Reader.{quoted}
-use Rattle.drawing_laws.proofs.Reader.{rooted, run, spaced, start, step}
+use Rattle.drawing_laws.proofs.Reader.{quoted, rooted, run, spaced, start, step}
 
 -- ---- names
 

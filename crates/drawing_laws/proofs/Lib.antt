@@ -1,6 +1,9 @@
 mod Reader
 mod Rests
 mod Sound
-mod Pieces
 mod Complete
 mod Worked
+mod Pieces
+mod Bytes
+mod Shown
+mod Traces

@@ -6,7 +6,7 @@ use Rattle.std.specs.Fmt.{digit_glyph, digits, digits_onto, signed_decimal}
 use Rattle.std.specs.List.{AllByRecursion, flat_map}
 use Rattle.std.proofs.lemmas.Bool.Decides.{nat_tests}
 use Rattle.drawing_laws.specs.WellFormed.{is_letter, is_quoted}
-use Rattle.drawing_laws.proofs.Reader.{State, inside, quoted, run}
+use Rattle.drawing_laws.proofs.Reader.{State, done, inside, quoted, run}
 
 -- from state to state
 pub record Goes (s : State) (text : List ℕ) (t : State) : Type 0 where
@@ -180,3 +180,7 @@ closes_behind {name} {a} {b} k c = record { is = λ tag outer. past k b name (ta
 pub closes_then : {name a b : List ℕ} → Closes name a → Keeps b → Closes name (a ++ b)
 closes_then {name} {a} {b} c k =
     record { is = λ tag outer. run_append a b _ ∙ ap (λ x. run x b) (c.is tag outer) ∙ k.is tag outer }
+
+-- the end of a picture
+pub svg_ends : Goes (inside (codes "svg" ∷ [])) (codes "</svg>\n") done
+svg_ends = record { is = refl }

@@ -4,8 +4,7 @@ use Rattle.std.specs.Prelude.{codes}
 use Rattle.std.specs.List.{AllByRecursion}
 use Rattle.pram_model.specs.Declarations.{IsNew}
 use Rattle.drawing_laws.specs.WellFormed.{AreAttributes, IsContent, IsElement, IsName, IsReference, element, empty, full, is_letter}
-use Rattle.drawing_laws.specs.WellFormed.{is_quoted}
-use Rattle.drawing_laws.specs.WellFormed.{letter, more, none, nothing, reference}
+use Rattle.drawing_laws.specs.WellFormed.{is_quoted, letter, more, none, nothing, reference}
 
 -- inside these elements, the inmost one first
 abbrev pub Rest : List (List ℕ) → List ℕ → Type 0

@@ -7,8 +7,7 @@ use Rattle.pram_model.specs.Names as ascii
 use Rattle.drawing_laws.specs.WellFormed.{IsDocument, IsName, IsReference, ampersand, first, greater, is_inner, is_letter, is_quoted}
 use Rattle.drawing_laws.specs.WellFormed.{less, longer}
 use Rattle.drawing_laws.proofs.Reader.{State, attribute, await, awaiting, behind, done, equated, failed, in_content, in_name, in_tag}
-use Rattle.drawing_laws.proofs.Reader.{in_value, inside, named}
-use Rattle.drawing_laws.proofs.Reader.{opened, quoted, referring, rooted, run, spaced, start, step}
+use Rattle.drawing_laws.proofs.Reader.{in_value, inside, named, opened, quoted, referring, rooted, run, spaced, start, step}
 use Rattle.drawing_laws.proofs.Rests.{Element, Rest, Tag, Value, element_content, element_of, ended_content, letter_content}
 use Rattle.drawing_laws.proofs.Rests.{reference_content, tag_closed, tag_goes_on, tag_of, value_ends, value_goes_on}
 

@@ -1,7 +1,23 @@
 //! What holds of each picture, whatever it is of.
 
-ghost use Rattle.std.specs.Prelude.{codes};
+ghost use Rattle.std.specs.Prelude.{ℕ, List, codes};
+ghost use Rattle.pram_model.specs.Declarations.{IsLayout};
+ghost use Rattle.pram_model.specs.Layout.{SharedEntry};
+ghost use Rattle.superstep_machine.specs.Trace.{Exchange};
+ghost use Rattle.tracer.specs.Picture as traces;
 ghost use Rattle.drawing_laws.specs.WellFormed.{IsDocument};
+ghost use Rattle.drawing_laws.specs.Words.{HasWords};
+
+/// The picture of a trace is a document, whatever bytes say how the run came out.
+pub fn a_trace_is_well_formed()
+    ensures { (lines outcome : List ℕ) (exchanges : List Exchange) → IsDocument (traces.picture lines outcome exchanges) }
+{}
+
+/// The names of each layout that a program can have have letters, digits and `_` alone. Every accepted program has such a layout
+/// (`pram_check::Program::bounded`).
+pub fn layouts_have_words()
+    ensures { (layout : List SharedEntry) → IsLayout layout → HasWords layout }
+{}
 
 /// The grammar has this text, and none of those where an element has no end, the end of another one, or its end in another one; where a
 /// text or a value has a raw `<`, `&` or quote; where a value has no quotes; where an attribute stands twice; and where two elements stand
