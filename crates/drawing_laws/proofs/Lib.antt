@@ -7,3 +7,4 @@ mod Pieces
 mod Bytes
 mod Shown
 mod Traces
+mod Flows

@@ -1,16 +1,28 @@
 //! What holds of each picture, whatever it is of.
 
-ghost use Rattle.std.specs.Prelude.{ℕ, List, codes};
+ghost use Rattle.std.specs.Prelude.{ℕ, ℤ, Bool, List, Vec, codes};
+ghost use Rattle.std.specs.Global.{Global};
 ghost use Rattle.pram_model.specs.Declarations.{IsLayout};
 ghost use Rattle.pram_model.specs.Layout.{SharedEntry};
+ghost use Rattle.step_entries.specs.Entries.{Entry};
 ghost use Rattle.superstep_machine.specs.Trace.{Exchange};
 ghost use Rattle.tracer.specs.Picture as traces;
+ghost use Rattle.flow_pictures.specs.declared.spans.CellSpan.{CellSpan};
+ghost use Rattle.flow_pictures.specs.Picture.{flow};
 ghost use Rattle.drawing_laws.specs.WellFormed.{IsDocument};
 ghost use Rattle.drawing_laws.specs.Words.{HasWords};
 
 /// The picture of a trace is a document, whatever bytes say how the run came out.
 pub fn a_trace_is_well_formed()
     ensures { (lines outcome : List ℕ) (exchanges : List Exchange) → IsDocument (traces.picture lines outcome exchanges) }
+{}
+
+/// The picture of what passes through shared memory is a document, whatever bytes the program's text has. Names of shared memory
+/// stand in it as they are, and are to have letters, digits and `_` alone.
+pub fn a_flow_is_well_formed()
+    ensures { (layout : List SharedEntry) → HasWords layout → (text : List ℕ) (asides : List (Vec Bool Global)) (opening : List ℤ)
+        (entries : List Entry) (only : List CellSpan) (from to : ℕ) →
+        IsDocument (flow layout text asides opening entries only from to) }
 {}
 
 /// The names of each layout that a program can have have letters, digits and `_` alone. Every accepted program has such a layout
