@@ -8,3 +8,4 @@ mod Bytes
 mod Shown
 mod Traces
 mod Flows
+mod Statements
