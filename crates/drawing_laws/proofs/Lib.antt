@@ -6,6 +6,7 @@ mod Worked
 mod Pieces
 mod Bytes
 mod Shown
-mod Traces
-mod Flows
 mod Statements
+mod Traces
+mod Sweeps
+mod Flows

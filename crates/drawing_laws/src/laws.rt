@@ -6,8 +6,10 @@ ghost use Rattle.pram_model.specs.Declarations.{IsLayout};
 ghost use Rattle.pram_model.specs.Layout.{SharedEntry};
 ghost use Rattle.step_entries.specs.Entries.{Entry};
 ghost use Rattle.superstep_machine.specs.Trace.{Exchange};
+ghost use Rattle.sweep_texts.specs.declared.size_row.SizeRow.{SizeRow};
 ghost use Rattle.step_pictures.specs.Picture.{picture_from};
 ghost use Rattle.tracer.specs.Picture as traces;
+ghost use Rattle.sweep_pictures.specs.Picture as sweeps;
 ghost use Rattle.flow_pictures.specs.declared.spans.CellSpan.{CellSpan};
 ghost use Rattle.flow_pictures.specs.Picture.{flow};
 ghost use Rattle.drawing_laws.specs.WellFormed.{IsDocument};
@@ -23,6 +25,11 @@ pub fn a_picture_of_statements_is_well_formed()
 /// The picture of a trace is a document, whatever bytes say how the run came out.
 pub fn a_trace_is_well_formed()
     ensures { (lines outcome : List ℕ) (exchanges : List Exchange) → IsDocument (traces.picture lines outcome exchanges) }
+{}
+
+/// The picture of a sweep is a document, whatever bytes are the name of the size and say what became of a run.
+pub fn a_sweep_is_well_formed()
+    ensures { (name : List ℕ) (rows : List SizeRow) → IsDocument (sweeps.picture name rows) }
 {}
 
 /// The picture of what passes through shared memory is a document, whatever bytes the program's text has; of names as above.
