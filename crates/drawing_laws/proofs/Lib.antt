@@ -1,0 +1,12 @@
+mod Reader
+mod Rests
+mod Sound
+mod Complete
+mod Worked
+mod Pieces
+mod Bytes
+mod Shown
+mod Statements
+mod Traces
+mod Sweeps
+mod Flows

@@ -1,0 +1,63 @@
+//! What holds of each picture, whatever it is of.
+
+ghost use Rattle.std.specs.Prelude.{ℕ, ℤ, Bool, List, Vec, codes};
+ghost use Rattle.std.specs.Global.{Global};
+ghost use Rattle.pram_model.specs.Declarations.{IsLayout};
+ghost use Rattle.pram_model.specs.Layout.{SharedEntry};
+ghost use Rattle.step_entries.specs.Entries.{Entry};
+ghost use Rattle.superstep_machine.specs.Trace.{Exchange};
+ghost use Rattle.sweep_texts.specs.declared.size_row.SizeRow.{SizeRow};
+ghost use Rattle.step_pictures.specs.Picture.{picture_from};
+ghost use Rattle.tracer.specs.Picture as traces;
+ghost use Rattle.sweep_pictures.specs.Picture as sweeps;
+ghost use Rattle.flow_pictures.specs.declared.spans.CellSpan.{CellSpan};
+ghost use Rattle.flow_pictures.specs.Picture.{flow};
+ghost use Rattle.drawing_laws.specs.WellFormed.{IsDocument};
+ghost use Rattle.drawing_laws.specs.Words.{HasWords};
+
+/// The picture of any part of a run, statement by statement, is a document, whatever bytes the program's text has. Names of shared memory
+/// stand in it as they are, and are to have letters, digits and `_` alone.
+pub fn a_picture_of_statements_is_well_formed()
+    ensures { (layout : List SharedEntry) → HasWords layout → (text : List ℕ) (entries : List Entry) (from to : ℕ) →
+        IsDocument (picture_from layout text entries from to) }
+{}
+
+/// The picture of a trace is a document, whatever bytes say how the run came out.
+pub fn a_trace_is_well_formed()
+    ensures { (lines outcome : List ℕ) (exchanges : List Exchange) → IsDocument (traces.picture lines outcome exchanges) }
+{}
+
+/// The picture of a sweep is a document, whatever bytes are the name of the size and say what became of a run.
+pub fn a_sweep_is_well_formed()
+    ensures { (name : List ℕ) (rows : List SizeRow) → IsDocument (sweeps.picture name rows) }
+{}
+
+/// The picture of what passes through shared memory is a document, whatever bytes the program's text has; of names as above.
+pub fn a_flow_is_well_formed()
+    ensures { (layout : List SharedEntry) → HasWords layout → (text : List ℕ) (asides : List (Vec Bool Global)) (opening : List ℤ)
+        (entries : List Entry) (only : List CellSpan) (from to : ℕ) →
+        IsDocument (flow layout text asides opening entries only from to) }
+{}
+
+/// The names of each layout that a program can have have letters, digits and `_` alone. Every accepted program has such a layout
+/// (`pram_check::Program::bounded`).
+pub fn layouts_have_words()
+    ensures { (layout : List SharedEntry) → IsLayout layout → HasWords layout }
+{}
+
+/// The grammar has this text, and none of those where an element has no end, the end of another one, or its end in another one; where a
+/// text or a value has a raw `<` or `&`, or a value a quote; where a value has no quotes; where an attribute stands twice; and where two
+/// elements stand side by side.
+pub fn worked_texts()
+    ensures one { IsDocument (codes "<a b='1' c-d='x'>x &lt; y\n<e/><f g:h=''></f></a>\n") }
+    ensures no_end { IsDocument (codes "<a>\n") → ⊥ }
+    ensures other_end { IsDocument (codes "<a></b>\n") → ⊥ }
+    ensures crossed { IsDocument (codes "<a><b></a></b>\n") → ⊥ }
+    ensures less { IsDocument (codes "<a>x < y</a>\n") → ⊥ }
+    ensures ampersand { IsDocument (codes "<a>x & y</a>\n") → ⊥ }
+    ensures in_value { IsDocument (codes "<a b='<'/>\n") → ⊥ }
+    ensures quote { IsDocument (codes "<a b='''/>\n") → ⊥ }
+    ensures unquoted { IsDocument (codes "<a b=1/>\n") → ⊥ }
+    ensures twice { IsDocument (codes "<a b='' b=''/>\n") → ⊥ }
+    ensures two { IsDocument (codes "<a/><a/>\n") → ⊥ }
+{}

@@ -1,0 +1,4 @@
+//! Pictures are well formed.
+#![tactic(auto)]
+
+pub mod laws;
