@@ -1,5 +1,5 @@
 -- The names that fit, by the tokens of the text.
-use Rattle.std.proofs.Common.{◌≡◌, ◌∷◌, [], false, Bool, List, ℕ, refl, subst, sym}
+use Rattle.std.proofs.Common.{◌≡◌, ◌∙◌, ◌∷◌, [], false, ap, Bool, List, ℕ, refl, subst, sym}
 use Rattle.std.specs.Prelude.{Result, Ok, Err, filter}
 use Rattle.pram_tokens.specs.Scanning.{Cut, Finds, cut}
 use Rattle.pram_tokens.specs.declared.error.LexError.{LexError}
@@ -8,7 +8,8 @@ use Rattle.pram_tokens.specs.declared.token.Token.{Token}
 use Rattle.scope_names.specs.InScope.{Known}
 use Rattle.syntax_hints.specs.Hints.{before}
 use Rattle.diagnoses.specs.declared.fitting.Role.{Role}
-use Rattle.diagnoses.specs.Fitting.{fits_by, fitting, fronts, is_inside, role_of}
+use Rattle.diagnoses.specs.declared.fitting.Role.TheVariants as role
+use Rattle.diagnoses.specs.Fitting.{fits_by, fitting, fronts, is_inside, role_at, role_of}
 
 -- of a text that is cut into these tokens; `seen` are the tokens, and `around` the blocks, behind references
 pub by_cut : (r : Result Cut ℕ) (at : ℕ) (names : List Known) (ts seen : List Token) (os : List ℕ) (n : ℕ) (role : Role) (inside : Bool)
@@ -28,3 +29,17 @@ no_cut view res f bad r at names came is finds =
     let told = subst (λ e. Finds view e r) came finds in
     let failed : r ≡ Err bad = subst (λ e. Finds view (Err e) r) is told in
     rw failed (sym (none_pass names))
+
+-- the role of a name in a text that is cut into these tokens
+pub role_by_cut : (r : Result Cut ℕ) (at : ℕ) (ts seen : List Token) (os : List ℕ) (n : ℕ) (role : Role) → r ≡ Ok (cut ts os) → seen ≡ ts →
+    n ≡ before at os → role ≡ role_of seen n → role ≡ role_at r at
+role_by_cut r at ts seen os n role cuts seen_is n_is is =
+    is ∙ ap (λ s. role_of s n) seen_is ∙ ap (role_of ts) n_is ∙ sym (ap (λ q. role_at q at) cuts)
+
+-- and in one with something that is no token
+pub role_no_cut : {X : Type 0} (view : X → Cut) (res : Result X LexError) (f : LexError) (bad : ℕ) (r : Result Cut ℕ) (at : ℕ) → res ≡ Err f →
+    f ≡ BadToken bad → Finds view res r → role.Value ≡ role_at r at
+role_no_cut view res f bad r at came is finds =
+    let told = subst (λ e. Finds view e r) came finds in
+    let failed : r ≡ Err bad = subst (λ e. Finds view (Err e) r) is told in
+    sym (ap (λ q. role_at q at) failed)

@@ -13,10 +13,11 @@ use Rattle.pram_trees.specs.Program.{ProgramTree}
 use Rattle.scope_names.specs.Bound.{bound_in}
 use Rattle.scope_names.specs.InScope.{Known, names_at}
 use Rattle.scope_names.specs.Nearness.{edits, is_near, named, nearer, nearest}
-use Rattle.diagnoses.specs.Fitting.{fits, is_inside}
+use Rattle.diagnoses.specs.Fitting.{fits, is_inside, role_at}
+use Rattle.diagnoses.specs.declared.fitting.Role.{Role}
 use Rattle.diagnoses.specs.Guesses.{HasNoGuessAt, IsGuess, IsGuessAt}
 use Rattle.diagnoses.specs.Places.{token_at}
-use Rattle.diagnoses.specs.Remarks.{Nearest, Nothing, declared, meant, remark_at, remark_of, remark_on, unknown}
+use Rattle.diagnoses.specs.Remarks.{Nearest, Nothing, declared, meant, misplaced, remark_at, remark_of, remark_on, unknown}
 use Rattle.diagnoses.proofs.Nearest.{IsAsFar, IsFar, all_as_far, all_far}
 
 -- one of some names, near to the word, that passes a test
@@ -108,13 +109,17 @@ module _ (word : List ℕ) (test : Known → Bool) where
   not_declared None name e = cc e
   not_declared (Some k) name e = cc e
 
-  remarked : (bound : Option Known) (names : List Known) (c : Cause) (name : List ℕ) →
-      remark_on bound names (filter test names) word c ≡ Nearest name → IsBest word test names name
-  remarked bound names cause.UnknownName name e = unknown_is names bound name e
-  remarked bound names cause.DoubleName name e = absurd (not_declared (named names word) name e)
-  remarked bound names cause.WrongKind name e = absurd (not_declared (named names word) name e)
-  remarked bound names cause.AssignedLoopVariable name e = absurd (not_declared (named names word) name e)
-  remarked bound names (cause.Limit l) name e = absurd (cc e)
+  not_misplaced : (role : Role) (found : Option Known) (name : List ℕ) → misplaced role found ≡ Nearest name → ⊥
+  not_misplaced role None name e = cc e
+  not_misplaced role (Some k) name e = cc e
+
+  remarked : (bound : Option Known) (names : List Known) (role : Role) (c : Cause) (name : List ℕ) →
+      remark_on bound names (filter test names) role word c ≡ Nearest name → IsBest word test names name
+  remarked bound names role cause.UnknownName name e = unknown_is names bound name e
+  remarked bound names role cause.DoubleName name e = absurd (not_declared (named names word) name e)
+  remarked bound names role cause.WrongKind name e = absurd (not_misplaced role (named names word) name e)
+  remarked bound names role cause.AssignedLoopVariable name e = absurd (not_declared (named names word) name e)
+  remarked bound names role (cause.Limit l) name e = absurd (cc e)
 
 is_guess : (text : List ℕ) (at : ℕ) (names : List Known) (name : List ℕ) →
     IsBest (token_at text at) (fits (cut_of text) at (is_inside names)) names name → IsGuess text at names name
@@ -138,7 +143,7 @@ at_spot text name tree spot.TextEnd c e = cc e
 at_spot text name tree (spot.Offset at) c e =
     let names = names_at tree at in
     is_guess text at names name
-    (remarked (token_at text at) (fits (cut_of text) at (is_inside names)) (bound_in tree (token_at text at)) names c name e)
+    (remarked (token_at text at) (fits (cut_of text) at (is_inside names)) (bound_in tree (token_at text at)) names (role_at (cut_of text) at) c name e)
 
 pub guessed : (text name : List ℕ) (tree : ProgramTree) (b : Breach) → remark_of text tree b ≡ Nearest name →
     IsGuessAt text tree b.spot name
@@ -155,9 +160,9 @@ module _ (word : List ℕ) (test : Known → Bool) (names : List Known) where
   none_known None e = none_meant (nearest (filter test names) word) refl e
   none_known (Some k) e = absurd (cc e)
 
-  none_of : (bound : Option Known) (c : Cause) → c ≡ cause.UnknownName → remark_on bound names (filter test names) word c ≡ Nothing →
-      AllByRecursion (IsFar word test) names
-  none_of bound c is e = none_known bound (subst (λ k. remark_on bound names (filter test names) word k ≡ Nothing) is e)
+  none_of : (bound : Option Known) (role : Role) (c : Cause) → c ≡ cause.UnknownName →
+      remark_on bound names (filter test names) role word c ≡ Nothing → AllByRecursion (IsFar word test) names
+  none_of bound role c is e = none_known bound (subst (λ k. remark_on bound names (filter test names) role word k ≡ Nothing) is e)
 
 none_at : (text : List ℕ) (tree : ProgramTree) (s : Spot) (c : Cause) → c ≡ cause.UnknownName → remark_at text tree s c ≡ Nothing →
     HasNoGuessAt text tree s
@@ -166,7 +171,7 @@ none_at text tree (spot.Offset at) c is e =
     let names = names_at tree at in
     let word = token_at text at in
     let test = fits (cut_of text) at (is_inside names) in
-    All-from_recursion (IsFar word test) names (none_of word test names (bound_in tree word) c is e)
+    All-from_recursion (IsFar word test) names (none_of word test names (bound_in tree word) (role_at (cut_of text) at) c is e)
 
 pub unguessed : (text : List ℕ) (tree : ProgramTree) (b : Breach) → b.cause ≡ cause.UnknownName → remark_of text tree b ≡ Nothing →
     HasNoGuessAt text tree b.spot

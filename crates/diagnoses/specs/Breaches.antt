@@ -16,7 +16,9 @@ use Rattle.diagnoses.specs.declared.source.Kind.{Kind}
 use Rattle.diagnoses.specs.declared.source.Kind.TheVariants as kind
 use Rattle.diagnoses.specs.declared.source.Source.{Source}
 use Rattle.diagnoses.specs.Places.{quoted, token_at}
-use Rattle.diagnoses.specs.Remarks.{Remark, Nothing, Nearest, Declared, Elsewhere, Expected}
+use Rattle.diagnoses.specs.Remarks.{Remark, Nothing, Nearest, Declared, Misplaced, Elsewhere, Expected}
+use Rattle.diagnoses.specs.declared.fitting.Role.{Role}
+use Rattle.diagnoses.specs.declared.fitting.Role.TheVariants as role
 use Rattle.diagnoses.specs.Sources.{spot_as_it_stands, text_in}
 
 abbrev pub sort_text : Sort → List ℕ
@@ -26,13 +28,20 @@ sort_text sort.Variable = codes "a variable"
 sort_text sort.Index = codes "the index of a pardo"
 sort_text sort.Local = codes "a local of a pardo"
 
--- what is not allowed with a name of that sort, where another kind is wanted
-abbrev pub kind_reason : Sort → List ℕ
-kind_reason sort.Cell = codes "it has no subscript, and no for runs over it"
-kind_reason sort.Array = codes "it wants a subscript, and no for runs over it"
-kind_reason sort.Variable = codes "it has no subscript, and inside pardo a local or a shared cell is set, and no variable"
-kind_reason sort.Index = codes "it has no subscript"
-kind_reason sort.Local = codes "it has no subscript"
+-- why a name of that sort is not set where it stands
+abbrev pub target_reason : Sort → List ℕ
+target_reason sort.Variable = codes "inside pardo a local or a shared cell is set, and no variable"
+target_reason sort.Array = codes "it wants a subscript"
+target_reason sort.Cell = codes "it is not set here"
+target_reason sort.Index = codes "it is not set here"
+target_reason sort.Local = codes "it is not set here"
+
+-- why it can't have that role
+abbrev pub role_reason : Sort → Role → List ℕ
+role_reason s role.Element = codes "it has no subscript"
+role_reason s role.Counter = codes "a for runs over a variable"
+role_reason s role.Target = target_reason s
+role_reason s role.Value = codes "it wants a subscript"
 
 -- why a variable of a loop can't be set
 abbrev pub loop_reason : Sort → List ℕ
@@ -45,7 +54,7 @@ loop_reason sort.Local = codes "it is not set here"
 abbrev pub reason : Cause → Sort → List ℕ
 reason cause.UnknownName s = codes "it is not in scope here"
 reason cause.DoubleName s = codes "it can't be declared again here, and a pardo declares its index"
-reason cause.WrongKind s = kind_reason s
+reason cause.WrongKind s = codes "it is of another kind than what may stand here"
 reason cause.AssignedLoopVariable s = loop_reason s
 reason (cause.Limit l) s = codes "it passes a limit"
 
@@ -67,6 +76,11 @@ abbrev pub declared_text : Cause → Sort → ℕ → List ℕ
 declared_text c s line =
     codes " is " ++ (sort_text s ++ (codes ", declared at line " ++ (decimal line ++ (codes ": " ++ reason c s))))
 
+-- as what and where it is declared, and why it can't have that role
+abbrev pub misplaced_text : Sort → ℕ → Role → List ℕ
+misplaced_text s line r =
+    codes " is " ++ (sort_text s ++ (codes ", declared at line " ++ (decimal line ++ (codes ": " ++ role_reason s r))))
+
 -- as what and where it is declared in a pardo, and that it holds there alone
 abbrev pub elsewhere_text : Sort → ℕ → List ℕ
 elsewhere_text s line =
@@ -77,6 +91,7 @@ abbrev pub remarked : List ℕ → Cause → Remark → List ℕ
 remarked word c Nothing = bare word c
 remarked word c (Nearest name) = codes " is not declared here; did you mean \"" ++ (name ++ codes "\"?")
 remarked word c (Declared s line) = declared_text c s line
+remarked word c (Misplaced s line r) = misplaced_text s line r
 remarked word c (Elsewhere s line) = elsewhere_text s line
 remarked word c (Expected found hint) = bare word c
 

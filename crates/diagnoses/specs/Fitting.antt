@@ -69,6 +69,11 @@ role_of ts n =
     if passes is_bracket (slice_get ts (n + 1)) then role.Element
     else (if passes is_becomes (slice_get ts (n + 1)) then assigned_role (passes is_for (slice_get ts (n - 1))) else role.Value)
 
+-- of the name at a place of a text; of one that has no tokens it is no matter
+abbrev pub role_at : Result Cut ℕ → (at : ℕ) → Role
+role_at (Ok c) at = role_of c.tokens (before at c.offsets)
+role_at (Err bad) at = role.Value
+
 -- ---- where it stands
 
 abbrev pub is_index : Sort → Bool

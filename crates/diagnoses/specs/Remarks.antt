@@ -19,13 +19,15 @@ use Rattle.syntax_hints.specs.Hints.{IsHint}
 use Rattle.syntax_hints.specs.declared.hint.Hint.{Hint}
 use Rattle.diagnoses.specs.declared.remark as rust
 use Rattle.diagnoses.specs.declared.remark.Remark.TheVariants as variant
-use Rattle.diagnoses.specs.Fitting.{fitting}
+use Rattle.diagnoses.specs.Fitting.{fitting, role_at}
+use Rattle.diagnoses.specs.declared.fitting.Role.{Role}
 use Rattle.diagnoses.specs.Places.{token_at}
 
 pub data Remark : Type 0 where
   Nothing : Remark
   Nearest : List ℕ → Remark
   Declared : Sort → ℕ → Remark
+  Misplaced : Sort → ℕ → Role → Remark
   Elsewhere : Sort → ℕ → Remark
   Expected : List Choice → Hint → Remark
 
@@ -33,6 +35,7 @@ abbrev pub remark_is : rust.Remark.Remark → Remark
 remark_is variant.Nothing = Nothing
 remark_is (variant.Nearest name) = Nearest name.items
 remark_is (variant.Declared s line) = Declared s line
+remark_is (variant.Misplaced s line role) = Misplaced s line role
 remark_is (variant.Elsewhere s line) = Elsewhere s line
 remark_is (variant.Expected found hint) = Expected found.items hint
 
@@ -46,25 +49,30 @@ abbrev pub declared : Option Known → Remark
 declared None = Nothing
 declared (Some k) = Declared k.sort k.line
 
+-- that, and the role in which it stands there
+abbrev pub misplaced : Role → Option Known → Remark
+misplaced role None = Nothing
+misplaced role (Some k) = Misplaced k.sort k.line role
+
 -- of a name that isn't in scope the pardo in whose body it holds, and else the name that was meant
 abbrev pub unknown : (bound near : Option Known) → Remark
 unknown (Some k) near = Elsewhere k.sort k.line
 unknown None near = meant near
 
 -- of an unknown name that, by the names that may stand there, and of any other as what and where it is declared; of a limit nothing
-abbrev pub remark_on : (bound : Option Known) → (names fit : List Known) → List ℕ → Cause → Remark
-remark_on bound names fit word cause.UnknownName = unknown bound (nearest fit word)
-remark_on bound names fit word cause.DoubleName = declared (named names word)
-remark_on bound names fit word cause.WrongKind = declared (named names word)
-remark_on bound names fit word cause.AssignedLoopVariable = declared (named names word)
-remark_on bound names fit word (cause.Limit l) = Nothing
+abbrev pub remark_on : (bound : Option Known) → (names fit : List Known) → Role → List ℕ → Cause → Remark
+remark_on bound names fit role word cause.UnknownName = unknown bound (nearest fit word)
+remark_on bound names fit role word cause.DoubleName = declared (named names word)
+remark_on bound names fit role word cause.WrongKind = misplaced role (named names word)
+remark_on bound names fit role word cause.AssignedLoopVariable = declared (named names word)
+remark_on bound names fit role word (cause.Limit l) = Nothing
 
 -- what there is to say of the first thing that is wrong with a program
 abbrev pub remark_at : (text : List ℕ) → ProgramTree → Spot → Cause → Remark
 remark_at text tree spot.TextEnd c = Nothing
 remark_at text tree (spot.Offset at) c =
     let names = names_at tree at in
-    remark_on (bound_in tree (token_at text at)) names (fitting (cut_of text) at names) (token_at text at) c
+    remark_on (bound_in tree (token_at text at)) names (fitting (cut_of text) at names) (role_at (cut_of text) at) (token_at text at) c
 
 abbrev pub remark_of : (text : List ℕ) → ProgramTree → Breach → Remark
 remark_of text tree b = remark_at text tree b.spot b.cause

@@ -13,7 +13,7 @@ use Rattle.refusal_messages.specs.declared.message.Point.TheVariants.{Byte}
 use Rattle.refusal_messages.specs.Messages.{Message, said, with_expected, with_more, with_other}
 use Rattle.diagnoses.specs.declared.source.Source.{Source}
 use Rattle.diagnoses.specs.Places.{quoted, token_at}
-use Rattle.diagnoses.specs.Remarks.{Remark, Nothing, Nearest, Declared, Elsewhere, Expected}
+use Rattle.diagnoses.specs.Remarks.{Remark, Nothing, Nearest, Declared, Misplaced, Elsewhere, Expected}
 use Rattle.diagnoses.specs.Sources.{origin, text_in}
 
 -- ---- what could stand there
@@ -29,6 +29,7 @@ abbrev pub expected : Remark → List ℕ
 expected Nothing = []
 expected (Nearest name) = []
 expected (Declared sort line) = []
+expected (Misplaced sort line role) = []
 expected (Elsewhere sort line) = []
 expected (Expected found hint) = could_stand found
 
@@ -43,6 +44,7 @@ abbrev pub ended : Remark → List ℕ
 ended Nothing = bare_end
 ended (Nearest name) = bare_end
 ended (Declared sort line) = bare_end
+ended (Misplaced sort line role) = bare_end
 ended (Elsewhere sort line) = bare_end
 ended (Expected found hint) = open_end found
 

@@ -8,6 +8,7 @@ ghost use Rattle.diagnoses.specs.Remarks.{remark_is};
 ghost use Rattle.diagnoses.specs.Breaches as spec;
 ghost use Rattle.diagnoses.specs.Sources.{spot_as_it_stands, text_in};
 
+use crate::fitting::Role;
 use crate::parts::at_byte;
 use crate::places::{token_at, write_quoted};
 use crate::remark::Remark;
@@ -32,16 +33,24 @@ fn sort_text(sort: Sort) -> &'static [u8]
     }
 }
 
-fn kind_reason(sort: Sort) -> &'static [u8]
-    ensures { result.now ≡ spec.kind_reason sort }
+fn target_reason(sort: Sort) -> &'static [u8]
+    ensures { result.now ≡ spec.target_reason sort }
 {
     match sort {
-        Sort::Cell => b"it has no subscript, and no for runs over it",
-        Sort::Array => b"it wants a subscript, and no for runs over it",
-        Sort::Variable =>
-            b"it has no subscript, and inside pardo a local or a shared cell is set, and no variable",
-        Sort::Index => b"it has no subscript",
-        Sort::Local => b"it has no subscript",
+        Sort::Variable => b"inside pardo a local or a shared cell is set, and no variable",
+        Sort::Array => b"it wants a subscript",
+        Sort::Cell | Sort::Index | Sort::Local => b"it is not set here",
+    }
+}
+
+fn role_reason(sort: Sort, role: Role) -> &'static [u8]
+    ensures { result.now ≡ spec.role_reason sort role }
+{
+    match role {
+        Role::Element => b"it has no subscript",
+        Role::Counter => b"a for runs over a variable",
+        Role::Target => target_reason(sort),
+        Role::Value => b"it wants a subscript",
     }
 }
 
@@ -61,7 +70,7 @@ fn reason(cause: Cause, sort: Sort) -> &'static [u8]
     match cause {
         Cause::UnknownName => b"it is not in scope here",
         Cause::DoubleName => b"it can't be declared again here, and a pardo declares its index",
-        Cause::WrongKind => kind_reason(sort),
+        Cause::WrongKind => b"it is of another kind than what may stand here",
         Cause::AssignedLoopVariable => loop_reason(sort),
         Cause::Limit(_) => b"it passes a limit",
     }
@@ -110,6 +119,21 @@ fn write_declared<W: Out>(
     ])
 }
 
+fn write_misplaced<W: Out>(out: &mut W, sort: Sort, line: u32, role: Role) -> Result<(), WriteFault>
+    requires counted { (W.Out.state out.old).failures < 2 ^ 63 }
+    ensures written { Writes (W.Out.state out.old) (W.Out.state out.new) (spec.misplaced_text sort line role) result }
+{
+    let mut digits = Digits::new();
+    out.write_parts(&[
+        b" is ",
+        sort_text(sort),
+        b", declared at line ",
+        digits.format(line).as_bytes(),
+        b": ",
+        role_reason(sort, role),
+    ])
+}
+
 fn write_elsewhere<W: Out>(out: &mut W, sort: Sort, line: u32) -> Result<(), WriteFault>
     requires counted { (W.Out.state out.old).failures < 2 ^ 63 }
     ensures written { Writes (W.Out.state out.old) (W.Out.state out.new) (spec.elsewhere_text sort line) result }
@@ -142,6 +166,7 @@ fn write_remarked<W: Out>(
             b"\"?",
         ]),
         Remark::Declared(sort, line) => write_declared(out, cause, *sort, *line),
+        Remark::Misplaced(sort, line, role) => write_misplaced(out, *sort, *line, *role),
         Remark::Elsewhere(sort, line) => write_elsewhere(out, *sort, *line),
         Remark::Expected(_, _) => out.write_all(bare(word, cause)),
     }
@@ -264,6 +289,7 @@ fn meant_name(alloc: Global, remark: &Remark) -> Result<Option<Vec<u8>>, AllocEr
         Remark::Nearest(name) => Ok(Some(name.clone()?)),
         Remark::Nothing => Ok(None),
         Remark::Declared(_, _) => Ok(None),
+        Remark::Misplaced(_, _, _) => Ok(None),
         Remark::Elsewhere(_, _) => Ok(None),
         Remark::Expected(_, _) => Ok(None),
     }

@@ -1,4 +1,4 @@
-//! Which of the names in scope may stand where an unknown one does.
+//! The role of a name where it stands, and which of the names in scope may have it there.
 
 ghost use Rattle.std.specs.Prelude.{◌≡◌, ◌≤◌, IfOk, length, map};
 ghost use Rattle.std.specs.List.{filter, slice_get};
@@ -249,6 +249,19 @@ fn keep<'a>(
         }
     }
     Ok(kept)
+}
+
+/// The role of a name at a place. The error is that memory was refused.
+pub(crate) fn role_at(alloc: Global, text: &[u8], at: u32) -> Result<Role, AllocError>
+    requires fits { length text.now ≤ longest }
+    ensures { IfOk result (λ role. role ≡ spec.role_at (cut_of text.now) at) }
+{
+    match tokenize(alloc, text) {
+        Ok((tokens, offsets)) => Ok(role_of(&tokens, tokens_before(&offsets, at))),
+        // no text with a name that stands somewhere
+        Err(LexError::BadToken(_)) => Ok(Role::Value),
+        Err(LexError::OutOfMemory) => Err(AllocError),
+    }
 }
 
 /// Of the names that are in scope at a place, those that may stand there in the place of the one that does. The error is that memory was

@@ -53,11 +53,7 @@ fn reason_of(alloc: Global, program: &Program, entry: Entry) -> Result<Reason, A
 
 // What the last entry tells of it.
 #[tactic(auto, using(crate::proofs::LastReason::last_told, crate::proofs::LastReason::none_told))]
-fn last_reason(
-    alloc: Global,
-    program: &Program,
-    entries: Vec<Entry>,
-) -> Result<Reason, AllocError>
+fn last_reason(alloc: Global, program: &Program, entries: Vec<Entry>) -> Result<Reason, AllocError>
     ensures { IfOk result (λ reason. spec.reason_is reason
         ≡ spec.last_reason program.now spec.unknown (map entry_is entries.items)) }
 {

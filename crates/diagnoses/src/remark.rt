@@ -11,7 +11,7 @@ ghost use Rattle.pram_names.specs.declared.fault.Spot.TheVariants.{Offset};
 ghost use Rattle.diagnoses.specs.Places.{token_at as token_of};
 ghost use Rattle.diagnoses.specs.Remarks as spec;
 
-use crate::fitting::fitting_names;
+use crate::fitting::{Role, fitting_names, role_at};
 use crate::places::{front, token_at};
 use pram_check::{Breach, Cause, Spot};
 use pram_parser::parse;
@@ -31,6 +31,8 @@ pub enum Remark {
     Nearest(Vec<u8>),
     /// As what the name is declared, and on which line.
     Declared(Sort, u32),
+    /// As what the name is declared, on which line, and the role that a name of that sort can't have where it stands.
+    Misplaced(Sort, u32, Role),
     /// As what the name is declared in a pardo, and on which line, but not where it stands.
     Elsewhere(Sort, u32),
     /// These kinds of tokens could stand there, and what else there is to say of the place.
@@ -54,6 +56,26 @@ fn declared(found: Option<Known<'_>>) -> Remark
     match found {
         None => Remark::Nothing,
         Some(k) => Remark::Declared(k.sort, k.line),
+    }
+}
+
+// That, and the role in which it stands there.
+fn misplaced(
+    alloc: Global,
+    text: &[u8],
+    at: u32,
+    found: Option<Known<'_>>,
+) -> Result<Remark, AllocError>
+    requires fits { length text.now ≤ longest }
+    ensures { IfOk result (λ r. spec.remark_is r
+        ≡ spec.misplaced (fit.role_at (cut_of text.now) at) (option_map known_is found.entry)) }
+{
+    match found {
+        None => Ok(Remark::Nothing),
+        Some(k) => {
+            let role = role_at(alloc, text, at)?;
+            Ok(Remark::Misplaced(k.sort, k.line, role))
+        }
     }
 }
 
@@ -94,7 +116,7 @@ fn remark_at(
     match cause {
         Cause::UnknownName => unknown(alloc, text, at, bound_in(tree, word), &names),
         Cause::DoubleName => Ok(declared(find(&names, word))),
-        Cause::WrongKind => Ok(declared(find(&names, word))),
+        Cause::WrongKind => misplaced(alloc, text, at, find(&names, word)),
         Cause::AssignedLoopVariable => Ok(declared(find(&names, word))),
         Cause::Limit(_) => Ok(Remark::Nothing),
     }

@@ -38,6 +38,7 @@ fn write_expected<W: Out>(out: &mut W, remark: &Remark) -> Result<(), WriteFault
         Remark::Nothing => out.write_all(b""),
         Remark::Nearest(_) => out.write_all(b""),
         Remark::Declared(_, _) => out.write_all(b""),
+        Remark::Misplaced(_, _, _) => out.write_all(b""),
         Remark::Elsewhere(_, _) => out.write_all(b""),
     }
 }
@@ -67,6 +68,7 @@ fn write_ended<W: Out>(out: &mut W, remark: &Remark) -> Result<(), WriteFault>
         Remark::Nothing => write_bare_end(out),
         Remark::Nearest(_) => write_bare_end(out),
         Remark::Declared(_, _) => write_bare_end(out),
+        Remark::Misplaced(_, _, _) => write_bare_end(out),
         Remark::Elsewhere(_, _) => write_bare_end(out),
     }
 }

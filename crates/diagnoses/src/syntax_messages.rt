@@ -215,6 +215,7 @@ fn hint_of(remark: &Remark) -> Hint
         Remark::Nothing => Hint::Nothing,
         Remark::Nearest(_) => Hint::Nothing,
         Remark::Declared(_, _) => Hint::Nothing,
+        Remark::Misplaced(_, _, _) => Hint::Nothing,
         Remark::Elsewhere(_, _) => Hint::Nothing,
     }
 }
@@ -276,6 +277,7 @@ fn expected_texts(alloc: Global, remark: &Remark) -> Result<Vec<Vec<u8>>, AllocE
         Remark::Nothing => Ok(Vec::new(alloc)),
         Remark::Nearest(_) => Ok(Vec::new(alloc)),
         Remark::Declared(_, _) => Ok(Vec::new(alloc)),
+        Remark::Misplaced(_, _, _) => Ok(Vec::new(alloc)),
         Remark::Elsewhere(_, _) => Ok(Vec::new(alloc)),
     }
 }

@@ -42,7 +42,10 @@ fn count_of(layout: &Layout, entry: usize, reads: &[u32]) -> usize
     ensures { IfSome (slice_get layout.now entry) (λ e. result ≡ spec.count_of layout.now entry e reads.now) }
 {
     let range = layout.range(entry);
-    let (first, last) = (layout.cell(entry, range.low), layout.cell(entry, range.high));
+    let (first, last) = (
+        layout.cell(entry, range.low),
+        layout.cell(entry, range.high),
+    );
     count_between(first, last, reads)
 }
 
@@ -120,7 +123,13 @@ pub(crate) fn wrong_element(
 {
     match cause {
         Some(Cause::Beyond { entry, .. }) => {
-            element_behind(alloc, program, location.offset, *entry, reads_at(acts, place))
+            element_behind(
+                alloc,
+                program,
+                location.offset,
+                *entry,
+                reads_at(acts, place),
+            )
         }
         _ => Ok(None),
     }
