@@ -1,6 +1,6 @@
 //! Which cells are drawn in a flow.
 
-ghost use Rattle.std.specs.Prelude.{◌≡◌, ◌++◌, IfOk, OnOk};
+ghost use Rattle.std.specs.Prelude.{◌≡◌, ◌<◌, ◌++◌, IfOk, IfSome, OnOk, length, slice_get};
 ghost use Rattle.command_text.specs.Spans as spec;
 
 use flow_pictures::CellSpan;
@@ -37,16 +37,32 @@ fn add_if(
     }
 }
 
+// Those of the declaration of that number, if it is chosen.
+fn add_declared(
+    spans: &mut Vec<CellSpan>,
+    layout: &Layout,
+    number: usize,
+    choice: Choice<'_>,
+) -> Result<(), AllocError>
+    requires number { number < length layout.now }
+    ensures { IfSome (slice_get layout.now number)
+        (λ e. OnOk result (spans.new.items ≡ spans.old.items ++ spec.span_of layout.now choice.entry number e)) }
+{
+    let range = layout.range(number);
+    let (first, last) = (
+        layout.cell(number, range.low),
+        layout.cell(number, range.high),
+    );
+    add_if(spans, is_chosen(choice, layout.name(number)), first, last)
+}
+
 // The cells of each declaration that is chosen.
 fn spans_of(alloc: Global, layout: &Layout, choice: Choice<'_>) -> Result<Vec<CellSpan>, AllocError>
     ensures { IfOk result (λ spans. spans.items ≡ spec.spans_from layout.now choice.entry 0 layout.now) }
 {
     let mut spans = Vec::new(alloc);
     for i in 0..layout.len() {
-        let chosen = is_chosen(choice, layout.name(i));
-        let range = layout.range(i);
-        let (first, last) = (layout.cell(i, range.low), layout.cell(i, range.high));
-        add_if(&mut spans, chosen, first, last)?;
+        add_declared(&mut spans, layout, i, choice)?;
     }
     Ok(spans)
 }
