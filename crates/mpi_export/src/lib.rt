@@ -1,0 +1,11 @@
+//! A plan as a program in C over MPI: one runtime for all plans, and the plan's words in tables.
+#![tactic(auto)]
+
+mod exchange_text;
+mod printer;
+mod program;
+mod run_text;
+mod spell;
+mod state_text;
+
+pub use program::write_program;
