@@ -4,6 +4,7 @@
 mod exchange_text;
 mod printer;
 mod program;
+pub mod program_laws;
 mod run_text;
 mod spell;
 mod state_text;
