@@ -1,10 +1,11 @@
 #!/usr/bin/env python3
 """Runs the C text of plans under MPI, and compares what it writes with pramc: the trace, the outcome and the exit status.
 
-mpi_test.py PROGRAM [--jobs N] [--drawn COUNT] [--seed S] [--only NAME] [--sanitize] -- EXPORT ..: EXPORT is a command that is given
-listings, and writes the C text of each NAME.bsp into NAME.c. Each example, under each rule, by 1, 2, 3, 4 and 16 ranks, with
-two maps and some bounds, and COUNT drawn programs: as many runs as ranks are the same are made in one start of MPI (gate/mpi/host.c). What
-is refused, and each example under its own rule, by a start of its own. With --sanitize a few runs alone, under the compiler's sanitizers.
+mpi_test.py PROGRAM [--jobs N] [--drawn COUNT] [--seed S] [--only NAME] [--sanitize] -- EXPORT ..: EXPORT is `pramc export --listing`, or a
+command that is given listings, and writes the C text of each NAME.bsp into NAME.c. Each example, under each rule, by 1, 2, 3, 4 and 16
+ranks, with two maps and some bounds, and COUNT drawn programs: as many runs as ranks are the same are made in one start of MPI
+(gate/mpi/host.c). What is refused, each example under its own rule, and one beyond the limits of the language, by a start of its own. With
+--sanitize a few runs alone, under the compiler's sanitizers.
 """
 import argparse
 import os
@@ -48,6 +49,11 @@ class Test:
         return self.folder / f"{name}.bsp"
 
     def export_all(self, listings):
+        """Has the C text of each listing written, by one call or, where pramc does it, by one for each."""
+        if "export" in self.export:
+            for it in listings:
+                it.with_suffix(".c").write_bytes(subprocess.run([*self.export, it], capture_output=True, check=True).stdout)
+            return
         done = subprocess.run([*self.export, *listings], capture_output=True, text=True)
         missing = [it for it in listings if not it.with_suffix(".c").exists()]
         if missing:
@@ -184,6 +190,25 @@ def refusals(test):
     test.start_all(calls)
 
 
+def grown(test, cells=2097152):
+    """The program of docs/SCALE.md that takes its size from a cell, with more cells and processors than the language has."""
+    text = re.search(r"```pram grows\.pram\n(.*?)```", (TOP / "docs" / "SCALE.md").read_text(), re.S)[1]
+    listing = test.plan("grows", text)
+    test.export_all([listing])
+    source = listing.with_suffix(".c")
+    for old, new in [("define PROCS 8", f"define PROCS {cells}"), ('"a", 1, 8}', f'"a", 1, {cells}}}'), ("CELL_BITS 20", "CELL_BITS 22")]:
+        assert source.read_text().count(f"{old}\n" if "define" in old else old) == 1, old
+        source.write_text(source.read_text().replace(old, new))
+    test.compile_all([listing], ".run", ["-O2"])
+    values = test.folder / "grows.in"
+    values.write_text(f"{cells}\n")
+    call = [*MPIRUN, "-n", "4", test.folder / "grows.run", "--input", values]
+    done = subprocess.run(call, capture_output=True, text=True, env=ENVIRONMENT)
+    whole = cells * (cells + 1) // 2
+    beginning = " ".join(done.stdout.split(" ")[:5])
+    test.judge(call, f"{whole}\nended\nsize = {cells}\na[1..{cells}] = {whole}", beginning)
+
+
 def sanitized(test):
     """Some examples under each rule, with few ranks, where the compiler's sanitizers look on."""
     starts, listings = [], []
@@ -217,6 +242,7 @@ def main():
             plans, more = sanitized(test), 0
         else:
             refusals(test)
+            grown(test)
             plans = examples(test, given.only)
             more = drawn(test, given.drawn, given.seed)
             test.host()
