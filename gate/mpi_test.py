@@ -115,10 +115,10 @@ def plain(call):
 
 
 def of_example(test, name, file, turn):
-    """The calls of a program: by all ranks and both maps, and by some bounds."""
+    """The calls of a program: by all ranks and both maps, by the most ranks with one of them in turn, and by some bounds."""
     given = ["--input", file]
     for ranks in RANKS:
-        for chosen in MAPS:
+        for chosen in MAPS if ranks < RANKS[-1] else [MAPS[turn % 2]]:
             test.hosted[ranks].append(("trace", name, ["--trace", *given, "--map", chosen, "--outcome"]))
     test.hosted[RANKS[turn % 5]].append(("trace", name, ["--trace", *given]))
     test.hosted[RANKS[(turn + 1) % 5]].append(("run", name, [*given, "--map", MAPS[turn % 2]]))

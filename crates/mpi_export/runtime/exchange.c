@@ -9,9 +9,9 @@ static struct box {
     struct growing memory;
 } sent, got;
 
-static bool tracing, is_silent;  /* whether exchanges are told, and whether the outcome isn't */
-static bool any_active;          /* whether a header of the last exchange had an active processor, */
-static struct key least;         /* and the least key of its headers */
+static bool tracing, is_silent; /* whether exchanges are told, and whether the outcome isn't */
+static bool any_active;         /* whether a header of the last exchange had an active processor, */
+static struct key least;        /* and the least key of its headers */
 static uint64_t exchanges;
 
 static uint64_t halves(uint64_t first, uint64_t second) { return (first & UINT32_MAX) | second << 32; }

@@ -33,7 +33,7 @@ enum word {
 };
 
 /* How many bits of a word a cell's number has, and the most bytes of an input, as the limits of the language are. For larger
- * arrays raise them: CELL_BITS to at most 56, and 2 to that power is at least the number of all cells. */
+ * arrays raise them: CELL_BITS to at most 32, and 2 to that power is at least the number of all cells. */
 #define CELL_BITS 20
 #define INPUT_BYTES 1048576
 

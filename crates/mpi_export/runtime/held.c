@@ -4,7 +4,8 @@
 __extension__ typedef __int128 wide; /* sums of 64-bit values */
 
 struct writers {
-    uint64_t cell;
+    uint64_t cell, offset; /* the offset, where a module joins them */
+    int module;
     bool is_conflict;
     int64_t index;
     wide value;
@@ -26,9 +27,8 @@ static struct moment put_at;
 static struct read reads[most_reads];
 
 static void hold_write(uint64_t cell, int64_t index, int64_t value) {
-    held[writes++] = (struct writers){cell, false, index, value};
+    held[writes++] = (struct writers){cell, 0, module_of(cell), false, index, value};
 }
-
 static void hold_put(int64_t position) {
     is_put_held = true;
     put_at = now(position);

@@ -2,15 +2,23 @@
 /* ---- The cells that were met in this turn, each with a number: a table of at least twice as many places as can be met */
 
 static struct met {
-    uint64_t cell, turn, number;
+    uint64_t cell;
+    uint32_t turn, number;
 } *table;
-static uint64_t last_place, turn;
+static uint64_t last_place;
+static uint32_t turn;
 
-/* The number of a cell; `next` where it is met for the first time. */
-static uint64_t met(uint64_t cell, uint64_t next) {
-    uint64_t at = cell * UINT64_C(0x9E3779B97F4A7C15) >> 32 & last_place;
+static void next_turn(void) {
+    if (++turn == 0) /* once round: what stands there would be taken for this turn's */
+        memset(table, 0, (size_t)(last_place + 1) * sizeof(*table)), turn = 1;
+}
+
+/* The number of a cell; `next` where it is met for the first time. It is looked for at its own place first. */
+static uint32_t met(uint64_t cell, uint32_t next) {
+    const uint64_t step = cell * UINT64_C(0x9E3779B97F4A7C15) >> 32 | 1;
+    uint64_t at = cell & last_place;
     while (table[at].turn == turn && table[at].cell != cell)
-        at = (at + 1) & last_place;
+        at = (at + step) & last_place;
     if (table[at].turn != turn)
         table[at] = (struct met){cell, turn, next};
     return table[at].number;
@@ -35,10 +43,10 @@ static void join(struct writers *into, const struct writers *with) {
 
 /* Leaves of the held writes one entry for each cell, in the order in which the cells were first held. */
 static void join_held(void) {
-    size_t different = 0;
-    turn++;
+    uint32_t different = 0;
+    next_turn();
     for (size_t i = 0; i < writes; i++) {
-        const uint64_t number = met(held[i].cell, different);
+        const uint32_t number = met(held[i].cell, different);
         if (number < different)
             join(&held[number], &held[i]);
         else

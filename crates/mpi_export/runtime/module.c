@@ -10,7 +10,8 @@ static int wanted_by[most_ranks]; /* and how many of them each rank asks for */
 static struct writers put_in(const uint64_t *words) {
     const uint64_t high = RULE == rule_sum ? words[3] : words[2] & sign ? UINT64_MAX : 0;
     const wide value = (wide)(int64_t)high * ((wide)1 << 64) + (wide)words[2];
-    return (struct writers){words[0] & cell_bits, words[0] >> CELL_BITS & 1, (int64_t)words[1], value};
+    const uint64_t cell = words[0] & cell_bits;
+    return (struct writers){cell, offset_of(cell), self, words[0] >> CELL_BITS & 1, (int64_t)words[1], value};
 }
 
 /* What the writers of a cell leave in it. */
@@ -20,7 +21,7 @@ static void settle(const struct writers *writers) {
     else if (writers->is_conflict)
         note(put_at, place_cell, (int64_t)writers->cell, write_conflict);
     else
-        cells[offset_of(writers->cell)] = (int64_t)writers->value;
+        cells[writers->offset] = (int64_t)writers->value;
 }
 
 static void settle_puts(void) {
@@ -32,7 +33,7 @@ static void settle_puts(void) {
     for (int j = 0; j < ranks; j++) {
         for (uint64_t i = 0; i < puts_of(j); i++) {
             const struct writers put = put_in(got.words + got.starts[j] + put_words * i);
-            uint32_t *number = &joined_at[offset_of(put.cell)];
+            uint32_t *number = &joined_at[put.offset];
             if (*number)
                 join(&joined[*number - 1], &put);
             else
@@ -41,7 +42,7 @@ static void settle_puts(void) {
     }
     for (uint32_t i = 0; i < different; i++) {
         settle(&joined[i]);
-        joined_at[offset_of(joined[i].cell)] = 0;
+        joined_at[joined[i].offset] = 0;
     }
 }
 

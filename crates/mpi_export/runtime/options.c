@@ -22,7 +22,6 @@ static bool is_number(const char *text, size_t length, uint64_t most, uint64_t *
     }
     return length > 0;
 }
-
 static bool is_word_number(const char *word, uint64_t *number) { return is_number(word, strlen(word), UINT32_MAX, number); }
 
 static bool is_map(const char *word) {

@@ -40,8 +40,7 @@ static void write_entry(const struct entry *entry, uint64_t first) {
     }
     if (self == 0)
         printf("\n");
-    free(mine);
-    free(all);
+    free(mine), free(all);
 }
 
 /* A cell by its name, as a[4]. */

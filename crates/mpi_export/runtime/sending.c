@@ -31,23 +31,23 @@ static void list_asks(void) {
     listed = 0;
     for (size_t k = 0; k < asks; k++) {
         uint64_t *asked = reads[k].asked;
-        turn++;
+        next_turn();
         for (size_t i = 0; i < readers_of(&reads[k]); i++)
             if (asked[i] != nowhere)
-                asked[i] = list_ask(asked[i], k, met(asked[i], listed));
+                asked[i] = list_ask(asked[i], k, met(asked[i], (uint32_t)listed));
     }
 }
 
 static void write_puts(void) {
     for (size_t i = 0; i < writes; i++) {
         const struct writers *put = &held[i];
-        uint64_t *words = sent.words + next[module_of(put->cell)];
+        uint64_t *words = sent.words + next[put->module];
         words[0] = put->cell | (uint64_t)put->is_conflict << CELL_BITS;
         words[1] = (uint64_t)put->index;
         words[2] = (uint64_t)put->value;
         if (RULE == rule_sum)
             words[3] = (uint64_t)(put->value >> 64);
-        next[module_of(put->cell)] += put_words;
+        next[put->module] += put_words;
     }
 }
 
@@ -65,11 +65,10 @@ static void write_asks(void) {
 /* Lays out and writes what is held; how many words it is. */
 static size_t pack(void) {
     uint64_t answers = 0;
-    memset(puts_to, 0, (size_t)ranks * sizeof(uint64_t));
-    memset(asks_to, 0, (size_t)ranks * sizeof(uint64_t));
+    memset(puts_to, 0, sizeof(puts_to)), memset(asks_to, 0, sizeof(asks_to));
     join_held();
     for (size_t i = 0; i < writes; i++)
-        puts_to[module_of(held[i].cell)]++;
+        puts_to[held[i].module]++;
     list_asks();
     for (int j = 0; j < ranks; j++) {
         const uint64_t words = put_words * puts_to[j] + asks_to[j];

@@ -52,10 +52,8 @@ int main(int words, char **word) {
         spread(values);
         status = run();
     }
-    if (self == 0 && (fflush(stdout) != 0 || ferror(stdout))) {
-        fputs("refused E17 WriteFailed\n", stderr);
-        status = status_refused;
-    }
+    if (self == 0 && (fflush(stdout) != 0 || ferror(stdout)))
+        fputs("refused E17 WriteFailed\n", stderr), status = status_refused;
     MPI_Bcast(&status, 1, MPI_INT, 0, MPI_COMM_WORLD);
     MPI_Finalize();
     return status;

@@ -64,9 +64,9 @@ static inline size_t active_from(size_t i) {
 static int64_t index_of(size_t i) { return (int64_t)((uint64_t)low + i * (uint64_t)ranks + (uint64_t)self); }
 
 /* The map's number of a cell, its module, and its offset there. */
-static uint64_t number_of(uint64_t cell) { return (factor * cell + shift) & (all_places - 1); }
-static int module_of(uint64_t cell) { return (int)(number_of(cell) % (uint64_t)ranks); }
-static uint64_t offset_of(uint64_t cell) { return number_of(cell) / (uint64_t)ranks; }
+static uint32_t number_of(uint64_t cell) { return (uint32_t)((factor * cell + shift) & (all_places - 1)); }
+static int module_of(uint64_t cell) { return (int)(number_of(cell) % (uint32_t)ranks); }
+static uint32_t offset_of(uint64_t cell) { return number_of(cell) / (uint32_t)ranks; }
 
 /* The cell of an entry at a subscript. */
 static uint64_t cell_of(int64_t entry, int64_t subscript) {

@@ -1,7 +1,7 @@
 //! The text of the runtime: what ranks exchange. Written by `gate/mpi.py` from the files of `runtime/`.
 
 /// Headers, messages, and the trace.
-pub(crate) const EXCHANGE: [u8; 4064] = *b"
+pub(crate) const EXCHANGE: [u8; 4061] = *b"
 /* ---- Exchanges: to each rank a header and words, and from each rank */
 
 enum { header_words = 5 }; /* the four of a header, and how many words the message has */
@@ -12,9 +12,9 @@ static struct box {
     struct growing memory;
 } sent, got;
 
-static bool tracing, is_silent;  /* whether exchanges are told, and whether the outcome isn't */
-static bool any_active;          /* whether a header of the last exchange had an active processor, */
-static struct key least;         /* and the least key of its headers */
+static bool tracing, is_silent; /* whether exchanges are told, and whether the outcome isn't */
+static bool any_active;         /* whether a header of the last exchange had an active processor, */
+static struct key least;        /* and the least key of its headers */
 static uint64_t exchanges;
 
 static uint64_t halves(uint64_t first, uint64_t second) { return (first & UINT32_MAX) | second << 32; }
@@ -97,13 +97,14 @@ static bool exchange_no_words(const char *what, bool is_active) {
 ";
 
 /// The reads and writes that are held.
-pub(crate) const HELD: [u8; 2708] = *b"
+pub(crate) const HELD: [u8; 2795] = *b"
 /* ---- What is held: the writes of one put, and up to eight reads */
 
 __extension__ typedef __int128 wide; /* sums of 64-bit values */
 
 struct writers {
-    uint64_t cell;
+    uint64_t cell, offset; /* the offset, where a module joins them */
+    int module;
     bool is_conflict;
     int64_t index;
     wide value;
@@ -125,9 +126,8 @@ static struct moment put_at;
 static struct read reads[most_reads];
 
 static void hold_write(uint64_t cell, int64_t index, int64_t value) {
-    held[writes++] = (struct writers){cell, false, index, value};
+    held[writes++] = (struct writers){cell, 0, module_of(cell), false, index, value};
 }
-
 static void hold_put(int64_t position) {
     is_put_held = true;
     put_at = now(position);
@@ -189,19 +189,27 @@ static void ask_own(int64_t to, int64_t entry, int64_t subscript, int64_t positi
 ";
 
 /// The write rules.
-pub(crate) const JOINS: [u8; 1727] = *b"
+pub(crate) const JOINS: [u8; 2043] = *b"
 /* ---- The cells that were met in this turn, each with a number: a table of at least twice as many places as can be met */
 
 static struct met {
-    uint64_t cell, turn, number;
+    uint64_t cell;
+    uint32_t turn, number;
 } *table;
-static uint64_t last_place, turn;
+static uint64_t last_place;
+static uint32_t turn;
 
-/* The number of a cell; `next` where it is met for the first time. */
-static uint64_t met(uint64_t cell, uint64_t next) {
-    uint64_t at = cell * UINT64_C(0x9E3779B97F4A7C15) >> 32 & last_place;
+static void next_turn(void) {
+    if (++turn == 0) /* once round: what stands there would be taken for this turn's */
+        memset(table, 0, (size_t)(last_place + 1) * sizeof(*table)), turn = 1;
+}
+
+/* The number of a cell; `next` where it is met for the first time. It is looked for at its own place first. */
+static uint32_t met(uint64_t cell, uint32_t next) {
+    const uint64_t step = cell * UINT64_C(0x9E3779B97F4A7C15) >> 32 | 1;
+    uint64_t at = cell & last_place;
     while (table[at].turn == turn && table[at].cell != cell)
-        at = (at + 1) & last_place;
+        at = (at + step) & last_place;
     if (table[at].turn != turn)
         table[at] = (struct met){cell, turn, next};
     return table[at].number;
@@ -226,10 +234,10 @@ static void join(struct writers *into, const struct writers *with) {
 
 /* Leaves of the held writes one entry for each cell, in the order in which the cells were first held. */
 static void join_held(void) {
-    size_t different = 0;
-    turn++;
+    uint32_t different = 0;
+    next_turn();
     for (size_t i = 0; i < writes; i++) {
-        const uint64_t number = met(held[i].cell, different);
+        const uint32_t number = met(held[i].cell, different);
         if (number < different)
             join(&held[number], &held[i]);
         else
@@ -240,7 +248,7 @@ static void join_held(void) {
 ";
 
 /// A send, from the side of the processors.
-pub(crate) const SENDING: [u8; 3000] = *b"
+pub(crate) const SENDING: [u8; 2950] = *b"
 /* ---- A send, from the side of the processors */
 
 enum { put_words = RULE == rule_sum ? 4 : 3 };
@@ -273,23 +281,23 @@ static void list_asks(void) {
     listed = 0;
     for (size_t k = 0; k < asks; k++) {
         uint64_t *asked = reads[k].asked;
-        turn++;
+        next_turn();
         for (size_t i = 0; i < readers_of(&reads[k]); i++)
             if (asked[i] != nowhere)
-                asked[i] = list_ask(asked[i], k, met(asked[i], listed));
+                asked[i] = list_ask(asked[i], k, met(asked[i], (uint32_t)listed));
     }
 }
 
 static void write_puts(void) {
     for (size_t i = 0; i < writes; i++) {
         const struct writers *put = &held[i];
-        uint64_t *words = sent.words + next[module_of(put->cell)];
+        uint64_t *words = sent.words + next[put->module];
         words[0] = put->cell | (uint64_t)put->is_conflict << CELL_BITS;
         words[1] = (uint64_t)put->index;
         words[2] = (uint64_t)put->value;
         if (RULE == rule_sum)
             words[3] = (uint64_t)(put->value >> 64);
-        next[module_of(put->cell)] += put_words;
+        next[put->module] += put_words;
     }
 }
 
@@ -307,11 +315,10 @@ static void write_asks(void) {
 /* Lays out and writes what is held; how many words it is. */
 static size_t pack(void) {
     uint64_t answers = 0;
-    memset(puts_to, 0, (size_t)ranks * sizeof(uint64_t));
-    memset(asks_to, 0, (size_t)ranks * sizeof(uint64_t));
+    memset(puts_to, 0, sizeof(puts_to)), memset(asks_to, 0, sizeof(asks_to));
     join_held();
     for (size_t i = 0; i < writes; i++)
-        puts_to[module_of(held[i].cell)]++;
+        puts_to[held[i].module]++;
     list_asks();
     for (int j = 0; j < ranks; j++) {
         const uint64_t words = put_words * puts_to[j] + asks_to[j];
@@ -329,7 +336,7 @@ static size_t pack(void) {
 ";
 
 /// A send from the side of the module, and a reply.
-pub(crate) const MODULE: [u8; 4237] = *b"
+pub(crate) const MODULE: [u8; 4265] = *b"
 /* ---- A send, from the side of the module */
 
 static struct growing joined_memory, wanted_memory;
@@ -341,7 +348,8 @@ static int wanted_by[most_ranks]; /* and how many of them each rank asks for */
 static struct writers put_in(const uint64_t *words) {
     const uint64_t high = RULE == rule_sum ? words[3] : words[2] & sign ? UINT64_MAX : 0;
     const wide value = (wide)(int64_t)high * ((wide)1 << 64) + (wide)words[2];
-    return (struct writers){words[0] & cell_bits, words[0] >> CELL_BITS & 1, (int64_t)words[1], value};
+    const uint64_t cell = words[0] & cell_bits;
+    return (struct writers){cell, offset_of(cell), self, words[0] >> CELL_BITS & 1, (int64_t)words[1], value};
 }
 
 /* What the writers of a cell leave in it. */
@@ -351,7 +359,7 @@ static void settle(const struct writers *writers) {
     else if (writers->is_conflict)
         note(put_at, place_cell, (int64_t)writers->cell, write_conflict);
     else
-        cells[offset_of(writers->cell)] = (int64_t)writers->value;
+        cells[writers->offset] = (int64_t)writers->value;
 }
 
 static void settle_puts(void) {
@@ -363,7 +371,7 @@ static void settle_puts(void) {
     for (int j = 0; j < ranks; j++) {
         for (uint64_t i = 0; i < puts_of(j); i++) {
             const struct writers put = put_in(got.words + got.starts[j] + put_words * i);
-            uint32_t *number = &joined_at[offset_of(put.cell)];
+            uint32_t *number = &joined_at[put.offset];
             if (*number)
                 join(&joined[*number - 1], &put);
             else
@@ -372,7 +380,7 @@ static void settle_puts(void) {
     }
     for (uint32_t i = 0; i < different; i++) {
         settle(&joined[i]);
-        joined_at[offset_of(joined[i].cell)] = 0;
+        joined_at[joined[i].offset] = 0;
     }
 }
 

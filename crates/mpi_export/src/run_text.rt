@@ -1,7 +1,7 @@
 //! The text of the runtime: the command line, the outcome and the run. Written by `gate/mpi.py` from the files of `runtime/`.
 
 /// The command line.
-pub(crate) const OPTIONS: [u8; 2071] = *b"
+pub(crate) const OPTIONS: [u8; 2070] = *b"
 /* ---- The command line and the input, which rank 0 judges for all */
 
 static struct {
@@ -25,7 +25,6 @@ static bool is_number(const char *text, size_t length, uint64_t most, uint64_t *
     }
     return length > 0;
 }
-
 static bool is_word_number(const char *word, uint64_t *number) { return is_number(word, strlen(word), UINT32_MAX, number); }
 
 static bool is_map(const char *word) {
@@ -128,7 +127,7 @@ static void spread(const int64_t *values) {
 ";
 
 /// The outcome, and the close.
-pub(crate) const OUTCOME: [u8; 3420] = *b"
+pub(crate) const OUTCOME: [u8; 3416] = *b"
 /* ---- The outcome, which rank 0 writes */
 
 static struct {
@@ -170,8 +169,7 @@ static void write_entry(const struct entry *entry, uint64_t first) {
     }
     if (self == 0)
         printf(\"\\n\");
-    free(mine);
-    free(all);
+    free(mine), free(all);
 }
 
 /* A cell by its name, as a[4]. */
@@ -284,7 +282,7 @@ static enum status run(void) {
 ";
 
 /// The memory of a rank, and where it begins.
-pub(crate) const START: [u8; 2496] = *b"
+pub(crate) const START: [u8; 2480] = *b"
 static void take_cells(void) {
     first_of = fresh(sizeof(entries) / sizeof(entries[0]), sizeof(uint64_t));
     for (size_t k = 0; entries[k].form != entry_end; k++) {
@@ -338,10 +336,8 @@ int main(int words, char **word) {
         spread(values);
         status = run();
     }
-    if (self == 0 && (fflush(stdout) != 0 || ferror(stdout))) {
-        fputs(\"refused E17 WriteFailed\\n\", stderr);
-        status = status_refused;
-    }
+    if (self == 0 && (fflush(stdout) != 0 || ferror(stdout)))
+        fputs(\"refused E17 WriteFailed\\n\", stderr), status = status_refused;
     MPI_Bcast(&status, 1, MPI_INT, 0, MPI_COMM_WORLD);
     MPI_Finalize();
     return status;

@@ -37,7 +37,7 @@ enum word {
 };
 
 /* How many bits of a word a cell's number has, and the most bytes of an input, as the limits of the language are. For larger
- * arrays raise them: CELL_BITS to at most 56, and 2 to that power is at least the number of all cells. */
+ * arrays raise them: CELL_BITS to at most 32, and 2 to that power is at least the number of all cells. */
 #define CELL_BITS 20
 #define INPUT_BYTES 1048576
 
@@ -46,7 +46,7 @@ enum word {
 ";
 
 /// What a rank has, the map, and memory.
-pub(crate) const STATE: [u8; 2921] = *b"
+pub(crate) const STATE: [u8; 2933] = *b"
 /* ---- What a rank has */
 
 enum { most_ranks = 1024, most_reads = 8, most_masks = 64, part = 65536 };
@@ -112,9 +112,9 @@ static inline size_t active_from(size_t i) {
 static int64_t index_of(size_t i) { return (int64_t)((uint64_t)low + i * (uint64_t)ranks + (uint64_t)self); }
 
 /* The map's number of a cell, its module, and its offset there. */
-static uint64_t number_of(uint64_t cell) { return (factor * cell + shift) & (all_places - 1); }
-static int module_of(uint64_t cell) { return (int)(number_of(cell) % (uint64_t)ranks); }
-static uint64_t offset_of(uint64_t cell) { return number_of(cell) / (uint64_t)ranks; }
+static uint32_t number_of(uint64_t cell) { return (uint32_t)((factor * cell + shift) & (all_places - 1)); }
+static int module_of(uint64_t cell) { return (int)(number_of(cell) % (uint32_t)ranks); }
+static uint32_t offset_of(uint64_t cell) { return number_of(cell) / (uint32_t)ranks; }
 
 /* The cell of an entry at a subscript. */
 static uint64_t cell_of(int64_t entry, int64_t subscript) {
@@ -165,7 +165,7 @@ static void note_own(int64_t position, size_t i, enum kind kind) { note(now(posi
 ";
 
 /// Values, the range and its masks.
-pub(crate) const VALUES: [u8; 3369] = *b"
+pub(crate) const VALUES: [u8; 3367] = *b"
 /* ---- Values: what an operation gives, and 0 where it faults */
 
 /* Floor division, and what it leaves; the divisor isn't 0, nor -1. */
@@ -227,7 +227,6 @@ static void set_own(int64_t to, int64_t value) {
     for EACH_ACTIVE(i)
         d[i] = value;
 }
-
 static void set_index(int64_t to) {
     int64_t *d = column(to);
     for EACH_ACTIVE(i)
@@ -258,7 +257,6 @@ static void mask(int64_t by) {
         active[room + i] = active[i] && flag[i] != 0;
     active += room;
 }
-
 static void flip(void) {
     for (size_t i = 0; i < own; i++)
         active[i] = (active - room)[i] && !active[i];
