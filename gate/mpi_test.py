@@ -234,10 +234,10 @@ def main():
     options.add_argument("--seed", type=int, default=1)
     options.add_argument("--only", default="")
     options.add_argument("--sanitize", action="store_true")
-    options.add_argument("export", nargs="+")
-    given = options.parse_args()
+    at = sys.argv.index("--")
+    given, export = options.parse_args(sys.argv[1:at]), sys.argv[at + 1:]
     with tempfile.TemporaryDirectory() as folder:
-        test = Test(given.program.resolve(), given.export, Path(folder), given.jobs)
+        test = Test(given.program.resolve(), export, Path(folder), given.jobs)
         if given.sanitize:
             plans, more = sanitized(test), 0
         else:
