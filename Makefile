@@ -29,6 +29,7 @@ test:
 	python3 gate/expected/references.py
 	python3 gate/editors.py
 	python3 gate/mpi.py
+	python3 gate/scale.py
 	python3 gate/build_test.py
 	bash gate/plans.sh
 	set -e; for check in crates/*/refusals/check.sh; do bash $$check; done
