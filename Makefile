@@ -1,6 +1,6 @@
 # The crates are proved, built and tested by the toolchain's command `rt`.
 
-.PHONY: all check test examples bench refusals fuzz memory hostile unthreaded page-test editor-test dist dist-test clean install uninstall
+.PHONY: all check test examples bench refusals fuzz memory hostile unthreaded page-test editor-test mpi-test dist dist-test clean install uninstall
 
 sources := $(shell find crates -name out -prune -o \( -name '*.rt' -o -name '*.antt' \) -print) crates.txt
 
@@ -28,10 +28,16 @@ test:
 	python3 gate/gallery.py
 	python3 gate/expected/references.py
 	python3 gate/editors.py
+	python3 gate/mpi.py
+	python3 gate/scale.py
 	python3 gate/build_test.py
 	bash gate/plans.sh
 	set -e; for check in crates/*/refusals/check.sh; do bash $$check; done
 	bash gate/prove.sh
+
+# Runs the C text of plans under MPI, and compares what it writes with the program; needs mpicc and mpirun.
+mpi-test: bin/pramc
+	bash gate/mpi_test.sh bin/pramc
 
 # Prints figures, and asserts nothing.
 bench:

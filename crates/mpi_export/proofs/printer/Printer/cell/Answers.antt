@@ -1,0 +1,5 @@
+use Rattle.text_out.proofs.Printed.{prints_then}
+use Rattle.mpi_export.proofs.printer.Printer.cell.Goals as goal
+
+pub returns-clause-prints : goal.returns-clause-prints
+returns-clause-prints g c = prints_then c.text.ensures.prints (prints_then c.text-2.ensures.prints c.text-3.ensures.prints)

@@ -1,0 +1,91 @@
+
+/* ---- The outcome, which rank 0 writes */
+
+static struct {
+    uint64_t count;
+    int64_t value;
+} *items;
+static size_t printed, items_room;
+
+static void print(int64_t value) {
+    if (self != 0)
+        return;
+    if (printed == items_room) {
+        items_room = 2 * items_room + 64;
+        items = realloc(items, items_room * sizeof(*items));
+        if (!items)
+            stop("refused E16 OutOfMemory");
+    }
+    items[printed].count = count;
+    items[printed++].value = value;
+}
+
+static uint64_t size_of(const struct entry *entry) { return (uint64_t)entry->high - (uint64_t)entry->low + 1; }
+
+/* The line of an entry; its values come from all ranks, in parts. */
+static void write_entry(const struct entry *entry, uint64_t first) {
+    uint64_t *mine = fresh(part, sizeof(uint64_t)), *all = fresh(part, sizeof(uint64_t));
+    const uint64_t end = first + size_of(entry);
+    if (self == 0 && entry->form == entry_array)
+        printf("%s[%" PRId64 "..%" PRId64 "] =", entry->name, entry->low, entry->high);
+    else if (self == 0)
+        printf("%s =", entry->name);
+    for (uint64_t from = first; from < end; from += part) {
+        const uint64_t here = end - from < part ? end - from : part;
+        for (uint64_t i = 0; i < here; i++)
+            mine[i] = module_of(from + i) == self ? (uint64_t)cells[offset_of(from + i)] : 0;
+        MPI_Reduce(mine, all, (int)here, MPI_UINT64_T, MPI_BOR, 0, MPI_COMM_WORLD);
+        for (uint64_t i = 0; self == 0 && i < here; i++)
+            printf(" %" PRId64, (int64_t)all[i]);
+    }
+    if (self == 0)
+        printf("\n");
+    free(mine), free(all);
+}
+
+/* A cell by its name, as a[4]. */
+static void write_cell(uint64_t cell) {
+    size_t at = 0;
+    while (entries[at + 1].form != entry_end && first_of[at + 1] <= cell)
+        at++;
+    printf("%s", entries[at].name);
+    if (entries[at].form == entry_array)
+        printf("[%" PRId64 "]", entries[at].low + (int64_t)(cell - first_of[at]));
+}
+
+static void write_fault(void) {
+    static const char *const words[] = {"overflow", "divide-by-zero", "out-of-range", "too-wide", "read-conflict",
+        "write-conflict"};
+    const uint64_t *of = least.of, number = of[key_number] ^ sign;
+    printf("fault %s ", words[of[key_kind]]);
+    if (of[key_place] == place_cell)
+        write_cell(number);
+    else if (of[key_place] == place_processor)
+        printf("processor %" PRId64, (int64_t)number);
+    else
+        printf("all");
+    printf(" line %" PRIu64 "\n", of[key_line]);
+}
+
+/* Writes the outcome of this status; of a faulted run the items that were printed before. */
+static enum status told(enum status status) {
+    if (is_silent)
+        return status;
+    for (size_t i = 0; i < printed && (status != status_faulted || items[i].count < least.of[key_count]); i++)
+        printf("%" PRId64 "\n", items[i].value);
+    if (self == 0 && status == status_faulted)
+        write_fault();
+    else if (self == 0)
+        puts(status == status_ended ? "ended" : "goes on");
+    for (size_t k = 0; status == status_ended && entries[k].form != entry_end; k++)
+        write_entry(&entries[k], first_of[k]);
+    return status;
+}
+
+/* The close: at the end or at the bound. First what is held is sent. */
+static enum status closed(enum status status) {
+    if (is_put_held)
+        is_over_at_send();
+    exchange_no_words("close", false);
+    return told(least.is ? status_faulted : status);
+}

@@ -1,0 +1,13 @@
+//! What holds of every C text.
+
+ghost use Rattle.mpi_export.specs.Standing.{NamesStandInLiterals, TextsTellCodes};
+
+/// The names of declarations stand in string literals as they are: no byte of them ends a literal, or means another one there.
+pub fn names_stand_in_literals()
+    ensures { NamesStandInLiterals }
+{}
+
+/// A text is that of one code.
+pub fn texts_tell_codes()
+    ensures { TextsTellCodes }
+{}

@@ -1,0 +1,74 @@
+#!/usr/bin/env python3
+"""The C runtime of exported plans, as constants of crates/mpi_export.
+
+mpi.py           compares the constants with the files of crates/mpi_export/runtime, and counts the lines of these
+mpi.py --write   writes them, in the layout of rt fmt
+
+HEAD stands before a plan, and all others behind it, in this order.
+"""
+import re
+import sys
+from pathlib import Path
+
+CRATE = Path(__file__).resolve().parent.parent / "crates" / "mpi_export"
+MOST_LINES = 1000
+FILES = {
+    "state_text": ("what a rank has", ["head", "state", "faults", "values"]),
+    "exchange_text": ("what ranks exchange", ["exchange", "held", "joins", "sending", "module"]),
+    "run_text": ("the command line, the outcome and the run", ["options", "input", "outcome", "run", "start"]),
+}
+SAYS = {
+    "head": "What stands before the plan.",
+    "state": "What a rank has, the map, and memory.",
+    "faults": "Faults, and the least key.",
+    "values": "Values, the range and its masks.",
+    "exchange": "Headers, messages, and the trace.",
+    "held": "The reads and writes that are held.",
+    "joins": "The write rules.",
+    "sending": "A send, from the side of the processors.",
+    "module": "A send from the side of the module, and a reply.",
+    "options": "The command line.",
+    "input": "The input, and how its values are spread.",
+    "outcome": "The outcome, and the close.",
+    "run": "The run, instruction by instruction.",
+    "start": "The memory of a rank, and where it begins.",
+}
+
+
+def source(name):
+    return (CRATE / "runtime" / f"{name}.c").read_text()
+
+
+def constant(name):
+    """The constant of a file, as rt fmt lays it out."""
+    text = source(name)
+    assert text.isascii() and "\\\n" not in text.replace(" \\\n", ""), name
+    literal = text.replace("\\", "\\\\").replace('"', '\\"')
+    front = f"pub(crate) const {name.upper()}: [u8; {len(text)}] = *b\""
+    if len(front) + len(literal.split("\n")[0]) > 100:
+        front = front.replace(" = *b", " =\n    *b")
+    return f"/// {SAYS[name]}\n{front}{literal}\";\n"
+
+
+def module(says, names):
+    return f"//! The text of the runtime: {says}. Written by `gate/mpi.py` from the files of `runtime/`.\n\n" + "\n".join(map(constant, names))
+
+
+def main():
+    wrong = []
+    for file, (says, names) in FILES.items():
+        path, text = CRATE / "src" / f"{file}.rt", module(says, names)
+        if sys.argv[1:] == ["--write"]:
+            path.write_text(text)
+        elif not path.exists() or path.read_text() != text:
+            wrong.append(f"{path.relative_to(CRATE.parent.parent)} isn't what the runtime says: python3 gate/mpi.py --write")
+    lines = sum(source(name).count("\n") for _, names in FILES.values() for name in names)
+    if lines > MOST_LINES:
+        wrong.append(f"the runtime has {lines} lines, more than {MOST_LINES}")
+    missing = sorted(it.stem for it in (CRATE / "runtime").glob("*.c") if it.stem not in SAYS)
+    wrong += [f"runtime/{it}.c stands in no constant" for it in missing]
+    print(*wrong or [f"mpi: the runtime's {lines} lines are the crate's constants"], sep="\n")
+    return 1 if wrong else 0
+
+
+sys.exit(main())

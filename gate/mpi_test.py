@@ -1,0 +1,256 @@
+#!/usr/bin/env python3
+"""Runs the C text of plans under MPI, and compares what it writes with pramc: the trace, the outcome and the exit status.
+
+mpi_test.py PROGRAM [--jobs N] [--drawn COUNT] [--seed S] [--only NAME] [--sanitize] -- EXPORT ..: EXPORT is `pramc export --listing`, or a
+command that is given listings, and writes the C text of each NAME.bsp into NAME.c. Each example, under each rule, by 1, 2, 3, 4 and 16
+ranks, with two maps and some bounds, and COUNT drawn programs: as many runs as ranks are the same are made in one start of MPI
+(gate/mpi/host.c). What is refused, each example under its own rule, and one beyond the limits of the language, by a start of its own. With
+--sanitize a few runs alone, under the compiler's sanitizers.
+"""
+import argparse
+import os
+import random
+import re
+import subprocess
+import sys
+import tempfile
+from concurrent.futures import ThreadPoolExecutor
+from pathlib import Path
+
+TOP = Path(__file__).resolve().parent.parent
+sys.path.insert(0, str(TOP / "gate" / "oracle"))
+import draw
+
+RULES = ["erew", "crew", "common", "priority", "sum"]
+RANKS = [1, 2, 3, 4, 16]
+MAPS = ["identity", "affine:5,3"]
+RULE = re.compile(r"^rule (\w+);", re.M)
+MPIRUN = ["mpirun", "--oversubscribe", "--bind-to", "none", "--mca", "mpi_yield_when_idle", "1", "--mca", "btl", "self,vader", "--mca",
+          "pml", "ob1", "--quiet"]
+ENVIRONMENT = {**os.environ, "OMPI_ALLOW_RUN_AS_ROOT": "1", "OMPI_ALLOW_RUN_AS_ROOT_CONFIRM": "1"}
+WARNINGS = ["-Wall", "-Wextra", "-pedantic", "-Werror"]
+HOSTED = ["-shared", "-fPIC", "-Dmain=plan_main", "-DMPI_Init=plan_init", "-DMPI_Finalize=plan_finalize"]
+SANITIZERS = ["-g", "-fsanitize=address,undefined", "-fno-sanitize-recover=undefined"]
+
+
+class Test:
+    def __init__(self, program, export, folder, jobs):
+        self.program, self.export, self.folder, self.jobs = program, export, folder, jobs
+        self.wrong, self.ends, self.hosted = [], {0: 0, 1: 0, 2: 0, 3: 0}, {ranks: [] for ranks in RANKS}
+
+    def plan(self, name, text):
+        """The listing of a program, or None where it is refused."""
+        file = self.folder / f"{name}.pram"
+        file.write_text(text)
+        done = subprocess.run([self.program, "plan", file], capture_output=True, text=True)
+        if done.returncode:
+            return None
+        (self.folder / f"{name}.bsp").write_text(done.stdout)
+        return self.folder / f"{name}.bsp"
+
+    def export_all(self, listings):
+        """Has the C text of each listing written, by one call or, where pramc does it, by one for each."""
+        if "export" in self.export:
+            for it in listings:
+                it.with_suffix(".c").write_bytes(subprocess.run([*self.export, it], capture_output=True, check=True).stdout)
+            return
+        done = subprocess.run([*self.export, *listings], capture_output=True, text=True)
+        missing = [it for it in listings if not it.with_suffix(".c").exists()]
+        if missing:
+            sys.exit(f"mpi: {len(missing)} listings have no C text\n{done.stdout}{done.stderr}")
+
+    def compile_all(self, listings, suffix, flags):
+        """Compiles each text without a warning."""
+        def compiled(listing):
+            target = listing.with_suffix(suffix)
+            done = subprocess.run(["mpicc", *WARNINGS, *flags, listing.with_suffix(".c"), "-o", target], capture_output=True, text=True)
+            if done.returncode or done.stderr:
+                self.wrong.append(f"mpicc {listing.stem}: {done.stderr}")
+
+        with ThreadPoolExecutor(self.jobs) as pool:
+            list(pool.map(compiled, listings))
+
+    def wanted(self, verb, name, ranks, words):
+        """What pramc writes, with its exit status."""
+        call = [self.program, verb, self.folder / f"{name}.pram", "--workers", str(ranks), *words]
+        done = subprocess.run(call, capture_output=True, text=True, timeout=300)
+        self.ends[done.returncode] += 1
+        return f"{done.stdout}{done.stderr}status {done.returncode}\n"
+
+    def judge(self, what, wanted, found):
+        if wanted != found:
+            self.wrong.append(f"{' '.join(map(str, what))}\nwanted\n{wanted}found\n{found}")
+
+    def host(self):
+        """Makes the calls that were gathered, those of as many ranks in one start."""
+        here, kept = Path(__file__).resolve().parent / "mpi" / "host.c", self.folder / "host"
+        subprocess.run(["mpicc", "-O1", *WARNINGS, "-rdynamic", here, "-o", kept, "-ldl"], check=True)
+        for ranks, calls in self.hosted.items():
+            lines = [f"{self.folder / name}.so {self.folder}/out_{ranks}_{number} {' '.join(map(str, words))}\n"
+                     for number, (verb, name, words) in enumerate(calls)]
+            (self.folder / "list").write_text("".join(lines))
+            with ThreadPoolExecutor(self.jobs) as pool:
+                wanted = list(pool.map(lambda call: self.wanted(call[0], call[1], ranks, plain(call)), calls))
+            done = subprocess.run([*MPIRUN, "-n", str(ranks), kept, self.folder / "list"], capture_output=True, text=True, env=ENVIRONMENT)
+            for number, call in enumerate(calls):
+                file = self.folder / f"out_{ranks}_{number}"
+                found = file.read_text() if file.exists() else f"nothing: {done.returncode} {done.stderr}\n"
+                self.judge((ranks, *call), wanted[number], found)
+
+    def start(self, verb, name, ranks, words):
+        """One call by a start of its own."""
+        call = [*MPIRUN, "-n", str(ranks), self.folder / f"{name}.run", *words]
+        done = subprocess.run(call, capture_output=True, text=True, timeout=300, env=ENVIRONMENT)
+        told = [f"{it}\n" for it in done.stderr.splitlines() if it.startswith("refused") or "ERROR" in it or "runtime error" in it]
+        self.judge(call, self.wanted(verb, name, ranks, plain((verb, name, words))), f"{done.stdout}{''.join(told)}status {done.returncode}\n")
+
+    def start_all(self, calls):
+        with ThreadPoolExecutor(self.jobs) as pool:
+            list(pool.map(lambda call: self.start(*call), calls))
+
+
+def plain(call):
+    """The words of a call for pramc, where a verb says that the exchanges are told."""
+    return [it for it in call[2] if it != "--trace"]
+
+
+def of_example(test, name, file, turn):
+    """The calls of a program: by all ranks and both maps, by the most ranks with one of them in turn, and by some bounds."""
+    given = ["--input", file]
+    for ranks in RANKS:
+        for chosen in MAPS if ranks < RANKS[-1] else [MAPS[turn % 2]]:
+            test.hosted[ranks].append(("trace", name, ["--trace", *given, "--map", chosen, "--outcome"]))
+    test.hosted[RANKS[turn % 5]].append(("trace", name, ["--trace", *given]))
+    test.hosted[RANKS[(turn + 1) % 5]].append(("run", name, [*given, "--map", MAPS[turn % 2]]))
+    for at, bound in enumerate([0, 1 + turn % 3, 5 + turn % 7, 17]):
+        words = ["--trace", *given, "--bound", str(bound), "--outcome", "--map", MAPS[(turn + at) % 2]]
+        test.hosted[RANKS[(turn + at) % 5]].append(("trace", name, words))
+
+
+def examples(test, only):
+    """Each under each rule; under its own one by a start of its own too."""
+    starts, listings, own = [], [], []
+    for turn, file in enumerate(sorted((TOP / "examples").glob("*.pram"))):
+        if only and only != file.stem:
+            continue
+        text = file.read_text()
+        for at, rule in enumerate(RULES):
+            name = f"{file.stem}.{rule}"
+            listings.append(test.plan(name, RULE.sub(f"rule {rule};", text, count=1)))
+            of_example(test, name, file.with_suffix(".in"), turn + at)
+        name = f"{file.stem}.{RULE.search(text)[1]}"
+        own.append(test.folder / f"{name}.bsp")
+        starts.append(("run", name, RANKS[turn % 4], ["--input", file.with_suffix(".in")]))
+    test.export_all(listings)
+    test.compile_all(listings, ".so", ["-O0", *HOSTED])
+    test.compile_all(own, ".run", ["-O2"])
+    test.start_all(starts)
+    return len(listings)
+
+
+def drawn(test, count, seed):
+    """Programs that the generator of gate/oracle draws, as far as they are accepted."""
+    listings = []
+    for number in range(count):
+        drawer = draw.Drawer(random.Random(f"{seed} {number}"))
+        name = f"drawn_{number}"
+        listing = test.plan(name, drawer.text())
+        if not listing:
+            continue
+        values = test.folder / f"{name}.in"
+        values.write_text(" ".join(map(str, drawer.input())) + "\n")
+        listings.append(listing)
+        for at, ranks in enumerate(RANKS):
+            words = ["--trace", "--input", values, "--map", MAPS[(number + at) % 2], "--outcome", "--bound"]
+            test.hosted[ranks].append(("trace", name, [*words, str(150 if at % 2 else number % 30)]))
+    test.export_all(listings)
+    test.compile_all(listings, ".so", ["-O0", *HOSTED])
+    return len(listings)
+
+
+REFUSED = [b"1 2 x", b"1 -  2", b"1-2", b"9223372036854775808", b"-9223372036854775809", b"1 \x80", b"12a", b"--1", b"-", b"1 -",
+           b"1\f2", b"7 " * 17, b"1 " * 524288 + b"2", b"1\x002", b"#"]
+ACCEPTED = [b"", b" ", b"-9223372036854775808 9223372036854775807", b"007 -0 -1", b"\t1\r\n2 \n", b"5 " * 16]
+WORDS = [["--bound", "x"], ["--bound", "4294967296"], ["--bound", ""], ["--map", "affine:2,1"], ["--map", "affine:5"],
+         ["--map", "affine:5,"], ["--map", "affine:4294967296,1"], ["--map", "identity,5"], ["--input", "/nonexistent"],
+         ["--map", "affine:4294967295,4294967295"], ["--bound", "0042"], ["--map", "affine:005,00"]]
+
+
+def refusals(test):
+    """Inputs and words, most of which are refused, of one program."""
+    name = "refused"
+    calls = [("run", name, 2, words) for words in WORDS]
+    listing = test.plan(name, (TOP / "examples" / "tree_sum.pram").read_text())
+    for number, data in enumerate([*REFUSED, *ACCEPTED]):
+        file = test.folder / f"refused_{number}.in"
+        file.write_bytes(data)
+        calls.append(("run", name, 1 + number % 2, ["--input", file]))
+    test.export_all([listing])
+    test.compile_all([listing], ".run", ["-O2"])
+    test.start_all(calls)
+
+
+def grown(test, cells=2097152):
+    """The program of docs/SCALE.md that takes its size from a cell, with more cells and processors than the language has."""
+    text = re.search(r"```pram grows\.pram\n(.*?)```", (TOP / "docs" / "SCALE.md").read_text(), re.S)[1]
+    listing = test.plan("grows", text)
+    test.export_all([listing])
+    source = listing.with_suffix(".c")
+    for old, new in [("define PROCS 8", f"define PROCS {cells}"), ('"a", 1, 8}', f'"a", 1, {cells}}}'), ("CELL_BITS 20", "CELL_BITS 22")]:
+        assert source.read_text().count(f"{old}\n" if "define" in old else old) == 1, old
+        source.write_text(source.read_text().replace(old, new))
+    test.compile_all([listing], ".run", ["-O2"])
+    values = test.folder / "grows.in"
+    values.write_text(f"{cells}\n")
+    call = [*MPIRUN, "-n", "4", test.folder / "grows.run", "--input", values]
+    done = subprocess.run(call, capture_output=True, text=True, env=ENVIRONMENT)
+    whole = cells * (cells + 1) // 2
+    beginning = " ".join(done.stdout.split(" ")[:5])
+    test.judge(call, f"{whole}\nended\nsize = {cells}\na[1..{cells}] = {whole}", beginning)
+
+
+def sanitized(test):
+    """Some examples under each rule, with few ranks, where the compiler's sanitizers look on."""
+    starts, listings = [], []
+    for stem in ["bitonic_sort", "conflict_sum", "faults", "matrix_product_sum", "out_of_range", "prefix_tree", "sum", "connected_components"]:
+        file = TOP / "examples" / f"{stem}.pram"
+        for at, rule in enumerate(RULES):
+            name = f"{stem}.{rule}"
+            listings.append(test.plan(name, RULE.sub(f"rule {rule};", file.read_text(), count=1)))
+            words = ["--trace", "--input", file.with_suffix(".in"), "--map", MAPS[at % 2], "--outcome"]
+            starts.append(("trace", name, RANKS[at % 4], words))
+    test.export_all(listings)
+    test.compile_all(listings, ".run", ["-O1", *SANITIZERS])
+    ENVIRONMENT["ASAN_OPTIONS"] = "detect_leaks=0"
+    test.start_all(starts)
+    return len(listings)
+
+
+def main():
+    options = argparse.ArgumentParser()
+    options.add_argument("program", type=Path)
+    options.add_argument("--jobs", type=int, default=2)
+    options.add_argument("--drawn", type=int, default=300)
+    options.add_argument("--seed", type=int, default=1)
+    options.add_argument("--only", default="")
+    options.add_argument("--sanitize", action="store_true")
+    at = sys.argv.index("--")
+    given, export = options.parse_args(sys.argv[1:at]), sys.argv[at + 1:]
+    with tempfile.TemporaryDirectory() as folder:
+        test = Test(given.program.resolve(), export, Path(folder), given.jobs)
+        if given.sanitize:
+            plans, more = sanitized(test), 0
+        else:
+            refusals(test)
+            grown(test)
+            plans = examples(test, given.only)
+            more = drawn(test, given.drawn, given.seed)
+            test.host()
+    print(*test.wrong, sep="\n", end="\n" if test.wrong else "")
+    ends = ", ".join(f"{many} {how}" for how, many in zip(["ended", "faulted", "refused", "at the bound"], test.ends.values()))
+    runs = sum(test.ends.values())
+    print(f"mpi: {plans} plans of examples, {more} drawn; {runs} runs ({ends}), {len(test.wrong)} otherwise than pramc")
+    return 1 if test.wrong else 0
+
+
+sys.exit(main())
