@@ -1,5 +1,5 @@
 -- The step from one list of values to the next.
-use Rattle.std.proofs.Common.{◌≡◌, ℕ, zero, suc, ◌+◌, ◌-◌, ◌<◌, ◌≤◌, List, [], ◌∷◌, ◌++◌, ℤ, pos, negsuc, ◌+ℤ◌, ◌≤ℤ◌, ◌<ℤ◌, map, length, replicate, take, set, get_or, refl, ap, sym, subst, ◌∙◌, arith}
+use Rattle.std.proofs.Common.{◌≡◌, ℕ, zero, suc, ◌+◌, ◌-◌, ◌<◌, ◌≤◌, List, [], ◌∷◌, ◌++◌, ℤ, pos, negsuc, ◌+ℤ◌, ◌≤ℤ◌, ◌<ℤ◌, map, length, replicate, slice_get, Some, take, set, get_or, refl, ap, sym, subst, ◌∙◌, arith}
 use Rattle.std.proofs.lemmas.Int.{ints, to_z-of_z}
 use Rattle.std.proofs.lemmas.List.{append_assoc, get_or_at, length-append, length-replicate, length-take-le, set_at}
 use Rattle.std.proofs.lemmas.List.Elements.{All-append, All-cons, All-get_or, All-replicate, All-same, All-take}
@@ -75,6 +75,25 @@ from_next low high (y ∷ front) x k le lt =
     ap (λ (xss : List (List ℤ)). map (λ ys. y ∷ ys) xss ++ each_behind (values (y +ℤ pos 1) high) (lists_of vs (length here)))
     (from_next low high front x k le lt)
     ∙ ap (λ (n : ℕ). (y ∷ here) ∷ (map (λ ys. y ∷ ys) (lists_from low high there) ++ each_behind (values (y +ℤ pos 1) high) (lists_of vs n))) same
+
+-- the list itself is the first of those from it on
+pub record BeginsWith (xs : List ℤ) (xss : List (List ℤ)) : Type 0 where
+  pub rest : List (List ℤ)
+  pub is : xss ≡ xs ∷ rest
+
+begins : (low high : ℤ) (xs : List ℤ) → BeginsWith xs (lists_from low high xs)
+begins low high [] = record { rest = []; is = refl }
+begins low high (x ∷ xs) =
+    let b = begins low high xs in
+    let f : List ℤ → List ℤ = λ ys. x ∷ ys in
+    let behind = each_behind (values (x +ℤ pos 1) high) (lists_of (values low high) (length xs)) in
+    record {
+      rest = map f b.rest ++ behind;
+      is = ap (λ (xss : List (List ℤ)). map f xss ++ behind) b.is;
+    }
+
+pub here_first : (low high : ℤ) (xs : List ℤ) → slice_get (lists_from low high xs) 0 ≡ Some xs
+here_first low high xs = ap (λ (xss : List (List ℤ)). slice_get xss 0) (begins low high xs).is
 
 -- ---- the loop: behind a place, xs has the greatest values, and ys, which is xs before it, has the least
 

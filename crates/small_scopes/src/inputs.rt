@@ -1,6 +1,6 @@
 //! The inputs of a scope, one after the other.
 
-ghost use Rattle.std.specs.Prelude.{◌≡◌, ◌∷◌, [], length, IsTrue, IsFalse, IfOk};
+ghost use Rattle.std.specs.Prelude.{◌≡◌, ◌∷◌, [], length, IsTrue, IsFalse, IfOk, slice_get};
 ghost use Rattle.small_scopes.specs.Lists.{AreWithin};
 ghost use Rattle.small_scopes.specs.Scopes.{inputs_from, inputs_of};
 
@@ -27,9 +27,11 @@ pub fn first_input(alloc: Global, scope: Scope) -> Result<Inputs, AllocError>
 }
 
 impl Inputs {
-    /// The input that one stands at.
+    /// The input that one stands at, which is the first of those from here on.
+    #[tactic(auto, using(crate::proofs::Steps::here_first))]
     pub fn values(&self) -> &[i64]
-        ensures { result.now ≡ self.now.input.items }
+        ensures values { result.now ≡ self.now.input.items }
+        ensures first { slice_get (inputs_from self.now.scope self.now.input.items) 0 ≡ Some result.now }
     {
         self.input.as_slice()
     }
