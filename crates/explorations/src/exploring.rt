@@ -55,10 +55,9 @@ pub fn explore(
         return Err(MeaningRefusal::OutOfMemory);
     };
     let mut findings = Findings::new(alloc);
-    let mut more = true;
-    while more {
+    'trying: while !inputs.is_over() {
         try_input(alloc, program, bound, inputs.values(), &mut findings)?;
-        more = inputs.advance();
+        inputs.advance();
     }
     Ok(findings)
 }

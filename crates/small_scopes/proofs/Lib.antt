@@ -1,2 +1,7 @@
+pub mod Begun
+pub mod Clashes
 pub mod Listed
+pub mod Orders
+pub mod Skips
 pub mod Steps
+pub mod Those

@@ -1,5 +1,5 @@
 -- The lists of values of an interval are all of them, each once, in lexicographic order.
-use Rattle.std.proofs.Common.{◌≡◌, ◌≢◌, ◌↔◌, ℕ, zero, suc, ◌-◌, ◌*◌, ◌^◌, ◌<◌, List, [], ◌∷◌, ◌++◌, ℤ, pos, ◌+ℤ◌, ◌≤ℤ◌, ◌<ℤ◌, map, length, get_or, refl, ap, sym, subst, inl, inr, ◌∙◌, arith}
+use Rattle.std.proofs.Common.{◌≡◌, ◌↔◌, ℕ, zero, suc, ◌-◌, ◌*◌, ◌^◌, ◌<◌, List, [], ◌∷◌, ◌++◌, ℤ, pos, ◌+ℤ◌, ◌≤ℤ◌, ◌<ℤ◌, map, length, get_or, refl, ap, sym, subst, inl, inr, ◌∙◌, arith}
 use Rattle.std.proofs.lemmas.Int.{ints}
 use Rattle.std.proofs.lemmas.List.{get_or-append_right, get_or-map, get_or_append_left, length-append, length-map}
 use Rattle.std.proofs.lemmas.List.Elements.{All-cons, All-head, All-nil, All-same, All-tail, Contains-append_cases, Contains-append_left, Contains-append_right, Contains-get_or}
@@ -20,7 +20,7 @@ counted_behind (v ∷ vs) xss =
     let rest = counted_behind vs xss in
     omega arith
 
-numbers_are : (v : ℤ) (n : ℕ) → length (numbers_from v n) ≡ n
+pub numbers_are : (v : ℤ) (n : ℕ) → length (numbers_from v n) ≡ n
 numbers_are v zero = refl
 numbers_are v (suc n) = ap suc (numbers_are (v +ℤ pos 1) n)
 
@@ -37,7 +37,7 @@ counted low high n k e =
 
 -- ---- which they are
 
-numbers_at : (v : ℤ) (n k : ℕ) (d : ℤ) → k < n → get_or (numbers_from v n) k d ≡ v +ℤ pos k
+pub numbers_at : (v : ℤ) (n k : ℕ) (d : ℤ) → k < n → get_or (numbers_from v n) k d ≡ v +ℤ pos k
 numbers_at v zero k d lt = absurd (omega arith)
 numbers_at v (suc n) zero d lt = omega (arith, ints)
 numbers_at v (suc n) (suc k) d lt =
@@ -122,7 +122,7 @@ value_is low high x h =
     let is = number_is low n x h in
     let below = is.1 in let above = is.0 in (above, omega (arith, ints))
 
-is_value : (low high x : ℤ) → IsWithin low high x → Contains (values low high) x
+pub is_value : (low high x : ℤ) → IsWithin low high x → Contains (values low high) x
 is_value low high x (l, h) =
     let gap = int_gap_is low (high +ℤ pos 1) in
     is_number low (int_gap low (high +ℤ pos 1)) x l (omega (arith, ints))
@@ -202,11 +202,6 @@ pub ascending : (low high : ℤ) (k : ℕ) → AllPairs IsBefore (lists_of (valu
 ascending low high zero = λ i j d lt le. absurd (omega arith)
 ascending low high (suc k) = ascending_behind low (int_gap low (high +ℤ pos 1)) (lists_of (values low high) k) (ascending low high k)
 
-not_itself : (xs : List ℤ) → IsBefore xs xs → ⊥
+pub not_itself : (xs : List ℤ) → IsBefore xs xs → ⊥
 not_itself [] h = h
 not_itself (x ∷ xs) h = elim h [ inl less ↦ omega (arith, ints) | inr rest ↦ not_itself xs rest.1 ]
-
-pub once : (low high : ℤ) (k : ℕ) → AllPairs (λ (xs ys : List ℤ). xs ≢ ys) (lists_of (values low high) k)
-once low high k = λ i j d lt le same.
-    let xss = lists_of (values low high) k in
-    not_itself (get_or xss j d) (subst (λ (zs : List ℤ). IsBefore zs (get_or xss j d)) same (ascending low high k i j d lt le))

@@ -81,7 +81,7 @@ pub record BeginsWith (xs : List ℤ) (xss : List (List ℤ)) : Type 0 where
   pub rest : List (List ℤ)
   pub is : xss ≡ xs ∷ rest
 
-begins : (low high : ℤ) (xs : List ℤ) → BeginsWith xs (lists_from low high xs)
+pub begins : (low high : ℤ) (xs : List ℤ) → BeginsWith xs (lists_from low high xs)
 begins low high [] = record { rest = []; is = refl }
 begins low high (x ∷ xs) =
     let b = begins low high xs in
@@ -225,3 +225,9 @@ pub cast : (low high : ℤ) (xs ys : List ℤ) (a : ℕ) → SFits w64 low → S
 cast low high xs ys a f g s =
     subst (λ (l : ℤ). Swept l (to_z w64 (of_z w64 high)) xs ys a) (sym (to_z-of_z w64 low f))
     (subst (λ (h : ℤ). Swept low h xs ys a) (sym (to_z-of_z w64 high g)) s)
+
+-- what holds at the values that the code passes holds at them
+pub uncast : (P : ℤ → ℤ → Type 0) (low high : ℤ) → SFits w64 low → SFits w64 high →
+    P (to_z w64 (of_z w64 low)) (to_z w64 (of_z w64 high)) → P low high
+uncast P low high f g h =
+    subst (λ (l : ℤ). P l high) (to_z-of_z w64 low f) (subst (λ (k : ℤ). P (to_z w64 (of_z w64 low)) k) (to_z-of_z w64 high g) h)

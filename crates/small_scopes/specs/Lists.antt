@@ -1,7 +1,7 @@
 -- Lists of values of an interval, in lexicographic order.
-use Rattle.std.specs.Prelude.{◌≡◌, ◌⊎◌, ℕ, zero, suc, List, [], ◌∷◌, ◌++◌, ℤ, pos, ◌+ℤ◌, ◌≤ℤ◌, ◌<ℤ◌, map, length}
+use Rattle.std.specs.Prelude.{◌≡◌, ◌⊎◌, ◌&&◌, ℕ, ◌*◌, ◌-◌, nat_eq, Bool, true, false, not, zero, suc, List, [], ◌∷◌, ◌++◌, ℤ, pos, negsuc, ◌+ℤ◌, ◌≤ℤ◌, ◌<ℤ◌, map, length}
 use Rattle.std.specs.Int.{int_gap}
-use Rattle.std.specs.List.{All}
+use Rattle.std.specs.List.{All, list_any}
 
 -- so many numbers from one on
 abbrev pub numbers_from : ℤ → ℕ → List ℤ
@@ -40,3 +40,26 @@ abbrev pub IsBefore : List ℤ → List ℤ → Type 0
 IsBefore [] ys = ⊥
 IsBefore (x ∷ xs) [] = ⊥
 IsBefore (x ∷ xs) (y ∷ ys) = (x <ℤ y) ⊎ ((x ≡ y) × IsBefore xs ys)
+
+-- two values are one
+abbrev pub same_value : ℤ → ℤ → Bool
+same_value (pos a) (pos b) = nat_eq a b
+same_value (pos a) (negsuc b) = false
+same_value (negsuc a) (pos b) = false
+same_value (negsuc a) (negsuc b) = nat_eq a b
+
+-- no value stands twice
+abbrev pub are_apart : List ℤ → Bool
+are_apart [] = true
+are_apart (x ∷ xs) = not (list_any (λ v. same_value v x) xs) && are_apart xs
+
+-- ---- how many there are
+
+-- n, one fewer, and so on, k numbers multiplied
+abbrev pub falling : (n k : ℕ) → ℕ
+falling n zero = 1
+falling n (suc k) = falling n k * (n - k)
+
+abbrev pub factorial : ℕ → ℕ
+factorial zero = 1
+factorial (suc n) = suc n * factorial n

@@ -1,49 +1,63 @@
 //! The inputs of a scope, one after the other.
 
-ghost use Rattle.std.specs.Prelude.{◌≡◌, ◌∷◌, [], length, IsTrue, IsFalse, IfOk, slice_get};
-ghost use Rattle.small_scopes.specs.Lists.{AreWithin};
-ghost use Rattle.small_scopes.specs.Scopes.{inputs_from, inputs_of};
+ghost use Rattle.std.specs.Prelude.{◌≡◌, ◌∷◌, [], true, false, length, IsTrue, IsFalse, IfOk, Some, slice_get};
+ghost use Rattle.small_scopes.specs.Lists.{AreWithin, are_apart};
+ghost use Rattle.small_scopes.specs.Scopes.{inputs_left, inputs_of};
 
+use crate::going::{begin, go_on};
 use crate::scope::Scope;
-use crate::step::step;
 use std::alloc::{AllocError, Global};
 
-/// An input of a scope, from which one steps to the next.
+/// Where one stands among the inputs of a scope: at one of them, or past the last.
 #[derive(Drop)]
 pub struct Inputs {
     scope: Scope,
     input: Vec<i64>,
+    over: bool,
     ghost sized: { length input.items ≡ scope.count },
     ghost within: { AreWithin scope.low scope.high input.items },
+    ghost apart: { over ≡ false → scope.apart ≡ true → are_apart input.items ≡ true },
 }
 
-/// The first input of a scope: from it on there are all.
+/// Before the first input of a scope: all are left.
 pub fn first_input(alloc: Global, scope: Scope) -> Result<Inputs, AllocError>
     ensures scope { IfOk result (λ r. r.scope ≡ scope) }
-    ensures all { IfOk result (λ r. inputs_from scope r.input.items ≡ inputs_of scope) }
+    ensures all { IfOk result (λ r. inputs_left r.scope r.over r.input.items ≡ inputs_of scope) }
 {
-    let input = vec![in alloc; scope.low; scope.count as usize]?;
-    Ok(Inputs { scope, input })
+    let mut input = vec![in alloc; scope.low; scope.count as usize]?;
+    let more = begin(input.as_mut_slice(), scope);
+    Ok(Inputs {
+        scope,
+        input,
+        over: !more,
+    })
 }
 
 impl Inputs {
-    /// The input that one stands at, which is the first of those from here on.
-    #[tactic(auto, using(crate::proofs::Steps::here_first))]
+    /// Whether one is past the last input: then none is left.
+    pub fn is_over(&self) -> bool
+        ensures { result ≡ self.now.over }
+    {
+        self.over
+    }
+
+    /// The input that one stands at, which is the first that is left.
     pub fn values(&self) -> &[i64]
+        requires here { self.now.over ≡ false }
         ensures values { result.now ≡ self.now.input.items }
-        ensures first { slice_get (inputs_from self.now.scope self.now.input.items) 0 ≡ Some result.now }
+        ensures first { slice_get (inputs_left self.now.scope self.now.over self.now.input.items) 0 ≡ Some result.now }
     {
         self.input.as_slice()
     }
 
-    /// Steps to the next input, without memory of its own, and says whether there was one. Where there was none, one stands at
-    /// some input of the scope.
-    pub fn advance(&mut self) -> bool
+    /// Goes on to the next input, without memory of its own: it leaves those behind the one at which one stood.
+    pub fn advance(&mut self)
+        requires here { self.old.over ≡ false }
         ensures same { self.new.scope ≡ self.old.scope }
-        ensures next { IsTrue result →
-            inputs_from self.old.scope self.old.input.items ≡ self.old.input.items ∷ inputs_from self.old.scope self.new.input.items }
-        ensures last { IsFalse result → inputs_from self.old.scope self.old.input.items ≡ self.old.input.items ∷ [] }
+        ensures left { inputs_left self.old.scope self.old.over self.old.input.items
+            ≡ self.old.input.items ∷ inputs_left self.old.scope self.new.over self.new.input.items }
     {
-        step(self.input.as_mut_slice(), self.scope.low, self.scope.high)
+        let more = go_on(self.input.as_mut_slice(), self.scope);
+        self.over = !more;
     }
 }

@@ -1,6 +1,8 @@
 //! The inputs of a small scope: all of them, in lexicographic order, one after the other in one place.
 #![tactic(auto)]
 
+mod apart;
+mod going;
 mod inputs;
 pub mod scope;
 pub mod scope_laws;
