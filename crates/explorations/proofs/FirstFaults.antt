@@ -26,7 +26,7 @@ any_step a m e ms false h is rest_same =
     let p : Met → Bool = λ q. are_alike q.fault m in
     ap (λ (t : Bool). list_any p (cond (not t) (e ∷ rest) rest)) is ∙ ap (λ (t : Bool). are_alike e.fault m || t) rest_same
 
-any_kept : (a m : Fault) → are_alike a m ≡ false → (ms : List Met) →
+pub any_kept : (a m : Fault) → are_alike a m ≡ false → (ms : List Met) →
     list_any (λ (q : Met). are_alike q.fault m) (filter (λ (q : Met). not (are_alike a q.fault)) ms) ≡ list_any (λ (q : Met). are_alike q.fault m) ms
 any_kept a m h [] = refl
 any_kept a m h (e ∷ ms) = any_step a m e ms (are_alike a e.fault) h refl (any_kept a m h ms)
