@@ -1,5 +1,6 @@
 pub mod Begun
 pub mod Clashes
+pub mod Counts
 pub mod Listed
 pub mod Orders
 pub mod Skips

@@ -2,11 +2,13 @@
 #![tactic(auto)]
 
 mod apart;
+mod counting;
 mod going;
 mod inputs;
 pub mod scope;
 pub mod scope_laws;
 mod step;
 
+pub use counting::input_count;
 pub use inputs::{Inputs, first_input};
 pub use scope::Scope;
