@@ -13,7 +13,8 @@ unlike a e m h k = grind (arith, nat_tests)
 
 -- whether one like m is there doesn't hang on those like a, where m is unlike a
 any_step : (a m : Fault) (e : Met) (ms : List Met) (b : Bool) → are_alike a m ≡ false → are_alike a e.fault ≡ b →
-    list_any (λ (q : Met). are_alike q.fault m) (filter (λ (q : Met). not (are_alike a q.fault)) ms) ≡ list_any (λ (q : Met). are_alike q.fault m) ms →
+    list_any (λ (q : Met). are_alike q.fault m) (filter (λ (q : Met). not (are_alike a q.fault)) ms) ≡ list_any
+    (λ (q : Met). are_alike q.fault m) ms →
     list_any (λ (q : Met). are_alike q.fault m) (filter (λ (q : Met). not (are_alike a q.fault)) (e ∷ ms))
     ≡ list_any (λ (q : Met). are_alike q.fault m) (e ∷ ms)
 any_step a m e ms true h is rest_same =
@@ -27,14 +28,16 @@ any_step a m e ms false h is rest_same =
     ap (λ (t : Bool). list_any p (cond (not t) (e ∷ rest) rest)) is ∙ ap (λ (t : Bool). are_alike e.fault m || t) rest_same
 
 pub any_kept : (a m : Fault) → are_alike a m ≡ false → (ms : List Met) →
-    list_any (λ (q : Met). are_alike q.fault m) (filter (λ (q : Met). not (are_alike a q.fault)) ms) ≡ list_any (λ (q : Met). are_alike q.fault m) ms
+    list_any (λ (q : Met). are_alike q.fault m) (filter (λ (q : Met). not (are_alike a q.fault)) ms) ≡ list_any
+    (λ (q : Met). are_alike q.fault m) ms
 any_kept a m h [] = refl
 any_kept a m h (e ∷ ms) = any_step a m e ms (are_alike a e.fault) h refl (any_kept a m h ms)
 
 -- those that are unlike a, with one more
 kept_apart : (a m : Met) (ms : List Met) (alike any : Bool) → are_alike a.fault m.fault ≡ alike →
     list_any (λ (q : Met). are_alike q.fault m.fault) ms ≡ any →
-    a ∷ filter (λ (q : Met). not (are_alike a.fault q.fault)) (noted ms m) ≡ noted (a ∷ filter (λ (q : Met). not (are_alike a.fault q.fault)) ms) m
+    a ∷ filter (λ (q : Met). not (are_alike a.fault q.fault)) (noted ms m) ≡ noted
+    (a ∷ filter (λ (q : Met). not (are_alike a.fault q.fault)) ms) m
 kept_apart a m ms true any same is =
     let p : Met → Bool = λ q. are_alike q.fault m.fault in
     let t : Met → Bool = λ q. not (are_alike a.fault q.fault) in

@@ -1,5 +1,6 @@
 -- What findings say of the runs.
-use Rattle.std.proofs.Common.{◌≡◌, ℕ, zero, suc, ◌+◌, Bool, true, false, not, cond, ◌||◌, Option, Some, None, ℤ, List, [], ◌∷◌, ◌++◌, length, refl, ap, sym, subst, ◌∙◌, arith}
+use Rattle.std.proofs.Common.{◌≡◌, ℕ, zero, suc, ◌+◌, Bool, true, false, not, cond, ◌||◌, Option, Some, None, ℤ, List, [], ◌∷◌, ◌++◌}
+use Rattle.std.proofs.Common.{length, refl, ap, sym, subst, ◌∙◌, arith}
 use Rattle.std.proofs.lemmas.Bool.Decides.{nat_tests}
 use Rattle.std.proofs.lemmas.List.Elements.{All-cons, All-filter, All-head, All-nil, All-tail, All-weaker, filter_map-append, filter_passes}
 use Rattle.std.proofs.lemmas.List.Kept.{AllPairs-cons, AllPairs-filter}
@@ -61,7 +62,8 @@ firsts_all P (m ∷ ms) h =
 pub occur : (p : Checked) (n : ℕ) (inputs : List (List ℤ)) →
     All (λ (m : Met). Contains inputs m.input × (fault_of (verdict_on p n m.input) ≡ Some m.fault)) (found p n inputs).faults
 occur p n inputs =
-    firsts_all (λ (m : Met). Contains inputs m.input × (fault_of (verdict_on p n m.input) ≡ Some m.fault)) (met p n inputs) (met_occur p n inputs)
+    firsts_all (λ (m : Met). Contains inputs m.input × (fault_of (verdict_on p n m.input) ≡ Some m.fault)) (met p n inputs)
+    (met_occur p n inputs)
 
 -- ---- no two alike
 
@@ -75,7 +77,8 @@ firsts_once (m ∷ ms) =
     let R : Met → Met → Type 0 = λ a b. are_alike a.fault b.fault ≡ false in
     let t : Met → Bool = λ q. not (are_alike m.fault q.fault) in
     AllPairs-cons R m (filter t (firsts ms))
-    (All-weaker (λ (q : Met). t q ≡ true) (R m) (λ q h. was_not (are_alike m.fault q.fault) h) (filter t (firsts ms)) (filter_passes t (firsts ms)))
+    (All-weaker (λ (q : Met). t q ≡ true) (R m) (λ q h. was_not (are_alike m.fault q.fault) h) (filter t (firsts ms))
+    (filter_passes t (firsts ms)))
     (AllPairs-filter R t (firsts ms) (firsts_once ms))
 
 pub told_once : (p : Checked) (n : ℕ) (inputs : List (List ℤ)) →
@@ -91,19 +94,23 @@ cover_step : (a m : Met) (ms : List Met) (b : Bool) → are_alike a.fault m.faul
     list_any (λ (q : Met). are_alike q.fault m.fault) (firsts ms) ≡ true →
     list_any (λ (q : Met). are_alike q.fault m.fault) (firsts (a ∷ ms)) ≡ true
 cover_step a m ms true e h =
-    ap (λ (t : Bool). t || list_any (λ (q : Met). are_alike q.fault m.fault) (filter (λ (q : Met). not (are_alike a.fault q.fault)) (firsts ms))) e
+    ap (λ (t : Bool). t || list_any (λ (q : Met). are_alike q.fault m.fault)
+    (filter (λ (q : Met). not (are_alike a.fault q.fault)) (firsts ms))) e
 cover_step a m ms false e h =
-    ap (λ (t : Bool). t || list_any (λ (q : Met). are_alike q.fault m.fault) (filter (λ (q : Met). not (are_alike a.fault q.fault)) (firsts ms))) e
+    ap (λ (t : Bool). t || list_any (λ (q : Met). are_alike q.fault m.fault)
+    (filter (λ (q : Met). not (are_alike a.fault q.fault)) (firsts ms))) e
     ∙ any_kept a.fault m.fault e (firsts ms) ∙ h
 
 covered : (ms : List Met) (m : Met) → Contains ms m → list_any (λ (q : Met). are_alike q.fault m.fault) (firsts ms) ≡ true
 covered [] m (k, lt, e) = absurd (omega arith)
 covered (a ∷ ms) m (zero, lt, e) =
-    ap (λ (t : Bool). t || list_any (λ (q : Met). are_alike q.fault m.fault) (filter (λ (q : Met). not (are_alike a.fault q.fault)) (firsts ms)))
+    ap (λ (t : Bool). t || list_any (λ (q : Met). are_alike q.fault m.fault)
+    (filter (λ (q : Met). not (are_alike a.fault q.fault)) (firsts ms)))
     (subst (λ (q : Met). are_alike a.fault q.fault ≡ true) e (alike_itself a.fault))
 covered (a ∷ ms) m (suc k, lt, e) = cover_step a m ms (are_alike a.fault m.fault) refl (covered ms m (k, omega arith, e))
 
-met_at : (p : Checked) (n : ℕ) (x : List ℤ) (f : Fault) → fault_of (verdict_on p n x) ≡ Some f → met_on p n x ≡ Some (record { fault = f; input = x })
+met_at : (p : Checked) (n : ℕ) (x : List ℤ) (f : Fault) → fault_of (verdict_on p n x) ≡ Some f →
+    met_on p n x ≡ Some (record { fault = f; input = x })
 met_at p n x f h = ap (option_map (λ (g : Fault). record { fault = g; input = x })) h
 
 cons_behind : (o : Option Met) (m : Met) (ms : List Met) → Contains ms m → Contains (cons_option o ms) m
@@ -125,13 +132,15 @@ all_told p n inputs input f in' h =
 
 -- ---- the first one
 
-kept_step : (t : Met → Bool) (a m : Met) (ms : List Met) (b : Bool) → Contains (filter t ms) m → Contains (cond b (a ∷ filter t ms) (filter t ms)) m
+kept_step : (t : Met → Bool) (a m : Met) (ms : List Met) (b : Bool) → Contains (filter t ms) m →
+    Contains (cond b (a ∷ filter t ms) (filter t ms)) m
 kept_step t a m ms true h = behind a m (filter t ms) h
 kept_step t a m ms false h = h
 
 kept : (t : Met → Bool) (ms : List Met) (m : Met) → Contains ms m → t m ≡ true → Contains (filter t ms) m
 kept t [] m (k, lt, e) h = absurd (omega arith)
-kept t (a ∷ ms) m (zero, lt, e) h = subst (λ (b : Bool). Contains (cond b (a ∷ filter t ms) (filter t ms)) m) (sym (ap t e ∙ h)) (0, omega arith, e)
+kept t (a ∷ ms) m (zero, lt, e) h = subst (λ (b : Bool). Contains (cond b (a ∷ filter t ms) (filter t ms)) m) (sym (ap t e ∙ h))
+    (0, omega arith, e)
 kept t (a ∷ ms) m (suc k, lt, e) h = kept_step t a m ms (t a) (kept t ms m (k, omega arith, e) h)
 
 first_kept : (ms : List Met) (m : Met) (rest : List Met) → All (λ (a : Met). are_alike a.fault m.fault ≡ false) ms →
@@ -145,7 +154,8 @@ first_kept (a ∷ ms) m rest h =
 
 unlike_step : (p : Checked) (n : ℕ) (f : Fault) (x : List ℤ) (ms : List Met) (v : Verdict) → verdict_on p n x ≡ v →
     ((g : Fault) → fault_of (verdict_on p n x) ≡ Some g → are_alike g f ≡ false) → All (λ (a : Met). are_alike a.fault f ≡ false) ms →
-    All (λ (a : Met). are_alike a.fault f ≡ false) (cons_option (option_map (λ (g : Fault). record { fault = g; input = x }) (fault_of v)) ms)
+    All (λ (a : Met). are_alike a.fault f ≡ false)
+    (cons_option (option_map (λ (g : Fault). record { fault = g; input = x }) (fault_of v)) ms)
 unlike_step p n f x ms (Ended output memory) e h all = all
 unlike_step p n f x ms (Faulted fault output) e h all =
     All-cons (λ (a : Met). are_alike a.fault f ≡ false) (record { fault = fault; input = x }) ms (h fault (ap fault_of e)) all
@@ -159,7 +169,8 @@ unlike_all p n f (x ∷ xs) h =
     let P : List ℤ → Type 0 = λ y. (g : Fault) → fault_of (verdict_on p n y) ≡ Some g → are_alike g f ≡ false in
     unlike_step p n f x (met p n xs) (verdict_on p n x) refl (All-head P x xs h) (unlike_all p n f xs (All-tail P x xs h))
 
-pub first_told : (p : Checked) (n : ℕ) (before after : List (List ℤ)) (input : List ℤ) (f : Fault) → fault_of (verdict_on p n input) ≡ Some f →
+pub first_told : (p : Checked) (n : ℕ) (before after : List (List ℤ)) (input : List ℤ) (f : Fault) →
+    fault_of (verdict_on p n input) ≡ Some f →
     All (λ (x : List ℤ). (g : Fault) → fault_of (verdict_on p n x) ≡ Some g → are_alike g f ≡ false) before →
     Contains (found p n (before ++ input ∷ after)).faults (record { fault = f; input = input })
 first_told p n before after input f h none =
@@ -167,4 +178,5 @@ first_told p n before after input f h none =
     let split : met p n (before ++ input ∷ after) ≡ met p n before ++ m ∷ met p n after =
     filter_map-append (met_on p n) before (input ∷ after)
     ∙ ap (λ (o : Option Met). met p n before ++ cons_option o (met p n after)) (met_at p n input f h) in
-    subst (λ (ms : List Met). Contains (firsts ms) m) (sym split) (first_kept (met p n before) m (met p n after) (unlike_all p n f before none))
+    subst (λ (ms : List Met). Contains (firsts ms) m) (sym split)
+    (first_kept (met p n before) m (met p n after) (unlike_all p n f before none))

@@ -31,7 +31,8 @@ fn keep_fault(
     fault: Fault,
     input: &[i64],
 ) -> Result<(), AllocError>
-    ensures { OnOk result (map met_is faults.new.items ≡ noted (map met_is faults.old.items) (record { fault = fault; input = input.now })) }
+    ensures { OnOk result (map met_is faults.new.items
+        ≡ noted (map met_is faults.old.items) (record { fault = fault; input = input.now })) }
 {
     if is_met(faults.as_slice(), fault) {
         return Ok(());

@@ -1,5 +1,6 @@
 -- Where one stands among the inputs of a scope.
-use Rattle.std.proofs.Common.{◌≡◌, Bool, true, false, not, cond, IsTrue, IsFalse, Some, List, [], ◌∷◌, ℤ, replicate, slice_get, refl, ap, sym, ◌∙◌, rules}
+use Rattle.std.proofs.Common.{◌≡◌, Bool, true, false, not, cond, IsTrue, IsFalse, Some, List, [], ◌∷◌, ℤ, replicate, slice_get, refl, ap}
+use Rattle.std.proofs.Common.{sym, ◌∙◌, rules}
 use Rattle.std.specs.List.{filter}
 use Rattle.small_scopes.specs.Lists.{are_apart, lists_from}
 use Rattle.small_scopes.specs.Scopes.{inputs_from, inputs_left, inputs_of, those_of}
@@ -16,7 +17,8 @@ first_left false true low high xs e h =
     ap (λ (xss : List (List ℤ)). slice_get (filter are_apart xss) 0) b.is
     ∙ ap (λ (t : Bool). slice_get (cond t (xs ∷ filter are_apart b.rest) (filter are_apart b.rest)) 0) (h refl refl)
 
-pub here_left : (s : Scope) (over : Bool) (xs ys : List ℤ) → over ≡ false → (over ≡ false → s.apart ≡ true → are_apart xs ≡ true) → ys ≡ xs →
+pub here_left : (s : Scope) (over : Bool) (xs ys : List ℤ) → over ≡ false → (over ≡ false → s.apart ≡ true → are_apart xs ≡ true) →
+    ys ≡ xs →
     slice_get (inputs_left s over xs) 0 ≡ Some ys
 here_left s over xs ys e h same = first_left over s.apart s.low s.high xs e h ∙ ap Some (sym same)
 
@@ -24,7 +26,8 @@ here_left s over xs ys e h same = first_left over s.apart s.low s.high xs e h �
 pub all_from : (s : Scope) (xs : List ℤ) → xs ≡ replicate s.count s.low → inputs_from s xs ≡ inputs_of s
 all_from s xs is = ap (those_of s) (ap (lists_from s.low s.high) is ∙ from_first s.low s.high s.count s.filled)
 
-pub begun : (s : Scope) (more : Bool) (xs ys : List ℤ) → inputs_from s xs ≡ inputs_of s → (IsTrue more → inputs_from s xs ≡ inputs_from s ys) →
+pub begun : (s : Scope) (more : Bool) (xs ys : List ℤ) → inputs_from s xs ≡ inputs_of s →
+    (IsTrue more → inputs_from s xs ≡ inputs_from s ys) →
     (IsFalse more → inputs_from s xs ≡ []) → inputs_left s (not more) ys ≡ inputs_of s
 begun s true xs ys all on off = sym (on (search rules)) ∙ all
 begun s false xs ys all on off = sym (off (search rules)) ∙ all

@@ -1,5 +1,6 @@
 -- How many inputs there are, place by place.
-use Rattle.std.proofs.Common.{◌≡◌, ℕ, zero, suc, ◌+◌, ◌-◌, ◌*◌, ◌^◌, ◌≤◌, ◌<◌, Bool, true, false, if◌then◌else◌, pos, ◌+ℤ◌, length, refl, ap, sym, subst, inl, inr, ◌∙◌, arith}
+use Rattle.std.proofs.Common.{◌≡◌, ℕ, zero, suc, ◌+◌, ◌-◌, ◌*◌, ◌^◌, ◌≤◌, ◌<◌, Bool, true, false, if◌then◌else◌, pos, ◌+ℤ◌, length, refl}
+use Rattle.std.proofs.Common.{ap, sym, subst, inl, inr, ◌∙◌, arith}
 use Rattle.std.proofs.lemmas.Bool.{cases_lt}
 use Rattle.std.proofs.Math.Nat.{pow-suc}
 use Rattle.small_scopes.specs.Lists.{falling}
@@ -29,7 +30,8 @@ choice_left true n m one room = let r = room refl in omega arith
 choice_left false n m one room = one
 
 pub no_fewer_behind : (apart : Bool) (n k j : ℕ) → 1 ≤ n → (apart ≡ true → k + j ≤ n) → many apart n k ≤ many apart n (k + j)
-no_fewer_behind apart n k zero one room = subst (λ (m : ℕ). many apart n k ≤ many apart n m) (let same : k ≡ k + 0 = omega arith in same) (omega arith)
+no_fewer_behind apart n k zero one room = subst (λ (m : ℕ). many apart n k ≤ many apart n m) (let same : k ≡ k + 0 = omega arith in same)
+    (omega arith)
 no_fewer_behind apart n k (suc j) one room =
     let before = no_fewer_behind apart n k j one (λ e. let r = room e in omega arith) in
     let left = choice_left apart n (k + j) one (λ e. let r = room e in omega arith) in

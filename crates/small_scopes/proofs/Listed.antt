@@ -1,8 +1,10 @@
 -- The lists of values of an interval are all of them, each once, in lexicographic order.
-use Rattle.std.proofs.Common.{◌≡◌, ◌↔◌, ℕ, zero, suc, ◌-◌, ◌*◌, ◌^◌, ◌<◌, List, [], ◌∷◌, ◌++◌, ℤ, pos, ◌+ℤ◌, ◌≤ℤ◌, ◌<ℤ◌, map, length, get_or, refl, ap, sym, subst, inl, inr, ◌∙◌, arith}
+use Rattle.std.proofs.Common.{◌≡◌, ◌↔◌, ℕ, zero, suc, ◌-◌, ◌*◌, ◌^◌, ◌<◌, List, [], ◌∷◌, ◌++◌, ℤ, pos, ◌+ℤ◌, ◌≤ℤ◌, ◌<ℤ◌, map, length}
+use Rattle.std.proofs.Common.{get_or, refl, ap, sym, subst, inl, inr, ◌∙◌, arith}
 use Rattle.std.proofs.lemmas.Int.{ints}
 use Rattle.std.proofs.lemmas.List.{get_or-append_right, get_or-map, get_or_append_left, length-append, length-map}
-use Rattle.std.proofs.lemmas.List.Elements.{All-cons, All-head, All-nil, All-same, All-tail, Contains-append_cases, Contains-append_left, Contains-append_right, Contains-get_or}
+use Rattle.std.proofs.lemmas.List.Elements.{All-cons, All-head, All-nil, All-same, All-tail, Contains-append_cases, Contains-append_left}
+use Rattle.std.proofs.lemmas.List.Elements.{Contains-append_right, Contains-get_or}
 use Rattle.std.proofs.lemmas.Bool.{cases_lt}
 use Rattle.std.proofs.Math.Nat.{pow-succ', pow-zero}
 use Rattle.std.specs.Int.{int_gap}
@@ -83,7 +85,8 @@ fronted v xss zs (k, lt, e) =
       behind = Contains-get_or xss k [] inside;
     }
 
-all_behind : (vs : List ℤ) (xss : List (List ℤ)) (v : ℤ) (ys : List ℤ) → Contains vs v → Contains xss ys → Contains (each_behind vs xss) (v ∷ ys)
+all_behind : (vs : List ℤ) (xss : List (List ℤ)) (v : ℤ) (ys : List ℤ) → Contains vs v → Contains xss ys →
+    Contains (each_behind vs xss) (v ∷ ys)
 all_behind [] xss v ys (k, lt, e) h = absurd (omega arith)
 all_behind (w ∷ vs) xss v ys (zero, lt, e) h =
     Contains-append_left (map (λ (zs : List ℤ). w ∷ zs) xss) (each_behind vs xss) (v ∷ ys)
@@ -169,7 +172,8 @@ pairs_behind R xss yss p q across = λ i j d lt le.
           let there = get_or-append_right xss yss n j d refl behind in
           subst (λ (zs : List ℤ). R (get_or (xss ++ yss) i d) zs) (sym there)
           (elim (cases_lt i n) [
-            | inl one ↦ subst (λ (zs : List ℤ). R zs (get_or yss (j - n) d)) (sym (get_or_append_left xss yss d i one)) (across i (j - n) d one second)
+            | inl one ↦ subst (λ (zs : List ℤ). R zs (get_or yss (j - n) d)) (sym (get_or_append_left xss yss d i one))
+                (across i (j - n) d one second)
             | inr none ↦ subst (λ (zs : List ℤ). R zs (get_or yss (j - n) d)) (sym (get_or-append_right xss yss n i d refl none))
                 (q (i - n) (j - n) d (omega arith) second)
           ])

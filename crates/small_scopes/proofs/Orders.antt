@@ -1,5 +1,6 @@
 -- How many lists of so many values have no value twice.
-use Rattle.std.proofs.Common.{◌≡◌, ◌&&◌, ◌||◌, ℕ, zero, suc, ◌+◌, ◌-◌, ◌*◌, ◌<◌, ◌≤◌, Bool, true, false, not, cond, if◌then◌else◌, List, [], ◌∷◌, ℤ, pos, ◌+ℤ◌, map, length, get_or, refl, ap, sym, subst, ◌∙◌, arith}
+use Rattle.std.proofs.Common.{◌≡◌, ◌&&◌, ◌||◌, ℕ, zero, suc, ◌+◌, ◌-◌, ◌*◌, ◌<◌, ◌≤◌, Bool, true, false, not, cond, if◌then◌else◌, List}
+use Rattle.std.proofs.Common.{[], ◌∷◌, ℤ, pos, ◌+ℤ◌, map, length, get_or, refl, ap, sym, subst, ◌∙◌, arith}
 use Rattle.std.proofs.lemmas.Int.{ints}
 use Rattle.std.proofs.lemmas.List.{length-append, length-map}
 use Rattle.std.proofs.lemmas.List.Elements.{Contains-get_or, filter-append}
@@ -47,7 +48,8 @@ front_is : (v : ℤ) (xs : List ℤ) (xss : List (List ℤ)) (a : Bool) → seen
     length (filter (λ ys. are_apart (v ∷ ys)) (xs ∷ xss))
     ≡ length (cond (not a && are_apart xs) (xs ∷ filter (λ ys. are_apart (v ∷ ys)) xss) (filter (λ ys. are_apart (v ∷ ys)) xss))
 front_is v xs xss a h =
-    ap (λ (t : Bool). length (cond (not t && are_apart xs) (xs ∷ filter (λ ys. are_apart (v ∷ ys)) xss) (filter (λ ys. are_apart (v ∷ ys)) xss))) h
+    ap (λ (t : Bool). length
+    (cond (not t && are_apart xs) (xs ∷ filter (λ ys. are_apart (v ∷ ys)) xss) (filter (λ ys. are_apart (v ∷ ys)) xss))) h
 
 in_front_count : (v : ℤ) (xss : List (List ℤ)) →
     length (filter (λ ys. are_apart (v ∷ ys)) xss) ≡ total (λ ys. one_unless (seen ys v)) (filter are_apart xss)
@@ -65,14 +67,16 @@ total_both : (f g : List ℤ → ℕ) (xss : List (List ℤ)) → total (λ xs. 
 total_both f g [] = refl
 total_both f g (xs ∷ xss) = let r = total_both f g xss in omega arith
 
-behind_count : (vs : List ℤ) (xss : List (List ℤ)) → length (filter are_apart (each_behind vs xss)) ≡ total (fresh vs) (filter are_apart xss)
+behind_count : (vs : List ℤ) (xss : List (List ℤ)) → length (filter are_apart (each_behind vs xss)) ≡ total (fresh vs)
+    (filter are_apart xss)
 behind_count [] xss = sym (total_nothing (filter are_apart xss))
 behind_count (v ∷ vs) xss =
     let f : List ℤ → List ℤ = λ ys. v ∷ ys in
     let front = map f xss in
     let rest = each_behind vs xss in
     let left = filter are_apart xss in
-    let a = ap (λ (ys : List (List ℤ)). length ys) (filter-append are_apart front rest) ∙ length-append (filter are_apart front) (filter are_apart rest) in
+    let a = ap (λ (ys : List (List ℤ)). length ys) (filter-append are_apart front rest)
+    ∙ length-append (filter are_apart front) (filter are_apart rest) in
     let b : length (filter are_apart front) ≡ length (filter (λ ys. are_apart (v ∷ ys)) xss) =
     ap (λ (ys : List (List ℤ)). length ys) (some_kept are_apart f xss) ∙ length-map (filter (λ ys. are_apart (v ∷ ys)) xss) f in
     let c = in_front_count v xss in
@@ -101,8 +105,10 @@ fresh_same x xs (v ∷ vs) h =
     let r = fresh_same x xs vs both.1 in
     omega arith
 
-less_step : (x : ℤ) (xs : List ℤ) (v : ℤ) (vs : List ℤ) (b : Bool) → same_value x v ≡ b → are_apart (v ∷ vs) ≡ true → seen (v ∷ vs) x ≡ true →
-    seen xs x ≡ false → (are_apart vs ≡ true → seen vs x ≡ true → fresh vs (x ∷ xs) + 1 ≡ fresh vs xs) → fresh (v ∷ vs) (x ∷ xs) + 1 ≡ fresh (v ∷ vs) xs
+less_step : (x : ℤ) (xs : List ℤ) (v : ℤ) (vs : List ℤ) (b : Bool) → same_value x v ≡ b → are_apart (v ∷ vs) ≡ true →
+    seen (v ∷ vs) x ≡ true →
+    seen xs x ≡ false → (are_apart vs ≡ true → seen vs x ≡ true → fresh vs (x ∷ xs) + 1 ≡ fresh vs xs) →
+    fresh (v ∷ vs) (x ∷ xs) + 1 ≡ fresh (v ∷ vs) xs
 less_step x xs v vs true e apart there none rest =
     let same : x ≡ v = same_is x v e in
     let gone : seen vs x ≡ false = subst (λ (z : ℤ). seen vs z ≡ false) (sym same) (both_left (seen vs v) (are_apart vs) apart) in
@@ -165,7 +171,8 @@ apart_count low high (suc k) =
     let xs = get_or left i d in
     let t = kept_there are_apart (lists_of vs k) xs (Contains-get_or left i d lt) in
     let l = (listed low high k xs).0 t.0 in
-    let r = fresh_is vs xs (values_apart low high) t.1 (λ j e le. contains_seen vs (get_or xs j e) (is_value low high (get_or xs j e) (l.1 j e le))) in
+    let r = fresh_is vs xs (values_apart low high) t.1
+    (λ j e le. contains_seen vs (get_or xs j e) (is_value low high (get_or xs j e) (l.1 j e le))) in
     let long = l.0 in
     let wide = numbers_are low n in
     omega arith) in

@@ -1,6 +1,8 @@
 -- Past all lists that begin with values of which two are one.
-use Rattle.std.proofs.Common.{◌≡◌, ℕ, suc, ◌+◌, ◌-◌, ◌<◌, ◌≤◌, Bool, true, false, cond, List, [], ◌∷◌, ◌++◌, ℤ, pos, ◌+ℤ◌, ◌≤ℤ◌, set, map, length, replicate, get_or, take, drop, refl, ap, sym, ◌∙◌, arith}
-use Rattle.std.proofs.lemmas.List.{append_assoc, length-append, length-drop, length-map, length-replicate, length-take-le, replicate_more, set_at, drop_more, take_more, take-append-drop}
+use Rattle.std.proofs.Common.{◌≡◌, ℕ, suc, ◌+◌, ◌-◌, ◌<◌, ◌≤◌, Bool, true, false, cond, List, [], ◌∷◌, ◌++◌, ℤ, pos, ◌+ℤ◌, ◌≤ℤ◌, set, map}
+use Rattle.std.proofs.Common.{length, replicate, get_or, take, drop, refl, ap, sym, ◌∙◌, arith}
+use Rattle.std.proofs.lemmas.List.{append_assoc, length-append, length-drop, length-map, length-replicate, length-take-le, replicate_more}
+use Rattle.std.proofs.lemmas.List.{set_at, drop_more, take_more, take-append-drop}
 use Rattle.std.proofs.lemmas.List.Elements.{All-append, All-replicate, All-same, All-take, filter-append}
 use Rattle.std.proofs.lemmas.Int.{ints}
 use Rattle.std.specs.List.{filter}
@@ -12,7 +14,8 @@ none_kept : (p : List ℤ → Bool) (f : List ℤ → List ℤ) (xss : List (Lis
 none_kept p f [] h = refl
 none_kept p f (xs ∷ xss) h = ap (λ (b : Bool). cond b (f xs ∷ filter p (map f xss)) (filter p (map f xss))) (h xs) ∙ none_kept p f xss h
 
-pub some_kept : (p : List ℤ → Bool) (f : List ℤ → List ℤ) (xss : List (List ℤ)) → filter p (map f xss) ≡ map f (filter (λ (ys : List ℤ). p (f ys)) xss)
+pub some_kept : (p : List ℤ → Bool) (f : List ℤ → List ℤ) (xss : List (List ℤ)) →
+    filter p (map f xss) ≡ map f (filter (λ (ys : List ℤ). p (f ys)) xss)
 some_kept p f [] = refl
 some_kept p f (xs ∷ xss) = some_step p f xs xss (p (f xs)) (some_kept p f xss) where
   some_step : (p : List ℤ → Bool) (f : List ℤ → List ℤ) (xs : List ℤ) (xss : List (List ℤ)) (b : Bool) →
@@ -143,10 +146,12 @@ pub passed_all : (low high : ℤ) (xs ys : List ℤ) (at : ℕ) → Topped high 
 passed_all low high xs ys at t h e =
     topped_same low high xs ys at t h ∙ ap (filter are_apart) e ∙ dropped ys [] (topped_clashes high xs ys at t h)
 
-pub topped_within : (low high : ℤ) (xs ys : List ℤ) (at : ℕ) → Topped high xs ys at → low ≤ℤ high → AreWithin low high xs → AreWithin low high ys
+pub topped_within : (low high : ℤ) (xs ys : List ℤ) (at : ℕ) → Topped high xs ys at → low ≤ℤ high → AreWithin low high xs →
+    AreWithin low high ys
 topped_within low high xs ys at t le all =
     All-same (IsWithin low high) ys (take (at + 1) xs ++ replicate (length xs - (at + 1)) high) t.is
-    (All-append (IsWithin low high) (take (at + 1) xs) (replicate (length xs - (at + 1)) high) (All-take (IsWithin low high) (at + 1) xs all)
+    (All-append (IsWithin low high) (take (at + 1) xs) (replicate (length xs - (at + 1)) high)
+    (All-take (IsWithin low high) (at + 1) xs all)
     (All-replicate (IsWithin low high) (length xs - (at + 1)) high (let own : high ≤ℤ high = omega (arith, ints) in (le, own))))
 
 -- one value more is the greatest

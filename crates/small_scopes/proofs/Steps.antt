@@ -1,5 +1,6 @@
 -- The step from one list of values to the next.
-use Rattle.std.proofs.Common.{◌≡◌, ℕ, zero, suc, ◌+◌, ◌-◌, ◌<◌, ◌≤◌, List, [], ◌∷◌, ◌++◌, ℤ, pos, negsuc, ◌+ℤ◌, ◌≤ℤ◌, ◌<ℤ◌, map, length, replicate, slice_get, Some, take, set, get_or, refl, ap, sym, subst, ◌∙◌, arith}
+use Rattle.std.proofs.Common.{◌≡◌, ℕ, zero, suc, ◌+◌, ◌-◌, ◌<◌, ◌≤◌, List, [], ◌∷◌, ◌++◌, ℤ, pos, negsuc, ◌+ℤ◌, ◌≤ℤ◌, ◌<ℤ◌, map, length}
+use Rattle.std.proofs.Common.{replicate, slice_get, Some, take, set, get_or, refl, ap, sym, subst, ◌∙◌, arith}
 use Rattle.std.proofs.lemmas.Int.{ints, to_z-of_z}
 use Rattle.std.proofs.lemmas.List.{append_assoc, get_or_at, length-append, length-replicate, length-take-le, set_at}
 use Rattle.std.proofs.lemmas.List.Elements.{All-append, All-cons, All-get_or, All-replicate, All-same, All-take}
@@ -36,7 +37,8 @@ pub from_first : (low high : ℤ) (k : ℕ) → low ≤ℤ high → lists_from l
 from_first low high zero le = refl
 from_first low high (suc k) le =
     let vs = values low high in let rest = values (low +ℤ pos 1) high in
-    ap (λ (xss : List (List ℤ)). map (λ ys. low ∷ ys) xss ++ each_behind rest (lists_of vs (length (replicate k low)))) (from_first low high k le)
+    ap (λ (xss : List (List ℤ)). map (λ ys. low ∷ ys) xss ++ each_behind rest (lists_of vs (length (replicate k low))))
+    (from_first low high k le)
     ∙ ap (λ (n : ℕ). map (λ ys. low ∷ ys) (lists_of vs k) ++ each_behind rest (lists_of vs n)) (length-replicate k low)
     ∙ sym (ap (λ (ws : List ℤ). each_behind ws (lists_of vs k)) (values_more low high le))
 
@@ -45,7 +47,8 @@ pub from_last : (low high : ℤ) (k : ℕ) → lists_from low high (replicate k 
 from_last low high zero = refl
 from_last low high (suc k) =
     let vs = values low high in
-    ap (λ (xss : List (List ℤ)). map (λ ys. high ∷ ys) xss ++ each_behind (values (high +ℤ pos 1) high) (lists_of vs (length (replicate k high))))
+    ap (λ (xss : List (List ℤ)). map (λ ys. high ∷ ys) xss ++ each_behind (values (high +ℤ pos 1) high)
+    (lists_of vs (length (replicate k high))))
     (from_last low high k)
     ∙ ap (λ (ws : List ℤ). (high ∷ replicate k high) ∷ each_behind ws (lists_of vs (length (replicate k high)))) (values_none high)
 
@@ -59,7 +62,8 @@ from_next low high [] x k le lt =
     let last = replicate k high in
     let first = replicate k low in
     let same : length last ≡ length first = length-replicate k high ∙ sym (length-replicate k low) in
-    ap (λ (xss : List (List ℤ)). map (λ ys. x ∷ ys) xss ++ each_behind (values (x +ℤ pos 1) high) (lists_of vs (length last))) (from_last low high k)
+    ap (λ (xss : List (List ℤ)). map (λ ys. x ∷ ys) xss ++ each_behind (values (x +ℤ pos 1) high) (lists_of vs (length last)))
+    (from_last low high k)
     ∙ ap (λ (ws : List ℤ). (x ∷ last) ∷ each_behind ws (lists_of vs (length last))) (values_more (x +ℤ pos 1) high more)
     ∙ ap (λ (n : ℕ). (x ∷ last) ∷ (map (λ ys. (x +ℤ pos 1) ∷ ys) (lists_of vs n)
     ++ each_behind (values (x +ℤ pos 1 +ℤ pos 1) high) (lists_of vs n))) same
@@ -74,7 +78,8 @@ from_next low high (y ∷ front) x k le lt =
     simp (length-append, length-replicate) (refl) in
     ap (λ (xss : List (List ℤ)). map (λ ys. y ∷ ys) xss ++ each_behind (values (y +ℤ pos 1) high) (lists_of vs (length here)))
     (from_next low high front x k le lt)
-    ∙ ap (λ (n : ℕ). (y ∷ here) ∷ (map (λ ys. y ∷ ys) (lists_from low high there) ++ each_behind (values (y +ℤ pos 1) high) (lists_of vs n))) same
+    ∙ ap (λ (n : ℕ). (y ∷ here) ∷
+    (map (λ ys. y ∷ ys) (lists_from low high there) ++ each_behind (values (y +ℤ pos 1) high) (lists_of vs n))) same
 
 -- the list itself is the first of those from it on
 pub record BeginsWith (xs : List ℤ) (xss : List (List ℤ)) : Type 0 where
@@ -146,7 +151,8 @@ grown low high d w xs ys a b is s le lt more =
     ∙ ap (λ (zs : List ℤ). zs ∷ lists_from low high (take b xs ++ (x +ℤ pos 1) ∷ replicate k low)) (sym whole)
     ∙ ap (λ (zs : List ℤ). xs ∷ lists_from low high zs) (sym next)
 
-pub grown_within : (low high d w : ℤ) (xs ys : List ℤ) (a b : ℕ) → a ≡ suc b → Swept low high xs ys a → low ≤ℤ high → get_or ys b d <ℤ high →
+pub grown_within : (low high d w : ℤ) (xs ys : List ℤ) (a b : ℕ) → a ≡ suc b → Swept low high xs ys a → low ≤ℤ high →
+    get_or ys b d <ℤ high →
     w ≡ get_or ys b d +ℤ pos 1 → AreWithin low high xs → AreWithin low high (set ys b w)
 grown_within low high d w xs ys a b is s le lt more all =
     let t : Swept low high xs ys (suc b) = subst (Swept low high xs ys) is s in
@@ -162,7 +168,8 @@ grown_within low high d w xs ys a b is s le lt more all =
     (All-replicate (IsWithin low high) k low (let own : low ≤ℤ low = omega (arith, ints) in (own, le)))))
 
 -- where it can't, it is the greatest, and the least is written
-pub swept_on : (low high d : ℤ) (xs ys : List ℤ) (a b : ℕ) → a ≡ suc b → Swept low high xs ys a → high ≤ℤ get_or ys b d → AreWithin low high xs →
+pub swept_on : (low high d : ℤ) (xs ys : List ℤ) (a b : ℕ) → a ≡ suc b → Swept low high xs ys a → high ≤ℤ get_or ys b d →
+    AreWithin low high xs →
     Swept low high xs (set ys b low) b
 swept_on low high d xs ys a b is s ge all =
     let t : Swept low high xs ys (suc b) = subst (Swept low high xs ys) is s in

@@ -1,5 +1,6 @@
 -- The inputs of a scope among all lists of so many values of its interval.
-use Rattle.std.proofs.Common.{◌≡◌, ◌≢◌, ◌↔◌, ◌&&◌, ◌||◌, ℕ, zero, suc, ◌<◌, ◌^◌, Bool, true, false, not, cond, if◌then◌else◌, List, [], ◌∷◌, ℤ, pos, ◌+ℤ◌, length, get_or, refl, ap, sym, subst, ◌∙◌, arith}
+use Rattle.std.proofs.Common.{◌≡◌, ◌≢◌, ◌↔◌, ◌&&◌, ◌||◌, ℕ, zero, suc, ◌<◌, ◌^◌, Bool, true, false, not, cond, if◌then◌else◌, List, []}
+use Rattle.std.proofs.Common.{◌∷◌, ℤ, pos, ◌+ℤ◌, length, get_or, refl, ap, sym, subst, ◌∙◌, arith}
 use Rattle.std.proofs.lemmas.List.Elements.{All-contains, All-contains_itself, All-filter, filter_passes}
 use Rattle.std.proofs.lemmas.List.Kept.{AllPairs-filter}
 use Rattle.std.specs.List.{AllPairs, Contains, filter, list_any}
@@ -35,7 +36,8 @@ no_pair (x ∷ xs) h zero (suc j) d lt le e =
     let p : ℤ → Bool = λ v. same_value v x in
     let there : list_any p xs ≡ true = any_at p xs j d (omega arith) (is_same (get_or xs j d) x (sym e)) in
     let none : list_any p xs ≡ false = both_left (list_any p xs) (are_apart xs) h in cc
-no_pair (x ∷ xs) h (suc i) (suc j) d lt le e = no_pair xs (both_right (list_any (λ (v : ℤ). same_value v x) xs) (are_apart xs) h) i j d (omega arith) (omega arith) e
+no_pair (x ∷ xs) h (suc i) (suc j) d lt le e = no_pair xs (both_right (list_any (λ (v : ℤ). same_value v x) xs) (are_apart xs) h) i j d
+    (omega arith) (omega arith) e
 
 not_same : (x y : ℤ) (b : Bool) → same_value x y ≡ b → (x ≡ y → ⊥) → same_value x y ≡ false
 not_same x y true e h = absurd (h (same_is x y e))
@@ -51,7 +53,8 @@ pairs_apart [] h = refl
 pairs_apart (x ∷ xs) h =
     let p : ℤ → Bool = λ v. same_value v x in
     let none : list_any p xs ≡ false =
-    none_any p xs (λ k d lt. not_same (get_or xs k d) x (same_value (get_or xs k d) x) refl (λ e. h 0 (suc k) d (omega arith) (omega arith) (sym e))) in
+    none_any p xs (λ k d lt. not_same (get_or xs k d) x (same_value (get_or xs k d) x) refl
+    (λ e. h 0 (suc k) d (omega arith) (omega arith) (sym e))) in
     ap (λ (b : Bool). not b && are_apart xs) none ∙ pairs_apart xs (λ i j d lt le. h (suc i) (suc j) d (omega arith) (omega arith))
 
 -- ---- those that pass a test

@@ -1,5 +1,6 @@
 -- Lists of values of an interval, in lexicographic order.
-use Rattle.std.specs.Prelude.{◌≡◌, ◌⊎◌, ◌&&◌, ℕ, ◌*◌, ◌-◌, nat_eq, Bool, true, false, not, zero, suc, List, [], ◌∷◌, ◌++◌, ℤ, pos, negsuc, ◌+ℤ◌, ◌≤ℤ◌, ◌<ℤ◌, map, length}
+use Rattle.std.specs.Prelude.{◌≡◌, ◌⊎◌, ◌&&◌, ℕ, ◌*◌, ◌-◌, nat_eq, Bool, true, false, not, zero, suc, List, [], ◌∷◌, ◌++◌, ℤ, pos, negsuc}
+use Rattle.std.specs.Prelude.{◌+ℤ◌, ◌≤ℤ◌, ◌<ℤ◌, map, length}
 use Rattle.std.specs.Int.{int_gap}
 use Rattle.std.specs.List.{All, list_any}
 

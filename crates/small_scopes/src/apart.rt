@@ -1,6 +1,7 @@
 //! Lists in which no value stands twice: steps to the next one, in place.
 
-ghost use Rattle.std.specs.Prelude.{◌≡◌, ◌≤ℤ◌, ◌<◌, ◌+◌, ◌-◌, ◌++◌, [], true, false, IsTrue, IsFalse, IfSome, IfNone, length, replicate, take};
+ghost use Rattle.std.specs.Prelude.{◌≡◌, ◌≤ℤ◌, ◌<◌, ◌+◌, ◌-◌, ◌++◌, [], true, false, IsTrue, IsFalse, IfSome, IfNone, length, replicate};
+ghost use Rattle.std.specs.Prelude.{take};
 ghost use Rattle.std.specs.List.{filter, list_any};
 ghost use Rattle.small_scopes.specs.Lists.{AreWithin, are_apart, lists_from, same_value};
 

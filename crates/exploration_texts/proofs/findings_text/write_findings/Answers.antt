@@ -26,7 +26,8 @@ returns-in_err-write_all_met g c =
     record {
       written = breaks_off _ _ _ _ _ (met_lines c.args.layout.now (map met_is c.as_slice.result.now)) (time ++ work)
           c.from_residual-in_err-write_all_met.result _ c.from_residual-in_err-write_all_met.ensures.1 counts
-          (ap (λ (fs : List FoundFault). met_lines c.args.layout.now (map met_is fs) ++ (time ++ work)) (sym c.as_slice.ensures.value)) c.in_err-write_all_met.ensures.written;
+          (ap (λ (fs : List FoundFault). met_lines c.args.layout.now (map met_is fs) ++ (time ++ work)) (sym c.as_slice.ensures.value))
+          c.in_err-write_all_met.ensures.written;
     }
 
 pub returns-in_err-write_span : goal.returns-in_err-write_span
@@ -38,7 +39,8 @@ returns-in_err-write_span g c =
     let counts = goes_on _ _ _ _ _ (counts_text f) (met ++ (time ++ work)) (starts _ _ c.requires.counted) refl
     c.in_ok-write_counts.ensures.written in
     let faults = goes_on _ _ _ _ _ (met_lines c.args.layout.now (map met_is c.as_slice.result.now)) (time ++ work) counts
-    (ap (λ (fs : List FoundFault). met_lines c.args.layout.now (map met_is fs) ++ (time ++ work)) (sym c.as_slice.ensures.value)) c.in_ok-write_all_met.ensures.written in
+    (ap (λ (fs : List FoundFault). met_lines c.args.layout.now (map met_is fs) ++ (time ++ work)) (sym c.as_slice.ensures.value))
+    c.in_ok-write_all_met.ensures.written in
     record {
       written = breaks_off _ _ _ _ _ time work c.from_residual-in_err-write_span.result _ c.from_residual-in_err-write_span.ensures.1
           faults refl c.in_err-write_span.ensures.written;
@@ -53,6 +55,7 @@ returns g c =
     let counts = goes_on _ _ _ _ _ (counts_text f) (met ++ (time ++ work)) (starts _ _ c.requires.counted) refl
     c.in_ok-write_counts.ensures.written in
     let faults = goes_on _ _ _ _ _ (met_lines c.args.layout.now (map met_is c.as_slice.result.now)) (time ++ work) counts
-    (ap (λ (fs : List FoundFault). met_lines c.args.layout.now (map met_is fs) ++ (time ++ work)) (sym c.as_slice.ensures.value)) c.in_ok-write_all_met.ensures.written in
+    (ap (λ (fs : List FoundFault). met_lines c.args.layout.now (map met_is fs) ++ (time ++ work)) (sym c.as_slice.ensures.value))
+    c.in_ok-write_all_met.ensures.written in
     let times = goes_on _ _ _ _ _ time work faults refl c.in_ok-write_span.ensures.written in
     record { written = closes _ _ _ _ _ c.write_span-2.result times c.write_span-2.ensures.written }

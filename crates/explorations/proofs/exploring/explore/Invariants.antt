@@ -7,7 +7,8 @@ use Rattle.explorations.proofs.exploring.explore.Given as goal
 abbrev pub invariant-trying : goal.invariant-trying
 invariant-trying l = record {
   same : l.inputs.scope ≡ l.fn.scope;
-  so_far : Explored l.fn.program l.fn.bound l.fn.scope (inputs_left l.inputs.scope l.inputs.over l.inputs.input.items) (found_is l.findings);
+  so_far : Explored l.fn.program l.fn.bound l.fn.scope (inputs_left l.inputs.scope l.inputs.over l.inputs.input.items)
+      (found_is l.findings);
 }
 
 abbrev pub decreases-trying : goal.decreases-trying

@@ -27,7 +27,8 @@ returns-then-product-from-clause-none c =
     ∙ ap (λ (m : ℕ). many s.apart n k * m) c.choices-product.ensures in
     let more = c.if-product-from.true in
     let most = c.from-in-loop-place.ensures in
-    at_least s n k (2 ^ 64) wide c.width-wide.ensures.one c.loop-place-test.true c.loop-place.invariant.room (omega (arith, so_far, more, most))
+    at_least s n k (2 ^ 64) wide c.width-wide.ensures.one c.loop-place-test.true c.loop-place.invariant.room
+    (omega (arith, so_far, more, most))
 
 pub returns-clause-some : goal.returns-clause-some
 returns-clause-some c =

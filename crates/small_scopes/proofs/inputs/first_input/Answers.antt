@@ -18,7 +18,8 @@ returns-clause-all c =
     c.in_ok-input.ensures.items_if_clones_equal (λ y same. same) ∙ ap (replicate s.count) (to_z-of_z w64 s.low fits) in
     let given = c.as_mut_slice.ensures.value in
     let long : length new ≡ c.in_ok-input.input.len = search rules in
-    let back : take c.in_ok-input.input.len (new ++ drop (length new) old) ≡ new = take_at new (drop (length new) old) c.in_ok-input.input.len long in
+    let back : take c.in_ok-input.input.len (new ++ drop (length new) old) ≡ new = take_at new
+    (drop (length new) old) c.in_ok-input.input.len long in
     ap (inputs_left s (not more)) back
     ∙ begun s more c.as_mut_slice.result.now new (all_from s c.as_mut_slice.result.now (given ∙ is)) c.begin-more.ensures.first
     c.begin-more.ensures.none
