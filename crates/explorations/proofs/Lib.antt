@@ -1,0 +1,5 @@
+pub mod Explored
+pub mod FirstFaults
+pub mod Pushed
+pub mod Spans
+pub mod Told

@@ -1,0 +1,40 @@
+//! The laws of this crate: what findings say of the runs on the inputs.
+
+ghost use Rattle.std.specs.Prelude.{◌≡◌, ◌↔◌, ◌≤◌, ◌+◌, ◌∷◌, ◌++◌, ℕ, ℤ, List, [], Some, None, true, false, length};
+ghost use Rattle.std.specs.List.{All, AllPairs, Contains, list_any};
+ghost use Rattle.pram_check.specs.Checked.{Checked};
+ghost use Rattle.write_rules.specs.Verdict.{Verdict};
+ghost use Rattle.write_rules.specs.declared.fault.Fault.{Fault};
+ghost use Rattle.pram_meaning.specs.Outcome.{IsOutcome};
+ghost use Rattle.explorations.specs.declared.findings.Span as rust;
+ghost use Rattle.explorations.specs.Firsts.{are_alike};
+ghost use Rattle.explorations.specs.Found.{fault_of, found, span_of, verdict_on};
+
+/// What a run comes to is its outcome; and each run is counted once, as one that ends, faults or goes on.
+pub fn every_run_is_counted()
+    ensures outcome { (p : Checked) (n : ℕ) (input : List ℤ) (v : Verdict) → IsOutcome p input n v ↔ (v ≡ verdict_on p n input) }
+    ensures once { (p : Checked) (n : ℕ) (inputs : List (List ℤ)) →
+        (found p n inputs).ended + ((found p n inputs).faulted + (found p n inputs).go_on) ≡ length inputs }
+{}
+
+/// Each fault that is told is that of the run on its input, which is one of the inputs. For each run that faults, one of its kind at its
+/// line is told, and no two that are told are alike. The first input whose run has a fault of its kind at its line is told with it.
+pub fn the_first_faults_are_told()
+    ensures occur { (p : Checked) (n : ℕ) (inputs : List (List ℤ)) →
+        All (λ m. Contains inputs m.input × (fault_of (verdict_on p n m.input) ≡ Some m.fault)) (found p n inputs).faults }
+    ensures all { (p : Checked) (n : ℕ) (inputs : List (List ℤ)) (input : List ℤ) (f : Fault) → Contains inputs input →
+        fault_of (verdict_on p n input) ≡ Some f → list_any (λ m. are_alike m.fault f) (found p n inputs).faults ≡ true }
+    ensures once { (p : Checked) (n : ℕ) (inputs : List (List ℤ)) →
+        AllPairs (λ a b. are_alike a.fault b.fault ≡ false) (found p n inputs).faults }
+    ensures first { (p : Checked) (n : ℕ) (before behind : List (List ℤ)) (input : List ℤ) (f : Fault) →
+        fault_of (verdict_on p n input) ≡ Some f →
+        All (λ x. (g : Fault) → fault_of (verdict_on p n x) ≡ Some g → are_alike g f ≡ false) before →
+        Contains (found p n (before ++ input ∷ behind)).faults (record { fault = f; input = input }) }
+{}
+
+/// A span is of the least and the greatest of the numbers, which are among them; there is none of no numbers.
+pub fn spans_are_of_the_numbers()
+    ensures among { (ks : List ℕ) (s : rust.Span) → span_of ks ≡ Some s → Contains ks s.least × Contains ks s.greatest }
+    ensures bounds { (ks : List ℕ) (s : rust.Span) → span_of ks ≡ Some s → All (λ k. (s.least ≤ k) × (k ≤ s.greatest)) ks }
+    ensures none { (ks : List ℕ) → (span_of ks ≡ None) ↔ (ks ≡ []) }
+{}

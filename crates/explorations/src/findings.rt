@@ -1,0 +1,34 @@
+//! What is found of runs.
+
+ghost use Rattle.std.specs.Prelude.{◌≡◌, ◌+◌};
+
+use write_rules::Fault;
+
+/// A fault, and the first input whose run has one of its kind at its line.
+#[derive(Drop)]
+pub struct FoundFault {
+    pub fault: Fault,
+    pub input: Vec<i64>,
+}
+
+/// The least and the greatest of some numbers.
+#[derive(Clone, Copy)]
+pub struct Span {
+    pub least: u64,
+    pub greatest: u64,
+}
+
+/// What is found of the runs of a program on some inputs: how many inputs there are, on how many the run ends, faults and goes on; of each
+/// kind of fault at each line the first one, in the order in which they are met; and the time and the work of the runs that end, where
+/// any does.
+#[derive(Drop)]
+pub struct Findings {
+    pub inputs: u64,
+    pub ended: u64,
+    pub faulted: u64,
+    pub go_on: u64,
+    pub faults: Vec<FoundFault>,
+    pub time: Option<Span>,
+    pub work: Option<Span>,
+    ghost parts: { ended + (faulted + go_on) ≡ inputs },
+}

@@ -1,0 +1,12 @@
+//! What a program comes to on every input of a scope: how many runs end, which faults occur, and what the runs that end take.
+#![tactic(auto)]
+
+pub mod exploration_laws;
+mod exploring;
+pub mod findings;
+pub mod kinds;
+mod noting;
+mod span;
+
+pub use exploring::explore;
+pub use findings::{Findings, FoundFault, Span};

@@ -1,0 +1,28 @@
+//! The laws of this crate: of the inputs of a scope.
+
+ghost use Rattle.std.specs.Prelude.{◌≡◌, ◌≢◌, ◌↔◌, ◌^◌, ◌+ℤ◌, ℕ, ℤ, List, pos, true, false, length};
+ghost use Rattle.std.specs.List.{AllPairs, Contains};
+ghost use Rattle.small_scopes.specs.Lists.{AreWithin, IsBefore, factorial, falling};
+ghost use Rattle.small_scopes.specs.Scopes.{inputs_of};
+ghost use Rattle.small_scopes.specs.declared.scope.Scope as specification;
+
+/// The inputs of a scope are just the lists of so many values of its interval, and where they are to be apart just those in which no
+/// value stands twice; each is there once, in lexicographic order.
+pub fn inputs_are_all_once_in_order()
+    ensures all { (s : specification.Scope) (xs : List ℤ) → Contains (inputs_of s) xs ↔
+        (length xs ≡ s.count) × AreWithin s.low s.high xs × (s.apart ≡ true → AllPairs (λ x y. x ≢ y) xs) }
+    ensures ascend { (s : specification.Scope) → AllPairs IsBefore (inputs_of s) }
+    ensures once { (s : specification.Scope) → AllPairs (λ xs ys. xs ≢ ys) (inputs_of s) }
+{}
+
+/// Of n values in each of k places there are n to the k; where they are to be apart, n in the first place, one fewer in the next, and so
+/// on:
+/// k! where there are just k values.
+pub fn inputs_are_so_many()
+    ensures values { (s : specification.Scope) (n : ℕ) → s.apart ≡ false → s.high +ℤ pos 1 ≡ s.low +ℤ pos n →
+        length (inputs_of s) ≡ n ^ s.count }
+    ensures apart { (s : specification.Scope) (n : ℕ) → s.apart ≡ true → s.high +ℤ pos 1 ≡ s.low +ℤ pos n →
+        length (inputs_of s) ≡ falling n s.count }
+    ensures orders { (s : specification.Scope) → s.apart ≡ true → s.low ≡ pos 1 → s.high ≡ pos s.count →
+        length (inputs_of s) ≡ factorial s.count }
+{}
