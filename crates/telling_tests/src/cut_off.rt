@@ -61,11 +61,7 @@ fn facts_that_are_cut_off_are_told(rt: HostRuntime) -> Result<(), Fail> {
                 &mut out,
                 &mut err,
             );
-            let line: &[u8] = if room == size {
-                b""
-            } else {
-                NOT_WRITTEN
-            };
+            let line: &[u8] = if room == size { b"" } else { NOT_WRITTEN };
             assert!(&rt; (status == Status::Done) == (room == size));
             assert!(&rt; err.bytes() == line);
         }
