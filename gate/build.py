@@ -196,10 +196,10 @@ def copied(number, crates):
 
 
 def jobs_for(crate, idle, others, waits, seconds, number):
-    """In how many jobs a crate is proved: its share of the idle processors, and two at least where a chain that waits for it is longer than
-    what is left takes on all processors, since then the whole build waits for it."""
+    """In how many jobs a crate is proved: its share of the idle processors, and two, if so many are idle, where a chain that waits for it is
+    longer than what is left takes on all processors, since then the whole build waits for it."""
     fair = max(1, min(4, idle // others))
-    return max(fair, 2) if waits[crate] > sum(seconds.values()) / number else fair
+    return max(fair, min(2, idle)) if waits[crate] > sum(seconds.values()) / number else fair
 
 
 def prove(uses, costs, copies):
