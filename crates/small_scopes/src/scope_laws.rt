@@ -15,9 +15,8 @@ pub fn inputs_are_all_once_in_order()
     ensures once { (s : specification.Scope) → AllPairs (λ xs ys. xs ≢ ys) (inputs_of s) }
 {}
 
-/// Of n values in each of k places there are n to the k; where they are to be apart, n in the first place, one fewer in the next, and so
-/// on:
-/// k! where there are just k values.
+/// Of n values in each of k places there are n to the k. Where they are to be apart there are n in the first place, one fewer in the next,
+/// and so on: k! where there are just k values.
 pub fn inputs_are_so_many()
     ensures values { (s : specification.Scope) (n : ℕ) → s.apart ≡ false → s.high +ℤ pos 1 ≡ s.low +ℤ pos n →
         length (inputs_of s) ≡ n ^ s.count }
