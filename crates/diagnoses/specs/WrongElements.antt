@@ -1,5 +1,5 @@
 -- Where the element stands whose subscript is outside the bounds of its array.
-use Rattle.std.specs.Prelude.{ℕ, ℤ, nat_le, ◌&&◌, Bool, true, false, if◌then◌else◌, List, [], ◌∷◌, Option, Some, None, length, slice_get}
+use Rattle.std.specs.Prelude.{ℕ, ℤ, nat_le, ◌&&◌, Bool, false, if◌then◌else◌, List, [], ◌∷◌, Option, Some, None, length, slice_get}
 use Rattle.std.specs.List.{filter}
 use Rattle.pram_model.specs.Layout.{SharedEntry, cell_of, subscripts}
 use Rattle.pram_tokens.specs.declared.token.Location.{Location}

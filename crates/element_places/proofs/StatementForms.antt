@@ -8,7 +8,7 @@ use Rattle.pram_trees.specs.declared.tree.Stmt.{Stmt}
 use Rattle.pram_trees.specs.declared.tree.Stmt.TheVariants as s
 use Rattle.pram_trees.specs.declared.tree.Stmt.TheOpen.{Stmt-F}
 use Rattle.pram_trees.specs.declared.tree.Stmt.TheFolds.{fold-roll-Stmt}
-use Rattle.element_places.specs.Elements.{assigned, block_elements, elements, else_elements, here, joined, joined_else, node_at}
+use Rattle.element_places.specs.Elements.{assigned, block_elements, elements, else_elements, here, joined, node_at}
 use Rattle.element_places.specs.Elements.{statement_elements}
 
 module _ (w : List ℕ) (at : ℕ) where
