@@ -100,7 +100,10 @@ class Test:
     def start(self, verb, name, ranks, words):
         """One call by a start of its own."""
         call = [*MPIRUN, "-n", str(ranks), self.folder / f"{name}.run", *words]
-        done = subprocess.run(call, capture_output=True, text=True, timeout=300, env=ENVIRONMENT)
+        # Starts at one time, in one folder for sessions, may take it away from each other.
+        with tempfile.TemporaryDirectory(prefix="mpi") as session:
+            own = {**ENVIRONMENT, "TMPDIR": session}
+            done = subprocess.run(call, capture_output=True, text=True, timeout=300, env=own)
         told = [f"{it}\n" for it in done.stderr.splitlines() if it.startswith("refused") or "ERROR" in it or "runtime error" in it]
         self.judge(call, self.wanted(verb, name, ranks, plain((verb, name, words))), f"{done.stdout}{''.join(told)}status {done.returncode}\n")
 
