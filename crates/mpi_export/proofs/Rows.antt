@@ -1,13 +1,12 @@
 -- Numbers in C, and the rows of declarations.
-use Rattle.std.proofs.Common.{◌≡◌, ℕ, zero, suc, List, [], ◌∷◌, ◌++◌, sym, ap, ◌∙◌, subst, true, ◌+◌, ◌<◌, ◌≤◌, length, inl, inr, arith, rules}
-use Rattle.std.specs.Prelude.{ℤ, pos, negsuc, ◌+ℤ◌, ◌-ℤ◌, Option, Some, None, IfSome, slice_get}
+use Rattle.std.proofs.Common.{◌≡◌, ℕ, zero, suc, List, [], ◌∷◌, ◌++◌, sym, ap, ◌∙◌, subst, true, arith, rules}
+use Rattle.std.specs.Prelude.{ℤ, pos, negsuc, ◌+ℤ◌, ◌-ℤ◌, Option, Some, None, IfSome}
 use Rattle.std.proofs.lemmas.Grind.{common_steps}
-use Rattle.std.proofs.lemmas.Option.{slice_get_cases}
 use Rattle.std.specs.Fmt.{signed_decimal}
 use Rattle.std.proofs.Math.Facts.{to_z-of_z}
 use Rattle.pram_model.specs.Layout.{SharedEntry}
 use Rattle.text_out.specs.Printing.{Printing, Prints}
-use Rattle.text_out.proofs.Printed.{PrintedTo, printed_as, printed_more}
+use Rattle.text_out.proofs.Printed.{printed_as}
 use Rattle.mpi_export.specs.Program.{c_number, declared, entry_row}
 use lib.Signed.{lt_z}
 use mir.Syntax.{w64}
@@ -39,15 +38,3 @@ pub row_of : (s u : Printing) (o : Option SharedEntry) (name : List ℕ) (given 
 row_of s u None name given bounds same is has prints = tt
 row_of s u (Some e) name given bounds same is has prints =
     printed_as (ap (λ n. declared n e.bounds) (sym is) ∙ ap (declared name) (sym has ∙ same)) prints
-
--- what stands before a place of a list is printed, and one element more
-pub one_printed : {A : Type 0} (all : List A → List ℕ) (text : A → List ℕ) → ((y : A) (ys : List A) → all (y ∷ ys) ≡ text y ++ all ys) →
-    (start now next : Printing) (xs : List A) (i : ℕ)
-    → PrintedTo all start now xs i → i < length xs → IfSome (slice_get xs i) (λ e. Prints now next (text e)) →
-    PrintedTo all start next xs (i + 1)
-one_printed all text more start now next xs i before within prints =
-    elim (slice_get_cases xs i).1 [
-      | inl h ↦ printed_more all text more start now next xs i h.0 before within (sym h.3)
-          (subst (λ o. IfSome o (λ e. Prints now next (text e))) h.2 prints)
-      | inr h ↦ absurd (let past : length xs ≤ i = h.0 in omega arith)
-    ]

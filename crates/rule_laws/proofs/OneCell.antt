@@ -11,6 +11,7 @@ use Rattle.pram_values.specs.declared.kind.Kind.TheVariants.{WriteConflict}
 use Rattle.pram_values.specs.Truth.{is_equal}
 use Rattle.pram_values.specs.Value.{Value, checked}
 use Rattle.pram_values.proofs.Checked.{checked_some}
+use Rattle.pram_values.proofs.TruthValues.{is_equal-true}
 use Rattle.write_rules.specs.declared.write.Write.{Write}
 use Rattle.write_rules.specs.Rule.{common_value, is_sum, least_writer, only_value, rule_value, shares_reads}
 use Rattle.pram_meaning.specs.Values.{IsValue}
@@ -61,9 +62,6 @@ common_kind x (w ∷ ws) k e = by (is_equal x w.value) e (λ d. common_kind x ws
     by true d rest = rest d
     by false d rest = cc d
 
-one_value : (x y : ℤ) → is_equal x y ≡ true → x ≡ y
-one_value x y h = grind (arith, ints)
-
 -- the writer of least index has that value
 least_common : (w : Write) (ws : List Write) (v : ℤ) → common_value w.value ws ≡ Ok v → (least_writer w ws).value ≡ v
 least_common w [] v e = cc e
@@ -78,7 +76,7 @@ least_common w (u ∷ us) v e = by (is_equal w.value u.value) refl e (λ x d. le
         ((x : Write) → common_value x.value us ≡ Ok v → (least_writer x us).value ≡ v) → (least_writer w (u ∷ us)).value ≡ v
     by true is d rest =
         either (int_le w.processor u.processor) (rest w d)
-        (rest u (subst (λ y. common_value y us ≡ Ok v) (one_value w.value u.value is) d))
+        (rest u (subst (λ y. common_value y us ≡ Ok v) (is_equal-true w.value u.value is) d))
     by false is d rest = absurd (cc d)
 
 -- ---- the pairs of rules
