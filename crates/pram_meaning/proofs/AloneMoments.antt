@@ -5,9 +5,11 @@ use Rattle.pram_values.specs.declared.kind.Kind.{Kind}
 use Rattle.pram_values.specs.declared.place.Place.TheVariants.{All}
 use Rattle.pram_meaning.specs.Attempt.{Attempt, Fails, Gives, Trail}
 use Rattle.pram_meaning.specs.Bounded.{Goes, Stops, counted, evaluated, then_do, valued}
+use Rattle.pram_meaning.specs.Listening.{HasHeardPart}
 use Rattle.pram_meaning.specs.Moments.{Action, Alone, Moment, alone_moment, behind, left_by, writing}
 use Rattle.pram_meaning.specs.Store.{State}
 use Rattle.pram_meaning.specs.Together.{alone}
+use Rattle.pram_meaning.proofs.Telling.{HearsNothing, part_of_one}
 
 -- ---- what it comes to
 
@@ -49,3 +51,33 @@ pub told_fails : {S : Type 0} (H : S → List Moment → S → Type 0) {A : Type
 told_fails H n here act write left a m mid t k from late is at h =
     let P : List Moment → Type 0 = λ ms. H from ms late in
     subst P (sym (told n here act write left a m mid (Fails t k) is at)) h
+
+-- whoever was told of it gave up
+
+refused : {S : Type 0} (H : S → List Moment → S → Type 0) (G : S → Moment → S → Type 0) → HearsNothing H → {A : Type 0} (n : ℕ)
+    (here : Location) (act : Action) (write : A → Option ℕ) (left : A → State → State) (a : State → Attempt A) (m mid : State)
+    (x : Attempt A) (from late : S) → counted n m ≡ Goes tt mid → a mid ≡ x →
+    G from (Alone here act mid (writing write x) (left_by left x mid)) late → HasHeardPart H G from
+    (alone_moment n here act write left a m) late
+refused H G nothing n here act write left a m mid x from late is at g =
+    let P : List Moment → Type 0 = λ ms. HasHeardPart H G from ms late in
+    let one : Moment = Alone here act mid (writing write x) (left_by left x mid) in
+    subst P (sym (told n here act write left a m mid x is at)) (part_of_one H G nothing from late one g)
+
+pub goes_refused : {S : Type 0} (H : S → List Moment → S → Type 0) (G : S → Moment → S → Type 0) → HearsNothing H → {A : Type 0} (n : ℕ)
+    (here : Location) (act : Action) (write : A → Option ℕ) (left : A → State → State) (a : State → Attempt A) (m mid : State)
+    (t told : Trail) (v u : A) (from late : S) → counted n m ≡ Goes tt mid → a mid ≡ Gives t v → told ≡ t → u ≡ v →
+    G from (Alone here act mid (Gives told (write u)) (left u mid)) late → HasHeardPart H G from
+    (alone_moment n here act write left a m) late
+goes_refused H G nothing {A} n here act write left a m mid t told v u from late is at same value g =
+    let P : Trail → Type 0 = λ t. G from (Alone here act mid (Gives t (write u)) (left u mid)) late in
+    let Q : A → Type 0 = λ v. G from (Alone here act mid (Gives t (write v)) (left v mid)) late in
+    refused H G nothing n here act write left a m mid (Gives t v) from late is at (subst Q value (subst P same g))
+
+pub fails_refused : {S : Type 0} (H : S → List Moment → S → Type 0) (G : S → Moment → S → Type 0) → HearsNothing H → {A : Type 0} (n : ℕ)
+    (here : Location) (act : Action) (write : A → Option ℕ) (left : A → State → State) (a : State → Attempt A) (m mid : State)
+    (t told : Trail) (k : Kind) (from late : S) → counted n m ≡ Goes tt mid → a mid ≡ Fails t k → told ≡ t →
+    G from (Alone here act mid (Fails told k) mid) late → HasHeardPart H G from (alone_moment n here act write left a m) late
+fails_refused H G nothing n here act write left a m mid t told k from late is at same g =
+    let P : Trail → Type 0 = λ t. G from (Alone here act mid (Fails t k) mid) late in
+    refused H G nothing n here act write left a m mid (Fails t k) from late is at (subst P same g)

@@ -5,7 +5,7 @@ ghost use Rattle.std.specs.Int.{w64};
 ghost use Rattle.pram_meaning.specs.Attempt.{attempt, attempt_assign, attempt_bounds, attempt_range};
 ghost use Rattle.pram_meaning.specs.Bounded.{counted, evaluated, found};
 ghost use Rattle.pram_meaning.specs.Bounded as spec;
-ghost use Rattle.pram_meaning.specs.Listening.{action_is, done_by, UnlessRefused};
+ghost use Rattle.pram_meaning.specs.Listening.{action_is, done_by, HasHeard};
 ghost use Rattle.pram_meaning.specs.Moments.{alone_moment, assign_moment, bounds_moment, nowhere, range_moment};
 ghost use Rattle.pram_meaning.specs.Runs.{state_of, view_is, effect_is, IsAttempt, IsBehaviour, IsEffect, IsPair};
 ghost use Rattle.pram_meaning.specs.Store.{seen};
@@ -155,9 +155,9 @@ impl<'a> Interpreter<'a> {
     ) -> Result<i64, Halt>
         ensures value { IsBehaviour result (state_of run.new) (found self.now.program.now self.now.bound location.line e.now
             (state_of run.old)) }
-        ensures heard { UnlessRefused result (H.hears listener.old (alone_moment self.now.bound location (action_is action.now) nowhere
+        ensures heard { HasHeard result H.hears H.gives_up listener.old (alone_moment self.now.bound location (action_is action.now) nowhere
             (λ v. done_by (action_is action.now) (record { value = v; cell = None }))
-            (λ m. attempt (seen self.now.program.now m) e.now []) (state_of run.old)) listener.new) }
+            (λ m. attempt (seen self.now.program.now m) e.now []) (state_of run.old)) listener.new }
         ensures more { OnOk result (run.new.count ≡ run.old.count + 1) }
         ensures below { OnOk result (run.old.count < self.now.bound) }
     {
@@ -189,8 +189,8 @@ impl<'a> Interpreter<'a> {
         ensures value { IsBehaviour result (state_of run.new)
             (spec.assign self.now.program.now self.now.bound location.line target.now value.now
             (state_of run.old)) }
-        ensures heard { UnlessRefused result (H.hears listener.old
-            (assign_moment self.now.program.now self.now.bound location target.now value.now (state_of run.old)) listener.new) }
+        ensures heard { HasHeard result H.hears H.gives_up listener.old
+            (assign_moment self.now.program.now self.now.bound location target.now value.now (state_of run.old)) listener.new }
         ensures grows { OnOk result (run.old.count ≤ run.new.count) }
     {
         self.begin(run)?;
@@ -221,9 +221,10 @@ impl<'a> Interpreter<'a> {
         high: &Expression,
     ) -> Result<(i64, i64), Halt>
         ensures value { IsBehaviour result (state_of run.new)
-            (evaluated self.now.bound location.line (λ m. attempt_bounds (seen self.now.program.now m) low.now high.now) (state_of run.old)) }
-        ensures heard { UnlessRefused result (H.hears listener.old
-            (bounds_moment self.now.program.now self.now.bound location low.now high.now (state_of run.old)) listener.new) }
+            (evaluated self.now.bound location.line (λ m. attempt_bounds (seen self.now.program.now m) low.now high.now)
+            (state_of run.old)) }
+        ensures heard { HasHeard result H.hears H.gives_up listener.old
+            (bounds_moment self.now.program.now self.now.bound location low.now high.now (state_of run.old)) listener.new }
         ensures more { OnOk result (run.new.count ≡ run.old.count + 1) }
     {
         self.begin(run)?;
@@ -258,8 +259,8 @@ impl<'a> Interpreter<'a> {
     ) -> Result<(i64, u32), Halt>
         ensures value { IsBehaviour result (state_of run.new) (evaluated self.now.bound location.line
             (λ m. attempt_range self.now.program.now.procs (seen self.now.program.now m) low.now high.now) (state_of run.old)) }
-        ensures heard { UnlessRefused result (H.hears listener.old
-            (range_moment self.now.program.now self.now.bound location low.now high.now (state_of run.old)) listener.new) }
+        ensures heard { HasHeard result H.hears H.gives_up listener.old
+            (range_moment self.now.program.now self.now.bound location low.now high.now (state_of run.old)) listener.new }
         ensures more { OnOk result (run.new.count ≡ run.old.count + 1) }
         // The last index is an i64.
         ensures fits { IfOk result (λ r. FitsSigned w64 (r.0 +ℤ pos (r.1 - 1))) }

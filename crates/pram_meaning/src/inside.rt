@@ -3,7 +3,7 @@
 ghost use Rattle.std.specs.Prelude.{FitsSigned, ◌+ℤ◌, pos, ◌≡◌, ◌≤◌, ◌-◌, ◌+◌, OnOk};
 ghost use Rattle.std.specs.Int.{w64};
 ghost use Rattle.pram_meaning.specs.Bounded.{perform_on, perform_list_on, turns_on, tested_on, pardo_done};
-ghost use Rattle.pram_meaning.specs.Listening.{UnlessRefused};
+ghost use Rattle.pram_meaning.specs.Listening.{HasHeard};
 ghost use Rattle.pram_meaning.specs.Moments.{TurnsOn, inner_moments, inner_list_moments, set_test_moment, turns_on_moments};
 ghost use Rattle.pram_meaning.specs.Runs.{state_of, IsBehaviour};
 ghost use Rattle.pram_meaning.specs.Sets.{state_in};
@@ -31,8 +31,8 @@ impl<'a> Interpreter<'a> {
     ) -> Result<(), Halt>
         ensures value { IsBehaviour result (state_in run.new team.new.items)
             (perform_on self.now.program.now self.now.bound s.now active.now.items (state_in run.old team.old.items)) }
-        ensures heard { UnlessRefused result (H.hears listener.old (inner_moments self.now.program.now self.now.bound s.now
-            active.now.items (state_in run.old team.old.items)) listener.new) }
+        ensures heard { HasHeard result H.hears H.gives_up listener.old (inner_moments self.now.program.now self.now.bound s.now
+            active.now.items (state_in run.old team.old.items)) listener.new }
         ensures grows { OnOk result (run.old.count ≤ run.new.count) }
     {
         match s {
@@ -76,12 +76,12 @@ impl<'a> Interpreter<'a> {
         ensures value { IsBehaviour result (state_in run.new team.new.items)
             (turns_on (self.now.bound + 1) (tested_on self.now.program.now self.now.bound location.line test.now)
             (perform_list_on self.now.program.now self.now.bound body.now.items) active.now.items (state_in run.old team.old.items)) }
-        ensures heard { UnlessRefused result (H.hears listener.old (turns_on_moments (self.now.bound + 1)
+        ensures heard { HasHeard result H.hears H.gives_up listener.old (turns_on_moments (self.now.bound + 1)
             (set_test_moment self.now.program.now self.now.bound location (TurnsOn test.now) test.now)
             (tested_on self.now.program.now self.now.bound location.line test.now)
             (inner_list_moments self.now.program.now self.now.bound body.now.items)
             (perform_list_on self.now.program.now self.now.bound body.now.items) active.now.items (state_in run.old team.old.items))
-            listener.new) }
+            listener.new }
         ensures grows { OnOk result (run.old.count ≤ run.new.count) }
     {
         let mut current = Vec::from_slice(self.alloc, active)?;
@@ -109,8 +109,9 @@ impl<'a> Interpreter<'a> {
     ) -> Result<(), Halt>
         ensures value { IsBehaviour result (state_in run.new team.new.items)
             (perform_list_on self.now.program.now self.now.bound body.now.items active.now.items (state_in run.old team.old.items)) }
-        ensures heard { UnlessRefused result (H.hears listener.old (inner_list_moments self.now.program.now self.now.bound body.now.items
-            active.now.items (state_in run.old team.old.items)) listener.new) }
+        ensures heard { HasHeard result H.hears H.gives_up listener.old
+            (inner_list_moments self.now.program.now self.now.bound body.now.items
+            active.now.items (state_in run.old team.old.items)) listener.new }
         ensures grows { OnOk result (run.old.count ≤ run.new.count) }
     {
         for s in body {
@@ -132,8 +133,9 @@ impl<'a> Interpreter<'a> {
         requires { FitsSigned w64 (low +ℤ pos (count - 1)) }
         ensures value { IsBehaviour result (state_of run.new) (pardo_done self.now.program.now self.now.bound locals body.now.items low
             count (state_of run.old)) }
-        ensures heard { UnlessRefused result (H.hears listener.old (inner_list_moments self.now.program.now self.now.bound body.now.items
-            (numbers 0 count) (with_team low count locals (state_of run.old))) listener.new) }
+        ensures heard { HasHeard result H.hears H.gives_up listener.old
+            (inner_list_moments self.now.program.now self.now.bound body.now.items
+            (numbers 0 count) (with_team low count locals (state_of run.old))) listener.new }
         ensures grows { OnOk result (run.old.count ≤ run.new.count) }
     {
         let mut team = gather(self.alloc, low, count, locals)?;

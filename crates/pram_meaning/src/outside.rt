@@ -1,12 +1,12 @@
 //! Statements outside pardo.
 
-ghost use Rattle.std.specs.Prelude.{◌≤◌, ◌≡◌, ◌<◌, ◌+◌, ◌∷◌, [], None, OnOk};
+ghost use Rattle.std.specs.Prelude.{◌≤◌, ◌≡◌, ◌<◌, ◌+◌, ◌∷◌, [], None, OnOk, OnErr};
 ghost use Rattle.pram_model.specs.Layout.{width};
 ghost use Rattle.pram_meaning.specs.Attempt.{Gives};
 ghost use Rattle.pram_meaning.specs.Store.{with_uniform};
 ghost use Rattle.pram_meaning.specs.Bounded.{counted, tested, perform, perform_list, turns, for_turns, for_all, pardo};
 ghost use Rattle.pram_meaning.specs.Bounded as spec;
-ghost use Rattle.pram_meaning.specs.Listening.{UnlessRefused};
+ghost use Rattle.pram_meaning.specs.Listening.{HasHeard};
 ghost use Rattle.pram_meaning.specs.Moments.{Alone, Sets, Turns, Chooses, moments, list_moments, turns_moments, for_turns_moments};
 ghost use Rattle.pram_meaning.specs.Moments.{for_moments, pardo_moments, test_moment, print_moment, closing};
 ghost use Rattle.pram_meaning.specs.Runs.{state_of, IsBehaviour};
@@ -37,8 +37,10 @@ fn tell_next<H: Listener>(
     variable: usize,
     numbers: &Numbers,
 ) -> Result<(), AllocError>
-    ensures { OnOk result (H.hears listener.old (Alone location (Sets variable) (state_of run.now) (Gives [] None)
+    ensures heard { OnOk result (H.hears listener.old (Alone location (Sets variable) (state_of run.now) (Gives [] None)
         (with_uniform variable numbers.now.next (state_of run.now)) ∷ []) listener.new) }
+    ensures refused { OnErr result (H.gives_up listener.old (Alone location (Sets variable) (state_of run.now) (Gives [] None)
+        (with_uniform variable numbers.now.next (state_of run.now))) listener.new) }
 {
     let effect = Effect {
         value: numbers.next,
@@ -59,8 +61,8 @@ impl<'a> Interpreter<'a> {
     ) -> Result<bool, Halt>
         ensures value { IsBehaviour result (state_of run.new)
             (tested self.now.program.now self.now.bound location.line test.now (state_of run.old)) }
-        ensures heard { UnlessRefused result (H.hears listener.old
-            (test_moment self.now.program.now self.now.bound location (Turns test.now) test.now (state_of run.old)) listener.new) }
+        ensures heard { HasHeard result H.hears H.gives_up listener.old (test_moment self.now.program.now self.now.bound location
+            (Turns test.now) test.now (state_of run.old)) listener.new }
         ensures more { OnOk result (run.new.count ≡ run.old.count + 1) }
         ensures below { OnOk result (run.old.count < self.now.bound) }
     {
@@ -79,8 +81,8 @@ impl<'a> Interpreter<'a> {
     ) -> Result<bool, Halt>
         ensures value { IsBehaviour result (state_of run.new)
             (tested self.now.program.now self.now.bound location.line test.now (state_of run.old)) }
-        ensures heard { UnlessRefused result (H.hears listener.old
-            (test_moment self.now.program.now self.now.bound location (Chooses test.now) test.now (state_of run.old)) listener.new) }
+        ensures heard { HasHeard result H.hears H.gives_up listener.old (test_moment self.now.program.now self.now.bound location
+            (Chooses test.now) test.now (state_of run.old)) listener.new }
         ensures more { OnOk result (run.new.count ≡ run.old.count + 1) }
     {
         let value = self.run_value(run, listener, location, &Action::Chooses { test }, test)?;
@@ -97,8 +99,8 @@ impl<'a> Interpreter<'a> {
     ) -> Result<(), Halt>
         ensures value { IsBehaviour result (state_of run.new) (spec.print self.now.program.now self.now.bound location.line value.now
             (state_of run.old)) }
-        ensures heard { UnlessRefused result (H.hears listener.old
-            (print_moment self.now.program.now self.now.bound location value.now (state_of run.old)) listener.new) }
+        ensures heard { HasHeard result H.hears H.gives_up listener.old
+            (print_moment self.now.program.now self.now.bound location value.now (state_of run.old)) listener.new }
         ensures grows { OnOk result (run.old.count ≤ run.new.count) }
     {
         let item = self.run_value(run, listener, location, &Action::Prints { value }, value)?;
@@ -122,9 +124,9 @@ impl<'a> Interpreter<'a> {
         ensures value { IsBehaviour result (state_of run.new)
             (pardo self.now.program.now self.now.bound location.line low.now high.now locals
             body.now.items (state_of run.old)) }
-        ensures heard { UnlessRefused result (H.hears listener.old
+        ensures heard { HasHeard result H.hears H.gives_up listener.old
             (pardo_moments self.now.program.now self.now.bound location low.now high.now
-            locals body.now.items (state_of run.old)) listener.new) }
+            locals body.now.items (state_of run.old)) listener.new }
         ensures grows { OnOk result (run.old.count ≤ run.new.count) }
     {
         let (first, count) = self.run_range(run, listener, location, low, high)?;
@@ -141,8 +143,8 @@ impl<'a> Interpreter<'a> {
         s: &Statement,
     ) -> Result<(), Halt>
         ensures value { IsBehaviour result (state_of run.new) (perform self.now.program.now self.now.bound s.now (state_of run.old)) }
-        ensures heard { UnlessRefused result (H.hears listener.old (moments self.now.program.now self.now.bound s.now (state_of run.old))
-            listener.new) }
+        ensures heard { HasHeard result H.hears H.gives_up listener.old (moments self.now.program.now self.now.bound s.now
+            (state_of run.old)) listener.new }
         ensures grows { OnOk result (run.old.count ≤ run.new.count) }
     {
         match s {
@@ -200,11 +202,11 @@ impl<'a> Interpreter<'a> {
         ensures value { IsBehaviour result (state_of run.new)
             (turns (self.now.bound + 1) (tested self.now.program.now self.now.bound location.line test.now)
             (perform_list self.now.program.now self.now.bound body.now.items) (state_of run.old)) }
-        ensures heard { UnlessRefused result (H.hears listener.old (turns_moments (self.now.bound + 1)
+        ensures heard { HasHeard result H.hears H.gives_up listener.old (turns_moments (self.now.bound + 1)
             (test_moment self.now.program.now self.now.bound location (Turns test.now) test.now)
             (tested self.now.program.now self.now.bound location.line test.now)
             (list_moments self.now.program.now self.now.bound body.now.items)
-            (perform_list self.now.program.now self.now.bound body.now.items) (state_of run.old)) listener.new) }
+            (perform_list self.now.program.now self.now.bound body.now.items) (state_of run.old)) listener.new }
         ensures grows { OnOk result (run.old.count ≤ run.new.count) }
     {
         'turns: while self.run_test(run, listener, location, test)? {
@@ -228,10 +230,10 @@ impl<'a> Interpreter<'a> {
         ensures value { IsBehaviour result (state_of run.new)
             (for_all self.now.program.now self.now.bound location.line variable low.now high.now
             (perform_list self.now.program.now self.now.bound body.now.items) (state_of run.old)) }
-        ensures heard { UnlessRefused result (H.hears listener.old
+        ensures heard { HasHeard result H.hears H.gives_up listener.old
             (for_moments self.now.program.now self.now.bound location variable low.now
             high.now (list_moments self.now.program.now self.now.bound body.now.items)
-            (perform_list self.now.program.now self.now.bound body.now.items) (state_of run.old)) listener.new) }
+            (perform_list self.now.program.now self.now.bound body.now.items) (state_of run.old)) listener.new }
         ensures grows { OnOk result (run.old.count ≤ run.new.count) }
     {
         let (first, last) = self.run_bounds(run, listener, location, low, high)?;
@@ -253,10 +255,10 @@ impl<'a> Interpreter<'a> {
     ) -> Result<(), Halt>
         ensures value { IsBehaviour result (state_of run.new) (for_turns self.now.bound (width numbers.now.next numbers.now.last) variable
             numbers.now.next (perform_list self.now.program.now self.now.bound body.now.items) (state_of run.old)) }
-        ensures heard { UnlessRefused result (H.hears listener.old (for_turns_moments self.now.bound location
+        ensures heard { HasHeard result H.hears H.gives_up listener.old (for_turns_moments self.now.bound location
             (width numbers.now.next numbers.now.last) variable numbers.now.next
             (list_moments self.now.program.now self.now.bound body.now.items)
-            (perform_list self.now.program.now self.now.bound body.now.items) (state_of run.old)) listener.new) }
+            (perform_list self.now.program.now self.now.bound body.now.items) (state_of run.old)) listener.new }
         ensures grows { OnOk result (run.old.count ≤ run.new.count) }
     {
         if numbers.is_empty() {
@@ -275,7 +277,7 @@ impl<'a> Interpreter<'a> {
         }
     }
 
-    // A block that closes, however it came out.
+    // A block that closes, however it came out. Who has given up is told no more.
     #[cycle(outside)]
     #[tactic(auto, using(crate::proofs::Telling::closed_heard))]
     fn run_closed<H: Listener>(
@@ -286,11 +288,14 @@ impl<'a> Interpreter<'a> {
     ) -> Result<(), Halt>
         ensures value { IsBehaviour result (state_of run.new) (perform_list self.now.program.now self.now.bound body.now.items
             (state_of run.old)) }
-        ensures heard { UnlessRefused result (H.hears listener.old (closing (list_moments self.now.program.now self.now.bound
-            body.now.items (state_of run.old))) listener.new) }
+        ensures heard { HasHeard result H.hears H.gives_up listener.old (closing (list_moments self.now.program.now self.now.bound
+            body.now.items (state_of run.old))) listener.new }
         ensures grows { OnOk result (run.old.count ≤ run.new.count) }
     {
         let done = self.run_block(run, listener, body);
+        if let Err(Halt::OutOfMemory) = done {
+            return done;
+        }
         listener.closes()?;
         done
     }
@@ -306,8 +311,8 @@ impl<'a> Interpreter<'a> {
     ) -> Result<(), Halt>
         ensures value { IsBehaviour result (state_of run.new) (perform_list self.now.program.now self.now.bound body.now.items
             (state_of run.old)) }
-        ensures heard { UnlessRefused result (H.hears listener.old (list_moments self.now.program.now self.now.bound body.now.items
-            (state_of run.old)) listener.new) }
+        ensures heard { HasHeard result H.hears H.gives_up listener.old (list_moments self.now.program.now self.now.bound body.now.items
+            (state_of run.old)) listener.new }
         ensures grows { OnOk result (run.old.count ≤ run.new.count) }
     {
         for s in body {
@@ -321,8 +326,8 @@ impl<'a> Interpreter<'a> {
     pub fn run_body<H: Listener>(&self, run: &mut Run, listener: &mut H) -> Result<(), Halt>
         ensures value { IsBehaviour result (state_of run.new) (perform_list self.now.program.now self.now.bound self.now.program.now.body
             (state_of run.old)) }
-        ensures heard { UnlessRefused result (H.hears listener.old (list_moments self.now.program.now self.now.bound
-            self.now.program.now.body (state_of run.old)) listener.new) }
+        ensures heard { HasHeard result H.hears H.gives_up listener.old (list_moments self.now.program.now self.now.bound
+            self.now.program.now.body (state_of run.old)) listener.new }
     {
         for s in self.program.body() {
             self.run_statement(run, listener, s)?;

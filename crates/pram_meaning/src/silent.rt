@@ -21,6 +21,8 @@ pub struct Silent {}
 impl Listener for Silent {
     ghost hears = { λ a ms b. ⊤ };
 
+    ghost gives_up = { λ a m b. ⊤ };
+
     fn acts(
         &mut self,
         _run: &Run,

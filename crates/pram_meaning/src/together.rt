@@ -8,7 +8,7 @@ ghost use Rattle.pram_meaning.specs.Bounded as spec;
 ghost use Rattle.pram_meaning.specs.Runs.{IsBehaviour};
 ghost use Rattle.pram_meaning.specs.Conflict.{keys, least};
 ghost use Rattle.pram_meaning.specs.Judging.{part_is, with_value};
-ghost use Rattle.pram_meaning.specs.Listening.{step_action_is, done_on, UnlessRefused};
+ghost use Rattle.pram_meaning.specs.Listening.{step_action_is, done_on, HasHeard};
 ghost use Rattle.pram_meaning.specs.Moments.{TurnsOn, ChoosesOn, set_moment, set_assign_moment, set_test_moment};
 ghost use Rattle.pram_meaning.specs.Sets.{state_in, IsParts};
 
@@ -155,9 +155,9 @@ impl<'a> Interpreter<'a> {
         ensures value { IsParts result (state_in run.new team.now.items)
             (attempted_on self.now.program.now self.now.bound location.line (λ s. attempt_step s target.now e.now) active.now.items
             (state_in run.old team.now.items)) }
-        ensures heard { UnlessRefused result (H.hears listener.old (set_moment self.now.program.now self.now.bound location
+        ensures heard { HasHeard result H.hears H.gives_up listener.old (set_moment self.now.program.now self.now.bound location
             (step_action_is action.now) (done_on self.now.program.now (step_action_is action.now)) (λ s. attempt_step s target.now e.now)
-            active.now.items (state_in run.old team.now.items)) listener.new) }
+            active.now.items (state_in run.old team.now.items)) listener.new }
         ensures more { OnOk result (run.new.count ≡ run.old.count + 1) }
         ensures below { OnOk result (run.old.count < self.now.bound) }
     {
@@ -267,9 +267,9 @@ impl<'a> Interpreter<'a> {
         ensures value { IsBehaviour result (state_in run.new team.new.items)
             (spec.assign_on self.now.program.now self.now.bound location.line target.now e.now active.now.items
             (state_in run.old team.old.items)) }
-        ensures heard { UnlessRefused result (H.hears listener.old
+        ensures heard { HasHeard result H.hears H.gives_up listener.old
             (set_assign_moment self.now.program.now self.now.bound location target.now
-            e.now active.now.items (state_in run.old team.old.items)) listener.new) }
+            e.now active.now.items (state_in run.old team.old.items)) listener.new }
         ensures grows { OnOk result (run.old.count ≤ run.new.count) }
     {
         let action = StepAction::Assigns { target, value: e };
@@ -291,8 +291,8 @@ impl<'a> Interpreter<'a> {
         ensures value { IsParts result (state_in run.new team.now.items)
             (tested_on self.now.program.now self.now.bound location.line test.now
             active.now.items (state_in run.old team.now.items)) }
-        ensures heard { UnlessRefused result (H.hears listener.old (set_test_moment self.now.program.now self.now.bound location
-            (TurnsOn test.now) test.now active.now.items (state_in run.old team.now.items)) listener.new) }
+        ensures heard { HasHeard result H.hears H.gives_up listener.old (set_test_moment self.now.program.now self.now.bound location
+            (TurnsOn test.now) test.now active.now.items (state_in run.old team.now.items)) listener.new }
         ensures more { OnOk result (run.new.count ≡ run.old.count + 1) }
         ensures below { OnOk result (run.old.count < self.now.bound) }
     {
@@ -314,8 +314,8 @@ impl<'a> Interpreter<'a> {
         ensures value { IsParts result (state_in run.new team.now.items)
             (tested_on self.now.program.now self.now.bound location.line test.now
             active.now.items (state_in run.old team.now.items)) }
-        ensures heard { UnlessRefused result (H.hears listener.old (set_test_moment self.now.program.now self.now.bound location
-            (ChoosesOn test.now) test.now active.now.items (state_in run.old team.now.items)) listener.new) }
+        ensures heard { HasHeard result H.hears H.gives_up listener.old (set_test_moment self.now.program.now self.now.bound location
+            (ChoosesOn test.now) test.now active.now.items (state_in run.old team.now.items)) listener.new }
         ensures more { OnOk result (run.new.count ≡ run.old.count + 1) }
     {
         let none = StepTarget::Local(0);

@@ -1,12 +1,16 @@
 use Rattle.std.proofs.lemmas.Result.{err_from_is_err_and}
-use Rattle.std.proofs.Common.{map, ◌≡◌, ◌<◌, length, arith}
+use Rattle.std.proofs.Common.{map, ◌≡◌, ◌+◌, ◌<◌, length, arith}
 use Rattle.std.proofs.lemmas.Grind.{common_steps}
 use Rattle.pram_meaning.specs.Judging.{part_is}
+use Rattle.pram_meaning.specs.Bounded.{perform_list_on, tested_on}
+use Rattle.pram_meaning.specs.Moments.{TurnsOn, inner_list_moments, set_test_moment, turns_on_moments}
 use Rattle.pram_meaning.specs.Sets.{state_in}
-use Rattle.pram_meaning.proofs.HeardSetBlocks.{if_goes_heard, if_then_halts_heard}
-use Rattle.pram_meaning.proofs.HeardSetLoops.{test_halts_heard, turn_goes_heard, turn_halts_heard, turns_end_heard}
+use Rattle.pram_meaning.proofs.HeardSetBlocks.{if_goes_heard, if_halts_heard, if_refused_heard, if_then_halts_heard}
+use Rattle.pram_meaning.proofs.HeardSetLoops.{chosen_refused_heard, test_halts_heard, turn_goes_heard, turn_halts_heard}
+use Rattle.pram_meaning.proofs.HeardSetLoops.{turns_end_heard}
 use Rattle.pram_meaning.proofs.SetBlocks.{assign_arm, if_then_halts, if_goes}
-use Rattle.pram_meaning.proofs.SetLoops.{turn_goes, turn_halts}
+use Rattle.pram_meaning.proofs.SetLoops.{test_halts, turn_goes, turn_halts, turns_end}
+use Rattle.pram_meaning.proofs.Telling.{part_none}
 use Rattle.pram_meaning.proofs.interpreter.Interpreter.+inside.Goals as goal
 
 pub run_step-returns-in-Assign-clause-value : goal.run_step-returns-in-Assign-clause-value
@@ -36,7 +40,8 @@ run_step-returns-in_ok-run_block_on-in-If-clause-value g t c =
     (state_in c.run_block_on.new.run c.run_block_on.new.team.items)
     (state_in c.run_block_on-in-If.new.run c.run_block_on-in-If.new.team.items) (map part_is c.in_ok-all-in-If.all.items)
     c.run_block_on-in-If.result
-    c.in-If.is c.in_ok-all-in-If.ensures.value c.in_ok-chosen-in-If.ensures c.in_ok-others-in-If.ensures c.in_ok-run_block_on-in-If.ensures.value
+    c.in-If.is c.in_ok-all-in-If.ensures.value c.in_ok-chosen-in-If.ensures c.in_ok-others-in-If.ensures
+    c.in_ok-run_block_on-in-If.ensures.value
     c.run_block_on-in-If.ensures.value
 
 pub run_while_on-returns-in_err-run_block_on-clause-value :
@@ -59,7 +64,7 @@ pub run_step-returns-in_err-run_block_on-in-If-clause-heard :
 run_step-returns-in_err-run_block_on-in-If-clause-heard g t c =
     let r = c.from_residual-in_err-run_block_on-in-If in
     let p = err_from_is_err_and r.result r.ensures.1 in rw (p.1, p.2)
-    (if_then_halts_heard g.H.Listener.hears g.met.H.Listener.hears_on c.args.listener.now c.choice_on.new.listener
+    (if_then_halts_heard g.H.Listener.hears g.H.Listener.gives_up g.met.H.Listener.hears_on c.args.listener.now c.choice_on.new.listener
     c.run_block_on.new.listener c.args.self.now.program.now c.args.self.now.bound c.in-If.location c.args.s.now c.in-If.test
     c.in-If.then_part
     c.in-If.else_part c.args.active.now.items c.in_ok-chosen-in-If.chosen.items
@@ -71,7 +76,8 @@ run_step-returns-in_err-run_block_on-in-If-clause-heard g t c =
 pub run_step-returns-in_ok-run_block_on-in-If-clause-heard :
     goal.run_step-returns-in_ok-run_block_on-in-If-clause-heard
 run_step-returns-in_ok-run_block_on-in-If-clause-heard g t c =
-    if_goes_heard g.H.Listener.hears g.met.H.Listener.hears_on c.args.listener.now c.choice_on.new.listener c.run_block_on.new.listener
+    if_goes_heard g.H.Listener.hears g.H.Listener.gives_up g.met.H.Listener.hears_on c.args.listener.now c.choice_on.new.listener
+    c.run_block_on.new.listener
     c.run_block_on-in-If.new.listener c.args.self.now.program.now c.args.self.now.bound c.in-If.location c.args.s.now c.in-If.test
     c.in-If.then_part c.in-If.else_part c.args.active.now.items c.in_ok-chosen-in-If.chosen.items c.in_ok-others-in-If.others.items
     (state_in c.args.run.now c.args.team.now.items) (state_in c.choice_on.new.run c.args.team.now.items)
@@ -85,7 +91,8 @@ run_while_on-returns-in_err-all-clause-heard g t c =
     let r = c.from_residual-in_err-all in
     let p = err_from_is_err_and r.result r.ensures.1 in
     rw (p.1, p.2)
-    (test_halts_heard g.H.Listener.hears c.args.self.now.program.now c.args.self.now.bound c.args.location c.args.test.now
+    (test_halts_heard g.H.Listener.hears g.H.Listener.gives_up c.args.self.now.program.now c.args.self.now.bound c.args.location
+    c.args.test.now
     c.args.body.now.items c.args.active.now.items c.turns.current.items (state_in c.args.run.now c.args.team.now.items)
     (state_in c.turns.run c.turns.team.items) (state_in c.test_on.new.run c.turns.team.items) c.args.listener.now c.turns.listener
     c.test_on.new.listener _ c.turns.invariant.1 c.in_err-all.ensures.value c.in_err-all.ensures.heard)
@@ -94,7 +101,8 @@ pub run_while_on-returns-then-is_empty-clause-heard :
     goal.run_while_on-returns-then-is_empty-clause-heard
 run_while_on-returns-then-is_empty-clause-heard g t c =
     let z : length c.in_ok-chosen.chosen.items ≡ 0 = grind (arith, common_steps) in
-    turns_end_heard g.H.Listener.hears g.met.H.Listener.hears_nothing g.met.H.Listener.hears_on c.args.self.now.program.now
+    turns_end_heard g.H.Listener.hears g.H.Listener.gives_up g.met.H.Listener.hears_nothing g.met.H.Listener.hears_on
+    c.args.self.now.program.now
     c.args.self.now.bound c.args.location c.args.test.now c.args.body.now.items c.args.active.now.items c.turns.current.items
     c.in_ok-chosen.chosen.items (state_in c.args.run.now c.args.team.now.items) (state_in c.turns.run c.turns.team.items)
     (state_in c.test_on.new.run c.turns.team.items) c.args.listener.now c.turns.listener c.test_on.new.listener
@@ -107,7 +115,8 @@ run_while_on-returns-in_err-run_block_on-clause-heard g t c =
     let p = err_from_is_err_and r.result r.ensures.1 in
     let z : 0 < length c.in_ok-chosen.chosen.items = grind (arith, common_steps) in
     rw (p.1, p.2)
-    (turn_halts_heard g.H.Listener.hears g.met.H.Listener.hears_on c.args.self.now.program.now c.args.self.now.bound c.args.location
+    (turn_halts_heard g.H.Listener.hears g.H.Listener.gives_up g.met.H.Listener.hears_on c.args.self.now.program.now c.args.self.now.bound
+    c.args.location
     c.args.test.now c.args.body.now.items c.args.active.now.items c.turns.current.items c.in_ok-chosen.chosen.items
     (state_in c.args.run.now c.args.team.now.items) (state_in c.turns.run c.turns.team.items)
     (state_in c.test_on.new.run c.turns.team.items) (state_in c.run_block_on.new.run c.run_block_on.new.team.items)
@@ -126,7 +135,8 @@ run_while_on-turns-preserved g t c =
           (state_in c.turns.run c.turns.team.items) (state_in c.test_on.new.run c.turns.team.items)
           (state_in c.run_block_on.new.run c.run_block_on.new.team.items) (map part_is c.in_ok-all.all.items) c.turns.invariant.0
           c.in_ok-all.ensures.value c.in_ok-chosen.ensures z c.in_ok-run_block_on.ensures.value (omega (arith, a, b)),
-      turn_goes_heard g.H.Listener.hears g.met.H.Listener.hears_on c.args.self.now.program.now c.args.self.now.bound c.args.location
+      turn_goes_heard g.H.Listener.hears g.H.Listener.gives_up g.met.H.Listener.hears_on c.args.self.now.program.now c.args.self.now.bound
+          c.args.location
           c.args.test.now c.args.body.now.items c.args.active.now.items c.turns.current.items c.in_ok-chosen.chosen.items
           (state_in c.args.run.now c.args.team.now.items) (state_in c.turns.run c.turns.team.items)
           (state_in c.test_on.new.run c.turns.team.items) (state_in c.run_block_on.new.run c.run_block_on.new.team.items)
@@ -134,3 +144,71 @@ run_while_on-turns-preserved g t c =
           c.turns.invariant.1 c.in_ok-all.ensures.value c.in_ok-chosen.ensures z c.in_ok-all.ensures.heard
           c.in_ok-run_block_on.ensures.value c.in_ok-run_block_on.ensures.heard (omega (arith, a, b)),
     )
+
+pub run_step-returns-in_err-all-in-If-clause-heard : goal.run_step-returns-in_err-all-in-If-clause-heard
+run_step-returns-in_err-all-in-If-clause-heard g t c =
+    let r = c.from_residual in
+    let p = err_from_is_err_and r.result r.ensures.1 in
+    rw (p.1, p.2)
+    (if_halts_heard g.H.Listener.hears g.H.Listener.gives_up c.args.listener.now c.choice_on.new.listener c.args.self.now.program.now
+    c.args.self.now.bound c.in-If.location c.args.s.now c.in-If.test c.in-If.then_part c.in-If.else_part c.args.active.now.items
+    (state_in c.args.run.now c.args.team.now.items) (state_in c.choice_on.new.run c.args.team.now.items) _ c.in-If.is
+    c.in_err-all-in-If.ensures.value c.in_err-all-in-If.ensures.heard)
+
+pub run_step-returns-in_err-chosen-in-If-clause-heard : goal.run_step-returns-in_err-chosen-in-If-clause-heard
+run_step-returns-in_err-chosen-in-If-clause-heard g t c =
+    let r = c.from_residual-in_err-chosen-in-If in
+    let p = err_from_is_err_and r.result r.ensures.1 in
+    rw (p.1, p.2)
+    (if_refused_heard g.H.Listener.hears g.H.Listener.gives_up c.args.listener.now c.choice_on.new.listener c.args.self.now.program.now
+    c.args.self.now.bound c.in-If.location c.args.s.now c.in-If.test c.in-If.then_part c.in-If.else_part c.args.active.now.items
+    (state_in c.args.run.now c.args.team.now.items) c.in-If.is c.in_ok-all-in-If.ensures.heard)
+
+pub run_step-returns-in_err-others-in-If-clause-heard : goal.run_step-returns-in_err-others-in-If-clause-heard
+run_step-returns-in_err-others-in-If-clause-heard g t c =
+    let r = c.from_residual-in_err-others-in-If in
+    let p = err_from_is_err_and r.result r.ensures.1 in
+    rw (p.1, p.2)
+    (if_refused_heard g.H.Listener.hears g.H.Listener.gives_up c.args.listener.now c.choice_on.new.listener c.args.self.now.program.now
+    c.args.self.now.bound c.in-If.location c.args.s.now c.in-If.test c.in-If.then_part c.in-If.else_part c.args.active.now.items
+    (state_in c.args.run.now c.args.team.now.items) c.in-If.is c.in_ok-all-in-If.ensures.heard)
+
+pub run_while_on-returns-in_err-current-clause-heard : goal.run_while_on-returns-in_err-current-clause-heard
+run_while_on-returns-in_err-current-clause-heard g t c =
+    let r = c.from_residual in
+    let p = err_from_is_err_and r.result r.ensures.1 in
+    let w = c.args.self.now.program.now in
+    let n = c.args.self.now.bound in
+    rw (p.1, p.2)
+    (part_none g.H.Listener.hears g.H.Listener.gives_up g.met.H.Listener.hears_nothing c.args.listener.now
+    (turns_on_moments (n + 1) (set_test_moment w n c.args.location (TurnsOn c.args.test.now) c.args.test.now)
+    (tested_on w n c.args.location.line c.args.test.now) (inner_list_moments w n c.args.body.now.items)
+    (perform_list_on w n c.args.body.now.items) c.args.active.now.items (state_in c.args.run.now c.args.team.now.items)))
+
+pub run_while_on-returns-in_err-chosen-clause-heard : goal.run_while_on-returns-in_err-chosen-clause-heard
+run_while_on-returns-in_err-chosen-clause-heard g t c =
+    let r = c.from_residual-in_err-chosen in
+    let p = err_from_is_err_and r.result r.ensures.1 in
+    rw (p.1, p.2)
+    (chosen_refused_heard g.H.Listener.hears g.H.Listener.gives_up c.args.self.now.program.now c.args.self.now.bound c.args.location
+    c.args.test.now c.args.body.now.items c.args.active.now.items c.turns.current.items (state_in c.args.run.now c.args.team.now.items)
+    (state_in c.turns.run c.turns.team.items) c.args.listener.now c.turns.listener c.test_on.new.listener c.turns.invariant.1
+    c.in_ok-all.ensures.heard)
+
+pub run_while_on-returns-in_err-all-clause-value : goal.run_while_on-returns-in_err-all-clause-value
+run_while_on-returns-in_err-all-clause-value g t c =
+    let r = c.from_residual-in_err-all in
+    let p = err_from_is_err_and r.result r.ensures.1 in
+    rw (p.1, p.2)
+    (test_halts c.args.self.now.program.now c.args.self.now.bound c.args.location.line c.args.test.now c.args.body.now.items
+    c.args.active.now.items c.turns.current.items (state_in c.args.run.now c.args.team.now.items)
+    (state_in c.turns.run c.turns.team.items) (state_in c.test_on.new.run c.turns.team.items) _ c.turns.invariant.0
+    c.in_err-all.ensures.value)
+
+pub run_while_on-returns-then-is_empty-clause-value : goal.run_while_on-returns-then-is_empty-clause-value
+run_while_on-returns-then-is_empty-clause-value g t c =
+    let z : length c.in_ok-chosen.chosen.items ≡ 0 = grind (arith, common_steps) in
+    turns_end c.args.self.now.program.now c.args.self.now.bound c.args.location.line c.args.test.now c.args.body.now.items
+    c.args.active.now.items c.turns.current.items c.in_ok-chosen.chosen.items (state_in c.args.run.now c.args.team.now.items)
+    (state_in c.turns.run c.turns.team.items) (state_in c.test_on.new.run c.turns.team.items) (map part_is c.in_ok-all.all.items)
+    c.turns.invariant.0 c.in_ok-all.ensures.value c.in_ok-chosen.ensures z

@@ -10,7 +10,7 @@ abbrev pub invariant-run_block_on-loop-s : goal.invariant-run_block_on-loop-s
 invariant-run_block_on-loop-s g l =
     InBlock l.self.program.now l.self.bound l.s-items l.active.items l.s-index (state_in l.fn.run l.fn.team.items)
     (state_in l.run l.team.items)
-    × BlockHeard g.H.Listener.hears l.self.program.now l.self.bound l.s-items l.active.items l.s-index
+    × BlockHeard g.H.Listener.hears g.H.Listener.gives_up l.self.program.now l.self.bound l.s-items l.active.items l.s-index
     (state_in l.fn.run l.fn.team.items) l.fn.listener (state_in l.run l.team.items) l.listener
 
 abbrev pub invariant-run_while_on-turns : goal.invariant-run_while_on-turns
@@ -18,7 +18,7 @@ invariant-run_while_on-turns g l =
     InTurns l.self.program.now l.self.bound l.location.line l.test l.body.items l.active.items
     (state_in l.fn.run l.fn.team.items) l.current.items
     (state_in l.run l.team.items)
-    × TurnsHeard g.H.Listener.hears l.self.program.now l.self.bound l.location l.test l.body.items l.active.items
+    × TurnsHeard g.H.Listener.hears g.H.Listener.gives_up l.self.program.now l.self.bound l.location l.test l.body.items l.active.items
     (state_in l.fn.run l.fn.team.items) l.fn.listener l.current.items (state_in l.run l.team.items) l.listener
 
 abbrev pub decreases-run_while_on-turns : goal.decreases-run_while_on-turns
