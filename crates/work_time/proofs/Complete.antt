@@ -1,9 +1,10 @@
 -- A whole run that was heard comes to the outcome, and is counted.
 use Rattle.std.proofs.Common.{◌≡◌, ℕ, List, ℤ, Result, Err, ap, sym, ◌∙◌, subst}
+use Rattle.std.specs.Bool.{⊤}
 use Rattle.pram_check.specs.Checked.{Checked}
 use Rattle.pram_meaning.specs.Bounded.{Goes, Reaches, Stops, perform_list}
-use Rattle.pram_meaning.specs.Listening.{UnlessRefused}
-use Rattle.pram_meaning.specs.Moments.{list_moments, run_moments}
+use Rattle.pram_meaning.specs.Listening.{HasHeard}
+use Rattle.pram_meaning.specs.Moments.{Moment, list_moments, run_moments}
 use Rattle.pram_meaning.specs.Outcome.{IsOutcome, opening}
 use Rattle.pram_meaning.specs.Runs.{state_of}
 use Rattle.pram_meaning.specs.Store.{State}
@@ -15,9 +16,10 @@ use Rattle.write_rules.specs.declared.fault.Fault.{Fault}
 use Rattle.pram_meaning.proofs.OneOutcome.{outcome_is}
 use Rattle.pram_meaning.proofs.References.{opens}
 use Rattle.work_time.specs.declared.ledger.Ledger.{Ledger}
+use Rattle.work_time.specs.declared.meter.Meter.{Meter}
 use Rattle.work_time.specs.Accounts.{entered_all, met_all, opened}
 use Rattle.work_time.specs.Counted.{counted}
-use Rattle.work_time.specs.Heard.{with_moments}
+use Rattle.work_time.specs.Heard.{HasCounted, with_moments}
 use Rattle.work_time.specs.Ledgers.{ledger_is}
 use Rattle.work_time.specs.Steps.{run_steps}
 use Rattle.work_time.proofs.MomentEvents.{events_are_met}
@@ -42,9 +44,10 @@ run_counted p input n q run old new o opens is =
     ∙ ap (λ es. entered_all q (run_steps p input n) (met_all es opened)) (sym (events_are_met p input n))
 
 -- what was heard of a run that halts, but for want of memory
-pub heard_of_fault : (r : Result (Unit {0}) Halt) (h : Halt) (k : Fault) (P : Type 0) → r ≡ Err h → h ≡ halt.Fault k →
-    UnlessRefused r P → P
-heard_of_fault r h k P e f heard = subst (λ r. UnlessRefused r P) (e ∙ ap Err f) heard
+pub heard_of_fault : (r : Result (Unit {0}) Halt) (h : Halt) (k : Fault) (a b : Meter) (ms : List Moment) → r ≡ Err h → h ≡ halt.Fault k →
+    HasHeard r HasCounted (λ a m b. ⊤) a ms b → HasCounted a ms b
+heard_of_fault r h k a b ms e f heard = subst (λ r. HasHeard r HasCounted (λ a m b. ⊤) a ms b) (e ∙ ap Err f) heard
 
-pub heard_at_bound : (r : Result (Unit {0}) Halt) (h : Halt) (P : Type 0) → r ≡ Err h → h ≡ halt.Bound → UnlessRefused r P → P
-heard_at_bound r h P e f heard = subst (λ r. UnlessRefused r P) (e ∙ ap Err f) heard
+pub heard_at_bound : (r : Result (Unit {0}) Halt) (h : Halt) (a b : Meter) (ms : List Moment) → r ≡ Err h → h ≡ halt.Bound →
+    HasHeard r HasCounted (λ a m b. ⊤) a ms b → HasCounted a ms b
+heard_at_bound r h a b ms e f heard = subst (λ r. HasHeard r HasCounted (λ a m b. ⊤) a ms b) (e ∙ ap Err f) heard

@@ -1,6 +1,6 @@
 //! Counting a run that is heard.
 
-ghost use Rattle.std.specs.Prelude.{◌≡◌, ◌≤◌, ◌^◌, OnOk};
+ghost use Rattle.std.specs.Prelude.{⊤, ◌≡◌, ◌≤◌, ◌^◌, OnOk};
 ghost use Rattle.pram_meaning.specs.Listening.{action_is, step_action_is};
 ghost use Rattle.work_time.specs.Accounts.{entered, met_all};
 ghost use Rattle.work_time.specs.Heard.{HasCounted};
@@ -67,6 +67,8 @@ impl Meter {
 /// What can't be counted is answered as if memory was refused: no run within a bound comes so far.
 impl Listener for Meter {
     ghost hears = { HasCounted };
+
+    ghost gives_up = { λ a m b. ⊤ };
 
     #[tactic(auto, using(crate::proofs::Heard::alone_counted))]
     fn acts(

@@ -25,7 +25,7 @@ returns-in-Err-Fault-clause-totals c =
     run_counted c.args.program.now c.args.input.now c.args.bound c.args.schedule c.in-Ok.run' c.new.result
     c.run_body-done.new.listener.ledger (opens c.args.program.now c.args.input.now c.in-Ok.run' e.count e.output e.uniforms e.cells)
     c.new.ensures
-    (heard_of_fault c.run_body-done.result c.in-Err-Fault.field-0 c.in-Err-Fault.fault _ c.in-Err-Fault.is f
+    (heard_of_fault c.run_body-done.result c.in-Err-Fault.field-0 c.in-Err-Fault.fault _ _ _ c.in-Err-Fault.is f
     c.run_body-done.ensures.heard).1
 
 pub returns-in-Err-Bound-clause-totals : goal.returns-in-Err-Bound-clause-totals
@@ -35,4 +35,4 @@ returns-in-Err-Bound-clause-totals c =
     run_counted c.args.program.now c.args.input.now c.args.bound c.args.schedule c.in-Ok.run' c.new.result
     c.run_body-done.new.listener.ledger (opens c.args.program.now c.args.input.now c.in-Ok.run' e.count e.output e.uniforms e.cells)
     c.new.ensures
-    (heard_at_bound c.run_body-done.result c.in-Err-Bound.field-0 _ c.in-Err-Bound.is f c.run_body-done.ensures.heard).1
+    (heard_at_bound c.run_body-done.result c.in-Err-Bound.field-0 _ _ _ c.in-Err-Bound.is f c.run_body-done.ensures.heard).1
