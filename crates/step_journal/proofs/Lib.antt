@@ -4,6 +4,7 @@ pub mod ActLists
 pub mod ThoseMet
 pub mod Applied
 pub mod Told
+pub mod FaultEntries
 pub mod Sound
 pub mod Parts
 pub mod Laws

@@ -1,15 +1,13 @@
 -- What is told, with one entry more, and lists that gain items.
-use Rattle.std.proofs.Common.{◌≡◌, ℤ, List, [], ◌∷◌, ◌++◌, append-nil, Option, Vec, Global, map, drop, length, refl, ap, sym, ◌∙◌}
+use Rattle.std.proofs.Common.{◌≡◌, ℤ, List, [], ◌∷◌, ◌++◌, append-nil, Vec, Global, map, drop, length, refl, ap, sym, ◌∙◌}
 use Rattle.pram_tokens.specs.declared.token.Location.{Location}
 use Rattle.step_entries.specs.declared.local_change.LocalChange.{LocalChange}
-use Rattle.write_rules.specs.declared.fault.Fault.{Fault}
 use Rattle.step_entries.specs.declared.act as act
 use Rattle.step_entries.specs.declared.cause as cause
 use Rattle.step_entries.specs.declared.change.Change.{Change}
 use Rattle.step_entries.specs.declared.entry as rust
 use Rattle.step_entries.specs.declared.entry.Entry.TheVariants as variant
-use Rattle.step_entries.specs.Causes.{known_cause}
-use Rattle.step_entries.specs.Entries.{Faulting, Ran, act_is, entry_is}
+use Rattle.step_entries.specs.Entries.{Ran, act_is, entry_is}
 
 map_push : (now : List rust.Entry.Entry) (x : rust.Entry.Entry) → map entry_is (now ++ x ∷ []) ≡ map entry_is now ++ entry_is x ∷ []
 map_push [] x = refl
@@ -21,10 +19,9 @@ pub ran_pushed : (here : Location) (acts : Vec act.Act.Act Global) (cells variab
 ran_pushed here acts cells variables locals items now new e = ap (map entry_is) e ∙ map_push now
     (variant.Ran here acts cells variables locals items)
 
-pub fault_pushed : (here : Location) (k : Fault) (why : Option cause.Cause.Cause) (acts : Vec act.Act.Act Global) (met : Vec ℤ Global)
-    (now new : List rust.Entry.Entry) → new ≡ now ++ variant.Faulted here k why acts met ∷ [] →
-    map entry_is new ≡ map entry_is now ++ Faulting here k (known_cause why) (map act_is acts.items) met.items ∷ []
-fault_pushed here k why acts met now new e = ap (map entry_is) e ∙ map_push now (variant.Faulted here k why acts met)
+pub pushed : (x : rust.Entry.Entry) (now new : List rust.Entry.Entry) → new ≡ now ++ x ∷ [] →
+    map entry_is new ≡ map entry_is now ++ entry_is x ∷ []
+pushed x now new e = ap (map entry_is) e ∙ map_push now x
 
 -- a list has gained what stands behind it
 pub gained : (xs more : List ℤ) → drop (length xs) (xs ++ more) ≡ more

@@ -1,28 +1,22 @@
 -- What a journal of a program's run is told of one moment, as an entry.
-use Rattle.std.proofs.Common.{◌≡◌, ℤ, Result, Ok, Err, List, [], ◌∷◌, ◌++◌, Option, None, Some, map, drop, length, refl, ap, sym}
+use Rattle.std.proofs.Common.{◌≡◌, ℤ, Result, Ok, Err, List, [], ◌∷◌, ◌++◌, None, map, drop, length, refl, ap, sym}
 use Rattle.std.proofs.Common.{◌∙◌}
 use Rattle.step_entries.specs.declared.local_change.LocalChange.{LocalChange}
 use Rattle.pram_tokens.specs.declared.token.Location.{Location}
-use Rattle.pram_values.specs.declared.kind.Kind.{Kind}
 use Rattle.pram_names.specs.declared.body.StepTarget.TheVariants as target
 use Rattle.pram_check.specs.Checked.{Checked}
-use Rattle.pram_meaning.specs.declared.key.Key.{Key}
-use Rattle.pram_meaning.specs.Attempt.{Effect, Fails, Gives, Trail}
+use Rattle.pram_meaning.specs.Attempt.{Effect, Gives, Trail}
 use Rattle.pram_meaning.specs.Conflict.{Part}
 use Rattle.pram_meaning.specs.Listening.{done_by, done_on}
 use Rattle.pram_meaning.specs.Moments.{Action, Alone, AssignsOn, ChoosesOn, StepAction, Together, TurnsOn}
 use Rattle.pram_meaning.specs.Store.{State}
 use Rattle.std.specs.Result.{OnOk}
 use Rattle.step_entries.specs.declared.change.Change.{Change}
-use Rattle.step_entries.specs.Causes.{Cause}
-use Rattle.step_entries.specs.Entries.{Act, Entry, Faulting, Ran}
-use Rattle.fault_causes.specs.Causes.{cause_on}
-use Rattle.step_journal.specs.Acts.{act_before, act_of, alone_acts, front}
+use Rattle.step_entries.specs.Entries.{Act, Entry, Ran}
+use Rattle.step_journal.specs.Acts.{act_of, alone_acts}
 use Rattle.step_journal.specs.Changes.{difference}
-use Rattle.step_journal.specs.Entries.{fault_alone, fault_on, why_alone}
 use Rattle.step_journal.specs.HeardLaws.{Heard}
 use Rattle.step_journal.specs.Locals.{locals_changed}
-use Rattle.step_journal.specs.Meeting.{meeting}
 use Rattle.step_journal.proofs.Differing.{none_of_it}
 use Rattle.step_journal.proofs.Pushed.{nothing_gained}
 
@@ -34,12 +28,6 @@ pub ran_alone : (p q : Checked) (here : Location) (act : Action) (m : State) (t 
     Heard p q old new (Alone here act m (Gives t g.cell) (done_by act g m) ∷ [])
 ran_alone p q here act m t g acts cells variables locals items old new s a c v l o e =
     (s, e ∙ ap (λ (x : Entry). old ++ x ∷ []) (λ i. Ran here (a i) (c i) (v i) (l i) (o i)))
-
-pub fell_alone : (p q : Checked) (here : Location) (act : Action) (m : State) (t : Trail) (k : Kind) (why : Option Cause) (acts : List Act)
-    (met : List ℤ) (old new : List Entry) → q ≡ p → why ≡ why_alone p m act → acts ≡ alone_acts (front (length t) t) None → met ≡ [] →
-    new ≡ old ++ Faulting here (fault_alone here.line k) why acts met ∷ [] → Heard p q old new (Alone here act m (Fails t k) m ∷ [])
-fell_alone p q here act m t k why acts met old new s c a w e =
-    (s, e ∙ ap (λ (x : Entry). old ++ x ∷ []) (λ i. Faulting here (fault_alone here.line k) (c i) (a i) (w i)))
 
 -- a set changes no uniform variable, and prints nothing
 cells_alone : (p : Checked) (act : StepAction) (xs : List Part) (m : State) →
@@ -70,10 +58,3 @@ ran_together p here act m xs acts cells variables locals items of mid_of new_of 
 pub both_added : {E : Type 0} (r : Result (Unit {0}) E) (P K Q : Type 0) → (P → K → Q) → OnOk r P → K → OnOk r Q
 both_added (Ok u) P K Q f h k = f h k
 both_added (Err e) P K Q f h k = tt
-
-pub fell_together : (p q : Checked) (here : Location) (act : StepAction) (m : State) (xs : List Part) (k : Key) (why : Option Cause)
-    (acts : List Act) (met : List ℤ) (old new : List Entry) → q ≡ p → why ≡ cause_on p m act k xs → acts ≡ map (act_before k.at) xs →
-    met ≡ meeting k xs → new ≡ old ++ Faulting here (fault_on here.line k) why acts met ∷ [] →
-    Heard p q old new (Together here act m xs (Some k) m ∷ [])
-fell_together p q here act m xs k why acts met old new s c a w e =
-    (s, e ∙ ap (λ (x : Entry). old ++ x ∷ []) (λ i. Faulting here (fault_on here.line k) (c i) (a i) (w i)))

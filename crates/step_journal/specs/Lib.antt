@@ -5,4 +5,6 @@ pub mod Changes
 pub mod Locals
 pub mod Entries
 pub mod Costs
+pub mod LastFault
+pub mod HeardFaults
 pub mod HeardLaws

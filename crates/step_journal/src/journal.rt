@@ -1,15 +1,13 @@
 //! What was told of a run.
 
 ghost use Rattle.std.specs.Prelude.{◌≡◌, ◌++◌, ◌∷◌, [], IfOk, OnOk, map};
-ghost use Rattle.step_entries.specs.Causes.{known_cause};
-ghost use Rattle.step_entries.specs.Entries.{Faulting, Ran, act_is, entry_is};
+ghost use Rattle.step_entries.specs.Entries.{Ran, act_is, entry_is};
 
 use pram_check::Program;
 use pram_meaning::slate::Slate;
 use pram_tokens::Location;
 use std::alloc::{AllocError, Global};
-use step_entries::{Act, Cause, Change, Entry, LocalChange};
-use write_rules::Fault;
+use step_entries::{Act, Change, Entry, LocalChange};
 
 /// What was told of the statements of a program's run so far, and what it takes to tell of more: the slate on which what a set writes is
 /// worked out.
@@ -62,27 +60,13 @@ impl<'a> Journal<'a> {
         Ok(())
     }
 
-    /// A statement has faulted, for this cause if it is known; these acted, and these met.
-    #[tactic(auto, using(crate::proofs::Pushed::fault_pushed))]
-    pub fn stop(
-        &mut self,
-        location: Location,
-        fault: Fault,
-        cause: Option<Cause>,
-        acts: Vec<Act>,
-        met: Vec<i64>,
-    ) -> Result<(), AllocError>
-        ensures added { OnOk result (map entry_is self.new.entries.items ≡ map entry_is self.old.entries.items
-            ++ Faulting location fault (known_cause cause) (map act_is acts.items) met.items ∷ []) }
+    /// A statement has faulted, as this entry tells.
+    #[tactic(auto, using(crate::proofs::Pushed::pushed))]
+    pub fn stop(&mut self, fault: Entry) -> Result<(), AllocError>
+        ensures added { OnOk result (map entry_is self.new.entries.items ≡ map entry_is self.old.entries.items ++ entry_is fault ∷ []) }
         ensures program { self.new.program.now ≡ self.old.program.now }
     {
-        self.entries.push(Entry::Faulted {
-            location,
-            fault,
-            cause,
-            acts,
-            met,
-        })?;
+        self.entries.push(fault)?;
         Ok(())
     }
 }

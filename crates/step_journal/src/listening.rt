@@ -1,15 +1,14 @@
 //! A journal listens to a run.
 
-ghost use Rattle.std.specs.Prelude.{map};
+ghost use Rattle.std.specs.Prelude.{⊤, map};
 ghost use Rattle.step_entries.specs.Entries.{entry_is};
 ghost use Rattle.step_journal.specs.HeardLaws.{Heard, heard_nothing, heard_on};
 
-use crate::acts::{acts_before, acts_of, alone_acts, front};
+use crate::acts::{acts_of, alone_acts};
 use crate::effects::{cells_changed, items_printed, variables_changed};
+use crate::faults::{fault_alone, fault_together};
 use crate::journal::Journal;
 use crate::locals::locals_changed;
-use crate::meetings::meeting;
-use fault_causes::{cause_alone, cause_on};
 use pram_check::Program;
 use pram_meaning::Key;
 use pram_meaning::action::{Action, StepAction};
@@ -19,13 +18,14 @@ use pram_meaning::part::Part;
 use pram_meaning::run::Run;
 use pram_meaning::team::Member;
 use pram_tokens::Location;
-use pram_values::{Kind, Place};
+use pram_values::Kind;
 use std::alloc::AllocError;
-use write_rules::Fault;
 
 impl<'a> Listener for Journal<'a> {
     ghost hears = { λ a ms b.
         Heard a.program.now b.program.now (map entry_is a.entries.items) (map entry_is b.entries.items) ms };
+
+    ghost gives_up = { λ a m b. ⊤ };
 
     #[tactic(auto, using(crate::proofs::Told::ran_alone))]
     fn acts(
@@ -44,7 +44,7 @@ impl<'a> Listener for Journal<'a> {
         self.add(location, acts, cells, variables, locals, items)
     }
 
-    #[tactic(auto, using(crate::proofs::Told::fell_alone))]
+    #[tactic(auto, using(crate::proofs::FaultEntries::fell_alone))]
     fn fails(
         &mut self,
         run: &Run,
@@ -53,14 +53,8 @@ impl<'a> Listener for Journal<'a> {
         trail: &[Option<u32>],
         kind: Kind,
     ) -> Result<(), AllocError> {
-        let acts = alone_acts(self.alloc, front(trail.len(), trail), None)?;
-        let fault = Fault {
-            kind,
-            line: location.line,
-            place: Place::All,
-        };
-        let cause = cause_alone(self.alloc, self.program, run, action);
-        self.stop(location, fault, cause, acts, Vec::new(self.alloc))
+        let fault = fault_alone(self.alloc, self.program, run, location, action, trail, kind)?;
+        self.stop(fault)
     }
 
     #[tactic(auto, using(crate::proofs::Told::ran_together))]
@@ -80,7 +74,7 @@ impl<'a> Listener for Journal<'a> {
         self.add(location, acts, cells, variables, locals, items)
     }
 
-    #[tactic(auto, using(crate::proofs::Told::fell_together))]
+    #[tactic(auto, using(crate::proofs::FaultEntries::fell_together))]
     fn fails_on(
         &mut self,
         run: &Run,
@@ -90,15 +84,17 @@ impl<'a> Listener for Journal<'a> {
         parts: &[Part],
         key: Key,
     ) -> Result<(), AllocError> {
-        let acts = acts_before(self.alloc, key.at, parts)?;
-        let met = meeting(self.alloc, key, parts)?;
-        let cause = cause_on(self.alloc, self.program, run, team, action, parts, key)?;
-        let fault = Fault {
-            kind: key.kind,
-            line: location.line,
-            place: key.place,
-        };
-        self.stop(location, fault, cause, acts, met)
+        let fault = fault_together(
+            self.alloc,
+            self.program,
+            run,
+            team,
+            location,
+            action,
+            parts,
+            key,
+        )?;
+        self.stop(fault)
     }
 
     fn closes(&mut self) -> Result<(), AllocError> {

@@ -7,8 +7,8 @@ use Rattle.step_entries.specs.Entries.{act_is, entry_is}
 use Rattle.step_journal.proofs.Told.{both_added, ran_together}
 use Rattle.step_journal.proofs.listening.JournalListener.acts_on.Goals as goal
 
-pub returns : goal.returns
-returns c =
+pub returns-clause-heard : goal.returns-clause-heard
+returns-clause-heard c =
     both_added c.add.result _ _ _
     (λ e s. ran_together c.args.program.now c.args.location (step_action_is c.args.action.now)
     (state_in c.args.run.now c.args.team.now.items)
