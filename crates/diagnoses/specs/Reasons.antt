@@ -1,5 +1,5 @@
 -- What is known of why a run faults.
-use Rattle.std.specs.Prelude.{ℕ, ℤ, List, [], ◌∷◌, Option, None}
+use Rattle.std.specs.Prelude.{ℕ, ℤ, List, [], ◌∷◌, Option, Some, None}
 use Rattle.pram_check.specs.Checked.{Checked}
 use Rattle.step_entries.specs.Causes.{Cause, known_cause}
 use Rattle.step_entries.specs.Entries.{Entry, Ran, Faulting}
@@ -25,6 +25,11 @@ abbrev pub reason_of : Checked → Entry → Reason
 reason_of p (Ran here acts cells variables locals items) = unknown
 reason_of p (Faulting here fault cause acts met) =
     record { cause = cause; met = met; at = wrong_element p here acts fault.place cause }
+
+-- what the entry of a fault tells, if there is one
+abbrev pub reason_in : Checked → Option Entry → Reason
+reason_in p None = unknown
+reason_in p (Some e) = reason_of p e
 
 -- what the last of these does, or this one
 abbrev pub last_reason : Checked → Reason → List Entry → Reason

@@ -1,6 +1,7 @@
 //! Why a run faults.
 
-ghost use Rattle.std.specs.Prelude.{◌≡◌, IfOk, IfSome, map};
+ghost use Rattle.std.specs.Prelude.{◌≡◌, IfOk, IfSome};
+ghost use Rattle.std.specs.Option.{option_map};
 ghost use Rattle.step_entries.specs.Entries.{entry_is};
 ghost use Rattle.diagnoses.specs.Reasons as spec;
 
@@ -8,7 +9,7 @@ use crate::wrong_element::wrong_element;
 use pram_check::Program;
 use std::alloc::{AllocError, Global};
 use step_entries::{Cause, Entry};
-use step_journal::steps_of;
+use step_journal::fault_of;
 
 /// What is known of why a run faults: the cause, if it is known; at a cell the processors that met there; and the offset of the element
 /// whose subscript is wrong, if it is that, in the text that is judged.
@@ -51,26 +52,27 @@ fn reason_of(alloc: Global, program: &Program, entry: Entry) -> Result<Reason, A
     }
 }
 
-// What the last entry tells of it.
-#[tactic(auto, using(crate::proofs::LastReason::last_told, crate::proofs::LastReason::none_told))]
-fn last_reason(alloc: Global, program: &Program, entries: Vec<Entry>) -> Result<Reason, AllocError>
-    ensures { IfOk result (λ reason. spec.reason_is reason
-        ≡ spec.last_reason program.now spec.unknown (map entry_is entries.items)) }
+// What the entry of a fault tells of it, if there is one.
+fn reason_in(alloc: Global, program: &Program, fault: Option<Entry>) -> Result<Reason, AllocError>
+    ensures { IfOk result (λ reason. spec.reason_is reason ≡ spec.reason_in program.now (option_map entry_is fault)) }
 {
-    let mut rest = entries;
-    match rest.pop() {
+    match fault {
         Some(entry) => reason_of(alloc, program, entry),
         None => Ok(Reason::unknown(alloc)),
     }
 }
 
-/// Why a program's run faults, found by running the meaning again. None where memory was refused, or where the input has more values than
+/// Why a program's run faults, found by running the meaning again, of which the fault alone is kept. None where memory was refused, or where the input has more values than
 /// there are cells.
+#[tactic(auto, using(crate::proofs::LastReason::reason_told))]
 pub fn run_reason(alloc: Global, program: &Program, input: &[i64], bound: u32) -> Option<Reason>
     ensures { IfSome result (λ reason. spec.reason_is reason ≡ spec.run_reason program.now input.now bound) }
 {
-    match steps_of(alloc, program, input, bound) {
-        Ok((_outcome, entries)) => last_reason(alloc, program, entries).ok(),
-        Err(_) => None,
+    let Ok(fault) = fault_of(alloc, program, input, bound) else {
+        return None;
+    };
+    match reason_in(alloc, program, fault) {
+        Ok(reason) => Some(reason),
+        Err(AllocError) => None,
     }
 }
