@@ -14,8 +14,9 @@ CRATE = Path(__file__).resolve().parent.parent / "crates" / "mpi_export"
 MOST_LINES = 1000
 FILES = {
     "state_text": ("what a rank has", ["head", "state", "faults", "values"]),
-    "exchange_text": ("what ranks exchange", ["exchange", "held", "joins", "sending", "module"]),
-    "run_text": ("the command line, the outcome and the run", ["options", "input", "outcome", "run", "start"]),
+    "exchange_text": ("what ranks exchange", ["exchange", "joins", "held", "sending", "module"]),
+    "opening_text": ("the command line, and what the cells begin with", ["options", "input", "memory", "opening"]),
+    "run_text": ("the outcome and the run", ["outcome", "run", "start"]),
 }
 SAYS = {
     "head": "What stands before the plan.",
@@ -23,12 +24,14 @@ SAYS = {
     "faults": "Faults, and the least key.",
     "values": "Values, the range and its masks.",
     "exchange": "Headers, messages, and the trace.",
+    "joins": "Cells that are met again, and the write rules.",
     "held": "The reads and writes that are held.",
-    "joins": "The write rules.",
-    "sending": "A send, from the side of the processors.",
-    "module": "A send from the side of the module, and a reply.",
+    "sending": "A send and a reply, from the side of the processors.",
+    "module": "A send, from the side of the module.",
     "options": "The command line.",
-    "input": "The input, and how its values are spread.",
+    "input": "Texts of values.",
+    "memory": "Texts of a memory, by names.",
+    "opening": "What the cells begin with, judged and spread.",
     "outcome": "The outcome, and the close.",
     "run": "The run, instruction by instruction.",
     "start": "The memory of a rank, and where it begins.",

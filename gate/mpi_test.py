@@ -1,11 +1,10 @@
 #!/usr/bin/env python3
 """Runs the C text of plans under MPI, and compares what it writes with pramc: the trace, the outcome and the exit status.
 
-mpi_test.py PROGRAM [--jobs N] [--drawn COUNT] [--seed S] [--only NAME] [--sanitize] -- EXPORT ..: EXPORT is `pramc export --listing`, or a
-command that is given listings, and writes the C text of each NAME.bsp into NAME.c. Each example, under each rule, by 1, 2, 3, 4 and 16
-ranks, with two maps and some bounds, and COUNT drawn programs: as many runs as ranks are the same are made in one start of MPI
-(gate/mpi/host.c). What is refused, each example under its own rule, and one beyond the limits of the language, by a start of its own. With
---sanitize a few runs alone, under the compiler's sanitizers.
+mpi_test.py PROGRAM [--jobs N] [--drawn COUNT] [--seed S] [--only NAME] [--sanitize]: Each example, under each rule, by 1, 2, 3, 4
+and 16 ranks, with two maps and some bounds, COUNT drawn programs, and memory texts: as many runs as ranks are the same are made in one
+start of MPI (gate/mpi/host.c). What is refused, each example under its own rule, and one beyond the limits of the language, by a start
+of its own. With --sanitize a few runs alone, under the compiler's sanitizers.
 """
 import argparse
 import os
@@ -25,6 +24,7 @@ RULES = ["erew", "crew", "common", "priority", "sum"]
 RANKS = [1, 2, 3, 4, 16]
 MAPS = ["identity", "affine:5,3"]
 RULE = re.compile(r"^rule (\w+);", re.M)
+DECLARED = re.compile(r"^(?:cell (\w+)|array (\w+) (\d+) (\d+))$", re.M)
 MPIRUN = ["mpirun", "--oversubscribe", "--bind-to", "none", "--mca", "mpi_yield_when_idle", "1", "--mca", "btl", "self,vader", "--mca",
           "pml", "ob1", "--quiet"]
 ENVIRONMENT = {**os.environ, "OMPI_ALLOW_RUN_AS_ROOT": "1", "OMPI_ALLOW_RUN_AS_ROOT_CONFIRM": "1"}
@@ -34,8 +34,8 @@ SANITIZERS = ["-g", "-fsanitize=address,undefined", "-fno-sanitize-recover=undef
 
 
 class Test:
-    def __init__(self, program, export, folder, jobs):
-        self.program, self.export, self.folder, self.jobs = program, export, folder, jobs
+    def __init__(self, program, folder, jobs):
+        self.program, self.folder, self.jobs = program, folder, jobs
         self.wrong, self.ends, self.hosted = [], {0: 0, 1: 0, 2: 0, 3: 0}, {ranks: [] for ranks in RANKS}
 
     def plan(self, name, text):
@@ -49,15 +49,10 @@ class Test:
         return self.folder / f"{name}.bsp"
 
     def export_all(self, listings):
-        """Has the C text of each listing written, by one call or, where pramc does it, by one for each."""
-        if "export" in self.export:
-            for it in listings:
-                it.with_suffix(".c").write_bytes(subprocess.run([*self.export, it], capture_output=True, check=True).stdout)
-            return
-        done = subprocess.run([*self.export, *listings], capture_output=True, text=True)
-        missing = [it for it in listings if not it.with_suffix(".c").exists()]
-        if missing:
-            sys.exit(f"mpi: {len(missing)} listings have no C text\n{done.stdout}{done.stderr}")
+        """Has the C text of each listing written."""
+        for it in listings:
+            text = subprocess.run([self.program, "export", "--listing", it], capture_output=True, check=True).stdout
+            it.with_suffix(".c").write_bytes(text)
 
     def compile_all(self, listings, suffix, flags):
         """Compiles each text without a warning."""
@@ -91,7 +86,8 @@ class Test:
             (self.folder / "list").write_text("".join(lines))
             with ThreadPoolExecutor(self.jobs) as pool:
                 wanted = list(pool.map(lambda call: self.wanted(call[0], call[1], ranks, plain(call)), calls))
-            done = subprocess.run([*MPIRUN, "-n", str(ranks), kept, self.folder / "list"], capture_output=True, text=True, env=ENVIRONMENT)
+            call = [*MPIRUN, "-n", str(ranks), kept, self.folder / "list"]
+            done = subprocess.run(call, capture_output=True, text=True, env=ENVIRONMENT)
             for number, call in enumerate(calls):
                 file = self.folder / f"out_{ranks}_{number}"
                 found = file.read_text() if file.exists() else f"nothing: {done.returncode} {done.stderr}\n"
@@ -105,7 +101,8 @@ class Test:
             own = {**ENVIRONMENT, "TMPDIR": session}
             done = subprocess.run(call, capture_output=True, text=True, timeout=300, env=own)
         told = [f"{it}\n" for it in done.stderr.splitlines() if it.startswith("refused") or "ERROR" in it or "runtime error" in it]
-        self.judge(call, self.wanted(verb, name, ranks, plain((verb, name, words))), f"{done.stdout}{''.join(told)}status {done.returncode}\n")
+        wanted = self.wanted(verb, name, ranks, plain((verb, name, words)))
+        self.judge(call, wanted, f"{done.stdout}{''.join(told)}status {done.returncode}\n")
 
     def start_all(self, calls):
         with ThreadPoolExecutor(self.jobs) as pool:
@@ -117,8 +114,20 @@ def plain(call):
     return [it for it in call[2] if it != "--trace"]
 
 
+def memory_of(listing, pick):
+    """A memory text for a listing: a line for each declaration, of an array for some of its cells, in any order."""
+    lines = []
+    for cell, array, low, high in DECLARED.findall(listing.read_text()):
+        first = 0 if cell else pick.randint(int(low), int(high))
+        last = first if cell else pick.randint(first, int(high))
+        values = " ".join(str(pick.randint(-1, 9)) for _ in range(min(last - first + 1, pick.randint(1, 40))))
+        lines.append(f"{cell} = {values}" if cell else f"{array}[{first}..{last}] = {values}  # {array}")
+    pick.shuffle(lines)
+    return "".join(f"{it}\n" for it in lines)
+
+
 def of_example(test, name, file, turn):
-    """The calls of a program: by all ranks and both maps, by the most ranks with one of them in turn, and by some bounds."""
+    """The calls of a program: by all ranks and both maps, by the most ranks with one of them in turn, by some bounds, and on a memory."""
     given = ["--input", file]
     for ranks in RANKS:
         for chosen in MAPS if ranks < RANKS[-1] else [MAPS[turn % 2]]:
@@ -128,6 +137,10 @@ def of_example(test, name, file, turn):
     for at, bound in enumerate([0, 1 + turn % 3, 5 + turn % 7, 17]):
         words = ["--trace", *given, "--bound", str(bound), "--outcome", "--map", MAPS[(turn + at) % 2]]
         test.hosted[RANKS[(turn + at) % 5]].append(("trace", name, words))
+    memory = test.folder / f"{name}.memory"
+    memory.write_text(memory_of(test.folder / f"{name}.bsp", random.Random(name)))
+    words = ["--trace", "--memory", memory, "--outcome", "--bound", "200", "--map", MAPS[turn % 2]]
+    test.hosted[RANKS[(turn + 2) % 5]].append(("trace", name, words))
 
 
 def examples(test, only):
@@ -160,12 +173,14 @@ def drawn(test, count, seed):
         listing = test.plan(name, drawer.text())
         if not listing:
             continue
-        values = test.folder / f"{name}.in"
-        values.write_text(" ".join(map(str, drawer.input())) + "\n")
+        given = test.folder / f"{name}.in"
+        is_memory = number % 3 == 2
+        values = " ".join(map(str, drawer.input())) + "\n"
+        given.write_text(memory_of(listing, random.Random(f"{seed} {number}")) if is_memory else values)
         listings.append(listing)
         for at, ranks in enumerate(RANKS):
-            words = ["--trace", "--input", values, "--map", MAPS[(number + at) % 2], "--outcome", "--bound"]
-            test.hosted[ranks].append(("trace", name, [*words, str(150 if at % 2 else number % 30)]))
+            words = ["--trace", "--memory" if is_memory else "--input", given, "--map", MAPS[(number + at) % 2], "--outcome"]
+            test.hosted[ranks].append(("trace", name, [*words, "--bound", str(150 if at % 2 else number % 30)]))
     test.export_all(listings)
     test.compile_all(listings, ".so", ["-O0", *HOSTED])
     return len(listings)
@@ -173,10 +188,18 @@ def drawn(test, count, seed):
 
 REFUSED = [b"1 2 x", b"1 -  2", b"1-2", b"9223372036854775808", b"-9223372036854775809", b"1 \x80", b"12a", b"--1", b"-", b"1 -",
            b"1\f2", b"7 " * 17, b"1 " * 524288 + b"2", b"1\x002", b"#"]
+# Of a program whose shared declarations are s, a[1..4] and t.
+MEMORIES = [b"", b"s = 7\na[1..4] = 1 2 3 4\nt = -9\n", b"t=-9\ns\t=\r\n", b"a = 1 2", b"  a [ 2 .. 3 ] = 8 9 # these\n# t = 1\n",
+            b"a = 1 2 3\na[2..2] = 7\ns = 1\ns = 2", b"\n\n  \r\n\t# nothing", b"a[1..1]=-9223372036854775808", b"s = 1 # \x00", b"s 7",
+            b"s", b"s # = 7", b"= 7", b"s = 1 x 2", b"t = 1\ns = 7 +1\n", b"a[1.2] = 1", b"a[1..2 = 1", b"a[..2] = 1", b"a[1. .2] = 1",
+            b"zz = 1 x", b"s = 1\n  zz = 1", b"a[2..5] = 1", b"a[ 0..2] = 1", b"a[2..1] = ", b"s[0..0] = 1", b"s = 1 2",
+            b"a[2..3] = 1 2 3\nzz", b"s = 9223372036854775808", b"s = 1\x00", b"s\x00 = 1", b"s = \x80", b"ss = 1", b"a1 = 1",
+            b"a[1..--2] = 1", b"a[1]=1", b"s == 1"]
 ACCEPTED = [b"", b" ", b"-9223372036854775808 9223372036854775807", b"007 -0 -1", b"\t1\r\n2 \n", b"5 " * 16]
 WORDS = [["--bound", "x"], ["--bound", "4294967296"], ["--bound", ""], ["--map", "affine:2,1"], ["--map", "affine:5"],
          ["--map", "affine:5,"], ["--map", "affine:4294967296,1"], ["--map", "identity,5"], ["--input", "/nonexistent"],
-         ["--map", "affine:4294967295,4294967295"], ["--bound", "0042"], ["--map", "affine:005,00"]]
+         ["--map", "affine:4294967295,4294967295"], ["--bound", "0042"], ["--map", "affine:005,00"], ["--memory", "/nonexistent"],
+         ["--memory", "-", "--input", "-"]]
 
 
 def refusals(test):
@@ -191,6 +214,20 @@ def refusals(test):
     test.export_all([listing])
     test.compile_all([listing], ".run", ["-O2"])
     test.start_all(calls)
+
+
+def memories(test):
+    """Memory texts, most of which are refused, by all ranks and both maps in turn."""
+    name = "memories"
+    text = "rule crew; procs 4; shared s; shared a[1..4]; shared t;\nbegin for 1 <= i <= 4 pardo a[i] := a[i] + s; end print t; end\n"
+    listing = test.plan(name, text)
+    for number, data in enumerate(MEMORIES):
+        file = test.folder / f"memories_{number}"
+        file.write_bytes(data)
+        for at, ranks in enumerate(RANKS):
+            test.hosted[ranks].append(("run", name, ["--memory", file, "--map", MAPS[(number + at) % 2]]))
+    test.export_all([listing])
+    test.compile_all([listing], ".so", ["-O0", *HOSTED])
 
 
 def grown(test, cells=2097152):
@@ -215,7 +252,8 @@ def grown(test, cells=2097152):
 def sanitized(test):
     """Some examples under each rule, with few ranks, where the compiler's sanitizers look on."""
     starts, listings = [], []
-    for stem in ["bitonic_sort", "conflict_sum", "faults", "matrix_product_sum", "out_of_range", "prefix_tree", "sum", "connected_components"]:
+    for stem in ["bitonic_sort", "conflict_sum", "faults", "matrix_product_sum", "out_of_range", "prefix_tree", "sum",
+                 "connected_components"]:
         file = TOP / "examples" / f"{stem}.pram"
         for at, rule in enumerate(RULES):
             name = f"{stem}.{rule}"
@@ -237,14 +275,14 @@ def main():
     options.add_argument("--seed", type=int, default=1)
     options.add_argument("--only", default="")
     options.add_argument("--sanitize", action="store_true")
-    at = sys.argv.index("--")
-    given, export = options.parse_args(sys.argv[1:at]), sys.argv[at + 1:]
+    given = options.parse_args()
     with tempfile.TemporaryDirectory() as folder:
-        test = Test(given.program.resolve(), export, Path(folder), given.jobs)
+        test = Test(given.program.resolve(), Path(folder), given.jobs)
         if given.sanitize:
             plans, more = sanitized(test), 0
         else:
             refusals(test)
+            memories(test)
             grown(test)
             plans = examples(test, given.only)
             more = drawn(test, given.drawn, given.seed)

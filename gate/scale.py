@@ -17,7 +17,8 @@ from pathlib import Path
 TOP = Path(__file__).resolve().parent.parent
 PAGE = TOP / "docs" / "SCALE.md"
 CELLS, RANKS = [20, 24, 28], [4, 64, 1024]
-# A word's and an exchange's price in operations on floating-point numbers, as published for machines of these classes.
+# A word's and an exchange's price in operations on floating-point numbers: examples of a size that has been published for machines of these
+# classes. Nothing of it was measured.
 MACHINES = {"torus": (78, 1825), "switch": (187, 148212)}
 
 

@@ -13,7 +13,7 @@ int plan_finalize(void) { return MPI_SUCCESS; }
 
 /* What a plan writes goes to its file, on standard error and behind that its status too. */
 static void run(int self, char **word, int words) {
-    if (self == 0 && (!freopen(word[1], "w", stdout) || !freopen(word[1], "a", stderr)))
+    if (self == 0 && (!freopen(word[1], "w", stdout) || !freopen(word[1], "a", stdout) || !freopen(word[1], "a", stderr)))
         MPI_Abort(MPI_COMM_WORLD, 9);
     void *plan = dlopen(word[0], RTLD_NOW | RTLD_LOCAL);
     void *entry = plan ? dlsym(plan, "plan_main") : NULL;
@@ -23,6 +23,7 @@ static void run(int self, char **word, int words) {
     memcpy(&run_plan, &entry, sizeof(entry));
     const int status = run_plan(words - 1, word + 1);
     dlclose(plan);
+    fflush(stdout), fflush(stderr);
     if (self == 0)
         printf("status %d\n", status);
     fflush(stdout);

@@ -1,6 +1,5 @@
 
 /* ---- Faults: a rank keeps the least key that it noted */
-
 enum kind { overflow, divide_by_zero, out_of_range, too_wide, read_conflict, write_conflict };
 enum place { place_all, place_processor, place_cell };
 
@@ -16,8 +15,8 @@ struct moment {
     uint64_t count, line, position;
 };
 
-static struct key noted;
-static const uint64_t sign = UINT64_C(1) << 63; /* turned round, numbers below 0 are before others */
+#define SIGN (UINT64_C(1) << 63) /* turned round, numbers below 0 are before others */
+static struct key noted = {false, {[key_number] = SIGN}};
 
 static void keep(struct key *least, const struct key *key) {
     int at = 0;
@@ -28,10 +27,11 @@ static void keep(struct key *least, const struct key *key) {
 }
 
 static void note(struct moment at, enum place place, int64_t number, enum kind kind) {
-    const struct key key = {true, {at.count, at.position, place, (uint64_t)number ^ sign, kind, at.line}};
+    const struct key key = {true, {at.count, at.position, place, (uint64_t)number ^ SIGN, kind, at.line}};
     keep(&noted, &key);
 }
 
 static struct moment now(int64_t position) { return (struct moment){count, line, (uint64_t)position}; }
-static void note_all(int64_t position, enum kind kind) { note(now(position), place_all, 0, kind); }
-static void note_own(int64_t position, size_t i, enum kind kind) { note(now(position), place_processor, index_of(i), kind); }
+static void note_at(enum side side, int64_t position, size_t i, enum kind kind) {
+    note(now(position), side == of_all ? place_all : place_processor, index_of(side, i), kind);
+}

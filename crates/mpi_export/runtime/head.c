@@ -1,13 +1,14 @@
 /* A plan for the bulk-synchronous machine, as a program in C11 over MPI.
  *
- *     mpicc -O2 -Wall -Wextra -pedantic plan.c -o plan
- *     mpirun -n 4 ./plan [--input FILE] [--bound N] [--map identity|affine:A,B] [--trace [--outcome]]
+ *     mpicc -O3 -Wall -Wextra -pedantic plan.c -o plan
+ *     mpirun -n 4 ./plan [--input FILE | --memory FILE] [--bound N] [--map identity|affine:A,B] [--trace [--outcome]]
  *
  * It runs on 1 to 1,024 ranks, and writes what `pramc run` writes, with --trace what `pramc trace` writes, and ends with the
  * same status: 0 it ended, 1 it faulted, 2 it was refused, 3 it met the bound. Input and output are rank 0's. The words that
  * ranks exchange, values, faults and counts are those of docs/MACHINE.md.
  *
  * What C, its compiler and MPI do isn't proved: the plan is, and that its words stand below. */
+#include <ctype.h>
 #include <inttypes.h>
 #include <mpi.h>
 #include <stdbool.h>
@@ -33,7 +34,7 @@ enum word {
 };
 
 /* How many bits of a word a cell's number has, and the most bytes of an input, as the limits of the language are. For larger
- * arrays raise them: CELL_BITS to at most 32, and 2 to that power is at least the number of all cells. */
+ * arrays raise them: CELL_BITS to at most 31, and 2 to that power is at least the number of all cells. */
 #define CELL_BITS 20
 #define INPUT_BYTES 1048576
 

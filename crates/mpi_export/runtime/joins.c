@@ -1,22 +1,19 @@
 
 /* ---- The cells that were met in this turn, each with a number: a table of at least twice as many places as can be met */
-
 static struct met {
-    uint64_t cell;
-    uint32_t turn, number;
+    uint32_t cell, turn, number;
 } *table;
-static uint64_t last_place;
-static uint32_t turn;
+static uint32_t last_place, turn;
 
 static void next_turn(void) {
     if (++turn == 0) /* once round: what stands there would be taken for this turn's */
-        memset(table, 0, (size_t)(last_place + 1) * sizeof(*table)), turn = 1;
+        memset(table, 0, ((size_t)last_place + 1) * sizeof(*table)), turn = 1;
 }
 
 /* The number of a cell; `next` where it is met for the first time. It is looked for at its own place first. */
-static uint32_t met(uint64_t cell, uint32_t next) {
-    const uint64_t step = cell * UINT64_C(0x9E3779B97F4A7C15) >> 32 | 1;
-    uint64_t at = cell & last_place;
+static inline uint32_t met(uint32_t cell, uint32_t next) {
+    const uint32_t step = (uint32_t)(cell * UINT64_C(0x9E3779B97F4A7C15) >> 32) | 1;
+    uint32_t at = cell & last_place;
     while (table[at].turn == turn && table[at].cell != cell)
         at = (at + step) & last_place;
     if (table[at].turn != turn)
@@ -25,6 +22,12 @@ static uint32_t met(uint64_t cell, uint32_t next) {
 }
 
 /* ---- The write rules: two entries of one cell, joined */
+struct writers {
+    wide value;
+    int64_t index;
+    uint32_t cell;
+    bool is_conflict;
+};
 
 static void join(struct writers *into, const struct writers *with) {
     if (RULE == rule_sum)
@@ -39,18 +42,4 @@ static void join(struct writers *into, const struct writers *with) {
         return;
     into->index = with->index;
     into->value = RULE == rule_sum ? into->value : with->value;
-}
-
-/* Leaves of the held writes one entry for each cell, in the order in which the cells were first held. */
-static void join_held(void) {
-    uint32_t different = 0;
-    next_turn();
-    for (size_t i = 0; i < writes; i++) {
-        const uint32_t number = met(held[i].cell, different);
-        if (number < different)
-            join(&held[number], &held[i]);
-        else
-            held[different++] = held[i];
-    }
-    writes = different;
 }

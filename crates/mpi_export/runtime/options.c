@@ -1,13 +1,10 @@
 
 /* ---- The command line and the input, which rank 0 judges for all */
-
 static struct {
-    const char *input;
+    const char *input, *memory;
     uint64_t bound;
     bool is_affine;
-} options = {NULL, 1000000, false};
-
-static uint64_t given; /* how many values the input has */
+} options = {NULL, NULL, 1000000, false};
 
 #define REFUSE(...) return fprintf(stderr, "refused " __VA_ARGS__), fputc('\n', stderr), false
 
@@ -34,19 +31,22 @@ static bool is_map(const char *word) {
 /* Takes the words of the command line; the one that is refused, or null. */
 static const char *wrong_word(char **word) {
     bool is_told = false;
-    for (word++; *word; word++) {
-        const bool is_bound = strcmp(*word, "--bound") == 0, is_for_map = strcmp(*word, "--map") == 0;
-        if (strcmp(*word, "--trace") == 0)
+    for (const char *option = *++word; option; option = *++word) {
+        if (strcmp(option, "--trace") == 0)
             tracing = true;
-        else if (strcmp(*word, "--outcome") == 0)
+        else if (strcmp(option, "--outcome") == 0)
             is_told = true;
-        else if (!word[1] || !(is_bound || is_for_map || strcmp(*word, "--input") == 0))
+        else if (!word[1])
+            return option;
+        else if (strcmp(option, "--input") == 0)
+            options.input = *++word;
+        else if (strcmp(option, "--memory") == 0)
+            options.memory = *++word;
+        else if (strcmp(option, "--bound") == 0 && !is_word_number(*++word, &options.bound))
             return *word;
-        else if (word++, (is_bound && !is_word_number(*word, &options.bound)) || (is_for_map && !is_map(*word)))
+        else if (strcmp(option, "--map") == 0 ? !is_map(*++word) : strcmp(option, "--bound") != 0)
             return *word;
-        else if (!is_bound && !is_for_map)
-            options.input = *word;
     }
     is_silent = tracing && !is_told;
-    return NULL;
+    return options.input && options.memory ? "--memory" : NULL;
 }

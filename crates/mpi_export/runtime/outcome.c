@@ -1,7 +1,6 @@
 
 /* ---- The outcome, which rank 0 writes */
-
-static struct {
+static struct item {
     uint64_t count;
     int64_t value;
 } *items;
@@ -16,31 +15,29 @@ static void print(int64_t value) {
         if (!items)
             stop("refused E16 OutOfMemory");
     }
-    items[printed].count = count;
-    items[printed++].value = value;
+    items[printed++] = (struct item){count, value};
 }
 
 static uint64_t size_of(const struct entry *entry) { return (uint64_t)entry->high - (uint64_t)entry->low + 1; }
 
 /* The line of an entry; its values come from all ranks, in parts. */
 static void write_entry(const struct entry *entry, uint64_t first) {
-    uint64_t *mine = fresh(part, sizeof(uint64_t)), *all = fresh(part, sizeof(uint64_t));
-    const uint64_t end = first + size_of(entry);
+    static uint64_t mine[part], all[part];
+    const uint64_t behind = first + size_of(entry);
     if (self == 0 && entry->form == entry_array)
         printf("%s[%" PRId64 "..%" PRId64 "] =", entry->name, entry->low, entry->high);
     else if (self == 0)
         printf("%s =", entry->name);
-    for (uint64_t from = first; from < end; from += part) {
-        const uint64_t here = end - from < part ? end - from : part;
-        for (uint64_t i = 0; i < here; i++)
+    for (uint64_t from = first; from < behind; from += part) {
+        const uint64_t few = behind - from < part ? behind - from : part;
+        for (uint64_t i = 0; i < few; i++)
             mine[i] = module_of(from + i) == self ? (uint64_t)cells[offset_of(from + i)] : 0;
-        MPI_Reduce(mine, all, (int)here, MPI_UINT64_T, MPI_BOR, 0, MPI_COMM_WORLD);
-        for (uint64_t i = 0; self == 0 && i < here; i++)
+        MPI_Reduce(mine, all, (int)few, MPI_UINT64_T, MPI_BOR, 0, MPI_COMM_WORLD);
+        for (uint64_t i = 0; self == 0 && i < few; i++)
             printf(" %" PRId64, (int64_t)all[i]);
     }
     if (self == 0)
         printf("\n");
-    free(mine), free(all);
 }
 
 /* A cell by its name, as a[4]. */
@@ -56,7 +53,7 @@ static void write_cell(uint64_t cell) {
 static void write_fault(void) {
     static const char *const words[] = {"overflow", "divide-by-zero", "out-of-range", "too-wide", "read-conflict",
         "write-conflict"};
-    const uint64_t *of = least.of, number = of[key_number] ^ sign;
+    const uint64_t *of = least.of, number = of[key_number] ^ SIGN;
     printf("fault %s ", words[of[key_kind]]);
     if (of[key_place] == place_cell)
         write_cell(number);
@@ -86,6 +83,6 @@ static enum status told(enum status status) {
 static enum status closed(enum status status) {
     if (is_put_held)
         is_over_at_send();
-    exchange_no_words("close", false);
+    exchange(for_close, false);
     return told(least.is ? status_faulted : status);
 }

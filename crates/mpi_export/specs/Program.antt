@@ -8,8 +8,9 @@ use Rattle.superstep_instructions.specs.declared.instr.Instr.{Instr}
 use Rattle.superstep_instructions.specs.Code.{SuperstepCode}
 use Rattle.superstep_listing.specs.Listing.{side_of, stem_of, numbers_of}
 use Rattle.mpi_export.specs.declared.state_text.TheConstants.{HEAD, STATE, FAULTS, VALUES}
-use Rattle.mpi_export.specs.declared.exchange_text.TheConstants.{EXCHANGE, HELD, JOINS, SENDING, MODULE}
-use Rattle.mpi_export.specs.declared.run_text.TheConstants.{OPTIONS, INPUT, OUTCOME, RUN, START}
+use Rattle.mpi_export.specs.declared.exchange_text.TheConstants.{EXCHANGE, JOINS, HELD, SENDING, MODULE}
+use Rattle.mpi_export.specs.declared.opening_text.TheConstants.{OPTIONS, INPUT, MEMORY, OPENING}
+use Rattle.mpi_export.specs.declared.run_text.TheConstants.{OUTCOME, RUN, START}
 
 -- A number in C. A negative one is a complement, ~4 for -5, since C has no literal for the least of 64 bits.
 abbrev pub c_number : ℤ → List ℕ
@@ -60,8 +61,8 @@ instructions code =
 
 -- what stands behind the plan
 abbrev pub runtime : List ℕ
-runtime = STATE ++ (FAULTS ++ (VALUES ++ (EXCHANGE ++ (HELD ++ (JOINS ++ (SENDING ++ (MODULE ++ (OPTIONS ++ (INPUT ++ (OUTCOME ++ (RUN
-    ++ START)))))))))))
+runtime = STATE ++ (FAULTS ++ (VALUES ++ (EXCHANGE ++ (JOINS ++ (HELD ++ (SENDING ++ (MODULE ++ (OPTIONS ++ (INPUT ++ (MEMORY ++ (OPENING
+    ++ (OUTCOME ++ (RUN ++ START)))))))))))))
 
 abbrev pub c_text : SuperstepCode → List ℕ
 c_text code = HEAD ++ (declarations code ++ (instructions code ++ runtime))

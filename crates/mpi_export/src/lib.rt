@@ -2,6 +2,7 @@
 #![tactic(auto)]
 
 mod exchange_text;
+mod opening_text;
 mod printer;
 mod program;
 pub mod program_laws;

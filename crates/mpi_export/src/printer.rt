@@ -6,7 +6,8 @@ ghost use Rattle.text_out.specs.Printing.{MayFail, Prints, printing};
 ghost use Rattle.mpi_export.specs.Program as spec;
 
 use crate::exchange_text::{EXCHANGE, HELD, JOINS, MODULE, SENDING};
-use crate::run_text::{INPUT, OPTIONS, OUTCOME, RUN, START};
+use crate::opening_text::{INPUT, MEMORY, OPENING, OPTIONS};
+use crate::run_text::{OUTCOME, RUN, START};
 use crate::spell::{letter, numbers, rule_text, stem};
 use crate::state_text::{FAULTS, HEAD, STATE, VALUES};
 use itoa::Buffer;
@@ -205,12 +206,14 @@ impl<'a, W: Out> Printer<'a, W> {
         self.text(&FAULTS);
         self.text(&VALUES);
         self.text(&EXCHANGE);
-        self.text(&HELD);
         self.text(&JOINS);
+        self.text(&HELD);
         self.text(&SENDING);
         self.text(&MODULE);
         self.text(&OPTIONS);
         self.text(&INPUT);
+        self.text(&MEMORY);
+        self.text(&OPENING);
         self.text(&OUTCOME);
         self.text(&RUN);
         self.text(&START);

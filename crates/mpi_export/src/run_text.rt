@@ -1,136 +1,9 @@
-//! The text of the runtime: the command line, the outcome and the run. Written by `gate/mpi.py` from the files of `runtime/`.
-
-/// The command line.
-pub(crate) const OPTIONS: [u8; 2070] = *b"
-/* ---- The command line and the input, which rank 0 judges for all */
-
-static struct {
-    const char *input;
-    uint64_t bound;
-    bool is_affine;
-} options = {NULL, 1000000, false};
-
-static uint64_t given; /* how many values the input has */
-
-#define REFUSE(...) return fprintf(stderr, \"refused \" __VA_ARGS__), fputc('\\n', stderr), false
-
-/* Whether a text is decimal digits, of a number that is at most `most`. */
-static bool is_number(const char *text, size_t length, uint64_t most, uint64_t *number) {
-    *number = 0;
-    for (size_t i = 0; i < length; i++) {
-        const uint64_t digit = (uint64_t)(text[i] - '0');
-        if (digit > 9 || *number > (most - digit) / 10)
-            return false;
-        *number = 10 * *number + digit;
-    }
-    return length > 0;
-}
-static bool is_word_number(const char *word, uint64_t *number) { return is_number(word, strlen(word), UINT32_MAX, number); }
-
-static bool is_map(const char *word) {
-    const char *comma = strchr(word, ',');
-    options.is_affine = strcmp(word, \"identity\") != 0;
-    return !options.is_affine || (strncmp(word, \"affine:\", 7) == 0 && comma && is_word_number(comma + 1, &shift)
-        && is_number(word + 7, (size_t)(comma - word) - 7, UINT32_MAX, &factor));
-}
-
-/* Takes the words of the command line; the one that is refused, or null. */
-static const char *wrong_word(char **word) {
-    bool is_told = false;
-    for (word++; *word; word++) {
-        const bool is_bound = strcmp(*word, \"--bound\") == 0, is_for_map = strcmp(*word, \"--map\") == 0;
-        if (strcmp(*word, \"--trace\") == 0)
-            tracing = true;
-        else if (strcmp(*word, \"--outcome\") == 0)
-            is_told = true;
-        else if (!word[1] || !(is_bound || is_for_map || strcmp(*word, \"--input\") == 0))
-            return *word;
-        else if (word++, (is_bound && !is_word_number(*word, &options.bound)) || (is_for_map && !is_map(*word)))
-            return *word;
-        else if (!is_bound && !is_for_map)
-            options.input = *word;
-    }
-    is_silent = tracing && !is_told;
-    return NULL;
-}
-";
-
-/// The input, and how its values are spread.
-pub(crate) const INPUT: [u8; 2521] = *b"
-static bool is_value(const char *text, size_t length, int64_t *value) {
-    uint64_t number;
-    const bool minus = text[0] == '-';
-    const bool fits = is_number(text + minus, length - minus, (uint64_t)INT64_MAX + minus, &number);
-    *value = (int64_t)(minus ? 0 - number : number);
-    return fits;
-}
-
-/* The values of a text that ends with a null byte. */
-static bool are_values(const char *text, size_t length, int64_t *values) {
-    for (size_t i = 0; i < length; i++)
-        if ((unsigned char)text[i] >= 128)
-            REFUSE(\"E1 NotAscii at %zu\", i);
-    for (size_t i = 0; i < length;) {
-        size_t end = i;
-        while (end < length && !(text[end] && strchr(\" \\t\\n\\r\", text[end])))
-            end++;
-        if (end > i && !is_value(text + i, end - i, &values[given++]))
-            REFUSE(\"E3 BadToken at %zu\", i);
-        i = end + 1;
-    }
-    return true;
-}
-
-static bool is_input_read(int64_t **values) {
-    FILE *file = strcmp(options.input, \"-\") == 0 ? stdin : fopen(options.input, \"rb\");
-    char *text = fresh((size_t)INPUT_BYTES + 1, 1);
-    const size_t length = file ? fread(text, 1, (size_t)INPUT_BYTES + 1, file) : 0;
-    if (!file || ferror(file))
-        REFUSE(\"P2 %s\", options.input);
-    if (length > INPUT_BYTES)
-        REFUSE(\"E2 TextTooLong\");
-    *values = fresh(length / 2 + 1, sizeof(int64_t));
-    const bool is_read = are_values(text, length, *values);
-    free(text);
-    return is_read;
-}
-
-static bool is_accepted(const char *wrong, int64_t **values) {
-    if (wrong)
-        REFUSE(\"P1 %s\", wrong);
-    if (options.input && !is_input_read(values))
-        return false;
-    if (ranks > most_ranks)
-        REFUSE(\"E13 BadWorkers\");
-    if (options.is_affine && factor % 2 == 0)
-        REFUSE(\"E12 BadMap\");
-    if (given > all_cells)
-        REFUSE(\"E11 InputTooLong\");
-    return true;
-}
-
-/* Gives each cell of this rank its value, from rank 0, in parts. */
-static void spread(const int64_t *values) {
-    int64_t *some = fresh(part, sizeof(int64_t));
-    MPI_Bcast(&given, 1, MPI_UINT64_T, 0, MPI_COMM_WORLD);
-    for (uint64_t from = 0; from < given; from += part) {
-        const uint64_t here = given - from < part ? given - from : part;
-        if (self == 0)
-            memcpy(some, values + from, here * sizeof(int64_t));
-        MPI_Bcast(some, (int)here, MPI_INT64_T, 0, MPI_COMM_WORLD);
-        for (uint64_t i = 0; i < here; i++)
-            if (module_of(from + i) == self)
-                cells[offset_of(from + i)] = some[i];
-    }
-    free(some);
-}
-";
+//! The text of the runtime: the outcome and the run. Written by `gate/mpi.py` from the files of `runtime/`.
 
 /// The outcome, and the close.
-pub(crate) const OUTCOME: [u8; 3416] = *b"
+pub(crate) const OUTCOME: [u8; 3329] = *b"
 /* ---- The outcome, which rank 0 writes */
-
-static struct {
+static struct item {
     uint64_t count;
     int64_t value;
 } *items;
@@ -145,31 +18,29 @@ static void print(int64_t value) {
         if (!items)
             stop(\"refused E16 OutOfMemory\");
     }
-    items[printed].count = count;
-    items[printed++].value = value;
+    items[printed++] = (struct item){count, value};
 }
 
 static uint64_t size_of(const struct entry *entry) { return (uint64_t)entry->high - (uint64_t)entry->low + 1; }
 
 /* The line of an entry; its values come from all ranks, in parts. */
 static void write_entry(const struct entry *entry, uint64_t first) {
-    uint64_t *mine = fresh(part, sizeof(uint64_t)), *all = fresh(part, sizeof(uint64_t));
-    const uint64_t end = first + size_of(entry);
+    static uint64_t mine[part], all[part];
+    const uint64_t behind = first + size_of(entry);
     if (self == 0 && entry->form == entry_array)
         printf(\"%s[%\" PRId64 \"..%\" PRId64 \"] =\", entry->name, entry->low, entry->high);
     else if (self == 0)
         printf(\"%s =\", entry->name);
-    for (uint64_t from = first; from < end; from += part) {
-        const uint64_t here = end - from < part ? end - from : part;
-        for (uint64_t i = 0; i < here; i++)
+    for (uint64_t from = first; from < behind; from += part) {
+        const uint64_t few = behind - from < part ? behind - from : part;
+        for (uint64_t i = 0; i < few; i++)
             mine[i] = module_of(from + i) == self ? (uint64_t)cells[offset_of(from + i)] : 0;
-        MPI_Reduce(mine, all, (int)here, MPI_UINT64_T, MPI_BOR, 0, MPI_COMM_WORLD);
-        for (uint64_t i = 0; self == 0 && i < here; i++)
+        MPI_Reduce(mine, all, (int)few, MPI_UINT64_T, MPI_BOR, 0, MPI_COMM_WORLD);
+        for (uint64_t i = 0; self == 0 && i < few; i++)
             printf(\" %\" PRId64, (int64_t)all[i]);
     }
     if (self == 0)
         printf(\"\\n\");
-    free(mine), free(all);
 }
 
 /* A cell by its name, as a[4]. */
@@ -185,7 +56,7 @@ static void write_cell(uint64_t cell) {
 static void write_fault(void) {
     static const char *const words[] = {\"overflow\", \"divide-by-zero\", \"out-of-range\", \"too-wide\", \"read-conflict\",
         \"write-conflict\"};
-    const uint64_t *of = least.of, number = of[key_number] ^ sign;
+    const uint64_t *of = least.of, number = of[key_number] ^ SIGN;
     printf(\"fault %s \", words[of[key_kind]]);
     if (of[key_place] == place_cell)
         write_cell(number);
@@ -215,18 +86,17 @@ static enum status told(enum status status) {
 static enum status closed(enum status status) {
     if (is_put_held)
         is_over_at_send();
-    exchange_no_words(\"close\", false);
+    exchange(for_close, false);
     return told(least.is ? status_faulted : status);
 }
 ";
 
 /// The run, instruction by instruction.
-pub(crate) const RUN: [u8; 2470] = *b"
+pub(crate) const RUN: [u8; 2493] = *b"
 /* ---- The run */
-
 #define OPERATION(name, left, right, position) \\
-    case op_u##name: on_uniform(op_u##name, at[1], left, right, position); break; \\
-    case op_p##name: on_own(op_u##name, at[1], left, right, position); break;
+    case op_u##name: operate(of_all, op_u##name, at[1], left, right, position); break; \\
+    case op_p##name: operate(of_each, op_u##name, at[1], left, right, position); break;
 
 /* An instruction that neither exchanges nor goes anywhere. */
 static void act(const int64_t *at) {
@@ -237,18 +107,18 @@ static void act(const int64_t *at) {
     OPERATION(eq, at[2], at[3], 0) OPERATION(lt, at[2], at[3], 0) OPERATION(le, at[2], at[3], 0)
     OPERATION(and, at[2], at[3], 0) OPERATION(or, at[2], at[3], 0)
     case op_uset: uniform[at[1]] = at[2]; break;
-    case op_pset: set_own(at[1], at[2]); break;
-    case op_pfrom: set_own(at[1], uniform[at[2]]); break;
-    case op_pindex: set_index(at[1]); break;
+    case op_pset: fill(at[1], at[2], 0); break;
+    case op_pfrom: fill(at[1], uniform[at[2]], 0); break;
+    case op_pindex: fill(at[1], index_of(of_each, 0), ranks); break;
     case op_enter: enter(uniform[at[1]], uniform[at[2]], at[3]); break;
     case op_leave: set_width(0); break;
     case op_mask: mask(at[1]); break;
     case op_flip: flip(); break;
-    case op_unmask: active -= room; break;
-    case op_uask: ask_uniform(at[1], at[2], at[3], at[4]); break;
-    case op_pask: ask_own(at[1], at[2], at[3], at[4]); break;
-    case op_uput: put_uniform(at[1], at[2], at[3], at[4]); break;
-    case op_pput: put_own(at[1], at[2], at[3], at[4]); break;
+    case op_unmask: on--; break;
+    case op_uask: ask(of_all, at[1], at[2], at[3], at[4]); break;
+    case op_pask: ask(of_each, at[1], at[2], at[3], at[4]); break;
+    case op_uput: put(of_all, at[1], at[2], at[3], at[4]); break;
+    case op_pput: put(of_each, at[1], at[2], at[3], at[4]); break;
     case op_print: print(uniform[at[1]]); break;
     default: stop(\"a word that is no instruction\");
     }
@@ -268,7 +138,7 @@ static enum status run(void) {
         case op_send: is_over = is_over_at_send(); break;
         case op_reply: is_over = is_over_at_reply(); break;
         case op_vote:
-            is_over = exchange_no_words(\"vote\", active_from(0) < own);
+            is_over = exchange(for_vote, on->many > 0);
             uniform[at[1]] = any_active;
             break;
         case op_jump: place = at[1]; break;
@@ -282,7 +152,7 @@ static enum status run(void) {
 ";
 
 /// The memory of a rank, and where it begins.
-pub(crate) const START: [u8; 2480] = *b"
+pub(crate) const START: [u8; 2621] = *b"
 static void take_cells(void) {
     first_of = fresh(sizeof(entries) / sizeof(entries[0]), sizeof(uint64_t));
     for (size_t k = 0; entries[k].form != entry_end; k++) {
@@ -301,39 +171,42 @@ static void take_cells(void) {
 
 /* Takes memory for as many reads and masks as are at once on; verified code has at most 8 and 64. */
 static void take_processors(void) {
-    size_t here = 0, most = 1, levels_of = 1;
+    size_t here = 0, most = 1, lists_of = 1;
     for (size_t i = 0; i < sizeof(plan) / sizeof(plan[0]); i++) {
         const int64_t word = plan[i][0];
         here = word == op_send ? 0 : here + (word == op_uask || word == op_pask);
         most = here > most && here <= most_reads ? here : most;
-        levels_of += word == op_mask && levels_of <= most_masks;
+        lists_of += word == op_mask && lists_of <= most_masks;
     }
     room = ((size_t)PROCS + (size_t)ranks - 1) / (size_t)ranks;
     uniform = fresh(UNIFORM, sizeof(int64_t));
     registers = fresh((size_t)PRIVATE * room, sizeof(int64_t));
-    active = levels = fresh(levels_of * room, 1);
+    levels[0].list = lists = fresh(lists_of * room, sizeof(uint32_t));
+    for (size_t i = 0; i < room; i++)
+        lists[i] = (uint32_t)i;
+    others = fresh(room, sizeof(uint32_t));
     held = fresh(room, sizeof(*held));
     for (size_t k = 0; k < most; k++)
-        reads[k].asked = fresh(room, sizeof(uint64_t));
+        reads[k].asked = fresh(room, sizeof(uint32_t));
     list = fresh(most * room, sizeof(*list));
-    for (last_place = 1; last_place + 1 < 2 * room;)
+    for (last_place = 1; (size_t)last_place + 1 < 2 * room;)
         last_place = 2 * last_place + 1;
     table = fresh((size_t)last_place + 1, sizeof(*table));
 }
 
 int main(int words, char **word) {
-    int64_t *values = NULL;
     int status = status_refused;
     MPI_Init(&words, &word);
     MPI_Comm_size(MPI_COMM_WORLD, &ranks);
     MPI_Comm_rank(MPI_COMM_WORLD, &self);
+    inverse = UINT64_MAX / (uint64_t)ranks;
     take_cells();
     const char *wrong = wrong_word(word);
-    bool is_fine = self == 0 && is_accepted(wrong, &values);
+    bool is_fine = self == 0 && is_accepted(wrong);
     MPI_Bcast(&is_fine, 1, MPI_C_BOOL, 0, MPI_COMM_WORLD);
     if (is_fine) {
         take_processors();
-        spread(values);
+        spread();
         status = run();
     }
     if (self == 0 && (fflush(stdout) != 0 || ferror(stdout)))

@@ -1,17 +1,18 @@
 //! The text of the runtime: what a rank has. Written by `gate/mpi.py` from the files of `runtime/`.
 
 /// What stands before the plan.
-pub(crate) const HEAD: [u8; 2141] =
+pub(crate) const HEAD: [u8; 2176] =
     *b"/* A plan for the bulk-synchronous machine, as a program in C11 over MPI.
  *
- *     mpicc -O2 -Wall -Wextra -pedantic plan.c -o plan
- *     mpirun -n 4 ./plan [--input FILE] [--bound N] [--map identity|affine:A,B] [--trace [--outcome]]
+ *     mpicc -O3 -Wall -Wextra -pedantic plan.c -o plan
+ *     mpirun -n 4 ./plan [--input FILE | --memory FILE] [--bound N] [--map identity|affine:A,B] [--trace [--outcome]]
  *
  * It runs on 1 to 1,024 ranks, and writes what `pramc run` writes, with --trace what `pramc trace` writes, and ends with the
  * same status: 0 it ended, 1 it faulted, 2 it was refused, 3 it met the bound. Input and output are rank 0's. The words that
  * ranks exchange, values, faults and counts are those of docs/MACHINE.md.
  *
  * What C, its compiler and MPI do isn't proved: the plan is, and that its words stand below. */
+#include <ctype.h>
 #include <inttypes.h>
 #include <mpi.h>
 #include <stdbool.h>
@@ -37,7 +38,7 @@ enum word {
 };
 
 /* How many bits of a word a cell's number has, and the most bytes of an input, as the limits of the language are. For larger
- * arrays raise them: CELL_BITS to at most 32, and 2 to that power is at least the number of all cells. */
+ * arrays raise them: CELL_BITS to at most 31, and 2 to that power is at least the number of all cells. */
 #define CELL_BITS 20
 #define INPUT_BYTES 1048576
 
@@ -46,12 +47,11 @@ enum word {
 ";
 
 /// What a rank has, the map, and memory.
-pub(crate) const STATE: [u8; 2933] = *b"
+pub(crate) const STATE: [u8; 3696] = *b"
 /* ---- What a rank has */
-
-enum { most_ranks = 1024, most_reads = 8, most_masks = 64, part = 65536 };
+enum { most_ranks = 1024, most_reads = 8, most_masks = 64, part = 8192 };
 enum status { status_ended, status_faulted, status_refused, status_bound };
-
+__extension__ typedef __int128 wide; /* sums of 64-bit values */
 static int ranks, self;
 
 /* The uniform part, which all ranks have alike: the count and the line of statements, the registers, the least index. */
@@ -59,15 +59,22 @@ static uint64_t count, line;
 static int64_t *uniform, low;
 
 /* This rank's processors are `own`, with room for `room`: the v-th of the range is rank v mod ranks'. Register r of the i-th is
- * column(r)[i], and active[i] says whether it is active: the last of its levels, one for each mask. */
+ * column(of_each, r)[i]. */
 static int64_t *registers;
-static unsigned char *levels, *active;
 static size_t room, own;
+
+/* Those that are active, ascending: a list for the range, and one more for each mask that is on. */
+static struct level {
+    uint32_t *list;
+    size_t many;
+} levels[most_masks + 1], *on = levels;
+static uint32_t *lists, *others; /* the lists, each with `room` places; and a place for one while it is made */
 
 /* This rank's cells by offset, and the map of all cells to all places: factor * cell + shift. */
 static int64_t *cells;
-static uint64_t all_cells, all_places, *first_of, factor = 1, shift = 0;
-static const uint64_t nowhere = UINT64_MAX, cell_bits = (UINT64_C(1) << CELL_BITS) - 1;
+static uint64_t all_cells, all_places, *first_of, factor = 1, shift = 0, inverse;
+static const uint64_t cell_bits = (UINT64_C(1) << CELL_BITS) - 1;
+static const uint32_t none = UINT32_MAX;
 
 static _Noreturn void stop(const char *why) {
     fprintf(stderr, \"%s\\n\", why);
@@ -83,51 +90,50 @@ static void *fresh(size_t items, size_t size) {
     return memory;
 }
 
-/* Memory that grows: room for so many items, where there is less. What stood there is lost. */
-struct growing {
-    void *at;
-    size_t has;
-};
-
-static void *grown(struct growing *memory, size_t needs, size_t size) {
-    if (needs > memory->has || !memory->at) {
-        free(memory->at);
-        memory->has = needs + needs / 2;
-        memory->at = fresh(memory->has, size);
-    }
-    return memory->at;
+/* Memory with room for so many items, in the place of one that has too little. What stood there is lost. */
+static void *grown(void *memory, size_t *room_there, size_t needs, size_t size) {
+    if (memory && needs <= *room_there)
+        return memory;
+    free(memory);
+    *room_there = needs + needs / 2;
+    return fresh(*room_there, size);
 }
 
-static int64_t *column(int64_t number) { return registers + (size_t)number * room; }
+/* Instructions are of the uniform side, where all processors act as one, whose number is 0; or of the private one. */
+enum side { of_all, of_each };
 
-/* The first active processor from the i-th on; `own` where there is none. */
-static inline size_t active_from(size_t i) {
-    while (i < own && !active[i])
-        i++;
-    return i;
+static int64_t *column(enum side side, int64_t number) {
+    return side == of_all ? uniform + number : registers + (size_t)number * room;
+}
+static int64_t index_of(enum side side, size_t i) {
+    return side == of_all ? 0 : (int64_t)((uint64_t)low + i * (uint64_t)ranks + (uint64_t)self);
 }
 
-#define EACH_ACTIVE(i) (size_t i = active_from(0); i < own; i = active_from(i + 1))
+/* Does this for each processor i that acts; where all do, by a loop without a list. */
+#define EACH_ACTING(side, ...) \\
+    const size_t acting = side == of_all ? 1 : on->many; \\
+    const uint32_t *const those = on->list; \\
+    if (side == of_all || acting == own) \\
+        for (size_t i = 0; i < acting; i++) { __VA_ARGS__ } \\
+    else \\
+        for (size_t n = 0; n < acting; n++) { const size_t i = those[n]; __VA_ARGS__ }
 
-static int64_t index_of(size_t i) { return (int64_t)((uint64_t)low + i * (uint64_t)ranks + (uint64_t)self); }
-
-/* The map's number of a cell, its module, and its offset there. */
+/* The map's number of a cell, its offset in its module, and the module: number / ranks is a product with the inverse. */
 static uint32_t number_of(uint64_t cell) { return (uint32_t)((factor * cell + shift) & (all_places - 1)); }
-static int module_of(uint64_t cell) { return (int)(number_of(cell) % (uint32_t)ranks); }
-static uint32_t offset_of(uint64_t cell) { return number_of(cell) / (uint32_t)ranks; }
+static uint32_t offset_of(uint64_t cell) { return (uint32_t)((wide)(number_of(cell) + UINT64_C(1)) * inverse >> 64); }
+static int module_of(uint64_t cell) { return (int)(number_of(cell) - offset_of(cell) * (uint32_t)ranks); }
 
 /* The cell of an entry at a subscript. */
-static uint64_t cell_of(int64_t entry, int64_t subscript) {
-    const struct entry *at = &entries[entry];
-    const bool is_there = at->low <= subscript && subscript <= at->high;
-    return is_there ? first_of[entry] + ((uint64_t)subscript - (uint64_t)at->low) : nowhere;
+static uint32_t cell_of(int64_t entry, int64_t subscript) {
+    const uint64_t past = (uint64_t)subscript - (uint64_t)entries[entry].low;
+    const bool is_there = past <= (uint64_t)entries[entry].high - (uint64_t)entries[entry].low;
+    return is_there ? (uint32_t)(first_of[entry] + past) : none;
 }
 ";
 
 /// Faults, and the least key.
-pub(crate) const FAULTS: [u8; 1515] = *b"
+pub(crate) const FAULTS: [u8; 1486] = *b"
 /* ---- Faults: a rank keeps the least key that it noted */
-
 enum kind { overflow, divide_by_zero, out_of_range, too_wide, read_conflict, write_conflict };
 enum place { place_all, place_processor, place_cell };
 
@@ -143,8 +149,8 @@ struct moment {
     uint64_t count, line, position;
 };
 
-static struct key noted;
-static const uint64_t sign = UINT64_C(1) << 63; /* turned round, numbers below 0 are before others */
+#define SIGN (UINT64_C(1) << 63) /* turned round, numbers below 0 are before others */
+static struct key noted = {false, {[key_number] = SIGN}};
 
 static void keep(struct key *least, const struct key *key) {
     int at = 0;
@@ -155,22 +161,20 @@ static void keep(struct key *least, const struct key *key) {
 }
 
 static void note(struct moment at, enum place place, int64_t number, enum kind kind) {
-    const struct key key = {true, {at.count, at.position, place, (uint64_t)number ^ sign, kind, at.line}};
+    const struct key key = {true, {at.count, at.position, place, (uint64_t)number ^ SIGN, kind, at.line}};
     keep(&noted, &key);
 }
 
 static struct moment now(int64_t position) { return (struct moment){count, line, (uint64_t)position}; }
-static void note_all(int64_t position, enum kind kind) { note(now(position), place_all, 0, kind); }
-static void note_own(int64_t position, size_t i, enum kind kind) { note(now(position), place_processor, index_of(i), kind); }
+static void note_at(enum side side, int64_t position, size_t i, enum kind kind) {
+    note(now(position), side == of_all ? place_all : place_processor, index_of(side, i), kind);
+}
 ";
 
 /// Values, the range and its masks.
-pub(crate) const VALUES: [u8; 3367] = *b"
-/* ---- Values: what an operation gives, and 0 where it faults */
-
-/* Floor division, and what it leaves; the divisor isn't 0, nor -1. */
+pub(crate) const VALUES: [u8; 4171] = *b"
+/* ---- Values: what an operation gives, and 0 where it faults. A floor division is by no 0 here, nor by -1. */
 static int64_t divided(int64_t a, int64_t b) { return a / b - (a % b != 0 && (a < 0) != (b < 0)); }
-static int64_t left_by(int64_t a, int64_t b) { return a % b + (a % b != 0 && (a < 0) != (b < 0) ? b : 0); }
 
 /* The result of the operation of a uniform word; `fault` gets what is wrong with it. */
 static inline int64_t computed(enum word word, int64_t a, int64_t b, int *fault) {
@@ -191,74 +195,83 @@ static inline int64_t computed(enum word word, int64_t a, int64_t b, int *fault)
     default: /* division, or what it leaves */
         if (b == 0)
             *fault = divide_by_zero;
-        else if (word == op_umod)
-            to = b == -1 ? 0 : left_by(a, b);
         else if (b == -1)
-            over = __builtin_sub_overflow((int64_t)0, a, &to);
+            over = word == op_udiv && __builtin_sub_overflow((int64_t)0, a, &to);
         else
-            to = divided(a, b);
+            to = word == op_udiv ? divided(a, b) : a - b * divided(a, b);
     }
     if (over)
         *fault = overflow;
     return over ? 0 : to;
 }
 
-/* An operation on uniform registers, and on those of each active processor. */
-static inline void on_uniform(enum word word, int64_t to, int64_t left, int64_t right, int64_t position) {
-    int fault = -1;
-    uniform[to] = computed(word, uniform[left], uniform[right], &fault);
-    if (fault >= 0)
-        note_all(position, (enum kind)fault);
+/* A sum or, where `flip` is all ones, a difference of all processors' registers, where each fits: loops that vectors do. */
+static inline bool is_added(int64_t *d, const int64_t *a, const int64_t *b, uint64_t flip) {
+    uint64_t over = 0;
+    for (size_t i = 0; i < own; i++) {
+        const uint64_t x = (uint64_t)a[i], y = (uint64_t)b[i] ^ flip, sum = x + y - flip;
+        over |= (x ^ sum) & (y ^ sum);
+    }
+    for (size_t i = 0; i < own && !(over & SIGN); i++)
+        d[i] = (int64_t)((uint64_t)a[i] + ((uint64_t)b[i] ^ flip) - flip);
+    return !(over & SIGN);
 }
 
-static inline void on_own(enum word word, int64_t to, int64_t left, int64_t right, int64_t position) {
-    const int64_t *a = column(left), *b = column(right);
-    int64_t *d = column(to);
-    for EACH_ACTIVE(i) {
+static inline void operate(enum side side, enum word word, int64_t to, int64_t left, int64_t right, int64_t position) {
+    const int64_t *a = column(side, left), *b = column(side, right);
+    int64_t *d = column(side, to);
+    const bool is_plain = (word == op_uadd || word == op_usub) && side == of_each && on->many == own;
+    if (is_plain && is_added(d, a, b, word == op_usub ? UINT64_MAX : 0))
+        return;
+    EACH_ACTING(side,
         int fault = -1;
         d[i] = computed(word, a[i], b[i], &fault);
         if (fault >= 0)
-            note_own(position, i, (enum kind)fault);
-    }
+            note_at(side, position, i, (enum kind)fault);
+    )
 }
 
-static void set_own(int64_t to, int64_t value) {
-    int64_t *d = column(to);
-    for EACH_ACTIVE(i)
-        d[i] = value;
-}
-static void set_index(int64_t to) {
-    int64_t *d = column(to);
-    for EACH_ACTIVE(i)
-        d[i] = index_of(i);
+/* Gives the i-th processor first + i * step. */
+static void fill(int64_t to, int64_t first, int64_t step) {
+    int64_t *d = column(of_each, to);
+    EACH_ACTING(of_each, d[i] = (int64_t)((uint64_t)first + i * (uint64_t)step);)
 }
 
 /* ---- The range and its masks */
-
 static void set_width(uint64_t width) {
     own = (size_t)((width + (uint64_t)ranks - 1 - (uint64_t)self) / (uint64_t)ranks);
-    active = levels;
+    on = levels;
+    on->many = own;
 }
 
 static void enter(int64_t from, int64_t to, int64_t position) {
     const bool is_wide = from <= to && (uint64_t)to - (uint64_t)from >= PROCS;
     if (is_wide)
-        note_all(position, too_wide);
+        note_at(of_all, position, 0, too_wide);
     low = from;
     set_width(is_wide || from > to ? 0 : (uint64_t)to - (uint64_t)from + 1);
-    memset(active, 1, own);
     for (int64_t r = 0; r < PRIVATE; r++)
-        memset(column(r), 0, own * sizeof(int64_t));
+        memset(column(of_each, r), 0, own * sizeof(int64_t));
 }
 
+/* The place of a list has first those that the mask leaves active, and behind them the others, to be turned to. */
+static uint32_t *place_of(const struct level *level) { return lists + (size_t)(level - levels) * room; }
+
 static void mask(int64_t by) {
-    const int64_t *flag = column(by);
-    for (size_t i = 0; i < own; i++)
-        active[room + i] = active[i] && flag[i] != 0;
-    active += room;
+    const int64_t *flag = column(of_each, by);
+    const struct level *whole = on++;
+    size_t kept = 0;
+    on->list = place_of(on);
+    for (size_t n = 0; n < whole->many; n++) {
+        const uint32_t i = whole->list[n];
+        on->list[kept] = others[n - kept] = i;
+        kept += flag[i] != 0;
+    }
+    on->many = kept;
+    memcpy(on->list + kept, others, (whole->many - kept) * sizeof(uint32_t));
 }
 static void flip(void) {
-    for (size_t i = 0; i < own; i++)
-        active[i] = (active - room)[i] && !active[i];
+    on->list = on->list == place_of(on) ? on->list + on->many : place_of(on);
+    on->many = (on - 1)->many - on->many;
 }
 ";

@@ -6,5 +6,5 @@ returns-clause-prints g c =
     prints_then c.text.ensures.prints (prints_then c.text-2.ensures.prints (prints_then c.text-3.ensures.prints
     (prints_then c.text-4.ensures.prints (prints_then c.text-5.ensures.prints (prints_then c.text-6.ensures.prints
     (prints_then c.text-7.ensures.prints (prints_then c.text-8.ensures.prints (prints_then c.text-9.ensures.prints
-    (prints_then c.text-10.ensures.prints (prints_then c.text-11.ensures.prints
-    (prints_then c.text-12.ensures.prints c.text-13.ensures.prints)))))))))))
+    (prints_then c.text-10.ensures.prints (prints_then c.text-11.ensures.prints (prints_then c.text-12.ensures.prints
+    (prints_then c.text-13.ensures.prints (prints_then c.text-14.ensures.prints c.text-15.ensures.prints)))))))))))))
