@@ -1,0 +1,11 @@
+pub mod Both
+pub mod Commons
+pub mod Gone
+pub mod Inputs
+pub mod Lists
+pub mod Places
+pub mod Pushed
+pub mod Runs
+pub mod So
+pub mod Unequals
+pub mod Values

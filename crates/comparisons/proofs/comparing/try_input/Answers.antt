@@ -1,0 +1,12 @@
+use Rattle.std.proofs.Common.{◌∙◌, ap, sym}
+use Rattle.comparisons.specs.Found.{Found, added}
+use Rattle.comparisons.proofs.Pushed.{added_is}
+use Rattle.comparisons.proofs.comparing.try_input.Goals as goal
+
+pub returns-in-Ok-clause-found : goal.returns-in-Ok-clause-found
+returns-in-Ok-clause-found c = λ before e.
+    let d = c.in_ok-difference.difference in
+    let input = c.args.input.now in
+    c.in-Ok.ensures ∙ ap (λ (f : Found). added d input f) e
+    ∙ sym (added_is c.args.first.now c.args.second.now c.args.compared.now c.args.bound before input d
+    (sym c.in_ok-difference.ensures.difference))

@@ -1,0 +1,88 @@
+-- What a comparison says of two runs.
+use Rattle.std.specs.Prelude.{◌≡◌, ◌≢◌, ◌≤◌, ◌<◌, ℕ, ◌+◌, ℤ, true, false, List, [], ◌∷◌, ◌++◌, Option, Some, None, slice_get}
+use Rattle.std.specs.List.{All, Contains}
+use Rattle.pram_check.specs.Checked.{Checked}
+use Rattle.write_rules.specs.Verdict.{Verdict, Ended, Faulted, GoesOn}
+use Rattle.explorations.specs.Found.{is_end}
+use Rattle.comparisons.specs.declared.compared.CommonRange.{CommonRange}
+use Rattle.comparisons.specs.declared.compared.Compared.{Compared}
+use Rattle.comparisons.specs.declared.compared.Limits.{Limits}
+use Rattle.comparisons.specs.declared.difference.Difference.{Difference}
+use Rattle.comparisons.specs.declared.difference.Difference.TheVariants as differ
+use Rattle.comparisons.specs.Differences.{Run, ending_of, same_ending}
+use Rattle.comparisons.specs.Found.{Differing, difference_on}
+
+-- ---- two runs that come to the same
+
+-- the cells of these ranges have the same values
+abbrev pub AgreeOn : List CommonRange → List ℤ → List ℤ → Type 0
+AgreeOn rs m q = All (λ r. (k : ℕ) → k < r.length → slice_get m (r.first_start + k) ≡ slice_get q (r.second_start + k)) rs
+
+-- both end, and what is compared is the same; both fault with a fault of one kind; or both go on
+abbrev pub ComeToTheSame : Compared → Verdict → Verdict → Type 0
+ComeToTheSame c (Ended o m) (Ended p q) = (c.output ≡ true → o ≡ p) × AgreeOn c.ranges.items m q
+ComeToTheSame c (Faulted f o) (Faulted g p) = f.kind ≡ g.kind
+ComeToTheSame c (GoesOn o) (GoesOn p) = Unit {0}
+ComeToTheSame c _ _ = ⊥
+
+abbrev pub IsAtMost : ℕ → Option ℕ → Type 0
+IsAtMost taken None = Unit {0}
+IsAtMost taken (Some limit) = taken ≤ limit
+
+-- a run that ends takes at most that time and work
+abbrev pub KeepsTo : Limits → Run → Type 0
+KeepsTo limits b = is_end b.verdict ≡ true → IsAtMost b.time limits.time × IsAtMost b.work limits.work
+
+-- ---- what is told is so
+
+abbrev pub output_of : Verdict → List ℤ
+output_of (Ended output memory) = output
+output_of (Faulted fault output) = output
+output_of (GoesOn output) = output
+
+abbrev pub memory_of : Verdict → List ℤ
+memory_of (Ended output memory) = memory
+memory_of (Faulted fault output) = []
+memory_of (GoesOn output) = []
+
+abbrev pub BothEnd : Verdict → Verdict → Type 0
+BothEnd v w = (is_end v ≡ true) × (is_end w ≡ true)
+
+-- the item of that number is x in the first output, and y in the second
+pub record IsItem (o p : List ℤ) (item : ℕ) (x y : Option ℤ) : Type 0 where
+  pub place : ℕ
+  pub number : item ≡ place + 1
+  pub first : slice_get o place ≡ x
+  pub second : slice_get p place ≡ y
+
+-- the cell of that number in the first program is x, and y is the one beside it in one of the ranges
+pub record IsCell (rs : List CommonRange) (m q : List ℤ) (cell : ℕ) (x y : Option ℤ) : Type 0 where
+  pub range : CommonRange
+  pub place : ℕ
+  pub compared : Contains rs range
+  pub within : place < range.length
+  pub number : cell ≡ range.first_start + place
+  pub first : slice_get m (range.first_start + place) ≡ x
+  pub second : slice_get q (range.second_start + place) ≡ y
+
+-- two different values, or more than is allowed
+abbrev pub IsSo : Compared → Verdict → Run → Difference → Type 0
+IsSo c v b (differ.Endings e f) = (ending_of v ≡ e) × (ending_of b.verdict ≡ f) × (same_ending e f ≡ false)
+IsSo c v b (differ.Output item x y) =
+    (c.output ≡ true) × BothEnd v b.verdict × IsItem (output_of v) (output_of b.verdict) item x y × (x ≢ y)
+IsSo c v b (differ.Cell cell x y) =
+    BothEnd v b.verdict × IsCell c.ranges.items (memory_of v) (memory_of b.verdict) cell x y × (x ≢ y)
+IsSo c v b (differ.Time taken limit) =
+    (is_end b.verdict ≡ true) × (b.time ≡ taken) × (c.limits.time ≡ Some limit) × (limit < taken)
+IsSo c v b (differ.Work taken limit) =
+    (is_end b.verdict ≡ true) × (b.work ≡ taken) × (c.limits.work ≡ Some limit) × (limit < taken)
+
+-- ---- the first input on which they differ
+
+-- on those before it they come to the same, and on it that differs first
+pub record IsFirst (p q : Checked) (c : Compared) (n : ℕ) (inputs : List (List ℤ)) (d : Differing) : Type 0 where
+  pub before : List (List ℤ)
+  pub behind : List (List ℤ)
+  pub all : inputs ≡ before ++ d.input ∷ behind
+  pub same : All (λ input. difference_on p q c n input ≡ None) before
+  pub differs : difference_on p q c n d.input ≡ Some d.difference

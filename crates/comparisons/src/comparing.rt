@@ -1,0 +1,153 @@
+//! The runs of two programs on the same inputs.
+
+ghost use Rattle.std.specs.Prelude.{◌≡◌, ◌≢◌, ◌↔◌, ◌+◌, ◌<◌, ◌^◌, [], ◌∷◌, ◌++◌, IfOk, OnOk, Some, length, map, List, ℤ};
+ghost use Rattle.small_scopes.specs.Scopes.{inputs_of};
+ghost use Rattle.comparisons.specs.Found.{difference_on, found, found_is, values_of};
+ghost use Rattle.comparisons.specs.Found as spec;
+ghost use Rattle.comparisons.specs.declared.refusal.Side as rust;
+
+use crate::compared::Compared;
+use crate::comparison::Comparison;
+use crate::difference::Difference;
+use crate::outcomes::first_difference;
+use crate::refusal::{ComparisonRefusal, longest, too_long};
+use pram_check::Program;
+use pram_meaning::reference_run;
+use small_scopes::{Scope, first_input};
+use std::alloc::Global;
+use work_time::cost_of;
+
+// What differs first on an input that is not too long for either program.
+fn difference(
+    alloc: Global,
+    first: &Program,
+    second: &Program,
+    compared: &Compared,
+    input: &[i64],
+    bound: u32,
+) -> Result<Option<Difference>, ComparisonRefusal>
+    ensures difference { IfOk result (λ d. d ≡ difference_on first.now second.now compared.now bound input.now) }
+    ensures memory { (side : rust.Side) → result ≢ Err (ComparisonRefusal.InputTooLong side) }
+{
+    let Ok(outcome) = reference_run(alloc, first, input, bound) else {
+        return Err(ComparisonRefusal::OutOfMemory);
+    };
+    let Ok((other, cost)) = cost_of(alloc, second, input, bound, 1) else {
+        return Err(ComparisonRefusal::OutOfMemory);
+    };
+    let time = u64::from(cost.time);
+    Ok(first_difference(compared, &outcome, &other, time, cost.work))
+}
+
+/// Runs two programs on an input, each for at most `bound` statements, and says what differs first, or that they come to the same.
+/// E11 where the input has more values than one of them has cells; E16 only where memory was refused.
+pub fn compare_two(
+    alloc: Global,
+    first: &Program,
+    second: &Program,
+    compared: &Compared,
+    input: &[i64],
+    bound: u32,
+) -> Result<Option<Difference>, ComparisonRefusal>
+    ensures difference { IfOk result (λ d. d ≡ difference_on first.now second.now compared.now bound input.now) }
+    ensures too_long { (side : rust.Side) → (result ≡ Err (ComparisonRefusal.InputTooLong side))
+        ↔ (spec.too_long first.now second.now (length input.now) ≡ Some side) }
+{
+    match too_long(first, second, input.len()) {
+        Some(side) => Err(ComparisonRefusal::InputTooLong(side)),
+        None => difference(alloc, first, second, compared, input, bound),
+    }
+}
+
+// Runs both programs on one input more.
+fn try_input(
+    alloc: Global,
+    first: &Program,
+    second: &Program,
+    compared: &Compared,
+    input: &[i64],
+    bound: u32,
+    comparison: &mut Comparison,
+) -> Result<(), ComparisonRefusal>
+    requires room { comparison.old.inputs + 1 < 2 ^ 64 }
+    ensures found { OnOk result ((before : List (List ℤ)) →
+        found_is comparison.old ≡ found first.now second.now compared.now bound before →
+        found_is comparison.new ≡ found first.now second.now compared.now bound (before ++ input.now ∷ [])) }
+    ensures memory { (side : rust.Side) → result ≢ Err (ComparisonRefusal.InputTooLong side) }
+{
+    let difference = difference(alloc, first, second, compared, input, bound)?;
+    match comparison.add(alloc, difference, input) {
+        Ok(()) => Ok(()),
+        Err(_) => Err(ComparisonRefusal::OutOfMemory),
+    }
+}
+
+/// Runs two programs on each input of a scope, each run for at most `bound` statements, and says what is found over just these inputs
+/// in their order: on how many the programs come to the same, and the first on which they don't. E11 where an input has more values
+/// than one of the programs has cells; E16 only where memory was refused.
+pub fn compare_scope(
+    alloc: Global,
+    first: &Program,
+    second: &Program,
+    compared: &Compared,
+    scope: Scope,
+    bound: u32,
+) -> Result<Comparison, ComparisonRefusal>
+    requires few { length (inputs_of scope) < 2 ^ 64 }
+    ensures found { IfOk result (λ r. found_is r ≡ found first.now second.now compared.now bound (inputs_of scope)) }
+    ensures too_long { (side : rust.Side) → (result ≡ Err (ComparisonRefusal.InputTooLong side))
+        ↔ (spec.too_long first.now second.now scope.count ≡ Some side) }
+{
+    if let Some(side) = too_long(first, second, scope.count as usize) {
+        return Err(ComparisonRefusal::InputTooLong(side));
+    }
+    let Ok(mut inputs) = first_input(alloc, scope) else {
+        return Err(ComparisonRefusal::OutOfMemory);
+    };
+    let mut comparison = Comparison::new();
+    'trying: while !inputs.is_over() {
+        let input = inputs.values();
+        try_input(
+            alloc,
+            first,
+            second,
+            compared,
+            input,
+            bound,
+            &mut comparison,
+        )?;
+        inputs.advance();
+    }
+    Ok(comparison)
+}
+
+/// The same on each of these inputs. E11 where any of them has more values than one of the programs has cells.
+pub fn compare_inputs(
+    alloc: Global,
+    first: &Program,
+    second: &Program,
+    compared: &Compared,
+    inputs: &[Vec<i64>],
+    bound: u32,
+) -> Result<Comparison, ComparisonRefusal>
+    ensures found { IfOk result (λ r. found_is r ≡ found first.now second.now compared.now bound (map values_of inputs.now)) }
+    ensures too_long { (side : rust.Side) → (result ≡ Err (ComparisonRefusal.InputTooLong side))
+        ↔ (spec.too_long first.now second.now (spec.longest (map values_of inputs.now)) ≡ Some side) }
+{
+    if let Some(side) = too_long(first, second, longest(inputs)) {
+        return Err(ComparisonRefusal::InputTooLong(side));
+    }
+    let mut comparison = Comparison::new();
+    for input in inputs {
+        try_input(
+            alloc,
+            first,
+            second,
+            compared,
+            input,
+            bound,
+            &mut comparison,
+        )?;
+    }
+    Ok(comparison)
+}

@@ -1,0 +1,22 @@
+//! What is found of two programs.
+
+ghost use Rattle.std.specs.Prelude.{◌≤◌};
+
+use crate::difference::Difference;
+
+/// An input on which two programs differ, and what differs first on it.
+#[derive(Drop)]
+pub struct FoundDifference {
+    pub input: Vec<i64>,
+    pub difference: Difference,
+}
+
+/// What is found of two programs on some inputs: how many inputs there are, on how many the programs come to the same, and the first
+/// input on which they don't, where there is one.
+#[derive(Drop)]
+pub struct Comparison {
+    pub inputs: u64,
+    pub same: u64,
+    pub first: Option<FoundDifference>,
+    ghost parts: { same ≤ inputs },
+}

@@ -1,0 +1,58 @@
+//! The laws of this crate: what a comparison says of the runs of two programs.
+
+ghost use Rattle.std.specs.Prelude.{◌≡◌, ◌≢◌, ◌↔◌, ◌≤◌, ◌+◌, ℕ, ℤ, List, Some, None, length};
+ghost use Rattle.std.specs.List.{All, AllPairs, Any, Contains};
+ghost use Rattle.pram_check.specs.Checked.{Checked};
+ghost use Rattle.pram_model.specs.Layout.{SharedEntry, size};
+ghost use Rattle.pram_meaning.specs.Outcome.{IsOutcome};
+ghost use Rattle.write_rules.specs.Verdict.{Verdict};
+ghost use Rattle.explorations.specs.Found.{verdict_on};
+ghost use Rattle.comparisons.specs.declared.compared.Compared as rust;
+ghost use Rattle.comparisons.specs.declared.difference.Difference as told;
+ghost use Rattle.comparisons.specs.Common.{StandsAt, common};
+ghost use Rattle.comparisons.specs.Differences.{Run, first_difference};
+ghost use Rattle.comparisons.specs.Found.{Differing, difference_on, differing, found};
+ghost use Rattle.comparisons.specs.Told.{ComeToTheSame, IsFirst, IsSo, KeepsTo};
+
+/// What a run comes to is its outcome; and each input is counted once, as one on which the programs come to the same, or as one on which
+/// they differ.
+pub fn every_input_is_counted()
+    ensures outcome { (p : Checked) (n : ℕ) (input : List ℤ) (v : Verdict) → IsOutcome p input n v ↔ (v ≡ verdict_on p n input) }
+    ensures once { (p q : Checked) (c : rust.Compared) (n : ℕ) (inputs : List (List ℤ)) →
+        (found p q c n inputs).same + length (differing p q c n inputs) ≡ length inputs }
+{}
+
+/// Nothing is told exactly where the programs come to the same on all inputs. What is told is the first input on which they don't.
+pub fn the_first_input_is_told()
+    ensures none { (p q : Checked) (c : rust.Compared) (n : ℕ) (inputs : List (List ℤ)) →
+        ((found p q c n inputs).first ≡ None) ↔ ((found p q c n inputs).same ≡ length inputs) }
+    ensures first { (p q : Checked) (c : rust.Compared) (n : ℕ) (inputs : List (List ℤ)) (d : Differing) →
+        (found p q c n inputs).first ≡ Some d → IsFirst p q c n inputs d }
+{}
+
+/// Nothing is told of two runs exactly where they come to the same, and the second keeps to the limits. What is told is so: the two
+/// values are those of the two runs, and are not the same.
+pub fn what_is_told_is_so()
+    ensures none { (c : rust.Compared) (v : Verdict) (b : Run) →
+        (first_difference c v b ≡ None) ↔ (ComeToTheSame c v b.verdict × KeepsTo c.limits b) }
+    ensures so { (c : rust.Compared) (v : Verdict) (b : Run) (d : told.Difference) → first_difference c v b ≡ Some d → IsSo c v b d }
+{}
+
+/// A program comes to the same as itself, by ranges that have the same cells on both sides, where there are no limits.
+pub fn a_program_is_as_itself()
+    ensures { (p : Checked) (c : rust.Compared) (n : ℕ) (input : List ℤ) →
+        All (λ r. r.first_start ≡ r.second_start) c.ranges.items → c.limits.time ≡ None → c.limits.work ≡ None →
+        difference_on p p c n input ≡ None }
+{}
+
+/// The common ranges are those of the declarations that both programs have, each once, in the order of the first program. Where no two
+/// declarations of a program have one name, those that it has in common with itself have the same cells on both sides.
+pub fn common_ranges_are_of_both()
+    ensures both { (l m : List SharedEntry) → All (λ r. (e : SharedEntry) × StandsAt l e r.first_start × StandsAt m e r.second_start
+        × (r.length ≡ size e.bounds)) (common l m) }
+    ensures all { (l m : List SharedEntry) (e : SharedEntry) (start : ℕ) → StandsAt l e start → Contains m e →
+        Any (λ r. (r.first_start ≡ start) × (r.length ≡ size e.bounds) × StandsAt m e r.second_start) (common l m) }
+    ensures ascending { (l m : List SharedEntry) → AllPairs (λ r s. r.first_start + r.length ≤ s.first_start) (common l m) }
+    ensures itself { (l : List SharedEntry) → AllPairs (λ e f. e.name ≢ f.name) l →
+        All (λ r. r.first_start ≡ r.second_start) (common l l) }
+{}

@@ -1,0 +1,22 @@
+//! Two programs on the same inputs: on how many they come to the same, and where they first differ.
+#![tactic(auto)]
+
+mod common;
+mod compared;
+mod comparing;
+mod comparison;
+pub mod comparison_laws;
+mod difference;
+mod ends;
+mod noting;
+mod outcomes;
+mod refusal;
+mod unequal;
+
+pub use common::{common_ranges, named_range};
+pub use compared::{CommonRange, Compared, Limits};
+pub use comparing::{compare_inputs, compare_scope, compare_two};
+pub use comparison::{Comparison, FoundDifference};
+pub use difference::{Difference, Ending};
+pub use outcomes::first_difference;
+pub use refusal::{ComparisonRefusal, Side};
