@@ -1,0 +1,22 @@
+use Rattle.std.proofs.Common.{refl}
+use Rattle.text_out.proofs.Progress.{breaks_off, closes, goes_on, starts}
+use Rattle.comparisons.specs.Found.{found_is}
+use Rattle.comparison_texts.specs.ComparisonText.{counts_line, first_line}
+use Rattle.comparison_texts.proofs.comparison_text.write_comparison.Goals as goal
+
+pub returns-in_err-write_counts : goal.returns-in_err-write_counts
+returns-in_err-write_counts g c =
+    let f = found_is c.args.comparison.now in
+    let first = first_line c.args.first.now c.args.second.now f.first in
+    record {
+      written = breaks_off _ _ _ _ _ (counts_line f) first
+          c.from_residual.result _ c.from_residual.ensures.1 (starts _ _ c.requires.counted) refl c.in_err-write_counts.ensures.written;
+    }
+
+pub returns : goal.returns
+returns g c =
+    let f = found_is c.args.comparison.now in
+    let first = first_line c.args.first.now c.args.second.now f.first in
+    let after_1 = goes_on _ _ _ _ _ (counts_line f) first (starts _ _ c.requires.counted) refl
+    c.in_ok-write_counts.ensures.written in
+    record { written = closes _ _ _ _ _ c.write_first.result after_1 c.write_first.ensures.written }
