@@ -3,3 +3,4 @@ pub mod ChangeTexts
 pub mod OnTerminal
 pub mod StepText
 pub mod ValueTexts
+pub mod Passing

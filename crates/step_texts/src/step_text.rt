@@ -179,8 +179,9 @@ pub fn write_entry<W: Out>(
     out.write_all(b"\n")
 }
 
-// The line of an entry.
-fn write_in<W: Out>(
+/// Writes the line of an entry behind its number, in the manner and with the detail of a telling. The error is that the writer failed
+/// (E17).
+pub fn write_line<W: Out>(
     out: &mut W,
     layout: &Layout,
     telling: &Telling<'_>,
@@ -217,7 +218,7 @@ fn write_within<W: Out>(
 {
     let number = before + 1;
     if first <= number && number <= last {
-        write_in(out, layout, telling, number, entry)
+        write_line(out, layout, telling, number, entry)
     } else {
         out.write_all(b"")
     }
