@@ -3,6 +3,7 @@
 use crate::cost_words::CostWords;
 use crate::form::Form;
 use crate::opening::Opening;
+use crate::scope_words::ScopeWords;
 use crate::step_words::StepWords;
 use crate::trace_words::TraceWords;
 use explanations::Subject;
@@ -16,6 +17,8 @@ pub enum Verb {
     Check,
     /// Its code is shown.
     Plan,
+    /// Its code is written as a program in C.
+    Export,
     /// It is run by its definition.
     Meaning,
     /// What its run by its definition costs is counted.
@@ -94,9 +97,19 @@ pub enum Request<'a> {
         sweep: SweepWords<'a>,
         words: RunWords<'a>,
     },
+    /// A program is run by its definition on every input of a scope.
+    Exploration {
+        file: ProgramFile<'a>,
+        scope: ScopeWords,
+        words: RunWords<'a>,
+    },
     /// A listing is run.
     Listing {
         file: &'a str,
         words: RunWords<'a>,
+    },
+    /// A listing is written as a program in C.
+    ListingInC {
+        file: &'a str,
     },
 }
