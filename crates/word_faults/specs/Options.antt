@@ -1,6 +1,8 @@
 -- The options of a command line that take a word: their names, and which words they take.
-use Rattle.std.specs.Prelude.{◌≡◌, ◌⊎◌, ℕ, ◌<◌, ℤ, List, Option, Some, None, codes, if◌then◌else◌}
+use Rattle.std.specs.Prelude.{◌≡◌, ◌⊎◌, ℕ, ◌<◌, ◌≤◌, ℤ, List, Option, Some, None, codes, if◌then◌else◌}
 use Rattle.pram_model.specs.Names.{same_text}
+use Rattle.pram_model.specs.Rules.{rule_word}
+use Rattle.pram_model.specs.declared.rule.Rule.{Rule}
 use Rattle.run_options.specs.Maps.{IsPair, Names}
 use Rattle.run_options.specs.Numbers.{number_of}
 use Rattle.run_options.specs.declared.map_choice.MapChoice.{MapChoice}
@@ -19,6 +21,10 @@ name given.From = codes "--from"
 name given.To = codes "--to"
 name given.Random = codes "--random"
 name given.Seed = codes "--seed"
+name given.Cells = codes "--cells"
+name given.Values = codes "--values"
+name given.Permutations = codes "--permutations"
+name given.Under = codes "--under"
 name given.Size = codes "--size"
 name given.Sweep = codes "--sweep"
 name given.Format = codes "--format"
@@ -40,6 +46,15 @@ named_telling word =
     else if same_text word (codes "explain") then Some given.Subject
     else None
 
+-- among those of scopes
+abbrev pub named_scope : List ℕ → Option Given
+named_scope word =
+    if same_text word (codes "--cells") then Some given.Cells
+    else if same_text word (codes "--values") then Some given.Values
+    else if same_text word (codes "--permutations") then Some given.Permutations
+    else if same_text word (codes "--under") then Some given.Under
+    else named_telling word
+
 -- among those of the cells and of the text
 abbrev pub named_opening : List ℕ → Option Given
 named_opening word =
@@ -47,7 +62,7 @@ named_opening word =
     else if same_text word (codes "--seed") then Some given.Seed
     else if same_text word (codes "--size") then Some given.Size
     else if same_text word (codes "--sweep") then Some given.Sweep
-    else named_telling word
+    else named_scope word
 
 -- the option of that name, if there is one
 abbrev pub named : List ℕ → Option Given
@@ -65,8 +80,19 @@ IsNumber word = (n : ℕ) × (number_of word ≡ Some n)
 abbrev pub IsCount : List ℕ → Type 0
 IsCount word = (n : ℕ) × (number_of word ≡ Some n) × (0 < n)
 
+-- a number of cells, as a program may have them
+abbrev pub IsCells : List ℕ → Type 0
+IsCells word = (n : ℕ) × (number_of word ≡ Some n) × (n ≤ 1048576)
+
+-- how many values all orders are of
+abbrev pub AreOrdered : List ℕ → Type 0
+AreOrdered word = (n : ℕ) × (number_of word ≡ Some n) × ((0 < n) × (n ≤ 10))
+
+abbrev pub IsRule : List ℕ → Type 0
+IsRule word = (rule : Rule) × (word ≡ rule_word rule)
+
 -- An option takes a word, whatever else is asked for and whatever stands in files. Of a size, a sweep, names and `csv` that is known of no
--- word.
+-- word, and of values neither: there may be too many inputs.
 abbrev pub Takes : Given → List ℕ → Type 0
 Takes given.Bound word = IsNumber word
 Takes given.Workers word = IsNumber word
@@ -77,6 +103,10 @@ Takes given.From word = IsNumber word
 Takes given.To word = IsNumber word
 Takes given.Random word = (low : ℤ) × (high : ℤ) × IsInterval word low high
 Takes given.Seed word = IsNumber word
+Takes given.Cells word = IsCells word
+Takes given.Values word = ⊥
+Takes given.Permutations word = AreOrdered word
+Takes given.Under word = IsRule word
 Takes given.Size word = ⊥
 Takes given.Sweep word = ⊥
 Takes given.Format word = (word ≡ codes "text") ⊎ (word ≡ codes "json")

@@ -31,6 +31,11 @@ wanted given.From = codes "a number from 0 to 4294967295"
 wanted given.To = codes "a number from 0 to 4294967295"
 wanted given.Random = codes "LO..HI, as -5..5, two numbers of 64 bits of which LO is at most HI"
 wanted given.Seed = codes "a number from 0 to 4294967295"
+wanted given.Cells = codes "a number from 0 to 1048576"
+wanted given.Values =
+    codes "LO..HI, as 0..4, two numbers of 64 bits of which LO is at most HI, for at most 100000000 inputs"
+wanted given.Permutations = codes "a number from 1 to 10"
+wanted given.Under = codes "erew, crew, common, priority or sum"
 wanted given.Size = codes "NAME=VALUE, once for each size that the program declares, VALUE from 0 to 9223372036854775807"
 wanted given.Sweep = codes "NAME=SIZES for a size that the program declares, 1 to 1000 of them, as n=4,8,16 or n=4..64*2 or n=10..50+10"
 wanted given.Format = codes "text or json, or csv with --sweep, or gnu with check"
@@ -46,7 +51,15 @@ wanted_text g = codes "` for `" ++ (name g ++ (codes "`: it wants " ++ (wanted g
 abbrev pub value_sentence : Given → (word : List ℕ) → List ℕ
 value_sentence g word = codes "invalid `" ++ (letters word ++ wanted_text g)
 
--- an option that doesn't go with others of the call; of any other word nothing
+-- an option that a command wants, in the place of others; of any other word nothing
+abbrev pub command_sentence : (word : List ℕ) → List ℕ
+command_sentence word =
+    if same_text word (codes "--cells") then codes "`explore` wants `--cells` with `--values`, or `--permutations` in their place\n"
+    else if same_text word (codes "--permutations") then codes "`--permutations` goes with neither `--cells` nor `--values`\n"
+    else if same_text word (codes "--listing") then codes "`export` wants a FILE, or `--listing` in its place, which goes without `--size`\n"
+    else []
+
+-- an option that doesn't go with others of the call
 abbrev pub option_sentence : (word : List ℕ) → List ℕ
 option_sentence word =
     if same_text word (codes "--memory") then codes "`--memory` goes with neither `--input` nor `--random`\n"
@@ -61,7 +74,7 @@ option_sentence word =
     else if same_text word (codes "--schedule") then codes "`--schedule` doesn't go with `--sweep`\n"
     else if same_text word (codes "--lines") then codes "`--lines` doesn't go with `--sweep`\n"
     else if same_text word (codes "--only") then codes "`--only` goes with `--flow` alone\n"
-    else []
+    else command_sentence word
 
 -- what is said of a word, by the option that doesn't take it, if there is one
 abbrev pub word_fault : Option Given → (word : List ℕ) → List ℕ

@@ -38,6 +38,23 @@ fn named_telling(word: &[u8]) -> Option<Given>
     }
 }
 
+// One of scopes, or one of those.
+fn named_scope(word: &[u8]) -> Option<Given>
+    ensures { result ≡ spec.named_scope word.now }
+{
+    if is_same(word, b"--cells") {
+        Some(Given::Cells)
+    } else if is_same(word, b"--values") {
+        Some(Given::Values)
+    } else if is_same(word, b"--permutations") {
+        Some(Given::Permutations)
+    } else if is_same(word, b"--under") {
+        Some(Given::Under)
+    } else {
+        named_telling(word)
+    }
+}
+
 // One of the cells or of the text, or one of those.
 fn named_opening(word: &[u8]) -> Option<Given>
     ensures { result ≡ spec.named_opening word.now }
@@ -51,7 +68,7 @@ fn named_opening(word: &[u8]) -> Option<Given>
     } else if is_same(word, b"--sweep") {
         Some(Given::Sweep)
     } else {
-        named_telling(word)
+        named_scope(word)
     }
 }
 

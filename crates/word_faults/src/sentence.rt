@@ -57,6 +57,12 @@ fn wanted(given: Given) -> &'static [u8]
         Given::To => b"a number from 0 to 4294967295",
         Given::Random => b"LO..HI, as -5..5, two numbers of 64 bits of which LO is at most HI",
         Given::Seed => b"a number from 0 to 4294967295",
+        Given::Cells => b"a number from 0 to 1048576",
+        Given::Values => {
+            b"LO..HI, as 0..4, two numbers of 64 bits of which LO is at most HI, for at most 100000000 inputs"
+        }
+        Given::Permutations => b"a number from 1 to 10",
+        Given::Under => b"erew, crew, common, priority or sum",
         Given::Size => {
             b"NAME=VALUE, once for each size that the program declares, VALUE from 0 to 9223372036854775807"
         }
@@ -95,6 +101,21 @@ fn write_value_sentence<W: Out>(given: Given, word: &[u8], out: &mut W) -> Resul
     write_wanted(given, out)
 }
 
+// Of one that a command wants, in the place of others.
+fn command_sentence(word: &[u8]) -> &'static [u8]
+    ensures { result.now ≡ spec.command_sentence word.now }
+{
+    if is_same(word, b"--cells") {
+        b"`explore` wants `--cells` with `--values`, or `--permutations` in their place\n"
+    } else if is_same(word, b"--permutations") {
+        b"`--permutations` goes with neither `--cells` nor `--values`\n"
+    } else if is_same(word, b"--listing") {
+        b"`export` wants a FILE, or `--listing` in its place, which goes without `--size`\n"
+    } else {
+        b""
+    }
+}
+
 // Of an option that doesn't go with others of the call.
 fn option_sentence(word: &[u8]) -> &'static [u8]
     ensures { result.now ≡ spec.option_sentence word.now }
@@ -124,7 +145,7 @@ fn option_sentence(word: &[u8]) -> &'static [u8]
     } else if is_same(word, b"--only") {
         b"`--only` goes with `--flow` alone\n"
     } else {
-        b""
+        command_sentence(word)
     }
 }
 

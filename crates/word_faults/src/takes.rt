@@ -7,6 +7,7 @@ ghost use Rattle.drawn_inputs.specs.Intervals.{IsInterval};
 ghost use Rattle.word_faults.specs.Options as spec;
 
 use crate::given::Given;
+use command_requests::{MOST_CELLS, MOST_ORDERED, read_rule};
 use drawn_inputs::read_interval;
 use run_options::{read_map, read_number, read_pair};
 
@@ -63,6 +64,33 @@ fn is_format(word: &str) -> bool
     word == "text" || word == "json"
 }
 
+fn is_cells(word: &str) -> bool
+    ensures { MatchBool result (spec.IsCells word.now) (¬ (spec.IsCells word.now)) }
+{
+    match read_number(word) {
+        Some(number) => number <= MOST_CELLS,
+        None => false,
+    }
+}
+
+fn are_ordered(word: &str) -> bool
+    ensures { MatchBool result (spec.AreOrdered word.now) (¬ (spec.AreOrdered word.now)) }
+{
+    match read_number(word) {
+        Some(number) => number > 0 && number <= MOST_ORDERED,
+        None => false,
+    }
+}
+
+fn is_rule(word: &str) -> bool
+    ensures { MatchBool result (spec.IsRule word.now) (¬ (spec.IsRule word.now)) }
+{
+    match read_rule(word) {
+        Some(_) => true,
+        None => false,
+    }
+}
+
 /// Whether an option takes a word, whatever else is asked for and whatever stands in files.
 pub(crate) fn takes(given: Given, word: &str) -> bool
     ensures { MatchBool result (spec.Takes given word.now) (¬ (spec.Takes given word.now)) }
@@ -74,6 +102,10 @@ pub(crate) fn takes(given: Given, word: &str) -> bool
         Given::Reserve | Given::Bsp => is_pair(word),
         Given::Random => is_interval(word),
         Given::Format => is_format(word),
-        Given::Size | Given::Sweep | Given::Show | Given::Only | Given::Subject => false,
+        Given::Cells => is_cells(word),
+        Given::Permutations => are_ordered(word),
+        Given::Under => is_rule(word),
+        Given::Values | Given::Size | Given::Sweep | Given::Show | Given::Only | Given::Subject =>
+            false,
     }
 }
