@@ -56,6 +56,16 @@ pub(crate) const QUIET: &str = "quiet";
 
 pub(crate) const SWEEP: &str = "sweep";
 
+pub(crate) const CELLS: &str = "cells";
+
+pub(crate) const VALUES: &str = "values";
+
+pub(crate) const PERMUTATIONS: &str = "permutations";
+
+pub(crate) const UNDER: &str = "under";
+
+pub(crate) const LISTING_FILE: &str = "listing";
+
 const EXPLAINED: &str = "explain";
 
 // What the help of a subcommand says.
@@ -134,6 +144,20 @@ const EXPAND: Subcommand = Subcommand {
     example: "Example: pramc expand examples/tree_sum.pram --size n=16\nMore: pramc explain expand",
 };
 
+const EXPLORE: Subcommand = Subcommand {
+    name: "explore",
+    about: "Runs the program by its definition on every input of a small scope",
+    over: PROGRAM,
+    example: "Example: pramc explore examples/tree_sum.pram --size n=2 --cells 2 --values 0..3\nMore: pramc explain explore",
+};
+
+const EXPORT: Subcommand = Subcommand {
+    name: "export",
+    about: "Writes the superstep code of the program as C over MPI",
+    over: PROGRAM,
+    example: "Example: pramc export examples/sum.pram > sum.c\nMore: pramc explain export",
+};
+
 const EXEC: Subcommand = Subcommand {
     name: "exec",
     about: "Runs a listing",
@@ -157,9 +181,13 @@ fn over_word<'a>(alloc: Global, words: &Subcommand) -> Result<Command<'a>, Alloc
         .arg(word)
 }
 
-// A subcommand over a file.
-fn over_file<'a>(alloc: Global, words: &Subcommand) -> Result<Command<'a>, AllocError> {
-    let file = Arg::new(alloc, FILE).required(true).help(words.over);
+// A subcommand over a file, which may be left out where another word may stand in its place.
+fn over_some_file<'a>(
+    alloc: Global,
+    words: &Subcommand,
+    is_required: bool,
+) -> Result<Command<'a>, AllocError> {
+    let file = Arg::new(alloc, FILE).required(is_required).help(words.over);
     let explained = Arg::new(alloc, EXPLAINED)
         .long(EXPLAINED)
         .action(ArgAction::SetTrue)
@@ -169,6 +197,11 @@ fn over_file<'a>(alloc: Global, words: &Subcommand) -> Result<Command<'a>, Alloc
         .after_help(words.example)
         .arg(file)?
         .arg(explained)
+}
+
+// A subcommand over a file.
+fn over_file<'a>(alloc: Global, words: &Subcommand) -> Result<Command<'a>, AllocError> {
+    over_some_file(alloc, words, true)
 }
 
 // With numbers for the sizes of a program's text.
@@ -198,13 +231,18 @@ fn of_program<'a>(alloc: Global, command: Command<'a>) -> Result<Command<'a>, Al
     in_formats(alloc, sized(alloc, command)?)
 }
 
-// A subcommand that runs what is in a file.
-fn over_run<'a>(alloc: Global, words: &Subcommand) -> Result<Command<'a>, AllocError> {
+// With a bound on what is run.
+fn bounded<'a>(alloc: Global, command: Command<'a>) -> Result<Command<'a>, AllocError> {
     let bound = Arg::new(alloc, BOUND)
         .long(BOUND)
         .value_name("N")
         .default_value("1000000")
         .help("The most statements that are run");
+    command.arg(bound)
+}
+
+// A subcommand that runs what is in a file.
+fn over_run<'a>(alloc: Global, words: &Subcommand) -> Result<Command<'a>, AllocError> {
     let input = Arg::new(alloc, INPUT)
         .long(INPUT)
         .value_name("FILE")
@@ -220,8 +258,7 @@ fn over_run<'a>(alloc: Global, words: &Subcommand) -> Result<Command<'a>, AllocE
     let seed = Arg::new(alloc, SEED).long(SEED).value_name("S").help(
         "Of two draws with one seed all values are the same; 1 where none is given",
     );
-    over_file(alloc, words)?
-        .arg(bound)?
+    bounded(alloc, over_file(alloc, words)?)?
         .arg(input)?
         .arg(memory)?
         .arg(random)?
@@ -352,6 +389,41 @@ fn over_trace<'a>(alloc: Global, words: &Subcommand) -> Result<Command<'a>, Allo
         .arg(bsp)
 }
 
+// A subcommand that runs a program on every input of a scope.
+fn over_scope<'a>(alloc: Global, words: &Subcommand) -> Result<Command<'a>, AllocError> {
+    let cells = Arg::new(alloc, CELLS)
+        .long(CELLS)
+        .value_name("K")
+        .help("Tries all inputs of K values, K up to 1048576");
+    let values = Arg::new(alloc, VALUES)
+        .long(VALUES)
+        .value_name("LO..HI")
+        .allow_hyphen_values(true)
+        .help("The values are those of this interval, for at most 100000000 inputs");
+    let permutations = Arg::new(alloc, PERMUTATIONS)
+        .long(PERMUTATIONS)
+        .value_name("K")
+        .help("Tries all orders of the numbers 1 to K in their place, K up to 10");
+    let under = Arg::new(alloc, UNDER)
+        .long(UNDER)
+        .value_name("RULE")
+        .help("Tries them under this rule in place of that of the text");
+    bounded(alloc, over_file(alloc, words)?)?
+        .arg(cells)?
+        .arg(values)?
+        .arg(permutations)?
+        .arg(under)
+}
+
+// The subcommand that writes a program or a listing in C.
+fn over_export<'a>(alloc: Global, words: &Subcommand) -> Result<Command<'a>, AllocError> {
+    let listing = Arg::new(alloc, LISTING_FILE)
+        .long(LISTING_FILE)
+        .value_name("LISTING")
+        .help("Writes this listing of superstep code in place of a program");
+    over_some_file(alloc, words, false)?.arg(listing)
+}
+
 /// The subcommands, their options and the help of each.
 pub(crate) fn grammar<'a>(alloc: Global) -> Result<Command<'a>, AllocError> {
     Command::new(alloc, "pramc")
@@ -369,7 +441,9 @@ pub(crate) fn grammar<'a>(alloc: Global) -> Result<Command<'a>, AllocError> {
         .subcommand(of_program(alloc, over_run(alloc, &RULES)?)?)?
         .subcommand(of_program(alloc, shown(alloc, over_workers(alloc, &RUN)?)?)?)?
         .subcommand(of_program(alloc, over_trace(alloc, &TRACE)?)?)?
+        .subcommand(of_program(alloc, over_scope(alloc, &EXPLORE)?)?)?
         .subcommand(sized(alloc, over_file(alloc, &EXPAND)?)?)?
+        .subcommand(sized(alloc, over_export(alloc, &EXPORT)?)?)?
         .subcommand(in_formats(alloc, shown(alloc, over_workers(alloc, &EXEC)?)?)?)?
         .subcommand(over_word(alloc, &EXPLAIN)?)
 }

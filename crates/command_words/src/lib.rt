@@ -5,6 +5,7 @@ mod command_line;
 mod grammar;
 mod reading;
 mod run_reading;
+mod scope_reading;
 
 pub use command_line::CommandLine;
 pub use reading::read_words;

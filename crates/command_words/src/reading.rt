@@ -5,9 +5,11 @@ ghost use Rattle.std.specs.String.{string_bytes};
 ghost use Rattle.command_requests.specs.Words.{AsksForVersion, IsOfWords};
 
 use crate::grammar::{
-    BSP, FILE, FLOW, FORMAT, HTML, LINES, OUTCOME, SCHEDULE, SIZE, SVG, SWEEP, WORD, grammar,
+    BSP, FILE, FLOW, FORMAT, HTML, LINES, LISTING_FILE, OUTCOME, SCHEDULE, SIZE, SVG, SWEEP, WORD,
+    grammar,
 };
 use crate::run_reading::run_words;
+use crate::scope_reading::scope_words;
 use clap::ArgMatches;
 use clap::error::ErrorKind;
 use command_requests::{ProgramFile, Request, SizeWord, SweepWords, Verb, asks_for_version};
@@ -156,6 +158,33 @@ fn asked_costs<'a>(alloc: Global, matches: &ArgMatches<'a>) -> Result<Request<'a
     }
 }
 
+fn asked_exploration<'a>(alloc: Global, matches: &ArgMatches<'a>) -> Result<Request<'a>, Stop<'a>>
+    ensures { IfErr result IsOfWords }
+{
+    check_format(matches, Over::Run)?;
+    let scope = scope_words(matches)?;
+    let words = run_words(matches)?;
+    let file = file_of(alloc, matches)?;
+    Ok(Request::Exploration { file, scope, words })
+}
+
+// A program or a listing, in C.
+fn asked_export<'a>(alloc: Global, matches: &ArgMatches<'a>) -> Result<Request<'a>, Stop<'a>>
+    ensures { IfErr result IsOfWords }
+{
+    let (file, listing) = (matches.get_str(FILE), matches.get_str(LISTING_FILE));
+    match (file, listing) {
+        (Some(_), None) => asked(alloc, Verb::Export, matches),
+        (None, Some(file)) => {
+            if matches.get_strs(SIZE).is_some() {
+                return Err(Stop::Number("--listing"));
+            }
+            Ok(Request::ListingInC { file })
+        }
+        (_, _) => Err(Stop::Number("--listing")),
+    }
+}
+
 fn asked_listing<'a>(matches: &ArgMatches<'a>) -> Result<Request<'a>, Stop<'a>>
     ensures { IfErr result IsOfWords }
 {
@@ -294,7 +323,9 @@ pub fn read_words<'a>(alloc: Global, words: &'a [String]) -> Result<Request<'a>,
         Some(("rules", inner)) => asked(alloc, Verb::Rules, inner),
         Some(("run", inner)) => asked(alloc, Verb::Run, inner),
         Some(("trace", inner)) => asked(alloc, Verb::Trace, inner),
+        Some(("explore", inner)) => asked_exploration(alloc, inner),
         Some(("expand", inner)) => asked(alloc, Verb::Expand, inner),
+        Some(("export", inner)) => asked_export(alloc, inner),
         Some(("exec", inner)) => asked_listing(inner),
         Some((_, inner)) => asked_subject(inner),
         None => Err(Stop::Number("")),

@@ -1,0 +1,103 @@
+//! Scopes of inputs, by the options of a command line.
+
+ghost use Rattle.std.specs.Prelude.{◌≤◌, IfOk, IfErr};
+ghost use Rattle.command_requests.specs.Words.{IsOfWords};
+
+use crate::grammar::{CELLS, PERMUTATIONS, UNDER, VALUES};
+use clap::ArgMatches;
+use command_requests::{MOST_CELLS, MOST_INPUTS, MOST_ORDERED, ScopeWords, read_rule};
+use drawn_inputs::read_interval;
+use pram_model::Rule;
+use program_texts::Stop;
+use run_options::read_number;
+use small_scopes::{Scope, input_count};
+
+// A number from 0 or 1 to the greatest.
+fn count_of<'a>(word: &'a str, least: u32, most: u32) -> Result<u32, Stop<'a>>
+    ensures from { IfOk result (λ count. least ≤ count) }
+    ensures to { IfOk result (λ count. count ≤ most) }
+    ensures refused { IfErr result IsOfWords }
+{
+    match read_number(word) {
+        Some(count) => {
+            if least <= count && count <= most {
+                Ok(count)
+            } else {
+                Err(Stop::Number(word))
+            }
+        }
+        None => Err(Stop::Number(word)),
+    }
+}
+
+// All inputs of so many values of the interval.
+fn scope_of<'a>(cells: &'a str, values: &'a str) -> Result<Scope, Stop<'a>>
+    ensures { IfErr result IsOfWords }
+{
+    let count = count_of(cells, 0, MOST_CELLS)?;
+    match read_interval(values) {
+        Some((low, high)) => Ok(Scope {
+            count,
+            low,
+            high,
+            apart: false,
+        }),
+        None => Err(Stop::Number(values)),
+    }
+}
+
+// All orders of so many numbers from 1 on.
+fn orders_of<'a>(word: &'a str) -> Result<Scope, Stop<'a>>
+    ensures { IfErr result IsOfWords }
+{
+    let count = count_of(word, 1, MOST_ORDERED)?;
+    Ok(Scope {
+        count,
+        low: 1,
+        high: i64::from(count),
+        apart: true,
+    })
+}
+
+// The rule under which the program is run, if the command line has one.
+fn rule_of<'a>(words: &ArgMatches<'a>) -> Result<Option<Rule>, Stop<'a>>
+    ensures { IfErr result IsOfWords }
+{
+    match words.get_str(UNDER) {
+        None => Ok(None),
+        Some(word) => match read_rule(word) {
+            Some(rule) => Ok(Some(rule)),
+            None => Err(Stop::Number(word)),
+        },
+    }
+}
+
+// A scope of not too many inputs; the word is that by which there would be too many.
+fn counted<'a>(scope: Scope, rule: Option<Rule>, word: &'a str) -> Result<ScopeWords, Stop<'a>>
+    ensures { IfErr result IsOfWords }
+{
+    match input_count(scope) {
+        Some(count) => {
+            if count <= MOST_INPUTS {
+                Ok(ScopeWords { scope, rule })
+            } else {
+                Err(Stop::Number(word))
+            }
+        }
+        None => Err(Stop::Number(word)),
+    }
+}
+
+/// The inputs on which a program is run, and under which rule.
+pub(crate) fn scope_words<'a>(words: &ArgMatches<'a>) -> Result<ScopeWords, Stop<'a>>
+    ensures { IfErr result IsOfWords }
+{
+    let rule = rule_of(words)?;
+    let (cells, values) = (words.get_str(CELLS), words.get_str(VALUES));
+    match (cells, values, words.get_str(PERMUTATIONS)) {
+        (Some(cells), Some(values), None) => counted(scope_of(cells, values)?, rule, values),
+        (None, None, Some(word)) => counted(orders_of(word)?, rule, word),
+        (_, _, Some(_)) => Err(Stop::Number("--permutations")),
+        (_, _, None) => Err(Stop::Number("--cells")),
+    }
+}
