@@ -4,4 +4,5 @@ pub mod EntryFacts
 pub mod ExchangeFacts
 pub mod Readable
 pub mod SweepReadable
+pub mod ExplorationReadable
 pub mod MessageReadable

@@ -57,7 +57,7 @@ small_memory : (ds : List (SharedEntry × List ℤ)) → AreSmall 2 (memory_fact
 small_memory [] = tt
 small_memory (d ∷ ds) = (small_entry d.0 d.1, small_memory ds)
 
-small_fault : (n : ℕ) (layout : List SharedEntry) (fault : Fault) → HasSmall n (fault_fields layout fault)
+pub small_fault : (n : ℕ) (layout : List SharedEntry) (fault : Fault) → HasSmall n (fault_fields layout fault)
 small_fault n layout fault = (small_word n _, (small_letters n _, (small_count n fault.line, tt)))
 
 small_chosen : (choice : Choice) (layout : List SharedEntry) (v : Verdict) → HasSmall 3 (chosen_fields choice layout v)

@@ -9,3 +9,4 @@ pub mod CauseFacts
 pub mod StepFacts
 pub mod TraceFacts
 pub mod SweepFacts
+pub mod ExplorationFacts

@@ -6,6 +6,7 @@ mod acts;
 mod cause;
 mod cost;
 mod exchange;
+mod exploration;
 mod fault;
 mod memory;
 mod message;
@@ -19,6 +20,7 @@ mod trace;
 
 pub use accepted::json_accepted;
 pub use cost::json_cost;
+pub use exploration::json_exploration;
 pub use message::json_refusal;
 pub use outcome::json_outcome;
 pub use refusal::{json_stop, json_unverified, out_of_memory_line};

@@ -1,0 +1,48 @@
+-- That what is told of every input of a scope can be read.
+use Rattle.std.proofs.Common.{ℕ, List, [], ◌∷◌, ◌++◌, codes, lit≤, map}
+use Rattle.std.specs.Prelude.{Option, Some, None}
+use Rattle.json_lines.specs.Small.{IsReadable, IsSmall}
+use Rattle.json_lines.proofs.Small.{HasSmall, has_all, small_large, small_list, small_map, small_object, small_values, smaller}
+use Rattle.pram_model.specs.Layout.{SharedEntry}
+use Rattle.explorations.specs.Firsts.{Met}
+use Rattle.explorations.specs.Found.{Found}
+use Rattle.explorations.specs.declared.findings.Span.{Span}
+use Rattle.json_texts.specs.ExplorationFacts.{cost_fields, count_fields, exploration_facts, met_facts, span_facts, span_fields}
+use Rattle.json_texts.specs.OutcomeFacts.{fault_fields}
+use Rattle.json_texts.proofs.Readable.{readable, small_fault}
+
+small_met : (layout : List SharedEntry) (m : Met) → IsSmall 2 (met_facts layout m)
+small_met layout m =
+    small_object 1 ((codes "input", _) ∷ fault_fields layout m.fault) (small_values 0 m.input, small_fault 1 layout m.fault)
+
+small_span : (s : Span) → IsSmall 1 (span_facts s)
+small_span s = small_object 0 ((codes "least", _) ∷ (codes "greatest", _) ∷ []) (small_large 0 s.least, (small_large 0 s.greatest, tt))
+
+small_spans : (name : List ℕ) (s : Option Span) → HasSmall 3 (span_fields name s)
+small_spans name None = tt
+small_spans name (Some s) = (smaller 1 3 (span_facts s) (lit≤ tt) (small_span s), tt)
+
+small_counts : (layout : List SharedEntry) (f : Found) → HasSmall 3 (count_fields layout f)
+small_counts layout f = (
+  small_large 3 f.inputs,
+  (
+    small_large 3 f.ended,
+    (
+      small_large 3 f.faulted,
+      (
+        small_large 3 f.go_on,
+        (small_list 2 (map (met_facts layout) f.faults) (small_map 2 (met_facts layout) (small_met layout) f.faults), tt),
+      ),
+    ),
+  ),
+)
+
+small_costs : (f : Found) → HasSmall 3 (cost_fields f)
+small_costs f =
+    has_all 3 (span_fields (codes "time") f.time) (span_fields (codes "work") f.work) (small_spans (codes "time") f.time)
+    (small_spans (codes "work") f.work)
+
+pub readable_exploration : (layout : List SharedEntry) (f : Found) → IsReadable (exploration_facts layout f)
+readable_exploration layout f =
+    readable (count_fields layout f ++ cost_fields f)
+    (has_all 3 (count_fields layout f) (cost_fields f) (small_counts layout f) (small_costs f))

@@ -1,0 +1,7 @@
+use Rattle.std.proofs.Common.{subst, sym}
+use Rattle.json_lines.specs.Small.{IsReadable}
+use Rattle.json_texts.proofs.ExplorationReadable.{readable_exploration}
+use Rattle.json_texts.proofs.exploration.json_exploration.Goals as goal
+
+pub line_of-requires : goal.line_of-requires
+line_of-requires c = record { readable = subst IsReadable (sym c.in_ok-facts.ensures) (readable_exploration _ _) }
