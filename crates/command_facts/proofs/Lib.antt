@@ -8,4 +8,5 @@ pub mod Programs
 pub mod Refusals
 pub mod Comparisons
 pub mod Alone
+pub mod Rules
 pub mod SweptRows

@@ -1,7 +1,8 @@
 -- What a call finds, or why it finds nothing.
-use Rattle.std.specs.Prelude.{◌≡◌, ◌⊎◌, ℕ, Bool, true, false, if◌then◌else◌, List, Option, Result, Ok, Err}
+use Rattle.std.specs.Prelude.{◌≡◌, ◌⊎◌, ℕ, nat_lt, Bool, true, false, if◌then◌else◌, List, Option, Result, Ok, Err}
 use Rattle.std.specs.List.{list_any}
 use Rattle.sized_texts.specs.Pieces.{Expansion}
+use Rattle.superstep_instructions.specs.Code.{SuperstepCode}
 use Rattle.program_runs.specs.Compiled.{IsCompiledFrom}
 use Rattle.program_texts.specs.Status.{status_of}
 use Rattle.program_texts.specs.declared.status.Status.{Status}
@@ -20,17 +21,24 @@ use Rattle.command_requests.specs.declared.request.Verb.TheVariants as verb
 use Rattle.command_facts.specs.declared.found.Found.{Found}
 use Rattle.command_facts.specs.declared.found.Found.TheVariants as found
 use Rattle.command_facts.specs.declared.halted.Halted.{Halted}
-use Rattle.command_facts.specs.Held.{IsExpansionIn, IsTextIn, StopsAtProgram, StopsAtText}
+use Rattle.bsp_verify.specs.WellFormed.{IsWellFormed}
+use Rattle.command_facts.specs.Held.{IsExpansionIn, IsListingIn, IsTextIn, StopsAtListing, StopsAtProgram, StopsAtText}
 use Rattle.command_facts.specs.Found.{IsCodeFound, IsComparisonFound, IsLoaded, IsRunFound}
 use Rattle.command_facts.specs.Refused.{RefusesCodeRun, RefusesRun, StopsAtCode}
+use Rattle.command_facts.specs.Scopes.{IsExplored, StopsAtExploration}
 use Rattle.command_facts.specs.Sweeps.{IsSwept, StopsAtSweep}
 
--- What a call over a program's file finds. Its code is compiled from what all that the file holds comes to by the sizes of the words.
+-- The code of a program's file is compiled from what all that the file holds comes to by the sizes of the words.
+abbrev pub IsCodeOfFile : (List ℕ → Option (List ℕ) → Type 0) → ProgramFile → SuperstepCode → Type 0
+IsCodeOfFile holds file code =
+    (e : Expansion) × IsExpansionIn (holds file.name.now) file.sizes.items e × IsCompiledFrom e.text code
+
+-- What a call over a program's file finds.
 abbrev pub FindsOf : (List ℕ → Option (List ℕ) → Type 0) → Verb → ProgramFile → RunWords → Found → Type 0
 FindsOf holds verb.Check file words (found.Accepted l) = IsLoaded (holds file.name.now) file l
 FindsOf holds verb.Expand file words (found.Expanded s) = IsTextIn (holds file.name.now) file.sizes.items s
-FindsOf holds verb.Plan file words (found.Planned code) =
-    (e : Expansion) × IsExpansionIn (holds file.name.now) file.sizes.items e × IsCompiledFrom e.text code
+FindsOf holds verb.Plan file words (found.Planned code) = IsCodeOfFile holds file code
+FindsOf holds verb.Export file words (found.Exported code) = IsCodeOfFile holds file code
 FindsOf holds verb.Rules file words (found.Compared c) = IsComparisonFound holds file words c
 FindsOf holds verb.Meaning file words (found.Run r) = IsRunFound holds verb.Meaning file words r
 FindsOf holds verb.Cost file words (found.Run r) = IsRunFound holds verb.Cost file words r
@@ -45,7 +53,9 @@ Finds holds request.Version found.Version = Unit {0}
 Finds holds (request.Explanation subject) (found.Explanation told) = told ≡ subject
 Finds holds (request.Program verb file words) f = FindsOf holds verb file words f
 Finds holds (request.Sweep file sweep words) (found.Swept s) = IsSwept holds file sweep words s
+Finds holds (request.Exploration file scope words) (found.Explored f) = IsExplored holds file scope words.options.bound f
 Finds holds (request.Listing file words) (found.Executed c) = IsCodeFound holds file.now words c
+Finds holds (request.ListingInC file) (found.Exported code) = IsListingIn (holds file.now) code × IsWellFormed code
 Finds holds _ _ = ⊥
 
 -- a size at which the run faults or is refused
@@ -68,11 +78,16 @@ status_of_rows rows =
     if list_any (λ r. is_bad r.ending) rows then status.Faulted
     else (if list_any (λ r. is_going_on r.ending) rows then status.GoesOn else status.Done)
 
+-- That of runs on every input of a scope: some fault; or none does, and some go on; or all end.
+abbrev pub status_of_findings : (faulted go_on : ℕ) → Status
+status_of_findings faulted go_on = if nat_lt 0 faulted then status.Faulted else (if nat_lt 0 go_on then status.GoesOn else status.Done)
+
 -- the exit status that goes with what was found
 abbrev pub status_of_found : Found → Status
 status_of_found (found.Run r) = status_of r.outcome
 status_of_found (found.Executed c) = status_of c.outcome
 status_of_found (found.Swept s) = status_of_rows s.rows.items
+status_of_found (found.Explored f) = status_of_findings f.findings.faulted f.findings.go_on
 status_of_found _ = status.Done
 
 -- ---- why
@@ -82,6 +97,7 @@ abbrev pub RefusesOf : (List ℕ → Option (List ℕ) → Type 0) → Verb → 
 RefusesOf holds verb.Check file words h = StopsAtProgram (holds file.name.now) file h
 RefusesOf holds verb.Expand file words h = StopsAtText (holds file.name.now) file h
 RefusesOf holds verb.Plan file words h = StopsAtProgram (holds file.name.now) file h ⊎ StopsAtCode holds file h
+RefusesOf holds verb.Export file words h = StopsAtProgram (holds file.name.now) file h ⊎ StopsAtCode holds file h
 RefusesOf holds verb file words h = RefusesRun holds verb file words h
 
 -- why a call finds nothing
@@ -90,7 +106,9 @@ Refuses holds request.Version h = ⊥
 Refuses holds (request.Explanation subject) h = ⊥
 Refuses holds (request.Program verb file words) h = RefusesOf holds verb file words h
 Refuses holds (request.Sweep file sweep words) h = StopsAtSweep holds file sweep words h
+Refuses holds (request.Exploration file scope words) h = StopsAtExploration holds file scope h
 Refuses holds (request.Listing file words) h = RefusesCodeRun holds file.now words h
+Refuses holds (request.ListingInC file) h = StopsAtListing (holds file.now) file.now h
 
 -- why a request is refused: its words are, or nothing is found
 abbrev pub IsStop : (List ℕ → Option (List ℕ) → Type 0) → Result Request Stop → Halted → Type 0

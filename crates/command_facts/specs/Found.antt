@@ -97,6 +97,7 @@ AreFactsOf verb.Run program input words v facts.Nothing =
 AreFactsOf verb.Meaning program input words v facts.Nothing = Unit {0}
 AreFactsOf verb.Check program input words v facts.Nothing = Unit {0}
 AreFactsOf verb.Plan program input words v facts.Nothing = Unit {0}
+AreFactsOf verb.Export program input words v facts.Nothing = Unit {0}
 AreFactsOf verb.Rules program input words v facts.Nothing = Unit {0}
 AreFactsOf verb.Expand program input words v facts.Nothing = Unit {0}
 AreFactsOf _ program input words v _ = ⊥

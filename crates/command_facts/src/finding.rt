@@ -2,11 +2,12 @@
 
 ghost use Rattle.std.specs.Prelude.{◌≡◌, ◌⊎◌, IfOk, IfErr};
 ghost use Rattle.system_files.specs.Files.{IsSame};
-ghost use Rattle.command_facts.specs.Calls.{Finds, FindsOf, Refuses, RefusesOf};
+ghost use Rattle.command_facts.specs.Calls.{Finds, FindsOf, IsCodeOfFile, Refuses, RefusesOf};
 ghost use Rattle.command_facts.specs.Found.{AreThere, IsCodeFound, IsComparisonFound, IsLoaded, IsOpening, IsRunFound};
-ghost use Rattle.command_facts.specs.Refused.{IsUnknownIn, RefusesCodeRun, RefusesRun, StopsBehindProgram};
+ghost use Rattle.command_facts.specs.Refused.{IsUnknownIn, RefusesCodeRun, RefusesRun, StopsAtCode, StopsBehindProgram};
 ghost use Rattle.command_facts.specs.Held.{StopsAtProgram};
 
+use crate::exploring::find_scope;
 use crate::found::{Found, FoundCode, FoundRun};
 use crate::halted::{Halted, halted_run};
 use crate::loaded::Loaded;
@@ -14,6 +15,7 @@ use crate::loading::{load_listing, load_program, load_text};
 use crate::opening::load_opening;
 use crate::running::facts_of;
 use crate::sweeping::find_sweep;
+use bsp_verify::Verified;
 use command_requests::{ProgramFile, Request, RunWords, Verb};
 use memory_texts::unknown_name;
 use pram_trees::Layout;
@@ -61,15 +63,15 @@ fn load_given<'a, S: Sources>(
 fn find_code<'a, S: Sources>(
     alloc: Global,
     file: &ProgramFile<'a>,
-    words: RunWords<'a>,
     sources: &mut S,
-) -> Result<Found<'a>, Halted<'a>>
-    ensures found { IfOk result (FindsOf (S.Sources.holds sources.old) Verb.Plan file.now words.entry) }
-    ensures refused { IfErr result (RefusesOf (S.Sources.holds sources.old) Verb.Plan file.now words.entry) }
+) -> Result<Verified, Halted<'a>>
+    ensures found { IfOk result (IsCodeOfFile (S.Sources.holds sources.old) file.now) }
+    ensures refused { IfErr result (λ h. StopsAtProgram (S.Sources.holds sources.old file.now.name.now) file.now h
+        ⊎ StopsAtCode (S.Sources.holds sources.old) file.now h) }
 {
     let loaded = load_program(alloc, sources, file)?;
     match compile_program(alloc, &loaded.program) {
-        Ok(code) => Ok(Found::Planned(code)),
+        Ok(code) => Ok(code),
         Err(refusal) => Err(Halted::from(Stop::from(refusal))),
     }
 }
@@ -164,7 +166,8 @@ fn find_of<'a, R: Threads + Wait + Sync, S: Sources>(
     match verb {
         Verb::Check => Ok(Found::Accepted(load_program(alloc, sources, file)?)),
         Verb::Expand => Ok(Found::Expanded(load_text(alloc, sources, file)?)),
-        Verb::Plan => find_code(alloc, file, words, sources),
+        Verb::Plan => Ok(Found::Planned(find_code(alloc, file, sources)?)),
+        Verb::Export => Ok(Found::Exported(find_code(alloc, file, sources)?)),
         Verb::Rules => {
             let comparison = find_comparison(alloc, file, words, sources)?;
             Ok(Found::Compared(comparison))
@@ -201,6 +204,11 @@ pub fn find<'a, R: Threads + Wait + Sync, S: Sources>(
             let swept = find_sweep(rt, alloc, &file, &sweep, words, sources)?;
             Ok(Found::Swept(swept))
         }
+        Request::Exploration { file, scope, words } => {
+            let found = find_scope(alloc, &file, scope, words.options.bound, sources)?;
+            Ok(Found::Explored(found))
+        }
+        Request::ListingInC { file } => Ok(Found::Exported(load_listing(alloc, sources, file)?)),
         Request::Listing { file, words } => {
             let run = find_code_run(rt, alloc, file, words, sources)?;
             Ok(Found::Executed(run))

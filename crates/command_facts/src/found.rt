@@ -6,7 +6,9 @@ use command_requests::{Form, RunWords};
 use diagnoses::Source;
 use exchange_counts::Counts;
 use explanations::Subject;
+use explorations::Findings;
 use memory_texts::Choice;
+use pram_check::Program;
 use rule_comparison::Comparison;
 use sized_texts::Sweep;
 use step_entries::Entry;
@@ -68,6 +70,13 @@ pub struct FoundSweep {
     pub csv: bool,
 }
 
+/// The runs of a program on every input of a scope: the program as it was run, and what is found of it.
+#[derive(Drop)]
+pub struct FoundScope {
+    pub program: Program,
+    pub findings: Findings,
+}
+
 /// What a call finds.
 #[derive(Drop)]
 pub enum Found<'a> {
@@ -81,12 +90,16 @@ pub enum Found<'a> {
     Expanded(Source<'a>),
     /// The code of a program.
     Planned(Verified),
+    /// The code of a program or of a listing, to be written in C.
+    Exported(Verified),
     /// How a program comes out under each rule.
     Compared(Comparison),
     /// A program was run.
     Run(FoundRun<'a>),
     /// A program was run at several sizes.
     Swept(FoundSweep),
+    /// A program was run on every input of a scope.
+    Explored(FoundScope),
     /// A listing was run.
     Executed(FoundCode<'a>),
 }

@@ -2,6 +2,7 @@
 #![tactic(auto)]
 
 mod ends;
+mod exploring;
 mod finding;
 mod found;
 mod halted;
@@ -14,7 +15,7 @@ mod sweeping;
 mod tracing;
 
 pub use finding::find;
-pub use found::{Facts, Found, FoundCode, FoundRun, FoundSweep, FoundTrace};
+pub use found::{Facts, Found, FoundCode, FoundRun, FoundScope, FoundSweep, FoundTrace};
 pub use halted::Halted;
 pub use loaded::Loaded;
 pub use status::status_of;

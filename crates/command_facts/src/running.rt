@@ -133,8 +133,7 @@ pub(crate) fn facts_of<R: Threads + Wait + Sync>(
             Ok((outcome, Facts::Nothing))
         }
         Verb::Trace => trace(rt, alloc, program, input, words),
-        Verb::Meaning | Verb::Check | Verb::Plan | Verb::Rules | Verb::Expand => {
-            mean(alloc, program, input, words)
-        }
+        Verb::Meaning | Verb::Check | Verb::Plan | Verb::Export | Verb::Rules | Verb::Expand =>
+            mean(alloc, program, input, words),
     }
 }

@@ -5,6 +5,7 @@ ghost use Rattle.std.specs.List.{list_any};
 ghost use Rattle.command_facts.specs.Calls as spec;
 
 use crate::found::Found;
+use explorations::Findings;
 use program_texts::Status;
 use sweep_texts::{Ending, SizeRow};
 
@@ -69,6 +70,19 @@ fn status_of_rows(rows: &[SizeRow]) -> Status
     }
 }
 
+// The exit status of runs on every input of a scope.
+fn status_of_findings(findings: &Findings) -> Status
+    ensures { result ≡ spec.status_of_findings findings.now.faulted findings.now.go_on }
+{
+    if findings.faulted > 0 {
+        Status::Faulted
+    } else if findings.go_on > 0 {
+        Status::GoesOn
+    } else {
+        Status::Done
+    }
+}
+
 /// The exit status that goes with what was found, however it is told.
 pub fn status_of(found: &Found<'_>) -> Status
     ensures { result ≡ spec.status_of_found found.now }
@@ -82,6 +96,8 @@ pub fn status_of(found: &Found<'_>) -> Status
         Found::Accepted(_) => Status::Done,
         Found::Expanded(_) => Status::Done,
         Found::Planned(_) => Status::Done,
+        Found::Exported(_) => Status::Done,
+        Found::Explored(found) => status_of_findings(&found.findings),
         Found::Compared(_) => Status::Done,
     }
 }

@@ -1,0 +1,45 @@
+-- What calls find of a program on every input of a scope.
+use Rattle.std.specs.Prelude.{◌≡◌, ◌⊎◌, ◌<◌, ℕ, List, Option, Some, None}
+use Rattle.pram_model.specs.Layout.{total_size}
+use Rattle.pram_model.specs.declared.rule.Rule.{Rule}
+use Rattle.pram_check.specs.Checked.{Checked}
+use Rattle.pram_check.specs.OtherRule.{under}
+use Rattle.explorations.specs.Found.{found, found_is}
+use Rattle.small_scopes.specs.Scopes.{inputs_of}
+use Rattle.command_requests.specs.declared.request.ProgramFile.{ProgramFile}
+use Rattle.command_requests.specs.declared.scope_words.ScopeWords.{ScopeWords}
+use Rattle.diagnoses.specs.declared.about.About.{About}
+use Rattle.diagnoses.specs.declared.about.About.TheVariants as about
+use Rattle.program_texts.specs.declared.from_text.Refusal.TheVariants as refusal
+use Rattle.program_texts.specs.declared.stop.Stop.{Stop}
+use Rattle.program_texts.specs.declared.stop.Stop.TheVariants as stop
+use Rattle.command_facts.specs.declared.found.FoundScope.{FoundScope}
+use Rattle.command_facts.specs.declared.halted.Halted.{Halted}
+use Rattle.command_facts.specs.declared.loaded.Loaded.{Loaded}
+use Rattle.command_facts.specs.Found.{IsLoaded}
+use Rattle.command_facts.specs.Held.{StopsAtProgram}
+use Rattle.command_facts.specs.Refused.{AreNumbers, IsProgramIn}
+
+-- a program under the rule that is asked for, or under its own
+abbrev pub under_rule : Option Rule → Checked → Checked
+under_rule None program = program
+under_rule (Some rule) program = under rule program
+
+-- what is found of the file's program on every input of the scope, within so many statements each
+pub record IsExplored (holds : List ℕ → Option (List ℕ) → Type 0) (file : ProgramFile) (scope : ScopeWords) (bound : ℕ) (f : FoundScope)
+    : Type 0 where
+  pub loaded : Loaded
+  pub is_loaded : IsLoaded (holds file.name.now) file loaded
+  pub ran : f.program ≡ under_rule scope.rule loaded.program
+  pub found : found_is f.findings ≡ found f.program bound (inputs_of scope.scope)
+
+-- the inputs have more values than the program has cells, which is told with both numbers; or memory was refused
+abbrev pub IsRefusedFor : (values cells : ℕ) → Stop → About → Type 0
+IsRefusedFor values cells (stop.Refused refusal.InputTooLong) a = (cells < values) × AreNumbers a values cells
+IsRefusedFor values cells (stop.Refused refusal.OutOfMemory) a = a ≡ about.Nothing
+IsRefusedFor values cells _ a = ⊥
+
+-- why nothing is found: for the program's file, or for its runs
+abbrev pub StopsAtExploration : (List ℕ → Option (List ℕ) → Type 0) → ProgramFile → ScopeWords → Halted → Type 0
+StopsAtExploration holds file scope h = StopsAtProgram (holds file.name.now) file h
+    ⊎ ((program : Checked) × IsProgramIn holds file program × IsRefusedFor scope.scope.count (total_size program.layout) h.stop h.about)
