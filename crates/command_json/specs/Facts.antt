@@ -20,6 +20,8 @@ use Rattle.command_facts.specs.declared.found.FoundCode.{FoundCode}
 use Rattle.command_facts.specs.declared.found.FoundRun.{FoundRun}
 use Rattle.json_texts.specs.AcceptedFacts.{accepted_facts}
 use Rattle.json_texts.specs.CostFacts.{cost_facts}
+use Rattle.explorations.specs.Found.{found_is}
+use Rattle.json_texts.specs.ExplorationFacts.{exploration_facts}
 use Rattle.json_texts.specs.OutcomeFacts.{chosen_facts}
 use Rattle.json_texts.specs.RuleFacts.{comparison_facts}
 use Rattle.json_texts.specs.StepFacts.{steps_facts}
@@ -51,6 +53,7 @@ abbrev pub AreFactsOf : Found → List Data → Type 0
 AreFactsOf (found.Accepted l) told = told ≡ accepted_facts l.program ∷ []
 AreFactsOf (found.Compared c) told = told ≡ comparison_facts c ∷ []
 AreFactsOf (found.Run r) told = told ≡ run_facts r r.facts
+AreFactsOf (found.Explored f) told = told ≡ exploration_facts f.program.layout (found_is f.findings) ∷ []
 AreFactsOf (found.Swept s) told = told ≡ sweep_facts s.sweep.name s.rows.items s.growths
 AreFactsOf (found.Executed c) told = told ≡ code_facts c ∷ []
 AreFactsOf _ told = ⊥
@@ -65,6 +68,7 @@ IsUntold found.Version = Unit {0}
 IsUntold (found.Explanation subject) = Unit {0}
 IsUntold (found.Expanded s) = Unit {0}
 IsUntold (found.Planned code) = Unit {0}
+IsUntold (found.Exported code) = Unit {0}
 IsUntold _ = ⊥
 
 -- why no lines are made: memory was refused, or what was found is not told so

@@ -3,16 +3,21 @@
 ghost use Rattle.std.specs.Prelude.{◌≡◌, ◌<◌, ◌^◌, ◌∷◌, [], IfOk, IfErr};
 ghost use Rattle.std.specs.String.{string_bytes};
 ghost use Rattle.json_lines.specs.Lines.{IsJson};
+ghost use Rattle.explorations.specs.Found.{found_is};
+ghost use Rattle.json_texts.specs.ExplorationFacts.{exploration_facts};
 ghost use Rattle.json_texts.specs.SweepFacts.{sweep_facts};
 ghost use Rattle.json_texts.specs.TraceFacts.{trace_facts};
 ghost use Rattle.write_rules.specs.Verdict.{verdict_of};
 ghost use Rattle.command_json.specs.Facts as spec;
 
 use crate::writing::write_json;
-use command_facts::{Facts, Found, FoundCode, FoundRun, FoundSweep, FoundTrace, status_of};
+use command_facts::{
+    Facts, Found, FoundCode, FoundRun, FoundScope, FoundSweep, FoundTrace, status_of,
+};
 use exchange_counts::Counts;
 use json_texts::{
-    json_accepted, json_comparison, json_cost, json_outcome, json_steps, json_sweep, json_trace,
+    json_accepted, json_comparison, json_cost, json_exploration, json_outcome, json_steps,
+    json_sweep, json_trace,
 };
 use program_texts::{Status, Stop};
 use std::alloc::{AllocError, Global};
@@ -88,6 +93,14 @@ fn sweep_text(alloc: Global, swept: &FoundSweep) -> Result<String, AllocError>
     )
 }
 
+// What is found on every input of a scope.
+fn scope_text(alloc: Global, found: &FoundScope) -> Result<String, AllocError>
+    ensures told { IfOk result (λ text. IsJson (exploration_facts found.now.program.layout (found_is found.now.findings) ∷ [])
+        (string_bytes text)) }
+{
+    json_exploration(alloc, found.program.layout(), &found.findings)
+}
+
 // The lines of what was found.
 fn text_of<'a>(alloc: Global, found: &Found<'_>) -> Result<String, Stop<'a>>
     ensures told { IfOk result (λ text. spec.IsJsonOf found.now (string_bytes text)) }
@@ -98,11 +111,13 @@ fn text_of<'a>(alloc: Global, found: &Found<'_>) -> Result<String, Stop<'a>>
         Found::Compared(comparison) => Ok(json_comparison(alloc, comparison)?),
         Found::Run(run) => Ok(run_text(alloc, run)?),
         Found::Swept(swept) => Ok(sweep_text(alloc, swept)?),
+        Found::Explored(found) => Ok(scope_text(alloc, found)?),
         Found::Executed(run) => Ok(code_text(alloc, run)?),
         Found::Version => Err(Stop::Number(JSON)),
         Found::Explanation(_) => Err(Stop::Number(JSON)),
         Found::Expanded(_) => Err(Stop::Number(JSON)),
         Found::Planned(_) => Err(Stop::Number(JSON)),
+        Found::Exported(_) => Err(Stop::Number(JSON)),
     }
 }
 

@@ -208,6 +208,8 @@ pub(crate) fn explain<E: Out>(alloc: Global, err: &mut E, found: &Found<'_>, exp
         Found::Accepted(_) => {}
         Found::Expanded(_) => {}
         Found::Planned(_) => {}
+        Found::Exported(_) => {}
+        Found::Explored(_) => {}
         Found::Compared(_) => {}
         Found::Swept(_) => {}
     }

@@ -11,8 +11,8 @@ use crate::sweeping::write_swept;
 use crate::terminal::Terminal;
 use crate::tracing::write_found_trace;
 use crate::writing::{
-    write_accepted, write_costs, write_outcome, write_plan, write_rules, write_subject, write_text,
-    write_version,
+    write_accepted, write_costs, write_exploration, write_export, write_outcome, write_plan,
+    write_rules, write_subject, write_text, write_version,
 };
 use command_facts::{Facts, Found, FoundRun, status_of};
 use program_texts::{Status, Stop};
@@ -56,9 +56,14 @@ pub(crate) fn write_found<'a, O: Out>(
         Found::Accepted(loaded) => write_accepted(out, &loaded.program),
         Found::Expanded(source) => write_text(out, source.text()),
         Found::Planned(code) => write_plan(out, code.code()),
+        Found::Exported(code) => write_export(out, code.code()),
         Found::Compared(comparison) => write_rules(out, comparison),
         Found::Run(run) => write_run(alloc, on, run, out),
         Found::Swept(swept) => write_swept(out, swept, status_of(found)),
+        Found::Explored(explored) => {
+            let (layout, status) = (explored.program.layout(), status_of(found));
+            write_exploration(out, layout, &explored.findings, status)
+        }
         Found::Executed(run) => {
             write_outcome(out, run.code.code().layout(), &run.outcome, run.shown)
         }

@@ -8,6 +8,9 @@ ghost use Rattle.program_texts.specs.Status.{status_of};
 ghost use Rattle.program_texts.specs.declared.status.Status.TheVariants.{Done};
 ghost use Rattle.memory_texts.specs.Chosen.{shown_by};
 ghost use Rattle.explanations.specs.Explained.{explanation};
+ghost use Rattle.explorations.specs.Found.{found_is};
+ghost use Rattle.exploration_texts.specs.FindingsText.{findings_text};
+ghost use Rattle.mpi_export.specs.Program.{c_text};
 ghost use Rattle.rule_comparison.specs.ComparisonText.{comparison_text};
 ghost use Rattle.superstep_listing.specs.Listing.{spelling};
 ghost use Rattle.command_text.specs.Costs.{costs_text};
@@ -17,8 +20,11 @@ ghost use Rattle.command_text.specs.Texts.{accepted_line, version_text};
 use command_requests::{CostWords, VERSION};
 use cost_texts::{write_cost, write_lines};
 use explanations::{Subject, write_explanation};
+use exploration_texts::write_findings;
+use explorations::Findings;
 use itoa::Buffer;
 use memory_texts::{Choice, show_chosen};
+use mpi_export::write_program;
 use pram_check::Program;
 use pram_trees::Layout;
 use program_texts::{Status, Stop, finish, rule_word, show};
@@ -126,6 +132,31 @@ pub(crate) fn write_plan<'a, O: Out>(out: &mut O, code: &Code) -> Result<Status,
 {
     write_listing(code, out)?;
     finish(out, Status::Done)
+}
+
+/// Writes code as a program in C.
+pub(crate) fn write_export<'a, O: Out>(out: &mut O, code: &Code) -> Result<Status, Stop<'a>>
+    requires out { (O.Out.state out.old).failures < 2 ^ 62 }
+    ensures written { Wrote Done (c_text code.now)
+        (O.Out.state out.old) (O.Out.state out.new) result }
+{
+    write_program(code, out)?;
+    finish(out, Status::Done)
+}
+
+/// Writes what is found on every input of a scope, and ends with that status.
+pub(crate) fn write_exploration<'a, O: Out>(
+    out: &mut O,
+    layout: &Layout,
+    findings: &Findings,
+    status: Status,
+) -> Result<Status, Stop<'a>>
+    requires out { (O.Out.state out.old).failures < 2 ^ 62 }
+    ensures written { Wrote status (findings_text layout.now (found_is findings.now))
+        (O.Out.state out.old) (O.Out.state out.new) result }
+{
+    write_findings(out, layout, findings)?;
+    finish(out, status)
 }
 
 /// Writes what there is to say of a subject.
