@@ -103,7 +103,7 @@ def manual():
 
 def explained():
     """The options that the text of each command names, and that of all options."""
-    text = "".join(source(f"explanations/src/{it}.rt") for it in ("commands", "workers", "overviews"))
+    text = "".join(source(f"explanations/src/{it}.rt") for it in ("commands", "scopes", "workers", "overviews"))
     texts = dict(re.findall(r'const (\w+): .*?\*b"(.*?)";', text, re.S))
     for name, options in commands().items():
         if options:

@@ -9,6 +9,7 @@ use Rattle.explanations.specs.declared.runs.TheConstants.{INPUT_TOO_LONG, BAD_MA
 use Rattle.explanations.specs.declared.runs.TheConstants.{OUT_OF_MEMORY, WRITE_FAILED, OUT_OF_RESERVE, COMMAND_LINE, UNREADABLE_FILE}
 use Rattle.explanations.specs.declared.faults.TheConstants.{OVERFLOW, DIVIDE_BY_ZERO, OUT_OF_RANGE, TOO_WIDE, READ_CONFLICT, WRITE_CONFLICT}
 use Rattle.explanations.specs.declared.commands.TheConstants.{CHECK, PLAN, MEANING, COST, STEPS, RULES, EXPAND, EXPLAIN}
+use Rattle.explanations.specs.declared.scopes.TheConstants.{EXPLORE, EXPORT}
 use Rattle.explanations.specs.declared.workers.TheConstants.{RUN, TRACE, EXEC}
 use Rattle.explanations.specs.declared.overviews.TheConstants.{LANGUAGE, OPTIONS, EVERYTHING}
 
@@ -47,9 +48,11 @@ subject_word subject.Meaning = codes "meaning"
 subject_word subject.Cost = codes "cost"
 subject_word subject.Steps = codes "steps"
 subject_word subject.Rules = codes "rules"
+subject_word subject.Explore = codes "explore"
 subject_word subject.Run = codes "run"
 subject_word subject.Trace = codes "trace"
 subject_word subject.Expand = codes "expand"
+subject_word subject.Export = codes "export"
 subject_word subject.Exec = codes "exec"
 subject_word subject.Explain = codes "explain"
 subject_word subject.Language = codes "language"
@@ -99,9 +102,11 @@ explanation subject.Meaning = MEANING
 explanation subject.Cost = COST
 explanation subject.Steps = STEPS
 explanation subject.Rules = RULES
+explanation subject.Explore = EXPLORE
 explanation subject.Run = RUN
 explanation subject.Trace = TRACE
 explanation subject.Expand = EXPAND
+explanation subject.Export = EXPORT
 explanation subject.Exec = EXEC
 explanation subject.Explain = EXPLAIN
 explanation subject.Language = LANGUAGE

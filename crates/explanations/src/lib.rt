@@ -7,6 +7,7 @@ mod faults;
 mod names;
 mod overviews;
 mod runs;
+mod scopes;
 mod subject;
 mod texts;
 mod workers;

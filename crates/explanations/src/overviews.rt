@@ -51,7 +51,7 @@ Limits: numbers of 64 bits, 16384 processors, 1048576 cells, 16384 tokens,
 8 shared reads in a statement, 64 levels of blocks and of expressions.
 ";
 
-pub(crate) const OPTIONS: [u8; 2477] = *b"The options, and which commands take them.
+pub(crate) const OPTIONS: [u8; 2908] = *b"The options, and which commands take them.
 
 All but explain:
 
@@ -62,6 +62,13 @@ All but exec and explain:
 
 --size NAME=VALUE   another number for a size of the text, as n=16
 
+Which inputs are tried; of explore, which wants two of these or the third:
+
+--cells K           all inputs of K values, K up to 1048576
+--values LO..HI     of this interval: 100000000 inputs at most
+--permutations K    all orders of the numbers 1 to K, K up to 10
+--under RULE        the rule of access, in place of the text's own
+
 What the cells hold first; of meaning, cost, steps, rules, run, trace and exec.
 One of these three is given; cells that get no value are 0:
 
@@ -70,7 +77,7 @@ One of these three is given; cells that get no value are 0:
 --random LO..HI     draws the values of all cells, as 1..100
 --seed S            of --random: 0 to 4294967295, else 1; one seed, one draw
 
-How far they run; of the same commands:
+How far they run; of the same commands and of explore:
 
 --bound N           the most statements: 0 to 4294967295, else 1000000
 
@@ -85,7 +92,8 @@ What is written:
 
 --format FORMAT     text, or json for programs that read; of a sweep also csv,
                     and of check also gnu, the lines that editors read:
-                    check, meaning, cost, steps, rules, run, trace, exec
+                    check, meaning, cost, steps, rules, explore, run, trace,
+                    exec
 --show NAMES        these declarations alone, as a,b: meaning, run, exec
 --quiet             printed numbers and no memory: meaning, run, exec
 --lines             counts for each line of the program too: cost; or tells the
@@ -99,6 +107,7 @@ What is written:
 --only NAMES        a flow between these declarations alone, as a,b: steps
 --bsp G,L           what exchanges cost, G a word of h, L an exchange: trace
 --outcome           behind the exchanges what run writes: trace
+--listing LISTING   a listing in place of FILE: export
 --svg               a picture: steps, trace, and cost with --sweep
 
 A FILE named - is standard input, once in a call.
@@ -106,7 +115,7 @@ A FILE named - is standard input, once in a call.
 `pramc --version` writes the version. `pramc explain cost` says what cost takes.
 ";
 
-pub(crate) const EVERYTHING: [u8; 1237] =
+pub(crate) const EVERYTHING: [u8; 1315] =
     *b"What there is to explain. Type a word of these, as: pramc explain E6
 
 Refusals, of a text, a run or the command line:
@@ -130,7 +139,8 @@ Commands:
   meaning  runs it by its definition        trace   tells its exchanges
   cost     counts its time and work         plan    writes its superstep code
   steps    tells it statement by statement  exec    runs superstep code
-  rules    runs it under each rule          expand  fills in its sizes
+  rules    runs it under each rule          export  writes that as C over MPI
+  explore  runs it on every small input     expand  fills in its sizes
   explain  says what a word is
 
 And besides:

@@ -72,12 +72,16 @@ pub enum Subject {
     Steps,
     /// `rules`.
     Rules,
+    /// `explore`.
+    Explore,
     /// `run`.
     Run,
     /// `trace`.
     Trace,
     /// `expand`.
     Expand,
+    /// `export`.
+    Export,
     /// `exec`.
     Exec,
     /// `explain`.
@@ -90,7 +94,7 @@ pub enum Subject {
     Everything,
 }
 
-const SUBJECTS: [Subject; 41] = [
+const SUBJECTS: [Subject; 43] = [
     Subject::NotAscii,
     Subject::TextTooLong,
     Subject::BadToken,
@@ -124,9 +128,11 @@ const SUBJECTS: [Subject; 41] = [
     Subject::Cost,
     Subject::Steps,
     Subject::Rules,
+    Subject::Explore,
     Subject::Run,
     Subject::Trace,
     Subject::Expand,
+    Subject::Export,
     Subject::Exec,
     Subject::Explain,
     Subject::Language,
@@ -172,9 +178,11 @@ fn word_of(subject: Subject) -> &'static str
         Subject::Cost => "cost",
         Subject::Steps => "steps",
         Subject::Rules => "rules",
+        Subject::Explore => "explore",
         Subject::Run => "run",
         Subject::Trace => "trace",
         Subject::Expand => "expand",
+        Subject::Export => "export",
         Subject::Exec => "exec",
         Subject::Explain => "explain",
         Subject::Language => "language",

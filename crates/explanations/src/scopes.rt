@@ -1,0 +1,53 @@
+//! What is said of commands for those who write algorithms, and of plans that leave the machine.
+
+pub(crate) const EXPLORE: [u8; 1019] =
+    *b"pramc explore FILE: runs the program on every input of a small scope.
+
+It says on how many inputs the run ends, faults or goes on at its bound; each
+kind of fault at each line, with the first input that meets it; and the least
+and greatest time and work. So `ended 120` of `inputs 120` proves it for these.
+
+Type this:
+
+$ pramc explore examples/maximum.pram --permutations 5 | head -n 2
+inputs 120
+ended 120
+
+--cells K           all inputs of K values, which the first K cells get
+--values LO..HI     of this interval: 100000000 inputs at most
+--permutations K    in their place all orders of the numbers 1 to K, K up to 10
+--under RULE        under this rule of access, in place of the text's own
+--bound N           the most statements that are run, else 1000000
+--size NAME=VALUE   another number for a size of the text, as n=16
+--format json       tells it to programs, as JSON
+--explain           says more of a refusal
+
+Exit status: 0 all end, 1 one faults, 2 it was refused, 3 none faults and one
+met the bound.
+";
+
+pub(crate) const EXPORT: [u8; 833] =
+    *b"pramc export FILE: the superstep code of a program as C over MPI.
+
+It writes one file of C11: a runtime, and the code in tables. Any MPI compiles
+it, and it runs on as many ranks as mpirun gives it, up to 1024. It prints what
+`pramc run` prints. The code is proved up to this text; what C, its compiler
+and MPI make of it isn't.
+
+Type this:
+
+$ pramc export examples/sum.pram > sum.c
+$ mpicc -std=c11 -O2 -o sum sum.c
+$ mpirun -n 4 ./sum
+55
+ended
+
+--listing LISTING   writes a listing, as `pramc plan` makes, and no FILE
+--size NAME=VALUE   another number for a size of the text, as n=16
+--explain           shows the line that is wrong, and says why
+
+The program in C takes an input, a bound and a map as `pramc run` does: the head
+of the file lists its words.
+
+Exit status: 0 it is written, 2 the program or the listing is refused.
+";
