@@ -3,20 +3,20 @@ use Rattle.small_scopes.specs.Scopes.{inputs_left}
 use Rattle.small_scopes.specs.declared.scope.Scope.{Scope}
 use Rattle.explorations.specs.Found.{found_is}
 use Rattle.explorations.proofs.Explored.{Explored, fewer, further}
-use Rattle.explorations.proofs.exploring.explore.Goals as goal
+use Rattle.explorations.proofs.exploring.try_all.Goals as goal
 
 pub trying-preserved : goal.trying-preserved
-trying-preserved c =
+trying-preserved g c =
     let p = c.args.program.now in
     let n = c.args.bound in
-    let here = c.values.result.now in
+    let here = c.values-next.result.now in
     let old = c.trying.inputs in
     let new = c.advance.new.self in
     let left = inputs_left old.scope old.over old.input.items in
     let rest = inputs_left old.scope new.over new.input.items in
     let f = found_is c.trying.findings in
     let g = found_is c.try_input.new.findings in
-    let is : left ≡ here ∷ rest = c.advance.ensures.left ∙ ap (λ (x : List ℤ). x ∷ rest) (sym c.values.ensures.values) in
+    let is : left ≡ here ∷ rest = c.advance.ensures.left ∙ ap (λ (x : List ℤ). x ∷ rest) (sym c.values-next.ensures.values) in
     record {
       same = c.advance.ensures.same ∙ c.trying.invariant.same;
       so_far = subst (λ (t : Scope). Explored p n c.args.scope (inputs_left t new.over new.input.items) g) (sym c.advance.ensures.same)
@@ -24,7 +24,7 @@ trying-preserved c =
     }
 
 pub trying-smaller : goal.trying-smaller
-trying-smaller c =
+trying-smaller g c =
     let old = c.trying.inputs in
     let new = c.advance.new.self in
     let left = inputs_left old.scope old.over old.input.items in
