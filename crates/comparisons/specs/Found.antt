@@ -1,8 +1,9 @@
 -- What is found of two programs on inputs.
 use Rattle.std.specs.Prelude.{ℕ, ◌+◌, max, nat_lt, ℤ, if◌then◌else◌, List, Option, Some, None, is_none, Vec, length, map, slice_get}
 use Rattle.std.specs.Global.{Global}
-use Rattle.std.specs.List.{filter, filter_map, fold}
+use Rattle.std.specs.List.{filter, filter_map, fold, range_with_len}
 use Rattle.std.specs.Option.{option_map}
+use Rattle.drawn_inputs.specs.Drawn.{drawn}
 use Rattle.pram_model.specs.Layout.{total_size}
 use Rattle.pram_check.specs.Checked.{Checked}
 use Rattle.explorations.specs.Found.{verdict_on}
@@ -90,3 +91,12 @@ values_of input = input.items
 -- the most values of any of the inputs
 abbrev pub longest : List (List ℤ) → ℕ
 longest inputs = fold max 0 (map (λ input. length input) inputs)
+
+-- ---- inputs that are drawn
+
+-- so many values each: what a seed draws, what the next one draws, and so on
+abbrev pub drawn_by : (low high : ℤ) → (cells seed : ℕ) → List ℤ
+drawn_by low high cells seed = drawn low high seed cells
+
+abbrev pub drawn_inputs : (low high : ℤ) → (seed cells count : ℕ) → List (List ℤ)
+drawn_inputs low high seed cells count = map (drawn_by low high cells) (range_with_len seed count)

@@ -1,8 +1,9 @@
 //! The runs of two programs on the same inputs.
 
 ghost use Rattle.std.specs.Prelude.{◌≡◌, ◌≢◌, ◌↔◌, ◌+◌, ◌<◌, ◌^◌, [], ◌∷◌, ◌++◌, IfOk, OnOk, Some, length, map, List, ℤ};
+ghost use Rattle.pram_model.specs.Layout.{total_size};
 ghost use Rattle.small_scopes.specs.Scopes.{inputs_of};
-ghost use Rattle.comparisons.specs.Found.{difference_on, found, found_is, values_of};
+ghost use Rattle.comparisons.specs.Found.{difference_on, drawn_inputs, found, found_is, values_of};
 ghost use Rattle.comparisons.specs.Found as spec;
 ghost use Rattle.comparisons.specs.declared.refusal.Side as rust;
 
@@ -11,6 +12,7 @@ use crate::comparison::Comparison;
 use crate::difference::Difference;
 use crate::outcomes::first_difference;
 use crate::refusal::{ComparisonRefusal, longest, too_long};
+use drawn_inputs::{Drawing, draw};
 use pram_check::Program;
 use pram_meaning::reference_run;
 use small_scopes::{Scope, first_input};
@@ -145,6 +147,65 @@ pub fn compare_inputs(
             second,
             compared,
             input,
+            bound,
+            &mut comparison,
+        )?;
+    }
+    Ok(comparison)
+}
+
+// The input that a seed draws.
+fn draw_input(
+    alloc: Global,
+    drawing: Drawing,
+    turn: u32,
+    cells: u32,
+) -> Result<Vec<i64>, ComparisonRefusal>
+    requires seeds { drawing.seed + turn < 2 ^ 64 }
+    ensures drawn { IfOk result (λ input. input.items ≡ spec.drawn_by drawing.low drawing.high cells (drawing.seed + turn)) }
+    ensures memory { (side : rust.Side) → result ≢ Err (ComparisonRefusal.InputTooLong side) }
+{
+    let drawing = Drawing {
+        low: drawing.low,
+        high: drawing.high,
+        seed: drawing.seed + u64::from(turn),
+    };
+    match draw(alloc, drawing, cells) {
+        Ok(input) => Ok(input),
+        Err(_) => Err(ComparisonRefusal::OutOfMemory),
+    }
+}
+
+/// The same on inputs that are drawn, each of values for all cells of the first program: what the seed of the drawing draws, what the next
+/// seed draws, and so on, as many as `count`. E11 where the second program has fewer cells than the first.
+pub fn compare_drawn(
+    alloc: Global,
+    first: &Program,
+    second: &Program,
+    compared: &Compared,
+    drawing: Drawing,
+    count: u32,
+    bound: u32,
+) -> Result<Comparison, ComparisonRefusal>
+    requires seeds { drawing.seed + count < 2 ^ 64 }
+    ensures found { IfOk result (λ r. found_is r ≡ found first.now second.now compared.now bound
+        (drawn_inputs drawing.low drawing.high drawing.seed (total_size first.now.layout) count)) }
+    ensures too_long { (side : rust.Side) → (result ≡ Err (ComparisonRefusal.InputTooLong side))
+        ↔ (spec.too_long first.now second.now (total_size first.now.layout) ≡ Some side) }
+{
+    let cells = first.layout().cells();
+    if let Some(side) = too_long(first, second, cells as usize) {
+        return Err(ComparisonRefusal::InputTooLong(side));
+    }
+    let mut comparison = Comparison::new();
+    for turn in 0..count {
+        let input = draw_input(alloc, drawing, turn, cells)?;
+        try_input(
+            alloc,
+            first,
+            second,
+            compared,
+            &input,
             bound,
             &mut comparison,
         )?;

@@ -15,8 +15,8 @@ mod unequal;
 
 pub use common::{common_ranges, named_range};
 pub use compared::{CommonRange, Compared, Limits};
-pub use comparing::{compare_inputs, compare_scope, compare_two};
+pub use comparing::{compare_drawn, compare_inputs, compare_scope, compare_two};
 pub use comparison::{Comparison, FoundDifference};
 pub use difference::{Difference, Ending};
 pub use outcomes::first_difference;
-pub use refusal::{ComparisonRefusal, Side};
+pub use refusal::{ComparisonRefusal, Side, longest};

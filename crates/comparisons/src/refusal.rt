@@ -34,8 +34,8 @@ pub(crate) fn too_long(first: &Program, second: &Program, count: usize) -> Optio
     }
 }
 
-/// The most values of any input.
-pub(crate) fn longest(inputs: &[Vec<i64>]) -> usize
+/// The most values of any input, and 0 where there is none.
+pub fn longest(inputs: &[Vec<i64>]) -> usize
     ensures { result ≡ spec.longest (map spec.values_of inputs.now) }
 {
     let mut most = 0;
