@@ -3,6 +3,7 @@
 use crate::cost_words::CostWords;
 use crate::form::Form;
 use crate::opening::Opening;
+use crate::pair_words::PairWords;
 use crate::scope_words::ScopeWords;
 use crate::step_words::StepWords;
 use crate::trace_words::TraceWords;
@@ -103,6 +104,8 @@ pub enum Request<'a> {
         scope: ScopeWords,
         words: RunWords<'a>,
     },
+    /// Two programs are run by their definitions on the same inputs.
+    Pair(PairWords<'a>),
     /// A listing is run.
     Listing {
         file: &'a str,

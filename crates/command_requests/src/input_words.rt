@@ -1,0 +1,43 @@
+//! On which inputs two programs are run.
+
+ghost use Rattle.std.specs.Prelude.{◌≤◌, ◌+◌, ◌<◌, ◌^◌, length};
+ghost use Rattle.small_scopes.specs.Scopes.{inputs_of};
+
+use drawn_inputs::Drawing;
+use small_scopes::Scope;
+
+/// The most inputs that are drawn.
+pub const MOST_DRAWN: u32 = 1_000_000;
+
+/// The inputs of a scope, of which there are at most [`MOST_INPUTS`](crate::MOST_INPUTS).
+#[derive(Clone, Copy, Debug)]
+pub struct FewInputs {
+    pub scope: Scope,
+    ghost few: { length (inputs_of scope) ≤ 100000000 },
+}
+
+/// Inputs that are drawn, each of values for all cells of the first program: as many as `count`, by the seed of the drawing, the next seed,
+/// and so on.
+#[derive(Clone, Copy, Debug)]
+pub struct DrawnWords {
+    pub drawing: Drawing,
+    pub count: u32,
+    ghost seeds: { drawing.seed + count < 2 ^ 64 },
+}
+
+/// A file that an input stands in.
+#[derive(Clone, Copy, Debug, Drop)]
+pub struct InputFile<'a> {
+    pub name: &'a str,
+}
+
+/// The inputs on which two programs are run.
+#[derive(Debug, Drop)]
+pub enum InputWords<'a> {
+    /// All those of a scope.
+    Scope(FewInputs),
+    /// Those of these files, in their order.
+    Files(Vec<InputFile<'a>>),
+    /// Those that are drawn.
+    Drawn(DrawnWords),
+}
