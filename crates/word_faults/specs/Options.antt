@@ -25,6 +25,9 @@ name given.Cells = codes "--cells"
 name given.Values = codes "--values"
 name given.Permutations = codes "--permutations"
 name given.Under = codes "--under"
+name given.Count = codes "--count"
+name given.TimeAtMost = codes "--time-at-most"
+name given.WorkAtMost = codes "--work-at-most"
 name given.Size = codes "--size"
 name given.Sweep = codes "--sweep"
 name given.Format = codes "--format"
@@ -46,6 +49,14 @@ named_telling word =
     else if same_text word (codes "explain") then Some given.Subject
     else None
 
+-- among those of two programs on the same inputs
+abbrev pub named_pair : List ℕ → Option Given
+named_pair word =
+    if same_text word (codes "--count") then Some given.Count
+    else if same_text word (codes "--time-at-most") then Some given.TimeAtMost
+    else if same_text word (codes "--work-at-most") then Some given.WorkAtMost
+    else named_telling word
+
 -- among those of scopes
 abbrev pub named_scope : List ℕ → Option Given
 named_scope word =
@@ -53,7 +64,7 @@ named_scope word =
     else if same_text word (codes "--values") then Some given.Values
     else if same_text word (codes "--permutations") then Some given.Permutations
     else if same_text word (codes "--under") then Some given.Under
-    else named_telling word
+    else named_pair word
 
 -- among those of the cells and of the text
 abbrev pub named_opening : List ℕ → Option Given
@@ -88,6 +99,10 @@ IsCells word = (n : ℕ) × (number_of word ≡ Some n) × (n ≤ 1048576)
 abbrev pub AreOrdered : List ℕ → Type 0
 AreOrdered word = (n : ℕ) × (number_of word ≡ Some n) × ((0 < n) × (n ≤ 10))
 
+-- how many inputs are drawn
+abbrev pub AreDrawn : List ℕ → Type 0
+AreDrawn word = (n : ℕ) × (number_of word ≡ Some n) × ((0 < n) × (n ≤ 1000000))
+
 abbrev pub IsRule : List ℕ → Type 0
 IsRule word = (rule : Rule) × (word ≡ rule_word rule)
 
@@ -107,6 +122,9 @@ Takes given.Cells word = IsCells word
 Takes given.Values word = ⊥
 Takes given.Permutations word = AreOrdered word
 Takes given.Under word = IsRule word
+Takes given.Count word = AreDrawn word
+Takes given.TimeAtMost word = IsNumber word
+Takes given.WorkAtMost word = IsNumber word
 Takes given.Size word = ⊥
 Takes given.Sweep word = ⊥
 Takes given.Format word = (word ≡ codes "text") ⊎ (word ≡ codes "json")

@@ -36,11 +36,14 @@ wanted given.Values =
     codes "LO..HI, as 0..4, two numbers of 64 bits of which LO is at most HI, for at most 100000000 inputs"
 wanted given.Permutations = codes "a number from 1 to 10"
 wanted given.Under = codes "erew, crew, common, priority or sum"
+wanted given.Count = codes "a number from 1 to 1000000"
+wanted given.TimeAtMost = codes "a number from 0 to 4294967295"
+wanted given.WorkAtMost = codes "a number from 0 to 4294967295"
 wanted given.Size = codes "NAME=VALUE, once for each size that the program declares, VALUE from 0 to 9223372036854775807"
 wanted given.Sweep = codes "NAME=SIZES for a size that the program declares, 1 to 1000 of them, as n=4,8,16 or n=4..64*2 or n=10..50+10"
 wanted given.Format = codes "text or json, or csv with --sweep, or gnu with check"
 wanted given.Show = codes "names of shared declarations of the program, as a,b"
-wanted given.Only = codes "names of shared declarations of the program, as a,b"
+wanted given.Only = codes "names of shared declarations of the program, as a,b, and with compare of both programs, or output"
 wanted given.Bsp = codes "G,L, two numbers from 0 to 4294967295"
 wanted given.Subject = codes "a refusal, as E6, a fault, as read-conflict, a command, language or options"
 
@@ -54,7 +57,8 @@ value_sentence g word = codes "invalid `" ++ (letters word ++ wanted_text g)
 -- an option that a command wants, in the place of others; of any other word nothing
 abbrev pub command_sentence : (word : List ℕ) → List ℕ
 command_sentence word =
-    if same_text word (codes "--cells") then codes "`explore` wants `--cells` with `--values`, or `--permutations` in their place\n"
+    if same_text word (codes "--input") then codes "`compare` wants `--input`, `--cells` with `--values`, `--permutations`, or `--random` with `--count`, and one of these alone\n"
+    else if same_text word (codes "--cells") then codes "`explore` wants `--cells` with `--values`, or `--permutations` in their place\n"
     else if same_text word (codes "--permutations") then codes "`--permutations` goes with neither `--cells` nor `--values`\n"
     else if same_text word (codes "--listing") then codes "`export` wants a FILE, or `--listing` in its place, which goes without `--size`\n"
     else []

@@ -38,6 +38,21 @@ fn named_telling(word: &[u8]) -> Option<Given>
     }
 }
 
+// One of two programs on the same inputs, or one of those.
+fn named_pair(word: &[u8]) -> Option<Given>
+    ensures { result ≡ spec.named_pair word.now }
+{
+    if is_same(word, b"--count") {
+        Some(Given::Count)
+    } else if is_same(word, b"--time-at-most") {
+        Some(Given::TimeAtMost)
+    } else if is_same(word, b"--work-at-most") {
+        Some(Given::WorkAtMost)
+    } else {
+        named_telling(word)
+    }
+}
+
 // One of scopes, or one of those.
 fn named_scope(word: &[u8]) -> Option<Given>
     ensures { result ≡ spec.named_scope word.now }
@@ -51,7 +66,7 @@ fn named_scope(word: &[u8]) -> Option<Given>
     } else if is_same(word, b"--under") {
         Some(Given::Under)
     } else {
-        named_telling(word)
+        named_pair(word)
     }
 }
 

@@ -63,6 +63,9 @@ fn wanted(given: Given) -> &'static [u8]
         }
         Given::Permutations => b"a number from 1 to 10",
         Given::Under => b"erew, crew, common, priority or sum",
+        Given::Count => b"a number from 1 to 1000000",
+        Given::TimeAtMost => b"a number from 0 to 4294967295",
+        Given::WorkAtMost => b"a number from 0 to 4294967295",
         Given::Size => {
             b"NAME=VALUE, once for each size that the program declares, VALUE from 0 to 9223372036854775807"
         }
@@ -71,7 +74,9 @@ fn wanted(given: Given) -> &'static [u8]
         }
         Given::Format => b"text or json, or csv with --sweep, or gnu with check",
         Given::Show => b"names of shared declarations of the program, as a,b",
-        Given::Only => b"names of shared declarations of the program, as a,b",
+        Given::Only => {
+            b"names of shared declarations of the program, as a,b, and with compare of both programs, or output"
+        }
         Given::Bsp => b"G,L, two numbers from 0 to 4294967295",
         Given::Subject => {
             b"a refusal, as E6, a fault, as read-conflict, a command, language or options"
@@ -105,7 +110,9 @@ fn write_value_sentence<W: Out>(given: Given, word: &[u8], out: &mut W) -> Resul
 fn command_sentence(word: &[u8]) -> &'static [u8]
     ensures { result.now ≡ spec.command_sentence word.now }
 {
-    if is_same(word, b"--cells") {
+    if is_same(word, b"--input") {
+        b"`compare` wants `--input`, `--cells` with `--values`, `--permutations`, or `--random` with `--count`, and one of these alone\n"
+    } else if is_same(word, b"--cells") {
         b"`explore` wants `--cells` with `--values`, or `--permutations` in their place\n"
     } else if is_same(word, b"--permutations") {
         b"`--permutations` goes with neither `--cells` nor `--values`\n"

@@ -7,7 +7,7 @@ ghost use Rattle.drawn_inputs.specs.Intervals.{IsInterval};
 ghost use Rattle.word_faults.specs.Options as spec;
 
 use crate::given::Given;
-use command_requests::{MOST_CELLS, MOST_ORDERED, read_rule};
+use command_requests::{MOST_CELLS, MOST_DRAWN, MOST_ORDERED, read_rule};
 use drawn_inputs::read_interval;
 use run_options::{read_map, read_number, read_pair};
 
@@ -82,6 +82,15 @@ fn are_ordered(word: &str) -> bool
     }
 }
 
+fn are_drawn(word: &str) -> bool
+    ensures { MatchBool result (spec.AreDrawn word.now) (¬ (spec.AreDrawn word.now)) }
+{
+    match read_number(word) {
+        Some(number) => number > 0 && number <= MOST_DRAWN,
+        None => false,
+    }
+}
+
 fn is_rule(word: &str) -> bool
     ensures { MatchBool result (spec.IsRule word.now) (¬ (spec.IsRule word.now)) }
 {
@@ -97,6 +106,7 @@ pub(crate) fn takes(given: Given, word: &str) -> bool
 {
     match given {
         Given::Bound | Given::Workers | Given::From | Given::To | Given::Seed => is_number(word),
+        Given::TimeAtMost | Given::WorkAtMost => is_number(word),
         Given::Schedule => is_count(word),
         Given::Map => is_map(word),
         Given::Reserve | Given::Bsp => is_pair(word),
@@ -105,6 +115,7 @@ pub(crate) fn takes(given: Given, word: &str) -> bool
         Given::Cells => is_cells(word),
         Given::Permutations => are_ordered(word),
         Given::Under => is_rule(word),
+        Given::Count => are_drawn(word),
         Given::Values | Given::Size | Given::Sweep | Given::Show | Given::Only | Given::Subject =>
             false,
     }
