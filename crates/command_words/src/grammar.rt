@@ -1,10 +1,13 @@
 //! The words that the program takes, and its help.
 
+use crate::pair_grammar::over_pair;
 use clap::{Arg, ArgAction, Command};
 use command_requests::VERSION;
 use std::alloc::{AllocError, Global};
 
 pub(crate) const FILE: &str = "FILE";
+
+pub(crate) const SECOND: &str = "FILE2";
 
 pub(crate) const WORD: &str = "WORD";
 
@@ -66,10 +69,16 @@ pub(crate) const UNDER: &str = "under";
 
 pub(crate) const LISTING_FILE: &str = "listing";
 
+pub(crate) const COUNT: &str = "count";
+
+pub(crate) const TIME_AT_MOST: &str = "time-at-most";
+
+pub(crate) const WORK_AT_MOST: &str = "work-at-most";
+
 const EXPLAINED: &str = "explain";
 
 // What the help of a subcommand says.
-struct Subcommand {
+pub(crate) struct Subcommand {
     name: &'static str,
     about: &'static str,
     // what it is over
@@ -151,6 +160,13 @@ const EXPLORE: Subcommand = Subcommand {
     example: "Example: pramc explore examples/tree_sum.pram --size n=2 --cells 2 --values 0..3\nMore: pramc explain explore",
 };
 
+const COMPARE: Subcommand = Subcommand {
+    name: "compare",
+    about: "Runs two programs by their definition on the same inputs",
+    over: PROGRAM,
+    example: "Example: pramc compare examples/maximum.pram examples/maximum_doubly_log.pram --size n=4 --permutations 4 --only output\nMore: pramc explain compare",
+};
+
 const EXPORT: Subcommand = Subcommand {
     name: "export",
     about: "Writes the superstep code of the program as C over MPI",
@@ -199,8 +215,8 @@ fn over_some_file<'a>(
         .arg(explained)
 }
 
-// A subcommand over a file.
-fn over_file<'a>(alloc: Global, words: &Subcommand) -> Result<Command<'a>, AllocError> {
+/// A subcommand over a file.
+pub(crate) fn over_file<'a>(alloc: Global, words: &Subcommand) -> Result<Command<'a>, AllocError> {
     over_some_file(alloc, words, true)
 }
 
@@ -231,8 +247,8 @@ fn of_program<'a>(alloc: Global, command: Command<'a>) -> Result<Command<'a>, Al
     in_formats(alloc, sized(alloc, command)?)
 }
 
-// With a bound on what is run.
-fn bounded<'a>(alloc: Global, command: Command<'a>) -> Result<Command<'a>, AllocError> {
+/// With a bound on what is run.
+pub(crate) fn bounded<'a>(alloc: Global, command: Command<'a>) -> Result<Command<'a>, AllocError> {
     let bound = Arg::new(alloc, BOUND)
         .long(BOUND)
         .value_name("N")
@@ -389,8 +405,8 @@ fn over_trace<'a>(alloc: Global, words: &Subcommand) -> Result<Command<'a>, Allo
         .arg(bsp)
 }
 
-// A subcommand that runs a program on every input of a scope.
-fn over_scope<'a>(alloc: Global, words: &Subcommand) -> Result<Command<'a>, AllocError> {
+/// With a scope of inputs.
+pub(crate) fn scoped<'a>(alloc: Global, command: Command<'a>) -> Result<Command<'a>, AllocError> {
     let cells = Arg::new(alloc, CELLS)
         .long(CELLS)
         .value_name("K")
@@ -404,15 +420,16 @@ fn over_scope<'a>(alloc: Global, words: &Subcommand) -> Result<Command<'a>, Allo
         .long(PERMUTATIONS)
         .value_name("K")
         .help("Tries all orders of the numbers 1 to K in their place, K up to 10");
+    command.arg(cells)?.arg(values)?.arg(permutations)
+}
+
+// A subcommand that runs a program on every input of a scope.
+fn over_scope<'a>(alloc: Global, words: &Subcommand) -> Result<Command<'a>, AllocError> {
     let under = Arg::new(alloc, UNDER)
         .long(UNDER)
         .value_name("RULE")
         .help("Tries them under this rule in place of that of the text");
-    bounded(alloc, over_file(alloc, words)?)?
-        .arg(cells)?
-        .arg(values)?
-        .arg(permutations)?
-        .arg(under)
+    bounded(alloc, scoped(alloc, over_file(alloc, words)?)?)?.arg(under)
 }
 
 // The subcommand that writes a program or a listing in C.
@@ -442,6 +459,7 @@ pub(crate) fn grammar<'a>(alloc: Global) -> Result<Command<'a>, AllocError> {
         .subcommand(of_program(alloc, shown(alloc, over_workers(alloc, &RUN)?)?)?)?
         .subcommand(of_program(alloc, over_trace(alloc, &TRACE)?)?)?
         .subcommand(of_program(alloc, over_scope(alloc, &EXPLORE)?)?)?
+        .subcommand(of_program(alloc, over_pair(alloc, &COMPARE)?)?)?
         .subcommand(sized(alloc, over_file(alloc, &EXPAND)?)?)?
         .subcommand(sized(alloc, over_export(alloc, &EXPORT)?)?)?
         .subcommand(in_formats(alloc, shown(alloc, over_workers(alloc, &EXEC)?)?)?)?

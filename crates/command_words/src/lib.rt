@@ -3,6 +3,8 @@
 
 mod command_line;
 mod grammar;
+mod pair_grammar;
+mod pair_reading;
 mod reading;
 mod run_reading;
 mod scope_reading;

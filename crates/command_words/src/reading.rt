@@ -5,9 +5,10 @@ ghost use Rattle.std.specs.String.{string_bytes};
 ghost use Rattle.command_requests.specs.Words.{AsksForVersion, IsOfWords};
 
 use crate::grammar::{
-    BSP, FILE, FLOW, FORMAT, HTML, LINES, LISTING_FILE, OUTCOME, SCHEDULE, SIZE, SVG, SWEEP, WORD,
-    grammar,
+    BSP, FILE, FLOW, FORMAT, HTML, LINES, LISTING_FILE, OUTCOME, SCHEDULE, SECOND, SIZE, SVG,
+    SWEEP, WORD, grammar,
 };
+use crate::pair_reading::pair_words;
 use crate::run_reading::run_words;
 use crate::scope_reading::scope_words;
 use clap::ArgMatches;
@@ -99,10 +100,18 @@ fn size_words<'a>(
     Ok(sizes)
 }
 
-fn file_of<'a>(alloc: Global, matches: &ArgMatches<'a>) -> Result<ProgramFile<'a>, AllocError> {
-    let name = matches.get_str(FILE).unwrap_or("");
+fn file_at<'a>(
+    alloc: Global,
+    matches: &ArgMatches<'a>,
+    place: &str,
+) -> Result<ProgramFile<'a>, AllocError> {
+    let name = matches.get_str(place).unwrap_or("");
     let sizes = size_words(alloc, matches)?;
     Ok(ProgramFile { name, sizes })
+}
+
+fn file_of<'a>(alloc: Global, matches: &ArgMatches<'a>) -> Result<ProgramFile<'a>, AllocError> {
+    file_at(alloc, matches, FILE)
 }
 
 fn asked<'a>(alloc: Global, verb: Verb, matches: &ArgMatches<'a>) -> Result<Request<'a>, Stop<'a>>
@@ -166,6 +175,16 @@ fn asked_exploration<'a>(alloc: Global, matches: &ArgMatches<'a>) -> Result<Requ
     let words = run_words(matches)?;
     let file = file_of(alloc, matches)?;
     Ok(Request::Exploration { file, scope, words })
+}
+
+// Two programs, with the same sizes.
+fn asked_pair<'a>(alloc: Global, matches: &ArgMatches<'a>) -> Result<Request<'a>, Stop<'a>>
+    ensures { IfErr result IsOfWords }
+{
+    check_format(matches, Over::Run)?;
+    let first = file_of(alloc, matches)?;
+    let second = file_at(alloc, matches, SECOND)?;
+    Ok(Request::Pair(pair_words(alloc, matches, first, second)?))
 }
 
 // A program or a listing, in C.
@@ -324,6 +343,7 @@ pub fn read_words<'a>(alloc: Global, words: &'a [String]) -> Result<Request<'a>,
         Some(("run", inner)) => asked(alloc, Verb::Run, inner),
         Some(("trace", inner)) => asked(alloc, Verb::Trace, inner),
         Some(("explore", inner)) => asked_exploration(alloc, inner),
+        Some(("compare", inner)) => asked_pair(alloc, inner),
         Some(("expand", inner)) => asked(alloc, Verb::Expand, inner),
         Some(("export", inner)) => asked_export(alloc, inner),
         Some(("exec", inner)) => asked_listing(inner),

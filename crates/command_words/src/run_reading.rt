@@ -1,6 +1,6 @@
 //! How something is run, by the options of a command line.
 
-ghost use Rattle.std.specs.Prelude.{◌<◌, IfOk, IfErr};
+ghost use Rattle.std.specs.Prelude.{◌<◌, ◌^◌, IfOk, IfErr};
 ghost use Rattle.std.specs.Option.{ForSome};
 ghost use Rattle.command_requests.specs.Words.{IsOfWords};
 
@@ -15,8 +15,8 @@ use memory_texts::Choice;
 use program_texts::Stop;
 use run_options::{MapChoice, Options, Reserve, read_map, read_number, read_pair};
 
-// The number of an option, and 0 where the command has no such option.
-fn number_of<'a>(words: &ArgMatches<'a>, option: &str) -> Result<u32, Stop<'a>>
+/// The number of an option, and 0 where the command has no such option.
+pub(crate) fn number_of<'a>(words: &ArgMatches<'a>, option: &str) -> Result<u32, Stop<'a>>
     ensures { IfErr result IsOfWords }
 {
     match words.get_str(option) {
@@ -86,9 +86,10 @@ fn step_words<'a>(words: &ArgMatches<'a>) -> Result<StepWords, Stop<'a>>
     Ok(StepWords { from, to, locals })
 }
 
-// The seed, and 1 where the command line has none.
-fn seed_of<'a>(words: &ArgMatches<'a>) -> Result<u64, Stop<'a>>
-    ensures { IfErr result IsOfWords }
+/// The seed, and 1 where the command line has none.
+pub(crate) fn seed_of<'a>(words: &ArgMatches<'a>) -> Result<u64, Stop<'a>>
+    ensures narrow { IfOk result (λ seed. seed < 2 ^ 32) }
+    ensures refused { IfErr result IsOfWords }
 {
     match words.get_str(SEED) {
         None => Ok(1),

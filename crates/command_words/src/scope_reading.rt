@@ -5,15 +5,15 @@ ghost use Rattle.command_requests.specs.Words.{IsOfWords};
 
 use crate::grammar::{CELLS, PERMUTATIONS, UNDER, VALUES};
 use clap::ArgMatches;
-use command_requests::{MOST_CELLS, MOST_INPUTS, MOST_ORDERED, ScopeWords, read_rule};
+use command_requests::{FewInputs, MOST_CELLS, MOST_INPUTS, MOST_ORDERED, ScopeWords, read_rule};
 use drawn_inputs::read_interval;
 use pram_model::Rule;
 use program_texts::Stop;
 use run_options::read_number;
 use small_scopes::{Scope, input_count};
 
-// A number from 0 or 1 to the greatest.
-fn count_of<'a>(word: &'a str, least: u32, most: u32) -> Result<u32, Stop<'a>>
+/// A number from 0 or 1 to the greatest.
+pub(crate) fn count_of<'a>(word: &'a str, least: u32, most: u32) -> Result<u32, Stop<'a>>
     ensures from { IfOk result (λ count. least ≤ count) }
     ensures to { IfOk result (λ count. count ≤ most) }
     ensures refused { IfErr result IsOfWords }
@@ -73,13 +73,13 @@ fn rule_of<'a>(words: &ArgMatches<'a>) -> Result<Option<Rule>, Stop<'a>>
 }
 
 // A scope of not too many inputs; the word is that by which there would be too many.
-fn counted<'a>(scope: Scope, rule: Option<Rule>, word: &'a str) -> Result<ScopeWords, Stop<'a>>
+fn counted<'a>(scope: Scope, word: &'a str) -> Result<FewInputs, Stop<'a>>
     ensures { IfErr result IsOfWords }
 {
     match input_count(scope) {
         Some(count) => {
             if count <= MOST_INPUTS {
-                Ok(ScopeWords { scope, rule })
+                Ok(FewInputs { scope })
             } else {
                 Err(Stop::Number(word))
             }
@@ -88,16 +88,30 @@ fn counted<'a>(scope: Scope, rule: Option<Rule>, word: &'a str) -> Result<ScopeW
     }
 }
 
+/// The inputs of a scope. Where there is none, or one without values or without cells, that option is told.
+pub(crate) fn few_inputs<'a>(
+    words: &ArgMatches<'a>,
+    missing: &'static str,
+) -> Result<FewInputs, Stop<'a>>
+    ensures { IfErr result IsOfWords }
+{
+    let (cells, values) = (words.get_str(CELLS), words.get_str(VALUES));
+    match (cells, values, words.get_str(PERMUTATIONS)) {
+        (Some(cells), Some(values), None) => counted(scope_of(cells, values)?, values),
+        (None, None, Some(word)) => counted(orders_of(word)?, word),
+        (_, _, Some(_)) => Err(Stop::Number("--permutations")),
+        (_, _, None) => Err(Stop::Number(missing)),
+    }
+}
+
 /// The inputs on which a program is run, and under which rule.
 pub(crate) fn scope_words<'a>(words: &ArgMatches<'a>) -> Result<ScopeWords, Stop<'a>>
     ensures { IfErr result IsOfWords }
 {
     let rule = rule_of(words)?;
-    let (cells, values) = (words.get_str(CELLS), words.get_str(VALUES));
-    match (cells, values, words.get_str(PERMUTATIONS)) {
-        (Some(cells), Some(values), None) => counted(scope_of(cells, values)?, rule, values),
-        (None, None, Some(word)) => counted(orders_of(word)?, rule, word),
-        (_, _, Some(_)) => Err(Stop::Number("--permutations")),
-        (_, _, None) => Err(Stop::Number("--cells")),
-    }
+    let few = few_inputs(words, "--cells")?;
+    Ok(ScopeWords {
+        scope: few.scope,
+        rule,
+    })
 }

@@ -1,0 +1,112 @@
+//! Two programs on the same inputs, by the options of a command line.
+
+ghost use Rattle.std.specs.Prelude.{IfErr};
+ghost use Rattle.command_requests.specs.Words.{IsOfWords};
+
+use crate::grammar::{
+    BOUND, CELLS, COUNT, INPUT, ONLY, PERMUTATIONS, RANDOM, SEED, TIME_AT_MOST, VALUES,
+    WORK_AT_MOST,
+};
+use crate::run_reading::{number_of, seed_of};
+use crate::scope_reading::{count_of, few_inputs};
+use clap::ArgMatches;
+use command_requests::{DrawnWords, InputFile, InputWords, MOST_DRAWN, PairWords, ProgramFile};
+use drawn_inputs::{Drawing, read_interval};
+use memory_texts::Choice;
+use program_texts::Stop;
+use run_options::read_number;
+use std::alloc::{AllocError, Global};
+
+// What is told where a call has none of the ways to give inputs, a part of one, or two.
+const INPUTS: &str = "--input";
+
+fn input_files<'a>(
+    alloc: Global,
+    words: &ArgMatches<'a>,
+) -> Result<Vec<InputFile<'a>>, AllocError> {
+    let mut files = Vec::new(alloc);
+    if let Some(names) = words.get_strs(INPUT) {
+        for name in names {
+            files.push(InputFile { name: *name })?;
+        }
+    }
+    Ok(files)
+}
+
+// Inputs that are drawn, as many as that.
+fn drawn_words<'a>(words: &ArgMatches<'a>) -> Result<DrawnWords, Stop<'a>>
+    ensures { IfErr result IsOfWords }
+{
+    match (words.get_str(RANDOM), words.get_str(COUNT)) {
+        (Some(interval), Some(word)) => {
+            let seed = seed_of(words)?;
+            let count = count_of(word, 1, MOST_DRAWN)?;
+            match read_interval(interval) {
+                Some((low, high)) => Ok(DrawnWords {
+                    drawing: Drawing { low, high, seed },
+                    count,
+                }),
+                None => Err(Stop::Number(interval)),
+            }
+        }
+        (_, _) => Err(Stop::Number(INPUTS)),
+    }
+}
+
+// One way to give inputs, and no two.
+fn input_words<'a>(alloc: Global, words: &ArgMatches<'a>) -> Result<InputWords<'a>, Stop<'a>>
+    ensures { IfErr result IsOfWords }
+{
+    let is_of_files = words.get_strs(INPUT).is_some();
+    let is_whole = words.get_str(CELLS).is_some() || words.get_str(VALUES).is_some();
+    let is_scope = is_whole || words.get_str(PERMUTATIONS).is_some();
+    let is_seeded = words.get_str(COUNT).is_some() || words.get_str(SEED).is_some();
+    let is_drawn = is_seeded || words.get_str(RANDOM).is_some();
+    match (is_of_files, is_scope, is_drawn) {
+        (true, false, false) => Ok(InputWords::Files(input_files(alloc, words)?)),
+        (false, true, false) => Ok(InputWords::Scope(few_inputs(words, INPUTS)?)),
+        (false, false, true) => Ok(InputWords::Drawn(drawn_words(words)?)),
+        (_, _, _) => Err(Stop::Number(INPUTS)),
+    }
+}
+
+// A limit, if the command line has one.
+fn limit_of<'a>(words: &ArgMatches<'a>, option: &str) -> Result<Option<u32>, Stop<'a>>
+    ensures { IfErr result IsOfWords }
+{
+    match words.get_str(option) {
+        None => Ok(None),
+        Some(word) => match read_number(word) {
+            Some(most) => Ok(Some(most)),
+            None => Err(Stop::Number(word)),
+        },
+    }
+}
+
+/// On which inputs the programs of these two files are run, and what of their runs is compared.
+pub(crate) fn pair_words<'a>(
+    alloc: Global,
+    words: &ArgMatches<'a>,
+    first: ProgramFile<'a>,
+    second: ProgramFile<'a>,
+) -> Result<PairWords<'a>, Stop<'a>>
+    ensures { IfErr result IsOfWords }
+{
+    let bound = number_of(words, BOUND)?;
+    let inputs = input_words(alloc, words)?;
+    let most_time = limit_of(words, TIME_AT_MOST)?;
+    let most_work = limit_of(words, WORK_AT_MOST)?;
+    let only = match words.get_str(ONLY) {
+        None => Choice::All,
+        Some(names) => Choice::Named(names),
+    };
+    Ok(PairWords {
+        first,
+        second,
+        inputs,
+        only,
+        most_time,
+        most_work,
+        bound,
+    })
+}
