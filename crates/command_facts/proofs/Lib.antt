@@ -9,4 +9,6 @@ pub mod Refusals
 pub mod Comparisons
 pub mod Alone
 pub mod Rules
+pub mod PairParts
+pub mod PairInputs
 pub mod SweptRows

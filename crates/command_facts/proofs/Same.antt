@@ -50,7 +50,7 @@ module _ (now before : List ℕ → Option (List ℕ) → Type 0) (same : IsSame
   unread name stop.WriteFailed h = absurd h
   unread name (stop.BadSize at reason) h = absurd h
 
-  at_file : (name : List ℕ) (most : ℕ) (Has : Stop → List ℕ → Type 0) (why : Stop) (a : About) → IsAtFile (now name) name most Has why a →
+  pub at_file : (name : List ℕ) (most : ℕ) (Has : Stop → List ℕ → Type 0) (why : Stop) (a : About) → IsAtFile (now name) name most Has why a →
       IsAtFile (before name) name most Has why a
   at_file name most Has why about.Nothing h = h
   at_file name most Has why (about.File u) h = unread name why h
@@ -88,7 +88,7 @@ module _ (now before : List ℕ → Option (List ℕ) → Type 0) (same : IsSame
   expansion_held : (name : List ℕ) (words : List SizeWord) (e : Expansion) → IsExpansionIn (now name) words e → IsExpansionIn (before name) words e
   expansion_held name words e h = (h.0, (same name (Some h.0)).0 h.1, h.2)
 
-  program_held : (file : ProgramFile) (program : Checked) → IsProgramIn now file program → IsProgramIn before file program
+  pub program_held : (file : ProgramFile) (program : Checked) → IsProgramIn now file program → IsProgramIn before file program
   program_held file program h = record {
     expansion = h.expansion;
     is_expansion = expansion_held file.name.now file.sizes.items h.expansion h.is_expansion;

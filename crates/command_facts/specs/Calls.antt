@@ -1,5 +1,5 @@
 -- What a call finds, or why it finds nothing.
-use Rattle.std.specs.Prelude.{◌≡◌, ◌⊎◌, ℕ, nat_lt, Bool, true, false, if◌then◌else◌, List, Option, Result, Ok, Err}
+use Rattle.std.specs.Prelude.{◌≡◌, ◌⊎◌, ℕ, nat_lt, Bool, true, false, if◌then◌else◌, List, Option, Some, None, Result, Ok, Err}
 use Rattle.std.specs.List.{list_any}
 use Rattle.sized_texts.specs.Pieces.{Expansion}
 use Rattle.superstep_instructions.specs.Code.{SuperstepCode}
@@ -25,6 +25,8 @@ use Rattle.bsp_verify.specs.WellFormed.{IsWellFormed}
 use Rattle.command_facts.specs.Held.{IsExpansionIn, IsListingIn, IsTextIn, StopsAtListing, StopsAtProgram, StopsAtText}
 use Rattle.command_facts.specs.Found.{IsCodeFound, IsComparisonFound, IsLoaded, IsRunFound}
 use Rattle.command_facts.specs.Refused.{RefusesCodeRun, RefusesRun, StopsAtCode}
+use Rattle.comparisons.specs.Found as comparisons
+use Rattle.command_facts.specs.Pairs.{IsPaired, StopsAtPair}
 use Rattle.command_facts.specs.Scopes.{IsExplored, StopsAtExploration}
 use Rattle.command_facts.specs.Sweeps.{IsSwept, StopsAtSweep}
 
@@ -54,6 +56,7 @@ Finds holds (request.Explanation subject) (found.Explanation told) = told ≡ su
 Finds holds (request.Program verb file words) f = FindsOf holds verb file words f
 Finds holds (request.Sweep file sweep words) (found.Swept s) = IsSwept holds file sweep words s
 Finds holds (request.Exploration file scope words) (found.Explored f) = IsExplored holds file scope words.options.bound f
+Finds holds (request.Pair words) (found.Paired f) = IsPaired holds words f
 Finds holds (request.Listing file words) (found.Executed c) = IsCodeFound holds file.now words c
 Finds holds (request.ListingInC file) (found.Exported code) = IsListingIn (holds file.now) code × IsWellFormed code
 Finds holds _ _ = ⊥
@@ -82,12 +85,21 @@ status_of_rows rows =
 abbrev pub status_of_findings : (faulted go_on : ℕ) → Status
 status_of_findings faulted go_on = if nat_lt 0 faulted then status.Faulted else (if nat_lt 0 go_on then status.GoesOn else status.Done)
 
+-- That of two programs on the same inputs: as of a fault, where they differ on one.
+abbrev pub status_of_differing : Option comparisons.Differing → Status
+status_of_differing None = status.Done
+status_of_differing (Some d) = status.Faulted
+
+abbrev pub status_of_pair : comparisons.Found → Status
+status_of_pair f = status_of_differing f.first
+
 -- the exit status that goes with what was found
 abbrev pub status_of_found : Found → Status
 status_of_found (found.Run r) = status_of r.outcome
 status_of_found (found.Executed c) = status_of c.outcome
 status_of_found (found.Swept s) = status_of_rows s.rows.items
 status_of_found (found.Explored f) = status_of_findings f.findings.faulted f.findings.go_on
+status_of_found (found.Paired f) = status_of_pair (comparisons.found_is f.comparison)
 status_of_found _ = status.Done
 
 -- ---- why
@@ -107,6 +119,7 @@ Refuses holds (request.Explanation subject) h = ⊥
 Refuses holds (request.Program verb file words) h = RefusesOf holds verb file words h
 Refuses holds (request.Sweep file sweep words) h = StopsAtSweep holds file sweep words h
 Refuses holds (request.Exploration file scope words) h = StopsAtExploration holds file scope h
+Refuses holds (request.Pair words) h = StopsAtPair holds words h
 Refuses holds (request.Listing file words) h = RefusesCodeRun holds file.now words h
 Refuses holds (request.ListingInC file) h = StopsAtListing (holds file.now) file.now h
 

@@ -13,6 +13,7 @@ use crate::halted::{Halted, halted_run};
 use crate::loaded::Loaded;
 use crate::loading::{load_listing, load_program, load_text};
 use crate::opening::load_opening;
+use crate::pairing::find_pair;
 use crate::running::facts_of;
 use crate::sweeping::find_sweep;
 use bsp_verify::Verified;
@@ -208,6 +209,7 @@ pub fn find<'a, R: Threads + Wait + Sync, S: Sources>(
             let found = find_scope(alloc, &file, scope, words.options.bound, sources)?;
             Ok(Found::Explored(found))
         }
+        Request::Pair(words) => Ok(Found::Paired(find_pair(alloc, &words, sources)?)),
         Request::ListingInC { file } => Ok(Found::Exported(load_listing(alloc, sources, file)?)),
         Request::Listing { file, words } => {
             let run = find_code_run(rt, alloc, file, words, sources)?;

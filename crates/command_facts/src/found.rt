@@ -3,6 +3,7 @@
 use crate::loaded::Loaded;
 use bsp_verify::Verified;
 use command_requests::{Form, RunWords};
+use comparisons::Comparison as PairComparison;
 use diagnoses::Source;
 use exchange_counts::Counts;
 use explanations::Subject;
@@ -77,6 +78,14 @@ pub struct FoundScope {
     pub findings: Findings,
 }
 
+/// Two programs, and what is found of their runs on the same inputs.
+#[derive(Drop)]
+pub struct FoundPair {
+    pub first: Program,
+    pub second: Program,
+    pub comparison: PairComparison,
+}
+
 /// What a call finds.
 #[derive(Drop)]
 pub enum Found<'a> {
@@ -100,6 +109,8 @@ pub enum Found<'a> {
     Swept(FoundSweep),
     /// A program was run on every input of a scope.
     Explored(FoundScope),
+    /// Two programs were run on the same inputs.
+    Paired(FoundPair),
     /// A listing was run.
     Executed(FoundCode<'a>),
 }

@@ -9,13 +9,15 @@ mod halted;
 mod loaded;
 mod loading;
 mod opening;
+mod pair_inputs;
+mod pairing;
 mod running;
 mod status;
 mod sweeping;
 mod tracing;
 
 pub use finding::find;
-pub use found::{Facts, Found, FoundCode, FoundRun, FoundScope, FoundSweep, FoundTrace};
+pub use found::{Facts, Found, FoundCode, FoundPair, FoundRun, FoundScope, FoundSweep, FoundTrace};
 pub use halted::Halted;
 pub use loaded::Loaded;
 pub use status::status_of;

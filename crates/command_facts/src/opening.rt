@@ -25,8 +25,8 @@ use program_texts::{Refusal, Stop};
 use std::alloc::Global;
 use system_files::Sources;
 
-// The values of an input's file.
-fn load_input<'a, S: Sources>(
+/// The values of an input's file.
+pub(crate) fn load_input<'a, S: Sources>(
     alloc: Global,
     sources: &mut S,
     name: &'a str,

@@ -2,9 +2,11 @@
 
 ghost use Rattle.std.specs.Prelude.{◌≡◌};
 ghost use Rattle.std.specs.List.{list_any};
+ghost use Rattle.comparisons.specs.Found.{found_is};
 ghost use Rattle.command_facts.specs.Calls as spec;
 
 use crate::found::Found;
+use comparisons::Comparison;
 use explorations::Findings;
 use program_texts::Status;
 use sweep_texts::{Ending, SizeRow};
@@ -83,6 +85,16 @@ fn status_of_findings(findings: &Findings) -> Status
     }
 }
 
+// The exit status of two programs on the same inputs.
+fn status_of_pair(comparison: &Comparison) -> Status
+    ensures { result ≡ spec.status_of_pair (found_is comparison.now) }
+{
+    match &comparison.first {
+        None => Status::Done,
+        Some(_) => Status::Faulted,
+    }
+}
+
 /// The exit status that goes with what was found, however it is told.
 pub fn status_of(found: &Found<'_>) -> Status
     ensures { result ≡ spec.status_of_found found.now }
@@ -98,6 +110,7 @@ pub fn status_of(found: &Found<'_>) -> Status
         Found::Planned(_) => Status::Done,
         Found::Exported(_) => Status::Done,
         Found::Explored(found) => status_of_findings(&found.findings),
+        Found::Paired(pair) => status_of_pair(&pair.comparison),
         Found::Compared(_) => Status::Done,
     }
 }

@@ -1,0 +1,294 @@
+//! Two programs on the same inputs.
+
+ghost use Rattle.std.specs.Prelude.{◌≡◌, ◌⊎◌, ◌++◌, [], ℕ, ℤ, List, Some, IfOk, IfErr, OnOk};
+ghost use Rattle.std.specs.List.{AllZip, cons_option, filter_map, find};
+ghost use Rattle.std.specs.Option.{option_map};
+ghost use Rattle.system_files.specs.Files.{IsSame};
+ghost use Rattle.memory_texts.specs.Chosen.{parts};
+ghost use Rattle.pram_model.specs.Layout.{total_size};
+ghost use Rattle.small_scopes.specs.Scopes.{inputs_of};
+ghost use Rattle.comparisons.specs.Common.{common_named};
+ghost use Rattle.comparisons.specs.Found as pairs;
+ghost use Rattle.comparisons.specs.Found.{drawn_inputs};
+ghost use Rattle.comparisons.specs.declared.refusal.Side as rust;
+ghost use Rattle.command_facts.specs.Held.{StopsAtProgram};
+ghost use Rattle.command_facts.specs.Pairs as spec;
+ghost use Rattle.command_facts.specs.Refused.{IsProgramIn};
+
+use crate::found::FoundPair;
+use crate::halted::Halted;
+use crate::loading::load_program;
+use crate::pair_inputs::load_inputs;
+use command_requests::{DrawnWords, FewInputs, InputFile, InputWords, PairWords, ProgramFile};
+use comparisons::{
+    CommonRange, Compared, Comparison, ComparisonRefusal, Limits, Side, common_ranges,
+    compare_drawn, compare_inputs, compare_scope, longest, named_range,
+};
+use diagnoses::About;
+use memory_texts::{Choice, is_chosen};
+use pram_check::Program;
+use pram_trees::Layout;
+use program_texts::{Refusal, Stop};
+use std::alloc::{AllocError, Global};
+use system_files::Sources;
+
+// The program of a file.
+fn load<'a, S: Sources>(
+    alloc: Global,
+    file: &ProgramFile<'a>,
+    sources: &mut S,
+) -> Result<Program, Halted<'a>>
+    ensures loaded { IfOk result (IsProgramIn (S.Sources.holds sources.old) file.now) }
+    ensures refused { IfErr result (StopsAtProgram (S.Sources.holds sources.old file.now.name.now) file.now) }
+    ensures same { IsSame (S.Sources.holds sources.new) (S.Sources.holds sources.old) }
+{
+    let loaded = load_program(alloc, sources, file)?;
+    Ok(loaded.program)
+}
+
+// Whether a name is neither that of the output nor of a declaration that both have.
+fn is_uncommon(first: &Layout, second: &Layout, name: &str) -> bool
+    ensures { result ≡ spec.is_uncommon first.now second.now name.now }
+{
+    name != "output" && named_range(first, second, name.as_bytes()).is_none()
+}
+
+fn uncommon_part<'a>(first: &Layout, second: &Layout, word: &'a str) -> Option<&'a str>
+    ensures { option_map (λ part. part.now) result ≡ find (spec.is_uncommon first.now second.now) (parts word.now) }
+{
+    for part in word.split(',') {
+        if is_uncommon(first, second, part) {
+            return Some(part);
+        }
+    }
+    None
+}
+
+// The first name of what is to be compared that is neither.
+fn uncommon_name<'a>(first: &Layout, second: &Layout, only: Choice<'a>) -> Option<&'a str>
+    ensures { option_map (λ part. part.now) result ≡ spec.uncommon_name only.entry first.now second.now }
+{
+    match only {
+        Choice::All | Choice::Nothing => None,
+        Choice::Named(word) => uncommon_part(first, second, word),
+    }
+}
+
+// Behind other cells the cells of a declaration, if there is one.
+fn push_some(ranges: &mut Vec<CommonRange>, range: Option<CommonRange>) -> Result<(), AllocError>
+    ensures { OnOk result (ranges.new.items ≡ ranges.old.items ++ cons_option range []) }
+{
+    if let Some(range) = range {
+        ranges.push(range)?;
+    }
+    Ok(())
+}
+
+// The cells of the declarations that a word names.
+fn ranges_named(
+    alloc: Global,
+    first: &Layout,
+    second: &Layout,
+    word: &str,
+) -> Result<Vec<CommonRange>, AllocError>
+    ensures { IfOk result (λ ranges. ranges.items ≡ filter_map (common_named first.now second.now) (parts word.now)) }
+{
+    let mut ranges = Vec::new(alloc);
+    for part in word.split(',') {
+        push_some(&mut ranges, named_range(first, second, part.as_bytes()))?;
+    }
+    Ok(ranges)
+}
+
+// The cells that are compared.
+fn ranges_of(
+    alloc: Global,
+    first: &Layout,
+    second: &Layout,
+    only: Choice<'_>,
+) -> Result<Vec<CommonRange>, AllocError>
+    ensures { IfOk result (λ ranges. ranges.items ≡ spec.ranges_of only.entry first.now second.now) }
+{
+    match only {
+        Choice::All => common_ranges(alloc, first, second),
+        Choice::Nothing => Ok(Vec::new(alloc)),
+        Choice::Named(word) => ranges_named(alloc, first, second, word),
+    }
+}
+
+fn limit_of(most: Option<u32>) -> Option<u64>
+    ensures { result ≡ most }
+{
+    match most {
+        None => None,
+        Some(most) => Some(u64::from(most)),
+    }
+}
+
+// What of the runs is compared.
+fn compared_of<'a>(
+    alloc: Global,
+    words: &PairWords<'a>,
+    first: &Layout,
+    second: &Layout,
+) -> Result<Compared, Halted<'a>>
+    ensures compared { IfOk result (spec.IsCompared words.now first.now second.now) }
+    ensures refused { IfErr result (λ h. spec.IsUncommonIn words.now first.now second.now h.stop h.about) }
+{
+    if let Some(name) = uncommon_name(first, second, words.only) {
+        return Err(Halted::from(Stop::Number(name)));
+    }
+    let Ok(ranges) = ranges_of(alloc, first, second, words.only) else {
+        return Err(Halted::from(Stop::Refused(Refusal::OutOfMemory)));
+    };
+    Ok(Compared {
+        output: is_chosen(words.only, b"output"),
+        ranges,
+        limits: Limits {
+            time: limit_of(words.most_time),
+            work: limit_of(words.most_work),
+        },
+    })
+}
+
+fn cells_of(first: &Program, second: &Program, side: Side) -> u32
+    ensures { result ≡ spec.cells_of first.now second.now side }
+{
+    match side {
+        Side::First => first.layout().cells(),
+        Side::Second => second.layout().cells(),
+    }
+}
+
+// No run begins: an input has more values than a program has cells, or memory was refused.
+fn halted<'a>(
+    why: ComparisonRefusal,
+    values: usize,
+    first: &Program,
+    second: &Program,
+) -> Halted<'a>
+    requires too_long { (side : rust.Side) → why ≡ ComparisonRefusal.InputTooLong side
+        → pairs.too_long first.now second.now values ≡ Some side }
+    ensures { spec.IsTooLong first.now second.now values result.stop result.about }
+{
+    match why {
+        ComparisonRefusal::InputTooLong(side) => Halted {
+            stop: Stop::Refused(Refusal::InputTooLong),
+            about: About::Values {
+                values,
+                cells: cells_of(first, second, side),
+            },
+        },
+        ComparisonRefusal::OutOfMemory => Halted {
+            stop: Stop::Refused(Refusal::OutOfMemory),
+            about: About::Nothing,
+        },
+    }
+}
+
+// On every input of a scope.
+fn on_scope<'a>(
+    alloc: Global,
+    first: &Program,
+    second: &Program,
+    compared: &Compared,
+    few: FewInputs,
+    bound: u32,
+) -> Result<Comparison, Halted<'a>>
+    ensures found { IfOk result (λ r. pairs.found_is r
+        ≡ pairs.found first.now second.now compared.now bound (inputs_of few.scope)) }
+    ensures refused { IfErr result (λ h. spec.IsTooLong first.now second.now few.scope.count h.stop h.about) }
+{
+    match compare_scope(alloc, first, second, compared, few.scope, bound) {
+        Ok(comparison) => Ok(comparison),
+        Err(why) => Err(halted(why, few.scope.count as usize, first, second)),
+    }
+}
+
+// On the inputs of files.
+fn on_files<'a, S: Sources>(
+    alloc: Global,
+    first: &Program,
+    second: &Program,
+    compared: &Compared,
+    files: &[InputFile<'a>],
+    bound: u32,
+    sources: &mut S,
+) -> Result<Comparison, Halted<'a>>
+    ensures found { IfOk result (λ r. (inputs : List (List ℤ)) × AllZip (spec.IsInputOfFile (S.Sources.holds sources.old)) files.now inputs
+        × (pairs.found_is r ≡ pairs.found first.now second.now compared.now bound inputs)) }
+    ensures refused { IfErr result (λ h. spec.StopsAtInputs (S.Sources.holds sources.old) files.now h
+        ⊎ ((values : ℕ) × spec.AreMostIn (S.Sources.holds sources.old) files.now values
+        × spec.IsTooLong first.now second.now values h.stop h.about)) }
+{
+    let inputs = load_inputs(alloc, files, sources)?;
+    match compare_inputs(alloc, first, second, compared, &inputs, bound) {
+        Ok(comparison) => Ok(comparison),
+        Err(why) => Err(halted(why, longest(&inputs), first, second)),
+    }
+}
+
+// On inputs that are drawn.
+fn on_drawn<'a>(
+    alloc: Global,
+    first: &Program,
+    second: &Program,
+    compared: &Compared,
+    drawn: DrawnWords,
+    bound: u32,
+) -> Result<Comparison, Halted<'a>>
+    ensures found { IfOk result (λ r. pairs.found_is r ≡ pairs.found first.now second.now compared.now bound
+        (drawn_inputs drawn.drawing.low drawn.drawing.high drawn.drawing.seed (total_size first.now.layout) drawn.count)) }
+    ensures refused { IfErr result (λ h. spec.IsTooLong first.now second.now (total_size first.now.layout) h.stop h.about) }
+{
+    let (drawing, count) = (drawn.drawing, drawn.count);
+    match compare_drawn(alloc, first, second, compared, drawing, count, bound) {
+        Ok(comparison) => Ok(comparison),
+        Err(why) => {
+            let cells = first.layout().cells() as usize;
+            Err(halted(why, cells, first, second))
+        }
+    }
+}
+
+// What is found of two programs on the inputs that the words give.
+fn compare_on<'a, S: Sources>(
+    alloc: Global,
+    first: &Program,
+    second: &Program,
+    compared: &Compared,
+    words: &PairWords<'a>,
+    sources: &mut S,
+) -> Result<Comparison, Halted<'a>>
+    ensures found { IfOk result (spec.IsFoundOn (S.Sources.holds sources.old) first.now second.now compared.now words.now.inputs words.now.bound) }
+    ensures refused { IfErr result (spec.IsRefusedPair (S.Sources.holds sources.old) words.now.inputs first.now second.now) }
+{
+    let bound = words.bound;
+    match &words.inputs {
+        InputWords::Scope(few) => on_scope(alloc, first, second, compared, *few, bound),
+        InputWords::Files(files) => {
+            on_files(alloc, first, second, compared, files, bound, sources)
+        }
+        InputWords::Drawn(drawn) => on_drawn(alloc, first, second, compared, *drawn, bound),
+    }
+}
+
+/// What is found of the programs of two files on the same inputs.
+pub(crate) fn find_pair<'a, S: Sources>(
+    alloc: Global,
+    words: &PairWords<'a>,
+    sources: &mut S,
+) -> Result<FoundPair, Halted<'a>>
+    ensures found { IfOk result (spec.IsPaired (S.Sources.holds sources.old) words.now) }
+    ensures refused { IfErr result (spec.StopsAtPair (S.Sources.holds sources.old) words.now) }
+{
+    let first = load(alloc, &words.first, sources)?;
+    let second = load(alloc, &words.second, sources)?;
+    let compared = compared_of(alloc, words, first.layout(), second.layout())?;
+    let comparison = compare_on(alloc, &first, &second, &compared, words, sources)?;
+    Ok(FoundPair {
+        first,
+        second,
+        comparison,
+    })
+}
