@@ -5,4 +5,5 @@ pub mod ExchangeFacts
 pub mod Readable
 pub mod SweepReadable
 pub mod ExplorationReadable
+pub mod PairReadable
 pub mod MessageReadable

@@ -10,3 +10,4 @@ pub mod StepFacts
 pub mod TraceFacts
 pub mod SweepFacts
 pub mod ExplorationFacts
+pub mod PairFacts

@@ -1,0 +1,48 @@
+-- That what is told of two programs on the same inputs can be read.
+use Rattle.std.proofs.Common.{ℕ, ℤ, List, [], ◌∷◌, ◌++◌, codes, lit≤}
+use Rattle.std.specs.Prelude.{Option, Some, None}
+use Rattle.json_lines.specs.Small.{IsReadable, IsSmall}
+use Rattle.json_lines.proofs.Small.{HasSmall, has_all, small_large, small_letters, small_object, small_value, small_values, small_word, smaller}
+use Rattle.pram_model.specs.Layout.{SharedEntry}
+use Rattle.comparisons.specs.Found.{Differing, Found}
+use Rattle.comparisons.specs.declared.difference.Difference.{Difference}
+use Rattle.comparisons.specs.declared.difference.Difference.TheVariants as differ
+use Rattle.comparisons.specs.declared.difference.Ending.{Ending}
+use Rattle.comparisons.specs.declared.difference.Ending.TheVariants as ending
+use Rattle.json_texts.specs.PairFacts.{both_fields, difference_fields, differing_fields, ending_facts, ending_fields, excess_fields}
+use Rattle.json_texts.specs.PairFacts.{pair_facts, pair_fields, value_fields}
+use Rattle.json_texts.proofs.Readable.{readable, small_fault}
+
+small_one : (name : List ℕ) (x : Option ℤ) → HasSmall 3 (value_fields name x)
+small_one name None = tt
+small_one name (Some v) = (small_value 3 v, tt)
+
+small_both : (x y : Option ℤ) → HasSmall 3 (both_fields x y)
+small_both x y =
+    has_all 3 (value_fields (codes "first") x) (value_fields (codes "second") y) (small_one (codes "first") x) (small_one (codes "second") y)
+
+small_ending_fields : (layout : List SharedEntry) (e : Ending) → HasSmall 0 (ending_fields layout e)
+small_ending_fields layout ending.Ended = (small_word 0 _, tt)
+small_ending_fields layout (ending.Faulted fault) = (small_word 0 _, small_fault 0 layout fault)
+small_ending_fields layout ending.GoesOn = (small_word 0 _, tt)
+
+small_ending : (layout : List SharedEntry) (e : Ending) → IsSmall 3 (ending_facts layout e)
+small_ending layout e = smaller 1 3 (ending_facts layout e) (lit≤ tt) (small_object 0 (ending_fields layout e) (small_ending_fields layout e))
+
+small_excess : (what : List ℕ) (taken limit : ℕ) → HasSmall 3 (excess_fields what taken limit)
+small_excess what taken limit = (small_word 3 _, (small_large 3 taken, (small_large 3 limit, tt)))
+
+small_difference : (first second : List SharedEntry) (d : Difference) → HasSmall 3 (difference_fields first second d)
+small_difference first second (differ.Endings e f) = (small_word 3 _, (small_ending first e, (small_ending second f, tt)))
+small_difference first second (differ.Output item x y) = (small_word 3 _, (small_large 3 item, small_both x y))
+small_difference first second (differ.Cell cell x y) = (small_word 3 _, (small_letters 3 _, small_both x y))
+small_difference first second (differ.Time taken limit) = small_excess (codes "time") taken limit
+small_difference first second (differ.Work taken limit) = small_excess (codes "work") taken limit
+
+small_differing : (first second : List SharedEntry) (d : Option Differing) → HasSmall 3 (differing_fields first second d)
+small_differing first second None = tt
+small_differing first second (Some d) = (small_values 2 d.input, small_difference first second d.difference)
+
+pub readable_pair : (first second : List SharedEntry) (f : Found) → IsReadable (pair_facts first second f)
+readable_pair first second f =
+    readable (pair_fields first second f) (small_large 3 f.inputs, (small_large 3 f.same, small_differing first second f.first))

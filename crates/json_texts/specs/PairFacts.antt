@@ -1,0 +1,70 @@
+-- What JSON says of what is found of two programs on the same inputs.
+use Rattle.std.specs.Prelude.{ℕ, ℤ, List, [], ◌∷◌, ◌++◌, Option, Some, None, codes}
+use Rattle.serde_json.specs.Data.{Data}
+use Rattle.json_lines.specs.Facts.{Field, large, letters, object_of, value, values, word}
+use Rattle.pram_model.specs.Layout.{SharedEntry}
+use Rattle.program_texts.specs.Shown.{cell_text}
+use Rattle.comparisons.specs.Found.{Differing, Found}
+use Rattle.comparisons.specs.declared.difference.Difference.{Difference}
+use Rattle.comparisons.specs.declared.difference.Difference.TheVariants as differ
+use Rattle.comparisons.specs.declared.difference.Ending.{Ending}
+use Rattle.comparisons.specs.declared.difference.Ending.TheVariants as ending
+use Rattle.json_texts.specs.OutcomeFacts.{fault_fields}
+
+-- a value, where there is one
+abbrev pub value_fields : List ℕ → Option ℤ → List Field
+value_fields name None = []
+value_fields name (Some v) = (name, value v) ∷ []
+
+-- that of the first program, and that of the second
+abbrev pub both_fields : Option ℤ → Option ℤ → List Field
+both_fields x y = value_fields (codes "first") x ++ value_fields (codes "second") y
+
+-- how a run came out, without its values
+abbrev pub ending_fields : List SharedEntry → Ending → List Field
+ending_fields layout ending.Ended = (codes "outcome", word (codes "ended")) ∷ []
+ending_fields layout (ending.Faulted fault) = (codes "outcome", word (codes "fault")) ∷ fault_fields layout fault
+ending_fields layout ending.GoesOn = (codes "outcome", word (codes "goes on")) ∷ []
+
+abbrev pub ending_facts : List SharedEntry → Ending → Data
+ending_facts layout e = object_of (ending_fields layout e)
+
+-- more than the limit
+abbrev pub excess_fields : List ℕ → (taken limit : ℕ) → List Field
+excess_fields what taken limit =
+    (codes "differs", word what) ∷ (codes "taken", large taken) ∷ (codes "limit", large limit) ∷ []
+
+-- how the two runs came out
+abbrev pub endings_fields : List SharedEntry → Ending → List SharedEntry → Ending → List Field
+endings_fields first e second f =
+    (codes "differs", word (codes "outcome")) ∷ (codes "first", ending_facts first e) ∷ (codes "second", ending_facts second f) ∷ []
+
+-- an output item, counted from 1
+abbrev pub output_fields : (item : ℕ) → Option ℤ → Option ℤ → List Field
+output_fields item x y = (codes "differs", word (codes "output")) ∷ (codes "item", large item) ∷ both_fields x y
+
+-- a cell, by its name
+abbrev pub cell_fields : List SharedEntry → (cell : ℕ) → Option ℤ → Option ℤ → List Field
+cell_fields first cell x y =
+    (codes "differs", word (codes "cell")) ∷ (codes "cell", letters (cell_text first cell)) ∷ both_fields x y
+
+-- what differs
+abbrev pub difference_fields : (first second : List SharedEntry) → Difference → List Field
+difference_fields first second (differ.Endings e f) = endings_fields first e second f
+difference_fields first second (differ.Output item x y) = output_fields item x y
+difference_fields first second (differ.Cell cell x y) = cell_fields first cell x y
+difference_fields first second (differ.Time taken limit) = excess_fields (codes "time") taken limit
+difference_fields first second (differ.Work taken limit) = excess_fields (codes "work") taken limit
+
+-- the first input on which they differ, where there is one, and what differs on it
+abbrev pub differing_fields : (first second : List SharedEntry) → Option Differing → List Field
+differing_fields first second None = []
+differing_fields first second (Some d) = (codes "input", values d.input) ∷ difference_fields first second d.difference
+
+-- how many inputs there are, and on how many both come to the same
+abbrev pub pair_fields : (first second : List SharedEntry) → Found → List Field
+pair_fields first second f =
+    (codes "inputs", large f.inputs) ∷ (codes "same", large f.same) ∷ differing_fields first second f.first
+
+abbrev pub pair_facts : (first second : List SharedEntry) → Found → Data
+pair_facts first second f = object_of (pair_fields first second f)

@@ -1,0 +1,193 @@
+//! What is found of two programs on the same inputs.
+
+ghost use Rattle.std.specs.Prelude.{◌≡◌, ◌∷◌, [], IfOk, OnOk, string_bytes};
+ghost use Rattle.std.specs.Option.{option_map};
+ghost use Rattle.serde_json.specs.View.{view};
+ghost use Rattle.comparisons.specs.Found.{differing_is, found_is};
+ghost use Rattle.json_lines.specs.Facts.{with_fields};
+ghost use Rattle.json_lines.specs.Lines.{IsJson};
+ghost use Rattle.json_lines.specs.Shown.{shown};
+ghost use Rattle.json_texts.specs.PairFacts as spec;
+
+use crate::fault::{cell_text, put_fault};
+use comparisons::{Comparison, Difference, Ending, FoundDifference};
+use json_lines::{Object, Value, line_of};
+use pram_trees::Layout;
+use std::alloc::{AllocError, Global};
+
+// A value, where there is one.
+fn put_one(object: &mut Object, name: &str, value: Option<i64>) -> Result<(), AllocError>
+    ensures { OnOk result (shown object.new ≡ with_fields (spec.value_fields name.now value) (shown object.old)) }
+{
+    match value {
+        None => Ok(()),
+        Some(value) => object.put_value(name, value),
+    }
+}
+
+// The values of both programs.
+fn put_both(object: &mut Object, first: Option<i64>, second: Option<i64>) -> Result<(), AllocError>
+    ensures { OnOk result (shown object.new ≡ with_fields (spec.both_fields first second) (shown object.old)) }
+{
+    put_one(object, "first", first)?;
+    put_one(object, "second", second)
+}
+
+fn put_ending(
+    alloc: Global,
+    object: &mut Object,
+    layout: &Layout,
+    ending: Ending,
+) -> Result<(), AllocError>
+    ensures { OnOk result (shown object.new ≡ with_fields (spec.ending_fields layout.now ending) (shown object.old)) }
+{
+    match ending {
+        Ending::Ended => object.put_word("outcome", "ended"),
+        Ending::Faulted(fault) => {
+            object.put_word("outcome", "fault")?;
+            put_fault(alloc, object, layout, &fault)
+        }
+        Ending::GoesOn => object.put_word("outcome", "goes on"),
+    }
+}
+
+fn ending_facts(alloc: Global, layout: &Layout, ending: Ending) -> Result<Value, AllocError>
+    ensures { IfOk result (λ v. view v ≡ spec.ending_facts layout.now ending) }
+{
+    let mut object = Object::new(alloc);
+    put_ending(alloc, &mut object, layout, ending)?;
+    Ok(object.into_value())
+}
+
+fn put_endings(
+    alloc: Global,
+    object: &mut Object,
+    first_layout: &Layout,
+    first: Ending,
+    second_layout: &Layout,
+    second: Ending,
+) -> Result<(), AllocError>
+    ensures { OnOk result (shown object.new
+        ≡ with_fields (spec.endings_fields first_layout.now first second_layout.now second) (shown object.old)) }
+{
+    object.put_word("differs", "outcome")?;
+    object.put("first", ending_facts(alloc, first_layout, first)?)?;
+    object.put("second", ending_facts(alloc, second_layout, second)?)
+}
+
+fn put_output(
+    object: &mut Object,
+    item: u64,
+    first: Option<i64>,
+    second: Option<i64>,
+) -> Result<(), AllocError>
+    ensures { OnOk result (shown object.new ≡ with_fields (spec.output_fields item first second) (shown object.old)) }
+{
+    object.put_word("differs", "output")?;
+    object.put_large("item", u128::from(item))?;
+    put_both(object, first, second)
+}
+
+fn put_cell(
+    alloc: Global,
+    object: &mut Object,
+    layout: &Layout,
+    cell: u64,
+    first: Option<i64>,
+    second: Option<i64>,
+) -> Result<(), AllocError>
+    ensures { OnOk result (shown object.new ≡ with_fields (spec.cell_fields layout.now cell first second) (shown object.old)) }
+{
+    let name = cell_text(alloc, layout, cell as usize)?;
+    object.put_word("differs", "cell")?;
+    object.put_letters("cell", name.bytes())?;
+    put_both(object, first, second)
+}
+
+// More than the limit.
+fn put_excess(object: &mut Object, what: &str, taken: u64, limit: u64) -> Result<(), AllocError>
+    ensures { OnOk result (shown object.new ≡ with_fields (spec.excess_fields what.now taken limit) (shown object.old)) }
+{
+    object.put_word("differs", what)?;
+    object.put_large("taken", u128::from(taken))?;
+    object.put_large("limit", u128::from(limit))
+}
+
+fn put_difference(
+    alloc: Global,
+    object: &mut Object,
+    first_layout: &Layout,
+    second_layout: &Layout,
+    difference: &Difference,
+) -> Result<(), AllocError>
+    ensures { OnOk result (shown object.new
+        ≡ with_fields (spec.difference_fields first_layout.now second_layout.now difference.now) (shown object.old)) }
+{
+    match *difference {
+        Difference::Endings { first, second } => {
+            put_endings(alloc, object, first_layout, first, second_layout, second)
+        }
+        Difference::Output {
+            item,
+            first,
+            second,
+        } => put_output(object, item, first, second),
+        Difference::Cell {
+            cell,
+            first,
+            second,
+        } => put_cell(alloc, object, first_layout, cell, first, second),
+        Difference::Time { taken, limit } => put_excess(object, "time", taken, limit),
+        Difference::Work { taken, limit } => put_excess(object, "work", taken, limit),
+    }
+}
+
+// An input, and what differs on it, where they differ on any.
+fn put_differing(
+    alloc: Global,
+    object: &mut Object,
+    first: &Layout,
+    second: &Layout,
+    found: &Option<FoundDifference>,
+) -> Result<(), AllocError>
+    ensures { OnOk result (shown object.new
+        ≡ with_fields (spec.differing_fields first.now second.now (option_map differing_is found.now)) (shown object.old)) }
+{
+    match found {
+        None => Ok(()),
+        Some(found) => {
+            object.put_values("input", found.input.as_slice())?;
+            put_difference(alloc, object, first, second, &found.difference)
+        }
+    }
+}
+
+fn pair_value(
+    alloc: Global,
+    first: &Layout,
+    second: &Layout,
+    comparison: &Comparison,
+) -> Result<Value, AllocError>
+    ensures { IfOk result (λ v. view v ≡ spec.pair_facts first.now second.now (found_is comparison.now)) }
+{
+    let mut object = Object::new(alloc);
+    object.put_large("inputs", u128::from(comparison.inputs))?;
+    object.put_large("same", u128::from(comparison.same))?;
+    put_differing(alloc, &mut object, first, second, &comparison.first)?;
+    Ok(object.into_value())
+}
+
+/// What is found of two programs on the same inputs, on a line, as `{"inputs":625,"same":624}`; where they differ on an input also that
+/// and what differs on it, as `"differs":"output","first":"3","input":["2","1"],"item":1,"second":"2"`. The layouts are the shared
+/// declarations of the two programs.
+pub fn json_pair(
+    alloc: Global,
+    first: &Layout,
+    second: &Layout,
+    comparison: &Comparison,
+) -> Result<String, AllocError>
+    ensures json { IfOk result (λ text. IsJson (spec.pair_facts first.now second.now (found_is comparison.now) ∷ []) (string_bytes text)) }
+{
+    let facts = pair_value(alloc, first, second, comparison)?;
+    line_of(alloc, &facts)
+}
