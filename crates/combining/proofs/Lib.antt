@@ -11,6 +11,7 @@ pub mod ReadBack
 pub mod Asking
 pub mod HeldFits
 pub mod Askers
+pub mod WordsApart
 pub mod ModuleSends
 pub mod ModuleReplies
 pub mod AskPlaces

@@ -1,7 +1,6 @@
 -- Where there is one module, each cell lies there.
 use Rattle.std.proofs.Common.{◌≡◌, ℕ, zero, suc, ◌<◌, List, [], ◌∷◌, drop, true, refl, ap, sym, ◌∙◌, arith, eqb}
 use Rattle.combining.specs.Held.{paired}
-use Rattle.combining.specs.Asked.{HeldAsk, replied}
 use Rattle.std.proofs.lemmas.Bool.{eq-eqb}
 use Rattle.address_map.specs.Lawful.{Shape, IsLawful}
 

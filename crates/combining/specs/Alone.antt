@@ -1,5 +1,5 @@
--- Puts whose cells ascend, so that each is alone at its cell.
-use Rattle.std.specs.Prelude.{◌≡◌, ℕ, ℤ, ◌+◌, ◌<◌, ◌≤◌, List, [], ◌∷◌, map, Option, None}
+-- Puts whose cells ascend, so that each is alone at its cell, and asks whose words ascend.
+use Rattle.std.specs.Prelude.{◌≡◌, ℕ, ℤ, ◌+◌, ◌<◌, ◌≤◌, ◌^◌, List, [], ◌∷◌, map, Option, None}
 use Rattle.pram_values.specs.declared.kind.Kind.{Kind}
 use Rattle.pram_model.specs.declared.rule.Rule.{Rule}
 use Rattle.write_rules.specs.declared.entry.Entry.{Entry}
@@ -24,6 +24,11 @@ AscendTo n (c ∷ cs) k = (n ≤ c) × AscendTo (c + 1) cs k
 abbrev pub AscendAll : Rule → Shape → ℕ → ℕ → List (List ℕ) → Type 0
 AscendAll rule m j n [] = Unit {0}
 AscendAll rule m j n (ws ∷ columns) = (k : ℕ) × AscendTo n (cells_put rule m j ws) k × AscendAll rule m j k columns
+
+-- the words of some columns ascend, from n on, column behind column, and none has the mark of two askers
+abbrev pub AscendWords : ℕ → List (List ℕ) → Type 0
+AscendWords n [] = Unit {0}
+AscendWords n (ws ∷ columns) = (k : ℕ) × AscendTo n ws k × (k ≤ 2 ^ 23) × AscendWords k columns
 
 -- each cell has what is due once what is left for it is settled, and the least conflict of those with nothing left is noted
 pub record Leaves (m : Shape) (rule : Rule) (j : ℕ) (due : ℕ → ℤ) (found : ℕ → Option Kind) (values : List ℤ)

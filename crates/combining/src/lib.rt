@@ -3,6 +3,7 @@
 
 mod alone;
 mod answers;
+mod apart;
 mod ascending;
 mod asks;
 mod cells;

@@ -6,6 +6,7 @@ ghost use Rattle.superstep_machine.specs.WordReading.{askers_of_column, askers_r
 ghost use Rattle.combining.specs.Gathering.{slot, note, Collects, CollectsAll, TakesOut, TakesAllOut};
 ghost use Rattle.combining.specs.Merged.{shared, noted_cell, IsLeastShared};
 
+use crate::apart::ascend_words_all;
 use crate::cells::Cells;
 use crate::merge::least;
 use crate::words::{AskWords, next};
@@ -172,5 +173,8 @@ pub fn read_conflict<M: AddressMap>(
     ensures least { IsLeastShared (M.shape map.now) part (each (λ x. x.now) columns.now) k result }
     ensures same { cells.new ≡ cells.old }
 {
+    if ascend_words_all(columns) {
+        return None;
+    }
     find_shared(map, part, columns, k, &mut cells.askers)
 }
