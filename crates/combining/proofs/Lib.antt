@@ -12,6 +12,7 @@ pub mod Asking
 pub mod HeldFits
 pub mod Askers
 pub mod WordsApart
+pub mod RowWrites
 pub mod ModuleSends
 pub mod ModuleReplies
 pub mod AskPlaces

@@ -7,6 +7,7 @@ pub mod Merged
 pub mod Alone
 pub mod Asked
 pub mod Adding
+pub mod Writing
 pub mod Came
 pub mod ModuleLaws
 pub mod Answers

@@ -18,6 +18,7 @@ const CELLS: u64 = 1_048_576;
 
 // Whether the cells of one column's puts ascend, from some number on: then the number behind the last. The first words of all groups tell
 // it; one with a mark of a clash is too great.
+#[inline(never)]
 fn ascend_column<R: WriteRule>(rule: &R, words: &[u64], from: u64) -> Option<u64>
     ensures { IfSome result (λ k. (m : Shape) (j : ℕ) → AscendTo from (cells_put (R.WriteRule.rule rule.now) m j words.now) k) }
 {
@@ -72,7 +73,8 @@ fn settle_alone<R: WriteRule>(
     }
 }
 
-// Settles the puts of one column, each alone at its cell.
+// Settles the puts of one column, each alone at its cell. It is a function of its own, so that what the loop needs stays in registers.
+#[inline(never)]
 fn settle_column_alone<R: WriteRule, M: AddressMap>(
     rule: &R,
     map: &M,

@@ -17,7 +17,9 @@ fn value_of(values: &[i64], offset: u32) -> i64
     values[offset as usize]
 }
 
-// Writes the words of a module's reply, as `answer_asks` does. The cells' values are a slice, so that they stay in registers over the loop.
+// Writes the words of a module's reply, as `answer_asks` does. The cells' values are a slice, and the loop has a function of its own, so
+// that all that it needs stays in registers.
+#[inline(never)]
 fn answer_words<M: AddressMap>(
     map: &M,
     part: u32,

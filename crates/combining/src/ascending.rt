@@ -10,9 +10,9 @@ ghost use Rattle.combining.specs.Adding.{by_read, asked_after};
 use crate::asks::Asked;
 use crate::words::ask_key;
 
-// The least key that is greater than some keys which ascend.
+/// The least key that is greater than some keys which ascend.
 #[inline(always)]
-fn least_above(keys: &[u32]) -> u64
+pub(crate) fn least_above(keys: &[u32]) -> u64
     requires { AscendFrom 0 keys.now }
     ensures { IsAbove result keys.now }
 {
@@ -25,6 +25,7 @@ fn least_above(keys: &[u32]) -> u64
 /// Adds the asks by a read for the first of some cells behind those that are held, as long as their keys ascend; an ask for the cell
 /// of the last one marks that one. Says for how many cells it did. The lists are passed by value, so that their lengths stay in registers
 /// over the loop.
+#[inline(never)]
 pub(crate) fn append_ascending(
     mut keys: Vec<u32>,
     mut asked: Vec<Asked>,

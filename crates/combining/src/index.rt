@@ -1,18 +1,23 @@
 //! Keys that are held, each once, and a table that finds them.
 ghost use Rattle.std.specs.Prelude.{◌≡◌, ◌<◌, ◌++◌, [], ◌∷◌, length, IfOk, vec_capacity, ◌^◌};
-ghost use Rattle.std.specs.Prelude.{◌≤◌, ◌+◌, take};
+ghost use Rattle.std.specs.Prelude.{◌≤◌, ◌+◌, ℕ, take};
 ghost use Rattle.combining.specs.Places.{place_of, Held, AreApart};
 ghost use Rattle.combining.specs.Columns.{AreBelow};
-ghost use Rattle.combining.specs.Held.{paired};
+ghost use Rattle.combining.specs.Compact.{held_at};
+ghost use Rattle.combining.specs.Held.{paired, held_after};
 ghost use Rattle.combining.specs.Asked.{ask_at};
 ghost use Rattle.combining.specs.Adding.{by_read, asked_after};
+ghost use Rattle.combining.specs.Writing.{first_writes};
 
 use crate::ascending::append_ascending;
 use crate::asks::Asked;
+use crate::compact::Compact;
 use crate::linking::{link, link_all, linked_place, place_from};
+use crate::writes::{Writes, append_writes};
 use std::alloc::{AllocError, Global};
 use std::marker::Model;
 use std::mem;
+use write_rules::WriteRule;
 
 /// Keys in the order in which they were first held. As long as each is greater than those before it, the last one tells whether
 /// another is held, and no table is kept; the first that isn't has all of them linked.
@@ -181,5 +186,36 @@ impl Index {
         let (keys, asked, n) = append_ascending(keys, asked, ordinal, cells);
         self.keys = keys;
         (asked, n)
+    }
+
+    /// Holds the writes of the first processors of a row, whose entries are in `entries`, as `append_writes` does. Says of how many
+    /// processors, and gives that list back. Of none where keys are linked.
+    pub(crate) fn hold_writes<R: WriteRule, W: Writes>(
+        &mut self,
+        rule: &R,
+        writes: &W,
+        count: usize,
+        entries: Vec<Compact>,
+    ) -> (Vec<Compact>, usize)
+        requires row { (j : ℕ) → j < count → W.has writes.now j }
+        requires long { length entries.items ≡ length self.old.keys }
+        requires room { length self.old.keys + count ≤ self.old.room }
+        requires rooms { vec_capacity entries ≡ self.old.room }
+        ensures held { paired held_at self.new.keys result.0.items ≡ held_after (R.WriteRule.rule rule.now)
+            (first_writes (W.number writes.now) (W.written writes.now) result.1) (paired held_at self.old.keys entries.items) }
+        ensures long { length result.0.items ≡ length self.new.keys }
+        ensures few { result.1 ≤ count }
+        ensures most { length self.new.keys ≤ length self.old.keys + result.1 }
+        ensures room { self.new.room ≡ self.old.room }
+        ensures entries { vec_capacity result.0 ≡ vec_capacity entries }
+    {
+        if !self.links.is_empty() {
+            return (entries, 0);
+        }
+        let empty = Vec::new(*self.keys.allocator());
+        let keys = mem::replace(&mut self.keys, empty);
+        let (keys, entries, n) = append_writes(rule, writes, count, keys, entries);
+        self.keys = keys;
+        (entries, n)
     }
 }

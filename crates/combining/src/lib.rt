@@ -19,6 +19,7 @@ mod runs;
 mod single;
 mod slots;
 mod words;
+mod writes;
 
 pub use answers::answer_asks;
 pub use asks::Asks;
@@ -27,3 +28,4 @@ pub use index::Index;
 pub use merge::merge_at_module;
 pub use puts::Puts;
 pub use readers::read_conflict;
+pub use writes::Writes;

@@ -49,6 +49,7 @@ fn value_here(asked: &[Asked], place: usize) -> i64
 
 // Puts the values that came for the cells from one on at their places, as long as each ask stands behind the last that was found, or is that
 // one. Nothing is sought, so what the loop needs stays in registers. Says up to where, and what is likely next.
+#[inline(never)]
 fn values_in_order(
     keys: &[u32],
     asked: &[Asked],

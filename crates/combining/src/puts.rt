@@ -1,22 +1,25 @@
 //! Held puts.
 
-ghost use Rattle.std.specs.Prelude.{◌≡◌, ◌≤◌, ◌<◌, ◌+◌, ◌*◌, ◌++◌, ◌^◌, [], ◌∷◌, length, IfOk, take, drop, vec_capacity, map as each};
+ghost use Rattle.std.specs.Prelude.{◌≡◌, ◌≤◌, ◌<◌, ◌+◌, ◌*◌, ◌++◌, ◌^◌, [], ◌∷◌, ℕ, length, IfOk, take, drop, vec_capacity, map as each};
 ghost use Rattle.std.specs.Int.{w64};
 ghost use Rattle.std.specs.List.{AllByRecursion};
 ghost use Rattle.superstep_machine.specs.Words.{put_words, bit, word_of, low_word, high_word};
 ghost use Rattle.superstep_machine.specs.WordReading.{put_length};
 ghost use Rattle.superstep_machine.specs.Fitting.{FitsPut, FitsValue};
 ghost use Rattle.combining.specs.AllModules.{HasRoomFor, HasGot};
-ghost use Rattle.combining.specs.Held.{put, put_at, packed_puts, IsPutBelow};
+ghost use Rattle.combining.specs.Held.{put, put_at, packed_puts, held_after, IsPutBelow};
+ghost use Rattle.combining.specs.Writing.{first_writes};
 
 use crate::compact::Compact;
 use crate::index::Index;
 use crate::runs::add_put_run;
 use crate::single::{append_puts, taken_out};
 use crate::words::write_put;
+use crate::writes::Writes;
 use address_map::AddressMap;
 use std::alloc::{AllocError, Global};
 use std::marker::Model;
+use std::mem;
 use write_rules::WriteRule;
 
 /// The puts that a worker holds: an entry for each cell, in the order in which the cells were first held.
@@ -78,6 +81,29 @@ impl Puts {
         } else {
             self.entries.push_reserved(Compact::of(entry));
         }
+    }
+
+    /// Holds the writes of the first processors of a row, one after the other, as long as their cells and those of what is held ascend.
+    /// Says of how many processors.
+    pub fn add_ascending<R: WriteRule, W: Writes>(
+        &mut self,
+        rule: &R,
+        writes: &W,
+        count: usize,
+    ) -> usize
+        requires row { (j : ℕ) → j < count → W.has writes.now j }
+        requires room { length self.old.held + count ≤ self.old.room }
+        ensures held { self.new.held ≡ held_after (R.WriteRule.rule rule.now)
+            (first_writes (W.number writes.now) (W.written writes.now) result) self.old.held }
+        ensures few { result ≤ count }
+        ensures most { length self.new.held ≤ length self.old.held + result }
+        ensures room { self.new.room ≡ self.old.room }
+    {
+        let empty = Vec::new(*self.entries.allocator());
+        let entries = mem::replace(&mut self.entries, empty);
+        let (entries, n) = self.index.hold_writes(rule, writes, count, entries);
+        self.entries = entries;
+        n
     }
 
     /// Writes the words of the puts for one module, and says how many they are. What is behind them stays.

@@ -10,7 +10,7 @@ ghost use Rattle.worker_bank.specs.Cells.{cell_in};
 ghost use Rattle.worker_steps.specs.Held.{cells_of, made, writes_of};
 
 use crate::noting::number;
-use combining::{Asks, Puts};
+use combining::{Asks, Puts, Writes};
 use instruction_steps::{UniformState, index_of, value_at, write_to};
 use worker_bank::Bank;
 use write_rules::WriteRule;
@@ -64,6 +64,41 @@ pub fn hold_write<R: WriteRule>(
     }
 }
 
+// The writes of a worker's processors: of a value each, to a cell each.
+#[derive(Drop)]
+struct RowWrites<'a> {
+    u: &'a UniformState,
+    bank: &'a Bank,
+    cells: &'a [Option<u32>],
+    values: &'a [i64],
+}
+
+impl<'a> Writes for RowWrites<'a> {
+    ghost use Rattle.std.specs.Prelude.{◌<◌, ◌≤◌, ℕ, length};
+    ghost use Rattle.superstep_machine.specs.Steps.{index_of as spec_index_of, write_to as spec_write_to};
+    ghost use Rattle.instruction_steps.specs.Views.{uniform_of};
+    ghost use Rattle.worker_bank.specs.Bank.{number_of, IsBank};
+    ghost use Rattle.worker_bank.specs.Cells.{cell_in};
+    ghost use Rattle.worker_bank.specs.Columns.{value_of};
+
+    ghost number = { λ x j. spec_index_of (uniform_of x.u.now) (number_of x.bank.now j) };
+
+    ghost written = { λ x j. spec_write_to (cell_in x.cells.now j) (value_of x.values.now j) };
+
+    ghost has = { λ x j. IsBank x.bank.now × (j < x.bank.now.masks.many) × (number_of x.bank.now j < x.u.now.width)
+        × (x.bank.now.masks.many ≤ length x.cells.now) };
+
+    #[inline(always)]
+    fn processor(&self, place: usize) -> i64 {
+        index_of(self.u, number(self.u, self.bank, place))
+    }
+
+    #[inline(always)]
+    fn write(&self, place: usize) -> Option<(u32, i64)> {
+        write_to(self.cells[place], value_at(self.values, place))
+    }
+}
+
 /// Holds the writes of all processors: of a value each, to a cell each.
 pub fn hold_writes<R: WriteRule>(
     puts: &mut Puts,
@@ -81,7 +116,14 @@ pub fn hold_writes<R: WriteRule>(
         (writes_of (uniform_of u.now) bank.now cells.now values.now bank.now.masks.many) puts.old.held }
     ensures room { puts.new.room ≡ puts.old.room }
 {
-    'processors: for j in 0..bank.masks.many {
+    let row = RowWrites {
+        u,
+        bank,
+        cells,
+        values,
+    };
+    let first = puts.add_ascending(rule, &row, bank.masks.many);
+    'processors: for j in first..bank.masks.many {
         let write = write_to(cells[j], value_at(values, j));
         let index = index_of(u, number(u, bank, j));
         hold_write(puts, rule, index, write);

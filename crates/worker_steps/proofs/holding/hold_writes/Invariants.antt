@@ -6,7 +6,7 @@ use Rattle.worker_steps.proofs.holding.hold_writes.Given as goal
 
 abbrev pub invariant-processors : goal.invariant-processors
 invariant-processors g l = record {
-  held : l.puts.held ≡ held_after (g.R.WriteRule.rule l.rule) (writes_of (uniform_of l.u) l.bank l.cells l.values l.j) l.initial.puts.held;
-  few : length l.puts.held ≤ length l.initial.puts.held + l.j;
-  room : l.puts.room ≡ l.initial.puts.room;
+  held : l.puts.held ≡ held_after (g.R.WriteRule.rule l.rule) (writes_of (uniform_of l.u) l.bank l.cells l.values l.j) l.fn.puts.held;
+  few : length l.puts.held ≤ length l.fn.puts.held + l.j;
+  room : l.puts.room ≡ l.fn.puts.room;
 }
