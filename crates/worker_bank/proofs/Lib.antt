@@ -4,6 +4,7 @@ pub mod LevelLemmas
 pub mod NestedLemmas
 pub mod MaskLemmas
 pub mod BankLemmas
+pub mod ApartLemmas
 pub mod ListedLemmas
 pub mod OperateLemmas
 pub mod InstructionReportLemmas
