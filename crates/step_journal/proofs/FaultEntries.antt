@@ -20,7 +20,6 @@ use Rattle.step_entries.specs.Entries.{Act, Entry, Faulting, entry_is}
 use Rattle.fault_causes.specs.Causes.{cause_on}
 use Rattle.step_journal.specs.Acts.{act_before, alone_acts, front}
 use Rattle.step_journal.specs.Entries.{by_one, by_set, entries_of, fault_alone, fault_on, why_alone}
-use Rattle.step_journal.specs.HeardLaws.{Heard}
 use Rattle.step_journal.specs.LastFault.{fault_behind, run_fault}
 use Rattle.step_journal.specs.HeardFaults.{FaultHeard}
 use Rattle.step_journal.specs.Meeting.{meeting}
@@ -37,18 +36,7 @@ pub told_together : (p : Checked) (here : Location) (act : StepAction) (m : Stat
     Faulting here (fault_on here.line k) why acts met ≡ by_set p here act m xs (Some k) m
 told_together p here act m xs k why acts met c a w = λ i. Faulting here (fault_on here.line k) (c i) (a i) (w i)
 
--- ---- a journal has heard of it
-
-pub fell_alone : (p q : Checked) (here : Location) (act : Action) (m : State) (t : Trail) (k : Kind) (x : Entry) (old new : List Entry) →
-    q ≡ p → x ≡ by_one p here act m (Fails t k) m → new ≡ old ++ x ∷ [] → Heard p q old new (Alone here act m (Fails t k) m ∷ [])
-fell_alone p q here act m t k x old new s is e = (s, e ∙ ap (λ (x : Entry). old ++ x ∷ []) is)
-
-pub fell_together : (p q : Checked) (here : Location) (act : StepAction) (m : State) (xs : List Part) (k : Key) (x : Entry)
-    (old new : List Entry) → q ≡ p → x ≡ by_set p here act m xs (Some k) m → new ≡ old ++ x ∷ [] →
-    Heard p q old new (Together here act m xs (Some k) m ∷ [])
-fell_together p q here act m xs k x old new s is e = (s, e ∙ ap (λ (x : Entry). old ++ x ∷ []) is)
-
--- ---- so has who keeps the last fault
+-- ---- who keeps the last fault has heard of it
 
 pub last_alone : (p q : Checked) (here : Location) (act : Action) (m : State) (t : Trail) (k : Kind) (x : Entry) (old new : Option Entry) →
     q ≡ p → x ≡ by_one p here act m (Fails t k) m → new ≡ Some x → FaultHeard p q old new (Alone here act m (Fails t k) m ∷ [])

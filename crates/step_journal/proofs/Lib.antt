@@ -10,3 +10,4 @@ pub mod Parts
 pub mod Laws
 pub mod Costed
 pub mod Complete
+pub mod KeptBetween

@@ -1,14 +1,11 @@
-//! A journal listens to a run.
+//! Telling a run that is heard.
 
-ghost use Rattle.std.specs.Prelude.{⊤, map};
-ghost use Rattle.step_entries.specs.Entries.{entry_is};
-ghost use Rattle.step_journal.specs.HeardLaws.{Heard, heard_nothing, heard_on};
+ghost use Rattle.step_journal.specs.HeardLaws.{Heard, Left, heard_nothing, heard_on};
 
-use crate::acts::{acts_of, alone_acts};
-use crate::effects::{cells_changed, items_printed, variables_changed};
 use crate::faults::{fault_alone, fault_together};
 use crate::journal::Journal;
-use crate::locals::locals_changed;
+use crate::ran::{ran_alone, ran_together};
+use crate::teller::Teller;
 use pram_check::Program;
 use pram_meaning::Key;
 use pram_meaning::action::{Action, StepAction};
@@ -21,13 +18,11 @@ use pram_tokens::Location;
 use pram_values::Kind;
 use std::alloc::AllocError;
 
-impl<'a> Listener for Journal<'a> {
-    ghost hears = { λ a ms b.
-        Heard a.program.now b.program.now (map entry_is a.entries.items) (map entry_is b.entries.items) ms };
+impl<'a, T: Teller> Listener for Journal<'a, T> {
+    ghost hears = { λ a ms b. Heard T.tells a.program.now b.program.now a.teller b.teller ms };
 
-    ghost gives_up = { λ a m b. ⊤ };
+    ghost gives_up = { λ a m b. Left T.tells T.breaks_off a.program.now a.teller m b.teller };
 
-    #[tactic(auto, using(crate::proofs::Told::ran_alone))]
     fn acts(
         &mut self,
         run: &Run,
@@ -36,15 +31,13 @@ impl<'a> Listener for Journal<'a> {
         trail: &[Option<u32>],
         effect: &Effect,
     ) -> Result<(), AllocError> {
-        let acts = alone_acts(self.alloc, trail, effect.cell)?;
-        let cells = cells_changed(self.alloc, run, action, effect)?;
-        let variables = variables_changed(self.alloc, run, action, effect)?;
-        let items = items_printed(self.alloc, run, action, effect)?;
-        let locals = Vec::new(self.alloc);
-        self.add(location, acts, cells, variables, locals, items)
+        if self.teller.passes() {
+            return Ok(());
+        }
+        let entry = ran_alone(self.alloc, run, location, action, trail, effect)?;
+        self.teller.tell(entry)
     }
 
-    #[tactic(auto, using(crate::proofs::FaultEntries::fell_alone))]
     fn fails(
         &mut self,
         run: &Run,
@@ -53,11 +46,14 @@ impl<'a> Listener for Journal<'a> {
         trail: &[Option<u32>],
         kind: Kind,
     ) -> Result<(), AllocError> {
-        let fault = fault_alone(self.alloc, self.program, run, location, action, trail, kind)?;
-        self.stop(fault)
+        if self.teller.passes() {
+            return Ok(());
+        }
+        let (alloc, program) = (self.alloc, self.program);
+        let fault = fault_alone(alloc, program, run, location, action, trail, kind)?;
+        self.teller.tell(fault)
     }
 
-    #[tactic(auto, using(crate::proofs::Told::ran_together))]
     fn acts_on(
         &mut self,
         program: &Program,
@@ -67,14 +63,14 @@ impl<'a> Listener for Journal<'a> {
         action: &StepAction,
         parts: &[Part],
     ) -> Result<(), AllocError> {
-        let acts = acts_of(self.alloc, parts)?;
-        let locals = locals_changed(self.alloc, team, action, parts)?;
-        let cells = self.cells_changed_on(program, run, action, parts)?;
-        let (variables, items) = (Vec::new(self.alloc), Vec::new(self.alloc));
-        self.add(location, acts, cells, variables, locals, items)
+        if self.teller.passes() {
+            return Ok(());
+        }
+        let (alloc, slate) = (self.alloc, &mut self.slate);
+        let entry = ran_together(alloc, slate, program, run, team, location, action, parts)?;
+        self.teller.tell(entry)
     }
 
-    #[tactic(auto, using(crate::proofs::FaultEntries::fell_together))]
     fn fails_on(
         &mut self,
         run: &Run,
@@ -84,25 +80,20 @@ impl<'a> Listener for Journal<'a> {
         parts: &[Part],
         key: Key,
     ) -> Result<(), AllocError> {
-        let fault = fault_together(
-            self.alloc,
-            self.program,
-            run,
-            team,
-            location,
-            action,
-            parts,
-            key,
-        )?;
-        self.stop(fault)
+        if self.teller.passes() {
+            return Ok(());
+        }
+        let (alloc, program) = (self.alloc, self.program);
+        let fault = fault_together(alloc, program, run, team, location, action, parts, key)?;
+        self.teller.tell(fault)
     }
 
     fn closes(&mut self) -> Result<(), AllocError> {
         Ok(())
     }
 
-    ghost hears_nothing = { λ l. heard_nothing l.program.now (map entry_is l.entries.items) };
+    ghost hears_nothing = { λ l. heard_nothing T.tells T.tells_nothing l.program.now l.teller };
 
-    ghost hears_on = { λ a b c ms ns. heard_on a.program.now b.program.now c.program.now (map entry_is a.entries.items)
-        (map entry_is b.entries.items) (map entry_is c.entries.items) ms ns };
+    ghost hears_on = { λ a b c ms ns. heard_on T.tells T.tells_on a.program.now b.program.now c.program.now a.teller b.teller c.teller
+        ms ns };
 }

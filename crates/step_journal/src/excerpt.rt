@@ -1,0 +1,58 @@
+//! The entries of a run from one number to another.
+
+ghost use Rattle.std.specs.Prelude.{◌≡◌, ◌↔◌, ◌<◌, ◌≤◌, IfOk, OnOk, length, map};
+ghost use Rattle.pram_model.specs.Layout.{total_size};
+ghost use Rattle.write_rules.specs.Verdict.{verdict_of};
+ghost use Rattle.pram_meaning.specs.Outcome.{IsOutcome};
+ghost use Rattle.step_entries.specs.Entries.{entry_is};
+ghost use Rattle.step_journal.specs.Between.{between};
+ghost use Rattle.step_journal.specs.Entries.{run_entries};
+
+use crate::telling::tell_run;
+use crate::window::Window;
+use pram_check::Program;
+use pram_meaning::MeaningRefusal;
+use std::alloc::Global;
+use step_entries::Entry;
+use write_rules::Outcome;
+
+/// Some of a run's entries, one behind the other, and how many the run has in all.
+#[derive(Drop)]
+pub struct Excerpt {
+    pub entries: Vec<Entry>,
+    pub whole: usize,
+}
+
+/// Runs a program on an input, for at most `bound` statements, as [`steps_of`](crate::steps_of) does, and keeps the entries alone whose
+/// numbers, counted from 1, go from `first` to `last`: beside the run it takes the memory of these, and of one statement. E11 where there
+/// are more values than cells; E16 only where memory was refused.
+#[tactic(auto, using(crate::proofs::KeptBetween::all_between, crate::proofs::KeptBetween::all_counted))]
+pub fn steps_between(
+    alloc: Global,
+    program: &Program,
+    input: &[i64],
+    bound: u32,
+    first: usize,
+    last: usize,
+) -> Result<(Outcome, Excerpt), MeaningRefusal>
+    ensures outcome { IfOk result (λ r. IsOutcome program.now input.now bound (verdict_of r.0)) }
+    ensures fits { OnOk result (length input.now ≤ total_size program.now.layout) }
+    ensures too_long { (result ≡ Err MeaningRefusal.InputTooLong) ↔ (total_size program.now.layout < length input.now) }
+    ensures entries { IfOk result (λ r. map entry_is r.1.entries.items ≡ between first last (run_entries program.now input.now bound)) }
+    ensures whole { IfOk result (λ r. r.1.whole ≡ length (run_entries program.now input.now bound)) }
+{
+    let window = Window {
+        first,
+        last,
+        count: 0,
+        entries: Vec::new(alloc),
+    };
+    let (window, done) = tell_run(alloc, program, input, bound, window);
+    match done {
+        Ok(outcome) => {
+            let (entries, whole) = (window.entries, window.count);
+            Ok((outcome, Excerpt { entries, whole }))
+        }
+        Err(refusal) => Err(refusal),
+    }
+}
