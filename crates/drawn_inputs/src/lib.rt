@@ -4,8 +4,6 @@
 mod drawing;
 mod interval;
 mod numbers;
-#[cfg(test)]
-mod rows;
 
 pub use drawing::Drawing;
 pub use interval::read_interval;

@@ -17,8 +17,6 @@ mod picture;
 mod rows;
 mod shapes;
 mod spans;
-#[cfg(test)]
-mod tests;
 mod values;
 
 pub use asides::asides_of;

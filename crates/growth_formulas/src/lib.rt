@@ -13,8 +13,6 @@ mod growth;
 mod growth_text;
 mod row;
 mod term;
-#[cfg(test)]
-mod tests;
 
 pub use finding::fit;
 pub use formula::Formula;

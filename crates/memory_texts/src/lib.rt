@@ -9,8 +9,6 @@ mod front;
 mod heading;
 mod memory_fault;
 mod reading;
-#[cfg(test)]
-mod rows;
 
 pub use choice::{Choice, is_chosen, unknown_name};
 pub use chosen::show_chosen;

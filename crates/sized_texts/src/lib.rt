@@ -14,8 +14,6 @@ mod operation;
 mod pieces;
 mod progression;
 mod reason;
-#[cfg(test)]
-mod rows;
 mod size;
 pub mod size_laws;
 mod size_line;

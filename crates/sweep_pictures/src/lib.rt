@@ -10,8 +10,6 @@ mod panel;
 mod picture;
 mod picture_laws;
 mod shapes;
-#[cfg(test)]
-mod tests;
 mod titles;
 
 pub use picture::write_sweep_picture;

@@ -8,8 +8,6 @@ mod growths;
 mod measure;
 mod size_row;
 mod sweep_text;
-#[cfg(test)]
-mod tests;
 
 pub use csv_laws::fields_are_read_back;
 pub use csv_text::write_sweep_csv;

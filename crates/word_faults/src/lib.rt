@@ -6,8 +6,6 @@ mod laws;
 mod named;
 mod sentence;
 mod takes;
-#[cfg(test)]
-mod tests;
 mod wrong;
 
 pub use given::Given;

@@ -1,6 +1,6 @@
 //! What no clause says: that a picture is made; and pictures of few statements, letter by letter.
 
-use crate::{CellSpan, write_flow};
+use flow_pictures::{CellSpan, write_flow};
 use pram_tokens::Location;
 use pram_trees::Layout;
 use pram_values::{Kind, Place};

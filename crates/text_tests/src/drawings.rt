@@ -1,8 +1,6 @@
 //! What seeds draw, worked out by a program in Python, and words of intervals.
 
-use crate::drawing::Drawing;
-use crate::interval::read_interval;
-use crate::numbers::draw;
+use drawn_inputs::{Drawing, draw, read_interval};
 use std::alloc::AllocError;
 
 // Seeds, intervals, and the first numbers.

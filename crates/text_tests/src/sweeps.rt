@@ -1,8 +1,8 @@
 //! What no clause says: that calls succeed where memory is there; and texts, letter by letter.
 
-use crate::{Counts, Ending, SizeRow, growths_of, write_sweep, write_sweep_csv};
 use std::alloc::{AllocError, Global};
 use std::test::Fail;
+use sweep_texts::{Counts, Ending, SizeRow, growths_of, write_sweep, write_sweep_csv};
 use text_out::{Buffer, WriteFault};
 
 const EIGHT: Counts = Counts {

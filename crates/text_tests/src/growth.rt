@@ -1,6 +1,6 @@
 //! What no clause says: that a formula is found, and which one.
 
-use crate::{Formula, Growth, Row, fit, write_growth};
+use growth_formulas::{Formula, Growth, Row, fit, write_growth};
 use std::alloc::Global;
 use std::process::Abort;
 use std::test::Fail;

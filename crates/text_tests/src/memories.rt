@@ -1,9 +1,6 @@
 //! Memory texts, and what they give, each worked by hand.
 
-use crate::choice::{Choice, is_chosen, unknown_name};
-use crate::chosen::show_chosen;
-use crate::memory_fault::MemoryFault;
-use crate::reading::read_memory;
+use memory_texts::{Choice, MemoryFault, is_chosen, read_memory, show_chosen, unknown_name};
 use pram_tokens::TextFault;
 use program_texts::{Refusal, TextOutcome, meaning_of_text};
 use std::alloc::Global;

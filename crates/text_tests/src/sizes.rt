@@ -1,13 +1,7 @@
 //! Texts with sizes, and what they expand to, each worked by hand.
 
-use crate::expansion::expand;
-use crate::fault::SizeFault;
-use crate::filling::fill;
-use crate::reason::Reason;
-use crate::size::Size;
-use crate::size_word::read_size;
-use crate::sweep::read_sweep;
 use pram_tokens::LONGEST;
+use sized_texts::{Reason, Size, SizeFault, expand, fill, read_size, read_sweep};
 use sqlite_items::Items;
 use std::alloc::{AllocError, Global};
 
