@@ -20,9 +20,11 @@ use Rattle.command_facts.specs.declared.found.FoundCode.{FoundCode}
 use Rattle.command_facts.specs.declared.found.FoundRun.{FoundRun}
 use Rattle.json_texts.specs.AcceptedFacts.{accepted_facts}
 use Rattle.json_texts.specs.CostFacts.{cost_facts}
+use Rattle.comparisons.specs.Found as pairs
 use Rattle.explorations.specs.Found.{found_is}
 use Rattle.json_texts.specs.ExplorationFacts.{exploration_facts}
 use Rattle.json_texts.specs.OutcomeFacts.{chosen_facts}
+use Rattle.json_texts.specs.PairFacts.{pair_facts}
 use Rattle.json_texts.specs.RuleFacts.{comparison_facts}
 use Rattle.json_texts.specs.StepFacts.{steps_facts}
 use Rattle.json_texts.specs.SweepFacts.{sweep_facts}
@@ -54,6 +56,7 @@ AreFactsOf (found.Accepted l) told = told ≡ accepted_facts l.program ∷ []
 AreFactsOf (found.Compared c) told = told ≡ comparison_facts c ∷ []
 AreFactsOf (found.Run r) told = told ≡ run_facts r r.facts
 AreFactsOf (found.Explored f) told = told ≡ exploration_facts f.program.layout (found_is f.findings) ∷ []
+AreFactsOf (found.Paired p) told = told ≡ pair_facts p.first.layout p.second.layout (pairs.found_is p.comparison) ∷ []
 AreFactsOf (found.Swept s) told = told ≡ sweep_facts s.sweep.name s.rows.items s.growths
 AreFactsOf (found.Executed c) told = told ≡ code_facts c ∷ []
 AreFactsOf _ told = ⊥

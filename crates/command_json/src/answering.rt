@@ -63,7 +63,7 @@ fn answer_request<R: Threads + Wait + Sync, S: Sources, O: Out, E: Out>(
 
 /// Answers the request of a call of these words in JSON, or says why they are none, and answers the exit status.
 ///
-/// `check`, `meaning`, `cost`, `rules`, `explore`, `run` and `exec` write one object; `steps` and `trace` an object a line, and on the last line how the run
+/// `check`, `meaning`, `cost`, `rules`, `explore`, `compare`, `run` and `exec` write one object; `steps` and `trace` an object a line, and on the last line how the run
 /// came out. What is refused is one object on `err`, with what there is to say of it, and there nothing else is written: what [`find`](command_facts::find) refuses, E17
 /// where standard output failed, and E16 where memory was refused. `expand`, `plan`, `export`, `explain` and the version are not told as JSON
 /// (P1).

@@ -3,8 +3,10 @@
 ghost use Rattle.std.specs.Prelude.{◌≡◌, ◌<◌, ◌^◌, ◌∷◌, [], IfOk, IfErr};
 ghost use Rattle.std.specs.String.{string_bytes};
 ghost use Rattle.json_lines.specs.Lines.{IsJson};
+ghost use Rattle.comparisons.specs.Found as pairs;
 ghost use Rattle.explorations.specs.Found.{found_is};
 ghost use Rattle.json_texts.specs.ExplorationFacts.{exploration_facts};
+ghost use Rattle.json_texts.specs.PairFacts.{pair_facts};
 ghost use Rattle.json_texts.specs.SweepFacts.{sweep_facts};
 ghost use Rattle.json_texts.specs.TraceFacts.{trace_facts};
 ghost use Rattle.write_rules.specs.Verdict.{verdict_of};
@@ -12,12 +14,12 @@ ghost use Rattle.command_json.specs.Facts as spec;
 
 use crate::writing::write_json;
 use command_facts::{
-    Facts, Found, FoundCode, FoundRun, FoundScope, FoundSweep, FoundTrace, status_of,
+    Facts, Found, FoundCode, FoundPair, FoundRun, FoundScope, FoundSweep, FoundTrace, status_of,
 };
 use exchange_counts::Counts;
 use json_texts::{
-    json_accepted, json_comparison, json_cost, json_exploration, json_outcome, json_steps,
-    json_sweep, json_trace,
+    json_accepted, json_comparison, json_cost, json_exploration, json_outcome, json_pair,
+    json_steps, json_sweep, json_trace,
 };
 use program_texts::{Status, Stop};
 use std::alloc::{AllocError, Global};
@@ -101,6 +103,15 @@ fn scope_text(alloc: Global, found: &FoundScope) -> Result<String, AllocError>
     json_exploration(alloc, found.program.layout(), &found.findings)
 }
 
+// What is found of two programs on the same inputs.
+fn pair_text(alloc: Global, pair: &FoundPair) -> Result<String, AllocError>
+    ensures told { IfOk result (λ text. IsJson
+        (pair_facts pair.now.first.layout pair.now.second.layout (pairs.found_is pair.now.comparison) ∷ []) (string_bytes text)) }
+{
+    let (first, second) = (pair.first.layout(), pair.second.layout());
+    json_pair(alloc, first, second, &pair.comparison)
+}
+
 // The lines of what was found.
 fn text_of<'a>(alloc: Global, found: &Found<'_>) -> Result<String, Stop<'a>>
     ensures told { IfOk result (λ text. spec.IsJsonOf found.now (string_bytes text)) }
@@ -112,6 +123,7 @@ fn text_of<'a>(alloc: Global, found: &Found<'_>) -> Result<String, Stop<'a>>
         Found::Run(run) => Ok(run_text(alloc, run)?),
         Found::Swept(swept) => Ok(sweep_text(alloc, swept)?),
         Found::Explored(found) => Ok(scope_text(alloc, found)?),
+        Found::Paired(pair) => Ok(pair_text(alloc, pair)?),
         Found::Executed(run) => Ok(code_text(alloc, run)?),
         Found::Version => Err(Stop::Number(JSON)),
         Found::Explanation(_) => Err(Stop::Number(JSON)),
