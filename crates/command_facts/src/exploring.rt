@@ -6,6 +6,7 @@ ghost use Rattle.command_facts.specs.Scopes as spec;
 use crate::found::FoundScope;
 use crate::halted::Halted;
 use crate::loading::load_program;
+use call_progress::Watch;
 use command_requests::{ProgramFile, ScopeWords};
 use diagnoses::About;
 use explorations::explore;
@@ -47,19 +48,20 @@ fn halted<'a>(why: MeaningRefusal, values: u32, cells: u32) -> Halted<'a>
 }
 
 /// The runs of the file's program on every input of the scope, each for at most `bound` statements.
-pub(crate) fn find_scope<'a, S: Sources>(
+pub(crate) fn find_scope<'a, S: Sources, V: Watch>(
     alloc: Global,
     file: &ProgramFile<'a>,
     scope: ScopeWords,
     bound: u32,
     sources: &mut S,
+    watch: &mut V,
 ) -> Result<FoundScope, Halted<'a>>
     ensures found { IfOk result (spec.IsExplored (S.Sources.holds sources.old) file.now scope bound) }
     ensures refused { IfErr result (spec.StopsAtExploration (S.Sources.holds sources.old) file.now scope) }
 {
     let loaded = load_program(alloc, sources, file)?;
     let program = under(loaded.program, scope.rule);
-    match explore(alloc, &program, scope.scope, bound) {
+    match explore(alloc, &program, scope.scope, bound, watch) {
         Ok(findings) => Ok(FoundScope { program, findings }),
         Err(why) => Err(halted(why, scope.scope.count, program.layout().cells())),
     }

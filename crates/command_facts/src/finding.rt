@@ -17,6 +17,7 @@ use crate::pairing::find_pair;
 use crate::running::facts_of;
 use crate::sweeping::find_sweep;
 use bsp_verify::Verified;
+use call_progress::Watch;
 use command_requests::{ProgramFile, Request, RunWords, Verb};
 use memory_texts::unknown_name;
 use pram_trees::Layout;
@@ -187,11 +188,12 @@ fn find_of<'a, R: Threads + Wait + Sync, S: Sources>(
 /// that is to be shown and isn't declared (P1); the input's file and its text (P2, E1 to E3), or a memory's, of which also a name that isn't
 /// declared (E6) and too many values (E11) are told; the number of workers (E13), the map (E12), and the number of the input's values (E11); and with
 /// a reserve whether the run comes past it (E18). E16 comes where memory was refused.
-pub fn find<'a, R: Threads + Wait + Sync, S: Sources>(
+pub fn find<'a, R: Threads + Wait + Sync, S: Sources, V: Watch>(
     rt: &R,
     alloc: Global,
     request: Request<'a>,
     sources: &mut S,
+    watch: &mut V,
 ) -> Result<Found<'a>, Halted<'a>>
     // It is of all that the files hold which the request names, within its bound, on its workers, by its map and with its reserve.
     ensures found { IfOk result (Finds (S.Sources.holds sources.old) request.entry) }
@@ -206,7 +208,7 @@ pub fn find<'a, R: Threads + Wait + Sync, S: Sources>(
             Ok(Found::Swept(swept))
         }
         Request::Exploration { file, scope, words } => {
-            let found = find_scope(alloc, &file, scope, words.options.bound, sources)?;
+            let found = find_scope(alloc, &file, scope, words.options.bound, sources, watch)?;
             Ok(Found::Explored(found))
         }
         Request::Pair(words) => Ok(Found::Paired(find_pair(alloc, &words, sources)?)),

@@ -6,6 +6,7 @@ ghost use Rattle.command_json.specs.Left.{LeavesFound, LeavesJson};
 
 use crate::reporting::report;
 use crate::telling::write_found;
+use call_progress::Watch;
 use command_facts::{Found, Halted, find};
 use command_requests::Request;
 use program_texts::{Status, Stop};
@@ -38,12 +39,13 @@ fn tell<O: Out, E: Out>(
 }
 
 // A request that was read.
-fn answer_request<R: Threads + Wait + Sync, S: Sources, O: Out, E: Out>(
+fn answer_request<R: Threads + Wait + Sync, S: Sources, V: Watch, O: Out, E: Out>(
     rt: &R,
     alloc: Global,
     request: Request<'_>,
     words: &[String],
     sources: &mut S,
+    watch: &mut V,
     out: &mut O,
     err: &mut E,
 ) -> Status
@@ -52,7 +54,7 @@ fn answer_request<R: Threads + Wait + Sync, S: Sources, O: Out, E: Out>(
     ensures leaves { LeavesJson (S.Sources.holds sources.old) (map string_bytes words.now) (Ok request.entry)
         (O.Out.state out.old) (O.Out.state out.new) (E.Out.state err.old) (E.Out.state err.new) result }
 {
-    match find(rt, alloc, request, sources) {
+    match find(rt, alloc, request, sources, watch) {
         Ok(found) => tell(alloc, words, &found, out, err),
         Err(halted) => {
             report(alloc, err, words, &halted);
@@ -67,12 +69,13 @@ fn answer_request<R: Threads + Wait + Sync, S: Sources, O: Out, E: Out>(
 /// came out. What is refused is one object on `err`, with what there is to say of it, and there nothing else is written: what [`find`](command_facts::find) refuses, E17
 /// where standard output failed, and E16 where memory was refused. `expand`, `plan`, `export`, `explain` and the version are not told as JSON
 /// (P1).
-pub fn answer_in_json<'a, R: Threads + Wait + Sync, S: Sources, O: Out, E: Out>(
+pub fn answer_in_json<'a, R: Threads + Wait + Sync, S: Sources, V: Watch, O: Out, E: Out>(
     rt: &R,
     alloc: Global,
     asked: Result<Request<'a>, Stop<'a>>,
     words: &[String],
     sources: &mut S,
+    watch: &mut V,
     out: &mut O,
     err: &mut E,
 ) -> Status
@@ -82,7 +85,7 @@ pub fn answer_in_json<'a, R: Threads + Wait + Sync, S: Sources, O: Out, E: Out>(
         (O.Out.state out.old) (O.Out.state out.new) (E.Out.state err.old) (E.Out.state err.new) result }
 {
     match asked {
-        Ok(request) => answer_request(rt, alloc, request, words, sources, out, err),
+        Ok(request) => answer_request(rt, alloc, request, words, sources, watch, out, err),
         Err(stop) => {
             report(alloc, err, words, &Halted::from(stop));
             Status::Refused

@@ -4,6 +4,7 @@ ghost use Rattle.std.specs.Prelude.{◌≡◌, ◌<◌, ◌^◌, map};
 ghost use Rattle.std.specs.String.{string_bytes};
 ghost use Rattle.command_line.specs.Command as spec;
 
+use call_progress::Watch;
 use command_json::answer_in_json;
 use command_requests::{Reader, asks_for_gnu, asks_for_json, asks_to_explain};
 use command_text::{Terminal, answer};
@@ -33,14 +34,15 @@ fn explaining(terminal: Terminal, words: &[String]) -> Terminal
 /// [`asks_for_json`](command_requests::asks_for_json); what is done then by [`answer`](command_text::answer) and
 /// [`answer_in_json`](command_json::answer_in_json). In words a refusal and a fault are explained where standard error is a terminal or one
 /// of the words is `--explain`; and a refusal is told in the lines that editors read where
-/// [`asks_for_gnu`](command_requests::asks_for_gnu) says so.
-pub fn command<R: Threads + Wait + Sync, W: Reader, S: Sources, O: Out, E: Out>(
+/// [`asks_for_gnu`](command_requests::asks_for_gnu) says so. While many runs are made, the watch is told how far they are.
+pub fn command<R: Threads + Wait + Sync, W: Reader, S: Sources, V: Watch, O: Out, E: Out>(
     rt: &R,
     alloc: Global,
     reader: &W,
     words: &[String],
     terminal: Terminal,
     sources: &mut S,
+    watch: &mut V,
     out: &mut O,
     err: &mut E,
 ) -> Status
@@ -51,9 +53,9 @@ pub fn command<R: Threads + Wait + Sync, W: Reader, S: Sources, O: Out, E: Out>(
 {
     let asked = reader.read(alloc, words);
     if asks_for_json(words) {
-        answer_in_json(rt, alloc, asked, words, sources, out, err)
+        answer_in_json(rt, alloc, asked, words, sources, watch, out, err)
     } else {
         let on = explaining(terminal, words);
-        answer(rt, alloc, asked, words, on, sources, out, err)
+        answer(rt, alloc, asked, words, on, sources, watch, out, err)
     }
 }

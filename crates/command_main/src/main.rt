@@ -1,7 +1,7 @@
 //! The program `pramc`, over the system's files and streams.
 #![tactic(auto)]
 
-use pramc::{CommandLine, Terminal, command};
+use pramc::{CommandLine, ProgressLine, Terminal, command};
 use std::io::IsTerminal;
 use std::process::ExitCode;
 use std::{env, io};
@@ -58,6 +58,7 @@ fn main(rt: HostRuntime) -> ExitCode {
     };
     let terminal = terminal(&rt);
     let mut files = SystemFiles::new(&rt, rt.stdin());
+    let mut progress = ProgressLine::new(&rt, rt.stderr(), terminal.errors);
     let mut out = Stream::new(rt.stdout());
     let status = command(
         &rt,
@@ -66,6 +67,7 @@ fn main(rt: HostRuntime) -> ExitCode {
         words.as_slice(),
         terminal,
         &mut files,
+        &mut progress,
         &mut out,
         &mut err,
     );

@@ -7,6 +7,7 @@ ghost use Rattle.command_text.specs.Left.{Leaves, LeavesFound};
 use crate::explaining::{explain, report};
 use crate::telling::write_found;
 use crate::terminal::Terminal;
+use call_progress::Watch;
 use command_facts::{Found, Halted, find};
 use command_requests::Request;
 use program_texts::{Status, Stop};
@@ -43,13 +44,14 @@ fn tell<O: Out, E: Out>(
 }
 
 // A request that was read.
-fn answer_request<R: Threads + Wait + Sync, S: Sources, O: Out, E: Out>(
+fn answer_request<R: Threads + Wait + Sync, S: Sources, V: Watch, O: Out, E: Out>(
     rt: &R,
     alloc: Global,
     request: Request<'_>,
     words: &[String],
     on: Terminal,
     sources: &mut S,
+    watch: &mut V,
     out: &mut O,
     err: &mut E,
 ) -> Status
@@ -58,7 +60,7 @@ fn answer_request<R: Threads + Wait + Sync, S: Sources, O: Out, E: Out>(
     ensures leaves { Leaves (S.Sources.holds sources.old) on (map string_bytes words.now) (Ok request.entry)
         (O.Out.state out.old) (O.Out.state out.new) (E.Out.state err.old) (E.Out.state err.new) result }
 {
-    match find(rt, alloc, request, sources) {
+    match find(rt, alloc, request, sources, watch) {
         Ok(found) => tell(alloc, words, on, &found, out, err),
         Err(halted) => {
             report(alloc, err, words, &halted, on);
@@ -83,13 +85,14 @@ fn answer_request<R: Threads + Wait + Sync, S: Sources, O: Out, E: Out>(
 /// sentence, of a word the option that doesn't take it and what that wants; and so of a fault, of a program's run with its line. Where
 /// standard output is a terminal, statements stand beside their lines of the program's text, and what changes is coloured if that is
 /// wanted.
-pub fn answer<'a, R: Threads + Wait + Sync, S: Sources, O: Out, E: Out>(
+pub fn answer<'a, R: Threads + Wait + Sync, S: Sources, V: Watch, O: Out, E: Out>(
     rt: &R,
     alloc: Global,
     asked: Result<Request<'a>, Stop<'a>>,
     words: &[String],
     on: Terminal,
     sources: &mut S,
+    watch: &mut V,
     out: &mut O,
     err: &mut E,
 ) -> Status
@@ -99,7 +102,7 @@ pub fn answer<'a, R: Threads + Wait + Sync, S: Sources, O: Out, E: Out>(
         (O.Out.state out.old) (O.Out.state out.new) (E.Out.state err.old) (E.Out.state err.new) result }
 {
     match asked {
-        Ok(request) => answer_request(rt, alloc, request, words, on, sources, out, err),
+        Ok(request) => answer_request(rt, alloc, request, words, on, sources, watch, out, err),
         Err(stop) => {
             report(alloc, err, words, &Halted::from(stop), on);
             Status::Refused

@@ -1,6 +1,7 @@
 //! Programs compiled, run and shown, and the whole command, but for the system's files and streams.
 #![tactic(auto)]
 
+pub use call_progress::{Nobody, ProgressLine, Watch};
 pub use command_line::command;
 pub use command_text::Terminal;
 pub use command_words::CommandLine;
