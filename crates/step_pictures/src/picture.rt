@@ -128,6 +128,24 @@ fn part_of(from: usize, whole: usize) -> Part
     }
 }
 
+/// Draws a part of a run of so many statements: its entries from this number on, counted from 1, one behind the other, as
+/// [`write_picture`] draws them of all. The error is that the writer failed (E17).
+pub fn write_excerpt<W: Out>(
+    out: &mut W,
+    layout: &Layout,
+    text: &[u8],
+    entries: &[Entry],
+    from: usize,
+    whole: usize,
+) -> Result<(), WriteFault>
+    requires counted { (W.Out.state out.old).failures < 2 ^ 63 }
+    ensures written { Writes (W.Out.state out.old) (W.Out.state out.new)
+        (spec.picture layout.now text.now (spec.part_of from whole) (map entry_is entries.now)) result }
+{
+    let part = part_of(from, whole);
+    write_part(out, layout, text, part, entries)
+}
+
 /// Writes a picture of a run's entries from one number to another, as SVG 1.1, by the program's text: a column for each statement, in bands
 /// of 16, with its line of the program, its number in the run, counted from 1, and the line's, and a row for each index that acts, below
 /// one for the processor outside pardo. A processor that acts has a box, with a mark where it reads shared cells and one where it writes one,
@@ -148,6 +166,12 @@ pub fn write_picture<W: Out>(
     ensures written { Writes (W.Out.state out.old) (W.Out.state out.new)
         (spec.picture_from layout.now text.now (map entry_is entries.now) from to) result }
 {
-    let part = part_of(from, entries.len());
-    write_part(out, layout, text, part, chosen(entries, from, to))
+    write_excerpt(
+        out,
+        layout,
+        text,
+        chosen(entries, from, to),
+        from,
+        entries.len(),
+    )
 }
