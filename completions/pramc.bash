@@ -5,14 +5,14 @@ _pramc() {
     local cells="--input --memory --random --seed"
     COMPREPLY=()
     if [ "$COMP_CWORD" -eq 1 ]; then
-        words="check plan meaning cost steps rules explore run trace expand export exec explain help --help --version"
+        words="check plan meaning cost steps rules explore compare run trace expand export exec explain help --help --version"
     else
         case $before in
         --input | --memory | --listing) ;;
         --map) words="identity affine:" ;;
         --under) words="erew crew common priority sum" ;;
         --format) words="text json csv gnu" ;;
-        --bound | --workers | --reserve | --schedule | --sweep | --from | --to | --size | --random | --seed | --show | --only | --bsp | --cells | --values | --permutations) return ;;
+        --bound | --workers | --reserve | --schedule | --sweep | --from | --to | --size | --random | --seed | --show | --only | --bsp | --cells | --values | --permutations | --count | --time-at-most | --work-at-most) return ;;
         *)
             case ${COMP_WORDS[1]} in
             check) words="--size --format --explain --help" ;;
@@ -20,6 +20,7 @@ _pramc() {
             meaning) words="--bound $cells --show --quiet --size --format --explain --help" ;;
             rules) words="--bound $cells --size --format --explain --help" ;;
             explore) words="--cells --values --permutations --under --bound --size --format --explain --help" ;;
+            compare) words="--input --cells --values --permutations --random --count --seed --only --time-at-most --work-at-most --bound --size --format --explain --help" ;;
             export) words="--listing --size --explain --help" ;;
             cost) words="--bound $cells --schedule --lines --sweep --svg --size --format --explain --help" ;;
             steps) words="--bound $cells --from --to --locals --svg --flow --only --html --size --format --explain --help" ;;
@@ -27,9 +28,9 @@ _pramc() {
             exec) words="--bound $cells --workers --map --reserve --show --quiet --format --explain --help" ;;
             trace) words="--bound $cells --workers --map --reserve --lines --bsp --outcome --svg --size --format --explain --help" ;;
             explain)
-                words="$(echo E{1..19}) P1 P2 overflow divide-by-zero out-of-range too-wide read-conflict write-conflict check plan meaning cost steps rules explore run trace expand export exec explain language options --help"
+                words="$(echo E{1..19}) P1 P2 overflow divide-by-zero out-of-range too-wide read-conflict write-conflict check plan meaning cost steps rules explore compare run trace expand export exec explain language options --help"
                 ;;
-            help) words="check plan meaning cost steps rules explore run trace expand export exec explain" ;;
+            help) words="check plan meaning cost steps rules explore compare run trace expand export exec explain" ;;
             *) return ;;
             esac
             [[ $word == -* || ${COMP_WORDS[1]} == explain || ${COMP_WORDS[1]} == help ]] || words=

@@ -31,7 +31,7 @@ def rules():
 
 def commands():
     """The options of each command, with the names of their values, and the name of what the command is over."""
-    text = source("command_words/src/grammar.rt")
+    text = source("command_words/src/grammar.rt") + source("command_words/src/pair_grammar.rt")
     words = dict(re.findall(r'const (\w+): &str = "([^"]*)";', text))
     names = dict(re.findall(r'const (\w+): Subcommand = Subcommand \{\n    name: "(\w+)"', text))
     makers = {}
@@ -98,7 +98,7 @@ def manual():
     part = dict(re.findall(r"^\.SH (.+)\n((?:(?!\.SH).*\n)*)", text, re.M))
     yield "commands", set(re.findall(r"^\.TP\n\.B (\w+)$", part["COMMANDS"], re.M)), set(commands())
     options = {it for options in commands().values() for it in options.items()}
-    yield "options", set(re.findall(r'^\.TP\n\.BI? --(\w+)(?: " (\S+)")?$', part["OPTIONS"], re.M)), options
+    yield "options", set(re.findall(r'^\.TP\n\.BI? --([\w-]+)(?: " (\S+)")?$', part["OPTIONS"], re.M)), options
 
 
 def explained():
@@ -107,9 +107,9 @@ def explained():
     texts = dict(re.findall(r'const (\w+): .*?\*b"(.*?)";', text, re.S))
     for name, options in commands().items():
         if options:
-            yield f"options of {name}", set(re.findall(r"--(\w+)", texts[name.upper()])), set(options)
+            yield f"options of {name}", set(re.findall(r"--(\w[\w-]*)", texts[name.upper()])), set(options)
     everywhere = {it for options in commands().values() for it in options} | {"help", "version"}
-    yield "options", set(re.findall(r"--(\w+)", texts["OPTIONS"])), everywhere
+    yield "options", set(re.findall(r"--(\w[\w-]*)", texts["OPTIONS"])), everywhere
 
 
 def completed(*words):

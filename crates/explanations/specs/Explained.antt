@@ -9,7 +9,7 @@ use Rattle.explanations.specs.declared.runs.TheConstants.{INPUT_TOO_LONG, BAD_MA
 use Rattle.explanations.specs.declared.runs.TheConstants.{OUT_OF_MEMORY, WRITE_FAILED, OUT_OF_RESERVE, COMMAND_LINE, UNREADABLE_FILE}
 use Rattle.explanations.specs.declared.faults.TheConstants.{OVERFLOW, DIVIDE_BY_ZERO, OUT_OF_RANGE, TOO_WIDE, READ_CONFLICT, WRITE_CONFLICT}
 use Rattle.explanations.specs.declared.commands.TheConstants.{CHECK, PLAN, MEANING, COST, STEPS, RULES, EXPAND, EXPLAIN}
-use Rattle.explanations.specs.declared.scopes.TheConstants.{EXPLORE, EXPORT}
+use Rattle.explanations.specs.declared.scopes.TheConstants.{COMPARE, EXPLORE, EXPORT}
 use Rattle.explanations.specs.declared.workers.TheConstants.{RUN, TRACE, EXEC}
 use Rattle.explanations.specs.declared.overviews.TheConstants.{LANGUAGE, OPTIONS, EVERYTHING}
 
@@ -49,6 +49,7 @@ subject_word subject.Cost = codes "cost"
 subject_word subject.Steps = codes "steps"
 subject_word subject.Rules = codes "rules"
 subject_word subject.Explore = codes "explore"
+subject_word subject.Compare = codes "compare"
 subject_word subject.Run = codes "run"
 subject_word subject.Trace = codes "trace"
 subject_word subject.Expand = codes "expand"
@@ -103,6 +104,7 @@ explanation subject.Cost = COST
 explanation subject.Steps = STEPS
 explanation subject.Rules = RULES
 explanation subject.Explore = EXPLORE
+explanation subject.Compare = COMPARE
 explanation subject.Run = RUN
 explanation subject.Trace = TRACE
 explanation subject.Expand = EXPAND

@@ -14,7 +14,7 @@ use crate::runs::{
     BAD_LISTING, BAD_MAP, BAD_WORKERS, COMMAND_LINE, INPUT_TOO_LONG, NOT_VERIFIED, OUT_OF_MEMORY,
     OUT_OF_RESERVE, UNREADABLE_FILE, WRITE_FAILED,
 };
-use crate::scopes::{EXPLORE, EXPORT};
+use crate::scopes::{COMPARE, EXPLORE, EXPORT};
 use crate::subject::Subject;
 use crate::texts::{BAD_SIZE, BAD_TOKEN, NOT_ASCII, SYNTAX, TEXT_TOO_LONG, TOO_DEEP};
 use crate::workers::{EXEC, RUN, TRACE};
@@ -58,6 +58,7 @@ fn explanation_of(subject: Subject) -> &'static [u8]
         Subject::Steps => &STEPS,
         Subject::Rules => &RULES,
         Subject::Explore => &EXPLORE,
+        Subject::Compare => &COMPARE,
         Subject::Run => &RUN,
         Subject::Trace => &TRACE,
         Subject::Expand => &EXPAND,

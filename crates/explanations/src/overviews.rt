@@ -51,7 +51,7 @@ Limits: numbers of 64 bits, 16384 processors, 1048576 cells, 16384 tokens,
 8 shared reads in a statement, 64 levels of blocks and of expressions.
 ";
 
-pub(crate) const OPTIONS: [u8; 2908] = *b"The options, and which commands take them.
+pub(crate) const OPTIONS: [u8; 3257] = *b"The options, and which commands take them.
 
 All but explain:
 
@@ -62,12 +62,14 @@ All but exec and explain:
 
 --size NAME=VALUE   another number for a size of the text, as n=16
 
-Which inputs are tried; of explore, which wants two of these or the third:
+Which inputs are tried; of explore and compare, which want the first two of
+these or the third. Of compare also --input, several times, or --random:
 
 --cells K           all inputs of K values, K up to 1048576
 --values LO..HI     of this interval: 100000000 inputs at most
 --permutations K    all orders of the numbers 1 to K, K up to 10
---under RULE        the rule of access, in place of the text's own
+--under RULE        the rule of access, in place of the text's own: explore
+--count C           so many inputs by --random, C up to 1000000: compare
 
 What the cells hold first; of meaning, cost, steps, rules, run, trace and exec.
 One of these three is given; cells that get no value are 0:
@@ -77,7 +79,7 @@ One of these three is given; cells that get no value are 0:
 --random LO..HI     draws the values of all cells, as 1..100
 --seed S            of --random: 0 to 4294967295, else 1; one seed, one draw
 
-How far they run; of the same commands and of explore:
+How far they run; of the same commands and of explore and compare:
 
 --bound N           the most statements: 0 to 4294967295, else 1000000
 
@@ -92,8 +94,8 @@ What is written:
 
 --format FORMAT     text, or json for programs that read; of a sweep also csv,
                     and of check also gnu, the lines that editors read:
-                    check, meaning, cost, steps, rules, explore, run, trace,
-                    exec
+                    check, meaning, cost, steps, rules, explore, compare, run,
+                    trace, exec
 --show NAMES        these declarations alone, as a,b: meaning, run, exec
 --quiet             printed numbers and no memory: meaning, run, exec
 --lines             counts for each line of the program too: cost; or tells the
@@ -104,7 +106,10 @@ What is written:
 --locals            tells of variables, locals and printed numbers too: steps
 --html              a page that steps through the run: steps
 --flow              a picture of the flow of data between cells: steps
---only NAMES        a flow between these declarations alone, as a,b: steps
+--only NAMES        a flow between these declarations alone, as a,b: steps;
+                    or compares these alone, as a,output: compare
+--time-at-most N    tells where FILE2 takes more time: compare
+--work-at-most N    or more work: compare
 --bsp G,L           what exchanges cost, G a word of h, L an exchange: trace
 --outcome           behind the exchanges what run writes: trace
 --listing LISTING   a listing in place of FILE: export
@@ -115,7 +120,7 @@ A FILE named - is standard input, once in a call.
 `pramc --version` writes the version. `pramc explain cost` says what cost takes.
 ";
 
-pub(crate) const EVERYTHING: [u8; 1315] =
+pub(crate) const EVERYTHING: [u8; 1354] =
     *b"What there is to explain. Type a word of these, as: pramc explain E6
 
 Refusals, of a text, a run or the command line:
@@ -141,6 +146,7 @@ Commands:
   steps    tells it statement by statement  exec    runs superstep code
   rules    runs it under each rule          export  writes that as C over MPI
   explore  runs it on every small input     expand  fills in its sizes
+  compare  runs two on the same inputs
   explain  says what a word is
 
 And besides:

@@ -26,6 +26,43 @@ Exit status: 0 all end, 1 one faults, 2 it was refused, 3 none faults and one
 met the bound.
 ";
 
+pub(crate) const COMPARE: [u8; 1406] =
+    *b"pramc compare FILE FILE2: runs two programs on the same inputs.
+
+It says on how many inputs both come to the same: both end with the same output
+and cells, fault with faults of one kind, or go on at the bound. Of the first
+input on which they don't it says what differs, and of two values FILE's first.
+
+Type this:
+
+$ pramc compare examples/maximum.pram examples/maximum_doubly_log.pram \\
+    --size n=4 --permutations 4 --only output
+inputs 24 same 24
+
+Which inputs, by one of these lines:
+
+--input FILE        the values of a file; may stand several times
+--cells K, --values LO..HI
+                    all inputs of K values of the interval
+--permutations K    all orders of the numbers 1 to K, K up to 10
+--random LO..HI, --count C, --seed S
+                    C of them, as run draws them by the seeds S, S + 1, ..
+
+What is compared, else the output, and what both declare with the same bounds:
+
+--only NAMES        what has these names alone, as a,output
+--time-at-most N    of a run of FILE2 that ends: the most time
+--work-at-most N    and the most work
+
+--bound N           the most statements that are run, else 1000000
+--size NAME=VALUE   another number for a size that both declare, as n=16
+--format json       tells it to programs, as JSON
+--explain           says more of a refusal
+
+Exit status: 0 all are the same, and FILE2 keeps to the most; 1 on one input it
+isn't so; 2 it was refused.
+";
+
 pub(crate) const EXPORT: [u8; 833] =
     *b"pramc export FILE: the superstep code of a program as C over MPI.
 

@@ -74,6 +74,8 @@ pub enum Subject {
     Rules,
     /// `explore`.
     Explore,
+    /// `compare`.
+    Compare,
     /// `run`.
     Run,
     /// `trace`.
@@ -94,7 +96,7 @@ pub enum Subject {
     Everything,
 }
 
-const SUBJECTS: [Subject; 43] = [
+const SUBJECTS: [Subject; 44] = [
     Subject::NotAscii,
     Subject::TextTooLong,
     Subject::BadToken,
@@ -129,6 +131,7 @@ const SUBJECTS: [Subject; 43] = [
     Subject::Steps,
     Subject::Rules,
     Subject::Explore,
+    Subject::Compare,
     Subject::Run,
     Subject::Trace,
     Subject::Expand,
@@ -179,6 +182,7 @@ fn word_of(subject: Subject) -> &'static str
         Subject::Steps => "steps",
         Subject::Rules => "rules",
         Subject::Explore => "explore",
+        Subject::Compare => "compare",
         Subject::Run => "run",
         Subject::Trace => "trace",
         Subject::Expand => "expand",
