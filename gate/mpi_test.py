@@ -1,10 +1,11 @@
 #!/usr/bin/env python3
 """Runs the C text of plans under MPI, and compares what it writes with pramc: the trace, the outcome and the exit status.
 
-mpi_test.py PROGRAM [--jobs N] [--drawn COUNT] [--seed S] [--only NAME] [--sanitize]: Each example, under each rule, by 1, 2, 3, 4
+mpi_test.py PROGRAM [--jobs N] [--drawn COUNT] [--seed S] [--only NAME] [--sanitize] [--mpich]: Each example, under each rule, by 1, 2, 3, 4
 and 16 ranks, with two maps and some bounds, COUNT drawn programs, and memory texts: as many runs as ranks are the same are made in one
 start of MPI (gate/mpi/host.c). What is refused, each example under its own rule, and one beyond the limits of the language, by a start
-of its own. With --sanitize a few runs alone, under the compiler's sanitizers.
+of its own. With --sanitize a few runs alone, under the compiler's sanitizers. By Open MPI, or with --mpich by MPICH where both are
+installed.
 """
 import argparse
 import os
@@ -25,6 +26,7 @@ RANKS = [1, 2, 3, 4, 16]
 MAPS = ["identity", "affine:5,3"]
 RULE = re.compile(r"^rule (\w+);", re.M)
 DECLARED = re.compile(r"^(?:cell (\w+)|array (\w+) (\d+) (\d+))$", re.M)
+MPICC = ["mpicc"]
 MPIRUN = ["mpirun", "--oversubscribe", "--bind-to", "none", "--mca", "mpi_yield_when_idle", "1", "--mca", "btl", "self,vader", "--mca",
           "pml", "ob1", "--quiet"]
 ENVIRONMENT = {**os.environ, "OMPI_ALLOW_RUN_AS_ROOT": "1", "OMPI_ALLOW_RUN_AS_ROOT_CONFIRM": "1"}
@@ -58,7 +60,7 @@ class Test:
         """Compiles each text without a warning."""
         def compiled(listing):
             target = listing.with_suffix(suffix)
-            done = subprocess.run(["mpicc", *WARNINGS, *flags, listing.with_suffix(".c"), "-o", target], capture_output=True, text=True)
+            done = subprocess.run([*MPICC, *WARNINGS, *flags, listing.with_suffix(".c"), "-o", target], capture_output=True, text=True)
             if done.returncode or done.stderr:
                 self.wrong.append(f"mpicc {listing.stem}: {done.stderr}")
 
@@ -79,7 +81,7 @@ class Test:
     def host(self):
         """Makes the calls that were gathered, those of as many ranks in one start."""
         here, kept = Path(__file__).resolve().parent / "mpi" / "host.c", self.folder / "host"
-        subprocess.run(["mpicc", "-O1", *WARNINGS, "-rdynamic", here, "-o", kept, "-ldl"], check=True)
+        subprocess.run([*MPICC, "-O1", *WARNINGS, "-rdynamic", here, "-o", kept, "-ldl"], check=True)
         for ranks, calls in self.hosted.items():
             lines = [f"{self.folder / name}.so {self.folder}/out_{ranks}_{number} {' '.join(map(str, words))}\n"
                      for number, (verb, name, words) in enumerate(calls)]
@@ -275,7 +277,10 @@ def main():
     options.add_argument("--seed", type=int, default=1)
     options.add_argument("--only", default="")
     options.add_argument("--sanitize", action="store_true")
+    options.add_argument("--mpich", action="store_true")
     given = options.parse_args()
+    if given.mpich:
+        MPICC[:], MPIRUN[:] = ["mpicc.mpich"], ["mpirun.mpich"]
     with tempfile.TemporaryDirectory() as folder:
         test = Test(given.program.resolve(), Path(folder), given.jobs)
         if given.sanitize:
