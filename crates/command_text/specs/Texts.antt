@@ -18,6 +18,8 @@ use Rattle.program_texts.specs.Shown.{line, shown}
 use Rattle.diagnoses.specs.Sources.{text_in}
 use Rattle.explanations.specs.Explained.{explanation}
 use Rattle.rule_comparison.specs.ComparisonText.{comparison_text}
+use Rattle.comparisons.specs.Found as pairs
+use Rattle.comparison_texts.specs.ComparisonText as pair_texts
 use Rattle.explorations.specs.Found.{found_is}
 use Rattle.exploration_texts.specs.FindingsText.{findings_text}
 use Rattle.mpi_export.specs.Program.{c_text}
@@ -111,6 +113,7 @@ IsTextOf on (found.Planned code) text = text ≡ spelling code
 IsTextOf on (found.Exported code) text = text ≡ c_text code
 IsTextOf on (found.Compared c) text = text ≡ comparison_text c
 IsTextOf on (found.Explored f) text = text ≡ findings_text f.program.layout (found_is f.findings)
+IsTextOf on (found.Paired p) text = text ≡ pair_texts.comparison_text p.first.layout p.second.layout (pairs.found_is p.comparison)
 IsTextOf on (found.Run r) text = IsRunText on r r.facts text
 IsTextOf on (found.Swept s) text = text ≡ swept_text s.form s.csv s
 IsTextOf on (found.Executed c) text = text ≡ shown_by c.shown c.code.layout (verdict_of c.outcome)

@@ -210,6 +210,7 @@ pub(crate) fn explain<E: Out>(alloc: Global, err: &mut E, found: &Found<'_>, exp
         Found::Planned(_) => {}
         Found::Exported(_) => {}
         Found::Explored(_) => {}
+        Found::Paired(_) => {}
         Found::Compared(_) => {}
         Found::Swept(_) => {}
     }

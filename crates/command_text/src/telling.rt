@@ -11,8 +11,8 @@ use crate::sweeping::write_swept;
 use crate::terminal::Terminal;
 use crate::tracing::write_found_trace;
 use crate::writing::{
-    write_accepted, write_costs, write_exploration, write_export, write_outcome, write_plan,
-    write_rules, write_subject, write_text, write_version,
+    write_accepted, write_costs, write_exploration, write_export, write_outcome, write_pair,
+    write_plan, write_rules, write_subject, write_text, write_version,
 };
 use command_facts::{Facts, Found, FoundRun, status_of};
 use program_texts::{Status, Stop};
@@ -64,6 +64,7 @@ pub(crate) fn write_found<'a, O: Out>(
             let (layout, status) = (explored.program.layout(), status_of(found));
             write_exploration(out, layout, &explored.findings, status)
         }
+        Found::Paired(pair) => write_pair(out, pair, status_of(found)),
         Found::Executed(run) => {
             write_outcome(out, run.code.code().layout(), &run.outcome, run.shown)
         }

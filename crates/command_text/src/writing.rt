@@ -8,6 +8,8 @@ ghost use Rattle.program_texts.specs.Status.{status_of};
 ghost use Rattle.program_texts.specs.declared.status.Status.TheVariants.{Done};
 ghost use Rattle.memory_texts.specs.Chosen.{shown_by};
 ghost use Rattle.explanations.specs.Explained.{explanation};
+ghost use Rattle.comparisons.specs.Found as pairs;
+ghost use Rattle.comparison_texts.specs.ComparisonText as pair_texts;
 ghost use Rattle.explorations.specs.Found.{found_is};
 ghost use Rattle.exploration_texts.specs.FindingsText.{findings_text};
 ghost use Rattle.mpi_export.specs.Program.{c_text};
@@ -17,7 +19,9 @@ ghost use Rattle.command_text.specs.Costs.{costs_text};
 ghost use Rattle.command_facts.specs.Written.{Wrote};
 ghost use Rattle.command_text.specs.Texts.{accepted_line, version_text};
 
+use command_facts::FoundPair;
 use command_requests::{CostWords, VERSION};
+use comparison_texts::write_comparison;
 use cost_texts::{write_cost, write_lines};
 use explanations::{Subject, write_explanation};
 use exploration_texts::write_findings;
@@ -156,6 +160,22 @@ pub(crate) fn write_exploration<'a, O: Out>(
         (O.Out.state out.old) (O.Out.state out.new) result }
 {
     write_findings(out, layout, findings)?;
+    finish(out, status)
+}
+
+/// Writes what is found of two programs on the same inputs, and ends with that status.
+pub(crate) fn write_pair<'a, O: Out>(
+    out: &mut O,
+    pair: &FoundPair,
+    status: Status,
+) -> Result<Status, Stop<'a>>
+    requires out { (O.Out.state out.old).failures < 2 ^ 62 }
+    ensures written { Wrote status
+        (pair_texts.comparison_text pair.now.first.layout pair.now.second.layout (pairs.found_is pair.now.comparison))
+        (O.Out.state out.old) (O.Out.state out.new) result }
+{
+    let (first, second) = (pair.first.layout(), pair.second.layout());
+    write_comparison(out, first, second, &pair.comparison)?;
     finish(out, status)
 }
 
