@@ -15,6 +15,7 @@ import subprocess
 import sys
 import tempfile
 from concurrent.futures import ThreadPoolExecutor
+from itertools import product
 from pathlib import Path
 
 TOP = Path(__file__).resolve().parent.parent
@@ -129,10 +130,10 @@ def memory_of(listing, pick):
 
 
 def of_example(test, name, file, turn):
-    """The calls of a program: by all ranks and both maps, by the most ranks with one of them in turn, by some bounds, and on a memory."""
+    """The calls of a program: by all ranks and both maps, by some bounds, and on a memory."""
     given = ["--input", file]
     for ranks in RANKS:
-        for chosen in MAPS if ranks < RANKS[-1] else [MAPS[turn % 2]]:
+        for chosen in MAPS:
             test.hosted[ranks].append(("trace", name, ["--trace", *given, "--map", chosen, "--outcome"]))
     test.hosted[RANKS[turn % 5]].append(("trace", name, ["--trace", *given]))
     test.hosted[RANKS[(turn + 1) % 5]].append(("run", name, [*given, "--map", MAPS[turn % 2]]))
@@ -180,9 +181,9 @@ def drawn(test, count, seed):
         values = " ".join(map(str, drawer.input())) + "\n"
         given.write_text(memory_of(listing, random.Random(f"{seed} {number}")) if is_memory else values)
         listings.append(listing)
-        for at, ranks in enumerate(RANKS):
-            words = ["--trace", "--memory" if is_memory else "--input", given, "--map", MAPS[(number + at) % 2], "--outcome"]
-            test.hosted[ranks].append(("trace", name, [*words, "--bound", str(150 if at % 2 else number % 30)]))
+        for at, (ranks, chosen) in enumerate(product(RANKS, MAPS)):
+            words = ["--trace", "--memory" if is_memory else "--input", given, "--map", chosen, "--outcome"]
+            test.hosted[ranks].append(("trace", name, [*words, "--bound", str(150 if (number + at) % 3 else number % 30)]))
     test.export_all(listings)
     test.compile_all(listings, ".so", ["-O0", *HOSTED])
     return len(listings)
