@@ -1,6 +1,6 @@
 # The crates are proved, built and tested by the toolchain's command `rt`.
 
-.PHONY: all check test examples bench refusals fuzz memory hostile unthreaded page-test editor-test mpi-test dist dist-test clean install uninstall
+.PHONY: all check test examples bench refusals fuzz memory memory-table hostile unthreaded page-test editor-test mpi-test dist dist-test clean install uninstall
 
 sources := $(shell find crates -name out -prune -o \( -name '*.rt' -o -name '*.antt' \) -print) crates.txt
 
@@ -62,6 +62,10 @@ hostile:
 # Shows that memory is given back, and that each allocation may be refused.
 memory:
 	set -e; for check in crates/*/memory/check.sh; do bash $$check; done
+
+# Compares the memory that commands take with the table of bench/README.md.
+memory-table: bin/pramc
+	python3 gate/memory_table.py bin/pramc
 
 # Shows that the tests of runs in threads refuse a run whose threads do nothing.
 unthreaded:
