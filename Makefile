@@ -37,7 +37,7 @@ test:
 
 # Runs the C text of plans under MPI, and compares what it writes with the program; needs mpicc and mpirun.
 mpi-test: bin/pramc
-	bash gate/mpi_test.sh bin/pramc
+	bash gate/mpi_test.sh bin/pramc --both
 
 # Prints figures, and asserts nothing.
 bench:

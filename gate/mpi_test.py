@@ -1,11 +1,11 @@
 #!/usr/bin/env python3
 """Runs the C text of plans under MPI, and compares what it writes with pramc: the trace, the outcome and the exit status.
 
-mpi_test.py PROGRAM [--jobs N] [--drawn COUNT] [--seed S] [--only NAME] [--sanitize] [--mpich]: Each example, under each rule, by 1, 2, 3, 4
-and 16 ranks, with two maps and some bounds, COUNT drawn programs, and memory texts: as many runs as ranks are the same are made in one
-start of MPI (gate/mpi/host.c). What is refused, each example under its own rule, and one beyond the limits of the language, by a start
-of its own. With --sanitize a few runs alone, under the compiler's sanitizers. By Open MPI, or with --mpich by MPICH where both are
-installed.
+mpi_test.py PROGRAM [--jobs N] [--drawn COUNT] [--seed S] [--only NAME] [--ranks N ..] [--both] [--sanitize] [--mpich]: Each example,
+under each rule, by 1, 2, 3, 4 and 16 ranks, or by N, with two maps and some bounds, COUNT drawn programs, and memory texts; by 16 ranks,
+and of what is drawn, with one of the maps in turn, or with --both. As many runs as ranks are the same are made in one start of MPI
+(gate/mpi/host.c). What is refused, each example under its own rule, and one beyond the limits of the language, by a start of its own.
+With --sanitize a few runs alone, under the compiler's sanitizers. By Open MPI, or with --mpich by MPICH where both are installed.
 """
 import argparse
 import os
@@ -15,7 +15,6 @@ import subprocess
 import sys
 import tempfile
 from concurrent.futures import ThreadPoolExecutor
-from itertools import product
 from pathlib import Path
 
 TOP = Path(__file__).resolve().parent.parent
@@ -37,8 +36,8 @@ SANITIZERS = ["-g", "-fsanitize=address,undefined", "-fno-sanitize-recover=undef
 
 
 class Test:
-    def __init__(self, program, folder, jobs):
-        self.program, self.folder, self.jobs = program, folder, jobs
+    def __init__(self, program, folder, jobs, both):
+        self.program, self.folder, self.jobs, self.both = program, folder, jobs, both
         self.wrong, self.ends, self.hosted = [], {0: 0, 1: 0, 2: 0, 3: 0}, {ranks: [] for ranks in RANKS}
 
     def plan(self, name, text):
@@ -130,20 +129,20 @@ def memory_of(listing, pick):
 
 
 def of_example(test, name, file, turn):
-    """The calls of a program: by all ranks and both maps, by some bounds, and on a memory."""
+    """The calls of a program: by all ranks and both maps, by 16 ranks with one of them in turn, by some bounds, and on a memory."""
     given = ["--input", file]
     for ranks in RANKS:
-        for chosen in MAPS:
+        for chosen in MAPS if test.both or ranks < 16 else [MAPS[turn % 2]]:
             test.hosted[ranks].append(("trace", name, ["--trace", *given, "--map", chosen, "--outcome"]))
-    test.hosted[RANKS[turn % 5]].append(("trace", name, ["--trace", *given]))
-    test.hosted[RANKS[(turn + 1) % 5]].append(("run", name, [*given, "--map", MAPS[turn % 2]]))
+    test.hosted[RANKS[turn % len(RANKS)]].append(("trace", name, ["--trace", *given]))
+    test.hosted[RANKS[(turn + 1) % len(RANKS)]].append(("run", name, [*given, "--map", MAPS[turn % 2]]))
     for at, bound in enumerate([0, 1 + turn % 3, 5 + turn % 7, 17]):
         words = ["--trace", *given, "--bound", str(bound), "--outcome", "--map", MAPS[(turn + at) % 2]]
-        test.hosted[RANKS[(turn + at) % 5]].append(("trace", name, words))
+        test.hosted[RANKS[(turn + at) % len(RANKS)]].append(("trace", name, words))
     memory = test.folder / f"{name}.memory"
     memory.write_text(memory_of(test.folder / f"{name}.bsp", random.Random(name)))
     words = ["--trace", "--memory", memory, "--outcome", "--bound", "200", "--map", MAPS[turn % 2]]
-    test.hosted[RANKS[(turn + 2) % 5]].append(("trace", name, words))
+    test.hosted[RANKS[(turn + 2) % len(RANKS)]].append(("trace", name, words))
 
 
 def examples(test, only):
@@ -159,7 +158,7 @@ def examples(test, only):
             of_example(test, name, file.with_suffix(".in"), turn + at)
         name = f"{file.stem}.{RULE.search(text)[1]}"
         own.append(test.folder / f"{name}.bsp")
-        starts.append(("run", name, RANKS[turn % 4], ["--input", file.with_suffix(".in")]))
+        starts.append(("run", name, RANKS[turn % min(4, len(RANKS))], ["--input", file.with_suffix(".in")]))
     test.export_all(listings)
     test.compile_all(listings, ".so", ["-O0", *HOSTED])
     test.compile_all(own, ".run", ["-O2"])
@@ -181,9 +180,10 @@ def drawn(test, count, seed):
         values = " ".join(map(str, drawer.input())) + "\n"
         given.write_text(memory_of(listing, random.Random(f"{seed} {number}")) if is_memory else values)
         listings.append(listing)
-        for at, (ranks, chosen) in enumerate(product(RANKS, MAPS)):
-            words = ["--trace", "--memory" if is_memory else "--input", given, "--map", chosen, "--outcome"]
-            test.hosted[ranks].append(("trace", name, [*words, "--bound", str(150 if (number + at) % 3 else number % 30)]))
+        for at, ranks in enumerate(RANKS):
+            for chosen in MAPS if test.both else [MAPS[(number + at) % 2]]:
+                words = ["--trace", "--memory" if is_memory else "--input", given, "--map", chosen, "--outcome"]
+                test.hosted[ranks].append(("trace", name, [*words, "--bound", str(150 if at % 2 else number % 30)]))
     test.export_all(listings)
     test.compile_all(listings, ".so", ["-O0", *HOSTED])
     return len(listings)
@@ -262,7 +262,7 @@ def sanitized(test):
             name = f"{stem}.{rule}"
             listings.append(test.plan(name, RULE.sub(f"rule {rule};", file.read_text(), count=1)))
             words = ["--trace", "--input", file.with_suffix(".in"), "--map", MAPS[at % 2], "--outcome"]
-            starts.append(("trace", name, RANKS[at % 4], words))
+            starts.append(("trace", name, RANKS[at % min(4, len(RANKS))], words))
     test.export_all(listings)
     test.compile_all(listings, ".run", ["-O1", *SANITIZERS])
     ENVIRONMENT["ASAN_OPTIONS"] = "detect_leaks=0"
@@ -277,13 +277,16 @@ def main():
     options.add_argument("--drawn", type=int, default=300)
     options.add_argument("--seed", type=int, default=1)
     options.add_argument("--only", default="")
+    options.add_argument("--ranks", type=int, nargs="+", default=RANKS)
+    options.add_argument("--both", action="store_true")
     options.add_argument("--sanitize", action="store_true")
     options.add_argument("--mpich", action="store_true")
     given = options.parse_args()
+    RANKS[:] = given.ranks
     if given.mpich:
         MPICC[:], MPIRUN[:] = ["mpicc.mpich"], ["mpirun.mpich"]
     with tempfile.TemporaryDirectory() as folder:
-        test = Test(given.program.resolve(), Path(folder), given.jobs)
+        test = Test(given.program.resolve(), Path(folder), given.jobs, given.both)
         if given.sanitize:
             plans, more = sanitized(test), 0
         else:
