@@ -10,6 +10,7 @@ pub trait Watch {
 }
 
 /// Nobody is told.
+#[derive(Drop)]
 pub struct Nobody;
 
 impl Watch for Nobody {
