@@ -8,9 +8,9 @@ use Rattle.exchange_bound.specs.Events.{Event, Runs, Cut, Votes, events_of}
 -- stretch ends at a cut.
 abbrev pub alone : List Event → Bool
 alone [] = true
-alone (Runs zero true ∷ es) = true
-alone (Runs zero false ∷ es) = alone es
-alone (Runs (suc k) writes ∷ es) = false
+alone (Runs zero true set reads ∷ es) = true
+alone (Runs zero false set reads ∷ es) = alone es
+alone (Runs (suc k) writes set reads ∷ es) = false
 alone (Cut ∷ es) = true
 alone (Votes ∷ es) = alone es
 
@@ -23,7 +23,7 @@ one_if false = 0
 -- each vote.
 abbrev pub shares : List Event → ℕ
 shares [] = 0
-shares (Runs levels writes ∷ es) = 2 * levels + one_if (writes && alone es) + shares es
+shares (Runs levels writes set reads ∷ es) = 2 * levels + one_if (writes && alone es) + shares es
 shares (Cut ∷ es) = shares es
 shares (Votes ∷ es) = 1 + shares es
 

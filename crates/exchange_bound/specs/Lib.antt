@@ -1,3 +1,4 @@
 pub mod Events
 pub mod Bound
 pub mod Spent
+pub mod Accesses

@@ -11,13 +11,13 @@ any_level (suc k) = true
 -- Whether a write is held behind an event, by whether one was before. A statement that writes holds its own; the reads of a
 -- statement send what was held.
 abbrev pub held_after : Event → Bool → Bool
-held_after (Runs levels writes) held = writes || (held && not (any_level levels))
+held_after (Runs levels writes set reads) held = writes || (held && not (any_level levels))
 held_after Cut held = false
 held_after Votes held = held
 
 -- What an event exchanges. A write that must go before the next one, and has no reads to go with, is sent by itself; so it is at a cut.
 abbrev pub spent_by : Event → Bool → ℕ
-spent_by (Runs levels writes) held = 2 * levels + one_if (held && writes && not (any_level levels))
+spent_by (Runs levels writes set reads) held = 2 * levels + one_if (held && writes && not (any_level levels))
 spent_by Cut held = one_if held
 spent_by Votes held = 1
 

@@ -1,5 +1,5 @@
 -- A run comes from one instruction to the next, and exchanges are counted on the way.
-use Rattle.std.proofs.Common.{◌≡◌, ℕ, ◌+◌, ◌<◌, ◌≤◌, List, [], ◌∷◌, ◌++◌, length, Bool, true, false, eqb, Option, Some, None, refl, ap}
+use Rattle.std.proofs.Common.{◌≡◌, ℕ, ◌+◌, ◌*◌, ◌<◌, ◌≤◌, List, [], ◌∷◌, ◌++◌, length, Bool, true, false, eqb, Option, Some, None, refl, ap}
 use Rattle.std.proofs.Common.{◌∙◌, subst, arith}
 use Rattle.std.specs.Prelude.{if◌then◌else◌, nat_lt, slice_get}
 use Rattle.std.proofs.lemmas.Bool.Decides.{nat_tests}
@@ -14,11 +14,14 @@ use Rattle.superstep_machine.specs.Run.{Purpose, Sends, Replies, Votes, Closes, 
 use Rattle.superstep_machine.specs.Stretch.{ToClose, advance}
 use Rattle.flat_machine.specs.Flat.{Flat, owed, after_instr, after_send, after_reply, after_vote}
 use Rattle.flat_machine.specs.ByExchanges.{State, after_exchange, opening}
-use Rattle.flat_machine.specs.ByInstructions.{going, stopped, step, everywhere}
+use Rattle.flat_machine.specs.ByInstructions.{going, stopped, step, steps, everywhere}
 use Rattle.flat_machine.specs.Exchanges.{Exchange, is_holding, exchanges_at, exchanges_from, but_empty}
 use Rattle.flat_machine.proofs.Stepping.{carried_out, steps_more}
 use Rattle.flat_machine.proofs.ExchangeLists.{but_empty_append, sum_from}
-use Rattle.flat_stretches.specs.Along.{Run, Comes, IsAt, works, send_cost, IsUndecided, IsOf, NothingDecides, MoreMayBeSpent, RunsBegin}
+use Rattle.exchange_words.specs.Accesses.{words_by, words_at, words_within}
+use Rattle.exchange_words.proofs.Lists.{taken_more}
+use Rattle.flat_stretches.specs.Along.{Run, Comes, IsAt, works, access_cost, send_cost, IsUndecided, IsOf, NothingDecides, MoreMayBeSpent}
+use Rattle.flat_stretches.specs.Along.{RunsBegin}
 use Rattle.flat_stretches.specs.Along.{WorkGoesOn, MarksGoOn, SendsGoOn, RepliesGoOn, VotesGoOn, JumpsGoOn, ForksGoOn}
 
 -- ---- when nothing decides
@@ -83,9 +86,22 @@ module _ (t : Run) (place : ℕ) (f : Flat) (spent : ℕ) (c : Comes t (going pl
       (append-nil (made t.code t.bound (slice_get t.code.instructions place) place f)
       ∙ ap (λ (o : Option Instr). made t.code t.bound o place f) at)
 
-  -- the state that it leaves, with so many exchanges more
+  -- and the words of its accesses
+  more_taken : (i : Instr) → IsAt t place i →
+      words_within t.code t.bound t.workers (c.instructions + 1) (opening t.input)
+      ≡ words_within t.code t.bound t.workers c.instructions (opening t.input) + words_by t.code.rule t.workers i f
+  more_taken i at =
+      let a = taken_more t.code t.bound t.workers c.instructions 1 (c.instructions + 1) refl (opening t.input) in
+      let b : words_within t.code t.bound t.workers 1 (steps t.code t.bound everywhere c.instructions (opening t.input))
+      ≡ words_at t.code.rule t.workers (slice_get t.code.instructions place) f + 0 =
+      ap (words_within t.code t.bound t.workers 1) c.here in
+      let d : words_at t.code.rule t.workers (slice_get t.code.instructions place) f ≡ words_by t.code.rule t.workers i f =
+      ap (λ o. words_at t.code.rule t.workers o f) at in
+      omega (arith, a, b, d)
+
+  -- the state that it leaves, with so much spent more
   pub along : (i : Instr) (s : State) (cost : ℕ) → IsAt t place i → carried_out t.code t.bound everywhere (Some i) place f ≡ s →
-      counted (made t.code t.bound (Some i) place f) ≤ cost → Comes t s (spent + cost)
+      counted (made t.code t.bound (Some i) place f) + access_cost t i f ≤ cost → Comes t s (spent + cost)
   along i s cost at is few = record {
     instructions = c.instructions + 1;
     here = steps_more t.code t.bound everywhere c.instructions 1 (opening t.input)
@@ -95,19 +111,34 @@ module _ (t : Run) (place : ℕ) (f : Flat) (spent : ℕ) (c : Comes t (going pl
         let e = ap counted (more_made i at)
         ∙ counted_append (exchanges_from t.code t.bound everywhere c.instructions (opening t.input))
         (made t.code t.bound (Some i) place f) in
+        let w : t.weight * words_within t.code t.bound t.workers (c.instructions + 1) (opening t.input)
+        ≡ t.weight * (words_within t.code t.bound t.workers c.instructions (opening t.input) + words_by t.code.rule t.workers i f) =
+        ap (λ n. t.weight * n) (more_taken i at) in
+        let d : t.weight * (words_within t.code t.bound t.workers c.instructions (opening t.input) + words_by t.code.rule t.workers i f)
+        ≡ t.weight * words_within t.code t.bound t.workers c.instructions (opening t.input) + access_cost t i f = omega arith in
         let l = c.few in
-        omega (arith, e, l, few);
+        omega (arith, e, l, few, w, d);
   }
 
   none_more : (s : State) → Comes t s (spent + 0) → Comes t s spent
   none_more s = subst (Comes t s) (let e : spent + 0 ≡ spent = omega arith in e)
 
   -- without an exchange
-  pub along_free : (i : Instr) (s : State) → IsAt t place i → carried_out t.code t.bound everywhere (Some i) place f ≡ s →
-      made t.code t.bound (Some i) place f ≡ [] → Comes t s spent
-  along_free i s at is none = none_more s (along i s 0 at is (let e = ap counted none in omega (arith, e)))
+  pub along_working : (i : Instr) (s : State) → IsAt t place i → carried_out t.code t.bound everywhere (Some i) place f ≡ s →
+      made t.code t.bound (Some i) place f ≡ [] → Comes t s (spent + access_cost t i f)
+  along_working i s at is none = along i s (access_cost t i f) at is (let e = ap counted none in omega (arith, e))
 
-  pub work_goes_on_here : (i : Instr) → IsAt t place i → works i ≡ true → Comes t (going (place + 1) (after_instr t.code i f)) spent
+  -- and without an access
+  pub along_free : (i : Instr) (s : State) → IsAt t place i → carried_out t.code t.bound everywhere (Some i) place f ≡ s →
+      made t.code t.bound (Some i) place f ≡ [] → words_by t.code.rule t.workers i f ≡ 0 → Comes t s spent
+  along_free i s at is none idle =
+      none_more s (along i s 0 at is (let e = ap counted none in
+      let w : access_cost t i f ≡ t.weight * 0 = ap (λ n. t.weight * n) idle in
+      let z : t.weight * 0 ≡ 0 = omega arith in
+      omega (arith, e, w, z)))
+
+  pub work_goes_on_here : (i : Instr) → IsAt t place i → works i ≡ true → Comes t (going (place + 1) (after_instr t.code i f))
+      (spent + access_cost t i f)
   work_goes_on_here (Mark line) at w = cc
   work_goes_on_here Send at w = cc
   work_goes_on_here Reply at w = cc
@@ -115,7 +146,7 @@ module _ (t : Run) (place : ℕ) (f : Flat) (spent : ℕ) (c : Comes t (going pl
   work_goes_on_here (Jump target) at w = cc
   work_goes_on_here (JumpIfZero r target) at w = cc
   work_goes_on_here Halt at w = cc
-  work_goes_on_here i at w = along_free i (going (place + 1) (after_instr t.code i f)) at refl refl
+  work_goes_on_here i at w = along_working i (going (place + 1) (after_instr t.code i f)) at refl refl
 
   pub mark_goes_on : (line : ℕ) → IsAt t place (Mark line) → f.uniform.count < t.bound →
       Comes t (going (place + 1) (after_instr t.code (Mark line) f)) spent
@@ -123,7 +154,7 @@ module _ (t : Run) (place : ℕ) (f : Flat) (spent : ℕ) (c : Comes t (going pl
       along_free (Mark line) next at
       (ap (λ b. if b then stopped t.code everywhere (ToClose false) place f else next) (below f.uniform.count t.bound l))
       (ap (λ b. let none : List Exchange = [] in if b then exchanges_at (ToClose false) f.uniform else none)
-      (below f.uniform.count t.bound l))
+      (below f.uniform.count t.bound l)) refl
     where
       next : State
       next = going (place + 1) (after_instr t.code (Mark line) f)
@@ -140,25 +171,27 @@ module _ (t : Run) (place : ℕ) (f : Flat) (spent : ℕ) (c : Comes t (going pl
 
   pub send_goes_on : IsAt t place Send → IsUndecided Sends f → Comes t (going (place + 1) (after_send t.code f)) (spent + send_cost f)
   send_goes_on at h = along Send (going (place + 1) (after_send t.code f)) (send_cost f) at (exchange_goes_on Sends h)
-      (go (is_holding f.uniform))
+      (let e = go (is_holding f.uniform) in let z : t.weight * 0 ≡ 0 = omega arith in omega (arith, e, z))
     where
       go : (b : Bool) → counted (let x : Exchange = record { purpose = Sends; held = b } in x ∷ []) ≤ (if b then 1 else 0)
       go true = omega arith
       go false = omega arith
 
   pub reply_goes_on : IsAt t place Reply → IsUndecided Replies f → Comes t (going (place + 1) (after_reply f)) (spent + 1)
-  reply_goes_on at h = along Reply (going (place + 1) (after_reply f)) 1 at (exchange_goes_on Replies h) (omega arith)
+  reply_goes_on at h = along Reply (going (place + 1) (after_reply f)) 1 at (exchange_goes_on Replies h)
+      (let z : t.weight * 0 ≡ 0 = omega arith in omega (arith, z))
 
   pub vote_goes_on : (d : ℕ) → IsAt t place (Vote d) → IsUndecided (Votes d) f →
       Comes t (going (place + 1) (after_vote d f)) (spent + 1)
-  vote_goes_on d at h = along (Vote d) (going (place + 1) (after_vote d f)) 1 at (exchange_goes_on (Votes d) h) (omega arith)
+  vote_goes_on d at h = along (Vote d) (going (place + 1) (after_vote d f)) 1 at (exchange_goes_on (Votes d) h)
+      (let z : t.weight * 0 ≡ 0 = omega arith in omega (arith, z))
 
   pub jump_goes_on : (target : ℕ) → IsAt t place (Jump target) → Comes t (going target f) spent
-  jump_goes_on target at = along_free (Jump target) (going target f) at refl refl
+  jump_goes_on target at = along_free (Jump target) (going target f) at refl refl refl
 
   pub fork_goes_on : (r target : ℕ) → IsAt t place (JumpIfZero r target) →
       Comes t (if is_nonzero (f.uniform.registers r) then going (place + 1) f else going target f) spent
-  fork_goes_on r target at = along_free (JumpIfZero r target) _ at refl (either (is_nonzero (f.uniform.registers r)))
+  fork_goes_on r target at = along_free (JumpIfZero r target) _ at refl (either (is_nonzero (f.uniform.registers r))) refl
     where
       either : (b : Bool) → (let none : List Exchange = [] in if b then none else none) ≡ []
       either true = refl
@@ -172,7 +205,7 @@ more_may_be_spent t s spent more c l = record {
 }
 
 pub runs_begin : RunsBegin
-runs_begin t = record { instructions = 0; here = refl; few = omega arith }
+runs_begin t = record { instructions = 0; here = refl; few = (let z : t.weight * 0 ≡ 0 = omega arith in omega (arith, z)) }
 
 pub work_goes_on : WorkGoesOn
 work_goes_on t place f spent c i at w = work_goes_on_here t place f spent c i at w

@@ -24,6 +24,8 @@ use Rattle.flat_machine.proofs.Paths as paths
 use Rattle.flat_machine.proofs.Arrival.{arrives}
 use Rattle.flat_machine.proofs.Late.{told_noted}
 use Rattle.pram_model.proofs.Truths.{unsome}
+use Rattle.exchange_words.specs.Accesses.{words_of, words_within}
+use Rattle.exchange_words.proofs.Lists.{all_taken}
 use Rattle.flat_stretches.specs.Applied.{applied}
 use Rattle.flat_stretches.specs.Along.{Run, Comes, IsAt}
 use Rattle.flat_stretches.specs.Closes.{close_cost, ComesOut, HaltsEnd, BoundsEnd}
@@ -51,14 +53,18 @@ close_counted ended f = go (is_held f.uniform.put)
 
 -- a run that is over has made them all
 all_counted : (t : Run) → IsWellFormed t.code → (s : State) (spent : ℕ) → Comes t s spent → IsPast s.way →
-    counted (exchanges_of t.code t.bound t.input) ≤ spent
+    counted (exchanges_of t.code t.bound t.input) + t.weight * words_of t.code t.bound t.workers t.input ≤ spent
 all_counted t formed s spent c past =
     let a = arrives t.code formed t.bound everywhere t.input in
     let enough = (t.bound + 1) * length t.code.instructions in
     let same = all_made t.code t.bound everywhere c.instructions enough (opening t.input)
     (subst (λ (x : State). IsPast x.way) (sym c.here) past)
     (outcome_is_past t.code (steps t.code t.bound everywhere enough (opening t.input)) a.0 a.1) in
-    subst (λ xs. counted xs ≤ spent) same c.few
+    let taken = all_taken t.code t.bound t.workers c.instructions enough (opening t.input)
+    (subst (λ (x : State). IsPast x.way) (sym c.here) past)
+    (outcome_is_past t.code (steps t.code t.bound everywhere enough (opening t.input)) a.0 a.1) in
+    subst (λ n. counted (exchanges_of t.code t.bound t.input) + t.weight * n ≤ spent) taken
+    (subst (λ xs. counted xs + t.weight * words_within t.code t.bound t.workers c.instructions (opening t.input) ≤ spent) same c.few)
 
 -- ---- what a close leaves
 
@@ -104,7 +110,8 @@ pub halts_end : HaltsEnd
 halts_end t formed place f spent c at quiet =
     closes t formed place f spent c true (Ended (items f.uniform.output) (map (applied t.code f).memory (cells t.code)))
     (paths.halt_asks_none t.code place f (agrees t formed place f spent c) (fits t formed place f spent c Halt at)) quiet refl
-    (along t place f spent c Halt (closed t.code true place f) (close_cost f) at refl (close_counted true f))
+    (along t place f spent c Halt (closed t.code true place f) (close_cost f) at refl
+    (let k = close_counted true f in let z : t.weight * 0 ≡ 0 = omega arith in omega (arith, k, z)))
 
 pub bounds_end : BoundsEnd
 bounds_end t formed place f spent c line at is quiet =
@@ -112,8 +119,8 @@ bounds_end t formed place f spent c line at is quiet =
     (paths.mark_asks_none t.code place f (agrees t formed place f spent c) line (fits t formed place f spent c (Mark line) at)) quiet refl
     (along t place f spent c (Mark line) (closed t.code false place f) (close_cost f) at
     (ap (λ b. if b then closed t.code false place f else going (place + 1) (after_instr t.code (Mark line) f)) reached)
-    (subst (λ b. counted (let none : List Exchange = [] in if b then exchanges_at (ToClose false) f.uniform else none) ≤ close_cost f)
-    (sym reached) (close_counted false f)))
+    (let k = subst (λ b. counted (let none : List Exchange = [] in if b then exchanges_at (ToClose false) f.uniform else none)
+    ≤ close_cost f) (sym reached) (close_counted false f) in let z : t.weight * 0 ≡ 0 = omega arith in omega (arith, k, z)))
   where
     same : (a b : ℕ) → a ≡ b → eqb a b ≡ true
     same a b e = grind (arith, nat_tests)

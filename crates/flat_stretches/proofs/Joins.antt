@@ -1,9 +1,10 @@
 -- Stretches behind one another are one stretch.
 use Rattle.std.proofs.Common.{◌≡◌, ℕ, ◌+◌, List, [], ◌∷◌, length, refl, sym, subst, arith}
 use Rattle.superstep_instructions.specs.declared.instr.Instr.{Instr}
-use Rattle.superstep_instructions.specs.declared.instr.Instr.TheVariants.{Send, Reply, Vote}
+use Rattle.superstep_instructions.specs.declared.instr.Instr.TheVariants.{Ask, Put, Send, Reply, Vote}
+use Rattle.superstep_instructions.specs.declared.instr.Side.TheVariants.{Uniform, Private}
 use Rattle.flat_stretches.specs.Folds.{Stand, act, act_at_once, held_after, IsFine}
-use Rattle.flat_stretches.specs.Joins.{StandsSplit, StandsJoin, FineJoins, ActsJoin, ActsAtOnceJoin, CostsJoin, CountsJoin}
+use Rattle.flat_stretches.specs.Joins.{StandsSplit, StandsJoin, FineJoins, ActsJoin, ActsAtOnceJoin, CostsJoin, CountsJoin, WordsJoin}
 
 -- the place behind one instruction and a stretch
 behind_both : (place : ℕ) (i : Instr) (xs : List Instr) → place + 1 + length xs ≡ place + length (i ∷ xs)
@@ -33,8 +34,8 @@ acts_at_once_join code [] ys f = refl
 acts_at_once_join code (i ∷ xs) ys f = acts_at_once_join code xs ys (act_at_once code i f)
 
 pub costs_join : CostsJoin
-costs_join code [] ys f = omega arith
-costs_join code (i ∷ xs) ys f = let h = costs_join code xs ys (act code i f) in omega (arith, h)
+costs_join t [] ys f = omega arith
+costs_join t (i ∷ xs) ys f = let h = costs_join t xs ys (act t.code i f) in omega (arith, h)
 
 pub counts_join : CountsJoin
 counts_join [] ys = omega arith
@@ -42,3 +43,11 @@ counts_join (Send ∷ xs) ys = let h = counts_join xs ys in omega (arith, h)
 counts_join (Reply ∷ xs) ys = let h = counts_join xs ys in omega (arith, h)
 counts_join (Vote d ∷ xs) ys = let h = counts_join xs ys in omega (arith, h)
 counts_join (i ∷ xs) ys = counts_join xs ys
+
+pub words_join : WordsJoin
+words_join t k [] ys = omega arith
+words_join t k (Ask Uniform d c s q ∷ xs) ys = let h = words_join t k xs ys in omega (arith, h)
+words_join t k (Ask Private d c s q ∷ xs) ys = let h = words_join t k xs ys in omega (arith, h)
+words_join t k (Put Uniform c s v q ∷ xs) ys = let h = words_join t k xs ys in omega (arith, h)
+words_join t k (Put Private c s v q ∷ xs) ys = let h = words_join t k xs ys in omega (arith, h)
+words_join t k (i ∷ xs) ys = words_join t k xs ys

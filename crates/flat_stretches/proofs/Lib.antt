@@ -16,3 +16,4 @@ pub mod Rests
 pub mod Leaving
 pub mod Notes
 pub mod Idle
+pub mod Active

@@ -156,7 +156,7 @@ module _ (t : Run) (is : List Instr) (before behind : Bool) (place spent : ℕ) 
       let running_key : key.count ≡ end.uniform.count = subst (IsOf end.uniform.count) here came.running.told in
       subst (λ (xs : List ℤ). IsFlatOutcome t.code t.input t.bound (Faulted (fault_of key) xs))
       (ap (λ n. items_below n end.uniform.output) (running_key ∙ s.count) ∙ s.output ∙ b.output)
-      (tells key end (spent + costs t.code is f) came.comes
+      (tells key end (spent + costs t is f) came.comes
       (record { told = here; running = running_key; asks = ap (λ (x : Flat). x.uniform.asks) came.applied ∙ none }))
 
 pub statements_finish : StatementsFinish

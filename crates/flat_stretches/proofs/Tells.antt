@@ -127,7 +127,7 @@ module _ (t : Run) (place : ℕ) (key : Key) (f : Flat) (spent : ℕ) (c : Comes
       (after_instr t.code i f).uniform.count ≡ f.uniform.count → (after_instr t.code i f).uniform.asks ≡ f.uniform.asks →
       Outcome (after_instr t.code i f).uniform.output
   works_tell i at w q p e a =
-      next key (after_instr t.code i f) spent (work_goes_on_here t place f spent c i at w)
+      next key (after_instr t.code i f) _ (work_goes_on_here t place f spent c i at w)
       (record { told = told_still i q p; running = d.running ∙ sym e; asks = a ∙ d.asks })
 
   undecided : (purpose : Purpose) → IsUndecided purpose f

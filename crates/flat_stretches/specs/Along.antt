@@ -1,5 +1,5 @@
--- Where a run comes to, instruction by instruction, and how many exchanges that took.
-use Rattle.std.specs.Prelude.{◌≡◌, ℕ, ◌+◌, ◌<◌, ◌≤◌, List, length, Bool, true, false, Option, Some, None, ℤ, if◌then◌else◌, slice_get}
+-- Where a run comes to, instruction by instruction, and how many exchanges and accesses that took.
+use Rattle.std.specs.Prelude.{◌≡◌, ℕ, ◌+◌, ◌*◌, ◌<◌, ◌≤◌, List, length, Bool, true, false, Option, Some, None, ℤ, if◌then◌else◌, slice_get}
 use Rattle.std.specs.List.{AllByRecursion}
 use Rattle.pram_values.specs.Truth.{is_nonzero}
 use Rattle.superstep_instructions.specs.declared.instr.Instr.{Instr}
@@ -13,19 +13,28 @@ use Rattle.flat_machine.specs.ByExchanges.{State, opening}
 use Rattle.flat_machine.specs.ByInstructions.{going, steps, everywhere}
 use Rattle.flat_machine.specs.Exchanges.{is_holding, exchanges_from, but_empty}
 use Rattle.flat_machine.specs.Verdicts.{told}
+use Rattle.exchange_words.specs.Accesses.{words_by, words_within}
 
--- a code, its input, and how many statements may begin
+-- A code, its input, and how many statements may begin. What is spent is counted for so many workers, where a word weighs so much beside
+-- an exchange: with the weight 0 it is exchanges alone, and a bound for every weight is one for the words.
 pub record Run : Type 0 where
   pub code : SuperstepCode
   pub input : List ℤ
   pub bound : ℕ
+  pub workers : ℕ
+  pub weight : ℕ
 
--- The run comes to a state, by any number of instructions and at most `spent` exchanges, where a send at which nothing is held
--- isn't counted.
+-- what n instructions spend: exchanges, without each send at which nothing is held, and the words of accesses by their weight
+abbrev pub spends : Run → ℕ → ℕ
+spends t n =
+    length (but_empty (exchanges_from t.code t.bound everywhere n (opening t.input)))
+    + t.weight * words_within t.code t.bound t.workers n (opening t.input)
+
+-- the run comes to a state, by any number of instructions, which spend at most so much
 pub record Comes (t : Run) (s : State) (spent : ℕ) : Type 0 where
   pub instructions : ℕ
   pub here : steps t.code t.bound everywhere instructions (opening t.input) ≡ s
-  pub few : length (but_empty (exchanges_from t.code t.bound everywhere instructions (opening t.input))) ≤ spent
+  pub few : spends t instructions ≤ spent
 
 -- the instruction at a place
 abbrev pub IsAt : Run → ℕ → Instr → Type 0
@@ -41,6 +50,10 @@ works (Jump target) = false
 works (JumpIfZero r target) = false
 works Halt = false
 works i = true
+
+-- what an instruction's accesses cost
+abbrev pub access_cost : Run → Instr → Flat → ℕ
+access_cost t i f = t.weight * words_by t.code.rule t.workers i f
 
 -- what a send counts
 abbrev pub send_cost : Flat → ℕ
@@ -78,7 +91,7 @@ RunsBegin = (t : Run) → Comes t (opening t.input) 0
 
 abbrev pub WorkGoesOn : Type 0
 WorkGoesOn = (t : Run) (place : ℕ) (f : Flat) (spent : ℕ) → Comes t (going place f) spent → (i : Instr) → IsAt t place i →
-    works i ≡ true → Comes t (going (place + 1) (after_instr t.code i f)) spent
+    works i ≡ true → Comes t (going (place + 1) (after_instr t.code i f)) (spent + access_cost t i f)
 
 -- a mark below the bound is passed
 abbrev pub MarksGoOn : Type 0

@@ -1,13 +1,17 @@
 -- A stretch of code without marks and jumps is run as a fold over its instructions, also with each write applied at once.
-use Rattle.std.specs.Prelude.{◌≡◌, ℕ, ◌+◌, ◌≤◌, List, [], ◌∷◌, length, Bool, true, false, not, if◌then◌else◌}
+use Rattle.std.specs.Prelude.{◌≡◌, ℕ, ◌+◌, ◌*◌, ◌≤◌, List, [], ◌∷◌, length, Bool, true, false, not, if◌then◌else◌}
 use Rattle.superstep_instructions.specs.declared.instr.Instr.{Instr}
-use Rattle.superstep_instructions.specs.declared.instr.Instr.TheVariants.{Mark, Put, Send, Reply, Vote, Jump, JumpIfZero, Halt}
+use Rattle.superstep_instructions.specs.declared.instr.Instr.TheVariants.{Mark, Ask, Put, Send, Reply, Vote, Jump, JumpIfZero, Halt}
+use Rattle.superstep_instructions.specs.declared.instr.Instr.TheVariants.{Enter, Leave, Flip, Unmask}
+use Rattle.superstep_instructions.specs.declared.instr.Side.TheVariants.{Uniform, Private}
+use Rattle.std.specs.List.{AllByRecursion}
 use Rattle.superstep_instructions.specs.Code.{SuperstepCode}
 use Rattle.superstep_machine.specs.Steps.{is_put}
 use Rattle.flat_machine.specs.Flat.{Flat, after_instr, after_send, after_reply, after_vote}
 use Rattle.flat_machine.specs.ByInstructions.{going}
 use Rattle.flat_stretches.specs.Applied.{applied, IsBare, wrote}
-use Rattle.flat_stretches.specs.Along.{Run, Comes, IsAt, send_cost, IsRunning}
+use Rattle.flat_stretches.specs.Along.{Run, Comes, IsAt, access_cost, send_cost, IsRunning}
+use Rattle.exchange_words.specs.Accesses.{of_write, active}
 
 -- these stand from a place on
 abbrev pub Stand : Run → ℕ → List Instr → Type 0
@@ -34,25 +38,47 @@ abbrev pub acts_at_once : SuperstepCode → List Instr → Flat → Flat
 acts_at_once code [] f = f
 acts_at_once code (i ∷ is) f = acts_at_once code is (act_at_once code i f)
 
--- ---- how many exchanges
+-- ---- what it spends
 
-abbrev pub cost : Instr → Flat → ℕ
-cost Send f = send_cost f
-cost Reply f = 1
-cost (Vote d) f = 1
-cost i f = 0
+abbrev pub cost : Run → Instr → Flat → ℕ
+cost t Send f = send_cost f
+cost t Reply f = 1
+cost t (Vote d) f = 1
+cost t i f = access_cost t i f
 
-abbrev pub costs : SuperstepCode → List Instr → Flat → ℕ
-costs code [] f = 0
-costs code (i ∷ is) f = cost i f + costs code is (act code i f)
+abbrev pub costs : Run → List Instr → Flat → ℕ
+costs t [] f = 0
+costs t (i ∷ is) f = cost t i f + costs t is (act t.code i f)
 
--- at most those that the stretch has
+-- the exchanges that the stretch has
 abbrev pub exchange_count : List Instr → ℕ
 exchange_count [] = 0
 exchange_count (Send ∷ is) = 1 + exchange_count is
 exchange_count (Reply ∷ is) = 1 + exchange_count is
 exchange_count (Vote d ∷ is) = 1 + exchange_count is
 exchange_count (i ∷ is) = exchange_count is
+
+-- and the words of its accesses, where so many processors are active at each
+abbrev pub word_count : Run → ℕ → List Instr → ℕ
+word_count t k [] = 0
+word_count t k (Ask Uniform d c s q ∷ is) = 2 * t.workers + word_count t k is
+word_count t k (Ask Private d c s q ∷ is) = 2 * k + word_count t k is
+word_count t k (Put Uniform c s v q ∷ is) = of_write t.code.rule + word_count t k is
+word_count t k (Put Private c s v q ∷ is) = of_write t.code.rule * k + word_count t k is
+word_count t k (i ∷ is) = word_count t k is
+
+abbrev pub accesses : Instr → Bool
+accesses (Ask side d c s q) = true
+accesses (Put side c s v q) = true
+accesses i = false
+
+-- behind the instruction no processor is active that wasn't before it
+abbrev pub is_steady : Instr → Bool
+is_steady (Enter a b q) = false
+is_steady Leave = false
+is_steady Flip = false
+is_steady Unmask = false
+is_steady i = true
 
 -- ---- which stretches
 
@@ -85,7 +111,7 @@ MayHold held f = held ≡ false → IsBare f
 
 -- the run behind a stretch
 pub record IsBehind (t : Run) (is : List Instr) (behind : Bool) (place spent : ℕ) (f : Flat) : Type 0 where
-  pub comes : Comes t (going (place + length is) (acts t.code is f)) (spent + costs t.code is f)
+  pub comes : Comes t (going (place + length is) (acts t.code is f)) (spent + costs t is f)
   pub applied : applied t.code (acts t.code is f) ≡ acts_at_once t.code is (applied t.code f)
   pub holds : MayHold behind (acts t.code is f)
   pub running : IsRunning t.code (acts t.code is f)
@@ -95,8 +121,15 @@ StretchesAreFolds = (t : Run) (is : List Instr) (before behind : Bool) (place sp
     IsFine before is behind → MayHold before f → IsRunning t.code f → Comes t (going place f) spent →
     IsBehind t is behind place spent f
 
+-- A stretch in which at most k processors are active spends at most its exchanges and the words of its accesses; one without accesses
+-- its exchanges alone.
 abbrev pub CostsAreCounted : Type 0
-CostsAreCounted = (code : SuperstepCode) (is : List Instr) (f : Flat) → costs code is f ≤ exchange_count is
+CostsAreCounted = (t : Run) (k : ℕ) (is : List Instr) (f : Flat) → AllByRecursion (λ (i : Instr). is_steady i ≡ true) is → active f ≤ k →
+    costs t is f ≤ exchange_count is + t.weight * word_count t k is
+
+abbrev pub AccessesAlone : Type 0
+AccessesAlone = (t : Run) (is : List Instr) (f : Flat) → AllByRecursion (λ (i : Instr). accesses i ≡ false) is →
+    costs t is f ≤ exchange_count is
 
 -- a fold with each write applied at once holds none
 abbrev pub FoldsStayBare : Type 0

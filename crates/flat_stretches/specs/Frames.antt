@@ -1,5 +1,5 @@
 -- The processors that are active inside a range: frames of masks, and the flags of loops.
-use Rattle.std.specs.Prelude.{◌≡◌, ℕ, ◌+◌, ◌<◌, ◌≤◌, List, [], ◌∷◌, Bool, true, false, not, ◌&&◌, pos, nat_le, Option, None}
+use Rattle.std.specs.Prelude.{◌≡◌, ℕ, ◌+◌, ◌<◌, ◌≤◌, List, [], ◌∷◌, length, Bool, true, false, not, ◌&&◌, pos, nat_le, Option, None}
 use Rattle.std.specs.List.{AllByRecursion, filter, range_with_len}
 use Rattle.pram_values.specs.Truth.{is_nonzero}
 use Rattle.superstep_instructions.specs.declared.instr.Side.TheVariants.{Private}
@@ -11,6 +11,7 @@ use Rattle.superstep_instructions.specs.Code.{SuperstepCode}
 use Rattle.superstep_machine.specs.Parts.{Registers, zeros, Read, PrivatePart}
 use Rattle.superstep_machine.specs.Steps.{under, is_active}
 use Rattle.flat_machine.specs.Flat.{Flat, after_instr, after_vote}
+use Rattle.exchange_words.specs.Accesses.{active}
 use Rattle.flat_stretches.specs.Folds.{acts, acts_at_once}
 
 -- What a statement inside a range finds and leaves: how many processors there are, the masks of each, the last one first, and what its
@@ -33,6 +34,10 @@ pub record StandsIn (first base : ℕ) (fr : Frame) (f : Flat) : Type 0 where
 -- whether register r of a processor is true
 abbrev pub is_true : ℕ → Flat → ℕ → Bool
 is_true r f v = is_nonzero ((f.own v).registers r)
+
+-- its set has as many members as there are active processors
+abbrev pub PresentAreActive : Type 0
+PresentAreActive = (first base : ℕ) (fr : Frame) (f : Flat) → StandsIn first base fr f → active f ≡ length (present fr)
 
 -- ---- masks
 

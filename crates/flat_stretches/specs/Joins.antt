@@ -4,7 +4,7 @@ use Rattle.superstep_instructions.specs.declared.instr.Instr.{Instr}
 use Rattle.superstep_instructions.specs.Code.{SuperstepCode}
 use Rattle.flat_machine.specs.Flat.{Flat}
 use Rattle.flat_stretches.specs.Along.{Run}
-use Rattle.flat_stretches.specs.Folds.{Stand, acts, acts_at_once, costs, exchange_count, IsFine}
+use Rattle.flat_stretches.specs.Folds.{Stand, acts, acts_at_once, costs, exchange_count, word_count, IsFine}
 
 -- what stands from a place on are two stretches, one behind the other ..
 abbrev pub StandsSplit : Type 0
@@ -26,8 +26,11 @@ ActsAtOnceJoin = (code : SuperstepCode) (xs ys : List Instr) (f : Flat) →
     acts_at_once code (xs ++ ys) f ≡ acts_at_once code ys (acts_at_once code xs f)
 
 abbrev pub CostsJoin : Type 0
-CostsJoin = (code : SuperstepCode) (xs ys : List Instr) (f : Flat) →
-    costs code (xs ++ ys) f ≡ costs code xs f + costs code ys (acts code xs f)
+CostsJoin = (t : Run) (xs ys : List Instr) (f : Flat) →
+    costs t (xs ++ ys) f ≡ costs t xs f + costs t ys (acts t.code xs f)
 
 abbrev pub CountsJoin : Type 0
 CountsJoin = (xs ys : List Instr) → exchange_count (xs ++ ys) ≡ exchange_count xs + exchange_count ys
+
+abbrev pub WordsJoin : Type 0
+WordsJoin = (t : Run) (k : ℕ) (xs ys : List Instr) → word_count t k (xs ++ ys) ≡ word_count t k xs + word_count t k ys

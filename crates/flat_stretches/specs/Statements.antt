@@ -47,7 +47,7 @@ finished t is f = acts_at_once t.code is (applied t.code f)
 
 -- without a key the run comes behind it, and is seen there as finished
 pub record HasFinished (t : Run) (is : List Instr) (behind : Bool) (place spent : ℕ) (f g : Flat) : Type 0 where
-  pub comes : Comes t (going (place + length is) g) (spent + costs t.code is f)
+  pub comes : Comes t (going (place + length is) g) (spent + costs t is f)
   pub seen : applied t.code g ≡ finished t is f
   pub told : told t.code g ≡ None
   pub holds : MayHold behind g

@@ -4,9 +4,10 @@ ghost use Rattle.flat_stretches.specs.Applied.{InstructionsApply, WritesApply, S
 ghost use Rattle.flat_stretches.specs.Applied.{RepliesApply, VotesApply, BareIsApplied, EmptySendsAreNothing};
 ghost use Rattle.flat_stretches.specs.Along.{RunsBegin, WorkGoesOn, MarksGoOn, SendsGoOn, RepliesGoOn, VotesGoOn, JumpsGoOn};
 ghost use Rattle.flat_stretches.specs.Along.{ForksGoOn, NothingDecides, MoreMayBeSpent};
-ghost use Rattle.flat_stretches.specs.Folds.{StretchesAreFolds, CostsAreCounted, FoldsStayBare, NothingCostsNothing};
+ghost use Rattle.flat_stretches.specs.Folds.{StretchesAreFolds, CostsAreCounted, AccessesAlone, FoldsStayBare, NothingCostsNothing};
 ghost use Rattle.flat_stretches.specs.Leaving.{FoldsLeave};
-ghost use Rattle.flat_stretches.specs.Joins.{StandsSplit, StandsJoin, FineJoins, ActsJoin, ActsAtOnceJoin, CostsJoin, CountsJoin};
+ghost use Rattle.flat_stretches.specs.Joins.{StandsSplit, StandsJoin, FineJoins, ActsJoin};
+ghost use Rattle.flat_stretches.specs.Joins.{ActsAtOnceJoin, CostsJoin, CountsJoin, WordsJoin};
 ghost use Rattle.flat_stretches.specs.Statements.{RunsBeginAtRest, MarksBegin, MarksHold, StatementsFinish, StatementsFault};
 ghost use Rattle.flat_stretches.specs.Described.{PlacesAreAsSaid, JudgedAreFine, WhatStandsIsAt, FoldsHoldReads};
 ghost use Rattle.flat_stretches.specs.Reads.{ReadsAreAnswered, ReadsArrive, OthersStay, NoReadsStay};
@@ -14,7 +15,8 @@ ghost use Rattle.flat_stretches.specs.Notes.{FoldsTellNotes, NotesJoin, NotesFor
 ghost use Rattle.flat_stretches.specs.Tells.{EndsTell, QuietPlacesTell, QuietStretchesTell, JumpsTell, ForksTell, CalmPlacesTell};
 ghost use Rattle.flat_stretches.specs.Tells.{QuietBeforeCalm};
 ghost use Rattle.flat_stretches.specs.Closes.{HaltsEnd, BoundsEnd};
-ghost use Rattle.flat_stretches.specs.Frames.{SetsNarrow, EverybodyIsPresent, RangesBegin, MasksNarrow, FlipsTurn, UnmasksWiden, VotesSay};
+ghost use Rattle.flat_stretches.specs.Frames.{PresentAreActive, SetsNarrow, EverybodyIsPresent, RangesBegin};
+ghost use Rattle.flat_stretches.specs.Frames.{MasksNarrow, FlipsTurn, UnmasksWiden, VotesSay};
 ghost use Rattle.flat_stretches.specs.Frames.{FoldsStay, FoldsAtOnceStay, IdleStay, LoopsOpen, LoopsTurn, LoopsClose};
 
 /// The machine may be seen with the write that it holds applied at once: each instruction, a send, a
@@ -32,10 +34,10 @@ pub fn held_writes_apply()
     ensures empty_sends { EmptySendsAreNothing }
 {}
 
-/// Where a run comes to, one instruction after another, and with how many exchanges: none for an
-/// instruction on registers, a mark below the bound and a jump; one for a reply, a vote, and a send at
-/// which anything is held. An exchange goes on that decides nothing, and none does while each key that
-/// is told is of the running statement.
+/// Where a run comes to, one instruction after another, and what that spends: the words of its accesses, by
+/// the weight of the run, for an instruction on registers, nothing for a mark below the bound and a jump;
+/// one exchange for a reply, a vote, and a send at which anything is held. An exchange goes on that
+/// decides nothing, and none does while each key that is told is of the running statement.
 pub fn runs_go_on()
     ensures begin { RunsBegin }
     ensures more { MoreMayBeSpent }
@@ -51,11 +53,12 @@ pub fn runs_go_on()
 
 /// A stretch of code without marks and jumps, in which a write or a reply stands only where no write is
 /// held, is run as a fold over its instructions, while what is told is of the running statement; and
-/// with each write applied at once the fold gives the same. Its exchanges are at most those that stand
-/// in it.
+/// with each write applied at once the fold gives the same. It spends at most the exchanges that stand in
+/// it, and the words of its accesses by as many processors as are active before it.
 pub fn stretches_are_folds()
     ensures folds { StretchesAreFolds }
     ensures counted { CostsAreCounted }
+    ensures alone { AccessesAlone }
     ensures bare { FoldsStayBare }
     ensures free { NothingCostsNothing }
     // What evaluates leaves all else.
@@ -71,6 +74,7 @@ pub fn stretches_join()
     ensures at_once { ActsAtOnceJoin }
     ensures costs { CostsJoin }
     ensures counts { CountsJoin }
+    ensures words { WordsJoin }
 {}
 
 /// When a fault of the running statement is the outcome, once it is told and no read is held: at a mark
@@ -122,6 +126,7 @@ pub fn states_describe_runs()
 /// registers. A loop's flag lets all of the set in, those stay
 /// whose test is true, and behind it the set is present again.
 pub fn masks_are_sets()
+    ensures active { PresentAreActive }
     ensures narrow { SetsNarrow }
     ensures everybody { EverybodyIsPresent }
     ensures begin { RangesBegin }

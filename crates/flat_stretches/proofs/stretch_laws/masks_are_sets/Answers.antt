@@ -1,3 +1,4 @@
+use Rattle.flat_stretches.proofs.Active.{present_are_active}
 use Rattle.flat_stretches.proofs.Idle.{idle_stay}
 use Rattle.flat_stretches.proofs.Frames.{sets_narrow, everybody_is_present, ranges_begin, masks_narrow, flips_turn, unmasks_widen}
 use Rattle.flat_stretches.proofs.Frames.{votes_say}
@@ -7,6 +8,7 @@ use Rattle.flat_stretches.proofs.stretch_laws.masks_are_sets.Goals as goal
 
 pub returns : goal.returns
 returns c = record {
+  active = present_are_active;
   narrow = sets_narrow;
   everybody = everybody_is_present;
   begin = ranges_begin;

@@ -6,6 +6,7 @@ pub returns : goal.returns
 returns c = record {
   folds = folds.stretches_are_folds;
   counted = folds.costs_are_counted;
+  alone = folds.accesses_alone;
   bare = folds.folds_stay_bare;
   free = folds.nothing_costs_nothing;
   leaves = folds_leave;

@@ -1,0 +1,9 @@
+pub mod Sums
+pub mod Owed
+pub mod Sendings
+pub mod Gains
+pub mod Stretches
+pub mod Workers
+pub mod Lists
+pub mod Flat
+pub mod Laws
