@@ -1,6 +1,6 @@
 -- Fused, the code of a program has the program's outcomes too, and its workers keep the program's bound.
 use Rattle.std.proofs.Common.{if◌then◌else◌}
-use Rattle.std.proofs.Common.{◌≡◌, ◌↔◌, ℕ, ◌≤◌, List, [], ◌∷◌, length, Bool, true, false, ℤ, sym, subst, ◌∙◌, ap, arith}
+use Rattle.std.proofs.Common.{◌≡◌, ◌↔◌, ℕ, ◌+◌, ◌*◌, ◌≤◌, Some, List, [], ◌∷◌, length, Bool, true, false, ℤ, sym, subst, ◌∙◌, ap, arith}
 use Rattle.std.proofs.lemmas.List.{length-map}
 use Rattle.pram_model.specs.Layout.{total_size}
 use Rattle.write_rules.specs.Verdict.{Verdict}
@@ -16,13 +16,16 @@ use Rattle.pram_meaning.specs.Outcome.{IsOutcome}
 use Rattle.flat_machine.specs.Flatness.{IsMapFor}
 use Rattle.flat_machine.specs.Exchanges.{Exchange, exchanges_of, but_empty, is_empty}
 use Rattle.flat_machine.specs.ByInstructions.{IsFlatOutcome}
+use Rattle.flat_machine.specs.ByInstructions.{everywhere, outcome_within}
 use Rattle.flat_machine.proofs.Laws.{workers_are_flat, workers_make_listed}
+use Rattle.flat_machine.proofs.Outcomes.{one_outcome}
+use Rattle.exchange_words.proofs.Laws.{accesses_bound_words}
 use Rattle.fusing.specs.Fusing.{Fuses, IsFaultless}
 use Rattle.plain_form.specs.PlainForm.{form_of}
 use Rattle.exchange_bound.specs.Bound.{exchange_bound}
 use Rattle.compiled_meaning.specs.Statements.{StatementsAreFollowed}
-use Rattle.compiled_meaning.specs.PlainForm.{IsInputFor, IsPlainForm}
-use Rattle.compiled_meaning.specs.Supersteps.{KeepsTheBound, IsFusedForm}
+use Rattle.compiled_meaning.specs.PlainForm.{IsInputFor, IsPlainForm, word_bound}
+use Rattle.compiled_meaning.specs.Supersteps.{KeepsTheBound, SendsWithinWork, IsFusedForm}
 use Rattle.compiled_meaning.proofs.Outcomes.{has_outcome, is_plain}
 
 -- no more are left where some are taken away
@@ -65,6 +68,9 @@ module _ (followed : StatementsAreFollowed) (keep : Bool) (p : Checked) (bounded
     few = λ input is n v o u. let a : length (exchanges_of code n input) ≤ exchange_bound p input n = exchanges_few input is n v o u in
         let b : length (but_empty (exchanges_of code n input)) ≤ length (exchanges_of code n input) =
         fewer_left (exchanges_of code n input) in omega (arith, a, b);
+    words = λ input is n v o u workers. subst (λ k. k ≤ word_bound p workers input n)
+        (sym (fuses.words input n v (has_outcome followed keep p bounded formed input is n v o) u workers)) (plain.words input is n v o u
+        workers);
   }
 
   -- the workers' list is as long as the code's
@@ -81,5 +87,18 @@ module _ (followed : StatementsAreFollowed) (keep : Bool) (p : Checked) (bounded
       (workers_are_flat code shape for input n v).0 ((fused_outcomes shape for input is n v).1 o) in
       subst (λ k. k ≤ exchange_bound p input n) (sym (as_long shape for input n v flat made a)) (exchanges_few input is n v o u)
 
+  -- the words of the workers are at most those of the accesses on one memory
+  sends : SendsWithinWork p code
+  sends shape for input is n v o u made a =
+      let one = one_outcome code fuses.well_formed input n in
+      let flat : IsFlatOutcome code input n v = (workers_are_flat code shape for input n v).0
+      ((fused_outcomes shape for input is n v).1 o) in
+      let most = (n + 1) * length code.instructions in
+      let here : outcome_within code n everywhere most input ≡ Some v =
+      subst (λ w. outcome_within code n everywhere most input ≡ Some w) (sym (one.only v flat)) (one.lasts most (omega arith)) in
+      let b = accesses_bound_words code shape for input n v made a most here in
+      let c = fused_plain.words input is n v o u shape.parts in
+      omega (arith, b, c)
+
   pub is_fused : IsFusedForm p code
-  is_fused = record { form = fused_plain; supersteps = keeps }
+  is_fused = record { form = fused_plain; supersteps = keeps; communication = sends }

@@ -30,7 +30,7 @@ done code line is f = acts_at_once code is (begun code line f)
 
 -- the run comes there with no fault told
 pub record HasPassed (t : Run) (line : ℕ) (is : List Instr) (behind : Bool) (place spent : ℕ) (f g : Flat) : Type 0 where
-  pub comes : Comes t (going (place + 1 + length is) g) (spent + costs t.code is (after_instr t.code (Mark line) f))
+  pub comes : Comes t (going (place + 1 + length is) g) (spent + costs t is (after_instr t.code (Mark line) f))
   pub seen : applied t.code g ≡ done t.code line is f
   pub told : told t.code g ≡ None
   pub holds : MayHold behind g

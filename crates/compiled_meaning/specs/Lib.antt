@@ -1,4 +1,5 @@
 pub mod Between
+pub mod Paid
 pub mod Follows
 pub mod Begins
 pub mod Costs

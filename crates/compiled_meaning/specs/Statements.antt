@@ -12,7 +12,7 @@ use Rattle.flat_stretches.specs.Tells.{IsCalm}
 use Rattle.plain_form.specs.Registers.{behind_variables}
 use Rattle.plain_form.specs.Outside.{statements_code, statements_left}
 use Rattle.exchange_bound.specs.Events.{list_events}
-use Rattle.exchange_bound.specs.Spent as events
+use Rattle.compiled_meaning.specs.Paid as paid
 use Rattle.compiled_meaning.specs.Between.{IsRunOf}
 use Rattle.compiled_meaning.specs.Follows.{Follows, HoldsBehind}
 use Rattle.compiled_meaning.specs.Without.{IsWithout}
@@ -38,7 +38,7 @@ pub record FollowsStatements (p : Checked) (t : Run) (keep : Bool) (free : ℕ) 
     (place spent : ℕ) (f : Flat) : Type 0 where
   pub follows : Follows t spent held (list_events p t.bound ss m)
       (GoesWithout p t free (statements_left held ss) (place + length (statements_code keep free place held ss))
-      (spent + events.spent (list_events p t.bound ss m) held) f) (perform_list p t.bound ss m)
+      (spent + paid.spent t (list_events p t.bound ss m) held) f) (perform_list p t.bound ss m)
   pub left : HoldsBehind held (list_events p t.bound ss m) (statements_left held ss) (perform_list p t.bound ss m)
 
 -- so it is of every program, code and list of statements, from each state between two statements

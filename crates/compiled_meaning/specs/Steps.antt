@@ -14,7 +14,7 @@ use Rattle.flat_stretches.specs.Frames.{present}
 use Rattle.plain_form.specs.Registers.{behind_variables, behind_locals}
 use Rattle.plain_form.specs.Inside.{Frame, steps_code, steps_left}
 use Rattle.exchange_bound.specs.Events.{steps_events}
-use Rattle.exchange_bound.specs.Spent as events
+use Rattle.compiled_meaning.specs.Paid as paid
 use Rattle.compiled_meaning.specs.Between.{IsRunOf}
 use Rattle.compiled_meaning.specs.Follows.{Follows, HoldsBehind}
 use Rattle.compiled_meaning.specs.Within.{IsWithin}
@@ -42,7 +42,7 @@ pub record FollowsSteps (p : Checked) (t : Run) (w : Frame) (locals base : ℕ) 
     (place spent : ℕ) (f : Flat) : Type 0 where
   pub follows : Follows t spent held (steps_events p t.bound ss (present fr) m)
       (GoesWithin p t locals base w.vote fr (steps_left held ss) (place + length (steps_code w base place held ss))
-      (spent + events.spent (steps_events p t.bound ss (present fr) m) held) f)
+      (spent + paid.spent t (steps_events p t.bound ss (present fr) m) held) f)
       (perform_list_on p t.bound ss (present fr) m)
   pub left : HoldsBehind held (steps_events p t.bound ss (present fr) m) (steps_left held ss) (perform_list_on p t.bound ss (present fr) m)
 

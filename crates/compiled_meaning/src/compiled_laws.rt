@@ -6,13 +6,14 @@ ghost use Rattle.compiled_meaning.specs.Supersteps.{FusedFormsArePlain};
 /// The code of every program within bounds has the program's outcomes: on the workers of every lawful map,
 /// for every input of values of 64 bits, at most one a cell, and within every bound, a verdict is the
 /// code's exactly when it is the program's. And where that is no fault, the exchanges of the code's
-/// run, without each send at which nothing is held, are at most the program's bound.
+/// run, without each send at which nothing is held, are at most the program's bound, and its accesses
+/// take no more words than the program's.
 pub fn plain_form_is_right()
     ensures right { FormsArePlain }
 {}
 
 /// So it is for the fused code, whose workers, however many and by whichever map, make at most so many
-/// exchanges.
+/// exchanges, and send at most so many words in all of them.
 pub fn fused_form_is_right()
     ensures right { FusedFormsArePlain }
 {}

@@ -4,7 +4,7 @@ ghost use Rattle.compiled_meaning.specs.Steps.{StepsAreFollowed};
 
 /// The code of statements inside pardo follows their meaning, on the set of processors that are active:
 /// where the program goes on the run comes to the same state, in the same frame of masks; its
-/// fault is the run's outcome, and so is its bound; by no more exchanges than the events of the
+/// fault is the run's outcome, and so is its bound; by no more exchanges and words than the events of the
 /// statements have.
 pub fn steps_are_followed()
     ensures steps { StepsAreFollowed }

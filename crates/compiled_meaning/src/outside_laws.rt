@@ -3,7 +3,7 @@
 ghost use Rattle.compiled_meaning.specs.Statements.{StatementsAreFollowed};
 
 /// The code of statements outside pardo follows their meaning: where the program goes on the run comes to
-/// the same state; its fault is the run's outcome, and so is its bound; by no more exchanges than
+/// the same state; its fault is the run's outcome, and so is its bound; by no more exchanges and words than
 /// the events of the statements have.
 pub fn statements_are_followed()
     ensures statements { StatementsAreFollowed }

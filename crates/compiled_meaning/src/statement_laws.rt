@@ -10,7 +10,7 @@ pub fn statements_go_on()
     ensures on { StatementsGoOn }
 {}
 
-/// How many exchanges the straight parts of statements take, at most.
+/// How many exchanges, and how many words of accesses, the straight parts of statements take, at most.
 pub fn straight_parts_cost()
     ensures cost { StraightPartsCost }
 {}

@@ -1,9 +1,9 @@
 -- From place to place between two statements: sends of what is held, instructions that note nothing, and jumps.
-use Rattle.std.proofs.Common.{◌≡◌, ℕ, ◌+◌, ◌≤◌, [], ◌∷◌, length, Bool, true, false, not, ◌&&◌, refl, sym, ap, ◌∙◌, subst, arith}
+use Rattle.std.proofs.Common.{◌≡◌, ℕ, ◌+◌, ◌*◌, ◌≤◌, [], ◌∷◌, length, Bool, true, false, not, ◌&&◌, refl, sym, ap, ◌∙◌, subst, arith}
 use Rattle.std.specs.Prelude.{if◌then◌else◌}
 use Rattle.pram_values.specs.Truth.{is_nonzero}
 use Rattle.superstep_instructions.specs.declared.instr.Instr.{Instr}
-use Rattle.superstep_instructions.specs.declared.instr.Instr.TheVariants.{Send, Jump, JumpIfZero}
+use Rattle.superstep_instructions.specs.declared.instr.Instr.TheVariants.{Ask, Put, Send, Jump, JumpIfZero}
 use Rattle.superstep_machine.specs.Keys.{least}
 use Rattle.superstep_machine.specs.Run.{Sends, items}
 use Rattle.superstep_machine.specs.Steps.{is_put}
@@ -13,13 +13,15 @@ use Rattle.flat_machine.specs.ByInstructions.{going}
 use Rattle.flat_machine.specs.Verdicts.{told}
 use Rattle.flat_machine.proofs.Late.{told_noted}
 use Rattle.superstep_machine.proofs.KeyOrder.{none_least}
+use Rattle.pram_model.specs.declared.rule.Rule.{Rule}
+use Rattle.exchange_words.specs.Accesses.{words_by}
 use Rattle.flat_stretches.specs.Applied.{applied, AsksNone}
-use Rattle.flat_stretches.specs.Along.{Run, Comes, IsAt, IsOf, works}
+use Rattle.flat_stretches.specs.Along.{Run, Comes, IsAt, IsOf, access_cost, works}
 use Rattle.flat_stretches.specs.Folds.{Stand}
 use Rattle.flat_stretches.specs.Tells.{is_quiet}
 use Rattle.flat_stretches.proofs.Along.{nothing_decides, work_goes_on, sends_go_on, jumps_go_on, forks_go_on, more_may_be_spent}
 use Rattle.flat_stretches.proofs.Applied.{told_by, put_stays, held_stays, sends_of_writes_apply, bare_is_applied}
-use Rattle.flat_stretches.proofs.Folds.{costs_are_counted}
+use Rattle.flat_stretches.proofs.Folds.{accesses_alone}
 use Rattle.flat_stretches.proofs.Tells.{notes_nothing}
 use Rattle.plain_form.specs.Shapes.{flush}
 use Rattle.exchange_bound.specs.Bound.{one_if}
@@ -42,13 +44,23 @@ module _ (t : Run) (held : Bool) (m : State) (f : Flat) where
     output = b.output;
   }
 
+-- what notes nothing accesses nothing
+quiet_words : (rule : Rule) (p : ℕ) (i : Instr) (f : Flat) → is_quiet i ≡ true → words_by rule p i f ≡ 0
+quiet_words rule p (Ask side d c s q) f e = cc
+quiet_words rule p (Put side c s v q) f e = cc
+quiet_words rule p i f e = refl
+
 module _ (t : Run) (held : Bool) (m : State) (place spent : ℕ) (f : Flat) (b : IsBetween t held m place spent f) where
   -- an instruction on registers or masks
   pub work_between : (i : Instr) → IsAt t place i → works i ≡ true → is_put i ≡ false → is_quiet i ≡ true →
       (after_instr t.code i f).uniform.count ≡ f.uniform.count → (after_instr t.code i f).uniform.output ≡ f.uniform.output →
       IsBetween t held m (place + 1) spent (after_instr t.code i f)
   work_between i at w p q c o = record {
-    comes = work_goes_on t place f spent b.comes i at w;
+    comes =
+        (let e : access_cost t i f ≡ t.weight * 0 = ap (λ n. t.weight * n) (quiet_words t.code.rule t.workers i f q) in
+        let z : t.weight * 0 ≡ 0 = omega arith in
+        subst (Comes t (going (place + 1) (after_instr t.code i f))) (let h : spent + access_cost t i f ≡ spent = omega (arith, e, z) in h)
+        (work_goes_on t place f spent b.comes i at w));
     told = told_by t.code i f p ∙ ap (least (told t.code f)) (notes_nothing t.code i q f) ∙ none_least (told t.code f) ∙ b.told;
     holds = λ e. let n = b.holds e in record {
       put = put_stays t.code i f.uniform p ∙ n.put;
@@ -106,7 +118,7 @@ flushed t true m place spent f b n st = record {
   behind = applied t.code f;
   between = record {
     comes = subst (λ g. Comes t (going (place + 1) g) (spent + 1)) (sends_of_writes_apply t.code f (asks_none_before t f n))
-        (let few = costs_are_counted t.code (Send ∷ []) f in
+        (let few = accesses_alone t (Send ∷ []) f (refl, tt) in
         more_may_be_spent t (going (place + 1) (after_send t.code f)) _ (spent + 1)
         (sends_go_on t place f spent b.comes st.0
         (nothing_decides t.code f (subst (IsOf f.uniform.count) (sym b.told) tt) Sends)) (omega (arith, few)));

@@ -1,5 +1,5 @@
 -- Assignments inside pardo are followed.
-use Rattle.std.proofs.Common.{◌≡◌, ℕ, zero, suc, ◌+◌, ◌*◌, ◌<◌, ◌≤◌, max, List, [], ◌∷◌, ◌++◌, length, Bool, true, false, not, ◌&&◌}
+use Rattle.std.proofs.Common.{◌≡◌, ℕ, zero, suc, ◌+◌, ◌<◌, ◌≤◌, max, List, [], ◌∷◌, ◌++◌, length, Bool, true, false, not, ◌&&◌}
 use Rattle.std.proofs.Common.{Result, Ok, None, refl, sym, ap, ◌∙◌, subst, arith}
 use Rattle.std.proofs.Common.{append-nil, length-append}
 use Rattle.std.specs.Prelude.{if◌then◌else◌}
@@ -48,9 +48,13 @@ use Rattle.compiled_formulas.specs.Tasks.{IsSingle}
 use Rattle.compiled_formulas.specs.Terms.{term}
 use Rattle.compiled_formulas.proofs.Tasks.{expressions_are_single}
 use Rattle.compiled_formulas.proofs.Terms.{expressions_are_terms, expressions_are_named}
+use Rattle.std.specs.Prelude.{Some}
 use Rattle.exchange_bound.specs.Bound.{one_if}
-use Rattle.exchange_bound.specs.Events.{Event, Runs, begun, levels, step_events}
+use Rattle.exchange_bound.specs.Events.{Event, Runs, begun, levels, reads, step_events}
+use Rattle.plain_form.specs.Formulas as formulas
 use Rattle.exchange_bound.specs.Spent as events
+use Rattle.compiled_meaning.specs.Paid.{evaluating_on, writes_weigh}
+use Rattle.compiled_meaning.specs.Paid as paid
 use Rattle.compiled_meaning.specs.Between.{IsRunOf}
 use Rattle.compiled_meaning.specs.Follows.{Follows}
 use Rattle.compiled_meaning.proofs.EachStatement.Costs.{straight_parts_cost}
@@ -107,12 +111,13 @@ module _ (p : Checked) (t : Run) (of : IsRunOf p t) (locals base vote : ℕ) (fr
       IsCalm t.code (place + length (gets keep held here.line Private base (formula_of e) (local x))) →
       Followed p t locals base vote fr held (still held (formula_of e)) (gets keep held here.line Private base (formula_of e) (local x))
       place spent
-      f (begun t.bound m (Runs (max 0 (levels e)) false ∷ [])) (assign_on p t.bound here.line (inner.Local x) e (present fr) m)
+      f (begun t.bound m (Runs (max 0 (levels e)) false (Some (length (present fr))) (0 + reads e) ∷ []))
+      (assign_on p t.bound here.line (inner.Local x) e (present fr) m)
   local_followed x e named stand calm =
       let stretch = getting keep held Private base (formula_of e) (local x) in
-      let es = Runs (max 0 (levels e)) false ∷ [] in
+      let es = Runs (max 0 (levels e)) false (Some (length (present fr))) (0 + reads e) ∷ [] in
       let goes = λ (ys : List Event). GoesWithin p t locals base vote fr (still held (formula_of e))
-      (place + length (Mark here.line ∷ stretch)) (spent + events.spent ys held) f in
+      (place + length (Mark here.line ∷ stretch)) (spent + paid.spent t ys held) f in
       let a = attempted_on p t.bound here.line (λ s. attempt_step s (inner.Local x) e) (present fr) m in
       let fine = straight_parts_are_fine in
       let cost = straight_parts_cost in
@@ -149,12 +154,13 @@ module _ (p : Checked) (t : Run) (of : IsRunOf p t) (locals base vote : ℕ) (fr
       let now : local_values.with_values p t of locals base free fr held m place spent f w here.line e named.1.0 keep x named.0
       ≡ assigned_by p (inner.Local x) xs (one_more m) = ap (λ y. let s : State = record (one_more m) { team = y } in s) (sym team) in
       goes_from p t locals base vote fr (still held (formula_of e)) (place + 1 + length stretch) (place + length (Mark here.line ∷ stretch))
-      (spent + events.spent es held) (spent + events.spent es held) f f _ (omega arith) (omega arith) (λ r k. refl)
-      (subst (GoesWithin p t locals base vote fr (still held (formula_of e)) (place + 1 + length stretch) (spent + events.spent es held)
+      (spent + paid.spent t es held) (spent + paid.spent t es held) f f _ (omega arith) (omega arith) (λ r k. refl)
+      (subst (GoesWithin p t locals base vote fr (still held (formula_of e)) (place + 1 + length stretch) (spent + paid.spent t es held)
       f) now
       (passed p t locals base base vote fr fr held (still held (formula_of e)) m place spent f w here.line stretch _
-      (2 * nesting (formula_of e))
-      (spent + events.spent es held) (cost.got keep held Private base (formula_of e) (local x)) (omega arith) l g passes leaves
+      (evaluating_on t (length (present fr)) (formula_of e))
+      (spent + paid.spent t es held) (cost.got_on t (length (present fr)) keep held base (formula_of e) (local x)) (omega arith) l g
+      passes leaves
       (local_values.next_copied p t of locals base free fr held m place spent f w here.line e named.1.0 keep x named.0
       (subst HasValues (sym now)
       (values_behind (inner.Local x) e named xs (assignment_parts p m (inner.Local x) e (present fr)) l okay))))))
@@ -169,7 +175,8 @@ module _ (p : Checked) (t : Run) (of : IsRunOf p t) (locals base vote : ℕ) (fr
     write_followed : Stand t place (writes keep held here.line Private base entry d c) →
         IsCalm t.code (place + length (writes keep held here.line Private base entry d c)) →
         Followed p t locals base vote fr held true (writes keep held here.line Private base entry d c) place spent
-        f (begun t.bound m (Runs (nesting (Pair d c)) true ∷ [])) (assign_on p t.bound here.line x e (present fr) m)
+        f (begun t.bound m (Runs (nesting (Pair d c)) true (Some (length (present fr))) (formulas.reads (Pair d c)) ∷ []))
+        (assign_on p t.bound here.line x e (present fr) m)
     write_followed stand calm =
         let both = Pair d c in
         let marks = marks_come_first in
@@ -185,10 +192,10 @@ module _ (p : Checked) (t : Run) (of : IsRunOf p t) (locals base vote : ℕ) (fr
         let by = spent + one_if (still held both) in
         let now = within_seen p t locals base fr held waiting m place at spent by f g w ready.between ready.seen in
         let shown_now = now.shows in
-        let es = Runs (nesting both) true ∷ [] in
+        let es = Runs (nesting both) true (Some (length (present fr))) (formulas.reads both) ∷ [] in
         let goes = λ (ys : List Event). GoesWithin p t locals base vote fr true
         (place + length (writes keep held here.line Private base entry d c))
-        (spent + events.spent ys held) f in
+        (spent + paid.spent t ys held) f in
         let a = attempted_on p t.bound here.line (λ s. attempt_step s x e) (present fr) m in
         let fine = straight_parts_are_fine in
         let cost = straight_parts_cost in
@@ -224,13 +231,15 @@ module _ (p : Checked) (t : Run) (of : IsRunOf p t) (locals base vote : ℕ) (fr
         keep ok vote in
         goes_from p t locals base vote fr true (at + 1 + length stretch)
         (place + length (writes keep held here.line Private base entry d c))
-        (spent + events.spent es held) (spent + events.spent es held) f g (assigned_by p x xs (one_more m)) (omega (arith, count, whole))
+        (spent + paid.spent t es held) (spent + paid.spent t es held) f g (assigned_by p x xs (one_more m)) (omega (arith, count, whole))
         (omega arith)
         (λ r k. ap (λ (y : Flat). y.uniform.registers r) ready.seen)
-        (subst (GoesWithin p t locals base vote fr true (at + 1 + length stretch) (spent + events.spent es held) g)
+        (subst (GoesWithin p t locals base vote fr true (at + 1 + length stretch) (spent + paid.spent t es held) g)
         (sym (effect xs (one_more m)))
-        (passed p t locals base base vote fr fr waiting true m at by g now here.line stretch cells (2 * nesting both)
-        (spent + events.spent es held) (cost.written keep waiting Private base entry d c) (omega (arith, goes_first)) l after passes leaves
+        (passed p t locals base base vote fr fr waiting true m at by g now here.line stretch cells
+        (evaluating_on t (length (present fr)) both + writes_weigh t (length (present fr)))
+        (spent + paid.spent t es held) (cost.written_on t (length (present fr)) keep waiting base entry d c) (omega (arith, goes_first))
+        l after passes leaves
         (set_writes.next_written p t of locals base free fr waiting m at by g now here.line entry d c named sd sc values keep
         (subst HasValues (effect xs (one_more m)) (values_behind x e bound xs same_parts l okay))))))
         )

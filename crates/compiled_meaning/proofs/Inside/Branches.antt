@@ -1,5 +1,5 @@
 -- An `if` inside pardo is followed, if its parts are.
-use Rattle.std.proofs.Common.{◌≡◌, ℕ, ◌+◌, ◌*◌, ◌<◌, ◌≤◌, List, [], ◌∷◌, ◌++◌, length, Bool, true, false, not, refl, sym, ◌∙◌, subst, arith}
+use Rattle.std.proofs.Common.{◌≡◌, ℕ, ◌+◌, ◌<◌, ◌≤◌, List, [], ◌∷◌, ◌++◌, length, Bool, true, false, not, refl, sym, ◌∙◌, subst, arith}
 use Rattle.std.proofs.Common.{length-append}
 use Rattle.superstep_instructions.specs.declared.instr.Instr.{Instr}
 use Rattle.superstep_instructions.specs.declared.instr.Instr.TheVariants.{Mark, Unmask}
@@ -21,8 +21,10 @@ use Rattle.plain_form.specs.Formulas.{formula_of}
 use Rattle.plain_form.specs.Registers.{behind_locals}
 use Rattle.plain_form.specs.Shapes.{still}
 use Rattle.verified_form.specs.Straight.{masking}
-use Rattle.exchange_bound.specs.Events.{Event, Runs, behind, begun, levels}
+use Rattle.exchange_bound.specs.Events.{Event, behind, begun, levels}
 use Rattle.exchange_bound.specs.Spent as events
+use Rattle.compiled_meaning.specs.Paid.{tests_on, testing_costs}
+use Rattle.compiled_meaning.specs.Paid as paid
 use Rattle.compiled_meaning.specs.Between.{IsRunOf}
 use Rattle.compiled_meaning.specs.Follows.{Follows, HoldsBehind}
 use Rattle.compiled_meaning.proofs.EachStatement.Joined.{follows_also, follows_sooner, follows_behind, follows_then, spent_behind}
@@ -35,10 +37,10 @@ use Rattle.compiled_meaning.proofs.Inside.Moves.{within_at, unmask_within}
 use Rattle.compiled_meaning.proofs.Inside.Passed.{goes_from}
 use Rattle.compiled_meaning.proofs.Inside.Tests.{passes, test_results, test_follows}
 
--- what a statement without a write exchanges
-reads_spent : (held : Bool) (n : ℕ) → events.spent (Runs n false ∷ []) held ≡ 2 * n
-reads_spent true n = omega arith
-reads_spent false n = omega arith
+-- what a test spends
+reads_spent : (t : Run) (held : Bool) (vs : List ℕ) (e : Expression) → paid.spent t (tests_on vs e ∷ []) held ≡ testing_costs t vs e
+reads_spent t true vs e = omega arith
+reads_spent t false vs e = omega arith
 
 module _ (p : Checked) (t : Run) (of : IsRunOf p t) (locals base vote : ℕ) (free : behind_locals locals ≤ base) (fr : Frame) (held : Bool)
     (line : ℕ) (e : Expression) (named : bounded.IsNamed (with_locals locals (names_of p)) e) (keep : Bool) (place : ℕ)
@@ -74,19 +76,19 @@ module _ (p : Checked) (t : Run) (of : IsRunOf p t) (locals base vote : ℕ) (fr
     pub else_part : (passing : ℕ → Bool) (m : State) (spent : ℕ) (f : Flat) →
         IsWithin p t locals base (narrowed passing fr) first m (place + length (test ++ part)) spent f →
         let vs = present (narrowed (λ v. not (passing v)) fr) in
-        Follows t spent first (two vs m) (GoesMasked (spent + events.spent (two vs m) first) f) (one vs m)
+        Follows t spent first (two vs m) (GoesMasked (spent + paid.spent t (two vs m) first) f) (one vs m)
 
   module _ (st : BranchStands) (h : BranchesFollow) (m : State) (spent : ℕ) (f : Flat) where
     abbrev goes : List Event → State → Type 0
-    goes ys = GoesWithin p t locals base vote fr last (place + length code) (spent + events.spent ys held) f
+    goes ys = GoesWithin p t locals base vote fr last (place + length code) (spent + paid.spent t ys held) f
 
     abbrev run : Event
-    run = Runs (levels e) false
+    run = tests_on (present fr) e
 
     -- behind the test, with those that pass and the others
     module _ (passing : ℕ → Bool) (now : State)
         (g : GoesWithin p t locals base vote (narrowed passing fr) some (place + 1 + length (masking keep held base (formula_of e)))
-        (spent + 2 * levels e) f now) where
+        (spent + testing_costs t (present fr) e) f now) where
       abbrev yes : List ℕ
       yes = present (narrowed passing fr)
 
@@ -94,12 +96,12 @@ module _ (p : Checked) (t : Run) (of : IsRunOf p t) (locals base vote : ℕ) (fr
       no = present (narrowed (λ v. not (passing v)) fr)
 
       abbrev by : ℕ
-      by = spent + 2 * levels e
+      by = spent + testing_costs t (present fr) e
 
       -- the end: the masks are as before
-      closes : (z : Flat) (y : State) (k : ℕ) (es : List Event) → by + events.spent es some ≤ k →
+      closes : (z : Flat) (y : State) (k : ℕ) (es : List Event) → by + paid.spent t es some ≤ k →
           ((r : ℕ) → r < vote → z.uniform.registers r ≡ f.uniform.registers r) → (fs : List Event) →
-          events.held_behind es some ≡ first → GoesMasked (by + events.spent es some + events.spent fs first) z y → goes
+          events.held_behind es some ≡ first → GoesMasked (by + paid.spent t es some + paid.spent t fs first) z y → goes
           (run ∷ (es ++ fs)) y
       closes z y k es l same fs kept x =
           let passing = x.0 in
@@ -110,12 +112,12 @@ module _ (p : Checked) (t : Run) (of : IsRunOf p t) (locals base vote : ℕ) (fr
           let n2 = length-append (test ++ part) other in
           let n3 = length-append (test ++ part ++ other) (Unmask ∷ []) in
           let at = place + length (test ++ part) + length other in
-          let all = by + events.spent es some + events.spent fs first in
-          let s1 = spent_behind es fs some first kept in
-          let s2 = spent_behind (run ∷ []) (es ++ fs) held some (reads_send held (levels e)) in
-          let s3 = reads_spent held (levels e) in
+          let all = by + paid.spent t es some + paid.spent t fs first in
+          let s1 = spent_behind t es fs some first kept in
+          let s2 = spent_behind t (run ∷ []) (es ++ fs) held some (reads_send held (levels e)) in
+          let s3 = reads_spent t held (present fr) e in
           goes_from p t locals base vote fr last (at + 1) (place + length code) all
-          (spent + events.spent (run ∷ (es ++ fs)) held) f (after_instr t.code Unmask b) y (omega (arith, n1, n2, n3))
+          (spent + paid.spent t (run ∷ (es ++ fs)) held) f (after_instr t.code Unmask b) y (omega (arith, n1, n2, n3))
           (omega (arith, s1, s2, s3)) (λ r q. u.registers r q ∙ same r q)
           (record {
             behind = after_instr t.code Unmask b;
@@ -128,36 +130,36 @@ module _ (p : Checked) (t : Run) (of : IsRunOf p t) (locals base vote : ℕ) (fr
           (goes (run ∷ (inner yes now ++ behind (body yes now) (λ u y. two no y)))) (then_do (body yes now) (λ u y. one no y))
       branches =
           let n1 = length-append test part in
-          let cost = reads_spent held (levels e) in
+          let cost = reads_spent t held (present fr) e in
           let b = g.behind in
           let at = within_at p t locals base (narrowed passing fr) some now (place + 1 + length (masking keep held base (formula_of e)))
           (place + length test) by by b (omega arith) (omega arith) g.within in
           let P = λ (y : State).
           GoesWithin p t locals base vote (narrowed passing fr) first (place + length test + length part)
-          (by + events.spent (inner yes now) some) b y in
+          (by + paid.spent t (inner yes now) some) b y in
           let all = inner yes now ++ behind (body yes now) (λ u y. two no y) in
           follows_behind t spent held some (run ∷ []) all (goes (run ∷ all)) (then_do (body yes now) (λ u y. one no y))
           (reads_send held (levels e))
-          (follows_then t (spent + events.spent (run ∷ []) held) some first (inner yes now) (λ y. two no y) P (λ ys. goes (run ∷ ys))
+          (follows_then t (spent + paid.spent t (run ∷ []) held) some first (inner yes now) (λ y. two no y) P (λ ys. goes (run ∷ ys))
           (body yes now) (λ y. one no y)
-          (follows_sooner t by (spent + events.spent (run ∷ []) held) some some (inner yes now) (inner yes now) P (body yes now)
+          (follows_sooner t by (spent + paid.spent t (run ∷ []) held) some some (inner yes now) (inner yes now) P (body yes now)
           (omega (arith, cost)) (h.then_part passing now by b at))
           (h.holds yes now)
           (λ y x held_is.
           let z = x.behind in
           let es = inner yes now in
-          let sum = by + events.spent es some in
+          let sum = by + paid.spent t es some in
           let there = within_at p t locals base (narrowed passing fr) first y (place + length test + length part)
           (place + length (test ++ part)) sum sum z (omega (arith, n1)) (omega arith) x.within in
-          follows_sooner t sum (spent + events.spent (run ∷ []) held + events.spent es some) first first (two no y) (two no y)
+          follows_sooner t sum (spent + paid.spent t (run ∷ []) held + paid.spent t es some) first first (two no y) (two no y)
           (goes (run ∷ (es ++ two no y))) (one no y) (omega (arith, cost))
-          (follows_also t sum first (two no y) (GoesMasked (sum + events.spent (two no y) first) z) (goes (run ∷ (es ++ two no y)))
+          (follows_also t sum first (two no y) (GoesMasked (sum + paid.spent t (two no y) first) z) (goes (run ∷ (es ++ two no y)))
           (one no y)
           (λ last_state u. closes z last_state sum es (omega arith) (λ r q. x.registers r q ∙ g.registers r q) (two no y) held_is u)
           (h.else_part passing y sum z there))))
 
     pub branches_follow : IsWithin p t locals base fr held m place spent f →
-        let all = begun t.bound m (Runs (levels e) false ∷ []) ++ behind (tested_on p t.bound line e (present fr) m) (λ xs now.
+        let all = begun t.bound m (tests_on (present fr) e ∷ []) ++ behind (tested_on p t.bound line e (present fr) m) (λ xs now.
         inner (those true xs) now ++ behind (body (those true xs) now) (λ u y. two (those false xs) y)) in
         Follows t spent held all (goes all)
         (then_do (tested_on p t.bound line e (present fr) m) (λ xs now. then_do (body (those true xs) now) (λ u y. one (those false xs) y)))

@@ -1,5 +1,5 @@
 -- The test of a `while` inside pardo: the flags get the values, those stay whose value is true, and the vote says whether anybody does.
-use Rattle.std.proofs.Common.{◌≡◌, ℕ, ◌+◌, ◌*◌, ◌<◌, ◌≤◌, List, [], ◌∷◌, ◌++◌, length, Bool, true, false, None, refl, sym, ap, ◌∙◌, subst}
+use Rattle.std.proofs.Common.{◌≡◌, ℕ, ◌+◌, ◌<◌, ◌≤◌, List, [], ◌∷◌, ◌++◌, length, Bool, true, false, None, refl, sym, ap, ◌∙◌, subst}
 use Rattle.std.proofs.Common.{arith}
 use Rattle.std.specs.List.{filter}
 use Rattle.pram_values.specs.Truth.{truth, is_nonzero}
@@ -40,7 +40,8 @@ use Rattle.verified_form.proofs.Fine.{straight_parts_are_fine}
 use Rattle.compiled_formulas.specs.Headings.{heading_of}
 use Rattle.compiled_formulas.specs.Inside.{ShowsInside}
 use Rattle.exchange_bound.specs.Bound.{one_if}
-use Rattle.exchange_bound.specs.Events.{Event, behind, begun, levels}
+use Rattle.exchange_bound.specs.Events.{Event, behind, begun}
+use Rattle.compiled_meaning.specs.Paid.{testing_costs}
 use Rattle.compiled_meaning.specs.Begins.{done}
 use Rattle.compiled_meaning.specs.Between.{IsRunOf}
 use Rattle.compiled_meaning.specs.Follows.{Follows}
@@ -192,7 +193,7 @@ module _ (p : Checked) (t : Run) (of : IsRunOf p t) (locals base vote : ℕ) (fr
     abbrev GoesOnFlagged : Type 0
     GoesOnFlagged =
         (g : Flat) → IsWithin p t locals (base + 1) (looping base flags_now fr) false (one_more m) (place + 1 + length stretch)
-        (spent + (2 * levels e + 1)) g → ((q : ℕ) → q < vote → g.uniform.registers q ≡ f.uniform.registers q) →
+        (spent + (testing_costs t (present around) e + 1)) g → ((q : ℕ) → q < vote → g.uniform.registers q ≡ f.uniform.registers q) →
         those true test_results ≡ present (looping base flags_now fr) →
         is_nonzero (g.uniform.registers vote) ≡ is_some (present (looping base flags_now fr)) →
         Follows t before virtual (es ++ rest test_results (one_more m)) (goes (es ++ rest test_results (one_more m)))
@@ -225,11 +226,13 @@ module _ (p : Checked) (t : Run) (of : IsRunOf p t) (locals base vote : ℕ) (fr
         })
         (λ l g h ok okay.
         let next = next_is p t locals (base + 1) around false m place spent f w in
-        let costs = cost.turned keep vote base (base + 1) formula in
+        let costs = cost.turned t (length (present around)) keep vote base (base + 1) formula in
         on g
         (passed_within p t locals (base + 1) (base + 1) vote around (looping base flags_now fr) false false m place spent f w line stretch
-        (one_more m) (2 * levels e + 1) (spent + (2 * levels e + 1)) costs (omega arith) l g h leaves_voted next)
+        (one_more m) (testing_costs t (present around) e + 1) (spent + (testing_costs t (present around) e + 1)) costs (omega arith) l g
+        h leaves_voted next)
         (passed_registers p t locals (base + 1) (base + 1) vote around (looping base flags_now fr) false false m place spent f w line
         stretch
-        (one_more m) (2 * levels e + 1) (spent + (2 * levels e + 1)) costs (omega arith) l g h leaves_voted next)
+        (one_more m) (testing_costs t (present around) e + 1) (spent + (testing_costs t (present around) e + 1)) costs (omega arith) l g
+        h leaves_voted next)
         (set_is ok) (ap (λ (y : Flat). is_nonzero (y.uniform.registers vote)) h.seen ∙ vote_says))

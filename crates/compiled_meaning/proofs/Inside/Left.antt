@@ -1,7 +1,7 @@
 -- Behind statements inside pardo that go on a write is held as their code has it.
 use Rattle.std.proofs.Common.{◌≡◌, ℕ, zero, suc, ◌+◌, max, List, [], ◌∷◌, ◌++◌, Bool, true, false, not, ◌&&◌, Result, Ok, Err, refl, ap}
 use Rattle.std.proofs.Common.{◌∙◌, subst, arith}
-use Rattle.std.proofs.Common.{append-nil}
+use Rattle.std.proofs.Common.{append-nil, length}
 use Rattle.std.specs.Prelude.{if◌then◌else◌, nat_lt}
 use Rattle.pram_tokens.specs.declared.token.Location.{Location}
 use Rattle.write_rules.specs.declared.fault.Fault.{Fault}
@@ -21,11 +21,13 @@ use Rattle.plain_form.specs.Formulas.{formula_of}
 use Rattle.plain_form.specs.Inside.{inner_assign_left, step_left, part_left, steps_left}
 use Rattle.plain_form.specs.Shapes as shapes
 use Rattle.plain_form.specs.Shapes.{still}
+use Rattle.std.specs.Prelude.{Option, Some}
 use Rattle.exchange_bound.specs.Events.{Event, Runs, Cut, Votes, behind, begun, if_any, levels, turns_on_events, step_events}
 use Rattle.exchange_bound.specs.Events.{step_row_events}
-use Rattle.exchange_bound.specs.Events.{steps_events, step_target_levels, is_step_shared}
+use Rattle.exchange_bound.specs.Events.{steps_events, step_target_levels, is_step_shared, step_target_reads, reads}
 use Rattle.exchange_bound.specs.Spent as spent
 use Rattle.exchange_bound.specs.Spent.{held_after, held_behind}
+use Rattle.compiled_meaning.specs.Paid.{tests_on}
 use Rattle.compiled_meaning.specs.Follows.{HoldsBehind}
 use Rattle.compiled_meaning.proofs.EachStatement.Joined.{holds_behind, holds_then}
 use Rattle.compiled_meaning.proofs.Inside.Attempted.{one_more}
@@ -57,56 +59,57 @@ module _ (p : Checked) (n : ℕ) where
       go true = by (together p line (parts p m a vs))
       go false = tt
 
-  assign_left : (held : Bool) (x : StepTarget) (e : Expression) →
-      held_after (Runs (max (step_target_levels x) (levels e)) (is_step_shared x)) held ≡ inner_assign_left held x (formula_of e)
-  assign_left held (inner.Local x) e =
+  assign_left : (held : Bool) (x : StepTarget) (e : Expression) (set : Option ℕ) (k : ℕ) →
+      held_after (Runs (max (step_target_levels x) (levels e)) (is_step_shared x) set k) held ≡ inner_assign_left held x (formula_of e)
+  assign_left held (inner.Local x) e set k =
       ap (λ k. held && not (spent.any_level k)) (let l : max 0 (levels e) ≡ levels e = omega arith in l) ∙ reads_send held (levels e)
-  assign_left held (inner.Cell a) e = refl
-  assign_left held (inner.Element a i) e = refl
+  assign_left held (inner.Cell a) e set k = refl
+  assign_left held (inner.Element a i) e set k = refl
 
   assign_holds : (held : Bool) (here : Location) (x : StepTarget) (e : Expression) (vs : List ℕ) (m : State) →
       HoldsBehind held (step_events p n (step.Assign here x e) vs m) (step_left held (step.Assign here x e))
       (perform_on p n (step.Assign here x e) vs m)
   assign_holds held here x e vs m =
-      let es = Runs (max (step_target_levels x) (levels e)) (is_step_shared x) ∷ [] in
+      let k = step_target_reads x + reads e in
+      let es = Runs (max (step_target_levels x) (levels e)) (is_step_shared x) (Some (length vs)) k ∷ [] in
       let a = attempted_on p n here.line (λ s. attempt_step s x e) vs m in
       subst (λ ys. HoldsBehind held ys (inner_assign_left held x (formula_of e)) (then_do a (λ xs now. Goes tt (assigned_by p x xs now))))
       (ap (λ ys. begun n m es ++ ys) (behind_nothing a) ∙ append-nil (begun n m es))
       (attempt_holds held (inner_assign_left held x (formula_of e)) here.line (λ s. attempt_step s x e) vs m es (λ xs now. [])
-      (λ xs now. Goes tt (assigned_by p x xs now)) (λ xs now. assign_left held x e))
+      (λ xs now. Goes tt (assigned_by p x xs now)) (λ xs now. assign_left held x e (Some (length vs)) k))
 
   -- the turns of a loop, and behind the last one nothing is held
   turns_hold : (i : ℕ) (line : ℕ) (e : Expression) (left : Bool) (body : List ℕ → State → Done) (inside : List ℕ → State → List Event) →
       ((vs : List ℕ) (m : State) → HoldsBehind false (inside vs m) left (body vs m)) → (held : Bool) (vs : List ℕ) (m : State) →
       HoldsBehind held
-      (turns_on_events i (λ m. begun n m (Cut ∷ Runs (levels e) false ∷ Cut ∷ Votes ∷ [])) (tested_on p n line e) body inside vs m) false
+      (turns_on_events i (λ them m. begun n m (Cut ∷ tests_on them e ∷ Cut ∷ Votes ∷ [])) (tested_on p n line e) body inside vs m) false
       (turns_on i (tested_on p n line e) body vs m)
   turns_hold zero line e left body inside h held vs m = tt
   turns_hold (suc i) line e left body inside h held vs m =
-      let head = λ (m : State). begun n m (Cut ∷ Runs (levels e) false ∷ Cut ∷ Votes ∷ []) in
+      let head = λ (them : List ℕ) (m : State). begun n m (Cut ∷ tests_on them e ∷ Cut ∷ Votes ∷ []) in
       let test = tested_on p n line e in
-      attempt_holds held false line (λ s. attempt_value s e) vs m (Cut ∷ Runs (levels e) false ∷ Cut ∷ Votes ∷ [])
+      attempt_holds held false line (λ s. attempt_value s e) vs m (Cut ∷ tests_on vs e ∷ Cut ∷ Votes ∷ [])
       (λ xs m. if_any (those true xs)
       (inside (those true xs) m ++ behind (body (those true xs) m) (λ u. turns_on_events i head test body inside (those true xs))))
       (λ xs m. unless_none (those true xs) (Goes tt m) (then_do (body (those true xs) m) (λ u. turns_on i test body (those true xs))))
       (λ xs now. by (λ us m. turns_hold i line e left body inside h left us m) now (those true xs))
     where
       by : ((us : List ℕ) (m : State) → HoldsBehind left
-          (turns_on_events i (λ m. begun n m (Cut ∷ Runs (levels e) false ∷ Cut ∷ Votes ∷ [])) (tested_on p n line e) body inside us m)
+          (turns_on_events i (λ them m. begun n m (Cut ∷ tests_on them e ∷ Cut ∷ Votes ∷ [])) (tested_on p n line e) body inside us m)
           false
           (turns_on i (tested_on p n line e) body us m)) →
-          (now : State) (us : List ℕ) → HoldsBehind held ((Cut ∷ Runs (levels e) false ∷ Cut ∷ Votes ∷ []) ++ if_any us
+          (now : State) (us : List ℕ) → HoldsBehind held ((Cut ∷ tests_on vs e ∷ Cut ∷ Votes ∷ []) ++ if_any us
           (inside us now ++ behind (body us now) (λ u. turns_on_events i
-          (λ m. begun n m (Cut ∷ Runs (levels e) false ∷ Cut ∷ Votes ∷ [])) (tested_on p n line e) body inside us))) false
+          (λ them m. begun n m (Cut ∷ tests_on them e ∷ Cut ∷ Votes ∷ [])) (tested_on p n line e) body inside us))) false
           (unless_none us (Goes tt now) (then_do (body us now) (λ u. turns_on i (tested_on p n line e) body us)))
       by more now [] = refl
       by more now (v ∷ us) =
-          holds_behind held false false (Cut ∷ Runs (levels e) false ∷ Cut ∷ Votes ∷ [])
+          holds_behind held false false (Cut ∷ tests_on vs e ∷ Cut ∷ Votes ∷ [])
           (inside (v ∷ us) now ++ behind (body (v ∷ us) now) (λ u. turns_on_events i
-          (λ m. begun n m (Cut ∷ Runs (levels e) false ∷ Cut ∷ Votes ∷ [])) (tested_on p n line e) body inside (v ∷ us)))
+          (λ them m. begun n m (Cut ∷ tests_on them e ∷ Cut ∷ Votes ∷ [])) (tested_on p n line e) body inside (v ∷ us)))
           (then_do (body (v ∷ us) now) (λ u. turns_on i (tested_on p n line e) body (v ∷ us))) refl
           (holds_then false left false (inside (v ∷ us) now)
-          (λ m. turns_on_events i (λ m. begun n m (Cut ∷ Runs (levels e) false ∷ Cut ∷ Votes ∷ [])) (tested_on p n line e) body inside
+          (λ m. turns_on_events i (λ them m. begun n m (Cut ∷ tests_on them e ∷ Cut ∷ Votes ∷ [])) (tested_on p n line e) body inside
           (v ∷ us) m)
           (body (v ∷ us) now) (λ m. turns_on i (tested_on p n line e) body (v ∷ us) m) (h (v ∷ us) now) (λ m. more (v ∷ us) m))
 
@@ -116,11 +119,11 @@ module _ (p : Checked) (n : ℕ) where
     step_holds (step.Assign here x e) held vs m = assign_holds held here x e vs m
     step_holds (step.If' here e q a r b) held vs m =
         let some = still held (formula_of e) in
-        attempt_holds held (part_left (part_left some a) b) here.line (λ s. attempt_value s e) vs m (Runs (levels e) false ∷ [])
+        attempt_holds held (part_left (part_left some a) b) here.line (λ s. attempt_value s e) vs m (tests_on vs e ∷ [])
         (λ xs m. step_row_events p n a (those true xs) m
         ++ behind (perform_row_on p n a (those true xs) m) (λ u. step_row_events p n b (those false xs)))
         (λ xs m. then_do (perform_row_on p n a (those true xs) m) (λ u. perform_row_on p n b (those false xs)))
-        (λ xs now. holds_behind held some (part_left (part_left some a) b) (Runs (levels e) false ∷ [])
+        (λ xs now. holds_behind held some (part_left (part_left some a) b) (tests_on vs e ∷ [])
         (step_row_events p n a (those true xs) now
         ++ behind (perform_row_on p n a (those true xs) now) (λ u. step_row_events p n b (those false xs)))
         (then_do (perform_row_on p n a (those true xs) now) (λ u. perform_row_on p n b (those false xs)))

@@ -1,5 +1,5 @@
 -- The turns of a `while` inside pardo are followed, if its body is.
-use Rattle.std.proofs.Common.{◌≡◌, ℕ, zero, suc, ◌+◌, ◌*◌, ◌<◌, ◌≤◌, List, [], ◌∷◌, ◌++◌, length, Bool, true, false, refl, sym, ◌∙◌}
+use Rattle.std.proofs.Common.{◌≡◌, ℕ, zero, suc, ◌+◌, ◌<◌, ◌≤◌, List, [], ◌∷◌, ◌++◌, length, Bool, true, false, refl, sym, ◌∙◌}
 use Rattle.std.proofs.Common.{subst, arith}
 use Rattle.std.proofs.Common.{length-append}
 use Rattle.std.specs.Prelude.{if◌then◌else◌}
@@ -26,8 +26,10 @@ use Rattle.plain_form.specs.Registers.{behind_variables, behind_locals}
 use Rattle.plain_form.specs.Shapes.{flush, sent}
 use Rattle.verified_form.specs.Straight.{flagging}
 use Rattle.exchange_bound.specs.Bound.{one_if}
-use Rattle.exchange_bound.specs.Events.{Event, Runs, Cut, Votes, behind, begun, if_any, levels, turns_on_events}
+use Rattle.exchange_bound.specs.Events.{Event, Cut, Votes, behind, begun, if_any, turns_on_events}
 use Rattle.exchange_bound.specs.Spent as events
+use Rattle.compiled_meaning.specs.Paid.{tests_on, testing_costs}
+use Rattle.compiled_meaning.specs.Paid as paid
 use Rattle.compiled_meaning.specs.Between.{IsBetween, IsRunOf}
 use Rattle.compiled_meaning.specs.Follows.{Follows, HoldsBehind}
 use Rattle.compiled_meaning.proofs.EachStatement.Joined.{follows_also, follows_sooner, follows_behind, follows_then, spent_behind}
@@ -73,8 +75,8 @@ module _ (p : Checked) (t : Run) (of : IsRunOf p t) (locals base vote : ℕ) (fr
   abbrev test : List ℕ → State → Behaviour (List Part)
   test = tested_on p t.bound line e
 
-  abbrev heads : State → List Event
-  heads m = begun t.bound m (Cut ∷ Runs (levels e) false ∷ Cut ∷ Votes ∷ [])
+  abbrev heads : List ℕ → State → List Event
+  heads us m = begun t.bound m (Cut ∷ tests_on us e ∷ Cut ∷ Votes ∷ [])
 
   -- what the body is: followed in the frame of the loop
   pub record BodyFollows : Type 0 where
@@ -91,15 +93,15 @@ module _ (p : Checked) (t : Run) (of : IsRunOf p t) (locals base vote : ℕ) (fr
       IsWithin p t locals (base + 1) (looping base registers fr) false m head spent f → Keeps (behind_locals locals) base fr registers →
       spent ≤ before + one_if virtual →
       let es = turns_on_events k heads test body inside (present (looping base registers fr)) m in
-      Follows t before virtual es (GoesWithin p t locals base vote fr false (end + 1) (before + events.spent es virtual) f)
+      Follows t before virtual es (GoesWithin p t locals base vote fr false (end + 1) (before + paid.spent t es virtual) f)
       (turns_on k test body (present (looping base registers fr)) m)
 
-  module _ (h : BodyFollows) (k : ℕ) (again : TurnsFollow k) (before : ℕ) (virtual : Bool) (f : Flat) where
+  module _ (h : BodyFollows) (k : ℕ) (again : TurnsFollow k) (before : ℕ) (virtual : Bool) (f : Flat) (vs : List ℕ) where
     abbrev es : List Event
-    es = Cut ∷ Runs (levels e) false ∷ Cut ∷ Votes ∷ []
+    es = Cut ∷ tests_on vs e ∷ Cut ∷ Votes ∷ []
 
     abbrev goes : List Event → State → Type 0
-    goes ys = GoesWithin p t locals base vote fr false (end + 1) (before + events.spent ys virtual) f
+    goes ys = GoesWithin p t locals base vote fr false (end + 1) (before + paid.spent t ys virtual) f
 
     -- what is done in a turn by these, and behind it
     abbrev inner : List ℕ → State → List Event
@@ -111,14 +113,14 @@ module _ (p : Checked) (t : Run) (of : IsRunOf p t) (locals base vote : ℕ) (fr
     module _ (m : State) (spent : ℕ) (g : Flat) (flags : ℕ → Registers) (within_bound : t.bound < k + m.count)
         (w : IsWithin p t locals (base + 1) (looping base flags fr) false m (head + length (Mark line ∷ stretch)) spent g)
         (same : (r : ℕ) → r < vote → g.uniform.registers r ≡ f.uniform.registers r) (keeps : Keeps (behind_locals locals) base fr flags)
-        (few : spent ≤ before + (one_if virtual + 2 * levels e + 1)) where
+        (few : spent ≤ before + (one_if virtual + testing_costs t vs e + 1)) where
       abbrev set : List ℕ
       set = present (looping base flags fr)
 
-      enough : spent ≤ before + events.spent es virtual
+      enough : spent ≤ before + paid.spent t es virtual
       enough = go virtual few
         where
-          go : (b : Bool) → spent ≤ before + (one_if b + 2 * levels e + 1) → spent ≤ before + events.spent es b
+          go : (b : Bool) → spent ≤ before + (one_if b + testing_costs t vs e + 1) → spent ≤ before + paid.spent t es b
           go true l = omega (arith, l)
           go false l = omega (arith, l)
 
@@ -128,7 +130,7 @@ module _ (p : Checked) (t : Run) (of : IsRunOf p t) (locals base vote : ℕ) (fr
           let now = within_seen p t locals (base + 1) (looping base flags fr) false false m (head + length (Mark line ∷ stretch)) end spent
           spent g g w b refl in
           let more = enough in
-          goes_from p t locals base vote fr false (end + 1) (end + 1) spent (before + events.spent (es ++ []) virtual) f
+          goes_from p t locals base vote fr false (end + 1) (end + 1) spent (before + paid.spent t (es ++ []) virtual) f
           (after_instr t.code Unmask g) m refl (omega (arith, more)) same
           (record {
             behind = after_instr t.code Unmask g;
@@ -142,17 +144,17 @@ module _ (p : Checked) (t : Run) (of : IsRunOf p t) (locals base vote : ℕ) (fr
       module _ (at : IsWithin p t locals (base + 1) (looping base flags fr) false m start spent g) where
         back : (now : State) →
             GoesWithin p t locals (base + 1) vote (looping base flags fr) left (start + length part)
-            (spent + events.spent (inside set m) false)
+            (spent + paid.spent t (inside set m) false)
             g now × (m.count ≤ now.count) → events.held_behind (inside set m) false ≡ left →
             let ys = turns_on_events k heads test body inside set now in
-            Follows t (before + events.spent es virtual + events.spent (inside set m) false) left ys (goes (es ++ (inside set m ++ ys)))
+            Follows t (before + paid.spent t es virtual + paid.spent t (inside set m) false) left ys (goes (es ++ (inside set m ++ ys)))
             (turns_on k test body set now)
         back now h e =
             let x = h.0 in
             let y = x.behind in
             let grown = h.1 in
             let count = length-append part (flush left) in
-            let by = spent + events.spent (inside set m) false in
+            let by = spent + paid.spent t (inside set m) false in
             let flushed = flushed_within p t locals (base + 1) (looping base flags fr) left now (start + length part) by y x.within
             st.sends in
             let z = flushed.behind in
@@ -163,13 +165,13 @@ module _ (p : Checked) (t : Run) (of : IsRunOf p t) (locals base vote : ℕ) (fr
             (jump_between t false now (start + length (sent part left)) (by + one_if left) z placed.between head st.jump) refl in
             let more = enough in
             let ys = turns_on_events k heads test body inside set now in
-            let from = before + events.spent es virtual + events.spent (inside set m) false in
-            let first = spent_behind (inside set m) ys false left e in
-            let second = spent_behind es (inside set m ++ ys) virtual false refl in
-            follows_also t from left ys (GoesWithin p t locals base vote fr false (end + 1) (from + events.spent ys left) z)
+            let from = before + paid.spent t es virtual + paid.spent t (inside set m) false in
+            let first = spent_behind t (inside set m) ys false left e in
+            let second = spent_behind t es (inside set m ++ ys) virtual false refl in
+            follows_also t from left ys (GoesWithin p t locals base vote fr false (end + 1) (from + paid.spent t ys left) z)
             (goes (es ++ (inside set m ++ ys))) (turns_on k test body set now)
-            (λ last u. goes_from p t locals base vote fr false (end + 1) (end + 1) (from + events.spent ys left)
-            (before + events.spent (es ++ (inside set m ++ ys)) virtual) f z last refl (omega (arith, first, second))
+            (λ last u. goes_from p t locals base vote fr false (end + 1) (end + 1) (from + paid.spent t ys left)
+            (before + paid.spent t (es ++ (inside set m ++ ys)) virtual) f z last refl (omega (arith, first, second))
             (λ r l. flushed.registers r ∙ x.registers r l ∙ same r l) u)
             (again flags now from left (by + one_if left) z (omega (arith, within_bound, grown)) jumped keeps (omega (arith, more)))
 
@@ -177,15 +179,15 @@ module _ (p : Checked) (t : Run) (of : IsRunOf p t) (locals base vote : ℕ) (fr
         turns =
             let more = enough in
             let P = λ (now : State). GoesWithin p t locals (base + 1) vote (looping base flags fr) left (start + length part)
-            (spent + events.spent (inside set m) false) g now in
+            (spent + paid.spent t (inside set m) false) g now in
             let first = h.follows flags m spent g at in
-            let sooner = follows_sooner t spent (before + events.spent es virtual) false false (inside set m) (inside set m) P (body set m)
+            let sooner = follows_sooner t spent (before + paid.spent t es virtual) false false (inside set m) (inside set m) P (body set m)
             (omega (arith, more)) first in
             follows_behind t before virtual false es (inner set m) (goes (es ++ inner set m)) (does set m) refl
-            (follows_then t (before + events.spent es virtual) false left (inside set m)
+            (follows_then t (before + paid.spent t es virtual) false left (inside set m)
             (λ now. turns_on_events k heads test body inside set now) (λ now. P now × (m.count ≤ now.count)) (λ ys. goes (es ++ ys))
             (body set m) (λ now. turns_on k test body set now)
-            (follows_grown t (before + events.spent es virtual) false (inside set m) P m.count (body set m) sooner (h.grows set m))
+            (follows_grown t (before + paid.spent t es virtual) false (inside set m) P m.count (body set m) sooner (h.grows set m))
             (h.holds set m) back)
 
       -- behind the test
@@ -213,11 +215,11 @@ module _ (p : Checked) (t : Run) (of : IsRunOf p t) (locals base vote : ℕ) (fr
       let vs = present around in
       let flags = flags_now p t of locals base vote free further above fr registers m head spent f w keeps line e named keep in
       let results = test_results p t of locals base vote free further above fr registers m head spent f w keeps line e named keep in
-      let goes = λ (ys : List Event). GoesWithin p t locals base vote fr false (end + 1) (before + events.spent ys virtual) f in
+      let goes = λ (ys : List Event). GoesWithin p t locals base vote fr false (end + 1) (before + paid.spent t ys virtual) f in
       let inner = λ (us : List ℕ) (now : State).
       inside us now ++ behind (body us now) (λ u now. turns_on_events k heads test body inside us now) in
       let does = λ (us : List ℕ) (now : State). then_do (body us now) (λ u now. turns_on k test body us now) in
-      let first = Cut ∷ Runs (levels e) false ∷ Cut ∷ Votes ∷ [] in
+      let first = Cut ∷ tests_on vs e ∷ Cut ∷ Votes ∷ [] in
       flags_follow p t of locals base vote free further above fr registers m head spent f w keeps line e named keep before virtual
       first goes (λ xs now. unless_none (those true xs) (Goes tt now) (does (those true xs) now))
       (λ xs now. if_any (those true xs) (inner (those true xs) now)) few st.begins
@@ -225,9 +227,10 @@ module _ (p : Checked) (t : Run) (of : IsRunOf p t) (locals base vote : ℕ) (fr
       (λ g within same set vote_is.
       subst (λ us. Follows t before virtual (first ++ if_any us (inner us (one_more m))) (goes (first ++ if_any us (inner us (one_more m))))
       (unless_none us (Goes tt (one_more m)) (does us (one_more m)))) (sym set)
-      (by_vote h k again before virtual f (one_more m) (spent + (2 * levels e + 1)) g flags (omega (arith, bound))
+      (by_vote h k again before virtual f vs (one_more m) (spent + (testing_costs t vs e + 1)) g flags (omega (arith, bound))
       (within_at p t locals (base + 1) (looping base flags fr) false (one_more m) (head + 1 + length stretch)
-      (head + length (Mark line ∷ stretch)) (spent + (2 * levels e + 1)) (spent + (2 * levels e + 1)) g (omega arith) (omega arith) within)
+      (head + length (Mark line ∷ stretch)) (spent + (testing_costs t vs e + 1)) (spent + (testing_costs t vs e + 1)) g (omega arith)
+      (omega arith) within)
       same (keeps_now p t of locals base vote free further above fr registers m head spent f w keeps line e named keep)
       (omega (arith, few)) (is_nonzero (g.uniform.registers vote)) refl vote_is))
 

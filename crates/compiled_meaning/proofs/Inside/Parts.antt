@@ -12,7 +12,7 @@ use Rattle.flat_stretches.specs.Frames.{Frame, StandsIn}
 use Rattle.plain_form.specs.Registers.{behind_locals}
 use Rattle.compiled_formulas.specs.Inside.{ShowsInside}
 use Rattle.exchange_bound.specs.Events.{Event, behind}
-use Rattle.exchange_bound.specs.Spent as events
+use Rattle.compiled_meaning.specs.Paid as paid
 use Rattle.compiled_meaning.specs.Between.{IsBetween}
 use Rattle.compiled_meaning.specs.Follows.{Follows, HoldsBehind}
 use Rattle.compiled_meaning.proofs.EachStatement.Joined.{follows_also, follows_then, spent_behind}
@@ -24,7 +24,7 @@ use Rattle.compiled_meaning.proofs.Inside.Passed.{goes_from}
 abbrev pub Followed : (p : Checked) (t : Run) (locals base vote : ℕ) (fr : Frame) (held left : Bool) (code : List Instr) (place spent : ℕ) →
     Flat → List Event → Done → Type 0
 Followed p t locals base vote fr held left code place spent f es d =
-    Follows t spent held es (GoesWithin p t locals base vote fr left (place + length code) (spent + events.spent es held) f) d
+    Follows t spent held es (GoesWithin p t locals base vote fr left (place + length code) (spent + paid.spent t es held) f) d
 
 -- the same in a state in which the same is seen
 pub within_seen : (p : Checked) (t : Run) (locals base : ℕ) (fr : Frame) (held left : Bool) (m : State) (place other spent more : ℕ)
@@ -56,18 +56,18 @@ module _ (p : Checked) (t : Run) (locals base vote : ℕ) (fr : Frame) (held bet
       (then_do d (λ u now. k now))
   both_followed es fs d k h holds next =
       let n = length-append first second in
-      let P = λ (now : State). GoesWithin p t locals base vote fr between (place + length first) (spent + events.spent es held) f now in
+      let P = λ (now : State). GoesWithin p t locals base vote fr between (place + length first) (spent + paid.spent t es held) f now in
       let Q = λ (ys : List Event) (now : State).
-      GoesWithin p t locals base vote fr left (place + length (first ++ second)) (spent + events.spent ys held) f now in
+      GoesWithin p t locals base vote fr left (place + length (first ++ second)) (spent + paid.spent t ys held) f now in
       follows_then t spent held between es fs P Q d k h holds
       (λ now x e.
-      let by = spent + events.spent es held in
+      let by = spent + paid.spent t es held in
       let g = x.behind in
-      let s = spent_behind es (fs now) held between e in
+      let s = spent_behind t es (fs now) held between e in
       follows_also t by between (fs now)
-      (GoesWithin p t locals base vote fr left (place + length first + length second) (by + events.spent (fs now) between) g)
+      (GoesWithin p t locals base vote fr left (place + length first + length second) (by + paid.spent t (fs now) between) g)
       (Q (es ++ fs now)) (k now)
       (λ last y. goes_from p t locals base vote fr left (place + length first + length second) (place + length (first ++ second))
-      (by + events.spent (fs now) between) (spent + events.spent (es ++ fs now) held) f g last (omega (arith, n)) (omega (arith, s))
+      (by + paid.spent t (fs now) between) (spent + paid.spent t (es ++ fs now) held) f g last (omega (arith, n)) (omega (arith, s))
       x.registers y)
       (next now by g x.within))

@@ -1,5 +1,5 @@
 -- Behind a statement that has passed: the run is within the frame that its stretch leaves.
-use Rattle.std.proofs.Common.{◌≡◌, ℕ, ◌+◌, ◌<◌, ◌≤◌, List, length, Bool, sym, ap, ◌∙◌, subst, arith}
+use Rattle.std.proofs.Common.{◌≡◌, ℕ, ◌+◌, ◌<◌, ◌≤◌, List, length, Bool, refl, sym, ap, ◌∙◌, subst, arith}
 use Rattle.std.specs.List.{AllByRecursion}
 use Rattle.superstep_instructions.specs.declared.instr.Instr.{Instr}
 use Rattle.superstep_instructions.specs.declared.instr.Instr.TheVariants.{Mark}
@@ -11,14 +11,18 @@ use Rattle.flat_machine.specs.Flat.{Flat, after_instr}
 use Rattle.flat_machine.specs.ByInstructions.{going}
 use Rattle.flat_stretches.specs.Along.{Run, Comes}
 use Rattle.flat_stretches.specs.Folds.{costs}
-use Rattle.flat_stretches.specs.Frames.{Frame, StandsIn}
+use Rattle.flat_stretches.specs.Frames.{Frame, StandsIn, present}
+use Rattle.flat_stretches.specs.Applied.{applied}
+use Rattle.flat_stretches.proofs.Active.{present_are_active}
+use Rattle.flat_stretches.proofs.Folds.{after_steady}
+use Rattle.exchange_words.specs.Accesses.{active}
 use Rattle.flat_stretches.proofs.Along.{more_may_be_spent}
 use Rattle.flat_stretches.proofs.Statements.{marks_hold}
 use Rattle.plain_form.specs.Registers.{behind_locals}
 use Rattle.compiled_formulas.specs.Inside.{ShowsInside}
 use Rattle.compiled_meaning.specs.Begins.{done, HasPassed}
 use Rattle.compiled_meaning.specs.Between.{HasSizes}
-use Rattle.compiled_meaning.specs.Costs.{Costs}
+use Rattle.compiled_meaning.specs.Costs.{CostsOn}
 use Rattle.compiled_meaning.specs.Steps.{GoesWithin}
 use Rattle.compiled_meaning.specs.Within.{IsWithin}
 
@@ -41,14 +45,21 @@ pub record IsNext (p : Checked) (locals : ℕ) (m now : State) : Type 0 where
 
 module _ (p : Checked) (t : Run) (locals base other vote : ℕ) (fr frame : Frame) (held left : Bool) (m : State) (place spent : ℕ) (f : Flat)
     (w : IsWithin p t locals base fr held m place spent f) (line : ℕ) (is : List Instr) (now : State) where
-  stretch_costs : (n : ℕ) → Costs held is n → costs t.code is (after_instr t.code (Mark line) f) ≤ n
+  -- no more processors are active behind the mark than the frame's set has
+  few_active : active (after_instr t.code (Mark line) f) ≤ length (present fr)
+  few_active =
+      let a : active f ≡ length (present fr) = present_are_active (behind_locals locals) base fr (applied t.code f) w.stands in
+      let b : active (after_instr t.code (Mark line) f) ≤ active f = after_steady t.code (Mark line) f refl in
+      omega (arith, a, b)
+
+  stretch_costs : (n : ℕ) → CostsOn t (length (present fr)) held is n → costs t is (after_instr t.code (Mark line) f) ≤ n
   stretch_costs n c =
       let s = w.shows in
       let n = s.rests in
       let b = w.between in
-      c t.code (after_instr t.code (Mark line) f) n.asks (marks_hold t.code line held f b.holds)
+      c (after_instr t.code (Mark line) f) n.asks (marks_hold t.code line held f b.holds) few_active
 
-  module _ (n more : ℕ) (c : Costs held is n) (few : spent + n ≤ more) (l : m.count < t.bound) (g : Flat)
+  module _ (n more : ℕ) (c : CostsOn t (length (present fr)) held is n) (few : spent + n ≤ more) (l : m.count < t.bound) (g : Flat)
       (h : HasPassed t line is left place spent f g) (d : Leaves p t locals other vote frame line is f now) (x : IsNext p locals m now)
     where
       pub passed_within : IsWithin p t locals other frame left now (place + 1 + length is) more g
@@ -58,7 +69,7 @@ module _ (p : Checked) (t : Run) (locals base other vote : ℕ) (fr frame : Fram
           record {
             between = record {
               comes = more_may_be_spent t (going (place + 1 + length is) g)
-                  (spent + costs t.code is (after_instr t.code (Mark line) f)) more
+                  (spent + costs t is (after_instr t.code (Mark line) f)) more
                   h.comes (omega (arith, cost, few));
               told = h.told;
               holds = h.holds;

@@ -25,8 +25,9 @@ use Rattle.plain_form.specs.Shapes.{still, sent, flipped, flagged, looped}
 use Rattle.verified_form.specs.Straight.{masking, flagging}
 use Rattle.verified_form.proofs.Calm.{statements_begin_calm, masks_are_calm, exits_are_calm}
 use Rattle.exchange_bound.specs.Bound.{one_if}
-use Rattle.exchange_bound.specs.Events.{Runs, Cut, Votes, begun, levels, turns_on_events, step_events, step_row_events, steps_events}
-use Rattle.exchange_bound.specs.Spent as events
+use Rattle.exchange_bound.specs.Events.{Cut, Votes, begun, turns_on_events, step_events, step_row_events, steps_events}
+use Rattle.compiled_meaning.specs.Paid.{tests_on}
+use Rattle.compiled_meaning.specs.Paid as paid
 use Rattle.compiled_meaning.specs.Between.{IsRunOf}
 use Rattle.compiled_meaning.specs.Follows.{Follows}
 use Rattle.compiled_meaning.proofs.EachStatement.Joined.{follows_also}
@@ -69,7 +70,7 @@ module _ (p : Checked) (t : Run) (of : IsRunOf p t) (w : Frame) (locals : ℕ) (
       let vs = present (narrowed (λ v. not (passing v)) fr) in
       Follows t spent held (step_row_events p t.bound ss vs m)
       (GoesOther base fr (part_left held ss) (place + length (flipped (has_part ss) place (λ n. part_code w base n held ss)))
-      (spent + events.spent (step_row_events p t.bound ss vs m) held) f) (perform_row_on p t.bound ss vs m)
+      (spent + paid.spent t (step_row_events p t.bound ss vs m) held) f) (perform_row_on p t.bound ss vs m)
   other_followed end_of-Step row_is base fr passing held m place spent f named h = (
     passing,
     record {
@@ -89,13 +90,13 @@ module _ (p : Checked) (t : Run) (of : IsRunOf p t) (w : Frame) (locals : ℕ) (
       let es = step_row_events p t.bound (more_of-Step s ss) (present others) m in
       follows_also t spent held es
       (GoesWithin p t locals base w.vote others (part_left held (more_of-Step s ss)) (place + 1 + length row)
-      (spent + events.spent es held) g)
-      (GoesOther base fr (part_left held (more_of-Step s ss)) (place + length (Flip ∷ row)) (spent + events.spent es held) f)
+      (spent + paid.spent t es held) g)
+      (GoesOther base fr (part_left held (more_of-Step s ss)) (place + length (Flip ∷ row)) (spent + paid.spent t es held) f)
       (perform_row_on p t.bound (more_of-Step s ss) (present others) m)
       (λ now x. (
         λ v. not (passing v),
         goes_from p t locals base w.vote others (part_left held (more_of-Step s ss)) (place + 1 + length row) (place + length (Flip ∷ row))
-            (spent + events.spent es held) (spent + events.spent es held) f g now (omega arith) (omega arith) (λ r l. refl) x,
+            (spent + paid.spent t es held) (spent + paid.spent t es held) f g now (omega arith) (omega arith) (λ r l. refl) x,
       ))
       (row_is base others held m (place + 1) spent g named (record {
         free = h.free;
@@ -180,19 +181,19 @@ module _ (p : Checked) (t : Run) (of : IsRunOf p t) (w : Frame) (locals : ℕ) (
         let opened = opens p t locals base h.free fr held m place spent f h.within halves.0 in
         let g = opened.behind in
         let vs = present (looping base opened.flags fr) in
-        let ys = λ (us : List ℕ). turns_on_events (t.bound + 1) (λ now. begun t.bound now (Cut ∷ Runs (levels e) false ∷ Cut ∷ Votes ∷ []))
+        let ys = λ (us : List ℕ). turns_on_events (t.bound + 1) (λ them now. begun t.bound now (Cut ∷ tests_on them e ∷ Cut ∷ Votes ∷ []))
         (tested_on p t.bound here.line e) (λ us now. perform_row_on p t.bound body us now)
         (λ us now. step_row_events p t.bound body us now) us m in
         let d = λ (us : List ℕ). turns_on (t.bound + 1) (tested_on p t.bound here.line e)
         (λ us now. perform_row_on p t.bound body us now) us m in
         let code = step_code w base place held (step.While' here e q body) in
         subst (λ us. Follows t spent held (ys us)
-        (GoesWithin p t locals base w.vote fr false (place + length code) (spent + events.spent (ys us) held) f) (d us)) opened.all
+        (GoesWithin p t locals base w.vote fr false (place + length code) (spent + paid.spent t (ys us) held) f) (d us)) opened.all
         (follows_also t spent held (ys vs)
-        (GoesWithin p t locals base w.vote fr false (start + length (sent part left) + 1 + 1) (spent + events.spent (ys vs) held) g)
-        (GoesWithin p t locals base w.vote fr false (place + length code) (spent + events.spent (ys vs) held) f) (d vs)
+        (GoesWithin p t locals base w.vote fr false (start + length (sent part left) + 1 + 1) (spent + paid.spent t (ys vs) held) g)
+        (GoesWithin p t locals base w.vote fr false (place + length code) (spent + paid.spent t (ys vs) held) f) (d vs)
         (λ now x. goes_from p t locals base w.vote fr false (start + length (sent part left) + 1 + 1) (place + length code)
-        (spent + events.spent (ys vs) held) (spent + events.spent (ys vs) held) f g now (omega (arith, n1, n2, n3)) (omega arith)
+        (spent + paid.spent t (ys vs) held) (spent + paid.spent t (ys vs) held) f g now (omega (arith, n1, n2, n3)) (omega arith)
         (λ r l. opened.registers r) x)
         (loop_follows p t of locals base w.vote h.free further above fr here.line e named.0.0 w.keep head part left stands
         (λ us now. perform_row_on p t.bound body us now) (λ us now. step_row_events p t.bound body us now)

@@ -1,5 +1,5 @@
 -- The test of an `if` inside pardo: behind it those of the set are active whose value is true.
-use Rattle.std.proofs.Common.{◌≡◌, ℕ, ◌+◌, ◌*◌, ◌≤◌, List, [], ◌∷◌, ◌++◌, length, Bool, true, false, None, refl, sym, ap, ◌∙◌, subst, arith}
+use Rattle.std.proofs.Common.{◌≡◌, ℕ, ◌+◌, ◌≤◌, List, [], ◌∷◌, ◌++◌, length, Bool, true, false, None, refl, sym, ap, ◌∙◌, subst, arith}
 use Rattle.std.specs.Prelude.{not}
 use Rattle.superstep_instructions.specs.declared.instr.Instr.{Instr}
 use Rattle.superstep_instructions.specs.declared.instr.Instr.TheVariants.{Mark, Mask}
@@ -32,7 +32,8 @@ use Rattle.verified_form.specs.Straight.{masking}
 use Rattle.verified_form.proofs.Fine.{straight_parts_are_fine}
 use Rattle.compiled_formulas.specs.Headings.{heading_of}
 use Rattle.compiled_formulas.specs.Inside.{ShowsInside}
-use Rattle.exchange_bound.specs.Events.{Event, Runs, behind, begun, levels}
+use Rattle.exchange_bound.specs.Events.{Event, behind, begun}
+use Rattle.compiled_meaning.specs.Paid.{tests_on, testing_costs}
 use Rattle.compiled_meaning.specs.Begins.{done}
 use Rattle.compiled_meaning.specs.Between.{IsRunOf}
 use Rattle.compiled_meaning.specs.Follows.{Follows}
@@ -119,18 +120,19 @@ module _ (p : Checked) (t : Run) (of : IsRunOf p t) (locals base : ℕ) (free : 
   -- what is run behind the test, from its two sets
   abbrev GoesOnTested : ℕ → (List Event → State → Type 0) → (List Part → State → Done) → (List Part → State → List Event) → Type 0
   GoesOnTested vote goes k rest =
-      GoesWithin p t locals base vote (narrowed passes fr) (still held formula) (place + 1 + length stretch) (spent + 2 * levels e) f
+      GoesWithin p t locals base vote (narrowed passes fr) (still held formula) (place + 1 + length stretch)
+      (spent + testing_costs t (present fr) e) f
       (one_more m) → (those true test_results ≡ present (narrowed passes fr)) →
       (those false test_results ≡ present (narrowed (λ v. not (passes v)) fr)) →
-      Follows t spent held (Runs (levels e) false ∷ rest test_results (one_more m))
-      (goes (Runs (levels e) false ∷ rest test_results (one_more m))) (k test_results (one_more m))
+      Follows t spent held (tests_on (present fr) e ∷ rest test_results (one_more m))
+      (goes (tests_on (present fr) e ∷ rest test_results (one_more m))) (k test_results (one_more m))
 
   pub test_follows : (vote : ℕ) (goes : List Event → State → Type 0) (k : List Part → State → Done) (rest : List Part → State →
       List Event) →
       Stand t place (Mark line ∷ stretch) → IsCalm t.code (place + 1 + length stretch) → GoesOnTested vote goes k rest →
       Follows t spent held
-      (begun t.bound m (Runs (levels e) false ∷ []) ++ behind (tested_on p t.bound line e (present fr) m) rest)
-      (goes (begun t.bound m (Runs (levels e) false ∷ []) ++ behind (tested_on p t.bound line e (present fr) m) rest))
+      (begun t.bound m (tests_on (present fr) e ∷ []) ++ behind (tested_on p t.bound line e (present fr) m) rest)
+      (goes (begun t.bound m (tests_on (present fr) e ∷ []) ++ behind (tested_on p t.bound line e (present fr) m) rest))
       (then_do (tested_on p t.bound line e (present fr) m) k)
   test_follows vote goes k rest stand calm on =
       let fine = straight_parts_are_fine in
@@ -140,7 +142,7 @@ module _ (p : Checked) (t : Run) (of : IsRunOf p t) (locals base : ℕ) (free : 
       let none = left.shows in
       let empty = none.rests in
       attempted p t line stretch held (still held formula) m place spent f w.between (Gets (term_of e)) (present fr) held spent
-      (Runs (levels e) false ∷ []) goes k rest (λ s. attempt_value s e) (test_parts p m e (present fr))
+      (tests_on (present fr) e ∷ []) goes k rest (λ s. attempt_value s e) (test_parts p m e (present fr))
       (record {
         formed = of.formed;
         rests = shown.rests;
@@ -156,5 +158,6 @@ module _ (p : Checked) (t : Run) (of : IsRunOf p t) (locals base : ℕ) (free : 
       (λ l g h ok okay.
       let sets = sets_are ok in
       on (passed p t locals base base vote fr (narrowed passes fr) held (still held formula) m place spent f w line stretch (one_more m)
-      (2 * levels e) (spent + 2 * levels e) (cost.masked keep held base formula) (omega arith) l g h left
+      (testing_costs t (present fr) e) (spent + testing_costs t (present fr) e)
+      (cost.masked t (length (present fr)) keep held base formula) (omega arith) l g h left
       (next_is p t locals base fr held m place spent f w)) sets.0 sets.1)

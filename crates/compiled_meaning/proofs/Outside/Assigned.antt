@@ -32,6 +32,8 @@ use Rattle.compiled_formulas.specs.Tasks.{IsSingle}
 use Rattle.compiled_formulas.specs.Terms.{term}
 use Rattle.compiled_formulas.proofs.Tasks.{expressions_are_single}
 use Rattle.compiled_formulas.proofs.Terms.{expressions_are_terms, expressions_are_named}
+use Rattle.plain_form.specs.Formulas as formulas
+use Rattle.std.specs.Prelude.{None}
 use Rattle.exchange_bound.specs.Events as events
 use Rattle.exchange_bound.specs.Events.{Event, Runs, Cut, behind, row_events, list_events, turns_events, for_events}
 use Rattle.compiled_meaning.specs.Between.{IsRunOf}
@@ -49,16 +51,18 @@ module _ (p : Checked) (t : Run) (of : IsRunOf p t) (keep : Bool) where
       ((m : State) → assign p t.bound line x e m ≡ then_do (evaluated t.bound line (λ m. attempt_assign (seen p m) x e) m) (λ g m.
       Goes tt (after_write g.cell g.value m))) →
       IsLed p t free held true place (shapes.writes keep held line Uniform free entry d (formula_of e)) (assign p t.bound line x e)
-      (λ m. events.begun t.bound m (Runs (nesting (Pair d (formula_of e))) true ∷ []))
+      (λ m. events.begun t.bound m (Runs (nesting (Pair d (formula_of e))) true None (formulas.reads (Pair d (formula_of e))) ∷ []))
   write_leads free free_ones line entry d named single e e_named x held place whole_is same m spent f w stand calm =
       let is = flush (still held (Pair d (formula_of e)))
       ++ Mark line ∷ writing keep (waits held (Pair d (formula_of e))) Uniform free entry d (formula_of e) in
       let here = marks_come_first.writes keep held line Uniform free entry d (formula_of e) in
       subst (λ (ys : List Instr). Stand t place ys → IsCalm t.code (place + length ys) →
-      Leads t spent held true (events.begun t.bound m (Runs (nesting (Pair d (formula_of e))) true ∷ []))
+      Leads t spent held true (events.begun t.bound m (Runs (nesting (Pair d (formula_of e))) true None
+      (formulas.reads (Pair d (formula_of e))) ∷ []))
       (Passes p t free true (place + length ys) m f) (assign p t.bound line x e m)) (sym here)
       (λ stand calm.
-      subst (Leads t spent held true (events.begun t.bound m (Runs (nesting (Pair d (formula_of e))) true ∷ []))
+      subst (Leads t spent held true (events.begun t.bound m (Runs (nesting (Pair d (formula_of e))) true None
+      (formulas.reads (Pair d (formula_of e))) ∷ []))
       (Passes p t free true (place + length is) m f)) (sym (same m))
       (write_follows p t of keep free line free_ones m entry d named single e e_named held place spent f w
       (λ m. attempt_assign (seen p m) x e) (whole_is (one_more m)) stand calm)) stand calm
@@ -72,11 +76,16 @@ module _ (p : Checked) (t : Run) (of : IsRunOf p t) (keep : Bool) where
   assign_leads free free_ones here (target.Uniform x) e h held place =
       λ m spent f w stand calm.
       let n = nesting (formula_of e) in
-      subst (λ k. Leads t spent held (still held (formula_of e)) (events.begun t.bound m (Runs k false ∷ []))
+      let r = formulas.reads (formula_of e) in
+      subst (λ k. Leads t spent held (still held (formula_of e)) (events.begun t.bound m (Runs (max 0 n) false None k ∷ []))
+      (Passes p t free (still held (formula_of e)) (place + length (code keep free place held (Assign here (target.Uniform x) e))) m f)
+      (assign p t.bound here.line (target.Uniform x) e m))
+      (let k : r ≡ 0 + r = omega arith in k)
+      (subst (λ k. Leads t spent held (still held (formula_of e)) (events.begun t.bound m (Runs k false None r ∷ []))
       (Passes p t free (still held (formula_of e)) (place + length (code keep free place held (Assign here (target.Uniform x) e))) m f)
       (assign p t.bound here.line (target.Uniform x) e m))
       (let k : n ≡ max 0 n = omega arith in k)
-      (variable_follows p t of keep free here.line free_ones held m place spent f w e h.1.0 x h.0 stand calm)
+      (variable_follows p t of keep free here.line free_ones held m place spent f w e h.1.0 x h.0 stand calm))
   assign_leads free free_ones here (target.Cell a) e h held place =
       write_leads free free_ones here.line a Zero tt tt e h.1.0 (target.Cell a) held place
       (λ m. whole_assignments (seen p m) (target.Cell a) e)

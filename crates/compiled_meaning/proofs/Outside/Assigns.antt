@@ -1,5 +1,5 @@
 -- An assignment to a variable, a print, and the value of a test: the run follows them.
-use Rattle.std.proofs.Common.{◌≡◌, ℕ, ◌+◌, ◌*◌, ◌<◌, ◌≤◌, List, [], ◌∷◌, length, Bool, false, ℤ, refl, sym, subst, arith}
+use Rattle.std.proofs.Common.{◌≡◌, ℕ, ◌+◌, ◌<◌, ◌≤◌, List, [], ◌∷◌, length, Bool, false, ℤ, refl, sym, subst, arith}
 use Rattle.superstep_instructions.specs.declared.instr.Side.TheVariants.{Uniform}
 use Rattle.superstep_instructions.specs.declared.instr.Instr.{Instr}
 use Rattle.superstep_instructions.specs.declared.instr.Instr.TheVariants.{Mark, Copy, Print}
@@ -26,8 +26,11 @@ use Rattle.plain_form.specs.Groups.{value_at}
 use Rattle.plain_form.specs.Shapes.{still}
 use Rattle.verified_form.specs.Straight.{getting, printing}
 use Rattle.verified_form.proofs.Fine.{straight_parts_are_fine}
+use Rattle.plain_form.specs.Formulas as formulas
+use Rattle.std.specs.Prelude.{None}
 use Rattle.exchange_bound.specs.Events as events
 use Rattle.exchange_bound.specs.Events.{Event, Runs}
+use Rattle.compiled_meaning.specs.Paid.{evaluating}
 use Rattle.compiled_meaning.specs.Between.{IsRunOf}
 use Rattle.compiled_meaning.proofs.EachStatement.Costs.{straight_parts_cost}
 use Rattle.compiled_meaning.specs.Without.{IsWithout}
@@ -73,13 +76,13 @@ module _ (p : Checked) (t : Run) (of : IsRunOf p t) (keep : Bool) (free line : �
     abbrev get : List Instr
     get = getting keep held Uniform free formula (variable x)
 
-    is_got : IsStraight p t free line get held (still held formula) m f (2 * nesting formula) (with_uniform x result (one_more m))
+    is_got : IsStraight p t free line get held (still held formula) m f (evaluating t formula) (with_uniform x result (one_more m))
     is_got =
         let copied = Copy Uniform (variable x) r ∷ [] in
         let acts = sole_acts p t of keep free line free_ones held m place spent f w e named copied in
         record {
           fine = straight_parts_are_fine.got keep held Uniform free formula (variable x);
-          few = straight_parts_cost.got keep held Uniform free formula (variable x);
+          few = straight_parts_cost.got t keep held free formula (variable x);
           leaves = subst (Leaves p free (with_uniform x result (one_more m)) f) (sym acts)
               (subst (λ z. Leaves p free (with_uniform x z (one_more m)) f (after_instr t.code (Copy Uniform (variable x) r) end)) end_gives
               (got_leaves t.code p free (one_more m) f end end_leaves free_ones x r declared (next_sizes p m w.sizes)));
@@ -89,11 +92,11 @@ module _ (p : Checked) (t : Run) (of : IsRunOf p t) (keep : Bool) (free line : �
         }
 
     pub variable_follows : Stand t place (Mark line ∷ get) → IsCalm t.code (place + length (Mark line ∷ get)) →
-        Leads t spent held (still held formula) (events.begun t.bound m (Runs (nesting formula) false ∷ []))
+        Leads t spent held (still held formula) (events.begun t.bound m (Runs (nesting formula) false None (formulas.reads formula) ∷ []))
         (Passes p t free (still held formula) (place + length (Mark line ∷ get)) m f) (assign p t.bound line (target.Uniform x) e m)
     variable_follows stand calm =
         let copied = Copy Uniform (variable x) r ∷ [] in
-        let es = Runs (nesting formula) false ∷ [] in
+        let es = Runs (nesting formula) false None (formulas.reads formula) ∷ [] in
         let goes = λ (n : ℕ) (g : Effect) (k : State).
         Passes p t free (still held formula) (place + length (Mark line ∷ get)) m f n tt (assigned (target.Uniform x) g k) in
         let s = seen p (one_more m) in
@@ -102,7 +105,7 @@ module _ (p : Checked) (t : Run) (of : IsRunOf p t) (keep : Bool) (free line : �
         (evaluated t.bound line (λ m. attempt_assign (seen p m) (target.Uniform x) e) m) (λ g m. tt)
         (λ g m. assigned (target.Uniform x) g m)
         (evaluates_by t line get held (still held formula) m place spent f
-        (may_begin p t of free line get held (still held formula) m place spent f w (2 * nesting formula)
+        (may_begin p t of free line get held (still held formula) m place spent f w (evaluating t formula)
         (with_uniform x result (one_more m))
         is_got stand calm) spent held (still held formula) refl es (λ m. attempt_assign (seen p m) (target.Uniform x) e)
         (whole s (assignment (target.Uniform x) e)) goes (whole_assignments s (target.Uniform x) e)
@@ -113,9 +116,9 @@ module _ (p : Checked) (t : Run) (of : IsRunOf p t) (keep : Bool) (free line : �
           (
             g,
             passed_since p t free (still held formula) (place + length (Mark line ∷ get)) m f _ (with_uniform x result (one_more m)) g
-                (part_passed p t of free line get held (still held formula) m place spent f w (2 * nesting formula)
+                (part_passed p t of free line get held (still held formula) m place spent f w (evaluating t formula)
                 (with_uniform x result (one_more m)) is_got below g h _
-                (let l = run_spends held (nesting formula) in omega (arith, l))),
+                (let l = run_spends t held formula in omega (arith, l))),
           ),
         )))
         (λ n g k x. x)
@@ -125,12 +128,12 @@ module _ (p : Checked) (t : Run) (of : IsRunOf p t) (keep : Bool) (free line : �
   abbrev say : List Instr
   say = printing keep held free formula
 
-  is_said : IsStraight p t free line say held (still held formula) m f (2 * nesting formula) (printed result (one_more m))
+  is_said : IsStraight p t free line say held (still held formula) m f (evaluating t formula) (printed result (one_more m))
   is_said =
       let acts = sole_acts p t of keep free line free_ones held m place spent f w e named (Print r ∷ []) in
       record {
         fine = straight_parts_are_fine.printed keep held free formula;
-        few = straight_parts_cost.printed keep held free formula;
+        few = straight_parts_cost.printed t keep held free formula;
         leaves = subst (Leaves p free (printed result (one_more m)) f) (sym acts)
             (subst (λ z. Leaves p free (printed z (one_more m)) f (after_instr t.code (Print r) end)) end_gives
             (printed_leaves t.code p free (one_more m) f end end_leaves free_ones r));
@@ -140,10 +143,10 @@ module _ (p : Checked) (t : Run) (of : IsRunOf p t) (keep : Bool) (free line : �
       }
 
   pub print_follows : Stand t place (Mark line ∷ say) → IsCalm t.code (place + length (Mark line ∷ say)) →
-      Leads t spent held (still held formula) (events.begun t.bound m (Runs (nesting formula) false ∷ []))
+      Leads t spent held (still held formula) (events.begun t.bound m (Runs (nesting formula) false None (formulas.reads formula) ∷ []))
       (Passes p t free (still held formula) (place + length (Mark line ∷ say)) m f) (print p t.bound line e m)
   print_follows stand calm =
-      let es = Runs (nesting formula) false ∷ [] in
+      let es = Runs (nesting formula) false None (formulas.reads formula) ∷ [] in
       let goes = λ (n : ℕ) (v : ℤ) (k : State).
       Passes p t free (still held formula) (place + length (Mark line ∷ say)) m f n tt (printed v k) in
       let s = seen p (one_more m) in
@@ -151,7 +154,7 @@ module _ (p : Checked) (t : Run) (of : IsRunOf p t) (keep : Bool) (free line : �
       (Passes p t free (still held formula) (place + length (Mark line ∷ say)) m f) (found p t.bound line e m) (λ v m. tt)
       (λ v m. printed v m)
       (evaluates_by t line say held (still held formula) m place spent f
-      (may_begin p t of free line say held (still held formula) m place spent f w (2 * nesting formula)
+      (may_begin p t of free line say held (still held formula) m place spent f w (evaluating t formula)
       (printed result (one_more m)) is_said
       stand calm) spent held (still held formula) refl es (λ m. attempt (seen p m) e [])
       (record { steps = steps s (term_of e); value = result }) goes (whole_expressions s e [])
@@ -162,9 +165,9 @@ module _ (p : Checked) (t : Run) (of : IsRunOf p t) (keep : Bool) (free line : �
         (
           g,
           passed_since p t free (still held formula) (place + length (Mark line ∷ say)) m f _ (printed result (one_more m)) g
-              (part_passed p t of free line say held (still held formula) m place spent f w (2 * nesting formula)
+              (part_passed p t of free line say held (still held formula) m place spent f w (evaluating t formula)
               (printed result (one_more m)) is_said below g h _
-              (let l = run_spends held (nesting formula) in omega (arith, l))),
+              (let l = run_spends t held formula in omega (arith, l))),
         ),
       )))
       (λ n v k x. x)

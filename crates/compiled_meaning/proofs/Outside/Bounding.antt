@@ -1,5 +1,5 @@
 -- The bounds of a `for`, and a setting of its variable: the run follows them, with the turns in their registers.
-use Rattle.std.proofs.Common.{◌≡◌, ℕ, ◌+◌, ◌*◌, ◌<◌, ◌≤◌, List, [], ◌∷◌, ◌++◌, length, Bool, false, not, ◌&&◌, Ok, ℤ, ◌+ℤ◌, int_lt, int_le}
+use Rattle.std.proofs.Common.{◌≡◌, ℕ, ◌+◌, ◌<◌, ◌≤◌, List, [], ◌∷◌, ◌++◌, length, Bool, false, not, ◌&&◌, Ok, ℤ, ◌+ℤ◌, int_lt, int_le}
 use Rattle.std.proofs.Common.{refl, sym, ap, ◌∙◌, subst, arith, append_assoc}
 use Rattle.pram_values.specs.Truth.{truth}
 use Rattle.pram_values.specs.Value.{checked}
@@ -40,9 +40,12 @@ use Rattle.compiled_formulas.specs.Headings.{heading_of}
 use Rattle.compiled_formulas.specs.Terms.{steps_in}
 use Rattle.compiled_formulas.proofs.Outside.{pairs_are_evaluated_outside}
 use Rattle.compiled_formulas.proofs.Terms.{expressions_are_terms, steps_are_steps, expressions_are_named}
+use Rattle.plain_form.specs.Formulas as formulas
+use Rattle.std.specs.Prelude.{None}
 use Rattle.exchange_bound.specs.Events as events
 use Rattle.exchange_bound.specs.Events.{Event, Runs, Cut}
 use Rattle.exchange_bound.specs.Bound.{one_if}
+use Rattle.compiled_meaning.specs.Paid.{evaluating}
 use Rattle.compiled_meaning.specs.Between.{IsRunOf}
 use Rattle.compiled_meaning.specs.Begins.{begun, done}
 use Rattle.compiled_meaning.proofs.EachStatement.Costs.{straight_parts_cost}
@@ -171,10 +174,10 @@ module _ (p : Checked) (t : Run) (of : IsRunOf p t) (keep : Bool) (free line : �
       ∙ none_least (notes_behind h 0 All (steps_in view both))
       ∙ (λ i. notes_behind h 0 All (steps_are_steps view d i ++ steps_are_steps view e i))
 
-  is_bounded : IsStraight p t free line part held false m f (2 * nesting both + one_if some) (one_more m)
+  is_bounded : IsStraight p t free line part held false m f (evaluating t both + one_if some) (one_more m)
   is_bounded = record {
     fine = straight_parts_are_fine.bounded keep held free one two;
-    few = straight_parts_cost.bounded keep held free one two;
+    few = straight_parts_cost.bounded t keep held free one two;
     leaves = subst (Leaves p free (one_more m) f) (sym acts_are)
         (bounds_leave t.code p free (one_more m) f free_ones end end_leaves (first_at Uniform base one two)
         (second_at Uniform base one two) apart a b
@@ -191,14 +194,15 @@ module _ (p : Checked) (t : Run) (of : IsRunOf p t) (keep : Bool) (free line : �
       low_is high_is)
 
   pub bounds_follow : Stand t place (Mark line ∷ part) → IsCalm t.code (place + length (Mark line ∷ part)) →
-      Leads t spent held false (events.begun t.bound m (Runs (nesting both) false ∷ Cut ∷ []))
+      Leads t spent held false (events.begun t.bound m (Runs (nesting both) false None (formulas.reads both) ∷ Cut ∷ []))
       (Bounds p t free (place + length (Mark line ∷ part)) m f) (evaluated t.bound line (λ m. attempt_bounds (seen p m) d e) m)
   bounds_follow stand calm =
-      let cost = 2 * nesting both + one_if some in
+      let cost = evaluating t both + one_if some in
       let values = sees_values p (one_more m) (next_values m w.values) in
       evaluates_by t line part held false m place spent f
       (may_begin p t of free line part held false m place spent f w cost (one_more m) is_bounded stand calm) spent held false refl
-      (Runs (nesting both) false ∷ Cut ∷ []) (λ m. attempt_bounds (seen p m) d e) (whole_bounds view (term_of d) (term_of e))
+      (Runs (nesting both) false None (formulas.reads both) ∷ Cut ∷ []) (λ m. attempt_bounds (seen p m) d e)
+      (whole_bounds view (term_of d) (term_of e))
       (Bounds p t free (place + length (Mark line ∷ part)) m f) (whole_bounds_of view d e) notes_are
       (λ below g h. (
         refl,
@@ -206,7 +210,7 @@ module _ (p : Checked) (t : Run) (of : IsRunOf p t) (keep : Bool) (free line : �
           g,
           record {
             passed = part_passed p t of free line part held false m place spent f w cost (one_more m) is_bounded below g h _
-                (let l = cut_spends held both in omega (arith, l));
+                (let l = cut_spends t held both in omega (arith, l));
             turns =
                 let k = turns_are in
                 let same = seen_register p t of free line part held false m place spent f w cost (one_more m) is_bounded below g h in
@@ -243,7 +247,7 @@ pub setting_follows : (p : Checked) (t : Run) → IsRunOf p t → (keep : Bool) 
     x < p.uniforms → (a b c : ℤ) → checked (a +ℤ truth (int_lt a b)) ≡ Ok c → IsValue a → (m : State) (place spent : ℕ) (f : Flat) →
     IsWithout p t false m place spent f → f.uniform.registers (turn free) ≡ a → f.uniform.registers (high free) ≡ b →
     Stand t place (Mark line ∷ stepping keep free x) → IsCalm t.code (place + length (Mark line ∷ stepping keep free x)) →
-    Leads t spent false false (events.begun t.bound m (Runs 0 false ∷ []))
+    Leads t spent false false (events.begun t.bound m (Runs 0 false None 0 ∷ []))
     (Sets p t free (place + length (Mark line ∷ stepping keep free x)) x a b c m f) (counted t.bound m)
 setting_follows p t of keep free line free_ones x declared a b c fits is_value m place spent f w low up stand calm =
     let part = stepping keep free x in
@@ -257,7 +261,7 @@ setting_follows p t of keep free line free_ones x declared a b c fits is_value m
     let after = with_uniform x a (one_more m) in
     let straight : IsStraight p t free line part false false m f 0 after = record {
       fine = straight_parts_are_fine.stepped keep free x;
-      few = straight_parts_cost.stepped keep free x;
+      few = straight_parts_cost.stepped t keep free x;
       leaves = subst (Leaves p free after f) (sym acts)
           (stepped_leaves t.code p free (one_more m) f free_ones start leaves x declared sizes a b c low up fits);
       count = refl;
@@ -267,7 +271,7 @@ setting_follows p t of keep free line free_ones x declared a b c fits is_value m
     let turns : HasTurns free c b (int_lt a b) (done t.code line part f) =
     subst (HasTurns free c b (int_lt a b)) (sym acts)
     (stepped_turns t.code p free (one_more m) f free_ones start leaves x declared sizes a b c low up fits) in
-    let es = Runs 0 false ∷ [] in
+    let es = Runs 0 false None 0 ∷ [] in
     let goes = Sets p t free (place + length (Mark line ∷ part)) x a b c m f in
     subst (λ d. Leads t spent false false (events.begun t.bound m es) goes d) (goes_on (counted t.bound m))
     (begins_by t line part false false m place spent f

@@ -23,6 +23,8 @@ use Rattle.plain_form.specs.Shapes.{flush, sent, chosen}
 use Rattle.verified_form.specs.Calm.{BeginsCalm}
 use Rattle.verified_form.specs.Straight.{testing}
 use Rattle.verified_form.proofs.Calm.{statements_begin_calm, parts_end_calm, branches_are_calm}
+use Rattle.plain_form.specs.Formulas as formulas
+use Rattle.std.specs.Prelude.{None}
 use Rattle.exchange_bound.specs.Events as events
 use Rattle.exchange_bound.specs.Events.{Event, Runs, Cut, behind, row_events, list_events, turns_events, for_events}
 use Rattle.compiled_meaning.specs.Between.{IsRunOf}
@@ -69,7 +71,7 @@ module _ (p : Checked) (t : Run) (of : IsRunOf p t) (keep : Bool) where
           IsCalm t.code (at + length (chosen at r own some other)) → Chooses some other other_performed other_inside) →
           IsLed p t free held false place (test ++ chosen at r own some other)
           (λ m. then_do (tested p t.bound line e m) (λ b m. if b then performed m else other_performed m))
-          (λ m. events.begun t.bound m (Runs (nesting (formula_of e)) false ∷ Cut ∷ [])
+          (λ m. events.begun t.bound m (Runs (nesting (formula_of e)) false None (formulas.reads (formula_of e)) ∷ Cut ∷ [])
           ++ behind (tested p t.bound line e m) (λ b m. (if b then inside m else other_inside m) ++ Cut ∷ []))
       branch_leads some other other_performed other_inside others choose m spent f w stand calm =
           let rest = chosen at r own some other in
@@ -78,7 +80,8 @@ module _ (p : Checked) (t : Run) (of : IsRunOf p t) (keep : Bool) where
           let to = place + length (test ++ rest) in
           let end_calm = subst (IsCalm t.code) (let k : to ≡ at + length rest = omega (arith, n) in k) calm in
           let calms = branches_are_calm t at r own some other split.1 own_begins others end_calm in
-          leads_then t spent held false false (events.begun t.bound m (Runs (nesting (formula_of e)) false ∷ Cut ∷ []))
+          leads_then t spent held false false (events.begun t.bound m (Runs (nesting (formula_of e)) false None
+          (formulas.reads (formula_of e)) ∷ Cut ∷ []))
           (Tests p t free r at m f) (Passes p t free false to m f) (tested p t.bound line e m)
           (λ b m. if b then performed m else other_performed m) (λ b m. (if b then inside m else other_inside m) ++ Cut ∷ [])
           (branch_follows p t of keep free line free_ones held m place spent f w e named split.0 calms.0)
@@ -105,7 +108,7 @@ module _ (p : Checked) (t : Run) (of : IsRunOf p t) (keep : Bool) where
 
       pub alone_leads : IsLed p t free held false place (test ++ chosen at r own false (λ n. []))
           (λ m. then_do (tested p t.bound line e m) (λ b m. if b then performed m else Goes tt m))
-          (λ m. events.begun t.bound m (Runs (nesting (formula_of e)) false ∷ Cut ∷ [])
+          (λ m. events.begun t.bound m (Runs (nesting (formula_of e)) false None (formulas.reads (formula_of e)) ∷ Cut ∷ [])
           ++ behind (tested p t.bound line e m) (λ b m. (if b then inside m else []) ++ Cut ∷ []))
       alone_leads =
           branch_leads false (λ n. []) (λ m. Goes tt m) (λ m. [])
@@ -118,7 +121,7 @@ module _ (p : Checked) (t : Run) (of : IsRunOf p t) (keep : Bool) where
           ((at : ℕ) → BeginsCalm t at (part2 at)) → ((at : ℕ) → IsLed p t free false last2 at (part2 at) performed2 inside2) →
           IsLed p t free held false place (test ++ chosen at r own true (λ n. sent (part2 n) last2))
           (λ m. then_do (tested p t.bound line e m) (λ b m. if b then performed m else performed2 m))
-          (λ m. events.begun t.bound m (Runs (nesting (formula_of e)) false ∷ Cut ∷ [])
+          (λ m. events.begun t.bound m (Runs (nesting (formula_of e)) false None (formulas.reads (formula_of e)) ∷ Cut ∷ [])
           ++ behind (tested p t.bound line e m) (λ b m. (if b then inside m else inside2 m) ++ Cut ∷ []))
       pair_leads part2 last2 performed2 inside2 begins2 leads2 =
           let other = λ (n : ℕ). sent (part2 n) last2 in

@@ -1,5 +1,5 @@
 -- The beginning of a pardo: the run follows it, and stands inside with all its processors active.
-use Rattle.std.proofs.Common.{◌≡◌, ℕ, ◌+◌, ◌*◌, ◌<◌, ◌≤◌, List, [], ◌∷◌, length, Bool, false, ℤ, refl, sym, ap, ◌∙◌, subst, arith}
+use Rattle.std.proofs.Common.{◌≡◌, ℕ, ◌+◌, ◌<◌, ◌≤◌, List, [], ◌∷◌, length, Bool, false, ℤ, refl, sym, ap, ◌∙◌, subst, arith}
 use Rattle.pram_values.specs.declared.place.Place.TheVariants.{All}
 use Rattle.superstep_instructions.specs.declared.instr.Side.TheVariants.{Uniform}
 use Rattle.superstep_instructions.specs.declared.instr.Instr.{Instr}
@@ -39,8 +39,11 @@ use Rattle.compiled_formulas.specs.Inside.{ShowsInside}
 use Rattle.compiled_formulas.specs.Terms.{steps_in}
 use Rattle.compiled_formulas.proofs.Outside.{pairs_are_evaluated_outside}
 use Rattle.compiled_formulas.proofs.Terms.{expressions_are_terms, steps_are_steps, expressions_are_named}
+use Rattle.plain_form.specs.Formulas as formulas
+use Rattle.std.specs.Prelude.{None}
 use Rattle.exchange_bound.specs.Events as events
 use Rattle.exchange_bound.specs.Events.{Event, Runs}
+use Rattle.compiled_meaning.specs.Paid.{evaluating}
 use Rattle.compiled_meaning.specs.Between.{IsBetween, IsRunOf}
 use Rattle.compiled_meaning.specs.Begins.{begun, done, HasPassed}
 use Rattle.compiled_meaning.proofs.EachStatement.Costs.{straight_parts_cost}
@@ -177,24 +180,24 @@ module _ (p : Checked) (t : Run) (of : IsRunOf p t) (keep : Bool) (free line : �
         calm = subst (IsCalm t.code) (let k : place + length (Mark line ∷ part) ≡ place + 1 + length part = omega arith in k) calm;
       }
 
-  part_costs : costs t.code part (after_instr t.code (Mark line) f) ≤ 2 * nesting both
+  part_costs : costs t part (after_instr t.code (Mark line) f) ≤ evaluating t both
   part_costs =
       let x = w.shows in
       let r = x.rests in
       let y = w.between in
-      straight_parts_cost.entered keep held free one two t.code (after_instr t.code (Mark line) f) r.asks
+      straight_parts_cost.entered t keep held free one two (after_instr t.code (Mark line) f) r.asks
       (marks_hold t.code line held f y.holds)
 
   -- behind it the run is inside
   has_entered : (m.count < t.bound) → (g : Flat) → HasPassed t line part left place spent f g → (most : ℕ) →
-      spent + 2 * nesting both ≤ most →
+      spent + evaluating t both ≤ most →
       HasEntered p t free locals left (place + length (Mark line ∷ part)) m f most (a, count) (one_more m) g
   has_entered below g h most few =
       let l = end_leaves in
       let k = part_costs in
       let values = sees_values p (one_more m) (next_values m w.values) in
       let state = next_sizes p m w.sizes in
-      let here : IsBetween t left team (place + 1 + length part) (spent + costs t.code part (after_instr t.code (Mark line) f)) g = record {
+      let here : IsBetween t left team (place + 1 + length part) (spent + costs t part (after_instr t.code (Mark line) f)) g = record {
         comes = h.comes;
         told = h.told;
         holds = h.holds;
@@ -205,7 +208,7 @@ module _ (p : Checked) (t : Run) (of : IsRunOf p t) (keep : Bool) (free line : �
       record {
         within = record {
           between = between_at t left team g (place + 1 + length part) (place + length (Mark line ∷ part))
-              (spent + costs t.code part (after_instr t.code (Mark line) f)) most (omega arith) (omega (arith, k, few)) here;
+              (spent + costs t part (after_instr t.code (Mark line) f)) most (omega arith) (omega (arith, k, few)) here;
           shows = subst (ShowsInside p locals team) (sym h.seen) shows_are;
           stands = subst (StandsIn (behind_locals locals) (behind_locals locals) (everybody count)) (sym h.seen) stands_are;
           sizes = record { uniforms = state.uniforms; cells = state.cells };
@@ -218,11 +221,12 @@ module _ (p : Checked) (t : Run) (of : IsRunOf p t) (keep : Bool) (free line : �
       }
 
   pub enters_follow : Stand t place (Mark line ∷ part) → IsCalm t.code (place + length (Mark line ∷ part)) →
-      Leads t spent held left (events.begun t.bound m (Runs (nesting both) false ∷ []))
+      Leads t spent held left (events.begun t.bound m (Runs (nesting both) false None (formulas.reads both) ∷ []))
       (Enters p t free locals left (place + length (Mark line ∷ part)) m f)
       (evaluated t.bound line (λ m. attempt_range p.procs (seen p m) d e) m)
   enters_follow stand calm =
-      evaluates_by t line part held left m place spent f (may_enter stand calm) spent held left refl (Runs (nesting both) false ∷ [])
+      evaluates_by t line part held left m place spent f (may_enter stand calm) spent held left refl
+      (Runs (nesting both) false None (formulas.reads both) ∷ [])
       (λ m. attempt_range p.procs (seen p m) d e) (whole_range p.procs view (term_of d) (term_of e))
       (Enters p t free locals left (place + length (Mark line ∷ part)) m f) (whole_ranges p.procs view d e) notes_are
-      (λ below g h. (run_holds held both, (g, has_entered below g h _ (let l = run_spends held (nesting both) in omega (arith, l)))))
+      (λ below g h. (run_holds held both, (g, has_entered below g h _ (let l = run_spends t held both in omega (arith, l)))))

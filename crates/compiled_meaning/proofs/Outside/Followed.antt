@@ -3,7 +3,7 @@ use Rattle.std.proofs.Common.{◌+◌, length}
 use Rattle.pram_meaning.specs.Bounded.{perform_list}
 use Rattle.plain_form.specs.Outside.{statements_code, statements_left}
 use Rattle.exchange_bound.specs.Events.{list_events}
-use Rattle.exchange_bound.specs.Spent as events
+use Rattle.compiled_meaning.specs.Paid as paid
 use Rattle.compiled_meaning.specs.Statements.{GoesWithout, StatementsAreFollowed}
 use Rattle.compiled_meaning.proofs.Outside.Leads.{leads_follow, leads_hold}
 use Rattle.compiled_meaning.proofs.Outside.Passed.{Passes}
@@ -18,7 +18,7 @@ statements_are_followed p t keep free held ss m place spent f may =
     let led = list_leads p t may.of keep ss free may.free_ones may.named held place m spent f may.without may.stand may.calm in
     let first = Passes p t free left to m f in
     record {
-      follows = leads_follow t spent held left es first (GoesWithout p t free left to (spent + events.spent es held) f) d led
+      follows = leads_follow t spent held left es first (GoesWithout p t free left to (spent + paid.spent t es held) f) d led
           (λ u m2 x. let y = x.1 in record { behind = x.0; without = y.without; registers = y.registers });
       left = leads_hold t spent held left es first d led;
     }

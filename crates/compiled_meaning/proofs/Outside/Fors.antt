@@ -20,6 +20,7 @@ use Rattle.flat_stretches.proofs.Joins.{stands_split}
 use Rattle.plain_form.specs.Registers.{behind_variables, behind_turns, turn, high, more}
 use Rattle.plain_form.specs.Shapes.{turned}
 use Rattle.verified_form.specs.Straight.{stepping}
+use Rattle.std.specs.Prelude.{None}
 use Rattle.exchange_bound.specs.Events as events
 use Rattle.exchange_bound.specs.Events.{Event, Runs, Cut, behind, for_events}
 use Rattle.compiled_meaning.specs.Between.{IsRunOf}
@@ -93,7 +94,7 @@ module _ (p : Checked) (t : Run) (of : IsRunOf p t) (keep : Bool) (free line : �
         Leads t spent false false (for_events t.bound (suc k) x a performed inside m) (ends m f)
         (for_turns t.bound (suc k) x a performed m)
     turn_leads k c fits rest =
-        leads_then t spent false false false (events.begun t.bound m (Runs 0 false ∷ [])) (Sets p t free body x a b c m f) (ends m f)
+        leads_then t spent false false false (events.begun t.bound m (Runs 0 false None 0 ∷ [])) (Sets p t free body x a b c m f) (ends m f)
         (counted t.bound m)
         (λ u m. then_do (performed (with_uniform x a m)) (λ u. for_turns t.bound k x (a +ℤ pos 1) performed))
         (λ u m. inside (with_uniform x a m) ++ Cut ∷ behind (performed (with_uniform x a m))

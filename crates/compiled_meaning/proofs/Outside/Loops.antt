@@ -22,6 +22,8 @@ use Rattle.plain_form.specs.Shapes.{flush, sent, still, waits, chosen, looped, t
 use Rattle.verified_form.specs.Calm.{BeginsCalm}
 use Rattle.verified_form.specs.Straight.{evaluation, bounding, stepping}
 use Rattle.verified_form.proofs.Calm.{statements_begin_calm, parts_end_calm, loops_are_calm, turns_are_calm}
+use Rattle.plain_form.specs.Formulas as formulas
+use Rattle.std.specs.Prelude.{None}
 use Rattle.exchange_bound.specs.Events as events
 use Rattle.exchange_bound.specs.Events.{Event, Runs, Cut, behind, row_events, list_events, turns_events, for_events}
 use Rattle.exchange_bound.specs.Bound.{one_if}
@@ -46,7 +48,8 @@ module _ (p : Checked) (t : Run) (of : IsRunOf p t) (keep : Bool) where
         ((at : ℕ) → BeginsCalm t at (part at)) → ((at : ℕ) → IsLed p t free false last at (part at) performed inside) → (place : ℕ) →
         IsLed p t free held false place (shapes.while_code keep held place line free (formula_of e) (λ n. sent (part n) last))
         (turns (t.bound + 1) (tested p t.bound line e) performed)
-        (turns_events (t.bound + 1) (λ m. events.begun t.bound m (Cut ∷ Runs (nesting (formula_of e)) false ∷ Cut ∷ []))
+        (turns_events (t.bound + 1) (λ m. events.begun t.bound m (Cut ∷ Runs (nesting (formula_of e)) false None
+        (formulas.reads (formula_of e)) ∷ Cut ∷ []))
         (tested p t.bound line e) performed inside)
     loop_leads part last performed inside begins leads place m spent f w stand calm =
         let test = Mark line ∷ evaluation keep false Uniform free (formula_of e) in
@@ -70,7 +73,8 @@ module _ (p : Checked) (t : Run) (of : IsRunOf p t) (keep : Bool) where
         let begun = passed_flush p t free held place m f spent m f split.0 (passed_here p t free held place spent m f w) in
         let first = begun.1 in
         leads_as t spent held false
-        (turns_events (t.bound + 1) (λ m. events.begun t.bound m (Cut ∷ Runs (nesting (formula_of e)) false ∷ Cut ∷ []))
+        (turns_events (t.bound + 1) (λ m. events.begun t.bound m (Cut ∷ Runs (nesting (formula_of e)) false None
+        (formulas.reads (formula_of e)) ∷ Cut ∷ []))
         (tested p t.bound line e) performed inside m)
         (Passes p t free false (start + length (body start) + 1) m begun.0)
         (Passes p t free false (place + length (flush held ++ loop)) m f)
@@ -96,7 +100,8 @@ module _ (p : Checked) (t : Run) (of : IsRunOf p t) (keep : Bool) where
       IsLed p t free held false place
       (shapes.for_code keep held place line free x (formula_of d) (formula_of e) (λ n. sent (part n) last))
       (for_all p t.bound line x d e performed)
-      (λ m. events.begun t.bound m (Runs (nesting (Pair (formula_of d) (formula_of e))) false ∷ Cut ∷ [])
+      (λ m. events.begun t.bound m (Runs (nesting (Pair (formula_of d) (formula_of e))) false None
+      (formulas.reads (Pair (formula_of d) (formula_of e))) ∷ Cut ∷ [])
       ++ behind (evaluated t.bound line (λ m. attempt_bounds (seen p m) d e) m)
       (λ r. for_events t.bound (width r.0 r.1) x r.0 performed inside))
   turns_leads free line free_ones x declared d e first_named second_named held part last performed inside begins leads place m spent f w
@@ -123,7 +128,8 @@ module _ (p : Checked) (t : Run) (of : IsRunOf p t) (keep : Bool) where
       (parts_end_calm t start (part start) last stands.body calms.2)) in
       let end = from + 1 + length (set ++ own) + 2 in
       leads_then t spent held false false
-      (events.begun t.bound m (Runs (nesting (Pair (formula_of d) (formula_of e))) false ∷ Cut ∷ [])) (Bounds p t free from m f)
+      (events.begun t.bound m (Runs (nesting (Pair (formula_of d) (formula_of e))) false None
+      (formulas.reads (Pair (formula_of d) (formula_of e))) ∷ Cut ∷ [])) (Bounds p t free from m f)
       (Passes p t free false to m f) (evaluated t.bound line (λ m. attempt_bounds (seen p m) d e) m)
       (λ r. for_turns t.bound (width r.0 r.1) x r.0 performed) (λ r. for_events t.bound (width r.0 r.1) x r.0 performed inside)
       (bounds_follow p t of keep free line free_ones held m place spent f w d e first_named second_named split.0 calms.0)

@@ -28,7 +28,8 @@ use Rattle.statement_evaluation.proofs.Cuts.{alone_is_noted}
 use Rattle.exchange_bound.specs.Events as events
 use Rattle.exchange_bound.specs.Events.{Event}
 use Rattle.exchange_bound.specs.Bound.{one_if}
-use Rattle.exchange_bound.specs.Spent.{spent, held_behind}
+use Rattle.exchange_bound.specs.Spent.{held_behind}
+use Rattle.compiled_meaning.specs.Paid.{spent}
 use Rattle.compiled_meaning.specs.Between.{IsBetween}
 use Rattle.compiled_meaning.specs.Begins.{begun, done, HasPassed, PassesOrFaults, BeginsOrEnds}
 use Rattle.compiled_meaning.proofs.EachStatement.Begins.{statements_go_on}
@@ -57,7 +58,7 @@ abbrev pub GoesPast : Run → {A : Type 0} → (line : ℕ) → List Instr → (
     (held left : Bool) → List Event → (ℕ → A → State → Type 0) → Type 0
 GoesPast t line is behind m place came f value start held left es goes =
     m.count < t.bound → (g : Flat) → HasPassed t line is behind place came f g →
-    (held_behind es held ≡ left) × goes (start + spent es held) value (one_more m)
+    (held_behind es held ≡ left) × goes (start + spent t es held) value (one_more m)
 
 module _ (t : Run) (line : ℕ) (is : List Instr) (before behind : Bool) (m : State) (place came : ℕ) (f : Flat)
     (may : MayBegin t line is before behind m place came f) (start : ℕ) (held left : Bool)
@@ -84,7 +85,7 @@ module _ (t : Run) (line : ℕ) (is : List Instr) (before behind : Bool) (m : St
           (by_key (notes t.code is (begun t.code line f)) (ltb-true m.count t.bound e) h)
       by_bound false e h =
           subst (λ n. ComesOut t (GoesOn m.output) n)
-          (let x : came + one_if before + 1 ≡ start + (spent [] held + one_if (held_behind [] held)) + 1 = omega (arith, same) in x) h
+          (let x : came + one_if before + 1 ≡ start + (spent t [] held + one_if (held_behind [] held)) + 1 = omega (arith, same) in x) h
 
   -- an attempt, by what evaluation says of it
   pub evaluates_by : {A : Type 0} (a : State → Attempt A) (w : Whole A) (goes : ℕ → A → State → Type 0) → a (one_more m) ≡ cut w →

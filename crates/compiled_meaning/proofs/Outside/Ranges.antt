@@ -29,6 +29,8 @@ use Rattle.plain_form.specs.Shapes.{still}
 use Rattle.verified_form.specs.Straight.{entering}
 use Rattle.verified_form.proofs.Calm.{statements_begin_calm, ranges_are_calm}
 use Rattle.compiled_formulas.specs.Outside.{ShowsOutside}
+use Rattle.plain_form.specs.Formulas as formulas
+use Rattle.std.specs.Prelude.{None}
 use Rattle.exchange_bound.specs.Events as events
 use Rattle.exchange_bound.specs.Events.{Event, Runs, behind, steps_events}
 use Rattle.compiled_meaning.specs.Between.{IsRunOf}
@@ -172,7 +174,8 @@ module _ (p : Checked) (t : Run) (of : IsRunOf p t) (keep : Bool) (free line : �
       ))
 
   pub pardo_follows : Stand t place all → IsCalm t.code (place + length all) →
-      Leads t spent held last (events.begun t.bound m (Runs (nesting (Pair (formula_of d) (formula_of e))) false ∷ [])
+      Leads t spent held last (events.begun t.bound m (Runs (nesting (Pair (formula_of d) (formula_of e))) false None
+      (formulas.reads (Pair (formula_of d) (formula_of e))) ∷ [])
       ++ behind (evaluated t.bound line (λ m. attempt_range p.procs (seen p m) d e) m)
       (λ r m. steps_events p t.bound body (numbers 0 r.1) (with_team r.0 r.1 locals m))) ends
       (pardo p t.bound line d e locals body m)
@@ -182,7 +185,8 @@ module _ (p : Checked) (t : Run) (of : IsRunOf p t) (keep : Bool) (free line : �
       let parts = stands_split t place before steps outer.0 in
       let sizes = length-append before steps in
       let e2 : place + length (before ++ steps) ≡ at + length steps = omega (arith, sizes) in
-      leads_then t spent held left last (events.begun t.bound m (Runs (nesting (Pair (formula_of d) (formula_of e))) false ∷ []))
+      leads_then t spent held left last (events.begun t.bound m (Runs (nesting (Pair (formula_of d) (formula_of e))) false None
+      (formulas.reads (Pair (formula_of d) (formula_of e))) ∷ []))
       (Enters p t free locals left at m f) ends (evaluated t.bound line (λ m. attempt_range p.procs (seen p m) d e) m)
       (λ r. pardo_done p t.bound locals body r.0 r.1) (λ r m. steps_events p t.bound body (numbers 0 r.1) (with_team r.0 r.1 locals m))
       (enters_follow p t of keep free line free_ones held m place spent f w d e first_named second_named locals parts.0 calms.0)

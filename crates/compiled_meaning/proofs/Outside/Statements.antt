@@ -14,6 +14,8 @@ use Rattle.plain_form.specs.Registers.{behind_variables, behind_turns}
 use Rattle.plain_form.specs.Shapes as shapes
 use Rattle.plain_form.specs.Shapes.{flush, sent, still, waits, chosen, looped, turned}
 use Rattle.verified_form.proofs.Calm.{statements_begin_calm}
+use Rattle.plain_form.specs.Formulas as formulas
+use Rattle.std.specs.Prelude.{None}
 use Rattle.exchange_bound.specs.Events as events
 use Rattle.exchange_bound.specs.Events.{Event, Runs, Cut, behind, row_events, list_events, turns_events, for_events}
 use Rattle.compiled_meaning.specs.Between.{IsRunOf}
@@ -39,7 +41,7 @@ module _ (p : Checked) (t : Run) (of : IsRunOf p t) (keep : Bool) where
       (λ n. sent (part_code keep free n false then_part) (part_left false then_part)) (has_part else_part)
       (λ n. sent (part_code keep free n false else_part) (part_left false else_part)))
       (λ m. then_do (tested p t.bound line e m) (λ b m. if b then perform_row p t.bound then_part m else perform_row p t.bound else_part m))
-      (λ m. events.begun t.bound m (Runs (nesting (formula_of e)) false ∷ Cut ∷ [])
+      (λ m. events.begun t.bound m (Runs (nesting (formula_of e)) false None (formulas.reads (formula_of e)) ∷ Cut ∷ [])
       ++ behind (tested p t.bound line e m) (λ b m.
       (if b then row_events p t.bound then_part m else row_events p t.bound else_part m) ++ Cut ∷ []))
   if_leads free line free_ones e named held place then_part end_of-Statement first second =

@@ -26,7 +26,7 @@ use Rattle.compiled_meaning.proofs.Outside.Passed.{IsPassed}
 pub record IsStraight (p : Checked) (t : Run) (free line : ℕ) (is : List Instr) (before behind : Bool) (m : State) (f : Flat) (cost : ℕ)
     (after : State) : Type 0 where
   pub fine : IsFine before is behind
-  pub few : Costs before is cost
+  pub few : Costs t before is cost
   pub leaves : Leaves p free after f (done t.code line is f)
   pub count : after.count ≡ m.count + 1
   pub sizes : HasSizes p after
@@ -52,12 +52,12 @@ module _ (p : Checked) (t : Run) (of : IsRunOf p t) (free line : ℕ) (is : List
         calm = subst (IsCalm t.code) (let e : place + length (Mark line ∷ is) ≡ place + 1 + length is = omega arith in e) calm;
       }
 
-  pub part_costs : costs t.code is (after_instr t.code (Mark line) f) ≤ cost
+  pub part_costs : costs t is (after_instr t.code (Mark line) f) ≤ cost
   part_costs =
       let x = w.shows in
       let r = x.rests in
       let b = w.between in
-      s.few t.code (after_instr t.code (Mark line) f) r.asks (marks_hold t.code line before f b.holds)
+      s.few (after_instr t.code (Mark line) f) r.asks (marks_hold t.code line before f b.holds)
 
   module _ (below : m.count < t.bound) (g : Flat) (h : HasPassed t line is behind place spent f g) where
     pub seen_register : (r : ℕ) → g.uniform.registers r ≡ (done t.code line is f).uniform.registers r
@@ -69,7 +69,7 @@ module _ (p : Checked) (t : Run) (of : IsRunOf p t) (free line : ℕ) (is : List
         let l = s.leaves in
         let c = s.count in
         let k = part_costs in
-        let here : IsBetween t behind after (place + 1 + length is) (spent + costs t.code is (after_instr t.code (Mark line) f)) g =
+        let here : IsBetween t behind after (place + 1 + length is) (spent + costs t is (after_instr t.code (Mark line) f)) g =
         record {
           comes = h.comes;
           told = h.told;
@@ -81,7 +81,7 @@ module _ (p : Checked) (t : Run) (of : IsRunOf p t) (free line : ℕ) (is : List
         record {
           without = record {
             between = between_at t behind after g (place + 1 + length is) (place + length (Mark line ∷ is))
-                (spent + costs t.code is (after_instr t.code (Mark line) f)) most (omega arith) (omega (arith, k, few)) here;
+                (spent + costs t is (after_instr t.code (Mark line) f)) most (omega arith) (omega (arith, k, few)) here;
             shows = subst (ShowsOutside p after) (sym h.seen) l.shows;
             sizes = s.sizes;
             values = s.values;

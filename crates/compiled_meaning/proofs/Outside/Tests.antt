@@ -1,5 +1,5 @@
 -- The test of an `if`, behind which what is held is sent, and that of a loop: the run follows them, and a register has the value.
-use Rattle.std.proofs.Common.{◌≡◌, ℕ, ◌+◌, ◌*◌, ◌≤◌, List, [], ◌∷◌, ◌++◌, length, Bool, false, None, ℤ, refl, sym, ap, ◌∙◌, subst, arith}
+use Rattle.std.proofs.Common.{◌≡◌, ℕ, ◌+◌, ◌≤◌, List, [], ◌∷◌, ◌++◌, length, Bool, false, None, ℤ, refl, sym, ap, ◌∙◌, subst, arith}
 use Rattle.std.proofs.Common.{append-nil}
 use Rattle.pram_values.specs.Truth.{is_nonzero}
 use Rattle.superstep_instructions.specs.declared.instr.Side.TheVariants.{Uniform}
@@ -26,10 +26,12 @@ use Rattle.plain_form.specs.Groups.{value_at}
 use Rattle.plain_form.specs.Shapes.{flush, still}
 use Rattle.verified_form.specs.Straight.{evaluation, testing}
 use Rattle.verified_form.proofs.Fine.{straight_parts_are_fine}
+use Rattle.plain_form.specs.Formulas as formulas
 use Rattle.exchange_bound.specs.Events as events
 use Rattle.exchange_bound.specs.Events.{Event, Runs, Cut}
 use Rattle.exchange_bound.specs.Bound.{one_if}
-use Rattle.exchange_bound.specs.Spent as exchanged
+use Rattle.compiled_meaning.specs.Paid.{evaluating}
+use Rattle.compiled_meaning.specs.Paid as paid
 use Rattle.exchange_bound.specs.Spent.{held_behind}
 use Rattle.compiled_meaning.specs.Between.{IsRunOf}
 use Rattle.compiled_meaning.specs.Begins.{done}
@@ -73,7 +75,7 @@ module _ (p : Checked) (t : Run) (of : IsRunOf p t) (keep : Bool) (free line : �
 
   -- any stretch that evaluates it, and then sends what is held, or nothing
   module _ (some : Bool) (cost : ℕ) (fine : IsFine held (evaluation keep held Uniform free formula ++ flush some) false)
-      (few : Costs held (evaluation keep held Uniform free formula ++ flush some) cost) where
+      (few : Costs t held (evaluation keep held Uniform free formula ++ flush some) cost) where
     abbrev test : List Instr
     test = evaluation keep held Uniform free formula ++ flush some
 
@@ -102,7 +104,7 @@ module _ (p : Checked) (t : Run) (of : IsRunOf p t) (keep : Bool) (free line : �
 
     -- by events that exchange as much, from where they are counted
     test_follows : (start : ℕ) (before : Bool) → spent + one_if held ≡ start + one_if before → (es : List Event) →
-        held_behind es before ≡ false → spent + cost ≤ start + exchanged.spent es before →
+        held_behind es before ≡ false → spent + cost ≤ start + paid.spent t es before →
         Stand t place (Mark line ∷ test) → IsCalm t.code (place + length (Mark line ∷ test)) →
         Leads t start before false (events.begun t.bound m es) (Tests p t free r (place + length (Mark line ∷ test)) m f)
         (tested p t.bound line e m)
@@ -131,13 +133,13 @@ module _ (p : Checked) (t : Run) (of : IsRunOf p t) (keep : Bool) (free line : �
   -- the test of an `if`
   pub branch_follows : Stand t place (Mark line ∷ testing keep held free formula) →
       IsCalm t.code (place + length (Mark line ∷ testing keep held free formula)) →
-      Leads t spent held false (events.begun t.bound m (Runs (nesting formula) false ∷ Cut ∷ []))
+      Leads t spent held false (events.begun t.bound m (Runs (nesting formula) false None (formulas.reads formula) ∷ Cut ∷ []))
       (Tests p t free r (place + length (Mark line ∷ testing keep held free formula)) m f) (tested p t.bound line e m)
   branch_follows stand calm =
-      let l = cut_spends held formula in
-      test_follows (still held formula) (2 * nesting formula + one_if (still held formula))
-      (straight_parts_are_fine.tested keep held free formula) (straight_parts_cost.tested keep held free formula) spent held refl
-      (Runs (nesting formula) false ∷ Cut ∷ []) refl (omega (arith, l)) stand calm
+      let l = cut_spends t held formula in
+      test_follows (still held formula) (evaluating t formula + one_if (still held formula))
+      (straight_parts_are_fine.tested keep held free formula) (straight_parts_cost.tested t keep held free formula) spent held refl
+      (Runs (nesting formula) false None (formulas.reads formula) ∷ Cut ∷ []) refl (omega (arith, l)) stand calm
 
 -- the test of a loop, at whose head nothing is held: by events that begin with a cut
 pub loop_test_follows : (p : Checked) (t : Run) → IsRunOf p t → (keep : Bool) (free line : ℕ) → behind_variables p.uniforms ≤ free →
@@ -145,17 +147,20 @@ pub loop_test_follows : (p : Checked) (t : Run) → IsRunOf p t → (keep : Bool
     (m : State) (place spent : ℕ) (f : Flat) → IsWithout p t false m place (spent + one_if held) f → (e : Expression) →
     bounded.IsNamed (names_of p) e → Stand t place (Mark line ∷ evaluation keep false Uniform free (formula_of e)) →
     IsCalm t.code (place + length (Mark line ∷ evaluation keep false Uniform free (formula_of e))) →
-    Leads t spent held false (events.begun t.bound m (Cut ∷ Runs (nesting (formula_of e)) false ∷ Cut ∷ []))
+    Leads t spent held false (events.begun t.bound m (Cut ∷ Runs (nesting (formula_of e)) false None (formulas.reads (formula_of e)) ∷
+    Cut ∷ []))
     (Tests p t free (value_at Uniform free (formula_of e))
     (place + length (Mark line ∷ evaluation keep false Uniform free (formula_of e))) m f)
     (tested p t.bound line e m)
 loop_test_follows p t of keep free line free_ones held m place spent f w e named =
     subst (λ is. Stand t place (Mark line ∷ is) → IsCalm t.code (place + length (Mark line ∷ is)) →
-    Leads t spent held false (events.begun t.bound m (Cut ∷ Runs (nesting (formula_of e)) false ∷ Cut ∷ []))
+    Leads t spent held false (events.begun t.bound m (Cut ∷ Runs (nesting (formula_of e)) false None (formulas.reads (formula_of e)) ∷
+    Cut ∷ []))
     (Tests p t free (value_at Uniform free (formula_of e)) (place + length (Mark line ∷ is)) m f) (tested p t.bound line e m))
     (append-nil (evaluation keep false Uniform free (formula_of e)))
     (λ stand calm.
-    let l = test_spends held (nesting (formula_of e)) in
-    test_follows p t of keep free line free_ones false m place (spent + one_if held) f w e named false (2 * nesting (formula_of e) + 0)
-    (straight_parts_are_fine.tested keep false free (formula_of e)) (straight_parts_cost.tested keep false free (formula_of e)) spent held
-    (omega arith) (Cut ∷ Runs (nesting (formula_of e)) false ∷ Cut ∷ []) refl (omega (arith, l)) stand calm)
+    let l = test_spends t held (formula_of e) in
+    test_follows p t of keep free line free_ones false m place (spent + one_if held) f w e named false (evaluating t (formula_of e) + 0)
+    (straight_parts_are_fine.tested keep false free (formula_of e)) (straight_parts_cost.tested t keep false free (formula_of e)) spent held
+    (omega arith) (Cut ∷ Runs (nesting (formula_of e)) false None (formulas.reads (formula_of e)) ∷ Cut ∷ []) refl (omega (arith, l))
+    stand calm)

@@ -21,6 +21,8 @@ use Rattle.plain_form.specs.Formulas.{formula_of, nesting}
 use Rattle.plain_form.specs.Groups.{value_at}
 use Rattle.plain_form.specs.Shapes.{flush, sent, looped}
 use Rattle.verified_form.specs.Straight.{evaluation}
+use Rattle.plain_form.specs.Formulas as formulas
+use Rattle.std.specs.Prelude.{None}
 use Rattle.exchange_bound.specs.Events as events
 use Rattle.exchange_bound.specs.Events.{Event, Runs, Cut, behind, turns_events}
 use Rattle.exchange_bound.specs.Bound.{one_if}
@@ -82,7 +84,7 @@ module _ (p : Checked) (t : Run) (of : IsRunOf p t) (keep : Bool) (free line : �
   end = start + length (sent part left) + 1
 
   abbrev heads : State → List Event
-  heads m = events.begun t.bound m (Cut ∷ Runs (nesting (formula_of e)) false ∷ Cut ∷ [])
+  heads m = events.begun t.bound m (Cut ∷ Runs (nesting (formula_of e)) false None (formulas.reads (formula_of e)) ∷ Cut ∷ [])
 
   module _ (stands : LoopStands t head test r part left) (calm : IsCalm t.code (head + length test))
       (runs : RunsPart p t free start part left performed inside) where

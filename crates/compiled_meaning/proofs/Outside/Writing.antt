@@ -1,5 +1,5 @@
 -- A write outside pardo: the run follows it. What is held before it is sent before its mark, or waits for its reads.
-use Rattle.std.proofs.Common.{◌≡◌, ℕ, ◌+◌, ◌*◌, ◌≤◌, List, [], ◌∷◌, ◌++◌, length, Bool, true, false, not, ◌&&◌, Option, ℤ, refl, sym, ap}
+use Rattle.std.proofs.Common.{◌≡◌, ℕ, ◌+◌, ◌≤◌, List, [], ◌∷◌, ◌++◌, length, Bool, true, false, not, ◌&&◌, Option, ℤ, refl, sym, ap}
 use Rattle.std.proofs.Common.{◌∙◌, subst, arith, length-append}
 use Rattle.std.specs.Prelude.{FitsSigned}
 use Rattle.std.specs.Int.{w64}
@@ -45,10 +45,13 @@ use Rattle.compiled_formulas.specs.Terms.{term, steps_in}
 use Rattle.compiled_formulas.proofs.Outside.{pairs_are_evaluated_outside}
 use Rattle.compiled_formulas.proofs.Tasks.{single_steps}
 use Rattle.compiled_formulas.proofs.Terms.{expressions_are_terms, steps_are_steps, expressions_are_named}
+use Rattle.plain_form.specs.Formulas as formulas
+use Rattle.std.specs.Prelude.{None}
 use Rattle.exchange_bound.specs.Events as events
 use Rattle.exchange_bound.specs.Events.{Event, Runs}
 use Rattle.exchange_bound.specs.Bound.{one_if}
-use Rattle.exchange_bound.specs.Spent as exchanged
+use Rattle.compiled_meaning.specs.Paid.{evaluating, write_weighs}
+use Rattle.compiled_meaning.specs.Paid as paid
 use Rattle.compiled_meaning.specs.Between.{IsRunOf}
 use Rattle.compiled_meaning.specs.Begins.{begun, done}
 use Rattle.compiled_meaning.proofs.EachStatement.Costs.{straight_parts_cost}
@@ -183,7 +186,7 @@ module _ (p : Checked) (t : Run) (of : IsRunOf p t) (keep : Bool) (free line : �
 
     pub write_follows : (a : State → Attempt Effect) → a (one_more m) ≡ cut (whole view (Writes entry (term d) (term_of e))) →
         Stand t place all → IsCalm t.code (place + length all) →
-        Leads t spent held true (events.begun t.bound m (Runs (nesting both) true ∷ []))
+        Leads t spent held true (events.begun t.bound m (Runs (nesting both) true None (formulas.reads both) ∷ []))
         (Passes p t free true (place + length all) m f)
         (then_do (evaluated t.bound line a m) (λ g m. Goes tt (after_write g.cell g.value m)))
     write_follows a attempted stand calm =
@@ -195,26 +198,27 @@ module _ (p : Checked) (t : Run) (of : IsRunOf p t) (keep : Bool) (free line : �
         let g = sent.0 in
         let passed : IsPassed p t free (waits held both) from m f came m g = sent.1 in
         let here = passed.without in
-        let es = Runs (nesting both) true ∷ [] in
+        let es = Runs (nesting both) true None (formulas.reads both) ∷ [] in
         let to = place + length all in
         let goes = λ (n : ℕ) (x : Effect) (k : State). Passes p t free true to m f n tt (after_write x.cell x.value k) in
-        let straight : IsStraight p t free line second (waits held both) true m g (2 * nesting both) after = record {
+        let straight : IsStraight p t free line second (waits held both) true m g (evaluating t both + write_weighs t) after = record {
           fine = straight_parts_are_fine.written keep held Uniform free entry d formula;
-          few = straight_parts_cost.written keep (waits held both) Uniform free entry d formula;
+          few = straight_parts_cost.written t keep (waits held both) free entry d formula;
           leaves = writes_leave (waits held both) from came g here;
           count = write_count cell result (one_more m);
           sizes = write_sizes p cell result (one_more m) (next_sizes p m here.sizes);
           values = write_values cell result (one_more m) (result_is (waits held both) from came g here) (next_values m here.values);
         } in
         let behind : from + length (Mark line ∷ second) ≡ to = omega (arith, n) in
-        let total = spent + exchanged.spent es held in
-        let enough : came + 2 * nesting both ≤ total = (let l = write_spends held both in omega (arith, l)) in
+        let total = spent + paid.spent t es held in
+        let enough : came + (evaluating t both + write_weighs t) ≤ total = (let l = write_spends t held both in omega (arith, l)) in
         let owed = sent_or_waits held both in
         leads_after t spent held true (events.begun t.bound m es) goes (Passes p t free true to m f) (evaluated t.bound line a m)
         (λ x m. tt)
         (λ x m. after_write x.cell x.value m)
         (evaluates_by t line second (waits held both) true m from came g
-        (may_begin p t of free line second (waits held both) true m from came g here (2 * nesting both) after straight stands.1
+        (may_begin p t of free line second (waits held both) true m from came g here (evaluating t both + write_weighs t) after straight
+        stands.1
         (subst (IsCalm t.code) (sym behind) calm)) spent held true (omega (arith, owed)) es a
         (whole view (Writes entry (term d) (term_of e)))
         goes attempted (writes_note (waits held both) from came g here)
@@ -226,7 +230,7 @@ module _ (p : Checked) (t : Run) (of : IsRunOf p t) (keep : Bool) (free line : �
                 (passed_there p t free true (from + length (Mark line ∷ second)) to m g total total after x behind (omega arith)
                 (passed_since p t free true (from + length (Mark line ∷ second)) m g total after x
                 (part_passed p t of free line second (waits held both) true m from came g here
-                (2 * nesting both) after straight less x h total enough))),
+                (evaluating t both + write_weighs t) after straight less x h total enough))),
           ),
         )))
         (λ n x k y. y)
